@@ -1,0 +1,4 @@
+// Colours, sources and the caches that hold them.
+#![tactic(auto)]
+
+pub mod color;
