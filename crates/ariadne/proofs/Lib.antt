@@ -1,0 +1,3 @@
+mod Unfold
+mod Sample
+mod Worked

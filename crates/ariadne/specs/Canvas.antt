@@ -1,0 +1,135 @@
+-- The picture of a report: its header, and the rows of its groups. The outline tells of each piece whose
+-- colour it has; the canvas looks the colours up.
+use Rattle.std.specs.Prelude.{ℕ, ◌+◌, max, Bool, false, ◌==◌, nat_le, if◌then◌else◌, List, [], ◌∷◌, ◌++◌, length, map, Option, Some, None, slice_get, unwrap_or, option_and_then, option_map, codes, chars}
+use Rattle.std.specs.List.{enumerate_from}
+use Rattle.ariadne_base.specs.Listing.{Listing, listed_lines}
+use Rattle.ariadne_base.specs.declared.color.Color.{Color}
+use Rattle.ariadne_base.specs.declared.color.Color.TheVariants.{Red, Yellow, Fixed}
+use Rattle.ariadne.specs.declared.write.label_info.LabelInfo.{LabelInfo}
+use Rattle.ariadne.specs.declared.write.cell.Paint.{Paint}
+use Rattle.ariadne.specs.declared.write.cell.Paint.TheVariants.{Plain, Label, Kind, Tint}
+use Rattle.ariadne.specs.Lists.{joined}
+use Rattle.ariadne.specs.Report.{ReportFields, World, style_of, error, warning, advice, custom}
+use Rattle.ariadne.specs.Report as report
+use Rattle.ariadne.specs.Accept.{text_len, offset_in_chars}
+use Rattle.ariadne.specs.Groups.{ordered, groups_of, number_len}
+use Rattle.ariadne.specs.Ranks.{Sheet}
+use Rattle.ariadne.specs.Pieces.{Piece, painted_text, plain_text, Title, Section, section_rows}
+
+-- a text in one colour, or in none, and the columns that it takes
+pub record Cell : Type 0 where
+  pub text : List ℕ
+  pub color : Option Color
+  pub columns : ℕ
+
+unfoldable pub kind_name : report.Kind → List ℕ
+kind_name error = codes "Error"
+kind_name warning = codes "Warning"
+kind_name advice = codes "Advice"
+kind_name (custom name color) = name
+
+unfoldable pub kind_color : report.Kind → Color
+kind_color error = Red
+kind_color warning = Yellow
+kind_color advice = Fixed 147
+kind_color (custom name color) = color
+
+unfoldable pub code_text : Option (List ℕ) → List ℕ
+code_text None = []
+code_text (Some code) = codes "[" ++ code ++ codes "] "
+
+unfoldable pub header_pieces : Title → List Piece
+header_pieces t =
+    painted_text Kind t.heading ∷ plain_text (codes " " ++ unwrap_or t.message []) ∷ []
+
+module _ {S Id : Type 0} (w : World S Id) (r : ReportFields S) where
+  -- label number k
+  unfoldable pub label_id : ℕ → Option Id
+  label_id k = option_map (λ label. w.id_of label.span) (slice_get r.labels k)
+
+  unfoldable pub is_same_id : Option Id → Option Id → Bool
+  is_same_id (Some p) (Some q) = w.is_same p q
+  is_same_id (Some p) None = false
+  is_same_id None q = false
+
+  unfoldable pub same_source : ℕ → ℕ → Bool
+  same_source j k = is_same_id (label_id j) (label_id k)
+
+  unfoldable pub title : Title
+  title = record {
+    style = style_of r.config;
+    heading = code_text r.code ++ kind_name r.kind ++ codes ":";
+    message = r.message;
+    helps = r.helps;
+    notes = r.notes;
+    message_of = λ k. unwrap_or (option_and_then (λ label. label.message) (slice_get r.labels k)) [];
+  }
+
+  -- a group's source is that of its first label
+  unfoldable pub group_id : List LabelInfo → Option Id
+  group_id [] = None
+  group_id (a ∷ group) = label_id a.number
+
+  unfoldable pub group_source : List LabelInfo → Listing
+  group_source group =
+      unwrap_or (option_and_then w.source_of (group_id group)) (record { text = []; display_offset = 0 })
+
+  unfoldable pub group_name : List LabelInfo → List ℕ
+  group_name group = unwrap_or (option_and_then w.name_of (group_id group)) (codes "<unknown>")
+
+  -- the offset that a group header names: the report's own start, if it is in this source, else that of
+  -- the group's first label
+  unfoldable pub header_offset : List LabelInfo → Option ℕ
+  header_offset group =
+      let text = chars (group_source group).text in
+      let start = w.start_of r.span in
+      if is_same_id (group_id group) (Some (w.id_of r.span)) then
+        (if nat_le start (text_len r.config.index_type text) then offset_in_chars r.config.index_type text start else None)
+      else option_map (λ a. a.start) (slice_get group 0)
+
+  unfoldable pub sheet_of : List LabelInfo → Sheet
+  sheet_of group = record { style = style_of r.config; lines = listed_lines (group_source group); labels = group }
+
+  -- group number k of n
+  unfoldable pub section_of : ℕ → ℕ × List LabelInfo → Section
+  section_of n e = record {
+    sheet = sheet_of e.1;
+    name = group_name e.1;
+    shift = (group_source e.1).display_offset;
+    place = header_offset e.1;
+    is_first = e.0 == 0;
+    is_last = e.0 + 1 == n;
+  }
+
+  unfoldable pub groups : List LabelInfo → List (List LabelInfo)
+  groups infos = groups_of same_source (ordered infos)
+
+  unfoldable pub number_width : List (List LabelInfo) → ℕ
+  number_width [] = 0
+  number_width (group ∷ gs) = max (number_len (group_source group).display_offset group) (number_width gs)
+
+  -- the rows of the picture of these labels, whose pieces tell whose colour they have
+  unfoldable pub outline : List LabelInfo → List (List Piece)
+  outline infos =
+      let gs = groups infos in
+      header_pieces title
+      ∷ joined (λ e. section_rows title (number_width gs) (section_of (length gs) e)) (enumerate_from 0 gs)
+
+  -- ---- colours
+
+  unfoldable pub paint_color : Paint → Option Color
+  paint_color Plain = None
+  paint_color (Label k) = option_and_then (λ label. label.color) (slice_get r.labels k)
+  paint_color Kind = Some (kind_color r.kind)
+  paint_color (Tint n) = Some (Fixed n)
+
+  -- with colours off nothing has one
+  unfoldable pub color_of : Paint → Option Color
+  color_of paint = if r.config.color then paint_color paint else None
+
+  unfoldable pub colored : Piece → Cell
+  colored p = record { text = p.text; color = color_of p.paint; columns = p.columns }
+
+  -- the canvas of these labels
+  unfoldable pub canvas : List LabelInfo → List (List Cell)
+  canvas infos = map (map colored) (outline infos)

@@ -1,0 +1,74 @@
+-- A report as a record of fields, as its calls set them, and what the picture reads of the outside:
+-- ids, names and sources. Texts are their bytes in UTF-8.
+use Rattle.std.specs.Prelude.{ℕ, ℤ, Bool, List, Option}
+use Rattle.ariadne_base.specs.Listing.{Listing}
+use Rattle.ariadne_base.specs.declared.color.Color.{Color}
+use Rattle.ariadne.specs.declared.config.LabelAttach.{LabelAttach}
+use Rattle.ariadne.specs.declared.config.CharSet.{CharSet}
+use Rattle.ariadne.specs.declared.config.IndexType.{IndexType}
+
+-- the switches of a configuration
+pub record ConfigFields : Type 0 where
+  pub cross_gap : Bool
+  pub label_attach : LabelAttach
+  pub compact : Bool
+  pub underlines : Bool
+  pub multiline_arrows : Bool
+  pub color : Bool
+  pub tab_width : ℕ
+  pub char_set : CharSet
+  pub index_type : IndexType
+
+pub data Kind : Type 0 where
+  error : Kind
+  warning : Kind
+  advice : Kind
+  custom : List ℕ → Color → Kind
+
+-- a label over a span of type S
+pub record LabelFields (S : Type 0) : Type 0 where
+  pub span : S
+  pub message : Option (List ℕ)
+  pub color : Option Color
+  pub order : ℤ
+  pub priority : ℤ
+
+pub record ReportFields (S : Type 0) : Type 0 where
+  pub kind : Kind
+  pub code : Option (List ℕ)
+  pub message : Option (List ℕ)
+  pub span : S
+  pub labels : List (LabelFields S)
+  pub notes : List (List ℕ)
+  pub helps : List (List ℕ)
+  pub config : ConfigFields
+
+-- how spans of type S are read, which ids are the same, what each id is called, and the source that
+-- is held under it
+pub record World (S Id : Type 0) : Type 0 where
+  pub id_of : S → Id
+  pub start_of : S → ℕ
+  pub end_of : S → ℕ
+  pub is_same : Id → Id → Bool
+  pub name_of : Id → Option (List ℕ)
+  pub source_of : Id → Option Listing
+
+-- ---- what the layout reads of a configuration: neither colours nor what offsets count
+
+pub record Style : Type 0 where
+  pub cross_gap : Bool
+  pub compact : Bool
+  pub underlines : Bool
+  pub multiline_arrows : Bool
+  pub tab_width : ℕ
+  pub char_set : CharSet
+
+abbrev pub style_of : ConfigFields → Style
+style_of c = record {
+  cross_gap = c.cross_gap;
+  compact = c.compact;
+  underlines = c.underlines;
+  multiline_arrows = c.multiline_arrows;
+  tab_width = c.tab_width;
+  char_set = c.char_set;
+}

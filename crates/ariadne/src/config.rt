@@ -1,0 +1,30 @@
+//! How a report is drawn.
+
+/// Where the arrow of a label within one line is attached.
+#[derive(Clone, Copy, Debug, PartialEq, Eq)]
+pub enum LabelAttach {
+    /// At the first character of its span.
+    Start,
+    /// At the middle of its span.
+    Middle,
+    /// At the last character of its span.
+    End,
+}
+
+/// The characters that strokes are drawn with.
+#[derive(Clone, Copy, Debug, PartialEq, Eq)]
+pub enum CharSet {
+    /// Box drawing characters.
+    Unicode,
+    /// ASCII alone.
+    Ascii,
+}
+
+/// What the offsets of spans count.
+#[derive(Clone, Copy, Debug, PartialEq, Eq)]
+pub enum IndexType {
+    /// Bytes of the source's text in UTF-8.
+    Byte,
+    /// Characters of the source.
+    Char,
+}

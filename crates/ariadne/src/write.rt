@@ -1,0 +1,4 @@
+//! Drawing a report: its labels are judged, laid out in groups and rows, drawn, and sent.
+
+pub(crate) mod cell;
+pub(crate) mod label_info;
