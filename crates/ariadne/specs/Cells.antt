@@ -15,6 +15,7 @@ use Rattle.ariadne.specs.declared.write.cell.Ink.{Ink}
 use Rattle.ariadne.specs.Report.{Style}
 use Rattle.ariadne.specs.Ranks.{Sheet, is_inline, members, margin_label, line_labels}
 use Rattle.ariadne.specs.Rows.{Row, source, alternate, arrow, gap}
+use Rattle.ariadne.specs.Columns.{Layout}
 use Rattle.ariadne.specs.Strokes.{vertical_at, underline_at, has_corner, is_crossed, bar_at}
 
 -- ---- the characters of the strokes
@@ -96,16 +97,14 @@ arrow_ink style r x false false (Some v) =
 arrow_ink style r x false true None = ink_of Hbar Hbar x.info
 arrow_ink style r x false false None = blanks
 
-unfoldable pub arrow_place : Sheet → ℕ → ℕ → ℕ → Option LineLabel → Ink
-arrow_place s l r k None = blanks
-arrow_place s l r k (Some x) =
-    arrow_ink s.style r x (has_corner s l x k) (is_crossed x.side x.column k) (vertical_at s l r k)
+-- place k of the alternate row of label number r, and of its arrow row, where that label is x
+unfoldable pub alternate_place : Style → Layout → ℕ → ℕ → Ink
+alternate_place style y r k = alternate_ink style r (vertical_at y r k) (underline_at style y r k)
 
--- place k of a row
-unfoldable pub place_ink : Sheet → Row → ℕ → Ink
-place_ink s (alternate l r) k = alternate_ink s.style r (vertical_at s l r k) (underline_at s l r k)
-place_ink s (arrow l r) k = arrow_place s l r k (slice_get (line_labels s l) r)
-place_ink s x k = blanks
+unfoldable pub arrow_place : Style → Layout → ℕ → Option LineLabel → ℕ → Ink
+arrow_place style y r None k = blanks
+arrow_place style y r (Some x) k =
+    arrow_ink style r x (has_corner y.margin x k) (is_crossed x.side x.column k) (vertical_at y r k)
 
 -- ---- the gutter
 

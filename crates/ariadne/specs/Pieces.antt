@@ -3,7 +3,7 @@
 use Rattle.std.specs.Prelude.{ℕ, zero, suc, ◌+◌, ◌-◌, Bool, true, false, ◌==◌, if◌then◌else◌, List, [], ◌∷◌, ◌++◌, length, map, replicate, Option, Some, None, filter, slice_index, slice_index_or, slice_get, option_to_list, decimal, codes, encode_utf8}
 use Rattle.std.specs.Char.{is_whitespace}
 use Rattle.std.specs.Str.Lines.{lines}
-use Rattle.ariadne_base.specs.Places.{line_at, column_at, line_offset, upto}
+use Rattle.ariadne_base.specs.Places.{line_at, column_at, upto}
 use Rattle.ariadne.specs.declared.config.CharSet.{CharSet}
 use Rattle.ariadne.specs.declared.write.label_info.LabelInfo.{LabelInfo}
 use Rattle.ariadne.specs.declared.write.label_info.LineLabel.{LineLabel}
@@ -15,11 +15,11 @@ use Rattle.ariadne.specs.declared.write.cell.Ink.{Ink}
 use Rattle.ariadne.specs.Lists.{best, joined}
 use Rattle.ariadne.specs.Report.{Style}
 use Rattle.ariadne.specs.Groups.{line_number}
-use Rattle.ariadne.specs.Ranks.{Sheet, is_start, multi_line_labels, members, margin_label, line_labels}
+use Rattle.ariadne.specs.Ranks.{Sheet, is_start, multi_line_labels, members}
 use Rattle.ariadne.specs.Rows.{Aside, help, note, Row, head, space, source, alternate, arrow, gap, bare, blank, piece, tail, rows}
-use Rattle.ariadne.specs.Columns.{text_columns, shown, shown_columns, width, arrow_len}
+use Rattle.ariadne.specs.Columns.{Layout, layout_of, text_columns, shown, shown_columns, width, arrow_len}
 use Rattle.ariadne.specs.Strokes.{holds, is_preferred}
-use Rattle.ariadne.specs.Cells.{glyph_code, place_ink, column_ink}
+use Rattle.ariadne.specs.Cells.{glyph_code, alternate_place, arrow_place, column_ink}
 
 -- a text, whose colour it has, and its columns
 pub record Piece : Type 0 where
@@ -52,19 +52,17 @@ ink_pieces set ink (suc n) = stroke set ink.head ink.head_paint ∷ replicate n 
 
 -- ---- the text of a source row
 
--- the labels that may colour a character of line l
-unfoldable pub painters : Sheet → ℕ → List LabelInfo
-painters s l =
-    map (λ x. x.info) (option_to_list (margin_label s l)) ++ multi_line_labels s
-    ++ map (λ x. x.info) (line_labels s l)
+-- the labels that may colour a character of a line, of a group with these multi-line labels
+unfoldable pub painters : List LabelInfo → Layout → List LabelInfo
+painters multi_line y = map (λ x. x.info) (option_to_list y.margin) ++ multi_line ++ map (λ x. x.info) y.labels
 
 unfoldable pub painter_paint : Option LabelInfo → Paint
 painter_paint None = Tint 249
 painter_paint (Some a) = Label a.number
 
--- the preferred one of those whose span holds character k of line l
-unfoldable pub char_paint : Sheet → ℕ → ℕ → Paint
-char_paint s l k = painter_paint (best is_preferred (filter (λ a. holds a (line_offset length s.lines l + k)) (painters s l)))
+-- the preferred one of those whose span holds character k of the line
+unfoldable pub char_paint : List LabelInfo → Layout → ℕ → Paint
+char_paint multi_line y k = painter_paint (best is_preferred (filter (λ a. holds a (y.offset + k)) (painters multi_line y)))
 
 -- a character as it is shown: white space as a blank
 unfoldable pub shown_text : ℕ → List ℕ
@@ -77,9 +75,17 @@ char_pieces style paint k c =
     if c == 9 then replicate columns (record { text = 32 ∷ []; paint = paint; columns = 1 })
     else record { text = shown_text c; paint = paint; columns = columns } ∷ []
 
-unfoldable pub shown_pieces : Sheet → ℕ → List Piece
-shown_pieces s l =
-    joined (λ k. char_pieces s.style (char_paint s l k) k (slice_index (shown s l) k)) (upto (length (shown s l)))
+unfoldable pub place_pieces : Style → List LabelInfo → Layout → ℕ → List Piece
+place_pieces style multi_line y k = char_pieces style (char_paint multi_line y k) k (slice_index (shown y) k)
+
+unfoldable pub shown_pieces : Style → List LabelInfo → Layout → List Piece
+shown_pieces style multi_line y = joined (place_pieces style multi_line y) (upto (length (shown y)))
+
+-- ---- the text area of an alternate or arrow row, whose place k has this ink
+
+unfoldable pub area_pieces : Style → Layout → (ℕ → Ink) → List Piece
+area_pieces style y ink_at =
+    joined (λ k. ink_pieces style.char_set (ink_at k) (width style y k)) (upto (arrow_len style y))
 
 -- ---- the parts of a row of a line; w is the number width, shift the display offset
 
@@ -109,10 +115,6 @@ gutter_len s = if length (members s) == 0 then 0 else length (members s) + 1
 unfoldable pub gutter_pieces : Sheet → Row → List Piece
 gutter_pieces s x =
     joined (λ i. ink_pieces s.style.char_set (column_ink s x i) (column_size s.style)) (upto (gutter_len s))
-
-unfoldable pub area_pieces : Sheet → ℕ → Row → List Piece
-area_pieces s l x =
-    joined (λ k. ink_pieces s.style.char_set (place_ink s x k) (width s l k)) (upto (arrow_len s l))
 
 -- ---- the rows of a group
 
@@ -189,11 +191,15 @@ aside_pieces t a k (suc p) =
 
 -- what follows the margin
 unfoldable pub rest_pieces : Title → Section → Row → List Piece
-rest_pieces t g (source l) = gutter_pieces g.sheet (source l) ++ shown_pieces g.sheet l
-rest_pieces t g (alternate l r) = gutter_pieces g.sheet (alternate l r) ++ area_pieces g.sheet l (alternate l r)
+rest_pieces t g (source l) =
+    gutter_pieces g.sheet (source l) ++ shown_pieces t.style (multi_line_labels g.sheet) (layout_of g.sheet l)
+rest_pieces t g (alternate l r) =
+    let y = layout_of g.sheet l in
+    gutter_pieces g.sheet (alternate l r) ++ area_pieces t.style y (alternate_place t.style y r)
 rest_pieces t g (arrow l r) =
-    gutter_pieces g.sheet (arrow l r) ++ area_pieces g.sheet l (arrow l r)
-    ++ message_pieces t (slice_get (line_labels g.sheet l) r)
+    let y = layout_of g.sheet l in
+    let x = slice_get y.labels r in
+    gutter_pieces g.sheet (arrow l r) ++ area_pieces t.style y (arrow_place t.style y r x) ++ message_pieces t x
 rest_pieces t g (gap l) = gutter_pieces g.sheet (gap l)
 rest_pieces t g (blank a k) = gutter_pieces g.sheet (blank a k)
 rest_pieces t g (piece a k p) = gutter_pieces g.sheet (piece a k p) ++ aside_pieces t a k p

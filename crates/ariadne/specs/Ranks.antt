@@ -70,8 +70,9 @@ unfoldable pub is_of_member : Option LineLabel → ℕ → Bool
 is_of_member None i = false
 is_of_member (Some m) i = m.member == i
 
-unfoldable pub is_margin_label : Sheet → ℕ → LineLabel → Bool
-is_margin_label s l x = not (is_inline x.side) && is_of_member (margin_label s l) x.member
+-- whether a label of a line is its margin label
+unfoldable pub is_margin : Option LineLabel → LineLabel → Bool
+is_margin margin x = not (is_inline x.side) && is_of_member margin x.member
 
 unfoldable pub inline_labels : Sheet → ℕ → List LineLabel
 inline_labels s l =
@@ -86,7 +87,7 @@ is_before a b =
 -- the margin label where it starts has no rows of its own
 unfoldable pub line_labels : Sheet → ℕ → List LineLabel
 line_labels s l =
-    in_order is_before (filter (λ x. not (is_start x.side && is_margin_label s l x)) (ends_at s l) ++ inline_labels s l)
+    in_order is_before (filter (λ x. not (is_start x.side && is_margin (margin_label s l) x)) (ends_at s l) ++ inline_labels s l)
 
 -- whether nothing of the group is shown at a line
 unfoldable pub is_hidden : Sheet → ℕ → Bool

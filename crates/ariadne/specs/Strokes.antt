@@ -1,31 +1,31 @@
 -- The strokes of a group. In the text area a stroke covers places of one row or rows of one place; in
 -- the gutter a stroke covers rows of one column or columns of one row. Which of those that meet in a
 -- cell is seen is told elsewhere.
-use Rattle.std.specs.Prelude.{ℕ, ◌+◌, ◌-◌, Bool, true, false, not, ◌&&◌, ◌||◌, ◌==◌, nat_le, nat_lt, int_lt, if◌then◌else◌, drop, find, Option, Some, None, filter, slice_get}
+use Rattle.std.specs.Prelude.{ℕ, ◌+◌, ◌-◌, Bool, true, false, not, ◌&&◌, ◌||◌, ◌==◌, nat_le, nat_lt, int_lt, if◌then◌else◌, drop, find, Option, Some, None, filter, List, slice_get}
 use Rattle.std.specs.List.{position_or_len}
-use Rattle.ariadne_base.specs.Places.{line_offset}
-use Rattle.std.specs.Prelude.{length}
 use Rattle.ariadne.specs.declared.write.label_info.LabelInfo.{LabelInfo}
 use Rattle.ariadne.specs.declared.write.label_info.LineLabel.{LineLabel}
 use Rattle.ariadne.specs.declared.write.label_info.Side.{Side}
 use Rattle.ariadne.specs.declared.write.label_info.Side.TheVariants.{Inline, Starts, Ends}
 use Rattle.ariadne.specs.Lists.{best}
-use Rattle.ariadne.specs.Ranks.{Sheet, is_inline, is_start, is_end, span_len, members, margin_label, is_of_member, is_margin_label, line_labels}
+use Rattle.ariadne.specs.Report.{Style}
+use Rattle.ariadne.specs.Ranks.{Sheet, is_inline, is_start, is_end, span_len, members, margin_label, is_of_member, is_margin, line_labels}
+use Rattle.ariadne.specs.Columns.{Layout}
 use Rattle.ariadne.specs.Rows.{Row, source, arrow, before}
 
--- ---- the text area: line label number r of line l
+-- ---- the text area: a line label x of a line with the layout y
 
 -- its vertical stands at its column, in all rows of the line up to its arrow row
-unfoldable pub has_vertical : Sheet → ℕ → ℕ → LineLabel → Bool
-has_vertical s l k x = x.info.has_message && not (is_margin_label s l x) && (x.column == k)
+unfoldable pub has_vertical : Option LineLabel → ℕ → LineLabel → Bool
+has_vertical margin k x = x.info.has_message && not (is_margin margin x) && (x.column == k)
 
 -- so at place k of the rows of number r it is the first from number r on that is seen
-unfoldable pub vertical_at : Sheet → ℕ → ℕ → ℕ → Option LineLabel
-vertical_at s l r k = find (has_vertical s l k) (drop r (line_labels s l))
+unfoldable pub vertical_at : Layout → ℕ → ℕ → Option LineLabel
+vertical_at y r k = find (has_vertical y.margin k) (drop r y.labels)
 
 -- its corner stands at its column of its arrow row
-unfoldable pub has_corner : Sheet → ℕ → LineLabel → ℕ → Bool
-has_corner s l x k = (x.column == k) && not (is_margin_label s l x)
+unfoldable pub has_corner : Option LineLabel → LineLabel → ℕ → Bool
+has_corner margin x k = (x.column == k) && not (is_margin margin x)
 
 -- the places of its horizontal, in its arrow row
 unfoldable pub is_crossed : Side → ℕ → ℕ → Bool
@@ -45,12 +45,14 @@ is_preferred a b =
 abbrev pub underline_row : ℕ
 underline_row = 0
 
--- the underline that is seen at place k of alternate row number r, among those of the labels within the line
-unfoldable pub underline_at : Sheet → ℕ → ℕ → ℕ → Option LineLabel
-underline_at s l r k =
-    if s.style.underlines && (r == underline_row) then
-      best (λ a b. is_preferred a.info b.info)
-        (filter (λ x. is_inline x.side && holds x.info (line_offset length s.lines l + k)) (line_labels s l))
+-- the labels within the line whose underline reaches place k
+unfoldable pub underlines_at : Layout → ℕ → List LineLabel
+underlines_at y k = filter (λ x. is_inline x.side && holds x.info (y.offset + k)) y.labels
+
+-- the underline that is seen at place k of alternate row number r
+unfoldable pub underline_at : Style → Layout → ℕ → ℕ → Option LineLabel
+underline_at style y r k =
+    if style.underlines && (r == underline_row) then best (λ a b. is_preferred a.info b.info) (underlines_at y k)
     else None
 
 -- ---- the gutter: member i, in column i
