@@ -1,6 +1,6 @@
 -- The picture of a report: its header, and the rows of its groups. The outline tells of each piece whose
 -- colour it has; the canvas looks the colours up.
-use Rattle.std.specs.Prelude.{ℕ, ◌+◌, max, Bool, false, ◌==◌, nat_le, if◌then◌else◌, List, [], ◌∷◌, ◌++◌, length, map, Option, Some, None, slice_get, unwrap_or, option_and_then, option_map, codes, chars}
+use Rattle.std.specs.Prelude.{ℕ, ◌+◌, max, Bool, false, ◌==◌, nat_le, if◌then◌else◌, List, [], ◌∷◌, ◌++◌, length, map, Option, Some, None, slice_get, slice_index_or, unwrap_or, option_and_then, option_map, codes, chars}
 use Rattle.std.specs.List.{enumerate_from}
 use Rattle.ariadne_base.specs.Listing.{Listing, listed_lines}
 use Rattle.ariadne_base.specs.declared.color.Color.{Color}
@@ -41,6 +41,32 @@ code_text (Some code) = codes "[" ++ code ++ codes "] "
 unfoldable pub header_pieces : Title → List Piece
 header_pieces t =
     painted_text Kind t.heading ∷ plain_text (codes " " ++ unwrap_or t.message []) ∷ []
+
+-- ---- colours
+
+-- the colours of a report: whether there are any, that of its kind, and those of its labels
+pub record Palette : Type 0 where
+  pub is_on : Bool
+  pub kind : Color
+  pub labels : List (Option Color)
+
+abbrev pub palette_of : {S : Type 0} → ReportFields S → Palette
+palette_of r = record { is_on = r.config.color; kind = kind_color r.kind; labels = map (λ label. label.color) r.labels }
+
+unfoldable pub paint_color : Palette → Paint → Option Color
+paint_color p Plain = None
+paint_color p (Label k) = slice_index_or p.labels k None
+paint_color p Kind = Some p.kind
+paint_color p (Tint n) = Some (Fixed n)
+
+-- with colours off nothing has one
+unfoldable pub color_of : Palette → Paint → Option Color
+color_of p paint = if p.is_on then paint_color p paint else None
+
+abbrev pub cell_of : Palette → Piece → Cell
+cell_of p piece = record { text = piece.text; color = color_of p piece.paint; columns = piece.columns }
+
+-- ---- the whole picture
 
 module _ {S Id : Type 0} (w : World S Id) (r : ReportFields S) where
   -- label number k
@@ -115,21 +141,6 @@ module _ {S Id : Type 0} (w : World S Id) (r : ReportFields S) where
       header_pieces title
       ∷ joined (λ e. section_rows title (number_width gs) (section_of (length gs) e)) (enumerate_from 0 gs)
 
-  -- ---- colours
-
-  unfoldable pub paint_color : Paint → Option Color
-  paint_color Plain = None
-  paint_color (Label k) = option_and_then (λ label. label.color) (slice_get r.labels k)
-  paint_color Kind = Some (kind_color r.kind)
-  paint_color (Tint n) = Some (Fixed n)
-
-  -- with colours off nothing has one
-  unfoldable pub color_of : Paint → Option Color
-  color_of paint = if r.config.color then paint_color paint else None
-
-  unfoldable pub colored : Piece → Cell
-  colored p = record { text = p.text; color = color_of p.paint; columns = p.columns }
-
   -- the canvas of these labels
   unfoldable pub canvas : List LabelInfo → List (List Cell)
-  canvas infos = map (map colored) (outline infos)
+  canvas infos = map (map (cell_of (palette_of r))) (outline infos)

@@ -12,7 +12,7 @@ use Rattle.ariadne.specs.declared.write.cell.Glyph.TheVariants.{Blank, Hbar, Vba
 use Rattle.ariadne.specs.declared.write.cell.Paint.{Paint}
 use Rattle.ariadne.specs.declared.write.cell.Paint.TheVariants.{Plain, Label}
 use Rattle.ariadne.specs.declared.write.cell.Ink.{Ink}
-use Rattle.ariadne.specs.Report.{Style}
+use Rattle.ariadne.specs.declared.config.Style.{Style}
 use Rattle.ariadne.specs.Ranks.{Sheet, is_inline, members, margin_label, line_labels}
 use Rattle.ariadne.specs.Rows.{Row, source, alternate, arrow, gap}
 use Rattle.ariadne.specs.Columns.{Layout}

@@ -9,7 +9,7 @@ use Rattle.unicode_width.specs.Width.{char_width}
 use Rattle.ariadne_base.specs.Places.{line_offset, line_text, upto}
 use Rattle.ariadne.specs.declared.write.label_info.LineLabel.{LineLabel}
 use Rattle.ariadne.specs.Lists.{total}
-use Rattle.ariadne.specs.Report.{Style}
+use Rattle.ariadne.specs.declared.config.Style.{Style}
 use Rattle.ariadne.specs.Groups.{greatest}
 use Rattle.ariadne.specs.Ranks.{Sheet, margin_label, line_labels, is_inline}
 

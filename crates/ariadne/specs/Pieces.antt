@@ -13,7 +13,7 @@ use Rattle.ariadne.specs.declared.write.cell.Paint.{Paint}
 use Rattle.ariadne.specs.declared.write.cell.Paint.TheVariants.{Plain, Label, Tint}
 use Rattle.ariadne.specs.declared.write.cell.Ink.{Ink}
 use Rattle.ariadne.specs.Lists.{best, joined}
-use Rattle.ariadne.specs.Report.{Style}
+use Rattle.ariadne.specs.declared.config.Style.{Style}
 use Rattle.ariadne.specs.Groups.{line_number}
 use Rattle.ariadne.specs.Ranks.{Sheet, is_start, multi_line_labels, members}
 use Rattle.ariadne.specs.Rows.{Aside, help, note, Row, head, space, source, alternate, arrow, gap, bare, blank, piece, tail, rows}

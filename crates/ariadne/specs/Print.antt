@@ -4,7 +4,8 @@ use Rattle.std.specs.Prelude.{ℕ, zero, suc, ◌+◌, ◌-◌, Bool, ◌&&◌, 
 use Rattle.std.specs.List.{prefix_len}
 use Rattle.ariadne_base.specs.Colors.{painted}
 use Rattle.ariadne.specs.Lists.{joined}
-use Rattle.ariadne.specs.Canvas.{Cell}
+use Rattle.ariadne.specs.Pieces.{Piece}
+use Rattle.ariadne.specs.Canvas.{Cell, Palette, cell_of}
 
 unfoldable pub cell_bytes : Cell → List ℕ
 cell_bytes c = painted c.color c.text
@@ -14,6 +15,10 @@ row_bytes cells = joined cell_bytes cells ++ 10 ∷ []
 
 unfoldable pub printed : List (List Cell) → List ℕ
 printed canvas = joined row_bytes canvas
+
+-- the bytes of a part of a row
+unfoldable pub pieces_bytes : Palette → List Piece → List ℕ
+pieces_bytes palette pieces = joined cell_bytes (map (cell_of palette) pieces)
 
 -- ---- erasure
 

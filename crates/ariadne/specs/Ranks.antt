@@ -8,7 +8,7 @@ use Rattle.ariadne.specs.declared.write.label_info.LabelInfo.{LabelInfo}
 use Rattle.ariadne.specs.declared.write.label_info.LineLabel.{LineLabel}
 use Rattle.ariadne.specs.declared.write.label_info.Side.{Side}
 use Rattle.ariadne.specs.declared.write.label_info.Side.TheVariants.{Inline, Starts, Ends}
-use Rattle.ariadne.specs.Report.{Style}
+use Rattle.ariadne.specs.declared.config.Style.{Style}
 use Rattle.ariadne.specs.Lists.{in_order, best, joined}
 
 -- a group's labels in order, over the lines of its source, in characters

@@ -6,6 +6,7 @@ use Rattle.ariadne_base.specs.declared.color.Color.{Color}
 use Rattle.ariadne.specs.declared.config.LabelAttach.{LabelAttach}
 use Rattle.ariadne.specs.declared.config.CharSet.{CharSet}
 use Rattle.ariadne.specs.declared.config.IndexType.{IndexType}
+use Rattle.ariadne.specs.declared.config.Style.{Style}
 
 -- the switches of a configuration
 pub record ConfigFields : Type 0 where
@@ -54,14 +55,6 @@ pub record World (S Id : Type 0) : Type 0 where
   pub source_of : Id → Option Listing
 
 -- ---- what the layout reads of a configuration: neither colours nor what offsets count
-
-pub record Style : Type 0 where
-  pub cross_gap : Bool
-  pub compact : Bool
-  pub underlines : Bool
-  pub multiline_arrows : Bool
-  pub tab_width : ℕ
-  pub char_set : CharSet
 
 abbrev pub style_of : ConfigFields → Style
 style_of c = record {

@@ -8,7 +8,7 @@ use Rattle.ariadne.specs.declared.write.label_info.LineLabel.{LineLabel}
 use Rattle.ariadne.specs.declared.write.label_info.Side.{Side}
 use Rattle.ariadne.specs.declared.write.label_info.Side.TheVariants.{Inline, Starts, Ends}
 use Rattle.ariadne.specs.Lists.{best}
-use Rattle.ariadne.specs.Report.{Style}
+use Rattle.ariadne.specs.declared.config.Style.{Style}
 use Rattle.ariadne.specs.Ranks.{Sheet, is_inline, is_start, is_end, span_len, members, margin_label, is_of_member, is_margin, line_labels}
 use Rattle.ariadne.specs.Columns.{Layout}
 use Rattle.ariadne.specs.Rows.{Row, source, arrow, before}

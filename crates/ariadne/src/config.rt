@@ -28,3 +28,14 @@ pub enum IndexType {
     /// Characters of the source.
     Char,
 }
+
+/// What the layout reads of a configuration: neither colours nor what offsets count.
+#[derive(Clone, Copy, Debug, PartialEq, Eq)]
+pub(crate) struct Style {
+    pub(crate) cross_gap: bool,
+    pub(crate) compact: bool,
+    pub(crate) underlines: bool,
+    pub(crate) multiline_arrows: bool,
+    pub(crate) tab_width: usize,
+    pub(crate) char_set: CharSet,
+}

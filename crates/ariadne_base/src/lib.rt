@@ -2,3 +2,9 @@
 #![tactic(auto)]
 
 pub mod color;
+pub mod span;
+pub mod text;
+
+pub use color::Color;
+pub use span::Span;
+pub use text::SourceText;
