@@ -2,3 +2,5 @@
 
 pub(crate) mod cell;
 pub(crate) mod label_info;
+pub(crate) mod layout;
+pub(crate) mod palette;
