@@ -22,19 +22,19 @@ pub record Cell : Type 0 where
   pub color : Option Color
   pub columns : ℕ
 
-unfoldable pub kind_name : report.Kind → List ℕ
+abbrev pub kind_name : report.Kind → List ℕ
 kind_name error = codes "Error"
 kind_name warning = codes "Warning"
 kind_name advice = codes "Advice"
 kind_name (custom name color) = name
 
-unfoldable pub kind_color : report.Kind → Color
+abbrev pub kind_color : report.Kind → Color
 kind_color error = Red
 kind_color warning = Yellow
 kind_color advice = Fixed 147
 kind_color (custom name color) = color
 
-unfoldable pub code_text : Option (List ℕ) → List ℕ
+abbrev pub code_text : Option (List ℕ) → List ℕ
 code_text None = []
 code_text (Some code) = codes "[" ++ code ++ codes "] "
 

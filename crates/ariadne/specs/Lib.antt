@@ -9,4 +9,5 @@ pub mod Strokes
 pub mod Cells
 pub mod Pieces
 pub mod Canvas
+pub mod Kinds
 pub mod Print

@@ -1,5 +1,10 @@
 //! How a report is drawn.
 
+ghost use Rattle.std.specs.Prelude.{◌≡◌, true, false};
+ghost use Rattle.ariadne.specs.Report.{style_of};
+
+use std::marker::Model;
+
 /// Where the arrow of a label within one line is attached.
 #[derive(Clone, Copy, Debug, PartialEq, Eq)]
 pub enum LabelAttach {
@@ -27,6 +32,136 @@ pub enum IndexType {
     Byte,
     /// Characters of the source.
     Char,
+}
+
+/// The switches of a report's picture.
+///
+/// ```rust
+/// let config = Config::new().with_char_set(CharSet::Ascii).with_color(false);
+/// ```
+#[derive(Clone, Copy, Debug, PartialEq, Eq)]
+pub struct Config {
+    cross_gap: bool,
+    label_attach: LabelAttach,
+    compact: bool,
+    underlines: bool,
+    multiline_arrows: bool,
+    color: bool,
+    tab_width: usize,
+    char_set: CharSet,
+    index_type: IndexType,
+}
+
+impl Model for Config {
+    ghost use Rattle.std.specs.Prelude.{◌≡◌, ◌≤◌};
+    ghost use Rattle.ariadne.specs.Report.{ConfigFields};
+    ghost use Rattle.ariadne.specs.declared.config.IndexType.TheVariants.{Char};
+
+    ghost Value = { ConfigFields };
+
+    ghost view = { λ a. record {
+        cross_gap = a.cross_gap;
+        label_attach = a.label_attach;
+        compact = a.compact;
+        underlines = a.underlines;
+        multiline_arrows = a.multiline_arrows;
+        color = a.color;
+        tab_width = a.tab_width;
+        char_set = a.char_set;
+        index_type = a.index_type;
+    } };
+
+    // No call sets another index type yet.
+    ghost invariant = { λ a. (1 ≤ a.tab_width) × (a.index_type ≡ Char) };
+
+    ghost inverse = { λ c. record {
+        cross_gap = c.cross_gap;
+        label_attach = c.label_attach;
+        compact = c.compact;
+        underlines = c.underlines;
+        multiline_arrows = c.multiline_arrows;
+        color = c.color;
+        tab_width = c.tab_width;
+        char_set = c.char_set;
+        index_type = c.index_type;
+    } };
+}
+
+impl Config {
+    ghost use Rattle.ariadne.specs.Report.{default_config};
+
+    /// The default switches: gaps where arrows cross, arrows attached to the middle, not compact,
+    /// underlines, arrows at the ends of labels over several lines, colours, a tab every 4
+    /// characters, box drawing characters, offsets in characters.
+    pub const fn new() -> Config
+        ensures { result ≡ default_config }
+    {
+        Config {
+            cross_gap: true,
+            label_attach: LabelAttach::Middle,
+            compact: false,
+            underlines: true,
+            multiline_arrows: true,
+            color: true,
+            tab_width: 4,
+            char_set: CharSet::Unicode,
+            index_type: IndexType::Char,
+        }
+    }
+
+    /// Whether the picture has colours.
+    pub const fn with_color(mut self, color: bool) -> Config
+        ensures { result ≡ record self { color = color } }
+    {
+        self.color = color;
+        self
+    }
+
+    /// The characters that strokes are drawn with.
+    pub const fn with_char_set(mut self, char_set: CharSet) -> Config
+        ensures { result ≡ record self { char_set = char_set } }
+    {
+        self.char_set = char_set;
+        self
+    }
+
+    /// What the layout reads of it.
+    pub(crate) fn style(&self) -> Style
+        ensures { result ≡ style_of self.now }
+    {
+        Style {
+            cross_gap: self.cross_gap,
+            compact: self.compact,
+            underlines: self.underlines,
+            multiline_arrows: self.multiline_arrows,
+            tab_width: self.tab_width,
+            char_set: self.char_set,
+        }
+    }
+
+    /// Where arrows of labels within one line are attached.
+    pub(crate) fn label_attach(&self) -> LabelAttach
+        ensures { result ≡ self.now.label_attach }
+    {
+        self.label_attach
+    }
+
+    /// Whether there are colours.
+    pub(crate) fn is_colored(&self) -> bool
+        ensures { result ≡ self.now.color }
+    {
+        self.color
+    }
+}
+
+impl Default for Config {
+    ghost use Rattle.ariadne.specs.Report.{default_config};
+
+    ghost is_default = { λ c. c ≡ default_config };
+
+    fn default() -> Config {
+        Config::new()
+    }
 }
 
 /// What the layout reads of a configuration: neither colours nor what offsets count.

@@ -1,5 +1,16 @@
 //! Compiler diagnostics: reports whose labels are drawn over the sources that they point into.
 #![tactic(auto)]
 
+pub mod builder;
 pub mod config;
+pub mod kind;
+pub mod label;
+pub mod report;
 pub mod write;
+
+pub use ariadne_base::{Color, SourceText, Span};
+pub use builder::ReportBuilder;
+pub use config::{CharSet, Config, IndexType, LabelAttach};
+pub use kind::ReportKind;
+pub use label::Label;
+pub use report::Report;

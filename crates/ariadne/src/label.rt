@@ -1,0 +1,104 @@
+//! Labels: pieces of sources with messages.
+
+ghost use Rattle.std.specs.Prelude.{◌≡◌, ◌≤◌, Some, IfOk};
+ghost use Rattle.std.specs.Option.{option_copied};
+
+use ariadne_base::{Color, Span};
+use std::alloc::{AllocError, Global};
+use std::marker::Model;
+use std::ops::Range;
+
+/// A piece of a source that a report points at, and what it says of it.
+///
+/// The offsets of its span count characters of the source from 0; its end is exclusive, and not
+/// less than its start.
+#[derive(Drop)]
+pub struct Label<S: Span = Range<usize>> {
+    span: S,
+    message: Option<String>,
+    color: Option<Color>,
+    order: i32,
+    priority: i32,
+}
+
+impl<S: Span> Model for Label<S> {
+    ghost use Rattle.std.specs.Prelude.{◌≤◌, string_bytes, option_map};
+    ghost use Rattle.ariadne.specs.Report.{LabelFields};
+
+    ghost Value = { LabelFields S };
+
+    ghost view = { λ a. record {
+        span = a.span;
+        message = option_map string_bytes a.message;
+        color = a.color;
+        order = a.order;
+        priority = a.priority;
+    } };
+
+    ghost invariant = { λ a. S.start_of a.span ≤ S.end_of a.span };
+}
+
+impl<S: Span> Label<S> {
+    ghost use Rattle.ariadne.specs.Report.{new_label};
+
+    /// A label over a span, without message and colour, of order 0 and priority 0.
+    pub fn new(span: S) -> Label<S>
+        requires forward { S.start_of span ≤ S.end_of span }
+        ensures { result ≡ new_label span }
+    {
+        Label {
+            span,
+            message: None,
+            color: None,
+            order: 0,
+            priority: 0,
+        }
+    }
+
+    /// The label with this message, in place of the one that it may have had. Where there is no
+    /// memory for the message the label is dropped.
+    pub fn with_message(mut self, alloc: Global, message: &str) -> Result<Label<S>, AllocError>
+    where
+        S: Drop,
+        ensures { IfOk result (λ label. label ≡ record self { message = Some message.now }) }
+    {
+        self.message = Some(String::from_str(alloc, message)?);
+        Ok(self)
+    }
+
+    /// What it points at.
+    pub(crate) fn span(&self) -> &S
+        ensures span { result.now ≡ self.now.span }
+        ensures forward { S.start_of self.now.span ≤ S.end_of self.now.span }
+    {
+        &self.span
+    }
+
+    /// What it says.
+    pub(crate) fn message(&self) -> Option<&str>
+        ensures { option_copied result ≡ self.now.message }
+    {
+        self.message.as_deref()
+    }
+
+    /// Its own colour.
+    pub(crate) fn color(&self) -> Option<Color>
+        ensures { result ≡ self.now.color }
+    {
+        self.color
+    }
+
+    /// What it is ordered by among the report's labels.
+    pub(crate) fn order(&self) -> i32
+        ensures { result ≡ self.now.order }
+    {
+        self.order
+    }
+
+    /// What it is preferred by where spans overlap.
+    pub(crate) fn priority(&self) -> i32
+        ensures { result ≡ self.now.priority }
+    {
+        self.priority
+    }
+}
