@@ -1,3 +1,4 @@
 mod Unfold
 mod Sample
 mod Worked
+mod Readings

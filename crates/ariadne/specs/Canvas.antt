@@ -141,6 +141,10 @@ module _ {S Id : Type 0} (w : World S Id) (r : ReportFields S) where
       header_pieces title
       ∷ joined (λ e. section_rows title (number_width gs) (section_of (length gs) e)) (enumerate_from 0 gs)
 
+  -- the groups of these labels, each within the picture
+  unfoldable pub sections : List LabelInfo → List Section
+  sections infos = map (section_of (length (groups infos))) (enumerate_from 0 (groups infos))
+
   -- the canvas of these labels
   unfoldable pub canvas : List LabelInfo → List (List Cell)
   canvas infos = map (map (cell_of (palette_of r))) (outline infos)

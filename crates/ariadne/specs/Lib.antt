@@ -11,3 +11,4 @@ pub mod Pieces
 pub mod Canvas
 pub mod Kinds
 pub mod Print
+pub mod Placing
