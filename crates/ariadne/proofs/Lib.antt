@@ -1,3 +1,5 @@
+mod Accepting
+mod Sending
 mod Unfold
 mod Sample
 mod Worked

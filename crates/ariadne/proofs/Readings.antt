@@ -1,14 +1,12 @@
 -- Placings that finished pictures are read by, and pictures that cannot be read, by computation.
 use Rattle.std.specs.Prelude.{ℕ, ◌≡◌, ◌+◌, ◌&&◌, ◌==◌, Bool, true, false, if◌then◌else◌, refl, codes, [], ◌∷◌, Some, List}
-use Rattle.unicode_width.proofs.Computing.{unicode_width}
 use Rattle.ariadne.specs.declared.write.label_info.LabelInfo.{LabelInfo}
 use Rattle.ariadne.specs.Report.{ReportFields, World}
 use Rattle.ariadne.specs.Accept.{drawn_labels}
 use Rattle.ariadne.specs.Pieces.{Section}
 use Rattle.ariadne.specs.Canvas.{Cell, canvas, sections, title}
 use Rattle.ariadne.specs.Placing.{Placing, is_placing, has_message_rows, has_inline_traces, has_ends_of_gutter_traces, has_gutter_bars, is_aligned}
-use Rattle.ariadne.proofs.Unfold.{evaluated}
-use Rattle.ariadne.proofs.Sample.{Span, Entry, text, entry, world, reason_of, reason_over, reasons, picture, ascii_config, one, silent_label, label, report}
+use Rattle.ariadne.proofs.Sample.{Span, Entry, world, reasons, one, label, report, drawn}
 
 unfoldable pub infos : List Entry → ReportFields Span → List LabelInfo
 infos entries r = let w = world entries in drawn_labels w r.config 0 r.labels (reasons w r)
@@ -26,7 +24,7 @@ unfoldable pub choose : ℕ → ℕ → ℕ → ℕ
 choose a b k = if k == 0 then a else b
 
 unfoldable pub nested : ReportFields Span
-nested = report (label 1 4 (codes "mid") ∷ label 0 8 (codes "all") ∷ [])
+nested = report (label 1 4 "mid" ∷ label 0 8 "all" ∷ [])
 
 -- the inner label's message stands in row 8, its head in row 5; the outer one's in rows 11 and 3
 unfoldable pub nested_placing : Placing
@@ -39,6 +37,6 @@ nested_placing = record {
   first = λ g i. if i == 0 then 3 else 5;
 }
 
-nested_labels_are_read : is_read (one (codes "aa\nbb\ncc")) nested nested_placing ≡ true
-unfolding evaluated unicode_width text entry world reason_of reason_over reasons picture ascii_config one silent_label label report infos is_read choose nested nested_placing
+nested_labels_are_read : is_read (one "aa\nbb\ncc") nested nested_placing ≡ true
+unfolding drawn infos is_read choose nested nested_placing
 nested_labels_are_read = refl

@@ -1,13 +1,16 @@
 -- Which labels are drawn, and what they are in characters. Offsets count characters or, in byte mode,
 -- bytes; the one past the end of a source is taken as its end. A label whose source is held is left
 -- out where it reaches further, or where one of its ends lies inside a character.
-use Rattle.std.specs.Prelude.{ℕ, suc, ◌+◌, ◌-◌, ◌/◌, max, min, ◌||◌, nat_lt, if◌then◌else◌, List, [], ◌∷◌, ◌++◌, length, Option, Some, None, is_some, chars, option_and_then, option_to_list}
+use Rattle.std.specs.Prelude.{ℕ, suc, ◌+◌, ◌-◌, ◌/◌, min, ◌||◌, nat_lt, if◌then◌else◌, List, [], ◌∷◌, ◌++◌, length, Option, Some, None, is_some, chars, option_and_then, option_to_list}
 use Rattle.ariadne_base.specs.Places.{byte_len, line_at, column_at, line_offset, char_offset}
+use Rattle.ariadne_base.specs.Ranges.{last_offset}
 use Rattle.ariadne_base.specs.Listing.{Listing, listed_lines}
 use Rattle.ariadne.specs.declared.config.LabelAttach.{LabelAttach}
 use Rattle.ariadne.specs.declared.config.LabelAttach.TheVariants.{Start, Middle, End}
 use Rattle.ariadne.specs.declared.config.IndexType.{IndexType}
 use Rattle.ariadne.specs.declared.config.IndexType.TheVariants.{Byte, Char}
+use Rattle.ariadne.specs.declared.write.accept.Verdict.{Verdict}
+use Rattle.ariadne.specs.declared.write.accept.Verdict.TheVariants.{Accepted, PastSource, CutsCharacter}
 use Rattle.ariadne.specs.declared.write.label_info.LabelInfo.{LabelInfo}
 use Rattle.ariadne.specs.Report.{ConfigFields, LabelFields, ReportFields, World}
 
@@ -22,10 +25,6 @@ text_len Byte t = byte_len t
 unfoldable pub offset_in_chars : IndexType → List ℕ → ℕ → Option ℕ
 offset_in_chars Char t o = Some o
 offset_in_chars Byte t o = char_offset t o
-
--- the last offset of a span; an empty one has its start
-unfoldable pub last_offset : ℕ → ℕ → ℕ
-last_offset start end = max (end - 1) start
 
 unfoldable pub attach_offset : LabelAttach → ℕ → ℕ → ℕ
 attach_offset Start start end = start
@@ -53,40 +52,36 @@ info_of attach ls k label start end =
       has_message = is_some label.message;
     }
 
--- what becomes of a label whose source is held
-pub data Verdict : Type 0 where
-  accepted : LabelInfo → Verdict
-  past_source : Verdict
-  cuts_character : Verdict
-
 unfoldable pub within : {S : Type 0} → LabelAttach → List (List ℕ) → ℕ → LabelFields S → Option ℕ → Option ℕ → Verdict
-within attach ls k label (Some start) (Some end) = accepted (info_of attach ls k label start end)
-within attach ls k label (Some start) None = cuts_character
-within attach ls k label None end = cuts_character
+within attach ls k label (Some start) (Some end) = Accepted (info_of attach ls k label start end)
+within attach ls k label (Some start) None = CutsCharacter
+within attach ls k label None end = CutsCharacter
 
-unfoldable pub verdict : {S Id : Type 0} → World S Id → ConfigFields → Listing → ℕ → LabelFields S → Verdict
-verdict w config source k label =
+-- what becomes of label number k, from start to end, whose source is held
+unfoldable pub verdict : {S : Type 0} → ConfigFields → Listing → ℕ → LabelFields S → ℕ → ℕ → Verdict
+verdict config source k label start end =
     let text = chars source.text in
     let size = text_len config.index_type text in
-    let start = w.start_of label.span in
-    let end = w.end_of label.span in
-    if nat_lt size start || nat_lt (size + 1) end then past_source
+    if nat_lt size start || nat_lt (size + 1) end then PastSource
     else within config.label_attach (listed_lines source) k label
         (offset_in_chars config.index_type text start) (offset_in_chars config.index_type text (min end size))
 
 -- ---- all labels
 
 unfoldable pub accepted_info : Verdict → Option LabelInfo
-accepted_info (accepted info) = Some info
-accepted_info past_source = None
-accepted_info cuts_character = None
+accepted_info (Accepted info) = Some info
+accepted_info PastSource = None
+accepted_info CutsCharacter = None
+
+abbrev pub verdict_in : {S Id : Type 0} → World S Id → ConfigFields → ℕ → LabelFields S → Listing → Verdict
+verdict_in w config k label source = verdict config source k label (w.start_of label.span) (w.end_of label.span)
 
 -- a label without a reason, in characters
 unfoldable pub drawn_label : {S Id R : Type 0} → World S Id → ConfigFields → ℕ → LabelFields S → Option R → List LabelInfo
 drawn_label w config k label (Some reason) = []
 drawn_label w config k label None =
     let source = w.source_of (w.id_of label.span) in
-    option_to_list (option_and_then (λ s. accepted_info (verdict w config s k label)) source)
+    option_to_list (option_and_then (λ s. accepted_info (verdict_in w config k label s)) source)
 
 -- the labels that have no reason beside them, from number k on
 unfoldable pub drawn_labels : {S Id R : Type 0} → World S Id → ConfigFields → ℕ → List (LabelFields S) → List (Option R) → List LabelInfo

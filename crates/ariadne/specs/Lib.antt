@@ -10,5 +10,6 @@ pub mod Cells
 pub mod Pieces
 pub mod Canvas
 pub mod Kinds
+pub mod Sent
 pub mod Print
 pub mod Placing

@@ -1,6 +1,6 @@
 //! How a report is drawn.
 
-ghost use Rattle.std.specs.Prelude.{◌≡◌, true, false};
+ghost use Rattle.std.specs.Prelude.{◌≡◌, ◌≤◌};
 ghost use Rattle.ariadne.specs.Report.{style_of};
 
 use std::marker::Model;
@@ -127,7 +127,8 @@ impl Config {
 
     /// What the layout reads of it.
     pub(crate) fn style(&self) -> Style
-        ensures { result ≡ style_of self.now }
+        ensures style { result ≡ style_of self.now }
+        ensures tabs { 1 ≤ self.now.tab_width }
     {
         Style {
             cross_gap: self.cross_gap,
@@ -139,9 +140,11 @@ impl Config {
         }
     }
 
-    /// Where arrows of labels within one line are attached.
+    /// Where arrows of labels within one line are attached. Offsets count characters: no call asks
+    /// for bytes yet.
     pub(crate) fn label_attach(&self) -> LabelAttach
-        ensures { result ≡ self.now.label_attach }
+        ensures attach { result ≡ self.now.label_attach }
+        ensures in_characters { self.now.index_type ≡ IndexType.Char }
     {
         self.label_attach
     }

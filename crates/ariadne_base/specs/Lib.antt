@@ -1,4 +1,6 @@
 pub mod Lines
 pub mod Places
+pub mod Table
+pub mod Ranges
 pub mod Listing
 pub mod Colors

@@ -2,9 +2,11 @@
 #![tactic(auto)]
 
 pub mod color;
+pub mod source;
 pub mod span;
 pub mod text;
 
 pub use color::Color;
+pub use source::{Line, Source, SourceLines};
 pub use span::Span;
 pub use text::SourceText;

@@ -1,0 +1,88 @@
+//! Which labels of a report are drawn, and why the others are left out.
+
+ghost use Rattle.std.specs.Prelude.{◌≡◌, ◌≤◌, length, chars};
+ghost use Rattle.ariadne_base.specs.Listing.{listed_lines};
+ghost use Rattle.ariadne.specs.Accept.{verdict, info_of, attach_offset as attached_offset};
+
+use super::label_info::LabelInfo;
+use crate::config::{Config, LabelAttach};
+use crate::label::Label;
+use ariadne_base::{Source, SourceText, Span};
+
+/// What becomes of a label whose source is held.
+#[derive(Clone, Copy, Debug, PartialEq, Eq)]
+pub(crate) enum Verdict {
+    /// It is drawn.
+    Accepted(LabelInfo),
+    /// It begins past its source, or ends more than one past it.
+    PastSource,
+    /// One of its ends lies inside a character.
+    CutsCharacter,
+}
+
+/// Judges label number `number` of a report.
+///
+/// The offset one past the end of the source is taken as its end, since a parser that runs out of
+/// input points there.
+pub(crate) fn judge<S: Span, I: SourceText>(
+    config: Config,
+    source: &Source<I>,
+    number: usize,
+    label: &Label<S>,
+) -> Verdict
+    ensures { result ≡ verdict config source.now number label.now (S.start_of label.now.span) (S.end_of label.now.span) }
+{
+    let attach = config.label_attach();
+    let len = source.len();
+    let start = label.span().start();
+    let end = label.span().end();
+    if start > len || end.saturating_sub(len) > 1 {
+        return Verdict::PastSource;
+    }
+    Verdict::Accepted(label_info(attach, source, number, label, start, end.min(len)))
+}
+
+/// A label over characters that the source has.
+fn label_info<S: Span, I: SourceText>(
+    attach: LabelAttach,
+    source: &Source<I>,
+    number: usize,
+    label: &Label<S>,
+    start: usize,
+    end: usize,
+) -> LabelInfo
+    requires forward { start ≤ end }
+    requires ends_within { end ≤ length (chars source.now.text) }
+    ensures { result ≡ info_of attach (listed_lines source.now) number label.now start end }
+{
+    let last = end.saturating_sub(1).max(start);
+    let (line, start_line, start_column) = source.get_offset_line(start).unwrap();
+    let (_, end_line, end_column) = source.get_offset_line(last).unwrap();
+    let attached = attach_offset(attach, start, end);
+    LabelInfo {
+        number,
+        start,
+        end,
+        start_line,
+        start_column,
+        end_line,
+        end_column,
+        attach: attached.saturating_sub(line.offset()),
+        order: label.order(),
+        priority: label.priority(),
+        has_message: label.message().is_some(),
+    }
+}
+
+/// The offset that an arrow is attached to.
+#[tactic(auto, using(crate::proofs::Accepting::halfway), unfolding(crate::specs::Accept::attach_offset))]
+fn attach_offset(attach: LabelAttach, start: usize, end: usize) -> usize
+    requires forward { start ≤ end }
+    ensures { result ≡ attached_offset attach start end }
+{
+    match attach {
+        LabelAttach::Start => start,
+        LabelAttach::Middle => start + (end - start) / 2,
+        LabelAttach::End => end.saturating_sub(1).max(start),
+    }
+}

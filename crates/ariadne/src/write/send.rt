@@ -1,0 +1,67 @@
+//! Sending a picture that is whole.
+
+ghost use Rattle.std.specs.Prelude.{Some, codes, ◌++◌, decimal};
+ghost use Rattle.ariadne.specs.Sent.{Sends, shown_error};
+
+use std::alloc::AllocError;
+use std::error::Error;
+use std::fmt;
+use std::io;
+use std::io::{ErrorKind, Write};
+
+/// Why a report was not written whole.
+#[derive(Debug, Drop)]
+pub enum WriteError {
+    /// There was no memory for the picture, and nothing was sent.
+    Memory(AllocError),
+    /// The writer failed, or took nothing of a piece that is not empty.
+    Io {
+        /// How many bytes of the picture were sent before, which are its first ones.
+        sent: usize,
+        /// What the writer answered, or a fault of the kind `WriteZero` where it took nothing.
+        fault: io::Error,
+    },
+}
+
+/// `no memory`, or `write failed after N bytes`.
+impl fmt::Display for WriteError {
+    ghost output = { λ e. Some (shown_error e) };
+
+    fn fmt<W: fmt::Write>(&self, f: &mut fmt::Formatter<W>) -> fmt::Result {
+        match self {
+            WriteError::Memory(_) => write!(f, "no memory"),
+            WriteError::Io { sent, .. } => write!(f, "write failed after {sent} bytes"),
+        }
+    }
+}
+
+impl Error for WriteError {}
+
+impl From<AllocError> for WriteError {
+    ghost use Rattle.std.specs.Prelude.{◌≡◌};
+    ghost use Rattle.ariadne.specs.declared.write.send.WriteError.TheVariants.{Memory};
+
+    ghost from_gives = { λ e w. w ≡ Memory e };
+
+    fn from(error: AllocError) -> WriteError {
+        WriteError::Memory(error)
+    }
+}
+
+/// Sends all bytes by the writer's `write`, and stops at its first fault. It takes no memory.
+pub(crate) fn send<W: Write>(out: &mut W, bytes: &[u8]) -> Result<(), WriteError>
+    ensures { Sends (W.contents out.old) (W.contents out.new) bytes.now result }
+{
+    let mut sent = 0;
+    while sent < bytes.len() {
+        match out.write(&bytes[sent..]) {
+            Ok(0) => {
+                let fault = io::Error::from(ErrorKind::WriteZero);
+                return Err(WriteError::Io { sent, fault });
+            }
+            Ok(taken) => sent += taken,
+            Err(fault) => return Err(WriteError::Io { sent, fault }),
+        }
+    }
+    Ok(())
+}

@@ -1,0 +1,6 @@
+pub mod LineLaws
+pub mod TableLemmas
+pub mod PlaceLemmas
+pub mod CutOut
+pub mod RangeLemmas
+pub mod Scanning

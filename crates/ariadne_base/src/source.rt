@@ -1,0 +1,281 @@
+//! Sources: texts with their lines, and the place of an offset in them.
+
+ghost use Rattle.std.specs.Prelude.{◌≡◌, ℕ, ◌+◌, ◌^◌, ◌<◌, ◌≤◌, ◌↔◌, ◌==◌, ◌&&◌, ◌++◌, List, [], Bool, true, length, nat_eq, IsTrue, IsSome, IfSome, IfOk, IsSomeAnd, slice_get, slice_range, encode_utf8_all, chars};
+ghost use Rattle.std.specs.Str.Iter.{chars_rest, chars_steps};
+ghost use Rattle.std.specs.Iterator.Runs.{EveryRun, ItemsAreChars};
+ghost use Rattle.std.specs.Cmp.Lexicographic.{pointwise};
+ghost use Rattle.std.specs.Cmp.Rules.{comparing, hashing};
+ghost use Rattle.std.specs.Hash as fed;
+ghost use Rattle.std.proofs.Common.{rules};
+ghost use Rattle.ariadne_base.specs.Lines.{AreLinesOf};
+ghost use Rattle.ariadne_base.specs.Listing.{listed_lines};
+ghost use Rattle.ariadne_base.specs.Places.{byte_len, line_text};
+ghost use Rattle.ariadne_base.specs.Table.{line_extent, line_table, place_of};
+ghost use Rattle.ariadne_base.specs.Ranges.{first_line, line_end, line_number, IsCutOut};
+
+pub mod line;
+pub mod lines;
+mod scan;
+
+pub use line::Line;
+pub use lines::SourceLines;
+
+use crate::span::Span;
+use crate::text::SourceText;
+use std::alloc::{AllocError, Global};
+use std::hash::{Hash, Hasher};
+use std::marker::Model;
+use std::ops::Range;
+use std::str::Chars;
+
+/// A text with its lines, which labels point into.
+///
+/// Seven characters end a line: CR, LF, U+000B, U+000C, U+0085, U+2028 and U+2029; a CR and the LF
+/// behind it end it together. A line keeps its terminator. A text that ends in a terminator has no
+/// further line, and the empty text has one empty line.
+///
+/// Offsets count from the start of the text, and line numbers from the first line, both from 0. A
+/// look-up of an offset searches the lines by halving, and takes no memory.
+#[derive(Drop)]
+pub struct Source<I: SourceText = String> {
+    text: I,
+    lines: Vec<Line>,
+    display_line_offset: usize,
+}
+
+impl<I: SourceText> Model for Source<I> {
+    ghost use Rattle.std.specs.Prelude.{◌≡◌, ◌+◌, ◌^◌, ◌<◌, chars, length};
+    ghost use Rattle.ariadne_base.specs.Lines.{lines_of};
+    ghost use Rattle.ariadne_base.specs.Lines.{AreLinesOf};
+ghost use Rattle.ariadne_base.specs.Listing.{Listing};
+    ghost use Rattle.ariadne_base.specs.Table.{line_table};
+
+    ghost Value = { Listing };
+
+    ghost view = { λ s. record { text = I.text s.text; display_offset = s.display_line_offset } };
+
+    ghost invariant = { λ s. (s.lines.items ≡ line_table (lines_of (chars (I.text s.text)))) × (s.display_line_offset + length s.lines.items < 2 ^ 64) };
+}
+
+impl<I: SourceText> Source<I> {
+    /// Makes a source of a text, in one pass over it. Its display offset is 0.
+    ///
+    /// On `Err` there was no memory for its lines, and the text is dropped.
+    pub fn from(alloc: Global, text: I) -> Result<Source<I>, AllocError>
+    where
+        I: Drop,
+        ensures { IfOk result (λ s. s ≡ record { text = I.text text; display_offset = 0 }) }
+    {
+        let lines = scan::line_table_of(alloc, text.text())?;
+        Ok(Source {
+            text,
+            lines,
+            display_line_offset: 0,
+        })
+    }
+
+    /// The whole text.
+    pub fn text(&self) -> &str
+        ensures { result.now ≡ self.now.text }
+    {
+        self.text.text()
+    }
+
+    /// The number of characters.
+    pub fn len(&self) -> usize
+        ensures { result ≡ length (chars self.now.text) }
+    {
+        let last = self.lines[self.lines.len() - 1];
+        last.offset + last.len
+    }
+
+    /// Whether the text is empty.
+    pub fn is_empty(&self) -> bool
+        ensures { IsTrue result ↔ (self.now.text ≡ []) }
+    {
+        self.text().is_empty()
+    }
+
+    /// The characters, in order.
+    pub fn chars(&self) -> Chars<'_>
+        ensures rest { chars_rest result ≡ self.now.text }
+        ensures runs { EveryRun chars_steps (λ p. ItemsAreChars p (chars_rest p.from)) }
+    {
+        self.text().chars()
+    }
+
+    /// The line of a number, where there are so many.
+    pub fn line(&self, number: usize) -> Option<Line>
+        ensures { result ≡ slice_get (line_table (listed_lines self.now)) number }
+    {
+        self.lines.get(number).copied()
+    }
+
+    /// The lines, in order: the only list of texts that join to this text, in which each but the
+    /// last ends in a terminator, no separator stands elsewhere, no CR LF is cut, and none is
+    /// empty, unless the text is.
+    pub fn lines(&self) -> SourceLines<'_>
+        ensures table { result ≡ line_table (listed_lines self.now) }
+        ensures partition { AreLinesOf (chars self.now.text) (listed_lines self.now) }
+        ensures only { (ls : List (List ℕ)) → AreLinesOf (chars self.now.text) ls → ls ≡ listed_lines self.now }
+    {
+        SourceLines { rest: &self.lines }
+    }
+
+    /// The same source, whose line numbers are shown with an offset added.
+    pub fn with_display_line_offset(self, offset: usize) -> Source<I>
+        requires { offset + length (listed_lines self) < 2 ^ 64 }
+        ensures { result ≡ record { text = self.text; display_offset = offset } }
+    {
+        let Source {
+            text,
+            lines,
+            display_line_offset: _,
+        } = self;
+        Source {
+            text,
+            lines,
+            display_line_offset: offset,
+        }
+    }
+
+    /// What is added to a line number where it is shown; 0 unless it was set.
+    pub fn display_line_offset(&self) -> usize
+        ensures { result ≡ self.now.display_offset }
+    {
+        self.display_line_offset
+    }
+
+    /// The line that an offset in characters lies in, the line's number, and the offset's column:
+    /// the number of characters between the line's start and the offset.
+    ///
+    /// `None` where the offset exceeds the number of characters. The offset that equals it lies in
+    /// the last line.
+    pub fn get_offset_line(&self, offset: usize) -> Option<(Line, usize, usize)>
+        ensures found { IsSome result ↔ (offset ≤ length (chars self.now.text)) }
+        ensures place { IfSome result (λ p. p ≡ place_of length (listed_lines self.now) offset) }
+        ensures number { IfSome result (λ p. p.1 < length (listed_lines self.now)) }
+    {
+        if offset > self.len() {
+            return None;
+        }
+        let number = self.lines.partition_point(|line| line.offset() <= offset) - 1;
+        let line = self.lines[number];
+        Some((line, number, offset - line.offset))
+    }
+
+    /// The same for an offset in bytes: its line, the line's number, and the number of bytes
+    /// between the line's start and the offset, which need not begin a character.
+    ///
+    /// `None` where the offset exceeds the number of bytes.
+    pub fn get_byte_line(&self, byte_offset: usize) -> Option<(Line, usize, usize)>
+        ensures found { IsSome result ↔ (byte_offset ≤ length self.now.text) }
+        ensures place { IfSome result (λ p. p ≡ place_of byte_len (listed_lines self.now) byte_offset) }
+        ensures number { IfSome result (λ p. p.1 < length (listed_lines self.now)) }
+    {
+        if byte_offset > self.text().len() {
+            return None;
+        }
+        let number = self.lines.partition_point(|line| line.byte_offset() <= byte_offset) - 1;
+        let line = self.lines[number];
+        Some((line, number, byte_offset - line.byte_offset))
+    }
+
+    /// The numbers of the lines that a span of characters runs across: from the line of its start
+    /// to the line of its last offset, or to the last line where that offset is past the source.
+    /// A start past the source counts as line 0.
+    ///
+    /// There is such a line for every span, also where it is reversed or past the source.
+    pub fn get_line_range<S: Span>(&self, span: &S) -> Range<usize>
+        ensures start { result.start ≡ first_line (listed_lines self.now) (S.start_of span.now) }
+        ensures end { result.end ≡ line_end (listed_lines self.now) (S.start_of span.now) (S.end_of span.now) }
+        ensures some { result.start < result.end }
+        ensures valid { result.end ≤ length (listed_lines self.now) }
+    {
+        let last = span.end().saturating_sub(1).max(span.start());
+        let start = self.line_number(span.start()).unwrap_or(0);
+        let end = match self.line_number(last) {
+            Some(number) => number + 1,
+            None => self.lines.len(),
+        };
+        start..end
+    }
+
+    /// The number of the line that an offset in characters lies in, if it lies in one.
+    fn line_number(&self, offset: usize) -> Option<usize>
+        ensures number { result ≡ line_number (listed_lines self.now) offset }
+        ensures there { IfSome result (λ n. n < length (listed_lines self.now)) }
+    {
+        let (_, number, _) = self.get_offset_line(offset)?;
+        Some(number)
+    }
+
+    /// The text of a line, its terminator included.
+    ///
+    /// `None` where the bytes of the line are not whole characters of this text, as they may be for
+    /// a line of another source.
+    pub fn get_line_text(&self, line: Line) -> Option<&str>
+        ensures found { IsSome result ↔ IsCutOut self.now.text line.byte_offset (line.byte_offset + line.byte_len) }
+        ensures text { IfSome result (λ t. t.now ≡ slice_range self.now.text line.byte_offset (line.byte_offset + line.byte_len)) }
+        ensures own { (n : ℕ) → n < length (listed_lines self.now) → line ≡ line_extent (listed_lines self.now) n → IsSomeAnd result (λ t. t.now ≡ encode_utf8_all (line_text (listed_lines self.now) n)) }
+    {
+        let text = self.text();
+        let start = line.byte_offset;
+        let end = start + line.byte_len;
+        if text.is_char_boundary(start) && text.is_char_boundary(end) {
+            Some(&text[start..end])
+        } else {
+            None
+        }
+    }
+
+    /// A copy with the same text and display offset. On `Err` there was no memory for it.
+    pub fn clone(&self) -> Result<Source<I>, AllocError>
+    where
+        I: Clone,
+        requires { (x y : I) → I.is_clone x y → I.text y ≡ I.text x }
+        ensures { IfOk result (λ s. s ≡ self.now) }
+    {
+        let text = self.text.clone()?;
+        let lines = self.lines.clone()?;
+        Ok(Source {
+            text,
+            lines,
+            display_line_offset: self.display_line_offset,
+        })
+    }
+
+    /// The memory that the source was made with.
+    pub fn memory(&self) -> Global {
+        *self.lines.allocator()
+    }
+}
+
+/// Sources are equal where their texts and display offsets are.
+impl<I: SourceText> PartialEq for Source<I> {
+    ghost eq = { λ x y. pointwise nat_eq x.text y.text && (x.display_offset == y.display_offset) };
+
+    ghost laws = { Prim.search (comparing, rules) };
+
+    fn eq(&self, other: &Source<I>) -> bool {
+        self.text() == other.text() && self.display_line_offset == other.display_line_offset
+    }
+}
+
+impl<I: SourceText> Eq for Source<I> {
+    ghost laws = { Prim.search (comparing, rules) };
+}
+
+impl<I: SourceText> Hash for Source<I> {
+    ghost hash_input = { λ s. fed.str s.text ++ fed.u64 s.display_offset };
+
+    ghost respects_eq = { Prim.search (hashing, rules) };
+
+    fn hash<H: Hasher>(&self, state: &mut H) {
+        self.text().hash(state);
+        self.display_line_offset.hash(state);
+    }
+}
+
+#[cfg(test)]
+mod tests;

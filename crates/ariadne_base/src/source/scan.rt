@@ -1,0 +1,69 @@
+//! The scan of a text for its lines.
+
+ghost use Rattle.std.specs.Prelude.{◌≡◌, IfOk};
+ghost use Rattle.std.specs.Str.{chars};
+ghost use Rattle.ariadne_base.specs.Lines.{is_separator as separates, ends_line as is_last_of_line, begins_with_line_feed as begins_in_line_feed, lines_of};
+ghost use Rattle.ariadne_base.specs.Table.{line_table};
+
+use super::line::Line;
+use std::alloc::{AllocError, Global};
+
+/// Whether a character ends a line.
+#[tactic(auto, using(std::proofs::lemmas::Bool::Decides::nat_tests), unfolding(crate::specs::Lines::is_separator))]
+fn is_separator(c: char) -> bool
+    ensures { result ≡ separates c }
+{
+    if c.is_ascii() {
+        matches!(c, '\n'..='\r')
+    } else {
+        matches!(c, '\u{85}' | '\u{2028}' | '\u{2029}')
+    }
+}
+
+/// Whether a text begins with LF.
+fn begins_with_line_feed(text: &str) -> bool
+    ensures { result ≡ begins_in_line_feed (chars text.now) }
+{
+    text.starts_with('\n')
+}
+
+/// Whether a character, before the rest of its text, is the last of its line.
+fn ends_line(c: char, rest: &str) -> bool
+    ensures { result ≡ is_last_of_line c (chars rest.now) }
+{
+    is_separator(c) && !(c == '\r' && begins_with_line_feed(rest))
+}
+
+/// The lines of a text, each with its place in characters and in bytes, in one pass over the text.
+pub(super) fn line_table_of(alloc: Global, text: &str) -> Result<Vec<Line>, AllocError>
+    ensures { IfOk result (λ v. v.items ≡ line_table (lines_of (chars text.now))) }
+{
+    let mut lines = Vec::new(alloc);
+    let mut offset = 0;
+    let mut byte_offset = 0;
+    let mut at = 0;
+    let mut rest = text.chars();
+    while let Some(c) = rest.next() {
+        at += 1;
+        if ends_line(c, rest.as_str()) {
+            let byte_at = text.len() - rest.as_str().len();
+            lines.push(Line {
+                offset,
+                len: at - offset,
+                byte_offset,
+                byte_len: byte_at - byte_offset,
+            })?;
+            offset = at;
+            byte_offset = byte_at;
+        }
+    }
+    if offset < at || lines.is_empty() {
+        lines.push(Line {
+            offset,
+            len: at - offset,
+            byte_offset,
+            byte_len: text.len() - byte_offset,
+        })?;
+    }
+    Ok(lines)
+}
