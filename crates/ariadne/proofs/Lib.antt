@@ -1,5 +1,29 @@
-mod Accepting
+-- The picture: lists, groups, rows and columns.
+pub mod ListFacts
+pub mod Occurrences
+pub mod Cutting
+pub mod StableOrder
+pub mod Orders
+pub mod LineLabels
+pub mod Accepted
+pub mod RowOrder
+pub mod RowsThere
+pub mod MemberRows
+pub mod BarCases
+-- The picture of labels within one line.
+pub mod Joined
+pub mod InOrder
+pub mod OneGroup
+pub mod OneLineLayout
+pub mod OneLineRows
+pub mod OneLineOutline
+pub mod OneLineBytes
+-- Code.
+pub mod Accepting
+pub mod Insertion
+pub mod TrailingSpace
 mod Sending
+-- Worked pictures, by computation.
 mod Unfold
 mod Sample
 mod Worked

@@ -6,10 +6,12 @@ pub mod Ranks
 pub mod Rows
 pub mod Columns
 pub mod Strokes
+pub mod Bars
 pub mod Cells
 pub mod Pieces
 pub mod Canvas
-pub mod Kinds
-pub mod Sent
 pub mod Print
 pub mod Placing
+pub mod OneLine
+pub mod Kinds
+pub mod Sent

@@ -5,6 +5,7 @@ pub mod builder;
 pub mod config;
 pub mod kind;
 pub mod label;
+pub mod laws;
 pub mod report;
 pub mod write;
 

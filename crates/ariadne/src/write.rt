@@ -4,5 +4,6 @@ pub(crate) mod accept;
 pub(crate) mod cell;
 pub(crate) mod label_info;
 pub(crate) mod layout;
+pub(crate) mod order;
 pub(crate) mod palette;
 pub(crate) mod send;

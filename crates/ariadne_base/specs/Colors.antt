@@ -54,3 +54,8 @@ painted_in y (Some c) text = (27 ∷ codes "[") ++ parameters y c ++ codes "m" +
 
 abbrev pub painted : Option Color → List ℕ → List ℕ
 painted c text = painted_in foreground c text
+
+-- a value and the colour that it is printed in, if any
+pub record Painting (T : Type 0) : Type 0 where
+  pub value : T
+  pub color : Option Color

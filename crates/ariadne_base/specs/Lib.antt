@@ -4,3 +4,5 @@ pub mod Table
 pub mod Ranges
 pub mod Listing
 pub mod Colors
+pub mod Escapes
+pub mod Generator

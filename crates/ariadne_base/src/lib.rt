@@ -1,4 +1,4 @@
-// Colours, sources and the caches that hold them.
+//! Colours, sources and the caches that hold them.
 #![tactic(auto)]
 
 pub mod color;
@@ -6,7 +6,7 @@ pub mod source;
 pub mod span;
 pub mod text;
 
-pub use color::Color;
+pub use color::{Background, Color, ColorGenerator, Fmt, Foreground};
 pub use source::{Line, Source, SourceLines};
 pub use span::Span;
 pub use text::SourceText;

@@ -1,0 +1,24 @@
+-- How the numbers of the generator move from call to call.
+use Rattle.std.proofs.Common.{◌≡◌, ℕ, zero, suc, ◌+◌, ◌%◌, ◌<◌, arith, ap, ◌∙◌}
+use Rattle.ariadne_base.specs.Generator.{GeneratorState, state_after, stepped, number_after, step_at, IsInRange, RisesEvenly}
+
+-- a state from its numbers
+abbrev state : ℕ → ℕ → ℕ → ℕ → GeneratorState
+state red green blue brightness = record { red = red; green = green; blue = blue; brightness = brightness }
+
+-- no call moves nothing
+nothing_moved : (place start : ℕ) → start < 65536 → start ≡ number_after place 0 start
+nothing_moved place start low = omega arith
+
+-- one call more adds one step more
+once_more : (place n start : ℕ) → (number_after place n start + step_at place) % 65536 ≡ number_after place (suc n) start
+once_more place n start = omega arith
+
+-- by induction on the number of calls
+pub rises_evenly : (s : GeneratorState) (n : ℕ) → IsInRange s → RisesEvenly n s
+unfolding state_after
+rises_evenly s zero below =
+    λ i. state (nothing_moved 0 s.red below.0 i) (nothing_moved 1 s.green below.1 i) (nothing_moved 2 s.blue below.2 i) s.brightness
+rises_evenly s (suc n) below =
+    ap stepped (rises_evenly s n below)
+    ∙ (λ i. state (once_more 0 n s.red i) (once_more 1 n s.green i) (once_more 2 n s.blue i) s.brightness)

@@ -1,0 +1,24 @@
+-- The escape before a painted text, as the code writes it: a text that is the colour's own, and behind
+-- it the numbers of the colour, if it has any.
+use Rattle.std.specs.Prelude.{◌≡◌, ℕ, List, [], ◌∷◌, ◌++◌, codes, decimal}
+use Rattle.ariadne_base.specs.declared.color.Color.{Color}
+use Rattle.ariadne_base.specs.declared.color.Color.TheVariants.{Fixed, Rgb}
+use Rattle.ariadne_base.specs.Colors.{Layer, parameters}
+
+-- the escape that opens a colour: ESC [ parameters m
+abbrev pub opening : Layer → Color → List ℕ
+opening y c = (27 ∷ codes "[") ++ parameters y c ++ codes "m"
+
+-- its end, from the first number on
+abbrev pub opening_end : Color → List ℕ
+opening_end (Fixed n) = decimal n ++ codes "m"
+opening_end (Rgb r g b) = decimal r ++ codes ";" ++ decimal g ++ codes ";" ++ decimal b ++ codes "m"
+opening_end _ = []
+
+-- the escape that ends a painted text
+abbrev pub closing : List ℕ
+closing = 27 ∷ codes "[0m"
+
+-- the first text begins with the second
+abbrev pub BeginsWith : List ℕ → List ℕ → Type 0
+BeginsWith whole start = (rest : List ℕ) × (whole ≡ start ++ rest)
