@@ -19,7 +19,14 @@ pub mod OneLineRows
 pub mod OneLineOutline
 pub mod OneLineBytes
 -- Code.
+pub mod Bytes
+pub mod Chosen
+pub mod Shown
+pub mod Underlines
+pub mod RowBytes
+pub mod Painters
 pub mod Accepting
+pub mod Judging
 pub mod Insertion
 pub mod TrailingSpace
 mod Sending

@@ -13,5 +13,8 @@ pub mod Canvas
 pub mod Print
 pub mod Placing
 pub mod OneLine
+pub mod Heads
+pub mod Preferred
 pub mod Kinds
 pub mod Sent
+pub mod Written

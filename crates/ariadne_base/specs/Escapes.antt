@@ -1,9 +1,9 @@
 -- The escape before a painted text, as the code writes it: a text that is the colour's own, and behind
 -- it the numbers of the colour, if it has any.
-use Rattle.std.specs.Prelude.{◌≡◌, ℕ, List, [], ◌∷◌, ◌++◌, codes, decimal}
+use Rattle.std.specs.Prelude.{◌≡◌, ℕ, List, [], ◌∷◌, ◌++◌, Option, Some, None, codes, decimal}
 use Rattle.ariadne_base.specs.declared.color.Color.{Color}
 use Rattle.ariadne_base.specs.declared.color.Color.TheVariants.{Fixed, Rgb}
-use Rattle.ariadne_base.specs.Colors.{Layer, parameters}
+use Rattle.ariadne_base.specs.Colors.{Layer, foreground, parameters}
 
 -- the escape that opens a colour: ESC [ parameters m
 abbrev pub opening : Layer → Color → List ℕ
@@ -18,6 +18,15 @@ opening_end _ = []
 -- the escape that ends a painted text
 abbrev pub closing : List ℕ
 closing = 27 ∷ codes "[0m"
+
+-- what stands before and behind a painted text
+abbrev pub opened : Option Color → List ℕ
+opened None = []
+opened (Some c) = opening foreground c
+
+abbrev pub closed : Option Color → List ℕ
+closed None = []
+closed (Some c) = closing
 
 -- the first text begins with the second
 abbrev pub BeginsWith : List ℕ → List ℕ → Type 0

@@ -4,7 +4,7 @@ mod escape;
 mod generator;
 mod paint;
 
-pub use escape::{push_painted, push_painted_char};
+pub use escape::{push_closing, push_opening, push_painted, push_painted_char};
 pub use generator::{ColorGenerator, numbers_rise_evenly};
 pub use paint::{Background, Fmt, Foreground};
 

@@ -1,13 +1,69 @@
 //! Which labels of a report are drawn, and why the others are left out.
 
-ghost use Rattle.std.specs.Prelude.{◌≡◌, ◌≤◌, length, chars};
+ghost use Rattle.std.specs.Prelude.{◌≡◌, ◌≤◌, length, chars, IfOk};
 ghost use Rattle.ariadne_base.specs.Listing.{listed_lines};
+ghost use Rattle.ariadne.specs.Written.{listed, reasons, drawn};
 ghost use Rattle.ariadne.specs.Accept.{verdict, info_of, attach_offset as attached_offset};
 
 use super::label_info::LabelInfo;
 use crate::config::{Config, LabelAttach};
 use crate::label::Label;
+use crate::report::Report;
 use ariadne_base::{Source, SourceText, Span};
+use std::alloc::AllocError;
+
+/// Why a label is left out of the picture.
+#[derive(Debug, Drop)]
+pub enum Reason<E> {
+    /// Its source could not be had, for this reason of the cache.
+    Unfetched(E),
+    /// It begins past its source, or ends more than one past it.
+    PastSource,
+    /// One of its ends lies inside a character.
+    CutsCharacter,
+}
+
+/// A label that is left out of the picture.
+#[derive(Debug, Drop)]
+pub struct LeftOut<E> {
+    /// Its position among the report's labels, from 0.
+    pub label: usize,
+    /// Why it is left out.
+    pub reason: Reason<E>,
+}
+
+/// The labels of a report: those that are drawn, and those that are left out.
+#[derive(Drop)]
+pub(crate) struct Judged<E> {
+    pub(crate) infos: Vec<LabelInfo>,
+    pub(crate) left_out: Vec<LeftOut<E>>,
+}
+
+/// Judges all labels of a report over one source, in their order.
+pub(crate) fn accept(
+    report: &Report<'_>,
+    source: &Source<String>,
+) -> Result<Judged<()>, AllocError>
+    ensures drawn { IfOk result (λ judged. judged.infos.items ≡ drawn source.now report.now) }
+    ensures left_out { IfOk result (λ judged. judged.left_out.items ≡ listed 0 (reasons source.now report.now)) }
+{
+    let mut infos = Vec::with_capacity(report.alloc, report.labels.len())?;
+    let mut left_out = Vec::new(report.alloc);
+    for (number, label) in report.labels.iter().enumerate() {
+        match judge(report.config, source, number, label) {
+            Verdict::Accepted(info) => infos.push(info)?,
+            Verdict::PastSource => left_out.push(LeftOut {
+                label: number,
+                reason: Reason::PastSource,
+            })?,
+            Verdict::CutsCharacter => left_out.push(LeftOut {
+                label: number,
+                reason: Reason::CutsCharacter,
+            })?,
+        }
+    }
+    Ok(Judged { infos, left_out })
+}
 
 /// What becomes of a label whose source is held.
 #[derive(Clone, Copy, Debug, PartialEq, Eq)]

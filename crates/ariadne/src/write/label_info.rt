@@ -1,5 +1,9 @@
 //! An accepted label in numbers, and a label as it stands at one of its lines.
 
+ghost use Rattle.std.specs.Prelude.{◌≡◌};
+ghost use Rattle.ariadne.specs.Ranks.{is_inline, span_len};
+ghost use Rattle.ariadne.specs.Strokes.{is_preferred};
+
 /// An accepted label: its span in characters, and the places of its ends, in lines and columns
 /// from 0.
 #[derive(Clone, Copy, Debug, PartialEq, Eq)]
@@ -23,6 +27,26 @@ pub(crate) struct LabelInfo {
     pub(crate) has_message: bool,
 }
 
+impl LabelInfo {
+    /// Whether it is preferred to another label where both are to be shown: by the higher priority,
+    /// then by the shorter span.
+    #[tactic(auto, unfolding(crate::specs::Strokes::is_preferred, crate::specs::Ranks::span_len))]
+    pub(crate) fn is_preferred_to(&self, other: &LabelInfo) -> bool
+        ensures { result ≡ is_preferred self.now other.now }
+    {
+        other.priority < self.priority
+            || (other.priority <= self.priority && self.len() < other.len())
+    }
+
+    /// How many characters its span has.
+    #[tactic(auto, unfolding(crate::specs::Ranks::span_len))]
+    fn len(&self) -> usize
+        ensures { result ≡ span_len self.now }
+    {
+        self.end.saturating_sub(self.start)
+    }
+}
+
 /// What a label does at a line.
 #[derive(Clone, Copy, Debug, PartialEq, Eq)]
 pub(crate) enum Side {
@@ -32,6 +56,16 @@ pub(crate) enum Side {
     Starts,
     /// It started on an earlier line and ends there.
     Ends,
+}
+
+impl Side {
+    /// Whether the label lies within the line.
+    #[tactic(auto, unfolding(crate::specs::Ranks::is_inline))]
+    pub(crate) fn is_inline(self) -> bool
+        ensures { result ≡ is_inline self }
+    {
+        matches!(self, Side::Inline)
+    }
 }
 
 /// A label as it stands at one of its lines.

@@ -1,13 +1,22 @@
-//! What is drawn at one line of a source.
+//! What is drawn at one line of a source, and what is seen and how wide at each place of its rows.
 
-ghost use Rattle.std.specs.Prelude.{◌≡◌, ◌≤◌, length, map, IfOk, chars};
+ghost use Rattle.std.specs.Prelude.{◌≡◌, ◌+◌, ◌^◌, ◌<◌, ◌≤◌, IfOk, chars, length, map, not};
+ghost use Rattle.std.specs.List.{list_any};
+ghost use Rattle.std.specs.Option.{option_copied};
 ghost use Rattle.std.specs.Str.{drop_trailing_whitespace};
+ghost use Rattle.ariadne.specs.Columns.{arrow_len, end_place, shown_columns, width};
+ghost use Rattle.ariadne.specs.Groups.{greatest};
 ghost use Rattle.ariadne.specs.OneLine.{inline_label};
+ghost use Rattle.ariadne.specs.Preferred.{chosen_underline};
+ghost use Rattle.ariadne.specs.Ranks.{is_inline, is_margin};
+ghost use Rattle.ariadne.specs.Strokes.{has_corner, has_vertical, holds, underline_at, vertical_at};
 
 use super::label_info::{LabelInfo, LineLabel, Side};
 use super::order::in_order;
+use crate::config::Style;
 use std::alloc::{AllocError, Global};
 use std::marker::Model;
+use unicode_width::UnicodeWidthChar;
 
 /// The labels of a line and its characters.
 #[derive(Drop)]
@@ -61,6 +70,151 @@ impl LineLayout {
             text,
             shown_len,
         })
+    }
+
+    /// Whether a label's span holds the character at a place.
+    #[tactic(auto, unfolding(crate::specs::Strokes::holds))]
+    pub(crate) fn holds(&self, info: &LabelInfo, place: usize) -> bool
+        ensures { result ≡ holds info.now (self.now.offset + place) }
+    {
+        let start = info.start.saturating_sub(self.offset);
+        let end = info.end.saturating_sub(self.offset);
+        start <= place && place < end
+    }
+
+    /// Whether a label of the line is its margin label.
+    #[tactic(auto, unfolding(crate::specs::Ranks::is_margin, crate::specs::Ranks::is_of_member))]
+    fn is_margin(&self, label: &LineLabel) -> bool
+        ensures { result ≡ is_margin self.now.margin label.now }
+    {
+        match &self.margin {
+            Some(margin) => !label.side.is_inline() && margin.member == label.member,
+            None => false,
+        }
+    }
+
+    /// Whether a label has its corner at a place of its arrow row.
+    #[tactic(auto, unfolding(crate::specs::Strokes::has_corner))]
+    pub(crate) fn has_corner(&self, label: &LineLabel, place: usize) -> bool
+        ensures { result ≡ has_corner self.now.margin label.now place }
+    {
+        label.column == place && !self.is_margin(label)
+    }
+
+    /// Whether a label has its vertical at a place.
+    #[tactic(auto, unfolding(crate::specs::Strokes::has_vertical))]
+    fn has_vertical(&self, label: &LineLabel, place: usize) -> bool
+        ensures { result ≡ has_vertical self.now.margin place label.now }
+    {
+        label.column == place && label.info.has_message && !self.is_margin(label)
+    }
+
+    /// The label whose vertical is seen at a place of the rows of line label number `row`: the
+    /// first from that number on.
+    #[tactic(auto, unfolding(crate::specs::Strokes::vertical_at))]
+    pub(crate) fn vertical_at(&self, row: usize, place: usize) -> Option<&LineLabel>
+        requires { row ≤ length self.now.labels }
+        ensures { option_copied result ≡ vertical_at self.now row place }
+    {
+        self.labels[row..]
+            .iter()
+            .find(|label| self.has_vertical(label, place))
+    }
+
+    /// The label whose underline is seen at a place of the alternate row of line label number
+    /// `row`: the preferred one of those that reach it, and the first of these.
+    pub(crate) fn underline_at(&self, style: &Style, row: usize, place: usize) -> Option<&LineLabel>
+        ensures { option_copied result ≡ underline_at style.now self.now row place }
+    {
+        if !style.underlines || row != 0 {
+            return None;
+        }
+        let mut seen = None;
+        for label in &self.labels {
+            seen = self.preferred_underline(seen, label, place);
+        }
+        seen
+    }
+
+    /// The underline that is seen at a place, after one more label.
+    #[tactic(auto, unfolding(crate::specs::Preferred::chosen, crate::specs::Preferred::better))]
+    fn preferred_underline<'a>(
+        &self,
+        seen: Option<&'a LineLabel>,
+        label: &'a LineLabel,
+        place: usize,
+    ) -> Option<&'a LineLabel>
+        ensures { let best = option_copied seen.entry in
+            option_copied result ≡ chosen_underline self.now place best label.now }
+    {
+        if !label.side.is_inline() || !self.holds(&label.info, place) {
+            return seen;
+        }
+        match seen {
+            Some(best) if !label.info.is_preferred_to(&best.info) => seen,
+            _ => Some(label),
+        }
+    }
+
+    /// How many columns a place has: those of the shown character, and one past the shown text.
+    #[tactic(auto, unfolding(crate::specs::Columns::width, crate::specs::Columns::shown))]
+    pub(crate) fn width_at(&self, style: &Style, place: usize) -> usize
+        requires { 1 ≤ style.now.tab_width }
+        ensures { result ≡ width style.now self.now place }
+    {
+        if place < self.shown_len {
+            shown_columns(style.tab_width, place, self.text[place])
+        } else {
+            1
+        }
+    }
+
+    /// How many places the rows below the line have.
+    #[tactic(auto, unfolding(crate::specs::Columns::arrow_len))]
+    pub(crate) fn arrow_len(&self, style: &Style) -> usize
+        requires { arrow_len style.now self.now < 2 ^ 64 }
+        ensures { result ≡ arrow_len style.now self.now }
+    {
+        let len = if self.has_long_label() {
+            self.text.len()
+        } else {
+            self.greatest_end()
+        };
+        if style.compact { len + 1 } else { len + 2 }
+    }
+
+    /// Whether a label of several lines has rows below the line.
+    fn has_long_label(&self) -> bool
+        ensures { result ≡ list_any (λ x. not (is_inline x.side)) self.now.labels }
+    {
+        self.labels.iter().any(|label| !label.side.is_inline())
+    }
+
+    /// How far behind the line's start the last of its labels ends.
+    fn greatest_end(&self) -> usize
+        ensures { result ≡ greatest (map (end_place self.now) self.now.labels) }
+    {
+        let mut greatest = 0usize;
+        for label in &self.labels {
+            greatest = greatest.max(label.info.end.saturating_sub(self.offset));
+        }
+        greatest
+    }
+}
+
+/// How many columns a shown character at an index of its line has; a tab reaches to the next tab
+/// stop.
+#[tactic(auto, unfolding(crate::specs::Columns::shown_columns, crate::specs::Columns::char_columns))]
+pub(crate) fn shown_columns(tab_width: usize, index: usize, c: char) -> usize
+    requires { 1 ≤ tab_width }
+    ensures { result ≡ shown_columns tab_width index c }
+{
+    if c == '\t' {
+        tab_width - index % tab_width
+    } else if c.is_whitespace() {
+        1
+    } else {
+        c.width().unwrap_or(1)
     }
 }
 

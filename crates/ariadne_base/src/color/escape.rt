@@ -2,7 +2,7 @@
 
 ghost use Rattle.std.specs.Prelude.{◌≡◌, ◌+◌, ◌<◌, ◌++◌, OnOk, OnErr, decimal, encode_utf8, string_bytes};
 ghost use Rattle.ariadne_base.specs.Colors.{foreground, background, painted};
-ghost use Rattle.ariadne_base.specs.Escapes.{BeginsWith, opening, opening_end};
+ghost use Rattle.ariadne_base.specs.Escapes.{BeginsWith, closed, opened, opening, opening_end};
 
 use crate::color::Color;
 use std::alloc::AllocError;
@@ -19,12 +19,9 @@ pub fn push_painted(out: &mut String, color: Option<Color>, text: &str) -> Resul
         (string_bytes out.new ≡ string_bytes out.old ++ painted color text.now) }
     ensures err { OnErr result (BeginsWith (string_bytes out.new) (string_bytes out.old)) }
 {
-    let Some(color) = color else {
-        return out.push_str(text);
-    };
     push_opening(out, color)?;
     out.push_str(text)?;
-    out.push_str(CLOSING)
+    push_closing(out, color)
 }
 
 /// Appends a character to `out`, in a colour if there is one.
@@ -36,16 +33,42 @@ pub fn push_painted_char(out: &mut String, color: Option<Color>, c: char) -> Res
         (string_bytes out.new ≡ string_bytes out.old ++ painted color (encode_utf8 c)) }
     ensures err { OnErr result (BeginsWith (string_bytes out.new) (string_bytes out.old)) }
 {
-    let Some(color) = color else {
-        return out.push(c);
-    };
     push_opening(out, color)?;
     out.push(c)?;
-    out.push_str(CLOSING)
+    push_closing(out, color)
+}
+
+/// Appends to `out` what stands before a text in a colour: its escape, or nothing without a colour.
+///
+/// It is a helper of the crates that draw, for texts that are painted in parts. On `Err` there was
+/// no memory for the whole, and `out` keeps what it held, with a beginning of the escape behind it.
+pub fn push_opening(out: &mut String, color: Option<Color>) -> Result<(), AllocError>
+    ensures ok { OnOk result (string_bytes out.new ≡ string_bytes out.old ++ opened color) }
+    ensures err { OnErr result (BeginsWith (string_bytes out.new) (string_bytes out.old)) }
+{
+    match color {
+        Some(color) => push_escape(out, color),
+        None => Ok(()),
+    }
+}
+
+/// Appends to `out` what stands behind a text in a colour: the closing escape, or nothing without
+/// a colour.
+///
+/// It is a helper of the crates that draw, for texts that are painted in parts. On `Err` there was
+/// no memory for the whole, and `out` keeps what it held, with a beginning of the escape behind it.
+pub fn push_closing(out: &mut String, color: Option<Color>) -> Result<(), AllocError>
+    ensures ok { OnOk result (string_bytes out.new ≡ string_bytes out.old ++ closed color) }
+    ensures err { OnErr result (BeginsWith (string_bytes out.new) (string_bytes out.old)) }
+{
+    match color {
+        Some(_) => out.push_str(CLOSING),
+        None => Ok(()),
+    }
 }
 
 /// Appends the escape that opens a colour in front.
-fn push_opening(out: &mut String, color: Color) -> Result<(), AllocError>
+fn push_escape(out: &mut String, color: Color) -> Result<(), AllocError>
     ensures ok { OnOk result
         (string_bytes out.new ≡ string_bytes out.old ++ opening foreground color) }
     ensures err { OnErr result (BeginsWith (string_bytes out.new) (string_bytes out.old)) }

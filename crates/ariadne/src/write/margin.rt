@@ -1,0 +1,81 @@
+//! The margins of rows: what stands left of the gutter.
+
+ghost use Rattle.std.specs.Prelude.{◌≡◌, ◌++◌, ◌^◌, ◌<◌, OnOk, decimal, if◌then◌else◌, [], ◌∷◌, length, string_bytes};
+ghost use Rattle.ariadne.specs.Groups.{line_number};
+ghost use Rattle.ariadne.specs.Heads.{bar_margin};
+ghost use Rattle.ariadne.specs.Pieces.{margin_pieces};
+ghost use Rattle.ariadne.specs.Print.{pieces_bytes};
+ghost use Rattle.ariadne.specs.Rows.{source};
+
+use super::cell::{Glyph, Paint};
+use ariadne_base::color::{push_closing, push_opening};
+use super::palette::Palette;
+use super::pen::push_spaces;
+use crate::config::Style;
+use std::alloc::AllocError;
+
+/// Appends the margin of the source row of a line, with the line's number, where numbers take
+/// `width` columns. `shift` is the source's display offset.
+pub(crate) fn push_line_margin(
+    out: &mut String,
+    palette: &Palette,
+    style: &Style,
+    width: usize,
+    shift: usize,
+    line: usize,
+) -> Result<(), AllocError>
+    requires { line_number shift line < 2 ^ 64 }
+    ensures { let written = pieces_bytes palette.now (margin_pieces style.now width shift (source line)) in
+        OnOk result (string_bytes out.new ≡ string_bytes out.old ++ written) }
+{
+    let number = line + 1 + shift;
+    let color = palette.color_of(Paint::Tint(246));
+    out.push(' ')?;
+    push_opening(out, color)?;
+    push_spaces(out, width.saturating_sub(decimal_len(number)))?;
+    write!(out, "{number} ")?;
+    out.push(Glyph::Vbar.to_char(style.char_set))?;
+    push_closing(out, color)?;
+    push_margin_end(out, style)
+}
+
+/// Appends the margin of a row without a number, with this bar.
+pub(crate) fn push_margin(
+    out: &mut String,
+    palette: &Palette,
+    style: &Style,
+    width: usize,
+    bar: Glyph,
+) -> Result<(), AllocError>
+    ensures { let written = pieces_bytes palette.now (bar_margin style.now width bar) in
+        OnOk result (string_bytes out.new ≡ string_bytes out.old ++ written) }
+{
+    let color = palette.color_of(Paint::Tint(240));
+    out.push(' ')?;
+    push_opening(out, color)?;
+    push_spaces(out, width)?;
+    out.push(' ')?;
+    out.push(bar.to_char(style.char_set))?;
+    push_closing(out, color)?;
+    push_margin_end(out, style)
+}
+
+/// Appends the blank behind a margin; compact pictures have none.
+fn push_margin_end(out: &mut String, style: &Style) -> Result<(), AllocError>
+    ensures { let written = (if style.now.compact then [] else 32 ∷ []) in
+        OnOk result (string_bytes out.new ≡ string_bytes out.old ++ written) }
+{
+    if style.compact { Ok(()) } else { out.push(' ') }
+}
+
+/// How many digits a number has.
+#[tactic(auto, using(std::proofs::lemmas::Fmt::decimal_digit, std::proofs::lemmas::Fmt::decimal_step))]
+pub(crate) fn decimal_len(number: usize) -> usize
+    ensures { result ≡ length (decimal number) }
+{
+    if number < 10 {
+        1
+    } else {
+        decimal_len(number / 10) + 1
+    }
+}
