@@ -74,8 +74,10 @@ unfoldable pub is_label_drawable : List (List ℕ) → ℕ → LabelFields (Rang
 is_label_drawable ls l label =
     is_some label.message && (first_line ls label.span.start == l) && (line_end ls label.span.start label.span.end == l + 1)
 
+-- the line of the first label
+unfoldable pub drawable_line : Listing → ReportFields (Range ℕ) → ℕ
+drawable_line source r =
+    option_map_or (λ label. first_line (listed_lines source) label.span.start) (slice_get r.labels 0) 0
+
 unfoldable pub is_drawable : Listing → ReportFields (Range ℕ) → Bool
-is_drawable source r =
-    let ls = listed_lines source in
-    let l = option_map_or (λ label. first_line ls label.span.start) (slice_get r.labels 0) 0 in
-    list_all (is_label_drawable ls l) r.labels
+is_drawable source r = list_all (is_label_drawable (listed_lines source) (drawable_line source r)) r.labels
