@@ -1,8 +1,8 @@
 -- The bytes of a line in its text: they are whole characters, and they are the line.
-use Rattle.std.proofs.Common.{◌≡◌, ℕ, ◌+◌, ◌-◌, ◌<◌, ◌≤◌, Bool, true, List, [], ◌∷◌, ◌++◌, length, take, drop, get_or, sum_by, refl, sym, ap, ◌∙◌, arith, subst, ◌&&◌}
+use Rattle.std.proofs.Common.{◌≡◌, ℕ, ◌+◌, ◌-◌, ◌<◌, true, List, [], ◌∷◌, ◌++◌, length, take, drop, get_or, refl, sym, ap, ◌∙◌, arith, subst}
 use Rattle.std.specs.Prelude.{slice_range}
 use Rattle.std.specs.List.{flat_map}
-use Rattle.std.specs.Str.{chars, IsUtf8, encode_utf8_all, all_scalars}
+use Rattle.std.specs.Str.{chars, IsUtf8, encode_utf8_all}
 use Rattle.std.proofs.Math.Utf8.{scalars}
 use Rattle.std.proofs.lemmas.Bool.{and_parts}
 use Rattle.std.proofs.lemmas.List.{take-append-drop, drop_more, drop_at, take_at, append_assoc, length-append}
@@ -11,7 +11,7 @@ use Rattle.std.proofs.lemmas.Str.{encodes-append, encodes-chars, scalars-chars, 
 use Rattle.ariadne_base.specs.Lines.{lines_of}
 use Rattle.ariadne_base.specs.Places.{byte_len, line_text, line_offset}
 use Rattle.ariadne_base.specs.Ranges.{IsCutOut}
-use Rattle.ariadne_base.specs.Table.{LineExtent, line_extent}
+use Rattle.ariadne_base.specs.Table.{line_extent}
 use Rattle.ariadne_base.proofs.LineLaws.{lines_joined, joined_byte_len}
 
 -- the last characters of a text are characters
@@ -24,6 +24,7 @@ pub record IsMiddle (text : List ℕ) (from size : ℕ) (middle : List ℕ) : Ty
   pub whole : IsCutOut text from (from + size)
   pub is : slice_range text from (from + size) ≡ encode_utf8_all middle
 
+-- the middle of three parts stands at the size of the first, and has its own
 middle_of : (text front middle back : List ℕ) → scalars (front ++ (middle ++ back)) ≡ true → text ≡ encode_utf8_all (front ++ (middle ++ back)) → IsMiddle text (byte_len front) (byte_len middle) middle
 middle_of text front middle back s e =
     let f = encode_utf8_all front in
@@ -38,7 +39,7 @@ middle_of text front middle back s e =
       whole = (start, rw (← length-append f m) stop);
       is = ap (λ bs. slice_range bs (byte_len front) (byte_len front + byte_len middle)) parts
           ∙ ap (λ bs. take (byte_len front + byte_len middle - byte_len front) bs) (drop_at f (m ++ b) (length f) refl)
-          ∙ take_at m b (byte_len front + byte_len middle - byte_len front) (sym size)
+          ∙ take_at m b (byte_len front + byte_len middle - byte_len front) (sym size);
     }
 
 -- the bytes of line n are those of its text
@@ -50,8 +51,8 @@ line_middle text u n h =
     let join : List (List ℕ) → List ℕ = λ ls. flat_map (λ l. l) ls in
     let cut : ls ≡ take n ls ++ (get_or ls n [] ∷ drop (n + 1) ls) = sym (take-append-drop n ls) ∙ ap (λ ms. take n ls ++ ms) (drop_more ls n [] h) in
     let parts : chars text ≡ join (take n ls) ++ (get_or ls n [] ++ join (drop (n + 1) ls)) =
-        sym (lines_joined (chars text)) ∙ ap join cut ∙ flat_map-append (λ l. l) (take n ls) (get_or ls n [] ∷ drop (n + 1) ls) in
+    sym (lines_joined (chars text)) ∙ ap join cut ∙ flat_map-append (λ l. l) (take n ls) (get_or ls n [] ∷ drop (n + 1) ls) in
     let middle = middle_of text (join (take n ls)) (get_or ls n []) (join (drop (n + 1) ls))
-        (subst (λ cs. scalars cs ≡ true) parts (scalars-chars text u))
-        (sym (encodes-chars text u) ∙ ap encode_utf8_all parts) in
+    (subst (λ cs. scalars cs ≡ true) parts (scalars-chars text u))
+    (sym (encodes-chars text u) ∙ ap encode_utf8_all parts) in
     rw (joined_byte_len (take n ls)) middle

@@ -8,3 +8,6 @@ pub mod Scanning
 -- Colours.
 pub mod Decimals
 pub mod Turns
+-- Caches.
+pub mod Lookups
+pub mod Paths

@@ -36,6 +36,7 @@ separator_from_end : (c : ℕ) (t : List ℕ) → ends_line c t ≡ true → is_
 unfolding ends_line
 separator_from_end c t h = (and_parts _ _ h).0
 
+-- a CR before LF does not end its line
 no_cut_from_end : (c d : ℕ) (t : List ℕ) → ends_line c (d ∷ t) ≡ true → c ≡ 13 → d ≡ 10 → ⊥
 unfolding ends_line begins_with_line_feed
 no_cut_from_end c d t h e f =
@@ -68,16 +69,19 @@ unfolding full_lines_of in_front
 cut_last c [] i = cond_both (ends_line c []) ((c ∷ []) ∷ []) ((c ∷ []) ∷ []) (λ r. r ≡ (c ∷ []) ∷ []) (λ _. refl) (λ _. refl)
 cut_last c (d ∷ t) i = cond-false (ends_line c (d ∷ t)) ((c ∷ []) ∷ full_lines_of (d ∷ t)) (in_front c (full_lines_of (d ∷ t))) (inner_stays c d t i.0 t) ∙ ap (in_front c) (cut_last d t i.1)
 
+-- what the joined lines begin with, the first line begins with
 begins_alone : (P : ℕ → Type 0) (m : List ℕ) (ls : List (List ℕ)) → BeginsIn (λ c. Unit {0}) m → BeginsIn P (flat_map (λ l. l) (m ∷ ls)) → BeginsIn P m
 begins_alone P [] ls b h = absurd b
 begins_alone P (c ∷ m) ls b h = h
 
+-- a first full line is not empty
 not_empty : (m : List ℕ) (ls : List (List ℕ)) → AreFullLines (m ∷ ls) → BeginsIn (λ c. Unit {0}) m
 not_empty [] [] a = a.1
 not_empty (c ∷ m) [] a = tt
 not_empty [] (n ∷ ls) a = absurd a.1
 not_empty (c ∷ m) (n ∷ ls) a = tt
 
+-- full lines are cut from their joined text as they were
 cut_joined : (ls : List (List ℕ)) → AreFullLines ls → full_lines_of (flat_map (λ l. l) ls) ≡ ls
 cut_joined [] a = absurd a
 cut_joined ([] ∷ []) a = absurd a.1
@@ -86,19 +90,23 @@ cut_joined (l ∷ m ∷ ls) a =
     cut_line l (flat_map (λ l. l) (m ∷ ls)) a.0 a.1 (λ h. a.2 (h.0, begins_alone (λ c. c ≡ 10) m ls (not_empty m ls a.3) h.1))
     ∙ ap (λ r. l ∷ r) (cut_joined (m ∷ ls) a.3)
 
+-- a text that is not empty has its full lines alone
 lines_of-some : (t : List ℕ) → BeginsIn (λ c. Unit {0}) t → lines_of t ≡ full_lines_of t
 unfolding lines_of
 lines_of-some [] h = absurd h
 lines_of-some (c ∷ t) h = refl
 
+-- a text with a beginning keeps it before more text
 begins-append : (l u : List ℕ) → BeginsIn (λ c. Unit {0}) l → BeginsIn (λ c. Unit {0}) (l ++ u)
 begins-append [] u h = absurd h
 begins-append (c ∷ l) u h = tt
 
+-- full lines join to a text that is not empty
 joined_begins : (ls : List (List ℕ)) → AreFullLines ls → BeginsIn (λ c. Unit {0}) (flat_map (λ l. l) ls)
 joined_begins [] a = absurd a
 joined_begins (m ∷ ls) a = begins-append m (flat_map (λ l. l) ls) (not_empty m ls a)
 
+-- the empty text has one empty line
 lines_of-nil : lines_of [] ≡ [] ∷ []
 unfolding lines_of
 lines_of-nil = refl
@@ -110,15 +118,18 @@ only_lines t ls (full_lines a e) = sym (cut_joined ls a) ∙ sym (lines_of-some 
 
 -- ---- that they meet it
 
+-- a character ends its line, or stands in front of what follows
 full_lines_of-cons : (c : ℕ) (t : List ℕ) → full_lines_of (c ∷ t) ≡ cond (ends_line c t) ((c ∷ []) ∷ full_lines_of t) (in_front c (full_lines_of t))
 unfolding full_lines_of
 full_lines_of-cons c t = refl
 
+-- a character in front of the lines is in front of their text
 in_front_joined : (c : ℕ) (ls : List (List ℕ)) → flat_map (λ l. l) (in_front c ls) ≡ c ∷ flat_map (λ l. l) ls
 unfolding in_front
 in_front_joined c [] = refl
 in_front_joined c (l ∷ ls) = refl
 
+-- the full lines of a text join to it
 full_lines_of-joined : (t : List ℕ) → flat_map (λ l. l) (full_lines_of t) ≡ t
 unfolding full_lines_of
 full_lines_of-joined [] = refl
@@ -133,11 +144,13 @@ record FirstLine (d : ℕ) (t : List ℕ) : Type 0 where
   others : List (List ℕ)
   is : full_lines_of (d ∷ t) ≡ (d ∷ tail) ∷ others
 
+-- lines with a character in front have a first one, which begins with it
 begun : (c : ℕ) (ls : List (List ℕ)) → (tail : List ℕ) × (others : List (List ℕ)) × (in_front c ls ≡ (c ∷ tail) ∷ others)
 unfolding in_front
 begun c [] = ([], [], refl)
 begun c (l ∷ ls) = (l, ls, refl)
 
+-- a text that is not empty has a first line
 first_line : (d : ℕ) (t : List ℕ) → FirstLine d t
 first_line d t = elim (cases_Bool (ends_line d t)) [
   | inl on ↦ record { tail = []; others = full_lines_of t; is = full_lines_of-cons d t ∙ cond-true _ _ _ on }
@@ -150,6 +163,7 @@ unfolding is_separator
 alone [] h = refl
 alone (e ∷ m) h = let z : ◌≡◌ {A = ℕ} 10 13 = (h.0 refl).0 in absurd (omega arith)
 
+-- the same of a character that is LF
 alone_at : (d : ℕ) (m : List ℕ) → d ≡ 10 → HasNoSeparatorInside (d ∷ m) → m ≡ []
 alone_at d m e h = alone m (subst (λ d. HasNoSeparatorInside (d ∷ m)) e h)
 
@@ -158,6 +172,7 @@ longer : (c d : ℕ) (m : List ℕ) (ls : List (List ℕ)) → (is_separator c �
 longer c d m [] h a = ((λ s. let p = h s in (p.0, p.1, alone_at d m p.1 a.0), a.0), tt)
 longer c d m (n ∷ ls) h a = ((λ s. let p = h s in (p.0, p.1, alone_at d m p.1 a.0), a.0), a.1, a.2, a.3)
 
+-- a text that is not empty is cut into full lines
 are_full_lines : (c : ℕ) (t : List ℕ) → AreFullLines (full_lines_of (c ∷ t))
 unfolding full_lines_of in_front
 are_full_lines c [] = cond_both (ends_line c []) ((c ∷ []) ∷ []) ((c ∷ []) ∷ []) AreFullLines (λ _. (tt, tt)) (λ _. (tt, tt))
@@ -177,14 +192,17 @@ are_lines (c ∷ t) = full_lines (are_full_lines c t) (full_lines_of-joined (c �
 
 -- ---- their sizes
 
+-- the lines of a text join to it
 pub lines_joined : (t : List ℕ) → flat_map (λ l. l) (lines_of t) ≡ t
 unfolding lines_of
 lines_joined [] = refl
 lines_joined (c ∷ t) = full_lines_of-joined (c ∷ t)
 
+-- their lengths add up to its length
 pub lines_length : (t : List ℕ) → sum_by length (lines_of t) ≡ length t
 lines_length t = sym (length-flat_map (λ l. l) (lines_of t)) ∙ ap length (lines_joined t)
 
+-- the bytes of lines add up to those of their joined text
 pub joined_byte_len : (ls : List (List ℕ)) → sum_by byte_len ls ≡ byte_len (flat_map (λ l. l) ls)
 joined_byte_len [] = refl
 joined_byte_len (l ∷ ls) =
@@ -193,6 +211,7 @@ joined_byte_len (l ∷ ls) =
     ∙ sym (length-append (encode_utf8_all l) (encode_utf8_all (flat_map (λ l. l) ls)))
     ∙ sym (ap length (encodes-append l (flat_map (λ l. l) ls)))
 
+-- so the bytes of the lines of a text add up to its bytes
 pub lines_byte_len : (t : List ℕ) → sum_by byte_len (lines_of t) ≡ byte_len t
 lines_byte_len t = joined_byte_len (lines_of t) ∙ ap byte_len (lines_joined t)
 

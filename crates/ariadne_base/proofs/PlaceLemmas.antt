@@ -1,10 +1,10 @@
 -- The line of an offset is the last that begins at it or before it, and what a search by halving finds.
-use Rattle.std.proofs.Common.{◌≡◌, ℕ, zero, suc, ◌+◌, ◌-◌, ◌<◌, ◌≤◌, Bool, true, false, List, [], ◌∷◌, ◌++◌, Option, Some, None, unwrap_or, refl, sym, ap, ◌∙◌, subst, arith, nat_le, length, take, get_or, sum_by, map, inl, inr}
+use Rattle.std.proofs.Common.{◌≡◌, ℕ, zero, suc, ◌+◌, ◌-◌, ◌<◌, ◌≤◌, Bool, true, false, List, [], Option, Some, None, unwrap_or, refl, sym, ap, ◌∙◌, subst, arith, nat_le, length, take, get_or, sum_by, inl, inr}
 use Rattle.std.specs.List.{last_or, range_with_len, filter}
 use Rattle.std.specs.List.Sorted.{IsNonDecreasingBy, IsPartitionPoint}
-use Rattle.std.proofs.lemmas.Bool.{cases_Bool, leb-true, le-leb, cases_lt, cases_eq}
+use Rattle.std.proofs.lemmas.Bool.{cases_Bool, leb-true, le-leb, cases_lt}
 use Rattle.std.proofs.lemmas.List.{take-take, take_all}
-use Rattle.std.proofs.lemmas.List.Sums.{sum_by-take-le, sum_by_more, get_or-le-sum_by}
+use Rattle.std.proofs.lemmas.List.Sums.{sum_by-take-le, sum_by_more}
 use Rattle.std.proofs.lemmas.List.FromFn.{get_or-map-range_with_len}
 use Rattle.ariadne_base.specs.Places.{byte_len, upto, line_text, line_offset, line_at, column_at}
 use Rattle.ariadne_base.specs.Table.{LineExtent, line_extent, line_table, place_of}
@@ -14,6 +14,7 @@ use Rattle.ariadne_base.proofs.LineLaws.{some_line, lines_length}
 
 -- ---- the last number that passes
 
+-- an answer that is a number from low to before high that passes
 record LastOf (p : ℕ → Bool) (low high : ℕ) (o : Option ℕ) : Type 0 where
   at : ℕ
   is : o ≡ Some at
@@ -21,6 +22,7 @@ record LastOf (p : ℕ → Bool) (low high : ℕ) (o : Option ℕ) : Type 0 wher
   above : low ≤ at
   below : at < high
 
+-- past a number that passes, the last that does is it or a later one
 last_from : (p : ℕ → Bool) (x b n : ℕ) → p x ≡ true → x < b → LastOf p x (b + n) (last_or (Some x) (filter p (range_with_len b n)))
 last_from p x b zero t h = record { at = x; is = refl; passes = t; above = omega arith; below = omega arith }
 last_from p x b (suc n) t h = elim (cases_Bool (p b)) [
@@ -28,6 +30,7 @@ last_from p x b (suc n) t h = elim (cases_Bool (p b)) [
   | inr off ↦ rw off (let r : LastOf p x (b + 1 + n) (last_or (Some x) (filter p (range_with_len (b + 1) n))) = last_from p x (b + 1) n t (omega arith) in let u = r.above in let v = r.below in record { at = r.at; is = r.is; passes = r.passes; above = omega arith; below = omega arith })
 ]
 
+-- the last that passes is no earlier than any that does
 last_upto : (p : ℕ → Bool) (acc : Option ℕ) (a n k : ℕ) → a ≤ k → k < a + n → p k ≡ true → LastOf p k (a + n) (last_or acc (filter p (range_with_len a n)))
 last_upto p acc a zero k low high t = absurd (omega arith)
 last_upto p acc a (suc n) k low high t = elim (cases_lt a k) [
@@ -47,6 +50,7 @@ last_upto p acc a (suc n) k low high t = elim (cases_lt a k) [
 -- ---- offsets
 
 module _ (size : List ℕ → ℕ) (ls : List (List ℕ)) where
+  -- the first line begins at 0
   pub offset_none : line_offset size ls 0 ≡ 0
   unfolding line_offset
   offset_none = refl
@@ -61,6 +65,7 @@ module _ (size : List ℕ → ℕ) (ls : List (List ℕ)) where
   unfolding line_offset
   offset_up j k h = let part = sum_by-take-le size (take k ls) j in let same = ap (sum_by size) (take-take j k ls h) in omega arith
 
+  -- behind the last line lies all of the text
   pub offset_all : line_offset size ls (length ls) ≡ sum_by size ls
   unfolding line_offset
   offset_all = ap (sum_by size) (take_all (length ls) ls (omega arith))
@@ -71,6 +76,7 @@ pub record IsLineAt (size : List ℕ → ℕ) (ls : List (List ℕ)) (o n : ℕ)
   pub begins : line_offset size ls n ≤ o
   pub last : (k : ℕ) → k < length ls → line_offset size ls k ≤ o → k ≤ n
 
+-- the line of an offset is the last that begins at it or before it
 pub line_at_is : (size : List ℕ → ℕ) (ls : List (List ℕ)) (o : ℕ) → 0 < length ls → IsLineAt size ls o (line_at size ls o)
 unfolding line_at
 line_at_is size ls o h =
@@ -104,11 +110,13 @@ line_at_up size ls o p some h =
 
 -- ---- a search by halving
 
+-- row n of the table is the extent of line n
 pub get_or-line_table : (ls : List (List ℕ)) (n : ℕ) (d : LineExtent) → n < length ls → get_or (line_table ls) n d ≡ line_extent ls n
 unfolding line_table
 get_or-line_table ls n d h = get_or-map-range_with_len (line_extent ls) 0 (length ls) n n d h (omega arith)
 
 module _ (size : List ℕ → ℕ) (begin : LineExtent → ℕ) (ls : List (List ℕ)) (is_offset : (n : ℕ) → begin (line_extent ls n) ≡ line_offset size ls n) where
+  -- where row n begins
   begin_at : (n : ℕ) (d : LineExtent) → n < length ls → begin (get_or (line_table ls) n d) ≡ line_offset size ls n
   begin_at n d h = ap begin (get_or-line_table ls n d h) ∙ is_offset n
 
@@ -121,6 +129,7 @@ module _ (size : List ℕ → ℕ) (begin : LineExtent → ℕ) (ls : List (List
       let up = offset_up size ls i j h in
       omega arith
 
+  -- whether row n begins at o or before it
   begins_by : (o n : ℕ) → n < length ls → nat_le (begin (get_or (line_table ls) n (line_extent ls n))) o ≡ nat_le (line_offset size ls n) o
   begins_by o n h = ap (λ b. nat_le b o) (begin_at n (line_extent ls n) h)
 
@@ -131,21 +140,26 @@ module _ (size : List ℕ → ℕ) (begin : LineExtent → ℕ) (ls : List (List
       let zero_begins = offset_none size ls in
       let early : (k : ℕ) → k < i → line_offset size ls k ≤ o = λ k l. leb-true _ _ (sym (begins_by o k (omega arith)) ∙ parts.0 k (line_extent ls k) (omega arith) l) in
       let late : (k : ℕ) → i ≤ k → k < length ls → line_offset size ls k ≤ o → ⊥ = λ k l m b. let f = sym (begins_by o k m) ∙ parts.1 k (line_extent ls k) l (omega arith) in let t = le-leb (line_offset size ls k) o b in let z : false ≡ true = sym f ∙ t in cc in
-      let first : 1 ≤ i = elim (cases_lt 0 i) [ inl l ↦ omega arith | inr l ↦ absurd (late 0 (omega arith) some (omega arith)) ] in
-      (first, record {
-        there = omega arith;
-        begins = early (i - 1) (omega arith);
-        last = λ k l b. elim (cases_lt k i) [ inl m ↦ omega arith | inr m ↦ absurd (late k (omega arith) l b) ]
-      })
+      let first : 1 ≤ i = elim (cases_lt 0 i) [ inl l ↦ omega arith | inr l ↦ absurd (late 0 (omega arith) some (omega arith)) ] in (
+        first,
+        record {
+          there = omega arith;
+          begins = early (i - 1) (omega arith);
+          last = λ k l b. elim (cases_lt k i) [ inl m ↦ omega arith | inr m ↦ absurd (late k (omega arith) l b) ];
+        },
+      )
 
+-- the offset of an extent
 pub offset_is : (ls : List (List ℕ)) (n : ℕ) → (line_extent ls n).offset ≡ line_offset length ls n
 unfolding line_extent
 offset_is ls n = refl
 
+-- the same in bytes
 pub byte_offset_is : (ls : List (List ℕ)) (n : ℕ) → (line_extent ls n).byte_offset ≡ line_offset byte_len ls n
 unfolding line_extent
 byte_offset_is ls n = refl
 
+-- the rows of the table of a text rise
 pub rows_rise : (size : List ℕ → ℕ) (begin : LineExtent → ℕ) → ((ls : List (List ℕ)) (n : ℕ) → begin (line_extent ls n) ≡ line_offset size ls n)
     → (t : List ℕ) (rows : List LineExtent) → rows ≡ line_table (lines_of t) → IsNonDecreasingBy begin rows
 rows_rise size begin is_offset t rows e = subst (IsNonDecreasingBy begin) (sym e) (table_rises size begin (lines_of t) (is_offset (lines_of t)))
@@ -174,24 +188,31 @@ some_row t rows e = let count = ap length e ∙ length-line_table (lines_of t) i
 module _ (size : List ℕ → ℕ) (begin : LineExtent → ℕ) (is_offset : (ls : List (List ℕ)) (n : ℕ) → begin (line_extent ls n) ≡ line_offset size ls n)
     (t : List ℕ) (rows : List LineExtent) (o i : ℕ) (e : rows ≡ line_table (lines_of t)) (low : i ≤ length rows)
     (parts : IsPartitionPoint (λ r. nat_le (begin r) o ≡ true) (λ r. nat_le (begin r) o ≡ false) rows i) where
+  -- there is a row for each line
   count : length rows ≡ length (lines_of t)
   count = ap length e ∙ length-line_table (lines_of t)
 
+  -- the line found is the line of the offset
   found_line : (1 ≤ i) × IsLineAt size (lines_of t) o (i - 1)
   found_line = found size begin (lines_of t) (is_offset (lines_of t)) o i (some_line t) (let n = count in omega arith) (subst (λ xs. IsPartitionPoint (λ r. nat_le (begin r) o ≡ true) (λ r. nat_le (begin r) o ≡ false) xs i) e parts)
 
+  -- some line begins at the offset or before it
   pub found_some : 1 ≤ i
   found_some = found_line.0
 
+  -- the number found is that of a row
   pub found_there : i - 1 < length rows
   found_there = let n = count in let f = found_line.1.there in omega arith
 
+  -- the row found is that of the line
   found_row : (r : LineExtent) → r ≡ get_or rows (i - 1) r → r ≡ line_extent (lines_of t) (i - 1)
   found_row r at = at ∙ ap (λ xs. get_or xs (i - 1) r) e ∙ get_or-line_table (lines_of t) (i - 1) r found_line.1.there
 
+  -- the row found begins at the offset or before it
   pub found_begins : (r : LineExtent) → r ≡ get_or rows (i - 1) r → begin r ≤ o
   found_begins r at = let same = ap begin (found_row r at) ∙ is_offset (lines_of t) (i - 1) in let f = found_line.1.begins in omega arith
 
+  -- row, number and column are the place of the offset
   pub found_place : (r : LineExtent) → r ≡ get_or rows (i - 1) r → (r, i - 1, o - begin r) ≡ place_of size (lines_of t) o
   unfolding place_of column_at
   found_place r at =

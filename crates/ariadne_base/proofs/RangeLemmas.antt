@@ -1,6 +1,5 @@
 -- The lines that a span runs across: there is one, and each is there.
-use Rattle.std.proofs.Common.{◌≡◌, ℕ, suc, ◌+◌, ◌-◌, ◌<◌, ◌≤◌, max, Bool, true, false, List, length, Option, Some, None, unwrap_or, refl, sym, ap, ◌∙◌, arith, nat_le, sum_by, inl, inr, cond}
-use Rattle.std.specs.Option.{option_map_or}
+use Rattle.std.proofs.Common.{◌≡◌, ℕ, ◌<◌, ◌≤◌, List, length, Some, None, ap, arith, nat_le, sum_by, inl, inr}
 use Rattle.std.proofs.lemmas.Bool.{cases_Bool, cases_lt, cond-true, cond-false, leb-true, le-leb}
 use Rattle.ariadne_base.specs.Lines.{lines_of}
 use Rattle.ariadne_base.specs.Places.{line_at}
@@ -14,6 +13,7 @@ pub line_number_some : (t : List ℕ) (o : ℕ) → o ≤ length t → line_numb
 unfolding line_number
 line_number_some t o h = let n = lines_length t in cond-true _ _ _ (le-leb o (sum_by length (lines_of t)) (omega arith))
 
+-- and no other offset has one
 pub line_number_none : (t : List ℕ) (o : ℕ) → (o ≤ length t → ⊥) → line_number (lines_of t) o ≡ None
 unfolding line_number
 line_number_none t o h = elim (cases_Bool (nat_le o (sum_by length (lines_of t)))) [

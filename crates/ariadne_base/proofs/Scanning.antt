@@ -1,5 +1,5 @@
 -- The scan of a text: the lines that it has closed, the one that is open, and what is left of the text.
-use Rattle.std.proofs.Common.{◌≡◌, ◌≢◌, ℕ, zero, suc, ◌+◌, ◌-◌, ◌<◌, ◌≤◌, Bool, true, false, cond, List, [], ◌∷◌, ◌++◌, length, refl, sym, ap, ◌∙◌, arith, get_or, sum_by, ◌==◌, inl, inr, ◌⊎◌, length-append}
+use Rattle.std.proofs.Common.{◌≡◌, ◌≢◌, ℕ, ◌+◌, ◌-◌, ◌<◌, ◌≤◌, true, false, cond, List, [], ◌∷◌, ◌++◌, length, refl, sym, ap, ◌∙◌, arith, get_or, sum_by, ◌==◌, inl, inr, ◌⊎◌, length-append}
 use Rattle.std.specs.Str.{chars, IsUtf8, encode_utf8_all}
 use Rattle.std.specs.Char.{encode_utf8, len_utf8}
 use Rattle.std.proofs.lemmas.Bool.{cond-true, cond-false, cases_Bool, eq-eqb, eqb-true, false_from_ne_true}
@@ -23,6 +23,7 @@ some_bytes : (bs : List ℕ) → get_or bs 0 0 ≡ 10 → 0 < length bs
 some_bytes [] h = absurd (omega arith)
 some_bytes (b ∷ bs) h = omega arith
 
+-- the first byte and the first character are LF together
 first_of : (cs bs : List ℕ) → bs ≡ encode_utf8_all cs → (get_or bs 0 0 == 10) ≡ begins_with_line_feed cs
 unfolding begins_with_line_feed
 first_of [] bs e = rw e refl
@@ -41,11 +42,13 @@ before [] ls = ls
 before (c ∷ t) [] = (c ∷ t) ∷ []
 before (c ∷ t) (l ∷ ls) = ((c ∷ t) ++ l) ∷ ls
 
+-- a line that ends with c takes what is open in front of it
 before_ended : (o : List ℕ) (c : ℕ) (ls : List (List ℕ)) → before o ((c ∷ []) ∷ ls) ≡ (o ++ c ∷ []) ∷ ls
 unfolding before
 before_ended [] c ls = refl
 before_ended (d ∷ o) c ls = refl
 
+-- a character in front of the lines makes what is open longer
 before-in_front : (o : List ℕ) (c : ℕ) (ls : List (List ℕ)) → before o (in_front c ls) ≡ before (o ++ c ∷ []) ls
 unfolding before in_front
 before-in_front [] c [] = refl
@@ -66,6 +69,7 @@ pub record IsScanned (text rest : List ℕ) (table : List LineExtent) (offset by
   pub count : at + length rest ≤ length text
   pub utf8 : IsUtf8 rest
 
+-- at the start nothing is closed and nothing is open
 pub scan_start : (text : List ℕ) → IsUtf8 text → IsScanned text text [] 0 0 0
 unfolding before
 scan_start text u = record {
@@ -78,7 +82,7 @@ scan_start text u = record {
   at_is = refl;
   bytes = omega arith;
   count = omega arith;
-  utf8 = u
+  utf8 = u;
 }
 
 -- the size of an open line with a character more
@@ -89,14 +93,17 @@ byte_len_push o c =
     ∙ ap (λ bs. byte_len o + length bs) (append-nil (encode_utf8 c))
     ∙ ap (λ n. byte_len o + n) (length-encode c)
 
+-- a character ends its line, or stands in front of what follows
 full_lines-cons : (c : ℕ) (t : List ℕ) → full_lines_of (c ∷ t) ≡ cond (ends_line c t) ((c ∷ []) ∷ full_lines_of t) (in_front c (full_lines_of t))
 unfolding full_lines_of
 full_lines-cons c t = refl
 
 module _ (text rest left : List ℕ) (c : ℕ) (table : List LineExtent) (offset byte_offset at : ℕ) (s : IsScanned text rest table offset byte_offset at) (e : rest ≡ encode_utf8 c ++ left) where
+  -- what a character takes of the rest
   cut : length rest ≡ len_utf8 c + length left
   cut = ap length e ∙ length-append (encode_utf8 c) left ∙ ap (λ n. n + length left) (length-encode c)
 
+  -- the full lines of the rest, by its first character
   cut_chars : full_lines_of (chars rest) ≡ cond (ends_line c (chars left)) ((c ∷ []) ∷ full_lines_of (chars left)) (in_front c (full_lines_of (chars left)))
   cut_chars = ap full_lines_of (chars_past_char rest left c s.utf8 e) ∙ full_lines-cons c (chars left)
 
@@ -132,7 +139,7 @@ module _ (text rest left : List ℕ) (c : ℕ) (table : List LineExtent) (offset
         at_is = omega arith;
         bytes = omega arith;
         count = omega arith;
-        utf8 = IsUtf8-past_char rest left c s.utf8 e
+        utf8 = IsUtf8-past_char rest left c s.utf8 e;
       }
 
   -- any other makes it longer
@@ -155,7 +162,7 @@ module _ (text rest left : List ℕ) (c : ℕ) (table : List LineExtent) (offset
         at_is = omega arith;
         bytes = omega arith;
         count = omega arith;
-        utf8 = IsUtf8-past_char rest left c s.utf8 e
+        utf8 = IsUtf8-past_char rest left c s.utf8 e;
       }
 
 -- a text that is not empty has full lines
@@ -164,6 +171,7 @@ unfolding lines_of full_lines_of
 lines_of-full [] h = absurd (h refl)
 lines_of-full (c ∷ t) h = refl
 
+-- lines with a character in front are not none
 in_front_some : (c : ℕ) (ls : List (List ℕ)) → in_front c ls ≢ []
 unfolding in_front
 in_front_some c [] h = cc
@@ -178,10 +186,12 @@ full_lines-none (c ∷ t) h = elim (cases_Bool (ends_line c t)) [
   | inr off ↦ absurd (in_front_some c (full_lines_of t) (sym (cond-false _ _ _ off) ∙ h))
 ]
 
+-- a list with one more at its end is not empty
 push_some : {X : Type 0} (xs : List X) (x : X) → xs ++ x ∷ [] ≢ []
 push_some [] x h = cc
 push_some (y ∷ xs) x h = cc
 
+-- at the end an open line stands alone
 before-nil : (o : List ℕ) → 0 < length o → before o [] ≡ o ∷ []
 unfolding before
 before-nil [] h = absurd (omega arith)
@@ -195,10 +205,12 @@ last_line done [] t e (inr h) = ap lines_of (full_lines-none t (e ∙ append-nil
 last_line done (c ∷ o) t e h = lines_of-full t (λ n. push_some done (c ∷ o) (sym e ∙ n)) ∙ e
 
 module _ (text rest : List ℕ) (table : List LineExtent) (offset byte_offset at : ℕ) (s : IsScanned text rest table offset byte_offset at) (over : length rest ≡ 0) where
+  -- at the end the lines are those closed and the open one
   at_end : full_lines_of (chars text) ≡ s.done ++ before s.opened []
   unfolding full_lines_of
   at_end = s.lines ∙ ap (λ bs. s.done ++ before s.opened (full_lines_of (chars bs))) (nil_from_length rest over) ∙ ap (λ cs. s.done ++ before s.opened (full_lines_of cs)) chars-nil
 
+  -- there is a row for each closed line
   closed : length table ≡ length s.done
   closed = ap length s.kept ∙ length-line_table s.done
 

@@ -1,15 +1,16 @@
 -- The table of the lines of a text: one line more, and what stands at a number.
-use Rattle.std.proofs.Common.{◌≡◌, ℕ, zero, suc, ◌+◌, ◌<◌, ◌≤◌, List, [], ◌∷◌, ◌++◌, length, take, map, refl, sym, ap, ◌∙◌, arith, get_or, sum_by}
+use Rattle.std.proofs.Common.{◌≡◌, ℕ, zero, suc, ◌+◌, ◌<◌, ◌≤◌, List, [], ◌∷◌, ◌++◌, length, take, map, refl, ap, ◌∙◌, arith, sum_by}
 use Rattle.std.specs.List.{range_with_len}
 use Rattle.std.proofs.lemmas.List.{length_push, take_all, take-append-le, get_or_push, get_or_append_left}
 use Rattle.std.proofs.lemmas.List.FromFn.{map-range_with_len_more, length-map-range_with_len}
-use Rattle.ariadne_base.specs.Places.{byte_len, line_text, line_offset, upto}
+use Rattle.ariadne_base.specs.Places.{byte_len, line_offset}
 use Rattle.ariadne_base.specs.Table.{LineExtent, line_extent, line_table}
 
 -- a row of the table
 abbrev pub row : ℕ → ℕ → ℕ → ℕ → LineExtent
 row o l b m = record { offset = o; len = l; byte_offset = b; byte_len = m }
 
+-- rows with the same parts
 pub same_row : {o l b m o' l' b' m' : ℕ} → o ≡ o' → l ≡ l' → b ≡ b' → m ≡ m' → row o l b m ≡ row o' l' b' m'
 same_row e f g h = rw (e, f, g, h) refl
 
@@ -46,10 +47,12 @@ line_table_push ls l =
     ∙ ap (λ xs. xs ++ line_extent (ls ++ l ∷ []) (length ls) ∷ []) (map_same (line_extent (ls ++ l ∷ [])) (line_extent ls) 0 (length ls) (λ k h. line_extent-append ls (l ∷ []) k (omega arith)))
     ∙ ap (λ x. map (line_extent ls) (range_with_len 0 (length ls)) ++ x ∷ []) (line_extent-last ls l)
 
+-- no lines have no rows
 pub line_table-nil : line_table [] ≡ []
 unfolding line_table
 line_table-nil = refl
 
+-- there is a row for each line
 pub length-line_table : (ls : List (List ℕ)) → length (line_table ls) ≡ length ls
 unfolding line_table
 length-line_table ls = length-map-range_with_len (line_extent ls) 0 (length ls)

@@ -6,3 +6,6 @@ pub mod Listing
 pub mod Colors
 pub mod Escapes
 pub mod Generator
+pub mod Cache
+pub mod Stored
+pub mod Files

@@ -1,6 +1,6 @@
 -- The place of an offset: the line that it lies in, and how far behind the line's start. Lines, offsets
 -- and columns count from 0, in characters or, by the size of a line, in bytes.
-use Rattle.std.specs.Prelude.{ℕ, suc, ◌-◌, ◌≤◌, nat_le, List, [], length, take, filter, Option, None, find, slice_index_or, sum_by, unwrap_or, encode_utf8_all, ◌==◌}
+use Rattle.std.specs.Prelude.{ℕ, suc, ◌-◌, nat_le, List, [], length, take, filter, Option, None, find, slice_index_or, sum_by, unwrap_or, encode_utf8_all, ◌==◌}
 use Rattle.std.specs.List.{last_or, range_with_len}
 
 -- the sizes of a list of characters: their number, and that of their bytes

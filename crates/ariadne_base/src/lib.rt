@@ -1,12 +1,21 @@
 //! Colours, sources and the caches that hold them.
 #![tactic(auto)]
 
+pub mod cache;
 pub mod color;
 pub mod source;
 pub mod span;
 pub mod text;
 
+pub use cache::file::{FileCache, FileError};
+pub use cache::function::FnCache;
+pub use cache::map::{SourceMap, sources};
+pub use cache::named::{SourceName, UnknownSource};
+pub use cache::{Cache, FetchError};
 pub use color::{Background, Color, ColorGenerator, Fmt, Foreground};
 pub use source::{Line, Source, SourceLines};
 pub use span::Span;
 pub use text::SourceText;
+
+#[cfg(test)]
+mod refusing;

@@ -10,18 +10,19 @@ ghost use Rattle.std.proofs.Common.{rules};
 ghost use Rattle.ariadne_base.specs.Lines.{AreLinesOf};
 ghost use Rattle.ariadne_base.specs.Listing.{listed_lines};
 ghost use Rattle.ariadne_base.specs.Places.{byte_len, line_text};
-ghost use Rattle.ariadne_base.specs.Table.{line_extent, line_table, place_of};
+ghost use Rattle.ariadne_base.specs.Table.{byte_end, line_extent, line_table, place_of};
 ghost use Rattle.ariadne_base.specs.Ranges.{first_line, line_end, line_number, IsCutOut};
 
+mod halving;
 pub mod line;
 pub mod lines;
 mod scan;
 
-pub use line::Line;
-pub use lines::SourceLines;
-
 use crate::span::Span;
 use crate::text::SourceText;
+use halving::{begun_at, begun_at_byte};
+pub use line::Line;
+pub use lines::SourceLines;
 use std::alloc::{AllocError, Global};
 use std::hash::{Hash, Hasher};
 use std::marker::Model;
@@ -47,14 +48,15 @@ impl<I: SourceText> Model for Source<I> {
     ghost use Rattle.std.specs.Prelude.{◌≡◌, ◌+◌, ◌^◌, ◌<◌, chars, length};
     ghost use Rattle.ariadne_base.specs.Lines.{lines_of};
     ghost use Rattle.ariadne_base.specs.Lines.{AreLinesOf};
-ghost use Rattle.ariadne_base.specs.Listing.{Listing};
+    ghost use Rattle.ariadne_base.specs.Listing.{Listing};
     ghost use Rattle.ariadne_base.specs.Table.{line_table};
 
     ghost Value = { Listing };
 
     ghost view = { λ s. record { text = I.text s.text; display_offset = s.display_line_offset } };
 
-    ghost invariant = { λ s. (s.lines.items ≡ line_table (lines_of (chars (I.text s.text)))) × (s.display_line_offset + length s.lines.items < 2 ^ 64) };
+    ghost invariant = { λ s. (s.lines.items ≡ line_table (lines_of (chars (I.text s.text))))
+        × (s.display_line_offset + length s.lines.items < 2 ^ 64) };
 }
 
 impl<I: SourceText> Source<I> {
@@ -116,13 +118,17 @@ impl<I: SourceText> Source<I> {
     /// empty, unless the text is.
     pub fn lines(&self) -> SourceLines<'_>
         ensures table { result ≡ line_table (listed_lines self.now) }
+        ensures number { length result ≡ length (listed_lines self.now) }
         ensures partition { AreLinesOf (chars self.now.text) (listed_lines self.now) }
-        ensures only { (ls : List (List ℕ)) → AreLinesOf (chars self.now.text) ls → ls ≡ listed_lines self.now }
+        ensures only { (ls : List (List ℕ)) → AreLinesOf (chars self.now.text) ls
+            → ls ≡ listed_lines self.now }
     {
         SourceLines { rest: &self.lines }
     }
 
     /// The same source, whose line numbers are shown with an offset added.
+    ///
+    /// The offset and the number of lines, `lines().len()`, are together within `usize`.
     pub fn with_display_line_offset(self, offset: usize) -> Source<I>
         requires { offset + length (listed_lines self) < 2 ^ 64 }
         ensures { result ≡ record { text = self.text; display_offset = offset } }
@@ -141,7 +147,8 @@ impl<I: SourceText> Source<I> {
 
     /// What is added to a line number where it is shown; 0 unless it was set.
     pub fn display_line_offset(&self) -> usize
-        ensures { result ≡ self.now.display_offset }
+        ensures offset { result ≡ self.now.display_offset }
+        ensures fits { self.now.display_offset + length (listed_lines self.now) < 2 ^ 64 }
     {
         self.display_line_offset
     }
@@ -159,7 +166,7 @@ impl<I: SourceText> Source<I> {
         if offset > self.len() {
             return None;
         }
-        let number = self.lines.partition_point(|line| line.offset() <= offset) - 1;
+        let number = begun_at(&self.lines, offset) - 1;
         let line = self.lines[number];
         Some((line, number, offset - line.offset))
     }
@@ -170,13 +177,14 @@ impl<I: SourceText> Source<I> {
     /// `None` where the offset exceeds the number of bytes.
     pub fn get_byte_line(&self, byte_offset: usize) -> Option<(Line, usize, usize)>
         ensures found { IsSome result ↔ (byte_offset ≤ length self.now.text) }
-        ensures place { IfSome result (λ p. p ≡ place_of byte_len (listed_lines self.now) byte_offset) }
+        ensures place { IfSome result (λ p. p
+            ≡ place_of byte_len (listed_lines self.now) byte_offset) }
         ensures number { IfSome result (λ p. p.1 < length (listed_lines self.now)) }
     {
         if byte_offset > self.text().len() {
             return None;
         }
-        let number = self.lines.partition_point(|line| line.byte_offset() <= byte_offset) - 1;
+        let number = begun_at_byte(&self.lines, byte_offset) - 1;
         let line = self.lines[number];
         Some((line, number, byte_offset - line.byte_offset))
     }
@@ -188,7 +196,8 @@ impl<I: SourceText> Source<I> {
     /// There is such a line for every span, also where it is reversed or past the source.
     pub fn get_line_range<S: Span>(&self, span: &S) -> Range<usize>
         ensures start { result.start ≡ first_line (listed_lines self.now) (S.start_of span.now) }
-        ensures end { result.end ≡ line_end (listed_lines self.now) (S.start_of span.now) (S.end_of span.now) }
+        ensures end { result.end
+            ≡ line_end (listed_lines self.now) (S.start_of span.now) (S.end_of span.now) }
         ensures some { result.start < result.end }
         ensures valid { result.end ≤ length (listed_lines self.now) }
     {
@@ -215,9 +224,13 @@ impl<I: SourceText> Source<I> {
     /// `None` where the bytes of the line are not whole characters of this text, as they may be for
     /// a line of another source.
     pub fn get_line_text(&self, line: Line) -> Option<&str>
-        ensures found { IsSome result ↔ IsCutOut self.now.text line.byte_offset (line.byte_offset + line.byte_len) }
-        ensures text { IfSome result (λ t. t.now ≡ slice_range self.now.text line.byte_offset (line.byte_offset + line.byte_len)) }
-        ensures own { (n : ℕ) → n < length (listed_lines self.now) → line ≡ line_extent (listed_lines self.now) n → IsSomeAnd result (λ t. t.now ≡ encode_utf8_all (line_text (listed_lines self.now) n)) }
+        ensures found { IsSome result ↔ IsCutOut self.now.text line.byte_offset (byte_end line) }
+        ensures text { IfSome result (λ t. t.now
+            ≡ slice_range self.now.text line.byte_offset (byte_end line)) }
+        ensures own { (n : ℕ) → n < length (listed_lines self.now)
+            → line ≡ line_extent (listed_lines self.now) n
+            → IsSomeAnd result (λ t. t.now
+            ≡ encode_utf8_all (line_text (listed_lines self.now) n)) }
     {
         let text = self.text();
         let start = line.byte_offset;
@@ -272,8 +285,7 @@ impl<I: SourceText> Hash for Source<I> {
     ghost respects_eq = { Prim.search (hashing, rules) };
 
     fn hash<H: Hasher>(&self, state: &mut H) {
-        self.text().hash(state);
-        self.display_line_offset.hash(state);
+        (self.text(), self.display_line_offset).hash(state);
     }
 }
 

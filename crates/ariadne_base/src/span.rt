@@ -153,3 +153,6 @@ impl<Id: Eq> Span for (Id, RangeInclusive<usize>) {
         self.1.end().saturating_add(1)
     }
 }
+
+#[cfg(test)]
+mod tests;

@@ -23,11 +23,21 @@ impl Model for Line {
 
     ghost Value = { LineExtent };
 
-    ghost view = { λ l. record { offset = l.offset; len = l.len; byte_offset = l.byte_offset; byte_len = l.byte_len } };
+    ghost view = { λ l. record {
+      offset = l.offset;
+      len = l.len;
+      byte_offset = l.byte_offset;
+      byte_len = l.byte_len;
+    } };
 
     ghost invariant = { λ l. (l.offset + l.len < 2 ^ 64) × (l.byte_offset + l.byte_len < 2 ^ 64) };
 
-    ghost inverse = { λ e. record { offset = e.offset; len = e.len; byte_offset = e.byte_offset; byte_len = e.byte_len } };
+    ghost inverse = { λ e. record {
+      offset = e.offset;
+      len = e.len;
+      byte_offset = e.byte_offset;
+      byte_len = e.byte_len;
+    } };
 }
 
 impl Line {

@@ -2,48 +2,168 @@
 
 use super::*;
 use std::hash::DefaultHasher;
+use std::process::Abort;
 use std::rc::RcStr;
 use std::test::Fail;
 
-/// Asserts that a source of these lines, joined, has them as its lines.
-fn assert_lines(rt: HostRuntime, lines: &[&str]) -> Result<(), Fail> {
-    let alloc = rt.alloc();
+/// Asserts that the lines of the text that these join to are these.
+fn assert_lines(rt: &impl Abort, alloc: Global, lines: &[&str]) -> Result<(), Fail> {
     let mut text = String::new(alloc);
     for line in lines {
         text.push_str(*line)?;
     }
     let source = Source::from(alloc, text)?;
+    let mut found = source.lines();
     let mut offset = 0usize;
-    let mut number = 0usize;
-    for line in source.lines() {
-        let Some(want) = lines.get(number).copied() else {
-            return Err(Fail::from("a line too many"));
+    for (number, want) in lines.iter().enumerate() {
+        assert_eq!(rt; found.len(), lines.len().saturating_sub(number));
+        let Some(line) = found.next() else {
+            return Err(Fail::from("a line is missing"));
         };
-        assert_eq!(rt; line.offset(), offset, "{want:?}");
-        assert_eq!(rt; line.len(), want.chars().count(), "{want:?}");
-        assert_eq!(rt; line.is_empty(), want.is_empty(), "{want:?}");
-        assert_eq!(rt; source.get_line_text(line), Some(want));
-        assert_eq!(rt; source.line(number), Some(line), "{want:?}");
+        assert_eq!(rt; line.offset(), offset, "of {want:?}");
+        assert_eq!(rt; line.len(), want.chars().count(), "of {want:?}");
+        assert_eq!(rt; line.is_empty(), want.is_empty(), "of {want:?}");
+        assert_eq!(rt; source.get_line_text(line), Some(*want));
+        assert_eq!(rt; source.line(number), Some(line), "of {want:?}");
         offset = line.span().end;
-        number = number.wrapping_add(1);
     }
-    assert_eq!(rt; number, lines.len());
+    assert_eq!(rt; found.size_hint(), (0, Some(0)));
+    assert_eq!(rt; found.next(), None);
+    assert_eq!(rt; found.next(), None);
+    assert_eq!(rt; source.line(lines.len()), None);
     assert_eq!(rt; source.len(), offset);
     assert_eq!(rt; source.is_empty(), offset == 0);
-    assert_eq!(rt; source.line(number), None);
     Ok(())
 }
 
 #[test]
-fn texts_join_from_their_lines(rt: HostRuntime) -> Result<(), Fail> {
-    assert_lines(rt, &[""])?;
-    assert_lines(rt, &["Single line"])?;
-    assert_lines(rt, &["Single line with LF\n"])?;
-    assert_lines(rt, &["Single line with CRLF\r\n"])?;
-    assert_lines(rt, &["Two\r\n", "lines\n"])?;
-    assert_lines(rt, &["Some\n", "more\r\n", "lines"])?;
-    assert_lines(rt, &["\n", "\r\n", "\n", "Empty Lines"])?;
-    assert_lines(rt, &["Trailing spaces  \n", "are kept\t"])?;
-    assert_lines(rt, &["\n", "\r"])?;
-    assert_lines(rt, &["CR\r", "VT\u{b}", "FF\u{c}", "NEL\u{85}", "LS\u{2028}", "PS\u{2029}"])
+fn seven_characters_end_a_line_and_cr_lf_ends_one(rt: HostRuntime) -> Result<(), Fail> {
+    let alloc = rt.alloc();
+    assert_lines(&rt, alloc, &[""])?;
+    assert_lines(&rt, alloc, &["Single line"])?;
+    assert_lines(&rt, alloc, &["Single line with LF\n"])?;
+    assert_lines(&rt, alloc, &["Single line with CRLF\r\n"])?;
+    assert_lines(&rt, alloc, &["Two\r\n", "lines\n"])?;
+    assert_lines(&rt, alloc, &["Some\n", "more\r\n", "lines"])?;
+    assert_lines(&rt, alloc, &["\n", "\r\n", "\n", "Empty Lines"])?;
+    assert_lines(&rt, alloc, &["Trailing spaces  \n", "are kept\t"])?;
+    assert_lines(&rt, alloc, &["\n", "\r"])?;
+    let others = [
+        "CR\r",
+        "VT\u{b}",
+        "FF\u{c}",
+        "NEL\u{85}",
+        "LS\u{2028}",
+        "PS\u{2029}",
+    ];
+    assert_lines(&rt, alloc, &others)
+}
+
+#[test]
+fn offsets_lie_in_the_last_line_that_begins_before_them(rt: HostRuntime) -> Result<(), Fail> {
+    let source = Source::from(rt.alloc(), "\n\r\n\nEmpty Lines")?;
+    assert_eq!(rt; source.len(), 15);
+    let places = [
+        (0, 0, 0),
+        (1, 1, 0),
+        (2, 1, 1),
+        (3, 2, 0),
+        (4, 3, 0),
+        (15, 3, 11),
+    ];
+    for (offset, number, column) in places {
+        let want = source.line(number).map(|line| (line, number, column));
+        assert_eq!(rt; source.get_offset_line(offset), want, "at {offset}");
+    }
+    assert_eq!(rt; source.get_offset_line(16), None);
+    let ranges = [
+        (20, 30, 0, 4),
+        (0, 0, 0, 1),
+        (5, 2, 3, 4),
+        (0, 2, 0, 2),
+        (3, 16, 2, 4),
+    ];
+    for (start, end, first, past) in ranges {
+        assert_eq!(rt;
+            source.get_line_range(&(start..end)),
+            first..past,
+            "of {start}..{end}"
+        );
+    }
+    Ok(())
+}
+
+#[test]
+fn bytes_are_not_taken_for_characters(rt: HostRuntime) -> Result<(), Fail> {
+    let source = Source::from(rt.alloc(), "\u{e9}\nb")?;
+    assert_eq!(rt; source.len(), 3);
+    assert!(rt; source.chars().eq(['\u{e9}', '\n', 'b']));
+    for (offset, number, column) in [(0, 0, 0), (1, 0, 1), (2, 0, 2), (3, 1, 0), (4, 1, 1)] {
+        let want = source.line(number).map(|line| (line, number, column));
+        assert_eq!(rt; source.get_byte_line(offset), want, "at byte {offset}");
+    }
+    assert_eq!(rt; source.get_byte_line(5), None);
+    let second = source.line(1).map(|line| (line, 1, 0));
+    assert_eq!(rt; source.get_offset_line(2), second);
+    assert_eq!(rt; source.get_offset_line(4), None);
+    Ok(())
+}
+
+#[test]
+fn a_line_of_another_source_has_no_text_where_its_bytes_are_none(
+    rt: HostRuntime,
+) -> Result<(), Fail> {
+    let alloc = rt.alloc();
+    let long = Source::from(alloc, "abcde")?;
+    let short = Source::from(alloc, "ab")?;
+    let wide = Source::from(alloc, "abcd\u{e9}")?;
+    for line in long.lines() {
+        assert_eq!(rt; short.get_line_text(line), None);
+        assert_eq!(rt; wide.get_line_text(line), None);
+        assert_eq!(rt; long.get_line_text(line), Some("abcde"));
+    }
+    for line in short.lines() {
+        assert_eq!(rt; long.get_line_text(line), Some("ab"));
+    }
+    Ok(())
+}
+
+/// The hash of a source.
+fn hash_of<I: SourceText>(source: &Source<I>) -> u64 {
+    let mut state = DefaultHasher::new();
+    source.hash(&mut state);
+    state.finish()
+}
+
+#[test]
+fn a_copy_equals_its_source_in_text_and_offset(rt: HostRuntime) -> Result<(), Fail> {
+    let alloc = rt.alloc();
+    let source = Source::from(alloc, String::from_str(alloc, "a\nb")?)?;
+    assert!(rt; source.lines().len() <= usize::MAX - 98);
+    let source = source.with_display_line_offset(98);
+    let copy = source.clone()?;
+    assert_eq!(rt; copy.text(), "a\nb");
+    assert_eq!(rt; copy.display_line_offset(), 98);
+    assert!(rt; copy == source);
+    assert_eq!(rt; hash_of(&copy), hash_of(&source));
+    assert!(rt; copy.lines().len() <= usize::MAX);
+    let moved = copy.with_display_line_offset(0);
+    assert!(rt; moved != source);
+    let other = Source::from(moved.memory(), String::from_str(alloc, "a\nc")?)?;
+    assert_eq!(rt; other.display_line_offset(), 0);
+    assert!(rt; other != moved);
+    Ok(())
+}
+
+#[test]
+fn a_text_may_be_shared(rt: HostRuntime) -> Result<(), Fail> {
+    let alloc = rt.alloc();
+    let text = RcStr::from_str(alloc, "a\nb")?;
+    let source = Source::from(alloc, text.clone()?)?;
+    let copy = source.clone()?;
+    assert_eq!(rt; copy.text(), text.as_str());
+    assert_eq!(rt; copy.lines().len(), 2);
+    let source = Source::from(alloc, "a\nb")?;
+    assert_eq!(rt; source.clone()?.text(), "a\nb");
+    Ok(())
 }

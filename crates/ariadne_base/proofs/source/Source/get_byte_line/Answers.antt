@@ -1,52 +1,43 @@
-use Rattle.std.proofs.Common.{◌≡◌, ℕ, refl, ap, ◌∙◌, sym, length, rules, leb, get_or, ◌-◌, arith, subst}
-use Rattle.std.proofs.lemmas.List.Sorted.{IsPartitionPoint-from_clause, IsPartitionedBy-leb}
-use Rattle.std.specs.Str.{chars}
-use Rattle.ariadne_base.specs.Places.{byte_len}
+use Rattle.std.proofs.Common.{ap, ◌∙◌, sym, length, get_or, ◌-◌, arith}
 use Rattle.ariadne_base.specs.Listing.{listed_lines}
+use Rattle.ariadne_base.specs.Places.{byte_len}
 use Rattle.ariadne_base.specs.Table.{LineExtent, line_table, place_of}
-use Rattle.ariadne_base.proofs.TableLemmas.{length-line_table}
 use Rattle.ariadne_base.proofs.PlaceLemmas.{rows_rise, byte_offset_is, found_some, found_there, found_begins, found_place}
+use Rattle.ariadne_base.proofs.TableLemmas.{length-line_table}
 use Rattle.ariadne_base.proofs.source.Source.get_byte_line.Goals as goal
 
-pub overflow_sub-number : goal.overflow_sub-number
-overflow_sub-number g c =
-    let table = c.deref.ensures.value ∙ c.self.invariant.0 in
-    let parted = IsPartitionedBy-leb (λ r. r.byte_offset) _ c.args.byte_offset (rows_rise byte_len (λ r. r.byte_offset) byte_offset_is _ _ table) in
-    let parts = IsPartitionPoint-from_clause (λ r. leb r.byte_offset c.args.byte_offset) _ _ c.partition_point-number.ensures.partitioned parted (λ a r q k. search rules) in
-    found_some byte_len (λ r. r.byte_offset) byte_offset_is _ _ _ _ table c.partition_point-number.ensures.bound parts
+-- the rows of the table begin one after another
+pub begun_at_byte-number-requires : goal.begun_at_byte-number-requires
+begun_at_byte-number-requires g c = rows_rise byte_len (λ r. r.byte_offset) byte_offset_is _ _ (c.deref.ensures.value ∙ c.self.invariant.0)
 
+-- the first line begins at 0
+pub overflow_sub-number : goal.overflow_sub-number
+overflow_sub-number g c = found_some byte_len (λ r. r.byte_offset) byte_offset_is _ _ _ _ (c.deref.ensures.value ∙ c.self.invariant.0) c.begun_at_byte-number.ensures.bound c.begun_at_byte-number.ensures.point
+
+-- the number found is that of a row
 pub index-line-requires : goal.index-line-requires
 index-line-requires g c =
-    let table = c.deref.ensures.value ∙ c.self.invariant.0 in
-    let parted = IsPartitionedBy-leb (λ r. r.byte_offset) _ c.args.byte_offset (rows_rise byte_len (λ r. r.byte_offset) byte_offset_is _ _ table) in
-    let parts = IsPartitionPoint-from_clause (λ r. leb r.byte_offset c.args.byte_offset) _ _ c.partition_point-number.ensures.partitioned parted (λ a r q k. search rules) in
-    let there = found_there byte_len (λ r. r.byte_offset) byte_offset_is _ _ _ _ table c.partition_point-number.ensures.bound parts in
+    let there = found_there byte_len (λ r. r.byte_offset) byte_offset_is _ _ _ _ (c.deref.ensures.value ∙ c.self.invariant.0) c.begun_at_byte-number.ensures.bound c.begun_at_byte-number.ensures.point in
     omega (arith, c.deref.ensures.len)
 
+-- the line found begins at the offset or before it
 pub overflow_sub-result : goal.overflow_sub-result
 overflow_sub-result g c =
-    let table = c.deref.ensures.value ∙ c.self.invariant.0 in
-    let parted = IsPartitionedBy-leb (λ r. r.byte_offset) _ c.args.byte_offset (rows_rise byte_len (λ r. r.byte_offset) byte_offset_is _ _ table) in
-    let parts = IsPartitionPoint-from_clause (λ r. leb r.byte_offset c.args.byte_offset) _ _ c.partition_point-number.ensures.partitioned parted (λ a r q k. search rules) in
-    let row = c.index-line.ensures ∙ ap (λ xs. get_or xs (c.partition_point-number.result - 1) c.index-line.result.now) (sym c.deref.ensures.value) in
-    let begins = found_begins byte_len (λ r. r.byte_offset) byte_offset_is _ _ _ _ table c.partition_point-number.ensures.bound parts _ row in
+    let row = c.index-line.ensures ∙ ap (λ xs. get_or xs (c.begun_at_byte-number.result - 1) c.index-line.result.now) (sym c.deref.ensures.value) in
+    let begins = found_begins byte_len (λ r. r.byte_offset) byte_offset_is _ _ _ _ (c.deref.ensures.value ∙ c.self.invariant.0) c.begun_at_byte-number.ensures.bound c.begun_at_byte-number.ensures.point _ row in
     omega (arith, ap (λ r. r.byte_offset) c.line.view_is)
 
+-- the line found, its number and the rest of the offset are the place
 pub returns-clause-place : goal.returns-clause-place
 returns-clause-place g c =
-    let table = c.deref.ensures.value ∙ c.self.invariant.0 in
-    let parted = IsPartitionedBy-leb (λ r. r.byte_offset) _ c.args.byte_offset (rows_rise byte_len (λ r. r.byte_offset) byte_offset_is _ _ table) in
-    let parts = IsPartitionPoint-from_clause (λ r. leb r.byte_offset c.args.byte_offset) _ _ c.partition_point-number.ensures.partitioned parted (λ a r q k. search rules) in
-    let row = c.index-line.ensures ∙ ap (λ xs. get_or xs (c.partition_point-number.result - 1) c.index-line.result.now) (sym c.deref.ensures.value) in
-    ap (λ (r : LineExtent). (c.index-line.result.now, c.partition_point-number.result - 1, c.args.byte_offset - r.byte_offset)) c.line.view_is
-    ∙ found_place byte_len (λ r. r.byte_offset) byte_offset_is _ _ _ _ table c.partition_point-number.ensures.bound parts _ row
+    let row = c.index-line.ensures ∙ ap (λ xs. get_or xs (c.begun_at_byte-number.result - 1) c.index-line.result.now) (sym c.deref.ensures.value) in
+    ap (λ (r : LineExtent). (c.index-line.result.now, c.begun_at_byte-number.result - 1, c.args.byte_offset - r.byte_offset)) c.line.view_is
+    ∙ found_place byte_len (λ r. r.byte_offset) byte_offset_is _ _ _ _ (c.deref.ensures.value ∙ c.self.invariant.0) c.begun_at_byte-number.ensures.bound c.begun_at_byte-number.ensures.point _ row
     ∙ ap (λ s. place_of byte_len (listed_lines s) c.args.byte_offset) c.self.view_is
 
+-- there are as many lines as rows of the table
 pub returns-clause-number : goal.returns-clause-number
 returns-clause-number g c =
-    let table = c.deref.ensures.value ∙ c.self.invariant.0 in
     let rows = ap length c.self.invariant.0 ∙ ap (λ s. length (line_table (listed_lines s))) c.self.view_is ∙ length-line_table (listed_lines c.args.self.now) in
-    let parted = IsPartitionedBy-leb (λ r. r.byte_offset) _ c.args.byte_offset (rows_rise byte_len (λ r. r.byte_offset) byte_offset_is _ _ table) in
-    let parts = IsPartitionPoint-from_clause (λ r. leb r.byte_offset c.args.byte_offset) _ _ c.partition_point-number.ensures.partitioned parted (λ a r q k. search rules) in
-    let there = found_there byte_len (λ r. r.byte_offset) byte_offset_is _ _ _ _ table c.partition_point-number.ensures.bound parts in
+    let there = found_there byte_len (λ r. r.byte_offset) byte_offset_is _ _ _ _ (c.deref.ensures.value ∙ c.self.invariant.0) c.begun_at_byte-number.ensures.bound c.begun_at_byte-number.ensures.point in
     omega (arith, c.deref.ensures.len)

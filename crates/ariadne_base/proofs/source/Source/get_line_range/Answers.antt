@@ -8,11 +8,13 @@ use Rattle.ariadne_base.proofs.RangeLemmas.{lines_some}
 use Rattle.ariadne_base.proofs.TableLemmas.{length-line_table}
 use Rattle.ariadne_base.proofs.source.Source.get_line_range.Goals as goal
 
+-- a line has a number below their number, which fits
 pub overflow_add-end : goal.overflow_add-end
 overflow_add-end g c =
     let rows = ap length c.self.invariant.0 ∙ ap (λ s. length (line_table (listed_lines s))) c.self.view_is ∙ length-line_table (listed_lines c.args.self.now) in
     omega (arith, c.self.invariant.1, c.in-Some.ensures.there)
 
+-- the first line is not behind the last
 pub returns-in-Some-clause-some : goal.returns-in-Some-clause-some
 returns-in-Some-clause-some g c =
     let start : c.unwrap_or-start.result ≡ first_line (listed_lines c.args.self.now) (g.S.Span.start_of c.args.span.now) = search rules in
@@ -29,6 +31,7 @@ returns-in-None-clause-end g c =
     let none = c.in-None.ensures.number ∙ ap (line_number (listed_lines c.args.self.now)) last in
     len ∙ ap (λ o. option_map_or suc o (length (listed_lines c.args.self.now))) none
 
+-- the first line is one of all
 pub returns-in-None-clause-some : goal.returns-in-None-clause-some
 returns-in-None-clause-some g c =
     let start : c.unwrap_or-start.result ≡ first_line (listed_lines c.args.self.now) (g.S.Span.start_of c.args.span.now) = search rules in
@@ -36,6 +39,7 @@ returns-in-None-clause-some g c =
     let some = lines_some (chars c.args.self.now.text) (g.S.Span.start_of c.args.span.now) (g.S.Span.end_of c.args.span.now) in
     omega arith
 
+-- the number of rows is that of the lines
 pub returns-in-None-clause-valid : goal.returns-in-None-clause-valid
 returns-in-None-clause-valid g c =
     let rows = ap length c.self.invariant.0 ∙ ap (λ s. length (line_table (listed_lines s))) c.self.view_is ∙ length-line_table (listed_lines c.args.self.now) in

@@ -3,9 +3,11 @@ use Rattle.std.specs.Str.{chars}
 use Rattle.ariadne_base.proofs.PlaceLemmas.{some_row, length_from_last}
 use Rattle.ariadne_base.proofs.source.Source.len.Goals as goal
 
+-- there is a last line
 pub overflow_sub-len : goal.overflow_sub-len
 overflow_sub-len g c = omega (arith, c.len.ensures, some_row _ _ c.self.invariant.0)
 
+-- and it has a row
 pub index-last-requires : goal.index-last-requires
 index-last-requires g c = omega (arith, c.len.ensures, some_row _ _ c.self.invariant.0)
 

@@ -1,4 +1,4 @@
-use Rattle.std.proofs.Common.{◌≡◌, length, ap, ◌∙◌, arith}
+use Rattle.std.proofs.Common.{length, ap, ◌∙◌, arith}
 use Rattle.ariadne_base.specs.Listing.{listed_lines}
 use Rattle.ariadne_base.specs.Table.{line_table}
 use Rattle.ariadne_base.proofs.TableLemmas.{length-line_table}

@@ -1,23 +1,27 @@
-use Rattle.std.proofs.Common.{◌≡◌, true, false, sym, ap, ◌∙◌, inl, inr, ◌⊎◌, ◌<◌, length, rules}
+use Rattle.std.proofs.Common.{◌≡◌, sym, ap, ◌∙◌, inl, inr, ◌⊎◌, ◌<◌, length, rules}
 use Rattle.std.specs.Str.{chars}
 use Rattle.ariadne_base.specs.Lines.{ends_line}
 use Rattle.ariadne_base.proofs.Scanning.{scan_start, scan_closed, scan_open, scan_whole, scan_last}
 use Rattle.ariadne_base.proofs.source.scan.line_table_of.Goals as goal
 use Rattle.ariadne_base.proofs.source.scan.line_table_of.Goals.{then-offset-at+in_ok-push-2, then-offset-at-via-then-offset-at, then-offset-at-via-else-offset-at+then-is_empty, else-offset-at+else-is_empty}
 
+-- nothing is scanned yet
 pub loop-c-init : goal.loop-c-init
 loop-c-init c = rw (c.chars-rest.ensures.rest, c.new-lines.ensures.items) (scan_start _ c.utf8.text)
 
+-- a character that ends its line closes it
 pub loop-c-preserved-then-ends_line : goal.loop-c-preserved-then-ends_line
 loop-c-preserved-then-ends_line c =
     let ends = ap (λ bs. ends_line c.in-Some.c (chars bs)) (sym c.as_str.ensures) ∙ sym c.ends_line.ensures ∙ c.if-ends_line.true in
     rw (c.in_ok-push.ensures.items, c.as_str-then-ends_line.ensures) (scan_closed _ _ _ _ _ _ _ _ c.loop-c.invariant c.in-Some.ensures.steps.0 ends)
 
+-- any other makes the open line longer
 pub loop-c-preserved : goal.loop-c-preserved
 loop-c-preserved c =
     let stays = ap (λ bs. ends_line c.in-Some.c (chars bs)) (sym c.as_str.ensures) ∙ sym c.ends_line.ensures ∙ c.if-ends_line.false in
     scan_open _ _ _ _ _ _ _ _ c.loop-c.invariant c.in-Some.ensures.steps.0 stays
 
+-- what is open at the end is the last line, unless it is empty and some line is closed
 pub returns : goal.returns
 returns c =
     let over = c.in_default.ensures.steps.0.0 in
