@@ -1,18 +1,16 @@
 -- The bytes of pieces: one after another, of one more place, of a place's cells, and of a plain text.
-use Rattle.std.proofs.Common.{◌≡◌, ℕ, zero, suc, ◌+◌, ◌≤◌, List, [], ◌∷◌, ◌++◌, replicate, map, Option, None, refl, sym, ap, ◌∙◌, arith, append_assoc, add-one, zero-add}
+use Rattle.std.proofs.Common.{◌≡◌, ℕ, zero, suc, ◌+◌, ◌≤◌, List, [], ◌∷◌, ◌++◌, replicate, map, None, refl, sym, ap, ◌∙◌, arith, append_assoc, add-one, zero-add}
 use Rattle.std.proofs.lemmas.List.{append-nil, map-append, replicate_more}
 use Rattle.std.proofs.lemmas.Bool.{cond_both}
-use Rattle.std.proofs.lemmas.List.FromFn.{map-range_with_len_more}
 use Rattle.std.specs.List.{range_with_len}
 use Rattle.ariadne_base.specs.Colors.{painted}
 use Rattle.ariadne_base.specs.Places.{upto}
 use Rattle.ariadne.specs.declared.config.CharSet.{CharSet}
 use Rattle.ariadne.specs.declared.write.cell.Ink.{Ink}
-use Rattle.ariadne.specs.declared.write.cell.Paint.{Paint}
 use Rattle.ariadne.specs.declared.write.cell.Paint.TheVariants.{Plain}
 use Rattle.ariadne.specs.Lists.{joined}
 use Rattle.ariadne.specs.Pieces.{Piece, glyph_text, ink_pieces, stroke, spaces}
-use Rattle.ariadne.specs.Canvas.{Palette, Cell, color_of, paint_color, cell_of}
+use Rattle.ariadne.specs.Canvas.{Palette, color_of, paint_color, cell_of}
 use Rattle.ariadne.specs.Print.{cell_bytes, pieces_bytes}
 
 -- ---- lists

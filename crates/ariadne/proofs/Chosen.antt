@@ -1,10 +1,9 @@
 -- The best of those elements of a list that pass a test, one element after another; and the greatest.
-use Rattle.std.proofs.Common.{◌≡◌, ℕ, ◌+◌, ◌-◌, ◌<◌, ◌≤◌, max, Bool, true, false, cond, List, [], ◌∷◌, ◌++◌, Option, Some, None, filter, map, fold, length, take, get_or, refl, sym, ap, ◌∙◌, arith}
+use Rattle.std.proofs.Common.{◌≡◌, ℕ, ◌+◌, ◌-◌, ◌<◌, max, Bool, true, false, cond, List, [], ◌∷◌, ◌++◌, Some, None, filter, map, fold, length, take, get_or, refl, sym, ap, ◌∙◌}
 use Rattle.std.specs.List.{best_of}
 use Rattle.std.proofs.lemmas.List.{take_more, map-append}
 use Rattle.std.proofs.lemmas.List.Sums.{fold_push}
 use Rattle.std.proofs.lemmas.List.Recursion.{max_push}
-use Rattle.std.proofs.lemmas.Bool.{cond_both}
 use Rattle.ariadne.specs.Lists.{best}
 use Rattle.ariadne.specs.declared.write.label_info.LineLabel.{LineLabel}
 use Rattle.ariadne.specs.Columns.{Layout, end_place}

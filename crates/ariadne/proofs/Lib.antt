@@ -18,6 +18,7 @@ pub mod OneLineLayout
 pub mod OneLineRows
 pub mod OneLineOutline
 pub mod OneLineBytes
+pub mod OneLineParts
 -- Code.
 pub mod Bytes
 pub mod Chosen
@@ -27,8 +28,14 @@ pub mod RowBytes
 pub mod Painters
 pub mod Accepting
 pub mod Judging
+pub mod Messages
 pub mod Insertion
 pub mod TrailingSpace
+pub mod Drawable
+pub mod OneSource
+pub mod DrawingRows
+pub mod DrawingPlaces
+pub mod Fitting
 mod Sending
 -- Worked pictures, by computation.
 mod Unfold

@@ -102,3 +102,10 @@ group_lines-within l infos some h =
 pub number_len-within : (shift l : ℕ) (infos : List LabelInfo) → 0 < length infos → AreWithin l infos → number_len shift infos ≡ length (decimal (line_number shift l))
 unfolding number_len
 number_len-within shift l infos some h = rw (last_line-within l infos some h)
+
+-- ---- from what is known of each label
+
+-- labels are over one source where any two of a kind are, and all are of that kind
+pub together-from_all : (same : ℕ → ℕ → Bool) (P : LabelInfo → Type 0) → ((a b : LabelInfo) → P a → P b → same a.number b.number ≡ true) → (infos : List LabelInfo) → AllByRecursion P infos → AreTogether same infos
+together-from_all same P f infos h =
+    all-weaker P (λ a. AllByRecursion (λ b. same a.number b.number ≡ true) infos) (λ a p. all-weaker P (λ b. same a.number b.number ≡ true) (λ b q. f a b p q) infos h) infos h

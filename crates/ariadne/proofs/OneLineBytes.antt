@@ -101,12 +101,12 @@ sent-outline p t g w l y =
 
 module _ {S Id : Type 0} (w : World S Id) (r : ReportFields S) where
   -- the bytes of a report none of whose labels is drawn
-  pub printed-none : printed (canvas w r []) ≡ sent_row (palette_of r) (header_pieces (title w r))
+  pub printed-none : printed (canvas w r []) ≡ sent_row (palette_of r) (header_pieces (title r))
   printed-none =
-      printed-rows w r [] ∙ ap (sent (palette_of r)) (outline-none w r) ∙ joined-one (sent_row (palette_of r)) (header_pieces (title w r))
+      printed-rows w r [] ∙ ap (sent (palette_of r)) (outline-none w r) ∙ joined-one (sent_row (palette_of r)) (header_pieces (title r))
 
   -- those of a report whose labels all lie within one line
-  pub printed-on_line : (l : ℕ) (infos : List LabelInfo) → 0 < length infos → AreOnLine w r l infos → printed (canvas w r infos) ≡ one_line_bytes (palette_of r) (title w r) (only_section w r infos) (only_number_width w r l infos) l (only_layout w r l infos)
+  pub printed-on_line : (l : ℕ) (infos : List LabelInfo) → 0 < length infos → AreOnLine w r l infos → printed (canvas w r infos) ≡ one_line_bytes (palette_of r) (title r) (only_section w r infos) (only_number_width w r l infos) l (only_layout w r l infos)
   printed-on_line l infos some h =
       printed-rows w r infos ∙ ap (sent (palette_of r)) (outline-on_line w r l infos some h)
-      ∙ sent-outline (palette_of r) (title w r) (only_section w r infos) (only_number_width w r l infos) l (only_layout w r l infos)
+      ∙ sent-outline (palette_of r) (title r) (only_section w r infos) (only_number_width w r l infos) l (only_layout w r l infos)

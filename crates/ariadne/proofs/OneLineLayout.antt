@@ -15,6 +15,7 @@ use Rattle.ariadne.specs.OneLine.{inline_label, inline_layout}
 use Rattle.ariadne.proofs.InOrder.{all-in_order, length-in_order, all-map, all-weaker, filter-all, filter-none}
 use Rattle.ariadne.proofs.OneGroup.{AreWithin}
 
+-- a label that starts and ends on line l lies on one line
 on-one_line : (l : ℕ) (a : LabelInfo) → (a.start_line ≡ l) × (a.end_line ≡ l) → is_on_one_line a ≡ true
 unfolding is_on_one_line
 on-one_line l a h = eq-eqb a.start_line a.end_line (h.0 ∙ sym h.1)

@@ -92,12 +92,13 @@ section_rows-within t w g l e last helps notes some h m =
 
 -- ---- the picture
 
+-- no number is below 0
 max-0 : (n : ℕ) → max n 0 ≡ n
 max-0 n = omega arith
 
 module _ {S Id : Type 0} (w : World S Id) (r : ReportFields S) where
   -- a report none of whose labels is drawn
-  pub outline-none : outline w r [] ≡ header_pieces (title w r) ∷ []
+  pub outline-none : outline w r [] ≡ header_pieces (title r) ∷ []
   unfolding outline groups groups_of ordered in_order joined
   outline-none = refl
 
@@ -123,11 +124,11 @@ module _ {S Id : Type 0} (w : World S Id) (r : ReportFields S) where
   layout-on_line l infos h = layout_of-within (sheet_of w r (ordered infos)) l (within-ordered l infos h.lines)
 
   -- the rows of the picture
-  pub outline-on_line : (l : ℕ) (infos : List LabelInfo) → 0 < length infos → AreOnLine w r l infos → outline w r infos ≡ one_line_outline (title w r) (only_section w r infos) (only_number_width w r l infos) l (only_layout w r l infos)
+  pub outline-on_line : (l : ℕ) (infos : List LabelInfo) → 0 < length infos → AreOnLine w r l infos → outline w r infos ≡ one_line_outline (title r) (only_section w r infos) (only_number_width w r l infos) l (only_layout w r l infos)
   unfolding outline title section_of sheet_of joined
   outline-on_line l infos some h =
       let n : length (ordered infos) ≡ length infos = length-ordered infos in
-      let t : Title = title w r in
+      let t : Title = title r in
       let g : Section = only_section w r infos in
       let one : groups w r infos ≡ ordered infos ∷ [] = groups-on_line l infos some h in
       let width : number_width w r (ordered infos ∷ []) ≡ only_number_width w r l infos = ap (number_width w r) (sym one) ∙ number_width-on_line l infos some h in

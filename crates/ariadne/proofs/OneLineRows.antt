@@ -19,6 +19,7 @@ use Rattle.ariadne.proofs.OneLineLayout.{line_labels-within, is_hidden-within, a
 abbrev pub two_rows : Bool → ℕ → ℕ → List Row
 two_rows compact l k = (if compact then [] else alternate l k ∷ []) ++ arrow l k ∷ []
 
+-- one with a message has both, or its arrow row alone
 label_rows-message : (compact : Bool) (l k : ℕ) (x : LineLabel) → x.info.has_message ≡ true → label_rows compact l (k, x) ≡ two_rows compact l k
 unfolding label_rows
 label_rows-message compact l k x e = rw e

@@ -1,5 +1,5 @@
 -- The characters of a source row: how each is written, and the label that colours it.
-use Rattle.std.proofs.Common.{◌≡◌, ℕ, ◌<◌, ◌≤◌, Bool, true, false, eqb, eq-eqb, cond, List, [], ◌∷◌, ◌++◌, Option, Some, None, filter, fold, map, length, replicate, encode_utf8, get_or, slice_index, lit<, refl, sym, ap, ◌∙◌, arith, option_to_list}
+use Rattle.std.proofs.Common.{◌≡◌, ℕ, ◌<◌, eq-eqb, cond, List, [], ◌∷◌, ◌++◌, None, fold, map, length, replicate, encode_utf8, get_or, slice_index, lit<, sym, ap, ◌∙◌, arith, option_to_list}
 use Rattle.std.proofs.lemmas.Bool.{ne_eqb}
 use Rattle.std.proofs.lemmas.List.{get_or_read}
 use Rattle.std.proofs.lemmas.List.Sums.{fold-append}
@@ -12,11 +12,9 @@ use Rattle.ariadne.specs.declared.write.label_info.LabelInfo.{LabelInfo}
 use Rattle.ariadne.specs.declared.write.label_info.LineLabel.{LineLabel}
 use Rattle.ariadne.specs.Canvas.{Palette, color_of}
 use Rattle.ariadne.specs.Columns.{Layout, shown, shown_columns}
-use Rattle.ariadne.specs.Lists.{best}
 use Rattle.ariadne.specs.Pieces.{Piece, painters, painter_paint, char_paint, char_pieces, shown_text}
 use Rattle.ariadne.specs.Preferred.{chosen_painter}
 use Rattle.ariadne.specs.Print.{pieces_bytes}
-use Rattle.ariadne.specs.Strokes.{holds, is_preferred}
 use Rattle.ariadne.proofs.Bytes.{pieces_bytes_one}
 use Rattle.ariadne.proofs.Chosen.{best_chosen}
 use Rattle.ariadne.proofs.Shown.{length_shown-le, shown_at}

@@ -17,7 +17,7 @@ is_read entries r p =
     let is = infos entries r in
     let cells = canvas w r is in
     let parts = sections w r is in
-    is_placing cells parts p && has_message_rows cells parts p (title w r).message_of && has_inline_traces cells parts p
+    is_placing cells parts p && has_message_rows cells parts p (title r).message_of && has_inline_traces cells parts p
     && has_ends_of_gutter_traces cells parts p && has_gutter_bars cells parts p && is_aligned cells parts p
 
 unfoldable pub choose : ℕ → ℕ → ℕ → ℕ

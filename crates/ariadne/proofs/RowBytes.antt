@@ -1,5 +1,5 @@
 -- The bytes of the rows round the lines of a group, and of margins: text after text.
-use Rattle.std.proofs.Common.{◌≡◌, ℕ, ◌+◌, Bool, true, false, if◌then◌else◌, cond, List, [], ◌∷◌, ◌++◌, Option, Some, None, codes, refl, sym, ap, ◌∙◌, append_assoc, arith}
+use Rattle.std.proofs.Common.{◌≡◌, ℕ, ◌+◌, Bool, true, false, if◌then◌else◌, List, [], ◌∷◌, ◌++◌, Option, Some, None, codes, refl, sym, ap, ◌∙◌, append_assoc, arith}
 use Rattle.std.proofs.lemmas.List.{append-nil}
 use Rattle.ariadne_base.specs.declared.color.Color.{Color}
 use Rattle.ariadne_base.specs.Colors.{painted}
@@ -7,15 +7,13 @@ use Rattle.ariadne.specs.declared.config.CharSet.{CharSet}
 use Rattle.ariadne.specs.declared.config.Style.{Style}
 use Rattle.ariadne.specs.declared.write.cell.Glyph.{Glyph}
 use Rattle.ariadne.specs.declared.write.cell.Glyph.TheVariants.{Hbar, Vbar, VbarGap, Ltop, Rbot, Lbox, Rbox, Lcross}
-use Rattle.ariadne.specs.declared.write.cell.Paint.{Paint}
-use Rattle.ariadne.specs.declared.write.cell.Paint.TheVariants.{Plain, Kind, Tint}
+use Rattle.ariadne.specs.declared.write.cell.Paint.TheVariants.{Kind, Tint}
 use Rattle.ariadne.specs.Canvas.{Palette, color_of}
-use Rattle.ariadne.specs.Groups.{line_number}
-use Rattle.ariadne.specs.Rows.{Aside, Row, source, alternate, arrow, gap, bare, blank, piece}
+use Rattle.ariadne.specs.Rows.{Aside, source, alternate, arrow, gap, bare, blank, piece}
 use Rattle.ariadne.specs.Lists.{joined}
 use Rattle.ariadne.specs.Heads.{bar_margin, head_line}
 use Rattle.ariadne_base.specs.Escapes.{opened as opening, closed as closing}
-use Rattle.ariadne.specs.Pieces.{Piece, Section, Title, painted_text, plain_text, blank_piece, stroke, spaces, repeated, glyph_text, margin_text, margin_paint, margin_pieces, head_pieces, place_text, space_pieces, tail_pieces}
+use Rattle.ariadne.specs.Pieces.{Piece, Section, painted_text, plain_text, blank_piece, stroke, spaces, repeated, glyph_text, margin_text, margin_paint, margin_pieces, head_pieces, place_text, space_pieces, tail_pieces}
 use Rattle.ariadne.specs.Print.{pieces_bytes}
 use Rattle.ariadne.proofs.Bytes.{pieces_bytes_none, pieces_bytes_first, pieces_bytes_one, plain_bytes, spaces_more, joined_more}
 

@@ -1,13 +1,11 @@
 -- The underline that is seen at a place, by the row and from one label to the next.
-use Rattle.std.proofs.Common.{◌≡◌, ℕ, ◌⊎◌, ⊎_elim, Bool, true, false, eqb, cond, ◌&&◌, List, Option, None, fold, refl, sym, ap, ◌∙◌}
+use Rattle.std.proofs.Common.{◌≡◌, ℕ, ◌⊎◌, ⊎_elim, true, false, eqb, cond, ◌&&◌, None, fold, sym, ◌∙◌}
 use Rattle.std.proofs.lemmas.Bool.{ne_eqb}
 use Rattle.ariadne.specs.declared.config.Style.{Style}
-use Rattle.ariadne.specs.declared.write.label_info.LineLabel.{LineLabel}
 use Rattle.ariadne.specs.Columns.{Layout}
 use Rattle.ariadne.specs.Lists.{best}
 use Rattle.ariadne.specs.Preferred.{chosen_underline}
-use Rattle.ariadne.specs.Ranks.{is_inline}
-use Rattle.ariadne.specs.Strokes.{holds, is_preferred, underlines_at, underline_at}
+use Rattle.ariadne.specs.Strokes.{is_preferred, underlines_at, underline_at}
 use Rattle.ariadne.proofs.Chosen.{best_chosen}
 
 -- where underlines are off, or in another row than the first, there is none

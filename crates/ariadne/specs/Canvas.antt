@@ -68,6 +68,16 @@ cell_of p piece = record { text = piece.text; color = color_of p piece.paint; co
 
 -- ---- the whole picture
 
+unfoldable pub title : {S : Type 0} → ReportFields S → Title
+title r = record {
+  style = style_of r.config;
+  heading = code_text r.code ++ kind_name r.kind ++ codes ":";
+  message = r.message;
+  helps = r.helps;
+  notes = r.notes;
+  message_of = λ k. unwrap_or (option_and_then (λ label. label.message) (slice_get r.labels k)) [];
+}
+
 module _ {S Id : Type 0} (w : World S Id) (r : ReportFields S) where
   -- label number k
   unfoldable pub label_id : ℕ → Option Id
@@ -80,16 +90,6 @@ module _ {S Id : Type 0} (w : World S Id) (r : ReportFields S) where
 
   unfoldable pub same_source : ℕ → ℕ → Bool
   same_source j k = is_same_id (label_id j) (label_id k)
-
-  unfoldable pub title : Title
-  title = record {
-    style = style_of r.config;
-    heading = code_text r.code ++ kind_name r.kind ++ codes ":";
-    message = r.message;
-    helps = r.helps;
-    notes = r.notes;
-    message_of = λ k. unwrap_or (option_and_then (λ label. label.message) (slice_get r.labels k)) [];
-  }
 
   -- a group's source is that of its first label
   unfoldable pub group_id : List LabelInfo → Option Id
@@ -138,8 +138,8 @@ module _ {S Id : Type 0} (w : World S Id) (r : ReportFields S) where
   unfoldable pub outline : List LabelInfo → List (List Piece)
   outline infos =
       let gs = groups infos in
-      header_pieces title
-      ∷ joined (λ e. section_rows title (number_width gs) (section_of (length gs) e)) (enumerate_from 0 gs)
+      header_pieces (title r)
+      ∷ joined (λ e. section_rows (title r) (number_width gs) (section_of (length gs) e)) (enumerate_from 0 gs)
 
   -- the groups of these labels, each within the picture
   unfoldable pub sections : List LabelInfo → List Section

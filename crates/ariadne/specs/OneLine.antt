@@ -93,6 +93,20 @@ label_bytes palette t w shift l y k =
     (if t.style.compact then [] else sent_row palette (alternate_row t w shift l y k))
     ++ sent_row palette (arrow_row t w shift l y k)
 
+-- the source row of the line, and the rows of its labels
+unfoldable pub line_bytes : Palette → Title → ℕ → ℕ → ℕ → Layout → List ℕ
+line_bytes palette t w shift l y =
+    sent_row palette (source_row t w shift l y) ++ joined (label_bytes palette t w shift l y) (upto (length y.labels))
+
+-- the group: its header, the line, the tail
+unfoldable pub group_bytes : Palette → Title → Section → ℕ → ℕ → Layout → List ℕ
+group_bytes palette t g w l y =
+    let set = t.style.char_set in
+    sent_row palette (head_pieces g w)
+    ++ (if t.style.compact then [] else sent_row palette (space_pieces set w))
+    ++ line_bytes palette t w g.shift l y
+    ++ (if t.style.compact then [] else sent_row palette (tail_pieces set w true))
+
 unfoldable pub one_line_bytes : Palette → Title → Section → ℕ → ℕ → Layout → List ℕ
 one_line_bytes palette t g w l y =
     let set = t.style.char_set in

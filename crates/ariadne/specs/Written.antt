@@ -1,6 +1,6 @@
 -- What `write` ensures, by its answer: which labels it left out and why, and what of the picture of the
 -- others has reached the writer.
-use Rattle.std.specs.Prelude.{ℕ, ◌+◌, ◌<◌, ◌≡◌, ◌++◌, ◌&&◌, ◌==◌, Bool, true, List, [], ◌∷◌, map, length, take, Option, Some, None, is_some, Result, Ok, Err, Vec, slice_get}
+use Rattle.std.specs.Prelude.{ℕ, ◌+◌, ◌<◌, ◌≡◌, ◌++◌, ◌&&◌, ◌==◌, Bool, true, List, [], ◌∷◌, map, length, take, Option, Some, None, is_some, nat_le, chars, if◌then◌else◌, Result, Ok, Err, Vec, slice_get}
 use Rattle.std.specs.List.{list_all}
 use Rattle.std.specs.Option.{option_map_or}
 use Rattle.std.specs.Io.KnownBytes.{Appends, Keeps}
@@ -67,6 +67,10 @@ module _ (source : Listing) (r : ReportFields (Range ℕ)) where
   -- the bytes of their picture
   unfoldable pub picture : List ℕ
   picture = printed (canvas (only_source source) r drawn)
+
+  -- the place that its header names: its own start, if that lies in the source
+  unfoldable pub own_place : Option ℕ
+  own_place = if nat_le r.span.start (length (chars source.text)) then Some r.span.start else None
 
 -- ---- which reports are drawn by now: each label has a message, and all lie within one and the same line
 

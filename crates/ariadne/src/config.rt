@@ -125,10 +125,11 @@ impl Config {
         self
     }
 
-    /// What the layout reads of it.
+    /// What the layout reads of it. Offsets count characters: no call asks for bytes yet.
     pub(crate) fn style(&self) -> Style
         ensures style { result ≡ style_of self.now }
         ensures tabs { 1 ≤ self.now.tab_width }
+        ensures in_characters { self.now.index_type ≡ IndexType.Char }
     {
         Style {
             cross_gap: self.cross_gap,

@@ -1,7 +1,8 @@
 //! What kind of report it is.
 
-ghost use Rattle.std.specs.Prelude.{Some};
-ghost use Rattle.ariadne.specs.Kinds.{shown_kind};
+ghost use Rattle.std.specs.Prelude.{◌≡◌, Some};
+ghost use Rattle.ariadne.specs.Canvas.{kind_color};
+ghost use Rattle.ariadne.specs.Kinds.{kind_of, shown_kind};
 
 use ariadne_base::Color;
 use std::fmt;
@@ -19,16 +20,38 @@ pub enum ReportKind<'a> {
     Custom(&'a str, Color),
 }
 
+impl<'a> ReportKind<'a> {
+    /// What the header calls it.
+    pub(crate) fn name(self) -> &'a str
+        ensures { result.now ≡ shown_kind self.entry }
+    {
+        match self {
+            ReportKind::Error => "Error",
+            ReportKind::Warning => "Warning",
+            ReportKind::Advice => "Advice",
+            ReportKind::Custom(name, _) => name,
+        }
+    }
+
+    /// The colour that the header shows it in.
+    pub(crate) fn color(self) -> Color
+        ensures { result ≡ kind_color (kind_of self.entry) }
+    {
+        match self {
+            ReportKind::Error => Color::Red,
+            ReportKind::Warning => Color::Yellow,
+            ReportKind::Advice => Color::Fixed(147),
+            ReportKind::Custom(_, color) => color,
+        }
+    }
+}
+
 /// `Error`, `Warning`, `Advice`, or the name of the caller's own kind.
 impl fmt::Display for ReportKind<'_> {
     ghost output = { λ kind. Some (shown_kind kind) };
 
     fn fmt<W: fmt::Write>(&self, f: &mut fmt::Formatter<W>) -> fmt::Result {
-        match self {
-            ReportKind::Error => write!(f, "Error"),
-            ReportKind::Warning => write!(f, "Warning"),
-            ReportKind::Advice => write!(f, "Advice"),
-            ReportKind::Custom(name, _) => write!(f, "{name}"),
-        }
+        let name = self.name();
+        write!(f, "{name}")
     }
 }

@@ -9,9 +9,10 @@ pub mod laws;
 pub mod report;
 pub mod write;
 
-pub use ariadne_base::{Color, SourceText, Span};
+pub use ariadne_base::{Color, Line, Source, SourceLines, SourceText, Span};
 pub use builder::ReportBuilder;
 pub use config::{CharSet, Config, IndexType, LabelAttach};
 pub use kind::ReportKind;
 pub use label::Label;
 pub use report::Report;
+pub use write::{LeftOut, Reason, WriteError};

@@ -1,14 +1,15 @@
 //! Reports: what is said of which pieces of sources.
 
-ghost use Rattle.std.specs.Prelude.{◌≡◌};
+ghost use Rattle.std.specs.Prelude.{◌≡◌, IfOk};
 ghost use Rattle.std.specs.Option.{option_copied};
 
 use crate::builder::ReportBuilder;
 use crate::config::Config;
 use crate::kind::ReportKind;
 use crate::label::Label;
+use crate::write::palette::Palette;
 use ariadne_base::Span;
-use std::alloc::Global;
+use std::alloc::{AllocError, Global};
 use std::marker::Model;
 use std::ops::Range;
 
@@ -45,6 +46,7 @@ impl<'a, S: Span> Model for Report<'a, S> {
 
 impl<'a, S: Span> Report<'a, S> {
     ghost use Rattle.ariadne.specs.Report.{new_report};
+    ghost use Rattle.ariadne.specs.Canvas.{title, palette_of};
     ghost use Rattle.ariadne.specs.Kinds.{kind_of};
 
     /// Begins a report of this kind.
@@ -56,5 +58,40 @@ impl<'a, S: Span> Report<'a, S> {
         ensures { result ≡ new_report (kind_of kind.entry) span }
     {
         ReportBuilder::new(alloc, kind, span)
+    }
+
+    /// What its header says.
+    pub(crate) fn message(&self) -> Option<&str>
+        ensures { option_copied result ≡ self.now.message }
+    {
+        self.message.as_deref()
+    }
+
+    /// What label number `number` says, or nothing.
+    pub(crate) fn message_of(&self, number: usize) -> &str
+        ensures { result.now ≡ (title self.now).message_of number }
+    {
+        if number >= self.labels.len() {
+            return "";
+        }
+        match self.labels[number].message() {
+            Some(message) => message,
+            None => "",
+        }
+    }
+
+    /// The colours that the pieces of its picture may have.
+    pub(crate) fn palette(&self) -> Result<Palette, AllocError>
+        ensures { IfOk result (λ palette. palette ≡ palette_of self.now) }
+    {
+        let mut labels = Vec::with_capacity(self.alloc, self.labels.len())?;
+        for label in &self.labels {
+            labels.push(label.color())?;
+        }
+        Ok(Palette {
+            is_on: self.config.is_colored(),
+            kind: self.kind.color(),
+            labels,
+        })
     }
 }

@@ -1,8 +1,12 @@
 //! Drawing a report: its labels are judged, laid out in groups and rows, drawn, and sent.
 
+ghost use Rattle.std.specs.Prelude.{◌≡◌, true};
+ghost use Rattle.ariadne.specs.Written.{is_drawable as drawable_over, is_label_drawable, picture, reasons, Written};
+
 pub(crate) mod accept;
 pub(crate) mod area;
 pub(crate) mod cell;
+pub(crate) mod drawing;
 pub(crate) mod headers;
 pub(crate) mod ink;
 pub(crate) mod label_info;
@@ -13,3 +17,68 @@ pub(crate) mod palette;
 pub(crate) mod pen;
 pub(crate) mod send;
 pub(crate) mod shown;
+
+pub use accept::{LeftOut, Reason};
+pub use send::WriteError;
+
+use crate::report::Report;
+use accept::accept;
+use ariadne_base::{Source, Span};
+use drawing::draw;
+use send::send;
+use std::io;
+use std::io::Write;
+
+impl Report<'_> {
+    /// Whether `write` can draw the report over this source by now: each label has a message, and
+    /// all labels, those past the source too, lie within one and the same line.
+    #[tactic(auto, unfolding(crate::specs::Written::is_drawable, crate::specs::Written::is_label_drawable, crate::specs::Written::drawable_line))]
+    pub fn drawable(&self, cache: &Source<String>) -> bool
+        ensures { result ≡ drawable_over cache.now self.now }
+    {
+        let Some(first) = self.labels.first() else {
+            return true;
+        };
+        let line = cache.get_line_range(first.span()).start;
+        self.labels.iter().all(|label| {
+            let range = cache.get_line_range(label.span());
+            label.message().is_some() && range.start == line && range.end == line + 1
+        })
+    }
+
+    /// Draws the report over the source and sends the picture to `out`.
+    ///
+    /// A label is left out where it begins past the source, or ends more than one past it; the
+    /// answer lists these by their positions, from 0. The picture is drawn whole before its first
+    /// byte is sent, and sending takes no memory.
+    ///
+    /// On `Memory` nothing was sent. On `Io` the writer failed, or took nothing of a piece that is
+    /// not empty: it has taken exactly the first `sent` bytes of the picture, which has more.
+    pub fn write<W: Write>(
+        &self,
+        cache: &mut Source<String>,
+        out: &mut W,
+    ) -> Result<Vec<LeftOut<()>>, WriteError>
+        requires { drawable_over cache.old self.now ≡ true }
+        ensures cache { cache.new ≡ cache.old }
+        ensures written { Written (reasons cache.old self.now) (picture cache.old self.now) (W.contents out.old) (W.contents out.new) result }
+    {
+        let judged = accept(self, cache)?;
+        let text = draw(self, cache, &judged.infos)?;
+        send(out, text.as_bytes())?;
+        Ok(judged.left_out)
+    }
+
+    /// Draws the report over the source and sends the picture to the runtime's standard output, as
+    /// `write` does.
+    pub fn print<R: Print>(
+        &self,
+        cache: &mut Source<String>,
+        rt: &R,
+    ) -> Result<Vec<LeftOut<()>>, WriteError>
+        requires { drawable_over cache.old self.now ≡ true }
+        ensures { cache.new ≡ cache.old }
+    {
+        self.write(cache, &mut io::writer(rt))
+    }
+}

@@ -91,7 +91,8 @@ pub(crate) fn push_head(
 
 /// Appends the name of a source and a place in it, between blanks.
 fn push_place(out: &mut String, name: &str, place: Option<(usize, usize)>) -> Result<(), AllocError>
-    ensures { let written = (codes " " ++ name.now ++ codes ":" ++ place_numbers place ++ codes " ") in
+    ensures { let numbers = place_numbers place in
+        let written = codes " " ++ name.now ++ codes ":" ++ numbers ++ codes " " in
         OnOk result (string_bytes out.new ≡ string_bytes out.old ++ written) }
 {
     out.push(' ')?;

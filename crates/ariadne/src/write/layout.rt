@@ -58,7 +58,8 @@ impl LineLayout {
         offset: usize,
         text: &str,
     ) -> Result<LineLayout, AllocError>
-        ensures { IfOk result (λ y. y ≡ inline_layout infos.now offset (chars text.now)) }
+        ensures layout { IfOk result (λ y. y ≡ inline_layout infos.now offset (chars text.now)) }
+        ensures short { IfOk result (λ y. length y.text < 2 ^ 63) }
     {
         let labels = in_order(alloc, &inline_labels(alloc, infos)?)?;
         let text = characters(alloc, text)?;

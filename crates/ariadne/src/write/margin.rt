@@ -14,8 +14,13 @@ use super::pen::push_spaces;
 use crate::config::Style;
 use std::alloc::AllocError;
 
-/// Appends the margin of the source row of a line, with the line's number, where numbers take
-/// `width` columns. `shift` is the source's display offset.
+/// Appends the margin of the source row of a line, with the line's number. `line` counts from 0;
+/// `shift` is the source's display offset, and numbers take `width` columns.
+///
+/// ```text
+///       9 |
+///      10 |
+/// ```
 pub(crate) fn push_line_margin(
     out: &mut String,
     palette: &Palette,
@@ -25,7 +30,8 @@ pub(crate) fn push_line_margin(
     line: usize,
 ) -> Result<(), AllocError>
     requires { line_number shift line < 2 ^ 64 }
-    ensures { let written = pieces_bytes palette.now (margin_pieces style.now width shift (source line)) in
+    ensures { let margin = margin_pieces style.now width shift (source line) in
+        let written = pieces_bytes palette.now margin in
         OnOk result (string_bytes out.new ≡ string_bytes out.old ++ written) }
 {
     let number = line + 1 + shift;
@@ -40,6 +46,11 @@ pub(crate) fn push_line_margin(
 }
 
 /// Appends the margin of a row without a number, with this bar.
+///
+/// ```text
+///         |       below a line
+///         :       in place of hidden lines
+/// ```
 pub(crate) fn push_margin(
     out: &mut String,
     palette: &Palette,

@@ -30,7 +30,8 @@ pub(crate) fn push_shown(
     layout: &LineLayout,
 ) -> Result<(), AllocError>
     requires { 1 ≤ style.now.tab_width }
-    ensures { let written = pieces_bytes palette.now (shown_pieces style.now multi_line.now layout.now) in
+    ensures { let shown = shown_pieces style.now multi_line.now layout.now in
+        let written = pieces_bytes palette.now shown in
         OnOk result (string_bytes out.new ≡ string_bytes out.old ++ written) }
 {
     for place in 0..layout.shown_len {

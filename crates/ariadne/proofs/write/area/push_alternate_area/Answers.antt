@@ -1,4 +1,4 @@
-use Rattle.std.proofs.Common.{◌≡◌, ◌++◌, ◌∙◌, ap, sym, arith, slice_get, string_bytes}
+use Rattle.std.proofs.Common.{◌≡◌, ◌++◌, ◌∙◌, ap, arith, string_bytes}
 use Rattle.ariadne_base.specs.Places.{upto}
 use Rattle.ariadne.specs.Lists.{joined}
 use Rattle.ariadne.specs.Cells.{alternate_place}

@@ -1,5 +1,5 @@
 -- so far the first places are written
-use Rattle.std.proofs.Common.{◌≡◌, ◌++◌, slice_get, string_bytes}
+use Rattle.std.proofs.Common.{◌≡◌, ◌++◌, string_bytes}
 use Rattle.ariadne_base.specs.Places.{upto}
 use Rattle.ariadne.specs.Lists.{joined}
 use Rattle.ariadne.specs.Cells.{alternate_place}

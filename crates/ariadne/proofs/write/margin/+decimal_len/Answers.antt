@@ -1,4 +1,4 @@
-use Rattle.std.proofs.Common.{◌≡◌, ◌+◌, ◌/◌, ◌%◌, ◌++◌, ◌∷◌, [], ◌≤◌, ◌∙◌, ap, sym, arith, decimal, length, length-append}
+use Rattle.std.proofs.Common.{◌≡◌, ◌+◌, ◌/◌, ◌%◌, ◌++◌, ◌∷◌, [], arith, decimal, length-append}
 use Rattle.std.proofs.lemmas.Fmt.{decimal_step, length-decimal-le_succ}
 use Rattle.ariadne.proofs.write.margin.+decimal_len.Goals as goal
 

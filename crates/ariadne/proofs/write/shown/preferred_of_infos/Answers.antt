@@ -1,4 +1,4 @@
-use Rattle.std.proofs.Common.{◌≡◌, ◌≤◌, ◌∙◌, ap, arith, fold, length, take}
+use Rattle.std.proofs.Common.{◌∙◌, ap, arith, fold}
 use Rattle.std.proofs.lemmas.List.{take_all}
 use Rattle.std.specs.Option.{option_copied}
 use Rattle.ariadne.specs.Preferred.{chosen_painter}

@@ -1,4 +1,4 @@
-use Rattle.std.proofs.Common.{◌≡◌, ◌≤◌, ◌∙◌, ap, arith, fold, length, map, take}
+use Rattle.std.proofs.Common.{◌≡◌, ◌∙◌, ap, arith, fold, map, take}
 use Rattle.std.proofs.lemmas.List.{take_all}
 use Rattle.std.specs.Option.{option_copied}
 use Rattle.ariadne.specs.declared.write.label_info.LineLabel.{LineLabel}

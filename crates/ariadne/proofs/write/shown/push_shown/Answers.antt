@@ -1,4 +1,4 @@
-use Rattle.std.proofs.Common.{◌≡◌, ℕ, ◌<◌, ◌++◌, ◌∙◌, ap, arith, length, slice_index, string_bytes}
+use Rattle.std.proofs.Common.{◌≡◌, ◌<◌, ◌++◌, ◌∙◌, ap, arith, length, slice_index, string_bytes}
 use Rattle.std.specs.Str.{drop_trailing_whitespace}
 use Rattle.ariadne_base.specs.Places.{upto}
 use Rattle.ariadne.specs.Columns.{Layout, shown}

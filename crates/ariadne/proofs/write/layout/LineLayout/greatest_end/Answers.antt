@@ -1,5 +1,5 @@
-use Rattle.std.proofs.Common.{◌≡◌, ◌-◌, ◌≤◌, ◌∙◌, ap, sym, arith, refl, rules, max, map, length, take, get_or}
-use Rattle.std.proofs.lemmas.List.{take_all, take_more, map-append}
+use Rattle.std.proofs.Common.{◌≡◌, ◌∙◌, ap, arith, refl, map, take}
+use Rattle.std.proofs.lemmas.List.{take_all}
 use Rattle.ariadne.specs.Columns.{Layout, end_place}
 use Rattle.ariadne.specs.Groups.{greatest}
 use Rattle.ariadne.proofs.Chosen.{greatest_end_more}

@@ -1,4 +1,4 @@
-use Rattle.std.proofs.Common.{◌≡◌, ◌≤◌, ◌∙◌, ap, sym, arith, refl, rules, None, fold, length, take}
+use Rattle.std.proofs.Common.{◌≡◌, ◌∙◌, ap, sym, arith, None, fold, take}
 use Rattle.std.proofs.lemmas.List.{take_all}
 use Rattle.std.specs.Option.{option_copied}
 use Rattle.ariadne.specs.Columns.{Layout}
