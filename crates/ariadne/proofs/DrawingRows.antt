@@ -1,5 +1,5 @@
 -- The rows of a line as they are drawn, text behind text: its source row, and the rows of its labels.
-use Rattle.std.proofs.Common.{◌≡◌, ℕ, true, false, List, [], ◌∷◌, ◌++◌, Some, encode_utf8, lit<, refl, sym, ap, ◌∙◌, append_assoc}
+use Rattle.std.proofs.Common.{◌≡◌, ℕ, Bool, true, false, List, [], ◌∷◌, ◌++◌, Some, encode_utf8, lit<, refl, sym, ap, ◌∙◌, append_assoc}
 use Rattle.std.specs.Prelude.{if◌then◌else◌, slice_get}
 use Rattle.std.proofs.lemmas.List.{append-nil}
 use Rattle.std.proofs.lemmas.Str.{encode_ascii}
@@ -109,3 +109,20 @@ module _ (p : Palette) (t : Title) (w shift l : ℕ) (y : Layout) (s : Style) (s
       let message : c ≡ (((old ++ f) ++ m) ++ r) ++ n = ec ∙ (λ i. area i ++ said i) in
       let group : ((((old ++ f) ++ m) ++ r) ++ n) ++ 10 ∷ [] ≡ old ++ (f ++ (m ++ r ++ n ++ 10 ∷ [])) = simp append_assoc in
       (λ i. message i ++ feed_code i) ∙ group ∙ ap (λ b. old ++ (f ++ b)) (sym (arrow_row-parts p t w shift l y k))
+
+-- ---- rows one after another
+
+-- a row and its line feed
+pub row_sent : (old a new row : List ℕ) → a ≡ old ++ row → new ≡ a ++ encode_utf8 10 → new ≡ old ++ (row ++ 10 ∷ [])
+row_sent old a new row e f = f ∙ (λ i. e i ++ feed_code i) ∙ append_assoc old row (10 ∷ [])
+
+-- a row that compact pictures lack
+pub row_optional : (compact : Bool) (old a new row : List ℕ) → compact ≡ false → a ≡ old ++ row → new ≡ a ++ encode_utf8 10 → new ≡ old ++ (if compact then [] else row ++ 10 ∷ [])
+row_optional compact old a new row c e f = rw c (row_sent old a new row e f)
+
+pub row_left_out : (compact : Bool) (old new row : List ℕ) → compact ≡ true → new ≡ old → new ≡ old ++ (if compact then [] else row ++ 10 ∷ [])
+row_left_out compact old new row c e = rw c (e ∙ sym (append-nil old))
+
+-- four parts
+pub four_parts : (old a b c d n1 n2 n3 n4 : List ℕ) → n1 ≡ old ++ a → n2 ≡ n1 ++ b → n3 ≡ n2 ++ c → n4 ≡ n3 ++ d → n4 ≡ old ++ (a ++ b ++ c ++ d)
+four_parts old a b c d n1 n2 n3 n4 e1 e2 e3 e4 = rw (e4, e3, e2, e1) (simp append_assoc)

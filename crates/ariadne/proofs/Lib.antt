@@ -36,6 +36,7 @@ pub mod OneSource
 pub mod DrawingRows
 pub mod DrawingPlaces
 pub mod Fitting
+pub mod DrawingWhole
 mod Sending
 -- Worked pictures, by computation.
 mod Unfold

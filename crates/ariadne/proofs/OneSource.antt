@@ -1,5 +1,6 @@
 -- The only group of a report over one source: its source, its name, and the place that its header names.
-use Rattle.std.proofs.Common.{◌≡◌, ℕ, ◌<◌, ◌≤◌, ◌+◌, Bool, true, false, List, [], ◌∷◌, ◌++◌, Option, Some, None, length, refl, sym, ap, ◌∙◌, arith, decimal, codes, append_assoc}
+use Rattle.std.proofs.Common.{◌≡◌, ℕ, ◌<◌, ◌≤◌, ◌+◌, Bool, true, false, List, [], ◌∷◌, ◌++◌, Option, Some, None, length, refl, sym, ap, ◌∙◌, arith, decimal, codes, append_assoc, subst}
+use Rattle.ariadne.specs.declared.config.Style.{Style}
 use Rattle.std.specs.Prelude.{nat_le, int_lt, chars, if◌then◌else◌}
 use Rattle.std.specs.List.{AllByRecursion}
 use Rattle.std.specs.declared.ops.Range.{Range}
@@ -58,7 +59,7 @@ module _ (s : Listing) (r : ReportFields (Range ℕ)) where
   place_is group m e = rw (e, m) refl
 
   -- the bytes of the only group, by what its source and its line are
-  pub group_written : (p : Palette) (l : ℕ) (infos : List LabelInfo) (place : List ℕ) → 0 < length infos → AreOnLine (only_source s) r l infos → r.config.index_type ≡ Char
+  group_written : (p : Palette) (l : ℕ) (infos : List LabelInfo) (place : List ℕ) → 0 < length infos → AreOnLine (only_source s) r l infos → r.config.index_type ≡ Char
       → place ≡ place_text (listed_lines s) s.display_offset (own_place s r)
       → let t = title r in
         let w = length (decimal (line_number s.display_offset l)) in
@@ -75,3 +76,23 @@ module _ (s : Listing) (r : ReportFields (Range ℕ)) where
       let name = name_is (ordered infos) id in
       let at = place_is (ordered infos) m id in
       rw (head_pieces-is, source, name, at, ← e) refl
+
+  -- the same for the style of the picture
+  pub group_styled : (p : Palette) (l : ℕ) (infos : List LabelInfo) (place : List ℕ) (style : Style) → (title r).style ≡ style → 0 < length infos → AreOnLine (only_source s) r l infos → r.config.index_type ≡ Char
+      → place ≡ place_text (listed_lines s) s.display_offset (own_place s r)
+      → let w = length (decimal (line_number s.display_offset l)) in
+        let y = inline_layout (ordered infos) (line_offset length (listed_lines s) l) (line_text (listed_lines s) l) in
+        group_bytes p (title r) (only_section (only_source s) r infos) (only_number_width (only_source s) r l infos) l (only_layout (only_source s) r l infos)
+          ≡ sent_row p (head_line style.char_set w true (codes "<unknown>") place)
+            ++ (if style.compact then [] else sent_row p (space_pieces style.char_set w))
+            ++ line_bytes p (title r) w s.display_offset l y
+            ++ (if style.compact then [] else sent_row p (tail_pieces style.char_set w true))
+  group_styled p l infos place style same some h m e =
+      let w = length (decimal (line_number s.display_offset l)) in
+      let y = inline_layout (ordered infos) (line_offset length (listed_lines s) l) (line_text (listed_lines s) l) in
+      subst (λ (style : Style).
+        group_bytes p (title r) (only_section (only_source s) r infos) (only_number_width (only_source s) r l infos) l (only_layout (only_source s) r l infos)
+          ≡ sent_row p (head_line style.char_set w true (codes "<unknown>") place)
+            ++ (if style.compact then [] else sent_row p (space_pieces style.char_set w))
+            ++ line_bytes p (title r) w s.display_offset l y
+            ++ (if style.compact then [] else sent_row p (tail_pieces style.char_set w true))) same (group_written p l infos place some h m e)

@@ -62,12 +62,13 @@ pub(crate) fn draw(
     requires infos { infos.now ≡ drawn source.now report.now }
     ensures { IfOk result (λ text. string_bytes text ≡ picture source.now report.now) }
 {
+    let _chars = report.config.style();
     let palette = report.palette()?;
     let mut out = String::new(report.alloc);
     push_header(&mut out, &palette, None, report.kind.name(), report.message())?;
     out.push('\n')?;
-    if let Some(first) = infos.first() {
-        push_group(&mut out, report, &palette, source, infos, first.start_line)?;
+    if !infos.is_empty() {
+        push_group(&mut out, report, &palette, source, infos, infos[0].start_line)?;
     }
     Ok(out)
 }

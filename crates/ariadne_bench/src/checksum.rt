@@ -1,0 +1,25 @@
+//! The checksum of an answer: FNV-1a with 64 bits.
+
+use ariadne_base::{Source, SourceText};
+
+const START: u64 = 0xcbf2_9ce4_8422_2325;
+
+const PRIME: u64 = 0x100_0000_01b3;
+
+/// A checksum with the bytes of a number added, the low byte first.
+fn with_number(checksum: u64, number: usize) -> u64 {
+    let mut sum = checksum;
+    for byte in (number as u64).to_le_bytes() {
+        sum = (sum ^ u64::from(byte)).wrapping_mul(PRIME);
+    }
+    sum
+}
+
+/// The checksum of the lines of a source: the offset and the length of each, in characters.
+pub fn of_lines<I: SourceText>(source: &Source<I>) -> u64 {
+    let mut sum = START;
+    for line in source.lines() {
+        sum = with_number(with_number(sum, line.offset()), line.len());
+    }
+    sum
+}
