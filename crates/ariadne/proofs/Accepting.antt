@@ -1,5 +1,5 @@
 -- What judging a label computes, over plain variables.
-use Rattle.std.proofs.Common.{◌≡◌, ◌≢◌, ℕ, ◌+◌, ◌-◌, ◌/◌, ◌<◌, ◌≤◌, Bool, true, false, ◌||◌, List, length, min, refl, sym, ◌∙◌, ap, arith, ℤ, ◌⊎◌}
+use Rattle.std.proofs.Common.{◌≡◌, ℕ, ◌+◌, ◌-◌, ◌/◌, ◌<◌, ◌≤◌, Bool, true, false, ◌||◌, List, length, min, refl, ◌∙◌, ap, arith, ℤ, ◌⊎◌}
 use Rattle.std.proofs.Common.{subst, Bor, Option, Some, None}
 use Rattle.std.specs.Prelude.{nat_lt, is_some, IfSome, option_copied, chars}
 use Rattle.std.proofs.lemmas.Bool.Decides.{nat_tests}
@@ -8,9 +8,7 @@ use Rattle.ariadne_base.specs.Ranges.{last_offset}
 use Rattle.ariadne_base.specs.Table.{LineExtent, line_extent, place_of}
 use Rattle.ariadne_base.specs.Listing.{Listing, listed_lines}
 use Rattle.ariadne.specs.declared.config.LabelAttach.{LabelAttach}
-use Rattle.ariadne.specs.declared.config.IndexType.{IndexType}
 use Rattle.ariadne.specs.declared.config.IndexType.TheVariants.{Char}
-use Rattle.ariadne.specs.declared.write.accept.Verdict.{Verdict}
 use Rattle.ariadne.specs.declared.write.accept.Verdict.TheVariants.{Accepted, PastSource}
 use Rattle.ariadne.specs.declared.write.label_info.LabelInfo.{LabelInfo}
 use Rattle.ariadne.specs.Report.{ConfigFields, LabelFields}
@@ -45,7 +43,7 @@ pub info_is : {S : Type 0} (attach : LabelAttach) (ls : List (List ℕ)) (k : �
     → a ≡ attach_offset attach start end → t ≡ a - r.offset
     → order ≡ label.order → priority ≡ label.priority → has_message ≡ is_some label.message
     → record { number = k; start = start; end = end; start_line = n; start_column = c; end_line = m; end_column = d; attach = t; order = order; priority = priority; has_message = has_message }
-        ≡ info_of attach ls k label start end
+    ≡ info_of attach ls k label start end
 unfolding info_of
 info_is attach ls k label start end last r s n c m d a t order priority has_message p l q e u f g h =
     let e1 = place_number length ls start r n c p in

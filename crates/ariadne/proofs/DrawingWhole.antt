@@ -1,12 +1,12 @@
 -- The picture of labels within one line: its header, and its group.
-use Rattle.std.proofs.Common.{◌≡◌, ℕ, ◌<◌, true, false, List, [], ◌∷◌, ◌++◌, Option, length, get_or, zero, codes, refl, sym, ap, ◌∙◌, append_assoc, arith}
+use Rattle.std.proofs.Common.{◌≡◌, ℕ, ◌<◌, true, false, List, [], ◌∷◌, ◌++◌, Option, length, get_or, codes, refl, sym, ap, ◌∙◌, append_assoc, arith}
 use Rattle.std.specs.Prelude.{◌==◌, pos, unwrap_or}
 use Rattle.std.proofs.lemmas.Grind.{common_steps}
 use Rattle.ariadne.specs.declared.write.label_info.LabelInfo.{LabelInfo}
 use Rattle.ariadne.specs.declared.write.cell.Paint.TheVariants.{Kind}
 use Rattle.ariadne.specs.Report.{ReportFields, World}
 use Rattle.ariadne.specs.Columns.{Layout}
-use Rattle.ariadne.specs.Pieces.{Piece, Section, Title, painted_text, plain_text}
+use Rattle.ariadne.specs.Pieces.{Section, Title, painted_text, plain_text}
 use Rattle.ariadne_base.specs.Listing.{Listing}
 use Rattle.std.specs.declared.ops.Range.{Range}
 use Rattle.ariadne.specs.Canvas.{Palette, palette_of, canvas, code_text, kind_name, header_pieces, title}
@@ -50,7 +50,7 @@ module _ (s : Listing) (r : ReportFields (Range ℕ)) (infos : List LabelInfo) (
   -- the picture of some labels
   pub picture_some : (l : ℕ) → 0 < length infos → AreOnLine (only_source s) r l infos
       → sent_row (palette_of r) (header_pieces (title r)) ++ group_bytes (palette_of r) (title r) (only_section (only_source s) r infos) (only_number_width (only_source s) r l infos) l (only_layout (only_source s) r l infos)
-          ≡ picture s r
+      ≡ picture s r
   unfolding picture
   picture_some l some on =
       sym (whole_is (palette_of r) (title r) (only_section (only_source s) r infos) (only_number_width (only_source s) r l infos) l (only_layout (only_source s) r l infos))

@@ -1,15 +1,14 @@
 -- The text area of a row fits its type.
-use Rattle.std.proofs.Common.{◌≡◌, ℕ, ◌+◌, ◌-◌, ◌<◌, ◌≤◌, ◌^◌, Bool, true, false, List, [], ◌∷◌, map, length, not, arith, lit≤}
+use Rattle.std.proofs.Common.{ℕ, ◌+◌, ◌<◌, ◌≤◌, ◌^◌, true, false, List, [], ◌∷◌, map, length, not, arith, lit≤}
 use Rattle.std.specs.Prelude.{if◌then◌else◌}
 use Rattle.std.specs.List.{AllByRecursion, list_any}
 use Rattle.ariadne.specs.declared.config.Style.{Style}
 use Rattle.ariadne.specs.declared.write.label_info.LabelInfo.{LabelInfo}
 use Rattle.ariadne.specs.declared.write.label_info.LineLabel.{LineLabel}
 use Rattle.ariadne.specs.Groups.{greatest}
-use Rattle.ariadne.specs.Ranks.{is_inline, is_before}
-use Rattle.ariadne.specs.Lists.{in_order}
+use Rattle.ariadne.specs.Ranks.{is_inline}
 use Rattle.ariadne.specs.Columns.{Layout, end_place, arrow_len}
-use Rattle.ariadne.specs.OneLine.{inline_label, inline_layout}
+use Rattle.ariadne.specs.OneLine.{inline_layout}
 use Rattle.ariadne.proofs.OneLineLayout.{all-line_labels}
 
 -- the greatest of numbers up to b is one too
@@ -32,6 +31,6 @@ arrow_len-fits style infos offset text h short =
     let y = inline_layout infos offset text in
     let far : greatest (map (end_place y) y.labels) ≤ length text = greatest_up (length text) (map (end_place y) y.labels) (ends_up y y.labels (all-line_labels (λ a. a.end ≤ offset + length text) infos h)) in
     let places : (if list_any (λ (x : LineLabel). not (is_inline x.side)) y.labels then length text else greatest (map (end_place y) y.labels)) ≤ length text =
-        elim (list_any (λ (x : LineLabel). not (is_inline x.side)) y.labels) as (λ b. (if b then length text else greatest (map (end_place y) y.labels)) ≤ length text) [ true ↦ omega arith | false ↦ far ] in
+    elim (list_any (λ (x : LineLabel). not (is_inline x.side)) y.labels) as (λ b. (if b then length text else greatest (map (end_place y) y.labels)) ≤ length text) [ true ↦ omega arith | false ↦ far ] in
     let more : (if style.compact then 1 else 2) ≤ 2 = elim style.compact as (λ b. (if b then 1 else 2) ≤ 2) [ true ↦ lit≤ tt | false ↦ lit≤ tt ] in
     omega (arith, places, more, short)

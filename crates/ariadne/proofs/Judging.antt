@@ -1,5 +1,5 @@
 -- One label more is judged: what is drawn and what is left out so far, and what is to come.
-use Rattle.std.proofs.Common.{◌≡◌, ℕ, suc, ◌+◌, Bool, List, [], ◌∷◌, ◌++◌, Option, Some, None, map, refl, sym, ap, ◌∙◌, append_assoc, add-one, ◌||◌, ◌<◌, ◌≤◌, length, get_or, drop, drop-cons}
+use Rattle.std.proofs.Common.{◌≡◌, ℕ, suc, ◌+◌, List, [], ◌∷◌, ◌++◌, Option, Some, None, map, refl, sym, ap, ◌∙◌, append_assoc, add-one, ◌||◌, ◌<◌, ◌≤◌, length, get_or, drop, drop-cons}
 use Rattle.std.proofs.lemmas.List.{append-nil, drop_all}
 use Rattle.std.specs.Prelude.{true, false, if◌then◌else◌, nat_lt, chars, min, option_to_list}
 use Rattle.ariadne_base.specs.Listing.{Listing, listed_lines}
@@ -71,7 +71,7 @@ module _ (source : Listing) (config : ConfigFields) where
   drawn_more n label rest front whole v e h =
       let same : reason_of {E = Unit} (verdict_at 0 label) ≡ reason_of v = reason_number config source 0 n label label.span.start label.span.end ∙ ap reason_of (sym e) in
       let one : drawn_label (only_source source) config n label (reason_of {E = Unit} (verdict_at 0 label)) ≡ option_to_list (accepted_info v) =
-          ap (drawn_label (only_source source) config n label) same ∙ one_drawn n label v e in
+      ap (drawn_label (only_source source) config n label) same ∙ one_drawn n label v e in
       rw add-one (append_assoc front (option_to_list (accepted_info v)) (drawn_from (suc n) rest) ∙ ap (λ p. front ++ (p ++ drawn_from (suc n) rest)) (sym one) ∙ h)
 
   -- the same of those that are left out

@@ -1,20 +1,18 @@
 -- The only group of a report over one source: its source, its name, and the place that its header names.
-use Rattle.std.proofs.Common.{◌≡◌, ℕ, ◌<◌, ◌≤◌, ◌+◌, Bool, true, false, List, [], ◌∷◌, ◌++◌, Option, Some, None, length, refl, sym, ap, ◌∙◌, arith, decimal, codes, append_assoc, subst}
+use Rattle.std.proofs.Common.{◌≡◌, ℕ, ◌<◌, true, List, [], ◌∷◌, ◌++◌, Option, Some, None, length, refl, arith, decimal, codes, subst}
 use Rattle.ariadne.specs.declared.config.Style.{Style}
-use Rattle.std.specs.Prelude.{nat_le, int_lt, chars, if◌then◌else◌}
+use Rattle.std.specs.Prelude.{int_lt, if◌then◌else◌}
 use Rattle.std.specs.List.{AllByRecursion}
 use Rattle.std.specs.declared.ops.Range.{Range}
 use Rattle.ariadne_base.specs.Listing.{Listing, listed_lines}
 use Rattle.ariadne_base.specs.Places.{line_offset, line_text}
 use Rattle.ariadne.specs.declared.config.IndexType.TheVariants.{Char}
 use Rattle.ariadne.specs.declared.write.label_info.LabelInfo.{LabelInfo}
-use Rattle.ariadne.specs.Report.{ReportFields, style_of}
+use Rattle.ariadne.specs.Report.{ReportFields}
 use Rattle.ariadne.specs.Accept.{text_len, offset_in_chars}
 use Rattle.ariadne.specs.Groups.{ordered, line_number}
-use Rattle.ariadne.specs.Columns.{Layout}
-use Rattle.ariadne.specs.Pieces.{Section, Title, head_pieces, space_pieces, tail_pieces, place_text}
+use Rattle.ariadne.specs.Pieces.{space_pieces, tail_pieces, place_text}
 use Rattle.ariadne.specs.Canvas.{Palette, label_id, is_same_id, same_source, group_id, group_source, group_name, header_offset, sheet_of, section_of, title}
-use Rattle.ariadne.specs.Print.{pieces_bytes}
 use Rattle.ariadne.specs.Heads.{head_line}
 use Rattle.ariadne.specs.OneLine.{AreOnLine, inline_layout, only_section, only_number_width, only_layout, line_bytes, group_bytes, sent_row}
 use Rattle.ariadne.specs.Written.{only_source, own_place}
@@ -62,13 +60,13 @@ module _ (s : Listing) (r : ReportFields (Range ℕ)) where
   group_written : (p : Palette) (l : ℕ) (infos : List LabelInfo) (place : List ℕ) → 0 < length infos → AreOnLine (only_source s) r l infos → r.config.index_type ≡ Char
       → place ≡ place_text (listed_lines s) s.display_offset (own_place s r)
       → let t = title r in
-        let w = length (decimal (line_number s.display_offset l)) in
-        let y = inline_layout (ordered infos) (line_offset length (listed_lines s) l) (line_text (listed_lines s) l) in
-        group_bytes p t (only_section (only_source s) r infos) (only_number_width (only_source s) r l infos) l (only_layout (only_source s) r l infos)
-          ≡ sent_row p (head_line t.style.char_set w true (codes "<unknown>") place)
-            ++ (if t.style.compact then [] else sent_row p (space_pieces t.style.char_set w))
-            ++ line_bytes p t w s.display_offset l y
-            ++ (if t.style.compact then [] else sent_row p (tail_pieces t.style.char_set w true))
+      let w = length (decimal (line_number s.display_offset l)) in
+      let y = inline_layout (ordered infos) (line_offset length (listed_lines s) l) (line_text (listed_lines s) l) in
+      group_bytes p t (only_section (only_source s) r infos) (only_number_width (only_source s) r l infos) l (only_layout (only_source s) r l infos)
+      ≡ sent_row p (head_line t.style.char_set w true (codes "<unknown>") place)
+      ++ (if t.style.compact then [] else sent_row p (space_pieces t.style.char_set w))
+      ++ line_bytes p t w s.display_offset l y
+      ++ (if t.style.compact then [] else sent_row p (tail_pieces t.style.char_set w true))
   unfolding group_bytes section_of sheet_of title
   group_written p l infos place some h m e =
       let id = only_id l infos some h in
@@ -81,18 +79,18 @@ module _ (s : Listing) (r : ReportFields (Range ℕ)) where
   pub group_styled : (p : Palette) (l : ℕ) (infos : List LabelInfo) (place : List ℕ) (style : Style) → (title r).style ≡ style → 0 < length infos → AreOnLine (only_source s) r l infos → r.config.index_type ≡ Char
       → place ≡ place_text (listed_lines s) s.display_offset (own_place s r)
       → let w = length (decimal (line_number s.display_offset l)) in
-        let y = inline_layout (ordered infos) (line_offset length (listed_lines s) l) (line_text (listed_lines s) l) in
-        group_bytes p (title r) (only_section (only_source s) r infos) (only_number_width (only_source s) r l infos) l (only_layout (only_source s) r l infos)
-          ≡ sent_row p (head_line style.char_set w true (codes "<unknown>") place)
-            ++ (if style.compact then [] else sent_row p (space_pieces style.char_set w))
-            ++ line_bytes p (title r) w s.display_offset l y
-            ++ (if style.compact then [] else sent_row p (tail_pieces style.char_set w true))
+      let y = inline_layout (ordered infos) (line_offset length (listed_lines s) l) (line_text (listed_lines s) l) in
+      group_bytes p (title r) (only_section (only_source s) r infos) (only_number_width (only_source s) r l infos) l (only_layout (only_source s) r l infos)
+      ≡ sent_row p (head_line style.char_set w true (codes "<unknown>") place)
+      ++ (if style.compact then [] else sent_row p (space_pieces style.char_set w))
+      ++ line_bytes p (title r) w s.display_offset l y
+      ++ (if style.compact then [] else sent_row p (tail_pieces style.char_set w true))
   group_styled p l infos place style same some h m e =
       let w = length (decimal (line_number s.display_offset l)) in
       let y = inline_layout (ordered infos) (line_offset length (listed_lines s) l) (line_text (listed_lines s) l) in
       subst (λ (style : Style).
-        group_bytes p (title r) (only_section (only_source s) r infos) (only_number_width (only_source s) r l infos) l (only_layout (only_source s) r l infos)
-          ≡ sent_row p (head_line style.char_set w true (codes "<unknown>") place)
-            ++ (if style.compact then [] else sent_row p (space_pieces style.char_set w))
-            ++ line_bytes p (title r) w s.display_offset l y
-            ++ (if style.compact then [] else sent_row p (tail_pieces style.char_set w true))) same (group_written p l infos place some h m e)
+      group_bytes p (title r) (only_section (only_source s) r infos) (only_number_width (only_source s) r l infos) l (only_layout (only_source s) r l infos)
+      ≡ sent_row p (head_line style.char_set w true (codes "<unknown>") place)
+      ++ (if style.compact then [] else sent_row p (space_pieces style.char_set w))
+      ++ line_bytes p (title r) w s.display_offset l y
+      ++ (if style.compact then [] else sent_row p (tail_pieces style.char_set w true))) same (group_written p l infos place some h m e)

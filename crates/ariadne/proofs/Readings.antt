@@ -1,10 +1,9 @@
 -- Placings that finished pictures are read by, and pictures that cannot be read, by computation.
-use Rattle.std.specs.Prelude.{ℕ, ◌≡◌, ◌+◌, ◌&&◌, ◌==◌, Bool, true, false, if◌then◌else◌, refl, codes, [], ◌∷◌, Some, List}
+use Rattle.std.specs.Prelude.{ℕ, ◌≡◌, ◌&&◌, ◌==◌, Bool, true, if◌then◌else◌, refl, [], ◌∷◌, List}
 use Rattle.ariadne.specs.declared.write.label_info.LabelInfo.{LabelInfo}
-use Rattle.ariadne.specs.Report.{ReportFields, World}
+use Rattle.ariadne.specs.Report.{ReportFields}
 use Rattle.ariadne.specs.Accept.{drawn_labels}
-use Rattle.ariadne.specs.Pieces.{Section}
-use Rattle.ariadne.specs.Canvas.{Cell, canvas, sections, title}
+use Rattle.ariadne.specs.Canvas.{canvas, sections, title}
 use Rattle.ariadne.specs.Placing.{Placing, is_placing, has_message_rows, has_inline_traces, has_ends_of_gutter_traces, has_gutter_bars, is_aligned}
 use Rattle.ariadne.proofs.Sample.{Span, Entry, world, reasons, one, label, report, drawn}
 

@@ -12,7 +12,7 @@ use Rattle.ariadne.specs.declared.config.IndexType.TheVariants.{Byte, Char}
 use Rattle.ariadne.specs.declared.write.accept.Verdict.{Verdict}
 use Rattle.ariadne.specs.declared.write.accept.Verdict.TheVariants.{Accepted, PastSource, CutsCharacter}
 use Rattle.ariadne.specs.declared.write.label_info.LabelInfo.{LabelInfo}
-use Rattle.ariadne.specs.Report.{ConfigFields, LabelFields, ReportFields, World}
+use Rattle.ariadne.specs.Report.{ConfigFields, LabelFields, World}
 
 -- ---- offsets
 
@@ -64,7 +64,7 @@ verdict config source k label start end =
     let size = text_len config.index_type text in
     if nat_lt size start || nat_lt (size + 1) end then PastSource
     else within config.label_attach (listed_lines source) k label
-        (offset_in_chars config.index_type text start) (offset_in_chars config.index_type text (min end size))
+    (offset_in_chars config.index_type text start) (offset_in_chars config.index_type text (min end size))
 
 -- ---- all labels
 

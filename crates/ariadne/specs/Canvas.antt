@@ -110,7 +110,7 @@ module _ {S Id : Type 0} (w : World S Id) (r : ReportFields S) where
       let text = chars (group_source group).text in
       let start = w.start_of r.span in
       if is_same_id (group_id group) (Some (w.id_of r.span)) then
-        (if nat_le start (text_len r.config.index_type text) then offset_in_chars r.config.index_type text start else None)
+      (if nat_le start (text_len r.config.index_type text) then offset_in_chars r.config.index_type text start else None)
       else option_map (λ a. a.start) (slice_get group 0)
 
   unfoldable pub sheet_of : List LabelInfo → Sheet

@@ -93,7 +93,7 @@ arrow_ink style r x false true (Some v) =
     if style.cross_gap then ink_of Hbar Hbar x.info else ink_of Xbar Blank x.info
 arrow_ink style r x false false (Some v) =
     ink (if not (is_inline v.side) && (r == 0) && style.compact then Uarrow else Vbar) (paint_of v.info)
-      Blank (paint_of x.info)
+    Blank (paint_of x.info)
 arrow_ink style r x false true None = ink_of Hbar Hbar x.info
 arrow_ink style r x false false None = blanks
 
@@ -148,7 +148,7 @@ turn_ink s x i (Some q) =
     if is_inline q.side then below_ink s x i
     else if q.member == i then ink_of (turn_glyph q.side) Hbar q.info
     else if nat_lt q.member i then
-      (if bar_at s x i && not s.style.cross_gap then ink_of Xbar Hbar q.info else ink_of Hbar Hbar q.info)
+    (if bar_at s x i && not s.style.cross_gap then ink_of Xbar Hbar q.info else ink_of Hbar Hbar q.info)
     else below_ink s x i
 
 -- column i of a row

@@ -1,7 +1,7 @@
 -- The columns of a line: how wide each character of it is shown, and where it begins. Text below the
 -- line has the same places, so that a stroke under a character stands under all of its columns.
 -- Columns and places count from 0, where the text of the row begins.
-use Rattle.std.specs.Prelude.{ℕ, ◌+◌, ◌-◌, ◌%◌, Bool, false, not, ◌==◌, nat_lt, if◌then◌else◌, List, length, map, Option, slice_index, chars, unwrap_or}
+use Rattle.std.specs.Prelude.{ℕ, ◌+◌, ◌-◌, ◌%◌, false, not, ◌==◌, nat_lt, if◌then◌else◌, List, length, map, Option, slice_index, chars, unwrap_or}
 use Rattle.std.specs.List.{list_any}
 use Rattle.std.specs.Char.{is_whitespace}
 use Rattle.std.specs.Str.{drop_trailing_whitespace}

@@ -16,7 +16,7 @@ use Rattle.ariadne.specs.Lists.{best, joined}
 use Rattle.ariadne.specs.declared.config.Style.{Style}
 use Rattle.ariadne.specs.Groups.{line_number}
 use Rattle.ariadne.specs.Ranks.{Sheet, is_start, multi_line_labels, members}
-use Rattle.ariadne.specs.Rows.{Aside, help, note, Row, head, space, source, alternate, arrow, gap, bare, blank, piece, tail, rows}
+use Rattle.ariadne.specs.Rows.{Aside, help, note, Row, head, space, source, alternate, arrow, gap, blank, piece, tail, rows}
 use Rattle.ariadne.specs.Columns.{Layout, layout_of, text_columns, shown, shown_columns, width, arrow_len}
 use Rattle.ariadne.specs.Strokes.{holds, is_preferred}
 use Rattle.ariadne.specs.Cells.{glyph_code, alternate_place, arrow_place, column_ink}

@@ -1,19 +1,17 @@
 -- How a finished picture is read. A placing says which of its rows belong together; with it each clause of
 -- the tracing promise is a test of the canvas alone: of row numbers, cell texts and columns, and of what
 -- the labels are, but of no row name and no stroke. Rows, cells, lines and places count from 0.
-use Rattle.std.specs.Prelude.{ℕ, ◌+◌, ◌-◌, ◌*◌, ◌≡◌, Bool, true, false, not, ◌&&◌, ◌||◌, ◌==◌, nat_eq, nat_le, nat_lt, if◌then◌else◌, List, [], ◌∷◌, ◌++◌, length, map, take, drop, filter, None, slice_index_or, replicate, decimal, codes}
+use Rattle.std.specs.Prelude.{ℕ, ◌+◌, ◌-◌, ◌*◌, ◌≡◌, Bool, true, not, ◌&&◌, ◌||◌, ◌==◌, nat_eq, nat_le, nat_lt, if◌then◌else◌, List, [], ◌∷◌, ◌++◌, length, map, take, drop, filter, None, slice_index_or, replicate, decimal, codes}
 use Rattle.std.specs.List.{list_all, list_any, range_with_len, prefix_len, enumerate_from}
 use Rattle.std.specs.Cmp.Lexicographic.{pointwise}
-use Rattle.ariadne_base.specs.Places.{upto}
 use Rattle.ariadne.specs.declared.config.CharSet.{CharSet}
 use Rattle.ariadne.specs.declared.write.label_info.LabelInfo.{LabelInfo}
-use Rattle.ariadne.specs.declared.write.label_info.LineLabel.{LineLabel}
 use Rattle.ariadne.specs.declared.write.cell.Glyph.{Glyph}
 use Rattle.ariadne.specs.declared.write.cell.Glyph.TheVariants.{Hbar, Vbar, Xbar, VbarGap, Rarrow, Ltop, Lbot, Rbot, Mbot, Lcross}
 use Rattle.ariadne.specs.Lists.{joined, total}
 use Rattle.ariadne.specs.Groups.{group_lines, line_number}
-use Rattle.ariadne.specs.Ranks.{Sheet, members, margin_label, line_labels, is_of_member, is_on_one_line, is_inline, is_hidden}
-use Rattle.ariadne.specs.Columns.{Layout, layout_of, shown, shown_columns, width, column_of}
+use Rattle.ariadne.specs.Ranks.{members, margin_label, is_of_member, is_on_one_line, is_inline, is_hidden}
+use Rattle.ariadne.specs.Columns.{layout_of, shown, shown_columns, width, column_of}
 use Rattle.ariadne.specs.Pieces.{Section, glyph_text, column_size, gutter_len, shown_text}
 use Rattle.ariadne.specs.Canvas.{Cell}
 
@@ -116,13 +114,13 @@ module _ (canvas : List (List Cell)) (sections : List Section) (p : Placing) whe
   shown_texts s l =
       let text = shown (layout_of s.sheet l) in
       joined (λ e. if e.1 == 9 then replicate (shown_columns s.sheet.style.tab_width e.0 e.1) (32 ∷ []) else shown_text e.1 ∷ [])
-        (enumerate_from 0 text)
+      (enumerate_from 0 text)
 
   unfoldable pub shown_widths : Section → ℕ → List ℕ
   shown_widths s l =
       let text = shown (layout_of s.sheet l) in
       joined (λ e. let columns = shown_columns s.sheet.style.tab_width e.0 e.1 in if e.1 == 9 then replicate columns 1 else columns ∷ [])
-        (enumerate_from 0 text)
+      (enumerate_from 0 text)
 
   abbrev pub text_cells : Section → ℕ → List Cell
   text_cells s n = drop (text_cell s) (row_at n)
@@ -213,12 +211,12 @@ module _ (canvas : List (List Cell)) (sections : List Section) (p : Placing) whe
       let y = layout_of s.sheet l in
       not (s.sheet.style.underlines && not s.sheet.style.compact && list_any (λ x. x.info.has_message) (take 1 y.labels))
       || list_all (λ x. not (is_inline x.side)
-          || holds_at_places g s l (p.src g l + 1) (x.info.start - y.offset) (x.info.end - y.offset) (λ c. not (is_blank c))) y.labels
+      || holds_at_places g s l (p.src g l + 1) (x.info.start - y.offset) (x.info.end - y.offset) (λ c. not (is_blank c))) y.labels
 
   unfoldable pub has_inline_traces : Bool
   has_inline_traces =
       list_all (λ e. list_all (λ a. not (is_on_one_line a) || is_inline_traced e.0 e.1 a) (messages_of e.1)
-          && list_all (is_underlined e.0 e.1) (shown_lines e.1)) (enumerate_from 0 sections)
+      && list_all (is_underlined e.0 e.1) (shown_lines e.1)) (enumerate_from 0 sections)
 
   -- ---- ends of gutter traces: member i of group g, a label over several lines
 
@@ -232,12 +230,12 @@ module _ (canvas : List (List Cell)) (sections : List Section) (p : Placing) whe
       && holds_at_places g s l n 0 a.end_column (is_level set)
       && holds_at_places g s l n (a.end_column + 1) (p.places g l) (is_level set)
       && (if is_margin_at s l i then
-            holds_at_places g s l n a.end_column (a.end_column + 1) (is_level set)
-            && is_glyph set Lcross (cell_at (p.src g l) (column_cell s i))
-            && is_glyph set Rarrow (cell_at (p.src g l) (column_cell s (length (members s.sheet))))
-          else
-            holds_at_places g s l n a.end_column (a.end_column + 1) (is_glyph set Mbot)
-            && is_traced_at g s l a.end_column (rows_to g l n))
+      holds_at_places g s l n a.end_column (a.end_column + 1) (is_level set)
+      && is_glyph set Lcross (cell_at (p.src g l) (column_cell s i))
+      && is_glyph set Rarrow (cell_at (p.src g l) (column_cell s (length (members s.sheet))))
+      else
+      holds_at_places g s l n a.end_column (a.end_column + 1) (is_glyph set Mbot)
+      && is_traced_at g s l a.end_column (rows_to g l n))
 
   -- its head leads into column i
   unfoldable pub is_start_traced : ℕ → Section → ℕ → LabelInfo → Bool
@@ -247,23 +245,23 @@ module _ (canvas : List (List Cell)) (sections : List Section) (p : Placing) whe
       let set = set_of s in
       is_glyph set Ltop (cell_at n (column_cell s i))
       && (if is_margin_at s l i then is_glyph set Rarrow (cell_at n (column_cell s (length (members s.sheet))))
-          else
-            is_level_right_of s i n
-            && holds_at_places g s l n 0 a.start_column (is_level set)
-            && holds_at_places g s l n a.start_column (a.start_column + 1) (is_glyph set Rbot)
-            && is_traced_at g s l a.start_column (rows_to g l n))
+      else
+      is_level_right_of s i n
+      && holds_at_places g s l n 0 a.start_column (is_level set)
+      && holds_at_places g s l n a.start_column (a.start_column + 1) (is_glyph set Rbot)
+      && is_traced_at g s l a.start_column (rows_to g l n))
 
   -- beside a line whose margin label it is, its stroke reaches the arrow head, under bars of others
   unfoldable pub is_pointed : ℕ → Section → ℕ → ℕ → Bool
   is_pointed g s i l =
       not (is_margin_at s l i)
       || list_all (λ j. let c = cell_at (p.src g l) (column_cell s j) in is_glyph (set_of s) Hbar c || is_glyph (set_of s) Vbar c)
-          (between (i + 1) (length (members s.sheet)))
+      (between (i + 1) (length (members s.sheet)))
 
   unfoldable pub has_ends_of_gutter_traces : Bool
   has_ends_of_gutter_traces =
       list_all (λ e. list_all (λ m. is_end_traced e.0 e.1 m.0 m.1 && is_start_traced e.0 e.1 m.0 m.1
-          && list_all (is_pointed e.0 e.1 m.0) (shown_lines e.1)) (enumerate_from 0 (members e.1.sheet))) (enumerate_from 0 sections)
+      && list_all (is_pointed e.0 e.1 m.0) (shown_lines e.1)) (enumerate_from 0 (members e.1.sheet))) (enumerate_from 0 sections)
 
   -- ---- gutter bars
 
@@ -293,19 +291,19 @@ module _ (canvas : List (List Cell)) (sections : List Section) (p : Placing) whe
       let b = p.msg m.1.number in
       list_all (is_bar g s m.0 a b) (between a (b + 1))
       && list_all (λ n. (nat_le a n && nat_le n b)
-          || is_blank (cell_at n (column_cell s m.0)) || is_glyph (set_of s) Hbar (cell_at n (column_cell s m.0))) (gutter_rows g s)
+      || is_blank (cell_at n (column_cell s m.0)) || is_glyph (set_of s) Hbar (cell_at n (column_cell s m.0))) (gutter_rows g s)
 
   -- the column of arrow heads
   unfoldable pub is_last_column_free : ℕ → Section → Bool
   is_last_column_free g s =
       (length (members s.sheet) == 0)
       || list_all (λ n. let c = cell_at n (column_cell s (length (members s.sheet))) in
-          is_blank c || is_glyph (set_of s) Hbar c || is_glyph (set_of s) Rarrow c) (gutter_rows g s)
+      is_blank c || is_glyph (set_of s) Hbar c || is_glyph (set_of s) Rarrow c) (gutter_rows g s)
 
   unfoldable pub has_gutter_bars : Bool
   has_gutter_bars =
       list_all (λ e. list_all (is_column_traced e.0 e.1) (enumerate_from 0 (members e.1.sheet)) && is_last_column_free e.0 e.1)
-        (enumerate_from 0 sections)
+      (enumerate_from 0 sections)
 
   -- ---- alignment: the text of a source row and of the rows below begins at one column; from there the
   -- characters and the places take the columns of the line
@@ -318,7 +316,7 @@ module _ (canvas : List (List Cell)) (sections : List Section) (p : Placing) whe
       let cells = column_of s.sheet.style (layout_of s.sheet l) (p.places g l) in
       pointwise nat_eq (map (λ c. c.columns) (text_cells s (p.src g l))) (shown_widths s l)
       && list_all (λ n. (columns_before s n == columns_before s (p.src g l))
-          && list_all (λ c. c.columns == 1) (take cells (text_cells s n)) && nat_le cells (length (text_cells s n))) (block_rows g l)
+      && list_all (λ c. c.columns == 1) (take cells (text_cells s n)) && nat_le cells (length (text_cells s n))) (block_rows g l)
 
   unfoldable pub is_aligned : Bool
   is_aligned = list_all (λ e. list_all (is_line_aligned e.0 e.1) (shown_lines e.1)) (enumerate_from 0 sections)

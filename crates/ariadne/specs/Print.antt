@@ -1,6 +1,6 @@
 -- What is sent: the bytes of a canvas, row by row, each cell in its colour. And what is left of a canvas,
 -- or of its bytes, where the colours are taken away.
-use Rattle.std.specs.Prelude.{ℕ, zero, suc, ◌+◌, ◌-◌, Bool, ◌&&◌, ◌||◌, ◌==◌, nat_le, if◌then◌else◌, List, [], ◌∷◌, ◌++◌, map, drop, slice_index, None}
+use Rattle.std.specs.Prelude.{ℕ, zero, suc, ◌+◌, ◌-◌, Bool, ◌&&◌, ◌||◌, ◌==◌, nat_le, if◌then◌else◌, List, [], ◌∷◌, ◌++◌, map, slice_index, None}
 use Rattle.std.specs.List.{prefix_len}
 use Rattle.ariadne_base.specs.Colors.{painted}
 use Rattle.ariadne.specs.Lists.{joined}

@@ -77,7 +77,7 @@ is_margin margin x = not (is_inline x.side) && is_of_member margin x.member
 unfoldable pub inline_labels : Sheet → ℕ → List LineLabel
 inline_labels s l =
     map (λ a. record { info = a; side = Inline; member = 0; column = a.attach })
-      (filter (λ a. is_on_one_line a && (a.start_line == l)) s.labels)
+    (filter (λ a. is_on_one_line a && (a.start_line == l)) s.labels)
 
 -- by order, then by column, then the greater start first
 unfoldable pub is_before : LineLabel → LineLabel → Bool

@@ -1,7 +1,7 @@
 -- The rows of a group, each by a name, from top to bottom. A line with labels has a source row and,
 -- for each line label with a message, an alternate row (underlines and verticals) and an arrow row
 -- (the arrow to the message). A run of lines without labels has one row in its place, or none.
-use Rattle.std.specs.Prelude.{ℕ, ◌+◌, ◌-◌, ◌*◌, Bool, true, not, ◌&&◌, ◌||◌, ◌==◌, nat_le, nat_lt, if◌then◌else◌, List, [], ◌∷◌, ◌++◌, map, length}
+use Rattle.std.specs.Prelude.{ℕ, ◌+◌, ◌-◌, ◌*◌, Bool, not, ◌&&◌, ◌||◌, ◌==◌, nat_le, nat_lt, if◌then◌else◌, List, [], ◌∷◌, ◌++◌, map, length}
 use Rattle.std.specs.List.{list_any, enumerate_from}
 use Rattle.std.specs.Str.Lines.{lines}
 use Rattle.ariadne_base.specs.Places.{line_offset, upto}
@@ -92,9 +92,9 @@ is_inside s l =
 unfoldable pub line_rows : Sheet → ℕ → List Row
 line_rows s l =
     if is_hidden s l then
-      (if nat_lt (first_line s.labels) l && is_hidden s (l - 1) then []
-      else if is_inside s l then gap l ∷ []
-      else if s.style.compact then [] else bare l ∷ [])
+    (if nat_lt (first_line s.labels) l && is_hidden s (l - 1) then []
+    else if is_inside s l then gap l ∷ []
+    else if s.style.compact then [] else bare l ∷ [])
     else source l ∷ joined (label_rows s.style.compact l) (enumerate_from 0 (line_labels s l))
 
 unfoldable pub aside_rows : Bool → Aside → ℕ × List ℕ → List Row

@@ -1,7 +1,7 @@
 -- The strokes of a group. In the text area a stroke covers places of one row or rows of one place; in
 -- the gutter a stroke covers rows of one column or columns of one row. Which of those that meet in a
 -- cell is seen is told elsewhere.
-use Rattle.std.specs.Prelude.{ℕ, ◌+◌, ◌-◌, Bool, true, false, not, ◌&&◌, ◌||◌, ◌==◌, nat_le, nat_lt, int_lt, if◌then◌else◌, drop, find, Option, Some, None, filter, List, slice_get}
+use Rattle.std.specs.Prelude.{ℕ, ◌+◌, Bool, true, false, not, ◌&&◌, ◌||◌, ◌==◌, nat_le, nat_lt, int_lt, if◌then◌else◌, drop, find, Option, Some, None, filter, List, slice_get}
 use Rattle.std.specs.List.{position_or_len}
 use Rattle.ariadne.specs.declared.write.label_info.LabelInfo.{LabelInfo}
 use Rattle.ariadne.specs.declared.write.label_info.LineLabel.{LineLabel}

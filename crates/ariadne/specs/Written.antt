@@ -1,6 +1,6 @@
 -- What `write` ensures, by its answer: which labels it left out and why, and what of the picture of the
 -- others has reached the writer.
-use Rattle.std.specs.Prelude.{ℕ, ◌+◌, ◌<◌, ◌≡◌, ◌++◌, ◌&&◌, ◌==◌, Bool, true, List, [], ◌∷◌, map, length, take, Option, Some, None, is_some, nat_le, chars, if◌then◌else◌, Result, Ok, Err, Vec, slice_get}
+use Rattle.std.specs.Prelude.{ℕ, ◌+◌, ◌<◌, ◌≡◌, ◌&&◌, ◌==◌, Bool, true, List, [], ◌∷◌, map, length, take, Option, Some, None, is_some, nat_le, chars, if◌then◌else◌, Result, Ok, Err, Vec, slice_get}
 use Rattle.std.specs.List.{list_all}
 use Rattle.std.specs.Option.{option_map_or}
 use Rattle.std.specs.Io.KnownBytes.{Appends, Keeps}
@@ -11,7 +11,7 @@ use Rattle.ariadne_base.specs.Listing.{Listing, listed_lines}
 use Rattle.ariadne.specs.declared.write.accept.Verdict.{Verdict}
 use Rattle.ariadne.specs.declared.write.accept.Verdict.TheVariants.{Accepted as taken, PastSource as past, CutsCharacter as cuts}
 use Rattle.ariadne.specs.declared.write.accept.Reason.{Reason}
-use Rattle.ariadne.specs.declared.write.accept.Reason.TheVariants.{Unfetched, PastSource, CutsCharacter}
+use Rattle.ariadne.specs.declared.write.accept.Reason.TheVariants.{PastSource, CutsCharacter}
 use Rattle.ariadne.specs.declared.write.accept.LeftOut.{LeftOut}
 use Rattle.ariadne.specs.declared.write.label_info.LabelInfo.{LabelInfo}
 use Rattle.ariadne.specs.declared.write.send.WriteError.{WriteError}

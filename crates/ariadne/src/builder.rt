@@ -33,14 +33,14 @@ impl<'a, S: Span> Model for ReportBuilder<'a, S> {
 
     // Codes, notes and helps have no calls yet.
     ghost view = { λ a. record {
-        kind = kind_of a.kind;
-        code = None;
-        message = option_map string_bytes a.message;
-        span = a.span;
-        labels = a.labels.items;
-        notes = [];
-        helps = [];
-        config = a.config;
+      kind = kind_of a.kind;
+      code = None;
+      message = option_map string_bytes a.message;
+      span = a.span;
+      labels = a.labels.items;
+      notes = [];
+      helps = [];
+      config = a.config;
     } };
 }
 

@@ -60,30 +60,30 @@ impl Model for Config {
     ghost Value = { ConfigFields };
 
     ghost view = { λ a. record {
-        cross_gap = a.cross_gap;
-        label_attach = a.label_attach;
-        compact = a.compact;
-        underlines = a.underlines;
-        multiline_arrows = a.multiline_arrows;
-        color = a.color;
-        tab_width = a.tab_width;
-        char_set = a.char_set;
-        index_type = a.index_type;
+      cross_gap = a.cross_gap;
+      label_attach = a.label_attach;
+      compact = a.compact;
+      underlines = a.underlines;
+      multiline_arrows = a.multiline_arrows;
+      color = a.color;
+      tab_width = a.tab_width;
+      char_set = a.char_set;
+      index_type = a.index_type;
     } };
 
     // No call sets another index type yet.
     ghost invariant = { λ a. (1 ≤ a.tab_width) × (a.index_type ≡ Char) };
 
     ghost inverse = { λ c. record {
-        cross_gap = c.cross_gap;
-        label_attach = c.label_attach;
-        compact = c.compact;
-        underlines = c.underlines;
-        multiline_arrows = c.multiline_arrows;
-        color = c.color;
-        tab_width = c.tab_width;
-        char_set = c.char_set;
-        index_type = c.index_type;
+      cross_gap = c.cross_gap;
+      label_attach = c.label_attach;
+      compact = c.compact;
+      underlines = c.underlines;
+      multiline_arrows = c.multiline_arrows;
+      color = c.color;
+      tab_width = c.tab_width;
+      char_set = c.char_set;
+      index_type = c.index_type;
     } };
 }
 

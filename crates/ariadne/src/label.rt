@@ -28,11 +28,11 @@ impl<S: Span> Model for Label<S> {
     ghost Value = { LabelFields S };
 
     ghost view = { λ a. record {
-        span = a.span;
-        message = option_map string_bytes a.message;
-        color = a.color;
-        order = a.order;
-        priority = a.priority;
+      span = a.span;
+      message = option_map string_bytes a.message;
+      color = a.color;
+      order = a.order;
+      priority = a.priority;
     } };
 
     ghost invariant = { λ a. S.start_of a.span ≤ S.end_of a.span };

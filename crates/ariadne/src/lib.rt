@@ -6,6 +6,8 @@ pub mod config;
 pub mod kind;
 pub mod label;
 pub mod laws;
+#[cfg(test)]
+mod refusing;
 pub mod report;
 pub mod write;
 

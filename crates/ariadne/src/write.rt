@@ -18,13 +18,12 @@ pub(crate) mod pen;
 pub(crate) mod send;
 pub(crate) mod shown;
 
-pub use accept::{LeftOut, Reason};
-pub use send::WriteError;
-
 use crate::report::Report;
 use accept::accept;
+pub use accept::{LeftOut, Reason};
 use ariadne_base::{Source, Span};
 use drawing::draw;
+pub use send::WriteError;
 use send::send;
 use std::io;
 use std::io::Write;
@@ -82,3 +81,14 @@ impl Report<'_> {
         self.write(cache, &mut io::writer(rt))
     }
 }
+
+#[cfg(test)]
+mod tests;
+#[cfg(test)]
+mod tests_colors;
+#[cfg(test)]
+mod tests_pictures;
+#[cfg(test)]
+mod tests_refused;
+#[cfg(test)]
+mod tests_writers;

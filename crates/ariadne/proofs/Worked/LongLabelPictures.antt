@@ -1,6 +1,6 @@
 -- Pictures of labels over several lines, with their bars in the gutter.
 use Rattle.std.specs.Prelude.{◌≡◌, refl, ◌∷◌, [], false}
-use Rattle.ariadne.proofs.Sample.{drawn, picture, rows, one, named, span_in, span, silent_label, label_in, label, ascii_config, compact_config, report, titled, configured}
+use Rattle.ariadne.proofs.Sample.{drawn, picture, rows, one, named, span_in, silent_label, label_in, label, ascii_config, compact_config, report, titled, configured}
 
 -- the line between its ends is left out
 label_over_three_lines :

@@ -40,10 +40,7 @@ pub(crate) struct Judged<E> {
 }
 
 /// Judges all labels of a report over one source, in their order.
-pub(crate) fn accept(
-    report: &Report<'_>,
-    source: &Source<String>,
-) -> Result<Judged<()>, AllocError>
+pub(crate) fn accept(report: &Report<'_>, source: &Source<String>) -> Result<Judged<()>, AllocError>
     ensures drawn { IfOk result (λ judged. judged.infos.items ≡ drawn source.now report.now) }
     ensures left_out { IfOk result (λ judged. judged.left_out.items ≡ listed 0 (reasons source.now report.now)) }
 {

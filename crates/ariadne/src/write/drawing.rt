@@ -65,10 +65,23 @@ pub(crate) fn draw(
     let _chars = report.config.style();
     let palette = report.palette()?;
     let mut out = String::new(report.alloc);
-    push_header(&mut out, &palette, None, report.kind.name(), report.message())?;
+    push_header(
+        &mut out,
+        &palette,
+        None,
+        report.kind.name(),
+        report.message(),
+    )?;
     out.push('\n')?;
     if !infos.is_empty() {
-        push_group(&mut out, report, &palette, source, infos, infos[0].start_line)?;
+        push_group(
+            &mut out,
+            report,
+            &palette,
+            source,
+            infos,
+            infos[0].start_line,
+        )?;
     }
     Ok(out)
 }
@@ -87,9 +100,9 @@ fn push_group(
     requires some { 0 < length infos.now }
     requires line { line ≡ drawable_line source.now report.now }
     ensures { let rows = group_bytes palette.now (title report.now)
-            (only_section (only_source source.now) report.now infos.now)
-            (only_number_width (only_source source.now) report.now line infos.now) line
-            (only_layout (only_source source.now) report.now line infos.now) in
+        (only_section (only_source source.now) report.now infos.now)
+        (only_number_width (only_source source.now) report.now line infos.now) line
+        (only_layout (only_source source.now) report.now line infos.now) in
         OnOk result (string_bytes out.new ≡ string_bytes out.old ++ rows) }
 {
     let style = report.config.style();
@@ -97,7 +110,15 @@ fn push_group(
     let layout = layout_of(report, source, &group, line)?;
     let number = line_number_of(source, line);
     let place = header_place(report, source);
-    push_head(out, palette, style.char_set, number.width, true, "<unknown>", place)?;
+    push_head(
+        out,
+        palette,
+        style.char_set,
+        number.width,
+        true,
+        "<unknown>",
+        place,
+    )?;
     out.push('\n')?;
     if !style.compact {
         push_space(out, palette, style.char_set, number.width)?;

@@ -8,10 +8,10 @@ ghost use Rattle.ariadne.specs.Pieces.{painted_text, plain_text, repeated, space
 ghost use Rattle.ariadne.specs.Print.{pieces_bytes};
 
 use super::cell::{Glyph, Paint};
-use ariadne_base::color::{push_closing, push_opening};
 use super::palette::Palette;
 use super::pen::{push_spaces, push_stroke};
 use crate::config::CharSet;
+use ariadne_base::color::{push_closing, push_opening};
 use std::alloc::AllocError;
 
 /// The paint of the strokes round the lines of a group.

@@ -8,10 +8,10 @@ ghost use Rattle.ariadne.specs.Print.{pieces_bytes};
 ghost use Rattle.ariadne.specs.Rows.{source};
 
 use super::cell::{Glyph, Paint};
-use ariadne_base::color::{push_closing, push_opening};
 use super::palette::Palette;
 use super::pen::push_spaces;
 use crate::config::Style;
+use ariadne_base::color::{push_closing, push_opening};
 use std::alloc::AllocError;
 
 /// Appends the margin of the source row of a line, with the line's number. `line` counts from 0;

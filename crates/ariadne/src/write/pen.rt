@@ -7,9 +7,9 @@ ghost use Rattle.ariadne.specs.Pieces.{glyph_text, ink_pieces, spaces};
 ghost use Rattle.ariadne.specs.Print.{pieces_bytes};
 
 use super::cell::{Glyph, Ink, Paint};
-use ariadne_base::color::{push_painted, push_painted_char};
 use super::palette::Palette;
 use crate::config::CharSet;
+use ariadne_base::color::{push_painted, push_painted_char};
 use std::alloc::AllocError;
 
 /// Appends `count` plain blanks.

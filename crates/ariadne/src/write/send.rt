@@ -5,9 +5,8 @@ ghost use Rattle.ariadne.specs.Sent.{Sends, shown_error};
 
 use std::alloc::AllocError;
 use std::error::Error;
-use std::fmt;
-use std::io;
 use std::io::{ErrorKind, Write};
+use std::{fmt, io};
 
 /// Why a report was not written whole.
 #[derive(Debug, Drop)]

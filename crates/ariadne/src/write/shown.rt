@@ -9,9 +9,9 @@ ghost use Rattle.ariadne.specs.Print.{pieces_bytes};
 use super::cell::Paint;
 use super::label_info::LabelInfo;
 use super::layout::{LineLayout, shown_columns};
-use ariadne_base::color::push_painted_char;
 use super::palette::Palette;
 use crate::config::Style;
+use ariadne_base::color::push_painted_char;
 use std::alloc::AllocError;
 
 /// The most bytes that a blank takes, with the escapes of its colour.

@@ -21,10 +21,19 @@ fn info(number: usize, attach: usize) -> LabelInfo {
 
 #[test]
 fn a_line_shows_all_but_the_white_space_at_its_end(rt: HostRuntime) -> Result<(), Fail> {
-    let cases = [("", 0, 0), ("\n", 1, 0), ("a b \t\r\n", 7, 3), ("a\u{3000}漢", 3, 3)];
+    let cases = [
+        ("", 0, 0),
+        ("\n", 1, 0),
+        ("a b \t\r\n", 7, 3),
+        ("a\u{3000}漢", 3, 3),
+    ];
     for (text, len, shown_len) in cases {
         let layout = LineLayout::of_line(rt.alloc(), &[], 10, text)?;
-        assert_eq!(rt; (layout.text.len(), layout.shown_len), (len, shown_len), "of {text:?}");
+        assert_eq!(rt;
+            (layout.text.len(), layout.shown_len),
+            (len, shown_len),
+            "of {text:?}"
+        );
     }
     Ok(())
 }
@@ -33,8 +42,11 @@ fn a_line_shows_all_but_the_white_space_at_its_end(rt: HostRuntime) -> Result<()
 fn labels_within_a_line_stand_by_the_column_of_their_arrows(rt: HostRuntime) -> Result<(), Fail> {
     let infos = [info(0, 4), info(1, 2), info(2, 3)];
     let layout = LineLayout::of_line(rt.alloc(), &infos, 10, "  three\n")?;
-    let columns: Vec<usize> =
-        layout.labels.iter().map(|label| label.column).collect(rt.alloc())?;
+    let columns: Vec<usize> = layout
+        .labels
+        .iter()
+        .map(|label| label.column)
+        .collect(rt.alloc())?;
     assert_eq!(rt; columns.as_slice(), [2, 3, 4].as_slice());
     assert_eq!(rt; (layout.offset, layout.margin), (10, None));
     Ok(())

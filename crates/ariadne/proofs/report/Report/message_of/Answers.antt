@@ -1,5 +1,5 @@
 -- The number is that of a label, or past the last.
-use Rattle.std.proofs.Common.{◌≡◌, ◌≤◌, ◌<◌, length, arith, sym, ap, ◌∙◌}
+use Rattle.std.proofs.Common.{arith, sym, ap}
 use Rattle.ariadne.specs.Report.{ReportFields}
 use Rattle.ariadne.proofs.Messages.{message_there, message_past}
 use Rattle.ariadne.proofs.report.Report.message_of.Goals as goal

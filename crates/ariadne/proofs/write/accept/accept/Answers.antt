@@ -1,5 +1,5 @@
 -- Each label is judged once: it joins those that are drawn, or those that are left out.
-use Rattle.std.proofs.Common.{◌≡◌, refl, sym, ◌∙◌, ap, ◌++◌, append-nil}
+use Rattle.std.proofs.Common.{◌≡◌, refl, sym, ◌∙◌, ap}
 use Rattle.std.proofs.Common.{ℕ, ◌<◌, length, get_or}
 use Rattle.std.specs.declared.ops.Range.{Range}
 use Rattle.ariadne.specs.Report.{ReportFields}
@@ -27,17 +27,17 @@ loop-number-preserved c =
     let inv = c.loop-number.invariant in
     elim c.match-judge.branch [
       | in-Accepted+in_ok-push-in-Accepted w ↦ rw (w.infos-is, w.left_out-is, w.in_ok-push-in-Accepted.ensures.items) (record {
-          drawn = drawn_taken source config n labels _ _ _ _ here item (sym w.in-Accepted.is ∙ judged) inv.drawn;
-          left_out = listed_taken source config n labels _ _ _ _ here item (sym w.in-Accepted.is ∙ judged) inv.left_out;
-        })
+        drawn = drawn_taken source config n labels _ _ _ _ here item (sym w.in-Accepted.is ∙ judged) inv.drawn;
+        left_out = listed_taken source config n labels _ _ _ _ here item (sym w.in-Accepted.is ∙ judged) inv.left_out;
+      })
       | in-PastSource+in_ok-push-in-PastSource w ↦ rw (w.infos-is, w.left_out-is, w.in_ok-push-in-PastSource.ensures.items) (record {
-          drawn = drawn_left source config n labels _ _ _ _ here item refl (sym w.in-PastSource.is ∙ judged) inv.drawn;
-          left_out = listed_left source config n labels _ _ _ _ _ here item refl (sym w.in-PastSource.is ∙ judged) inv.left_out;
-        })
+        drawn = drawn_left source config n labels _ _ _ _ here item refl (sym w.in-PastSource.is ∙ judged) inv.drawn;
+        left_out = listed_left source config n labels _ _ _ _ _ here item refl (sym w.in-PastSource.is ∙ judged) inv.left_out;
+      })
       | in-CutsCharacter+in_ok-push-in-CutsCharacter w ↦ rw (w.infos-is, w.left_out-is, w.in_ok-push-in-CutsCharacter.ensures.items) (record {
-          drawn = drawn_left source config n labels _ _ _ _ here item refl (sym w.in-CutsCharacter.is ∙ judged) inv.drawn;
-          left_out = listed_left source config n labels _ _ _ _ _ here item refl (sym w.in-CutsCharacter.is ∙ judged) inv.left_out;
-        })
+        drawn = drawn_left source config n labels _ _ _ _ here item refl (sym w.in-CutsCharacter.is ∙ judged) inv.drawn;
+        left_out = listed_left source config n labels _ _ _ _ _ here item refl (sym w.in-CutsCharacter.is ∙ judged) inv.left_out;
+      })
     ]
 
 pub returns-clause-drawn : goal.returns-clause-drawn

@@ -1,5 +1,5 @@
 -- The tests of the two ends are those of the verdict.
-use Rattle.std.proofs.Common.{◌≡◌, ◌≤◌, ◌<◌, ◌+◌, inl, inr, arith, ◌∙◌, ap, min}
+use Rattle.std.proofs.Common.{◌≡◌, inl, inr, arith, ◌∙◌, ap, min}
 use Rattle.std.specs.Prelude.{length, chars}
 use Rattle.ariadne.proofs.Accepting.{verdict_past, verdict_within, past_test, within_test, info_along}
 use Rattle.ariadne.proofs.write.accept.judge.Goals as goal
@@ -20,4 +20,4 @@ returns g c =
     let end : c.end-end.result ≡ g.S.Span.end_of c.args.label.now.span = c.end-end.ensures ∙ ap g.S.Span.end_of c.span-2.ensures.span in
     let last : c.min.result ≡ min (g.S.Span.end_of c.args.label.now.span) (length (chars c.args.source.now.text)) = omega (arith, c.min.ensures) in
     verdict_within _ _ _ _ _ _ _ c.label_attach-attach.ensures.in_characters (within_test (length (chars c.args.source.now.text)) (g.S.Span.start_of c.args.label.now.span) (g.S.Span.end_of c.args.label.now.span) (omega arith) (omega arith))
-      (info_along _ _ _ _ _ _ _ _ _ _ c.label_attach-attach.ensures.attach start last c.label_info.ensures)
+    (info_along _ _ _ _ _ _ _ _ _ _ c.label_attach-attach.ensures.attach start last c.label_info.ensures)

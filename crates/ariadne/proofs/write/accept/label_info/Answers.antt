@@ -1,5 +1,5 @@
 -- The parts of a label are those of its definition: both ends have their places, and order and priority fit their type.
-use Rattle.std.proofs.Common.{◌≡◌, ◌∙◌, ap, w32, ℤ, of_z, to_z, rules, ◌-◌}
+use Rattle.std.proofs.Common.{◌≡◌, ◌∙◌, w32, of_z, to_z, rules, ◌-◌}
 use Rattle.std.proofs.Math.Facts.{to_z-of_z}
 use Rattle.std.proofs.Common.{arith}
 use Rattle.ariadne_base.specs.Ranges.{last_offset}

@@ -1,5 +1,5 @@
 -- The picture is the header, and the group of the labels, if there are any.
-use Rattle.std.proofs.Common.{◌≡◌, ◌<◌, ◌++◌, length, ap, sym, ◌∙◌, refl}
+use Rattle.std.proofs.Common.{◌≡◌, ◌<◌, ◌++◌, length, ap, sym, ◌∙◌}
 use Rattle.std.specs.declared.ops.Range.{Range}
 use Rattle.std.specs.Prelude.{ℕ, List, [], None, option_copied, string_bytes}
 use Rattle.ariadne.specs.Canvas.{Palette, palette_of, kind_name, header_pieces, title}
@@ -7,7 +7,7 @@ use Rattle.ariadne.specs.Print.{pieces_bytes}
 use Rattle.ariadne.specs.declared.config.IndexType.TheVariants.{Char}
 use Rattle.ariadne.specs.Report.{ReportFields}
 use Rattle.ariadne.specs.OneLine.{AreOnLine, sent_row}
-use Rattle.ariadne.specs.Written.{only_source, drawable_line, picture}
+use Rattle.ariadne.specs.Written.{only_source, drawable_line}
 use Rattle.ariadne.proofs.Drawable.{drawn-on_line}
 use Rattle.ariadne.proofs.DrawingRows.{row_sent}
 use Rattle.ariadne.proofs.DrawingWhole.{first_on_line, header_is, some_items, no_items, no_label, picture_some, picture_none}

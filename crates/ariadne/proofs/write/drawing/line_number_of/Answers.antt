@@ -1,5 +1,5 @@
 -- The number has the form of its definition, and fits where the source's numbers do.
-use Rattle.std.proofs.Common.{◌≡◌, ◌+◌, ◌<◌, length, decimal, ap, ◌∙◌, arith}
+use Rattle.std.proofs.Common.{◌+◌, length, decimal, ap, ◌∙◌, arith}
 use Rattle.ariadne.specs.Groups.{line_number}
 use Rattle.ariadne.proofs.write.drawing.line_number_of.Goals as goal
 

@@ -12,10 +12,10 @@ use Rattle.ariadne.specs.Groups.{ordered, line_number}
 use Rattle.ariadne.specs.Heads.{head_line, place_numbers}
 use Rattle.ariadne.specs.Pieces.{space_pieces, tail_pieces}
 use Rattle.ariadne.specs.Print.{pieces_bytes}
-use Rattle.ariadne.specs.Columns.{Layout, arrow_len}
-use Rattle.ariadne.specs.Report.{ConfigFields, ReportFields, style_of}
+use Rattle.ariadne.specs.Columns.{Layout}
+use Rattle.ariadne.specs.Report.{ReportFields, style_of}
 use Rattle.ariadne.specs.OneLine.{AreOnLine, inline_layout, line_bytes}
-use Rattle.ariadne.specs.Written.{only_source, drawable_line, drawn}
+use Rattle.ariadne.specs.Written.{only_source, drawn}
 use Rattle.ariadne.proofs.InOrder.{all-in_order}
 use Rattle.ariadne.proofs.Drawable.{drawn-on_line, drawn-ends, drawn-line}
 use Rattle.ariadne.proofs.OneSource.{group_styled}
@@ -47,7 +47,7 @@ push_line-requires-clause-fits c =
     let text : List ℕ = line_text lines c.args.line in
     let ends : AllByRecursion (λ (a : LabelInfo). a.end ≤ offset + length text) c.args.infos.now = rw (c.requires.infos, c.requires.line) (drawn-ends s r chars c.requires.drawable) in
     let y : c.in_ok-layout.layout ≡ inline_layout (ordered c.args.infos.now) offset text =
-        c.in_ok-layout.ensures.layout ∙ ap (λ g. inline_layout g offset text) (c.deref.ensures.value ∙ c.in_ok-group.ensures) in
+    c.in_ok-layout.ensures.layout ∙ ap (λ g. inline_layout g offset text) (c.deref.ensures.value ∙ c.in_ok-group.ensures) in
     let short : length text < 2 ^ 63 = subst (λ (z : Layout). length z.text < 2 ^ 63) y c.in_ok-layout.ensures.short in
     rw y (arrow_len-fits c.style-style.result (ordered c.args.infos.now) offset text (all-in_order (λ a b. int_lt a.order b.order) (λ (a : LabelInfo). a.end ≤ offset + length text) c.args.infos.now ends) short)
 
@@ -76,20 +76,20 @@ returns c =
     let below : List ℕ = pieces_bytes p (tail_pieces set w true) in
     let rows : List ℕ = line_bytes p (title r) w s.display_offset c.args.line y in
     let n1 : string_bytes c.push.new.self ≡ old ++ (head ++ 10 ∷ []) =
-        row_sent old (string_bytes c.push_head.new.out) (string_bytes c.push.new.self) head (rw wide at c.in_ok-push_head.ensures) c.in_ok-push.ensures.bytes in
+    row_sent old (string_bytes c.push_head.new.out) (string_bytes c.push.new.self) head (rw wide at c.in_ok-push_head.ensures) c.in_ok-push.ensures.bytes in
     let n2 : string_bytes c.if-not-style.out ≡ string_bytes c.push.new.self ++ (if compact then [] else above ++ 10 ∷ []) =
-        elim c.if-not-style.branch [
-          | then-not-style+in_ok-push_space+in_ok-push-2 v ↦ rw v.out-is (row_optional compact (string_bytes c.push.new.self) (string_bytes v.push_space.new.out) (string_bytes v.push-then-not-style.new.self) above
-              v.if-not-style.true (rw wide at v.in_ok-push_space.ensures) v.in_ok-push-2.ensures.bytes)
-          | else-not-style v ↦ rw v.out-is (row_left_out compact (string_bytes c.push.new.self) (string_bytes c.push.new.self) above v.if-not-style.false refl)
-        ] in
+    elim c.if-not-style.branch [
+      | then-not-style+in_ok-push_space+in_ok-push-2 v ↦ rw v.out-is (row_optional compact (string_bytes c.push.new.self) (string_bytes v.push_space.new.out) (string_bytes v.push-then-not-style.new.self) above
+          v.if-not-style.true (rw wide at v.in_ok-push_space.ensures) v.in_ok-push-2.ensures.bytes)
+      | else-not-style v ↦ rw v.out-is (row_left_out compact (string_bytes c.push.new.self) (string_bytes c.push.new.self) above v.if-not-style.false refl)
+    ] in
     let n3 : string_bytes c.push_line.new.out ≡ string_bytes c.if-not-style.out ++ rows =
-        rw (wide, c.line_number_of-number.ensures.shift, c.line_number_of-number.ensures.line, laid) at c.in_ok-push_line.ensures in
+    rw (wide, c.line_number_of-number.ensures.shift, c.line_number_of-number.ensures.line, laid) at c.in_ok-push_line.ensures in
     let n4 : string_bytes c.if-not-style-2.out ≡ string_bytes c.push_line.new.out ++ (if compact then [] else below ++ 10 ∷ []) =
-        elim c.if-not-style-2.branch [
-          | then-not-style-2+in_ok-push_tail+in_ok-push-3 v ↦ rw v.out-is (row_optional compact (string_bytes c.push_line.new.out) (string_bytes v.push_tail.new.out) (string_bytes v.push-then-not-style-2.new.self) below
-              v.if-not-style-2.true (rw wide at v.in_ok-push_tail.ensures) v.in_ok-push-3.ensures.bytes)
-          | else-not-style-2 v ↦ rw v.out-is (row_left_out compact (string_bytes c.push_line.new.out) (string_bytes c.push_line.new.out) below v.if-not-style-2.false refl)
-        ] in
+    elim c.if-not-style-2.branch [
+      | then-not-style-2+in_ok-push_tail+in_ok-push-3 v ↦ rw v.out-is (row_optional compact (string_bytes c.push_line.new.out) (string_bytes v.push_tail.new.out) (string_bytes v.push-then-not-style-2.new.self) below
+          v.if-not-style-2.true (rw wide at v.in_ok-push_tail.ensures) v.in_ok-push-3.ensures.bytes)
+      | else-not-style-2 v ↦ rw v.out-is (row_left_out compact (string_bytes c.push_line.new.out) (string_bytes c.push_line.new.out) below v.if-not-style-2.false refl)
+    ] in
     let group = group_styled s r p c.args.line c.args.infos.now (place_numbers c.header_place-place.result) c.style-style.result same c.requires.some on chars c.header_place-place.ensures in
     four_parts old (head ++ 10 ∷ []) (if compact then [] else above ++ 10 ∷ []) rows (if compact then [] else below ++ 10 ∷ []) _ _ _ _ n1 n2 n3 n4 ∙ ap (λ b. old ++ b) (sym group)

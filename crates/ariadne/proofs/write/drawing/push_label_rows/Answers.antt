@@ -22,9 +22,9 @@ returns g c =
     slice_get_read y.labels (length y.labels) k _ refl c.requires.row (c.index.ensures ∙ ap (λ (t : Layout). get_or t.labels k c.index.result.now) c.layout.view_is) in
     let above : string_bytes c.if-not-style.out ≡ old ++ (if t.style.compact then [] else sent_row p (alternate_row t n.width n.shift n.line y k)) =
     elim c.if-not-style.branch [
-      then-not-style+in_ok-push_margin+in_ok-push_alternate_area+in_ok-push w ↦
-        ap string_bytes w.out-is ∙ alternate_written p t n.width n.shift n.line y s same k old _ _ _ w.if-not-style.true w.in_ok-push_margin.ensures w.in_ok-push_alternate_area.ensures w.in_ok-push.ensures.bytes
-    | else-not-style w ↦ ap string_bytes w.out-is ∙ compact_written p t n.width n.shift n.line y s same k old w.if-not-style.false
+      | then-not-style+in_ok-push_margin+in_ok-push_alternate_area+in_ok-push w ↦
+          ap string_bytes w.out-is ∙ alternate_written p t n.width n.shift n.line y s same k old _ _ _ w.if-not-style.true w.in_ok-push_margin.ensures w.in_ok-push_alternate_area.ensures w.in_ok-push.ensures.bytes
+      | else-not-style w ↦ ap string_bytes w.out-is ∙ compact_written p t n.width n.shift n.line y s same k old w.if-not-style.false
     ] in
     let all : string_bytes c.push_message.new.out ++ encode_utf8 10 ≡ old ++ label_bytes p t n.width n.shift n.line y k =
     arrow_written p t n.width n.shift n.line y s same k c.index.result.now old _ _ _ _ own above c.in_ok-push_margin-2.ensures c.in_ok-push_arrow_area.ensures c.in_ok-push_message.ensures in

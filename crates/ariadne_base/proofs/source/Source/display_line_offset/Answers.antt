@@ -1,5 +1,5 @@
 -- The number of lines is that of the rows of the table.
-use Rattle.std.proofs.Common.{◌≡◌, ◌+◌, length, ap, ◌∙◌, arith}
+use Rattle.std.proofs.Common.{◌≡◌, length, ap, ◌∙◌, arith}
 use Rattle.ariadne_base.specs.Listing.{Listing, listed_lines}
 use Rattle.ariadne_base.specs.Table.{line_table}
 use Rattle.ariadne_base.proofs.TableLemmas.{length-line_table}
