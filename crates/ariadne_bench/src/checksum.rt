@@ -1,16 +1,30 @@
 //! The checksum of an answer: FNV-1a with 64 bits.
 
-use ariadne_base::{Source, SourceText};
+use ariadne::{Source, SourceText};
 
 const START: u64 = 0xcbf2_9ce4_8422_2325;
 
 const PRIME: u64 = 0x100_0000_01b3;
 
+/// A checksum with a byte added.
+fn with_byte(checksum: u64, byte: u8) -> u64 {
+    (checksum ^ u64::from(byte)).wrapping_mul(PRIME)
+}
+
 /// A checksum with the bytes of a number added, the low byte first.
 fn with_number(checksum: u64, number: usize) -> u64 {
     let mut sum = checksum;
     for byte in (number as u64).to_le_bytes() {
-        sum = (sum ^ u64::from(byte)).wrapping_mul(PRIME);
+        sum = with_byte(sum, byte);
+    }
+    sum
+}
+
+/// The checksum of the bytes of a picture.
+pub fn of_bytes(bytes: &[u8]) -> u64 {
+    let mut sum = START;
+    for byte in bytes {
+        sum = with_byte(sum, *byte);
     }
     sum
 }

@@ -7,6 +7,8 @@ pub enum Workload {
     Index,
     /// Indexes the lines of a text of characters of one to three bytes.
     IndexBytes,
+    /// Writes a report with two labels in one line.
+    Two,
 }
 
 impl Workload {
@@ -14,6 +16,7 @@ impl Workload {
         match name {
             "index" => Some(Workload::Index),
             "index-bytes" => Some(Workload::IndexBytes),
+            "two" => Some(Workload::Two),
             _ => None,
         }
     }
@@ -23,6 +26,7 @@ impl Workload {
         match self {
             Workload::Index => "index",
             Workload::IndexBytes => "index-bytes",
+            Workload::Two => "two",
         }
     }
 }
