@@ -1,11 +1,17 @@
--- Placings that finished pictures are read by, and pictures that cannot be read, by computation.
-use Rattle.std.specs.Prelude.{ℕ, ◌≡◌, ◌&&◌, ◌==◌, Bool, true, if◌then◌else◌, refl, [], ◌∷◌, List}
+-- Placings that finished pictures are read by, pictures that cannot be read, and reports that draw the
+-- same, by computation.
+use Rattle.std.specs.Prelude.{ℕ, ◌≡◌, ◌&&◌, ◌==◌, Bool, true, false, if◌then◌else◌, refl, codes, [], ◌∷◌, None, List, slice_set, slice_index_or}
+use Rattle.ariadne_base.specs.declared.color.Color.TheVariants.{Blue}
+use Rattle.ariadne.specs.declared.config.IndexType.TheVariants.{Byte}
 use Rattle.ariadne.specs.declared.write.label_info.LabelInfo.{LabelInfo}
-use Rattle.ariadne.specs.Report.{ReportFields}
+use Rattle.ariadne.specs.Report.{ReportFields, custom}
 use Rattle.ariadne.specs.Accept.{drawn_labels}
-use Rattle.ariadne.specs.Canvas.{canvas, sections, title}
+use Rattle.ariadne.specs.Pieces.{Section}
+use Rattle.ariadne.specs.Canvas.{Cell, canvas, sections, title}
+use Rattle.ariadne.specs.Print.{erased, unescaped, printed}
 use Rattle.ariadne.specs.Placing.{Placing, is_placing, has_message_rows, has_inline_traces, has_ends_of_gutter_traces, has_gutter_bars, is_aligned}
-use Rattle.ariadne.proofs.Sample.{Span, Entry, world, reasons, one, label, report, drawn}
+use Rattle.ariadne.specs.Variants.{colorless, char_world, own_start, char_label, char_report}
+use Rattle.ariadne.proofs.Sample.{Span, Entry, world, reasons, ascii_config, one, label, report, drawn}
 
 unfoldable pub infos : List Entry → ReportFields Span → List LabelInfo
 infos entries r = let w = world entries in drawn_labels w r.config 0 r.labels (reasons w r)
@@ -39,3 +45,93 @@ nested_placing = record {
 nested_labels_are_read : is_read (one "aa\nbb\ncc") nested nested_placing ≡ true
 unfolding drawn infos is_read choose nested nested_placing
 nested_labels_are_read = refl
+
+-- ---- two groups over the same lines, with a gap row
+
+unfoldable pub apart : ReportFields Span
+apart = report (label 0 8 "all" ∷ label 1 4 "mid" ∷ [])
+
+unfoldable pub apart_placing : Placing
+apart_placing = record {
+  start = λ g. if g == 0 then 1 else if g == 1 then 9 else 16;
+  src = λ g l. if g == 0 then choose 3 5 l else choose 11 12 l;
+  block = λ g l. if g == 0 then choose 0 2 l else choose 0 2 l;
+  places = λ g l. if g == 0 then 4 else 5;
+  msg = choose 7 14;
+  first = λ g i. choose 3 11 g;
+}
+
+labels_in_two_groups_are_read : is_read (one "aa\nbb\ncc") apart apart_placing ≡ true
+unfolding drawn infos is_read choose apart apart_placing
+labels_in_two_groups_are_read = refl
+
+-- ---- a wide character under a tab
+
+unfoldable pub wide : ReportFields Span
+wide = report (label 1 2 "w" ∷ [])
+
+unfoldable pub wide_placing : Placing
+wide_placing = record {
+  start = λ g. if g == 0 then 1 else 7;
+  src = λ g l. 3;
+  block = λ g l. 2;
+  places = λ g l. 4;
+  msg = λ k. 5;
+  first = λ g i. 0;
+}
+
+a_wide_character_is_read : is_read (one "\t漢x") wide wide_placing ≡ true
+unfolding drawn infos is_read choose wide wide_placing
+a_wide_character_is_read = refl
+
+-- ---- pictures that cannot be read, by one cell that shows something else
+
+unfoldable pub cells_of : List Entry → ReportFields Span → List (List Cell)
+cells_of entries r = canvas (world entries) r (infos entries r)
+
+unfoldable pub parts_of : List Entry → ReportFields Span → List Section
+parts_of entries r = sections (world entries) r (infos entries r)
+
+unfoldable pub with_cell : List (List Cell) → ℕ → ℕ → List ℕ → List (List Cell)
+with_cell rows n c t = slice_set rows n (slice_set (slice_index_or rows n []) c (record { text = t; color = None; columns = 1 }))
+
+-- a bar beside the row above its head
+a_bar_a_row_early : has_gutter_bars (with_cell (cells_of (one "aa\nbb\ncc") nested) 4 5 (codes "|")) (parts_of (one "aa\nbb\ncc") nested) nested_placing ≡ false
+unfolding drawn infos choose nested nested_placing cells_of parts_of with_cell
+a_bar_a_row_early = refl
+
+-- a blank in the horizontal to a message
+a_gap_in_a_horizontal : has_ends_of_gutter_traces (with_cell (cells_of (one "aa\nbb\ncc") nested) 8 9 (codes " ")) (parts_of (one "aa\nbb\ncc") nested) nested_placing ≡ false
+unfolding drawn infos choose nested nested_placing cells_of parts_of with_cell
+a_gap_in_a_horizontal = refl
+
+-- a vertical under the wrong column
+a_vertical_beside_its_character : has_inline_traces (with_cell (with_cell (cells_of (one "\t漢x") wide) 4 7 (codes " ")) 4 9 (codes "|")) (parts_of (one "\t漢x") wide) wide_placing ≡ false
+unfolding drawn infos choose wide wide_placing cells_of parts_of with_cell
+a_vertical_beside_its_character = refl
+
+-- a message of another text
+another_message : has_message_rows (with_cell (cells_of (one "\t漢x") wide) 5 12 (codes "v")) (parts_of (one "\t漢x") wide) wide_placing (title wide).message_of ≡ false
+unfolding drawn infos choose wide wide_placing cells_of parts_of with_cell
+another_message = refl
+
+-- ---- reports that draw the same
+
+unfoldable pub painted_report : ReportFields Span
+painted_report = record nested { kind = custom (codes "Hint") Blue; config = record ascii_config { color = true } }
+
+colors_move_nothing_here : erased (cells_of (one "aa\nbb\ncc") painted_report) ≡ cells_of (one "aa\nbb\ncc") (colorless painted_report)
+unfolding drawn infos nested cells_of painted_report
+colors_move_nothing_here = refl
+
+escapes_are_all_that_is_taken_away : unescaped (printed (cells_of (one "aa\nbb\ncc") painted_report)) ≡ printed (erased (cells_of (one "aa\nbb\ncc") painted_report))
+unfolding drawn infos nested cells_of painted_report
+escapes_are_all_that_is_taken_away = refl
+
+unfoldable pub byte_report : ReportFields Span
+byte_report = record (report (label 3 4 "m" ∷ [])) { config = record ascii_config { index_type = Byte } }
+
+bytes_draw_as_characters_here : cells_of (one "é\nb") byte_report
+    ≡ canvas (char_world (world (one "é\nb"))) (char_report (world (one "é\nb")) byte_report (infos (one "é\nb") byte_report)) (infos (one "é\nb") byte_report)
+unfolding drawn infos cells_of byte_report own_start char_label char_report
+bytes_draw_as_characters_here = refl

@@ -12,6 +12,7 @@ pub mod Pieces
 pub mod Canvas
 pub mod Print
 pub mod Placing
+pub mod Variants
 pub mod OneLine
 pub mod Heads
 pub mod Preferred

@@ -97,15 +97,15 @@ impl Config {
         ensures { result ≡ default_config }
     {
         Config {
-            cross_gap: true,
-            label_attach: LabelAttach::Middle,
-            compact: false,
-            underlines: true,
-            multiline_arrows: true,
-            color: true,
-            tab_width: 4,
             char_set: CharSet::Unicode,
             index_type: IndexType::Char,
+            label_attach: LabelAttach::Middle,
+            color: true,
+            compact: false,
+            cross_gap: true,
+            underlines: true,
+            multiline_arrows: true,
+            tab_width: 4,
         }
     }
 

@@ -97,7 +97,9 @@ fn main(rt: HostRuntime) -> io::Result<ExitCode> {
         words.push(word)?;
     }
     let Some(order) = Order::from_words(&words) else {
-        eprintln!(rt; "usage: ariadne_bench NAME N [--check], NAME one of index, index-bytes, two")?;
+        eprintln!(rt;
+            "usage: ariadne_bench NAME N [--check], NAME one of index, index-bytes, two"
+        )?;
         return Ok(ExitCode::from(USAGE));
     };
     run(&rt, &order)?;
