@@ -1,8 +1,7 @@
 -- The bytes of pieces: one after another, of one more place, of a place's cells, and of a plain text.
-use Rattle.std.proofs.Common.{◌≡◌, ℕ, zero, suc, ◌+◌, ◌≤◌, List, [], ◌∷◌, ◌++◌, replicate, map, None, refl, sym, ap, ◌∙◌, arith, append_assoc, add-one, zero-add}
+use Rattle.std.proofs.Common.{◌≡◌, ℕ, zero, suc, ◌+◌, ◌≤◌, List, [], ◌∷◌, ◌++◌, replicate, map, None, refl, sym, ap, ◌∙◌, arith, append_assoc, add-one}
 use Rattle.std.proofs.lemmas.List.{append-nil, map-append, replicate_more}
 use Rattle.std.proofs.lemmas.Bool.{cond_both}
-use Rattle.std.specs.List.{range_with_len}
 use Rattle.ariadne_base.specs.Colors.{painted}
 use Rattle.ariadne_base.specs.Places.{upto}
 use Rattle.ariadne.specs.declared.config.CharSet.{CharSet}
@@ -12,33 +11,7 @@ use Rattle.ariadne.specs.Lists.{joined}
 use Rattle.ariadne.specs.Pieces.{Piece, glyph_text, ink_pieces, stroke, spaces}
 use Rattle.ariadne.specs.Canvas.{Palette, color_of, paint_color, cell_of}
 use Rattle.ariadne.specs.Print.{cell_bytes, pieces_bytes}
-
--- ---- lists
-
--- lists joined over two lists are those of each, one after the other
-pub joined-append : {X Y : Type 0} (f : X → List Y) (xs ys : List X) → joined f (xs ++ ys) ≡ joined f xs ++ joined f ys
-unfolding joined
-joined-append f [] ys = refl
-joined-append f (x ∷ xs) ys = ap (λ t. f x ++ t) (joined-append f xs ys) ∙ sym (append_assoc (f x) (joined f xs) (joined f ys))
-
--- the numbers below n + 1 are those below n, and n
-pub range_more : (a n : ℕ) → range_with_len a (suc n) ≡ range_with_len a n ++ (a + n) ∷ []
-range_more a zero = let e : a ≡ a + 0 = omega arith in ap (λ k. k ∷ []) e
-range_more a (suc n) =
-    let e : (a + 1) + n ≡ a + suc n = omega arith in
-    ap (λ t. a ∷ t) (range_more (a + 1) n) ∙ ap (λ k. a ∷ range_with_len (a + 1) n ++ k ∷ []) e
-
-pub upto_more : (n : ℕ) → upto (n + 1) ≡ upto n ++ n ∷ []
-upto_more n = rw add-one (range_more 0 n ∙ ap (λ k. upto n ++ k ∷ []) (zero-add n))
-
--- one more element of a list that repeats one
-replicate_suc : {X : Type 0} (n : ℕ) (x : X) → replicate (suc n) x ≡ replicate n x ++ x ∷ []
-replicate_suc zero x = refl
-replicate_suc (suc n) x = ap (λ t. x ∷ t) (replicate_suc n x)
-
-pub joined_more : {Y : Type 0} (f : ℕ → List Y) (n : ℕ) → joined f (upto (n + 1)) ≡ joined f (upto n) ++ f n
-unfolding joined
-joined_more f n = ap (joined f) (upto_more n) ∙ joined-append f (upto n) (n ∷ []) ∙ ap (λ t. joined f (upto n) ++ t) (append-nil (f n))
+use Rattle.ariadne.proofs.Joined.{joined-append, joined-upto_more}
 
 -- ---- pieces
 
@@ -67,7 +40,7 @@ pub places_more : (p : Palette) (f : ℕ → List Piece) (old b here : List ℕ)
 places_more p f old b here n e h =
     let before = joined f (upto n) in
     (λ i. e i ++ h i) ∙ append_assoc old (pieces_bytes p before) (pieces_bytes p (f n))
-    ∙ ap (λ t. old ++ t) (sym (ap (pieces_bytes p) (joined_more f n) ∙ pieces_bytes-append p before (f n)))
+    ∙ ap (λ t. old ++ t) (sym (ap (pieces_bytes p) (joined-upto_more f n) ∙ pieces_bytes-append p before (f n)))
 
 -- ---- one more cell of a piece that is repeated
 
@@ -98,7 +71,8 @@ ink_more p set a zero h = absurd (omega arith)
 ink_more p set a (suc n) h =
     let head = stroke set a.head a.head_paint in
     let tail = stroke set a.tail a.tail_paint in
-    let grown : replicate (suc n) tail ≡ replicate n tail ++ tail ∷ [] = replicate_suc n tail in
+    let e : suc n ≡ n + 1 = omega arith in
+    let grown : replicate (suc n) tail ≡ replicate n tail ++ tail ∷ [] = ap (λ k. replicate k tail) e ∙ sym (replicate_more n tail) in
     let more : head ∷ replicate (suc n) tail ≡ (head ∷ replicate n tail) ++ tail ∷ [] = ap (λ t. head ∷ t) grown in
     rw add-one (ap (pieces_bytes p) more ∙ pieces_bytes-append p (head ∷ replicate n tail) (tail ∷ [])
     ∙ ap (λ t. pieces_bytes p (head ∷ replicate n tail) ++ t) (pieces_bytes_one p tail))

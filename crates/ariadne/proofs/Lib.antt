@@ -12,7 +12,6 @@ pub mod MemberRows
 pub mod BarCases
 -- The picture of labels within one line.
 pub mod Joined
-pub mod InOrder
 pub mod OneGroup
 pub mod OneLineLayout
 pub mod OneLineRows

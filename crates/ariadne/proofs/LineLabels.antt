@@ -10,7 +10,7 @@ use Rattle.ariadne.specs.declared.write.label_info.Side.TheVariants.{Inline, Sta
 use Rattle.ariadne.specs.Lists.{in_order, joined, total}
 use Rattle.ariadne.specs.Ranks.{Sheet, is_inline, is_start, is_end, span_len, is_on_one_line, multi_line_labels, members, member_ends, ends_at, is_nearer_margin, margin_label, is_of_member, is_margin, inline_labels, is_before, line_labels}
 use Rattle.ariadne.specs.Strokes.{is_end_of_member, is_at_margin}
-use Rattle.ariadne.proofs.ListFacts.{all-weaker, all-append, all-joined, all-filter, all-kept, all-in_order, all-map, all-at, all-best, all-enumerated}
+use Rattle.ariadne.proofs.ListFacts.{all-weaker, all-append, all-joined, all-filter, all-kept, all-in_order, all-map, all-every, all-at, all-best, all-enumerated}
 use Rattle.ariadne.proofs.Occurrences.{occurrences, total-append, total-joined, total-in_order, total-filter, total-zero, total-le, numbered-once, total-part, occurrences-kept}
 
 -- ---- a member spans lines
@@ -216,4 +216,4 @@ line-labels-are s l =
     all-in_order P is_before (filter t (ends_at s l) ++ map make ins)
     (all-append P (filter t (ends_at s l)) (map make ins)
     (all-filter P t (ends_at s l) (all-weaker (IsEndAt s l) P (ends_at s l) (λ x h. inl h) (ends-are s l)))
-    (all-map P make ins (λ a. inr refl)))
+    (all-map P make ins (all-every _ (λ a. inr refl) ins)))

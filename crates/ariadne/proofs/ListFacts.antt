@@ -1,8 +1,8 @@
--- Facts on lists: what holds of each element of a list that is made of others, and lists whose elements each stand before the later ones.
-use Rattle.std.proofs.Common.{◌≡◌, ℕ, zero, suc, ◌+◌, Bool, true, cond, List, [], ◌∷◌, ◌++◌, Some, None, map, sym, ap, ◌∙◌, subst, arith, AllPairs}
+-- Facts on lists: what holds of each element of a list that is made of others, how many elements a sort or a filter leaves, and lists whose elements each stand before the later ones.
+use Rattle.std.proofs.Common.{◌≡◌, ℕ, zero, suc, ◌+◌, Bool, true, false, cond, List, [], ◌∷◌, ◌++◌, length, Some, None, map, refl, sym, ap, ◌∙◌, subst, arith, AllPairs}
 use Rattle.std.specs.Prelude.{slice_get, filter}
 use Rattle.std.specs.List.{AllByRecursion, enumerate_from, best_of}
-use Rattle.std.proofs.lemmas.Bool.{cond_both}
+use Rattle.std.proofs.lemmas.Bool.{cond_both, cond-true, cond-false}
 use Rattle.std.proofs.lemmas.List.Elements.{All-from_recursion}
 use Rattle.std.proofs.lemmas.List.Kept.{AllPairs-cons}
 use Rattle.ariadne.specs.Lists.{placed, in_order, joined, best}
@@ -48,9 +48,14 @@ all-in_order P less [] a = tt
 all-in_order P less (x ∷ xs) a = all-placed P less x (in_order less xs) a.0 (all-in_order P less xs a.1)
 
 -- a map
-pub all-map : {X Y : Type 0} (P : Y → Type 0) (f : X → Y) (xs : List X) → ((x : X) → P (f x)) → AllByRecursion P (map f xs)
-all-map P f [] g = tt
-all-map P f (x ∷ xs) g = (g x, all-map P f xs g)
+pub all-map : {X Y : Type 0} (P : Y → Type 0) (f : X → Y) (xs : List X) → AllByRecursion (λ x. P (f x)) xs → AllByRecursion P (map f xs)
+all-map P f [] a = tt
+all-map P f (x ∷ xs) a = (a.0, all-map P f xs a.1)
+
+-- what holds of everything holds of each element
+pub all-every : {X : Type 0} (P : X → Type 0) → ((x : X) → P x) → (xs : List X) → AllByRecursion P xs
+all-every P f [] = tt
+all-every P f (x ∷ xs) = (f x, all-every P f xs)
 
 -- something that a list has is not nothing
 pub none≢some : {X : Type 0} (x : X) → None ≡ Some x → ⊥
@@ -79,6 +84,31 @@ all-enumerated whole a [] g = tt
 all-enumerated whole a (x ∷ xs) g =
     let z : a + 0 ≡ a = omega arith in
     (sym (g 0 ∙ ap (slice_get whole) z), all-enumerated whole (a + 1) xs (λ k. let e : a + suc k ≡ a + 1 + k = omega arith in g (suc k) ∙ ap (slice_get whole) e))
+
+-- ---- how many elements
+
+-- an element placed among others is one more
+length-placed : {X : Type 0} (less : X → X → Bool) (x : X) (ys : List X) → length (placed less x ys) ≡ suc (length ys)
+unfolding placed
+length-placed less x [] = refl
+length-placed less x (y ∷ ys) =
+    cond_both (less y x) (y ∷ placed less x ys) (x ∷ y ∷ ys) (λ zs. length zs ≡ suc (suc (length ys))) (λ _. ap suc (length-placed less x ys)) (λ _. refl)
+
+-- a sort has as many
+pub length-in_order : {X : Type 0} (less : X → X → Bool) (xs : List X) → length (in_order less xs) ≡ length xs
+unfolding in_order
+length-in_order less [] = refl
+length-in_order less (x ∷ xs) = length-placed less x (in_order less xs) ∙ ap suc (length-in_order less xs)
+
+-- a filter that every element passes
+pub filter-all : {X : Type 0} (test : X → Bool) (xs : List X) → AllByRecursion (λ x. test x ≡ true) xs → filter test xs ≡ xs
+filter-all test [] a = refl
+filter-all test (x ∷ xs) a = cond-true (test x) (x ∷ filter test xs) (filter test xs) a.0 ∙ ap (λ t. x ∷ t) (filter-all test xs a.1)
+
+-- a filter that no element passes
+pub filter-none : {X : Type 0} (test : X → Bool) (xs : List X) → AllByRecursion (λ x. test x ≡ false) xs → filter test xs ≡ []
+filter-none test [] a = refl
+filter-none test (x ∷ xs) a = cond-false (test x) (x ∷ filter test xs) (filter test xs) a.0 ∙ filter-none test xs a.1
 
 -- ---- each element and each later one
 

@@ -10,7 +10,7 @@ use Rattle.ariadne.specs.Ranks.{Sheet, is_inline, is_start, is_on_one_line, memb
 use Rattle.ariadne.specs.Rows.{source, arrow}
 use Rattle.ariadne.specs.Strokes.{is_at_margin, number_at, first_row, last_row}
 use Rattle.ariadne.specs.Bars.{IsMember, IsMarginLabel, IsLineLabel}
-use Rattle.ariadne.proofs.ListFacts.{all-append, all-weaker, all-kept, all-in_order, all-map, all-at}
+use Rattle.ariadne.proofs.ListFacts.{all-append, all-weaker, all-kept, all-in_order, all-map, all-every, all-at}
 use Rattle.ariadne.proofs.LineLabels.{IsEndAt, same-info, line-labels-are}
 use Rattle.ariadne.proofs.BarCases.{margin-at, starts-margin, start-number, end-number, numbered-start, numbered-end}
 
@@ -25,7 +25,7 @@ not-margin-start s l =
     all-in_order P is_before (filter t (ends_at s l) ++ map make ins)
     (all-append P (filter t (ends_at s l)) (map make ins)
     (all-weaker (λ x. t x ≡ true) P (filter t (ends_at s l)) (λ x h. not-true (is_start x.side && is_margin (margin_label s l) x) h) (all-kept t (ends_at s l)))
-    (all-map P make ins (λ a. refl)))
+    (all-map P make ins (all-every _ (λ a. refl) ins)))
 
 -- the same, by the member's number
 start-off : (s : Sheet) (l : ℕ) (x : LineLabel) → x.side ≡ Starts → (is_start x.side && is_margin (margin_label s l) x) ≡ false → is_at_margin s l x.member ≡ false

@@ -5,7 +5,7 @@ use Rattle.std.proofs.lemmas.Bool.{le-ltb, cond-false}
 use Rattle.std.specs.List.{AllByRecursion}
 use Rattle.ariadne.specs.declared.write.label_info.LabelInfo.{LabelInfo}
 use Rattle.ariadne.specs.Groups.{is_cut, HasNoCut, ahead, groups_of, greatest, least_below, last_line, first_line, group_lines, line_number, number_len, ordered}
-use Rattle.ariadne.proofs.InOrder.{all-in_order, length-in_order, all-weaker}
+use Rattle.ariadne.proofs.ListFacts.{all-in_order, length-in_order, all-weaker}
 
 -- each label lies within line l
 abbrev pub AreWithin : ℕ → List LabelInfo → Type 0
@@ -26,7 +26,7 @@ not-cut same a b l s p q = rw s (le-ltb b.end_line a.end_line (omega arith))
 no-cut : (same : ℕ → ℕ → Bool) (l : ℕ) (a : LabelInfo) (infos : List LabelInfo) → AreWithin l (a ∷ infos) → AreTogether same (a ∷ infos) → HasNoCut same a infos
 no-cut same l a [] h s = tt
 no-cut same l a (b ∷ infos) h s =
-    (not-cut same a b l s.0.1.0 h.0.1 h.1.0.1, no-cut same l b infos h.1 (all-weaker _ _ (λ x p. p.1) (b ∷ infos) s.1))
+    (not-cut same a b l s.0.1.0 h.0.1 h.1.0.1, no-cut same l b infos h.1 (all-weaker _ _ (b ∷ infos) (λ x p. p.1) s.1))
 
 -- labels without a cut are one group
 one-group : (same : ℕ → ℕ → Bool) (a : LabelInfo) (infos : List LabelInfo) → HasNoCut same a infos → groups_of same (a ∷ infos) ≡ (a ∷ infos) ∷ []
@@ -51,7 +51,7 @@ within-ordered l infos h = all-in_order _ _ infos h
 -- labels of one source, in order
 pub together-ordered : (same : ℕ → ℕ → Bool) (infos : List LabelInfo) → AreTogether same infos → AreTogether same (ordered infos)
 unfolding ordered
-together-ordered same infos s = all-in_order _ _ infos (all-weaker _ _ (λ x p. all-in_order _ _ infos p) infos s)
+together-ordered same infos s = all-in_order _ _ infos (all-weaker _ _ infos (λ x p. all-in_order _ _ infos p) s)
 
 -- labels with messages, in order
 pub messages-ordered : (infos : List LabelInfo) → AllByRecursion (λ a. a.has_message ≡ true) infos → AllByRecursion (λ a. a.has_message ≡ true) (ordered infos)
@@ -108,4 +108,4 @@ number_len-within shift l infos some h = rw (last_line-within l infos some h)
 -- labels are over one source where any two of a kind are, and all are of that kind
 pub together-from_all : (same : ℕ → ℕ → Bool) (P : LabelInfo → Type 0) → ((a b : LabelInfo) → P a → P b → same a.number b.number ≡ true) → (infos : List LabelInfo) → AllByRecursion P infos → AreTogether same infos
 together-from_all same P f infos h =
-    all-weaker P (λ a. AllByRecursion (λ b. same a.number b.number ≡ true) infos) (λ a p. all-weaker P (λ b. same a.number b.number ≡ true) (λ b q. f a b p q) infos h) infos h
+    all-weaker P (λ a. AllByRecursion (λ b. same a.number b.number ≡ true) infos) infos (λ a p. all-weaker P (λ b. same a.number b.number ≡ true) infos (λ b q. f a b p q) h) h

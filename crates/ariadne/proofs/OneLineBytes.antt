@@ -1,7 +1,7 @@
 -- The bytes of a picture, row by row; those of a report whose labels all lie within one line.
 use Rattle.std.proofs.Common.{◌≡◌, ℕ, ◌<◌, Bool, true, false, List, [], ◌∷◌, ◌++◌, map, length, refl, sym, ap, ◌∙◌, append_assoc}
 use Rattle.std.specs.Prelude.{if◌then◌else◌}
-use Rattle.std.proofs.lemmas.List.{append-nil, map-append}
+use Rattle.std.proofs.lemmas.List.{append-nil}
 use Rattle.ariadne_base.specs.Places.{upto}
 use Rattle.ariadne.specs.declared.write.label_info.LabelInfo.{LabelInfo}
 use Rattle.ariadne.specs.Lists.{joined}
@@ -9,35 +9,10 @@ use Rattle.ariadne.specs.Report.{ReportFields, World}
 use Rattle.ariadne.specs.Columns.{Layout}
 use Rattle.ariadne.specs.Pieces.{Piece, Title, Section, head_pieces, space_pieces, tail_pieces}
 use Rattle.ariadne.specs.Canvas.{Palette, palette_of, cell_of, header_pieces, title, outline, canvas}
-use Rattle.ariadne.specs.Print.{cell_bytes, row_bytes, printed, pieces_bytes}
+use Rattle.ariadne.specs.Print.{row_bytes, printed, pieces_bytes}
 use Rattle.ariadne.specs.OneLine.{AreOnLine, only_section, only_layout, only_number_width, source_row, alternate_row, arrow_row, rows_of_label, one_line_outline, sent_row, label_bytes, one_line_bytes}
 use Rattle.ariadne.proofs.Joined.{joined-append, joined-one, joined-map, joined-joined, joined-same}
 use Rattle.ariadne.proofs.OneLineOutline.{outline-none, outline-on_line}
-
--- ---- the pieces of a row
-
--- two parts of a row
-pub pieces_bytes-append : (p : Palette) (xs ys : List Piece) → pieces_bytes p (xs ++ ys) ≡ pieces_bytes p xs ++ pieces_bytes p ys
-unfolding pieces_bytes
-pieces_bytes-append p xs ys =
-    ap (joined cell_bytes) (map-append (cell_of p) xs ys) ∙ joined-append cell_bytes (map (cell_of p) xs) (map (cell_of p) ys)
-
--- no piece
-pub pieces_bytes-none : (p : Palette) → pieces_bytes p [] ≡ []
-unfolding pieces_bytes joined
-pieces_bytes-none p = refl
-
--- a single piece
-pub pieces_bytes-one : (p : Palette) (x : Piece) → pieces_bytes p (x ∷ []) ≡ cell_bytes (cell_of p x)
-unfolding pieces_bytes
-pieces_bytes-one p x = joined-one cell_bytes (cell_of p x)
-
--- the parts of a row by number
-pub pieces_bytes-joined : {X : Type 0} (p : Palette) (f : X → List Piece) (xs : List X) → pieces_bytes p (joined f xs) ≡ joined (λ x. pieces_bytes p (f x)) xs
-unfolding pieces_bytes
-pieces_bytes-joined p f xs =
-    joined-map cell_bytes (cell_of p) (joined f xs) ∙ joined-joined (λ x. cell_bytes (cell_of p x)) f xs
-    ∙ joined-same (λ x. joined (λ y. cell_bytes (cell_of p y)) (f x)) (λ x. joined cell_bytes (map (cell_of p) (f x))) (λ x. sym (joined-map cell_bytes (cell_of p) (f x))) xs
 
 -- ---- rows
 
@@ -80,11 +55,6 @@ sent-outline p t g w l y =
     let first : List ℕ = sent_row p (header_pieces t) in
     let second : List ℕ = sent_row p (head_pieces g w) in
     let line : List ℕ = sent_row p (source_row t w g.shift l y) in
-    let labels_sent : List ℕ = joined (label_bytes p t w g.shift l y) n in
-    let above_sent : List ℕ = if t.style.compact then [] else sent_row p (space_pieces t.style.char_set w) in
-    let below_sent : List ℕ = if t.style.compact then [] else sent_row p (tail_pieces t.style.char_set w true) in
-    let top : sent p above ≡ above_sent = sent-optional p t.style.compact (space_pieces t.style.char_set w) in
-    let end : sent p below ≡ below_sent = sent-optional p t.style.compact (tail_pieces t.style.char_set w true) in
     let labels_sent : List ℕ = joined (label_bytes p t w g.shift l y) n in
     let above_sent : List ℕ = if t.style.compact then [] else sent_row p (space_pieces t.style.char_set w) in
     let below_sent : List ℕ = if t.style.compact then [] else sent_row p (tail_pieces t.style.char_set w true) in

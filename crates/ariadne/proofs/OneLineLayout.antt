@@ -12,7 +12,7 @@ use Rattle.ariadne.specs.Rows.{Row}
 use Rattle.ariadne.specs.Columns.{layout_of}
 use Rattle.ariadne.specs.Pieces.{gutter_len, gutter_pieces}
 use Rattle.ariadne.specs.OneLine.{inline_label, inline_layout}
-use Rattle.ariadne.proofs.InOrder.{all-in_order, length-in_order, all-map, all-weaker, filter-all, filter-none}
+use Rattle.ariadne.proofs.ListFacts.{all-in_order, length-in_order, all-map, all-weaker, filter-all, filter-none}
 use Rattle.ariadne.proofs.OneGroup.{AreWithin}
 
 -- a label that starts and ends on line l lies on one line
@@ -26,7 +26,7 @@ on-one_line l a h = eq-eqb a.start_line a.end_line (h.0 ∙ sym h.1)
 pub multi_line_labels-within : (s : Sheet) (l : ℕ) → AreWithin l s.labels → multi_line_labels s ≡ []
 unfolding multi_line_labels in_order
 multi_line_labels-within s l h =
-    ap (in_order _) (filter-none (λ a. not (is_on_one_line a)) s.labels (all-weaker _ _ (λ a p. not_from_true _ (on-one_line l a p)) s.labels h))
+    ap (in_order _) (filter-none (λ a. not (is_on_one_line a)) s.labels (all-weaker _ _ s.labels (λ a p. not_from_true _ (on-one_line l a p)) h))
 
 -- so no gutter column has an owner
 pub members-within : (s : Sheet) (l : ℕ) → AreWithin l s.labels → members s ≡ []
@@ -56,7 +56,7 @@ unfolding inline_labels
 inline_labels-within s l h =
     ap (map inline_label)
     (filter-all (λ a. is_on_one_line a && eqb a.start_line l) s.labels
-    (all-weaker _ _ (λ a p. and_from _ _ (on-one_line l a p) (eq-eqb a.start_line l p.0)) s.labels h))
+    (all-weaker _ _ s.labels (λ a p. and_from _ _ (on-one_line l a p) (eq-eqb a.start_line l p.0)) h))
 
 -- and all of them have rows below it
 pub line_labels-within : (s : Sheet) (l : ℕ) → AreWithin l s.labels → line_labels s l ≡ in_order is_before (map inline_label s.labels)
@@ -89,4 +89,4 @@ is_hidden-within s l some h =
 
 -- what holds of each label, of its info too, where it stands
 pub all-line_labels : (P : LabelInfo → Type 0) (infos : List LabelInfo) → AllByRecursion P infos → AllByRecursion (λ (x : LineLabel). P x.info) (in_order is_before (map inline_label infos))
-all-line_labels P infos a = all-in_order is_before (λ x. P x.info) (map inline_label infos) (all-map (λ x. P x.info) inline_label infos a)
+all-line_labels P infos a = all-in_order (λ x. P x.info) is_before (map inline_label infos) (all-map (λ x. P x.info) inline_label infos a)

@@ -15,9 +15,9 @@ use Rattle.ariadne.specs.Pieces.{Piece, Title, blank_piece, plain_text, margin_p
 use Rattle.ariadne.specs.Canvas.{Palette, section_of, groups}
 use Rattle.ariadne.specs.Print.{pieces_bytes}
 use Rattle.ariadne.specs.OneLine.{AreOnLine, only_section, inline_label, source_row, alternate_row, arrow_row, sent_row, label_bytes}
-use Rattle.ariadne.proofs.InOrder.{all-in_order, all-map, all-every}
+use Rattle.ariadne.proofs.ListFacts.{all-in_order, all-map, all-every}
 use Rattle.ariadne.proofs.OneLineOutline.{groups-on_line}
-use Rattle.ariadne.proofs.OneLineBytes.{pieces_bytes-append}
+use Rattle.ariadne.proofs.Bytes.{pieces_bytes-append}
 
 -- ---- the rows of the line
 
@@ -65,7 +65,7 @@ label_bytes-both p t w shift l y k e = rw e
 -- each label of the line lies within it
 pub all-inline : (infos : List LabelInfo) → AllByRecursion (λ (x : LineLabel). x.side ≡ Inline) (in_order is_before (map inline_label infos))
 all-inline infos =
-    all-in_order is_before (λ x. x.side ≡ Inline) (map inline_label infos) (all-map (λ x. x.side ≡ Inline) inline_label infos (all-every _ (λ a. refl) infos))
+    all-in_order (λ x. x.side ≡ Inline) is_before (map inline_label infos) (all-map (λ x. x.side ≡ Inline) inline_label infos (all-every _ (λ a. refl) infos))
 
 -- so its arrow row shows its message, behind a blank
 pub message_pieces-inline : (t : Title) (x : LineLabel) → x.side ≡ Inline → message_pieces t (Some x) ≡ blank_piece ∷ plain_text (t.message_of x.info.number) ∷ []

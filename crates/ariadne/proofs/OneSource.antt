@@ -16,7 +16,7 @@ use Rattle.ariadne.specs.Canvas.{Palette, label_id, is_same_id, same_source, gro
 use Rattle.ariadne.specs.Heads.{head_line}
 use Rattle.ariadne.specs.OneLine.{AreOnLine, inline_layout, only_section, only_number_width, only_layout, line_bytes, group_bytes, sent_row}
 use Rattle.ariadne.specs.Written.{only_source, own_place}
-use Rattle.ariadne.proofs.InOrder.{length-in_order}
+use Rattle.ariadne.proofs.ListFacts.{length-in_order}
 use Rattle.ariadne.proofs.OneGroup.{together-ordered}
 use Rattle.ariadne.proofs.RowBytes.{head_pieces-is}
 

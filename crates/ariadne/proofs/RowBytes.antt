@@ -15,7 +15,8 @@ use Rattle.ariadne.specs.Heads.{bar_margin, head_line}
 use Rattle.ariadne_base.specs.Escapes.{opened as opening, closed as closing}
 use Rattle.ariadne.specs.Pieces.{Piece, Section, painted_text, plain_text, blank_piece, stroke, spaces, repeated, glyph_text, margin_text, margin_paint, margin_pieces, head_pieces, place_text, space_pieces, tail_pieces}
 use Rattle.ariadne.specs.Print.{pieces_bytes}
-use Rattle.ariadne.proofs.Bytes.{pieces_bytes_none, pieces_bytes_first, pieces_bytes_one, plain_bytes, spaces_more, joined_more}
+use Rattle.ariadne.proofs.Bytes.{pieces_bytes_none, pieces_bytes_first, pieces_bytes_one, plain_bytes, spaces_more}
+use Rattle.ariadne.proofs.Joined.{joined-upto_more}
 
 -- ---- texts in front of others
 
@@ -124,7 +125,7 @@ space_bytes p set w = plain_first p (spaces (w + 2)) _ ∙ ap (λ t. spaces (w +
 -- a text that is repeated once more
 pub repeated_more : (n : ℕ) (text : List ℕ) → repeated (n + 1) text ≡ repeated n text ++ text
 unfolding repeated
-repeated_more n text = joined_more (λ k. text) n
+repeated_more n text = joined-upto_more (λ k. text) n
 
 pub repeated_two : (n : ℕ) (text : List ℕ) → repeated (n + 2) text ≡ repeated n text ++ text ++ text
 repeated_two n text =

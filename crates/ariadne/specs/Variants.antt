@@ -1,6 +1,6 @@
 -- Reports that draw the same picture: one without colours draws what is left where the colours are taken
 -- away, and one whose offsets count bytes draws as the one with the same offsets in characters.
-use Rattle.std.specs.Prelude.{ℕ, ◌≡◌, ◌≤◌, Bool, true, false, not, ◌==◌, List, map, Option, Some, None, IfSome, find, length, unwrap_or, option_map, option_and_then, chars}
+use Rattle.std.specs.Prelude.{ℕ, ◌≡◌, ◌≤◌, true, false, not, ◌==◌, List, map, Option, Some, None, IfSome, find, length, unwrap_or, option_map, option_and_then, chars}
 use Rattle.std.specs.List.{list_all, enumerate_from, AllByRecursion}
 use Rattle.ariadne_base.specs.Listing.{Listing}
 use Rattle.ariadne_base.specs.declared.color.Color.TheVariants.{Primary}

@@ -16,7 +16,7 @@ use Rattle.ariadne.specs.Columns.{Layout}
 use Rattle.ariadne.specs.Report.{ReportFields, style_of}
 use Rattle.ariadne.specs.OneLine.{AreOnLine, inline_layout, line_bytes}
 use Rattle.ariadne.specs.Written.{only_source, drawn}
-use Rattle.ariadne.proofs.InOrder.{all-in_order}
+use Rattle.ariadne.proofs.ListFacts.{all-in_order}
 use Rattle.ariadne.proofs.Drawable.{drawn-on_line, drawn-ends, drawn-line}
 use Rattle.ariadne.proofs.OneSource.{group_styled}
 use Rattle.ariadne.proofs.Fitting.{arrow_len-fits}
@@ -49,7 +49,7 @@ push_line-requires-clause-fits c =
     let y : c.in_ok-layout.layout ≡ inline_layout (ordered c.args.infos.now) offset text =
     c.in_ok-layout.ensures.layout ∙ ap (λ g. inline_layout g offset text) (c.deref.ensures.value ∙ c.in_ok-group.ensures) in
     let short : length text < 2 ^ 63 = subst (λ (z : Layout). length z.text < 2 ^ 63) y c.in_ok-layout.ensures.short in
-    rw y (arrow_len-fits c.style-style.result (ordered c.args.infos.now) offset text (all-in_order (λ a b. int_lt a.order b.order) (λ (a : LabelInfo). a.end ≤ offset + length text) c.args.infos.now ends) short)
+    rw y (arrow_len-fits c.style-style.result (ordered c.args.infos.now) offset text (all-in_order (λ (a : LabelInfo). a.end ≤ offset + length text) (λ a b. int_lt a.order b.order) c.args.infos.now ends) short)
 
 pub returns : goal.returns
 returns c =
