@@ -62,6 +62,7 @@ pub(crate) fn draw(
     requires infos { infos.now ≡ drawn source.now report.now }
     ensures { IfOk result (λ text. string_bytes text ≡ picture source.now report.now) }
 {
+    // The contract of `style` tells that offsets count characters.
     let _chars = report.config.style();
     let palette = report.palette()?;
     let mut out = String::new(report.alloc);
