@@ -39,6 +39,7 @@ pub mod DrawingWhole
 mod Sending
 -- Worked pictures, by computation.
 mod Unfold
+mod RowPlacing
 mod Sample
 mod Worked
 mod Readings

@@ -1,6 +1,6 @@
 -- Placings that finished pictures are read by, pictures that cannot be read, and reports that draw the
--- same, by computation.
-use Rattle.std.specs.Prelude.{ℕ, ◌≡◌, ◌&&◌, ◌==◌, Bool, true, false, if◌then◌else◌, refl, codes, [], ◌∷◌, None, List, slice_set, slice_index_or}
+-- same, by computation. Each worked picture is read too, by the placing that the names of its rows give.
+use Rattle.std.specs.Prelude.{ℕ, ◌≡◌, ◌==◌, Bool, true, false, if◌then◌else◌, refl, codes, [], ◌∷◌, None, List, slice_set, slice_index_or}
 use Rattle.ariadne_base.specs.declared.color.Color.TheVariants.{Blue}
 use Rattle.ariadne.specs.declared.config.IndexType.TheVariants.{Byte}
 use Rattle.ariadne.specs.declared.write.label_info.LabelInfo.{LabelInfo}
@@ -9,21 +9,22 @@ use Rattle.ariadne.specs.Accept.{drawn_labels}
 use Rattle.ariadne.specs.Pieces.{Section}
 use Rattle.ariadne.specs.Canvas.{Cell, canvas, sections, title}
 use Rattle.ariadne.specs.Print.{erased, unescaped, printed}
-use Rattle.ariadne.specs.Placing.{Placing, is_placing, has_message_rows, has_inline_traces, has_ends_of_gutter_traces, has_gutter_bars, is_aligned}
+use Rattle.ariadne.specs.Placing.{Placing, has_message_rows, has_inline_traces, has_ends_of_gutter_traces, has_gutter_bars}
 use Rattle.ariadne.specs.Variants.{colorless, char_world, own_start, char_label, char_report}
+use Rattle.ariadne.proofs.RowPlacing.{is_read}
 use Rattle.ariadne.proofs.Sample.{Span, Entry, world, reasons, ascii_config, one, label, report, drawn}
 
 unfoldable pub infos : List Entry → ReportFields Span → List LabelInfo
 infos entries r = let w = world entries in drawn_labels w r.config 0 r.labels (reasons w r)
 
-unfoldable pub is_read : List Entry → ReportFields Span → Placing → Bool
-is_read entries r p =
-    let w = world entries in
-    let is = infos entries r in
-    let cells = canvas w r is in
-    let parts = sections w r is in
-    is_placing cells parts p && has_message_rows cells parts p (title r).message_of && has_inline_traces cells parts p
-    && has_ends_of_gutter_traces cells parts p && has_gutter_bars cells parts p && is_aligned cells parts p
+unfoldable pub cells_of : List Entry → ReportFields Span → List (List Cell)
+cells_of entries r = canvas (world entries) r (infos entries r)
+
+unfoldable pub parts_of : List Entry → ReportFields Span → List Section
+parts_of entries r = sections (world entries) r (infos entries r)
+
+unfoldable pub is_read_by : Placing → List Entry → ReportFields Span → Bool
+is_read_by p entries r = is_read (cells_of entries r) (parts_of entries r) (title r) p
 
 unfoldable pub choose : ℕ → ℕ → ℕ → ℕ
 choose a b k = if k == 0 then a else b
@@ -42,8 +43,8 @@ nested_placing = record {
   first = λ g i. if i == 0 then 3 else 5;
 }
 
-nested_labels_are_read : is_read (one "aa\nbb\ncc") nested nested_placing ≡ true
-unfolding drawn infos is_read choose nested nested_placing
+nested_labels_are_read : is_read_by nested_placing (one "aa\nbb\ncc") nested ≡ true
+unfolding drawn infos cells_of parts_of is_read_by choose nested nested_placing
 nested_labels_are_read = refl
 
 -- ---- two groups over the same lines, with a gap row
@@ -61,8 +62,8 @@ apart_placing = record {
   first = λ g i. choose 3 11 g;
 }
 
-labels_in_two_groups_are_read : is_read (one "aa\nbb\ncc") apart apart_placing ≡ true
-unfolding drawn infos is_read choose apart apart_placing
+labels_in_two_groups_are_read : is_read_by apart_placing (one "aa\nbb\ncc") apart ≡ true
+unfolding drawn infos cells_of parts_of is_read_by choose apart apart_placing
 labels_in_two_groups_are_read = refl
 
 -- ---- a wide character under a tab
@@ -80,17 +81,11 @@ wide_placing = record {
   first = λ g i. 0;
 }
 
-a_wide_character_is_read : is_read (one "\t漢x") wide wide_placing ≡ true
-unfolding drawn infos is_read choose wide wide_placing
+a_wide_character_is_read : is_read_by wide_placing (one "\t漢x") wide ≡ true
+unfolding drawn infos cells_of parts_of is_read_by choose wide wide_placing
 a_wide_character_is_read = refl
 
 -- ---- pictures that cannot be read, by one cell that shows something else
-
-unfoldable pub cells_of : List Entry → ReportFields Span → List (List Cell)
-cells_of entries r = canvas (world entries) r (infos entries r)
-
-unfoldable pub parts_of : List Entry → ReportFields Span → List Section
-parts_of entries r = sections (world entries) r (infos entries r)
 
 unfoldable pub with_cell : List (List Cell) → ℕ → ℕ → List ℕ → List (List Cell)
 with_cell rows n c t = slice_set rows n (slice_set (slice_index_or rows n []) c (record { text = t; color = None; columns = 1 }))

@@ -12,9 +12,10 @@ use Rattle.ariadne.specs.Report.{ConfigFields, LabelFields, ReportFields, World,
 use Rattle.ariadne.specs.declared.write.accept.Verdict.{Verdict}
 use Rattle.ariadne.specs.declared.write.accept.Verdict.TheVariants.{Accepted, PastSource, CutsCharacter}
 use Rattle.ariadne.specs.Accept.{verdict_in, drawn_labels}
-use Rattle.ariadne.specs.Canvas.{canvas}
+use Rattle.ariadne.specs.Canvas.{canvas, sections, title}
 use Rattle.ariadne.specs.Print.{printed}
 use Rattle.ariadne.proofs.Unfold.{evaluated}
+use Rattle.ariadne.proofs.RowPlacing.{is_read, row_placing, read_by_rows}
 
 -- a text from its characters
 unfoldable pub text : List ℕ → List ℕ
@@ -71,10 +72,14 @@ left_out entries r = reasons (world entries) r
 
 -- ---- the bytes of a picture
 
--- where these are the reasons of its labels
+-- where these are the reasons of its labels: none if the placing that its rows' names give doesn't read it
 abbrev pub picture_for : List (Option Reason) → List Entry → ReportFields Span → List ℕ
 picture_for why entries r =
-    let w = world entries in printed (canvas w r (drawn_labels w r.config 0 r.labels why))
+    let w = world entries in
+    let infos = drawn_labels w r.config 0 r.labels why in
+    let cells = canvas w r infos in
+    let parts = sections w r infos in
+    if is_read cells parts (title r) (row_placing (title r) parts) then printed cells else []
 
 unfoldable pub picture : List Entry → ReportFields Span → List ℕ
 picture entries r = picture_for (reasons (world entries) r) entries r
@@ -189,5 +194,5 @@ configured config labels = record (report labels) { config = config }
 
 -- `unfolding drawn` lets `refl` compute all this
 unfoldable pub drawn : Unit {0}
-unfolding evaluated unicode_width text entry world reason_of reason_over reasons picture utf8 texts rows escape rows_in_color named nameless one shown_from span_in span silent_label_in silent_label label_in label ascii_config byte_config compact_config color_config unicode_config report titled configured
+unfolding evaluated unicode_width read_by_rows text entry world reason_of reason_over reasons picture utf8 texts rows escape rows_in_color named nameless one shown_from span_in span silent_label_in silent_label label_in label ascii_config byte_config compact_config color_config unicode_config report titled configured
 drawn = tt

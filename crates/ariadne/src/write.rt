@@ -1,6 +1,6 @@
 //! Drawing a report: its labels are judged, laid out in groups and rows, drawn, and sent.
 
-ghost use Rattle.std.specs.Prelude.{◌≡◌, true};
+ghost use Rattle.std.specs.Prelude.{◌≡◌, None, true};
 ghost use Rattle.ariadne.specs.Written.{is_drawable as drawable_over, is_label_drawable, picture, reasons, Written};
 
 pub(crate) mod accept;
@@ -69,14 +69,16 @@ impl Report<'_> {
     }
 
     /// Draws the report over the source and sends the picture to the runtime's standard output, as
-    /// `write` does.
+    /// `write` does. What that output holds is not known, so the contract tells the list and that a
+    /// fault sent less than the picture, and not what was sent.
     pub fn print<R: Print>(
         &self,
         cache: &mut Source<String>,
         rt: &R,
     ) -> Result<Vec<LeftOut<()>>, WriteError>
         requires { drawable_over cache.old self.now ≡ true }
-        ensures { cache.new ≡ cache.old }
+        ensures cache { cache.new ≡ cache.old }
+        ensures written { Written (reasons cache.old self.now) (picture cache.old self.now) None None result }
     {
         self.write(cache, &mut io::writer(rt))
     }

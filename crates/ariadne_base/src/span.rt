@@ -1,9 +1,9 @@
 //! Spans: the pieces of sources that labels point at.
 
-ghost use Rattle.std.specs.Prelude.{◌≡◌, ℕ, ◌+◌, ◌-◌, ◌^◌, ◌<◌, ◌≤◌, IsTrue, min, ◌↔◌};
-ghost use Rattle.std.specs.Range.{range_inclusive_end, range_inclusive_start};
+ghost use Rattle.std.specs.Prelude.{◌≡◌, ℕ, ◌-◌, ◌<◌, ◌≤◌, IsTrue, ◌↔◌};
 
-use std::ops::{Range, RangeInclusive};
+mod range;
+mod range_inclusive;
 
 /// A piece of a source, from its start to before its end.
 ///
@@ -57,100 +57,6 @@ pub trait Span {
         ensures { IsTrue result ↔ ((start_of self.now ≤ offset) × (offset < end_of self.now)) }
     {
         self.start() <= offset && offset < self.end()
-    }
-}
-
-/// A span of the only source there is.
-impl Span for Range<usize> {
-    type SourceId = ();
-
-    ghost source_of = { λ _. tt };
-
-    ghost start_of = { λ r. r.start };
-
-    ghost end_of = { λ r. r.end };
-
-    fn source(&self) -> &() {
-        &()
-    }
-
-    fn start(&self) -> usize {
-        self.start
-    }
-
-    fn end(&self) -> usize {
-        self.end
-    }
-}
-
-/// A span of the only source there is. Its end is the last offset plus one, or `usize::MAX` where
-/// that has no successor.
-impl Span for RangeInclusive<usize> {
-    type SourceId = ();
-
-    ghost source_of = { λ _. tt };
-
-    ghost start_of = { λ r. range_inclusive_start r };
-
-    ghost end_of = { λ r. min (range_inclusive_end r + 1) (2 ^ 64 - 1) };
-
-    fn source(&self) -> &() {
-        &()
-    }
-
-    fn start(&self) -> usize {
-        *RangeInclusive::start(self)
-    }
-
-    fn end(&self) -> usize {
-        RangeInclusive::end(self).saturating_add(1)
-    }
-}
-
-/// A span of the source with the id that it is paired with.
-impl<Id: Eq> Span for (Id, Range<usize>) {
-    type SourceId = Id;
-
-    ghost source_of = { λ s. s.0 };
-
-    ghost start_of = { λ s. s.1.start };
-
-    ghost end_of = { λ s. s.1.end };
-
-    fn source(&self) -> &Id {
-        &self.0
-    }
-
-    fn start(&self) -> usize {
-        self.1.start
-    }
-
-    fn end(&self) -> usize {
-        self.1.end
-    }
-}
-
-/// A span of the source with the id that it is paired with. Its end saturates as that of the range
-/// alone.
-impl<Id: Eq> Span for (Id, RangeInclusive<usize>) {
-    type SourceId = Id;
-
-    ghost source_of = { λ s. s.0 };
-
-    ghost start_of = { λ s. range_inclusive_start s.1 };
-
-    ghost end_of = { λ s. min (range_inclusive_end s.1 + 1) (2 ^ 64 - 1) };
-
-    fn source(&self) -> &Id {
-        &self.0
-    }
-
-    fn start(&self) -> usize {
-        *self.1.start()
-    }
-
-    fn end(&self) -> usize {
-        self.1.end().saturating_add(1)
     }
 }
 

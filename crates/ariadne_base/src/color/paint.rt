@@ -1,16 +1,18 @@
 //! Values that are printed in a colour.
 
-ghost use Rattle.std.specs.Prelude.{◌≡◌, ◌++◌, option_map, ⊤};
+ghost use Rattle.std.specs.Prelude.{◌≡◌, ◌++◌, option_map};
 ghost use Rattle.std.specs.Fmt.{DisplaysOnOk};
-ghost use Rattle.ariadne_base.specs.Colors.{foreground, background, painted_in};
 ghost use Rattle.ariadne_base.specs.Escapes.{closing, opening_end};
 
+mod background;
+mod foreground;
+
 use crate::color::Color;
-use crate::color::escape::{CLOSING, opening_head};
-use std::alloc::AllocError;
+use crate::color::escape::CLOSING;
+pub use background::Background;
+pub use foreground::Foreground;
 use std::fmt;
 use std::fmt::{Display, Formatter};
-use std::marker::Model;
 
 /// Colours for whatever can be printed.
 ///
@@ -40,88 +42,6 @@ impl<T: Display> Fmt for T {
 
     fn bg(self, color: Option<Color>) -> Background<Self> {
         Background { value: self, color }
-    }
-}
-
-/// A value that is printed with its characters in a colour.
-#[derive(Debug, Drop)]
-pub struct Foreground<T> {
-    value: T,
-    color: Option<Color>,
-}
-
-impl<T> Model for Foreground<T> {
-    ghost use Rattle.ariadne_base.specs.Colors.{Painting};
-
-    ghost Value = { Painting T };
-
-    ghost view = { λ p. record { value = p.value; color = p.color } };
-
-    ghost inverse = { λ v. record { value = v.value; color = v.color } };
-}
-
-impl<T: Copy> Clone for Foreground<T> {
-    ghost is_clone = { λ x y. y ≡ x };
-
-    ghost is_infallible = { λ _. ⊤ };
-
-    fn clone(&self) -> Result<Self, AllocError> {
-        Ok(*self)
-    }
-}
-
-impl<T: Copy> Copy for Foreground<T> {}
-
-/// The value as by `{}`, in its colour if there is one. Options, such as a width, are ignored.
-impl<T: Display> Display for Foreground<T> {
-    ghost output = { λ p. option_map (painted_in foreground p.color) (T.output p.value) };
-
-    fn fmt<W: fmt::Write>(&self, f: &mut Formatter<W>) -> fmt::Result {
-        match self.color {
-            Some(color) => write_painted(f, opening_head(color).0, color, &self.value),
-            None => f.write(&self.value),
-        }
-    }
-}
-
-/// A value that is printed with a colour behind its characters.
-#[derive(Debug, Drop)]
-pub struct Background<T> {
-    value: T,
-    color: Option<Color>,
-}
-
-impl<T> Model for Background<T> {
-    ghost use Rattle.ariadne_base.specs.Colors.{Painting};
-
-    ghost Value = { Painting T };
-
-    ghost view = { λ p. record { value = p.value; color = p.color } };
-
-    ghost inverse = { λ v. record { value = v.value; color = v.color } };
-}
-
-impl<T: Copy> Clone for Background<T> {
-    ghost is_clone = { λ x y. y ≡ x };
-
-    ghost is_infallible = { λ _. ⊤ };
-
-    fn clone(&self) -> Result<Self, AllocError> {
-        Ok(*self)
-    }
-}
-
-impl<T: Copy> Copy for Background<T> {}
-
-/// The value as by `{}`, before its colour if there is one. Options, such as a width, are ignored.
-impl<T: Display> Display for Background<T> {
-    ghost output = { λ p. option_map (painted_in background p.color) (T.output p.value) };
-
-    fn fmt<W: fmt::Write>(&self, f: &mut Formatter<W>) -> fmt::Result {
-        match self.color {
-            Some(color) => write_painted(f, opening_head(color).1, color, &self.value),
-            None => f.write(&self.value),
-        }
     }
 }
 

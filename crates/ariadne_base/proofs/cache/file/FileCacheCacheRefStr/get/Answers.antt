@@ -1,4 +1,3 @@
-use Rattle.std.proofs.Common.{sym, ◌∙◌}
 use Rattle.ariadne_base.proofs.Paths.{held-by_path, held-by_text}
 use Rattle.ariadne_base.proofs.cache.file.FileCacheCacheRefStr.get.Goals as goal
 
@@ -6,5 +5,4 @@ use Rattle.ariadne_base.proofs.cache.file.FileCacheCacheRefStr.get.Goals as goal
 pub returns : goal.returns
 returns g c =
     let sources = c.self.inside.sources.entries in
-    let found = held-by_text sources c.args.id.now ∙ held-by_path sources c.args.id.now.now in
-    rw (← c.self.view_is) (c.get.ensures.value ∙ sym found)
+    rw (← c.self.view_is) rw (held-by_text sources c.args.id.now) rw (held-by_path sources c.args.id.now.now) c.get.ensures.value
