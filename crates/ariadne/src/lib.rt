@@ -11,7 +11,11 @@ mod refusing;
 pub mod report;
 pub mod write;
 
-pub use ariadne_base::{Color, Line, Source, SourceLines, SourceText, Span};
+pub use ariadne_base::{
+    Background, Cache, Color, ColorGenerator, FetchError, FileCache, FileError, Fmt, FnCache,
+    Foreground, Line, Source, SourceLines, SourceMap, SourceName, SourceText, Span, UnknownSource,
+    sources,
+};
 pub use builder::ReportBuilder;
 pub use config::{CharSet, Config, IndexType, LabelAttach};
 pub use kind::ReportKind;
