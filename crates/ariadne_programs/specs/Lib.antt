@@ -1,1 +1,4 @@
 pub mod Numbers
+pub mod Words
+pub mod Faults
+pub mod Drawn

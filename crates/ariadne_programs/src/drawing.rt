@@ -1,7 +1,12 @@
 //! The program over the streams that it is handed: words in, a report and a status out.
 
+ghost use Rattle.std.specs.Prelude.{◌≡◌, IfErr, IfOk, IfSome, map, string_bytes};
+ghost use Rattle.ariadne_programs.specs.Faults.{IsBeforeWriting};
+ghost use Rattle.ariadne_programs.specs.Drawn.{Ended, report_of, Wrote};
+
+use super::asked::Asked;
 use super::fault::{Fault, Status, tell_fault};
-use super::words::{Asked, read_words};
+use super::words::read_words;
 use ariadne::{CharSet, Config, Label, LeftOut, Reason, Report, ReportKind, Source};
 use std::alloc::{AllocError, Global};
 use std::io::{Read, Write};
@@ -14,7 +19,8 @@ use std::rt::Files;
 /// the input is read, then the report is written to `out`, then `faults` gets a line for each label
 /// that was left out, or the one line that says why nothing could be drawn. A failure of `faults` is
 /// passed over. A report that can't be drawn yet, as one with labels on different lines, is answered
-/// as bad words are. No word names a file yet, so the file system isn't read.
+/// as bad words are. No word names a file yet, so the file system isn't read. What `out` got is told
+/// by the status.
 pub fn draw<R: Files, I: Read, W: Write, F: Write>(
     _files: &R,
     alloc: Global,
@@ -22,7 +28,9 @@ pub fn draw<R: Files, I: Read, W: Write, F: Write>(
     input: &mut I,
     out: &mut W,
     faults: &mut F,
-) -> Status {
+) -> Status
+    ensures { Ended (map string_bytes words.now) (I.remaining input.old) (W.contents out.old) (W.contents out.new) result }
+{
     match write_report(alloc, words, input, out) {
         Ok(left_out) if left_out.is_empty() => Status::Drawn,
         Ok(left_out) => {
@@ -39,7 +47,9 @@ fn write_report<I: Read, W: Write>(
     words: &[String],
     input: &mut I,
     out: &mut W,
-) -> Result<Vec<LeftOut<()>>, Fault> {
+) -> Result<Vec<LeftOut<()>>, Fault>
+    ensures { Wrote (map string_bytes words.now) (I.remaining input.old) (W.contents out.old) (W.contents out.new) result }
+{
     let asked = read_words(alloc, words)?;
     let mut source = Source::from(alloc, read_text(alloc, input)?)?;
     let report = asked_report(alloc, &asked)?;
@@ -50,7 +60,10 @@ fn write_report<I: Read, W: Write>(
 }
 
 /// The text of a reader, to its end.
-fn read_text<I: Read>(alloc: Global, input: &mut I) -> Result<String, Fault> {
+fn read_text<I: Read>(alloc: Global, input: &mut I) -> Result<String, Fault>
+    ensures read { IfOk result (λ text. IfSome (I.remaining input.old) (λ bytes. string_bytes text ≡ bytes)) }
+    ensures refused { IfErr result IsBeforeWriting }
+{
     let mut bytes = Vec::new(alloc);
     match input.read_to_end(&mut bytes) {
         Ok(_) => String::from_utf8(bytes).map_err(|_| Fault::NotUtf8),
@@ -62,7 +75,9 @@ fn read_text<I: Read>(alloc: Global, input: &mut I) -> Result<String, Fault> {
 fn asked_report(
     alloc: Global,
     asked: &Asked<'_>,
-) -> Result<Report<'static, Range<usize>>, AllocError> {
+) -> Result<Report<'static, Range<usize>>, AllocError>
+    ensures { IfOk result (λ report. report ≡ report_of asked.now) }
+{
     let span = match asked.labels.first() {
         Some(label) => label.start..label.end,
         None => 0..0,

@@ -1,7 +1,12 @@
 //! Why the program can't draw, what it tells of that, and the status that it ends with.
 
+ghost use Rattle.std.specs.Prelude.{◌≡◌, ◌≢◌, alloc_error};
+ghost use Rattle.std.specs.IoError.{error_kind};
+ghost use Rattle.ariadne_programs.specs.Faults.{fault_of, status_of};
+ghost use Rattle.ariadne_programs.specs.declared.fault.Fault.TheVariants.{Memory};
+
 use ariadne::WriteError;
-use std::alloc::AllocError;
+use std::alloc::{AllocError, AllocFailed};
 use std::io;
 use std::io::{ErrorKind, Write};
 use thiserror::Error;
@@ -36,10 +41,28 @@ pub enum Fault {
     Writer { sent: usize },
     /// Memory was refused.
     #[error("no memory")]
-    Memory(#[from(alloc)] AllocError),
+    Memory(AllocError),
+}
+
+impl From<AllocError> for Fault {
+    ghost from_gives = { λ _ f. f ≡ Memory alloc_error };
+
+    fn from(error: AllocError) -> Fault {
+        Fault::Memory(error)
+    }
+}
+
+impl<T: Drop> From<AllocFailed<T>> for Fault {
+    ghost from_gives = { λ _ f. f ≡ Memory alloc_error };
+
+    fn from(_refused: AllocFailed<T>) -> Fault {
+        Fault::Memory(AllocError)
+    }
 }
 
 impl From<WriteError> for Fault {
+    ghost from_gives = { λ e f. f ≡ fault_of e };
+
     fn from(error: WriteError) -> Fault {
         match error {
             WriteError::Memory(error) => Fault::Memory(error),
@@ -50,7 +73,10 @@ impl From<WriteError> for Fault {
 
 impl Fault {
     /// What an error of the system means: want of memory where it is of that kind, else `other`.
-    pub fn of_error(error: &io::Error, other: Fault) -> Fault {
+    pub fn of_error(error: &io::Error, other: Fault) -> Fault
+        ensures memory { error_kind error.now ≡ ErrorKind.OutOfMemory → result ≡ Memory alloc_error }
+        ensures other { error_kind error.now ≢ ErrorKind.OutOfMemory → result ≡ other }
+    {
         if error.kind() == ErrorKind::OutOfMemory {
             Fault::Memory(AllocError)
         } else {
@@ -59,7 +85,9 @@ impl Fault {
     }
 
     /// The status that the program ends with after this fault.
-    pub fn status(&self) -> Status {
+    pub fn status(&self) -> Status
+        ensures { result ≡ status_of self.now }
+    {
         match self {
             Fault::Usage | Fault::Unread | Fault::NotUtf8 => Status::BadInput,
             Fault::Writer { .. } | Fault::Memory(_) => Status::Failed,
@@ -70,7 +98,9 @@ impl Fault {
 /// Writes a fault's text and a line feed to `faults`, and answers its status.
 ///
 /// A writer that fails is passed over.
-pub fn tell_fault<F: Write>(faults: &mut F, fault: &Fault) -> Status {
+pub fn tell_fault<F: Write>(faults: &mut F, fault: &Fault) -> Status
+    ensures { result ≡ status_of fault.now }
+{
     let _ = writeln!(faults, "{fault}");
     fault.status()
 }

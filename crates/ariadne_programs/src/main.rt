@@ -1,6 +1,7 @@
 //! `ariadne-draw`: draws a report over the text on its standard input.
 #![tactic(auto)]
 
+mod asked;
 mod drawing;
 mod fault;
 #[cfg(test)]

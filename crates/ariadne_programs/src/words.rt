@@ -1,31 +1,13 @@
-//! What the words of the command line ask for.
+//! Reading the words of the command line.
 
-ghost use Rattle.std.specs.Prelude.{◌≡◌, ◌≤◌, ◌↔◌, IsSome, IfSome, SomeIff};
+ghost use Rattle.std.specs.Prelude.{◌≡◌, ◌≤◌, ◌↔◌, ℕ, List, ◌∷◌, map, IsSome, IfErr, IfOk, IfSome, SomeIff, string_bytes};
+ghost use Rattle.ariadne_programs.specs.Faults.{IsBeforeWriting};
+ghost use Rattle.ariadne_programs.specs.Words.{AskBehindOptions, AskFor, AskForLabels, HaveOptions};
 ghost use Rattle.ariadne_programs.specs.Numbers.{IsNumber, number_of};
 
+use super::asked::{Asked, AskedLabel};
 use super::fault::Fault;
 use std::alloc::{AllocError, Global};
-
-/// A label that the words ask for.
-#[derive(Drop)]
-pub struct AskedLabel<'a> {
-    /// Its first offset, in characters of the source from 0.
-    pub start: usize,
-    /// The offset where it ends, exclusive.
-    pub end: usize,
-    /// Its message.
-    pub text: &'a str,
-    ghost forward: { start ≤ end },
-}
-
-/// What the words ask for.
-#[derive(Drop)]
-pub struct Asked<'a> {
-    /// The report's message.
-    pub message: &'a str,
-    /// The report's labels, in the order of the words.
-    pub labels: Vec<AskedLabel<'a>>,
-}
 
 /// The options that stand before the message.
 #[derive(Clone, Copy, Default)]
@@ -40,7 +22,10 @@ struct Options {
 /// message. Where a word `--` stands before it, the message is the word behind that, whatever it
 /// begins with. Three words for each label follow. `--ascii` and `--plain` must both be there, since
 /// nothing else is drawn yet. Words of any other form are `Fault::Usage`.
-pub fn read_words<'a>(alloc: Global, words: &'a [String]) -> Result<Asked<'a>, Fault> {
+pub fn read_words<'a>(alloc: Global, words: &'a [String]) -> Result<Asked<'a>, Fault>
+    ensures asked { IfOk result (λ asked. AskFor (map string_bytes words.now) asked) }
+    ensures refused { IfErr result IsBeforeWriting }
+{
     let (options, rest) = read_options(words)?;
     if !options.is_ascii || !options.is_plain {
         return Err(Fault::Usage);
@@ -54,7 +39,12 @@ pub fn read_words<'a>(alloc: Global, words: &'a [String]) -> Result<Asked<'a>, F
 }
 
 /// The options, and the words from the message on.
-fn read_options(words: &[String]) -> Result<(Options, &[String]), Fault> {
+fn read_options(words: &[String]) -> Result<(Options, &[String]), Fault>
+    ensures found { IfOk result (λ found. (behind : List (List ℕ))
+        × HaveOptions (map string_bytes words.now) found.0.is_ascii found.0.is_plain behind
+        × ((message : List ℕ) (rest : List (List ℕ)) → map string_bytes found.1.now ≡ message ∷ rest → AskBehindOptions behind message rest)) }
+    ensures refused { IfErr result IsBeforeWriting }
+{
     let mut options = Options::default();
     let mut rest = words;
     while let Some((word, others)) = rest.split_first() {
@@ -71,7 +61,10 @@ fn read_options(words: &[String]) -> Result<(Options, &[String]), Fault> {
 }
 
 /// The labels that words name in threes.
-fn read_labels<'a>(alloc: Global, words: &'a [String]) -> Result<Vec<AskedLabel<'a>>, Fault> {
+fn read_labels<'a>(alloc: Global, words: &'a [String]) -> Result<Vec<AskedLabel<'a>>, Fault>
+    ensures labels { IfOk result (λ labels. AskForLabels (map string_bytes words.now) labels.items) }
+    ensures refused { IfErr result IsBeforeWriting }
+{
     let mut labels = Vec::new(alloc);
     for three in words.chunks(3) {
         let [start, end, text] = three else {
