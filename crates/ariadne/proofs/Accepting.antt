@@ -3,46 +3,62 @@ use Rattle.std.proofs.Common.{◌≡◌, ℕ, ◌+◌, ◌-◌, ◌/◌, ◌<◌
 use Rattle.std.proofs.Common.{subst, Bor, Option, Some, None}
 use Rattle.std.specs.Prelude.{nat_lt, is_some, IfSome, option_copied, chars}
 use Rattle.std.proofs.lemmas.Bool.Decides.{nat_tests}
-use Rattle.ariadne_base.specs.Places.{line_at, column_at, line_offset}
+use Rattle.ariadne_base.specs.Locations.{line_at, column_at, line_offset}
 use Rattle.ariadne_base.specs.Ranges.{last_offset}
-use Rattle.ariadne_base.specs.Table.{LineExtent, line_extent, place_of}
+use Rattle.ariadne_base.specs.Table.{LineExtent, line_extent, location_of}
 use Rattle.ariadne_base.specs.Listing.{Listing, listed_lines}
-use Rattle.ariadne.specs.declared.config.LabelAttach.{LabelAttach}
-use Rattle.ariadne.specs.declared.config.IndexType.TheVariants.{Char}
-use Rattle.ariadne.specs.declared.write.accept.Verdict.TheVariants.{Accepted, PastSource}
-use Rattle.ariadne.specs.declared.write.label_info.LabelInfo.{LabelInfo}
-use Rattle.ariadne.specs.Report.{ConfigFields, LabelFields}
-use Rattle.ariadne.specs.Accept.{text_len, offset_in_chars, attach_offset, info_of, within, verdict}
+use Rattle.ariadne_picture.specs.declared.switches.LabelAttach.{LabelAttach}
+use Rattle.ariadne_picture.specs.declared.switches.IndexType.TheVariants.{Char}
+use Rattle.ariadne_picture.specs.declared.verdict.Verdict.TheVariants.{Accepted, PastSource}
+use Rattle.ariadne_picture.specs.declared.label_info.LabelInfo.{LabelInfo}
+use Rattle.ariadne_picture.specs.Report.{ConfigFields, LabelFields}
+use Rattle.ariadne_picture.specs.Accept.{text_len, offset_in_chars, attach_offset, info_of, within, verdict}
 
 -- halfway between two offsets, in a form that does not overflow
 pub halfway : (a b : ℕ) → a ≤ b → a + (b - a) / 2 ≡ (a + b) / 2
 halfway a b h = omega arith
 
 -- the parts of a place
-pub place_line : (size : List ℕ → ℕ) (ls : List (List ℕ)) (o : ℕ) (r : LineExtent) (n c : ℕ) → (r, n, c) ≡ place_of size ls o → r ≡ line_extent ls (line_at size ls o)
-unfolding place_of
+pub place_line : (size : List ℕ → ℕ) (ls : List (List ℕ)) (o : ℕ) (r : LineExtent) (n c : ℕ) → (r, n, c) ≡ location_of size ls o
+    → r ≡ line_extent ls (line_at size ls o)
+unfolding location_of
 place_line size ls o r n c e = ap (λ (p : LineExtent × ℕ × ℕ). p.0) e
 
-pub place_number : (size : List ℕ → ℕ) (ls : List (List ℕ)) (o : ℕ) (r : LineExtent) (n c : ℕ) → (r, n, c) ≡ place_of size ls o → n ≡ line_at size ls o
-unfolding place_of
+pub place_number : (size : List ℕ → ℕ) (ls : List (List ℕ)) (o : ℕ) (r : LineExtent) (n c : ℕ) → (r, n, c) ≡ location_of size ls o
+    → n ≡ line_at size ls o
+unfolding location_of
 place_number size ls o r n c e = ap (λ (p : LineExtent × ℕ × ℕ). p.1) e
 
-pub place_column : (size : List ℕ → ℕ) (ls : List (List ℕ)) (o : ℕ) (r : LineExtent) (n c : ℕ) → (r, n, c) ≡ place_of size ls o → c ≡ column_at size ls o
-unfolding place_of
+pub place_column : (size : List ℕ → ℕ) (ls : List (List ℕ)) (o : ℕ) (r : LineExtent) (n c : ℕ) → (r, n, c) ≡ location_of size ls o
+    → c ≡ column_at size ls o
+unfolding location_of
 place_column size ls o r n c e = ap (λ (p : LineExtent × ℕ × ℕ). p.2) e
 
 -- the offset of the line of a place
-pub place_offset : (ls : List (List ℕ)) (o : ℕ) (r : LineExtent) (n c : ℕ) → (r, n, c) ≡ place_of length ls o → r.offset ≡ line_offset length ls (line_at length ls o)
+pub place_offset : (ls : List (List ℕ)) (o : ℕ) (r : LineExtent) (n c : ℕ) → (r, n, c) ≡ location_of length ls o
+    → r.offset ≡ line_offset length ls (line_at length ls o)
 unfolding line_extent
 place_offset ls o r n c e = ap (λ (x : LineExtent). x.offset) (place_line length ls o r n c e)
 
 -- an accepted label from its parts
 pub info_is : {S : Type 0} (attach : LabelAttach) (ls : List (List ℕ)) (k : ℕ) (label : LabelFields S) (start end last : ℕ)
     (r s : LineExtent) (n c m d a t : ℕ) (order priority : ℤ) (has_message : Bool)
-    → (r, n, c) ≡ place_of length ls start → last ≡ last_offset start end → (s, m, d) ≡ place_of length ls last
+    → (r, n, c) ≡ location_of length ls start → last ≡ last_offset start end → (s, m, d) ≡ location_of length ls last
     → a ≡ attach_offset attach start end → t ≡ a - r.offset
     → order ≡ label.order → priority ≡ label.priority → has_message ≡ is_some label.message
-    → record { number = k; start = start; end = end; start_line = n; start_column = c; end_line = m; end_column = d; attach = t; order = order; priority = priority; has_message = has_message }
+    → record {
+      position = k;
+      start = start;
+      end = end;
+      start_line = n;
+      start_place = c;
+      end_line = m;
+      end_place = d;
+      attach = t;
+      order = order;
+      priority = priority;
+      has_message = has_message;
+    }
     ≡ info_of attach ls k label start end
 unfolding info_of
 info_is attach ls k label start end last r s n c m d a t order priority has_message p l q e u f g h =

@@ -1,17 +1,18 @@
 -- The bytes of pieces: one after another, of one more place, of a place's cells, and of a plain text.
-use Rattle.std.proofs.Common.{◌≡◌, ℕ, zero, suc, ◌+◌, ◌≤◌, List, [], ◌∷◌, ◌++◌, replicate, map, None, refl, sym, ap, ◌∙◌, arith, append_assoc, add-one}
+use Rattle.std.proofs.Common.{◌≡◌, ℕ, zero, suc, ◌+◌, ◌≤◌, List, [], ◌∷◌, ◌++◌, replicate, map, None, refl, sym, ap, ◌∙◌, arith, append_assoc}
+use Rattle.std.proofs.Common.{add-one}
 use Rattle.std.proofs.lemmas.List.{append-nil, map-append, replicate_more}
 use Rattle.std.proofs.lemmas.Bool.{cond_both}
 use Rattle.ariadne_base.specs.Colors.{painted}
-use Rattle.ariadne_base.specs.Places.{upto}
-use Rattle.ariadne.specs.declared.config.CharSet.{CharSet}
-use Rattle.ariadne.specs.declared.write.cell.Ink.{Ink}
-use Rattle.ariadne.specs.declared.write.cell.Paint.TheVariants.{Plain}
-use Rattle.ariadne.specs.Lists.{joined}
-use Rattle.ariadne.specs.Pieces.{Piece, glyph_text, ink_pieces, stroke, spaces}
-use Rattle.ariadne.specs.Canvas.{Palette, color_of, paint_color, cell_of}
-use Rattle.ariadne.specs.Print.{cell_bytes, pieces_bytes}
-use Rattle.ariadne.proofs.Joined.{joined-append, joined-upto_more}
+use Rattle.ariadne_base.specs.Locations.{upto}
+use Rattle.ariadne_picture.specs.declared.switches.CharSet.{CharSet}
+use Rattle.ariadne_picture.specs.declared.cell.Ink.{Ink}
+use Rattle.ariadne_picture.specs.declared.cell.Paint.TheVariants.{Plain}
+use Rattle.ariadne_picture.specs.Lists.{joined}
+use Rattle.ariadne_picture.specs.Pieces.{Piece, glyph_text, ink_pieces, stroke, spaces}
+use Rattle.ariadne_picture.specs.Canvas.{Palette, color_of, paint_color, cell_of}
+use Rattle.ariadne_picture.specs.Print.{cell_bytes, pieces_bytes}
+use Rattle.ariadne_picture.proofs.Lists.Joined.{joined-append, joined-upto_more}
 
 -- ---- pieces
 
@@ -19,7 +20,8 @@ pub pieces_bytes_none : (p : Palette) → pieces_bytes p [] ≡ []
 unfolding pieces_bytes joined
 pieces_bytes_none p = refl
 
-pub pieces_bytes_first : (p : Palette) (x : Piece) (xs : List Piece) → pieces_bytes p (x ∷ xs) ≡ painted (color_of p x.paint) x.text ++ pieces_bytes p xs
+pub pieces_bytes_first : (p : Palette) (x : Piece) (xs : List Piece) → pieces_bytes p (x ∷ xs) ≡ painted (color_of p x.paint) x.text
+    ++ pieces_bytes p xs
 unfolding pieces_bytes joined cell_bytes
 pieces_bytes_first p x xs = refl
 
@@ -28,7 +30,8 @@ pieces_bytes_one p x = pieces_bytes_first p x [] ∙ ap (λ t. painted (color_of
 
 pub pieces_bytes-append : (p : Palette) (xs ys : List Piece) → pieces_bytes p (xs ++ ys) ≡ pieces_bytes p xs ++ pieces_bytes p ys
 unfolding pieces_bytes
-pieces_bytes-append p xs ys = ap (joined cell_bytes) (map-append (cell_of p) xs ys) ∙ joined-append cell_bytes (map (cell_of p) xs) (map (cell_of p) ys)
+pieces_bytes-append p xs ys =
+    ap (joined cell_bytes) (map-append (cell_of p) xs ys) ∙ joined-append cell_bytes (map (cell_of p) xs) (map (cell_of p) ys)
 
 -- ---- one more place of a row
 
@@ -36,7 +39,8 @@ pub places_none : (p : Palette) (f : ℕ → List Piece) (old : List ℕ) → ol
 unfolding pieces_bytes joined
 places_none p f old = sym (append-nil old)
 
-pub places_more : (p : Palette) (f : ℕ → List Piece) (old b here : List ℕ) (n : ℕ) → b ≡ old ++ pieces_bytes p (joined f (upto n)) → here ≡ pieces_bytes p (f n) → b ++ here ≡ old ++ pieces_bytes p (joined f (upto (n + 1)))
+pub places_more : (p : Palette) (f : ℕ → List Piece) (old b here : List ℕ) (n : ℕ) → b ≡ old ++ pieces_bytes p (joined f (upto n))
+    → here ≡ pieces_bytes p (f n) → b ++ here ≡ old ++ pieces_bytes p (joined f (upto (n + 1)))
 places_more p f old b here n e h =
     let before = joined f (upto n) in
     (λ i. e i ++ h i) ∙ append_assoc old (pieces_bytes p before) (pieces_bytes p (f n))
@@ -48,7 +52,8 @@ pub cells_none : (p : Palette) (x : Piece) (old : List ℕ) → old ≡ old ++ p
 unfolding pieces_bytes joined
 cells_none p x old = sym (append-nil old)
 
-pub cells_more : (p : Palette) (x : Piece) (old b here : List ℕ) (n : ℕ) → b ≡ old ++ pieces_bytes p (replicate n x) → here ≡ painted (color_of p x.paint) x.text → b ++ here ≡ old ++ pieces_bytes p (replicate (n + 1) x)
+pub cells_more : (p : Palette) (x : Piece) (old b here : List ℕ) (n : ℕ) → b ≡ old ++ pieces_bytes p (replicate n x)
+    → here ≡ painted (color_of p x.paint) x.text → b ++ here ≡ old ++ pieces_bytes p (replicate (n + 1) x)
 cells_more p x old b here n e h =
     let before = replicate n x in
     (λ i. e i ++ h i) ∙ append_assoc old (pieces_bytes p before) (painted (color_of p x.paint) x.text)
@@ -61,16 +66,18 @@ pub ink_none : (p : Palette) (set : CharSet) (a : Ink) → pieces_bytes p (ink_p
 unfolding ink_pieces
 ink_none p set a = pieces_bytes_none p
 
-pub ink_one : (p : Palette) (set : CharSet) (a : Ink) → pieces_bytes p (ink_pieces set a 1) ≡ painted (color_of p a.head_paint) (glyph_text set a.head)
+pub ink_one : (p : Palette) (set : CharSet) (a : Ink)
+    → pieces_bytes p (ink_pieces set a 1) ≡ painted (color_of p a.first_paint) (glyph_text set a.first)
 unfolding ink_pieces
-ink_one p set a = pieces_bytes_one p (stroke set a.head a.head_paint)
+ink_one p set a = pieces_bytes_one p (stroke set a.first a.first_paint)
 
-pub ink_more : (p : Palette) (set : CharSet) (a : Ink) (n : ℕ) → 1 ≤ n → pieces_bytes p (ink_pieces set a (n + 1)) ≡ pieces_bytes p (ink_pieces set a n) ++ painted (color_of p a.tail_paint) (glyph_text set a.tail)
+pub ink_more : (p : Palette) (set : CharSet) (a : Ink) (n : ℕ) → 1 ≤ n
+    → pieces_bytes p (ink_pieces set a (n + 1)) ≡ pieces_bytes p (ink_pieces set a n) ++ painted (color_of p a.rest_paint) (glyph_text set a.rest)
 unfolding ink_pieces
 ink_more p set a zero h = absurd (omega arith)
 ink_more p set a (suc n) h =
-    let head = stroke set a.head a.head_paint in
-    let tail = stroke set a.tail a.tail_paint in
+    let head = stroke set a.first a.first_paint in
+    let tail = stroke set a.rest a.rest_paint in
     let e : suc n ≡ n + 1 = omega arith in
     let grown : replicate (suc n) tail ≡ replicate n tail ++ tail ∷ [] = ap (λ k. replicate k tail) e ∙ sym (replicate_more n tail) in
     let more : head ∷ replicate (suc n) tail ≡ (head ∷ replicate n tail) ++ tail ∷ [] = ap (λ t. head ∷ t) grown in

@@ -1,28 +1,29 @@
 -- The drawn labels of a report that is drawable: all lie within its one line, which is there, and end no later than the line does.
-use Rattle.std.proofs.Common.{◌≡◌, ℕ, zero, suc, ◌+◌, ◌<◌, ◌≤◌, min, true, List, [], ◌∷◌, Option, Some, None, length, refl, sym, ap, ◌∙◌, subst, arith, inl, inr, chars, unwrap_or, option_to_list, slice_get, ◌||◌, nat_lt}
+use Rattle.std.proofs.Common.{◌≡◌, ℕ, zero, suc, ◌+◌, ◌<◌, ◌≤◌, min, true, List, [], ◌∷◌, Option, Some, None, length, refl, sym, ap, ◌∙◌, subst}
+use Rattle.std.proofs.Common.{arith, inl, inr, chars, unwrap_or, option_to_list, slice_get, ◌||◌, nat_lt}
 use Rattle.std.specs.Prelude.{option_map, is_some, ◌&&◌, ◌==◌}
 use Rattle.std.specs.List.{AllByRecursion, list_all}
 use Rattle.std.specs.Option.{option_map_or}
 use Rattle.std.specs.declared.ops.Range.{Range}
 use Rattle.std.proofs.lemmas.Bool.{cases_Bool, cases_lt, and_parts, or_parts, eqb-true, ltb-false}
 use Rattle.ariadne_base.specs.Lines.{lines_of}
-use Rattle.ariadne_base.specs.Places.{line_offset, line_text, line_at}
+use Rattle.ariadne_base.specs.Locations.{line_offset, line_text, line_at}
 use Rattle.ariadne_base.specs.Ranges.{last_offset, first_line, line_end}
 use Rattle.ariadne_base.specs.Listing.{Listing, listed_lines}
 use Rattle.ariadne_base.proofs.LineLaws.{lines_length, some_line}
-use Rattle.ariadne_base.proofs.PlaceLemmas.{offset_more, offset_all, line_at_is, line_at_up}
+use Rattle.ariadne_base.proofs.LocationLemmas.{offset_more, offset_all, line_at_is, line_at_up}
 use Rattle.ariadne_base.proofs.RangeLemmas.{line_number_some}
-use Rattle.ariadne.specs.declared.config.LabelAttach.{LabelAttach}
-use Rattle.ariadne.specs.declared.config.IndexType.TheVariants.{Char}
-use Rattle.ariadne.specs.declared.write.accept.Verdict.{Verdict}
-use Rattle.ariadne.specs.declared.write.accept.Verdict.TheVariants.{Accepted, PastSource}
-use Rattle.ariadne.specs.declared.write.label_info.LabelInfo.{LabelInfo}
-use Rattle.ariadne.specs.Report.{ConfigFields, LabelFields, ReportFields}
-use Rattle.ariadne.specs.Accept.{info_of, verdict, accepted_info, drawn_label, drawn_labels}
-use Rattle.ariadne.specs.Canvas.{label_id, is_same_id, same_source}
+use Rattle.ariadne_picture.specs.declared.switches.LabelAttach.{LabelAttach}
+use Rattle.ariadne_picture.specs.declared.switches.IndexType.TheVariants.{Char}
+use Rattle.ariadne_picture.specs.declared.verdict.Verdict.{Verdict}
+use Rattle.ariadne_picture.specs.declared.verdict.Verdict.TheVariants.{Accepted, PastSource}
+use Rattle.ariadne_picture.specs.declared.label_info.LabelInfo.{LabelInfo}
+use Rattle.ariadne_picture.specs.Report.{ConfigFields, LabelFields, ReportFields}
+use Rattle.ariadne_picture.specs.Accept.{info_of, verdict, accepted_info, drawn_label, drawn_labels}
+use Rattle.ariadne_picture.specs.Canvas.{label_id, is_same_id, same_source}
 use Rattle.ariadne.specs.OneLine.{AreOnLine}
 use Rattle.ariadne.specs.Written.{only_source, drawn, reasons, is_label_drawable, drawable_line, is_drawable}
-use Rattle.ariadne.proofs.ListFacts.{all-append, all-weaker}
+use Rattle.ariadne_picture.proofs.Lists.ListFacts.{all-append, all-weaker}
 use Rattle.ariadne.proofs.Accepting.{verdict_past, verdict_within}
 
 -- ---- the lines of an offset and of a span within a text
@@ -32,20 +33,24 @@ start-line : (t : List ℕ) (start l : ℕ) → start ≤ length t → first_lin
 start-line t start l h e = sym (ap (λ o. unwrap_or o 0) (line_number_some t start h)) ∙ e
 
 -- the last line of a span whose last offset is within a text is that of the last offset
-last-line : (t : List ℕ) (start end l : ℕ) → last_offset start end ≤ length t → line_end (lines_of t) start end ≡ l + 1 → line_at length (lines_of t) (last_offset start end) ≡ l
+last-line : (t : List ℕ) (start end l : ℕ) → last_offset start end ≤ length t → line_end (lines_of t) start end ≡ l + 1
+    → line_at length (lines_of t) (last_offset start end) ≡ l
 last-line t start end l h e =
-    let same : suc (line_at length (lines_of t) (last_offset start end)) ≡ l + 1 = sym (ap (λ o. option_map_or suc o (length (lines_of t))) (line_number_some t (last_offset start end) h)) ∙ e in
+    let same : suc (line_at length (lines_of t) (last_offset start end)) ≡ l + 1 = sym
+    (ap (λ o. option_map_or suc o (length (lines_of t))) (line_number_some t (last_offset start end) h)) ∙ e in
     omega arith
 
 -- an offset between two of one line lies in that line
-between : (t : List ℕ) (low mid high l : ℕ) → low ≤ mid → mid ≤ high → line_at length (lines_of t) low ≡ l → line_at length (lines_of t) high ≡ l → line_at length (lines_of t) mid ≡ l
+between : (t : List ℕ) (low mid high l : ℕ) → low ≤ mid → mid ≤ high → line_at length (lines_of t) low ≡ l → line_at length (lines_of t) high ≡ l
+    → line_at length (lines_of t) mid ≡ l
 between t low mid high l h k p q =
     let up = line_at_up length (lines_of t) low mid (some_line t) h in
     let down = line_at_up length (lines_of t) mid high (some_line t) k in
     omega arith
 
 -- what ends at most one past an offset of a line, and within the text, ends no later than the line
-line-stop : (t : List ℕ) (o l stop : ℕ) → line_at length (lines_of t) o ≡ l → stop ≤ o + 1 → stop ≤ length t → stop ≤ line_offset length (lines_of t) l + length (line_text (lines_of t) l)
+line-stop : (t : List ℕ) (o l stop : ℕ) → line_at length (lines_of t) o ≡ l → stop ≤ o + 1 → stop ≤ length t
+    → stop ≤ line_offset length (lines_of t) l + length (line_text (lines_of t) l)
 line-stop t o l stop e h k =
     let at = line_at_is length (lines_of t) o (some_line t) in
     let there = at.there in
@@ -65,7 +70,7 @@ line-stop t o l stop e h k =
 
 -- a label with a number below n that lies within line l, has a message, and ends no later than the line, which is there
 record Fits (ls : List (List ℕ)) (l n : ℕ) (a : LabelInfo) : Type 0 where
-  number : a.number < n
+  number : a.position < n
   starts : a.start_line ≡ l
   ends : a.end_line ≡ l
   message : a.has_message ≡ true
@@ -114,7 +119,8 @@ unfolding accepted_info
 fits-past ls l n v e = subst (λ v. AllFit ls l n (option_to_list (accepted_info v))) e tt
 
 -- one that accepts a label that fits
-fits-accepted : (ls : List (List ℕ)) (l n : ℕ) (a : LabelInfo) (v : Verdict) → Fits ls l n a → Accepted a ≡ v → AllFit ls l n (option_to_list (accepted_info v))
+fits-accepted : (ls : List (List ℕ)) (l n : ℕ) (a : LabelInfo) (v : Verdict) → Fits ls l n a → Accepted a ≡ v
+    → AllFit ls l n (option_to_list (accepted_info v))
 unfolding accepted_info
 fits-accepted ls l n a v f e = subst (λ v. AllFit ls l n (option_to_list (accepted_info v))) e (f, tt)
 
@@ -149,13 +155,15 @@ module _ (s : Listing) (config : ConfigFields) (l n : ℕ) (chars_mode : config.
 
   -- all of them, where n is at least one past the last number
   fits-all : {R : Type 0} (k : ℕ) (labels : List (LabelFields (Range ℕ))) (reasons : List (Option R)) → k + length labels ≤ n
-      → list_all (is_label_drawable (listed_lines s) l) labels ≡ true → AllFit (listed_lines s) l n (drawn_labels (only_source s) config k labels reasons)
+      → list_all (is_label_drawable (listed_lines s) l) labels ≡ true
+      → AllFit (listed_lines s) l n (drawn_labels (only_source s) config k labels reasons)
   unfolding drawn_labels
   fits-all k [] reasons few h = tt
   fits-all k (label ∷ labels) [] few h = tt
   fits-all k (label ∷ labels) (reason ∷ reasons) few h =
       let p = and_parts (is_label_drawable (listed_lines s) l label) (list_all (is_label_drawable (listed_lines s) l) labels) h in
-      all-append (Fits (listed_lines s) l n) (drawn_label (only_source s) config k label reason) (drawn_labels (only_source s) config (suc k) labels reasons)
+      all-append (Fits (listed_lines s) l n) (drawn_label (only_source s) config k label reason)
+      (drawn_labels (only_source s) config (suc k) labels reasons)
       (fits-drawn k label reason (omega arith) p.0) (fits-all (suc k) labels reasons (omega arith) p.1)
 
 -- what is there at a place is something
@@ -188,20 +196,22 @@ module _ (s : Listing) (r : ReportFields (Range ℕ)) where
   drawn-fit chars_mode d = fits-all s r.config (drawable_line s r) (length r.labels) chars_mode 0 r.labels (reasons s r) (omega arith) d
 
   -- they lie within its line
-  pub drawn-on_line : r.config.index_type ≡ Char → r.helps ≡ [] → r.notes ≡ [] → is_drawable s r ≡ true → AreOnLine (only_source s) r (drawable_line s r) (drawn s r)
+  pub drawn-on_line : r.config.index_type ≡ Char → r.helps ≡ [] → r.notes ≡ [] → is_drawable s r ≡ true
+      → AreOnLine (only_source s) r (drawable_line s r) (drawn s r)
   drawn-on_line chars_mode helps notes d =
       let fit = drawn-fit chars_mode d in
       record {
         lines = all-weaker _ _ (drawn s r) (λ a f. (f.starts, f.ends)) fit;
         messages = all-weaker _ _ (drawn s r) (λ a f. f.message) fit;
-        sources = all-weaker _ _ (drawn s r) (λ a f. all-weaker _ _ (drawn s r) (λ b g. only-same a.number b.number f.number g.number) fit) fit;
+        sources = all-weaker _ _ (drawn s r) (λ a f. all-weaker _ _ (drawn s r) (λ b g. only-same a.position b.position f.number g.number) fit) fit;
         helps = helps;
         notes = notes;
       }
 
   -- they end no later than it does
   pub drawn-ends : r.config.index_type ≡ Char → is_drawable s r ≡ true
-      → AllByRecursion (λ a. a.end ≤ line_offset length (listed_lines s) (drawable_line s r) + length (line_text (listed_lines s) (drawable_line s r))) (drawn s r)
+      → AllByRecursion (λ a. a.end ≤ line_offset length (listed_lines s) (drawable_line s r) + length
+      (line_text (listed_lines s) (drawable_line s r))) (drawn s r)
   drawn-ends chars_mode d = all-weaker _ _ (drawn s r) (λ a f. f.stop) (drawn-fit chars_mode d)
 
   -- it is there, if one is drawn

@@ -1,5 +1,6 @@
 -- The place that a header names, and the line of a picture within one line.
-use Rattle.std.proofs.Common.{◌≡◌, ℕ, ◌+◌, ◌<◌, ◌≤◌, ◌^◌, ◌-◌, true, false, List, length, refl, ap, ◌∙◌, subst, arith, inl, inr, Option, Some, None, Result}
+use Rattle.std.proofs.Common.{◌≡◌, ℕ, ◌+◌, ◌<◌, ◌≤◌, ◌^◌, ◌-◌, true, false, List, length, refl, ap, ◌∙◌, subst, arith, inl, inr, Option, Some, None}
+use Rattle.std.proofs.Common.{Result}
 use Rattle.std.specs.Prelude.{chars, nat_le, IfOk, IsSome, IsSomeAnd, slice_get}
 use Rattle.std.specs.Str.{IsUtf8}
 use Rattle.std.specs.declared.ops.Range.{Range}
@@ -7,26 +8,28 @@ use Rattle.std.proofs.lemmas.Bool.{cases_lt, le-leb, lt-leb}
 use Rattle.std.proofs.lemmas.Option.{slice_get-get_or}
 use Rattle.std.proofs.lemmas.Str.{encodes-chars, length-le-encodes}
 use Rattle.ariadne_base.specs.Listing.{Listing, listed_lines}
-use Rattle.ariadne_base.specs.Places.{line_at, column_at, line_offset}
-use Rattle.ariadne_base.specs.Table.{LineExtent, line_extent, line_table, place_of}
-use Rattle.ariadne_base.proofs.PlaceLemmas.{get_or-line_table}
+use Rattle.ariadne_base.specs.Locations.{line_at, column_at, line_offset}
+use Rattle.ariadne_base.specs.Table.{LineExtent, line_extent, line_table, location_of}
+use Rattle.ariadne_base.proofs.LocationLemmas.{get_or-line_table}
 use Rattle.ariadne_base.proofs.TableLemmas.{length-line_table}
-use Rattle.ariadne.specs.Columns.{Layout}
-use Rattle.ariadne.specs.declared.write.label_info.LabelInfo.{LabelInfo}
-use Rattle.ariadne.specs.Groups.{line_number}
-use Rattle.ariadne.specs.Heads.{place_numbers}
+use Rattle.ariadne_picture.specs.Columns.{Layout}
+use Rattle.ariadne_picture.specs.declared.label_info.LabelInfo.{LabelInfo}
+use Rattle.ariadne_picture.specs.Groups.{printed_number}
+use Rattle.ariadne.specs.Headers.{location_numbers}
 use Rattle.ariadne.specs.OneLine.{inline_layout}
-use Rattle.ariadne.specs.Pieces.{place_text}
-use Rattle.ariadne.specs.Report.{ReportFields}
-use Rattle.ariadne.specs.Written.{own_place}
+use Rattle.ariadne_picture.specs.Pieces.{location_text}
+use Rattle.ariadne_picture.specs.Report.{ReportFields}
+use Rattle.ariadne.specs.Written.{own_offset}
 use Rattle.ariadne.proofs.Accepting.{place_number, place_column}
 
 -- the text of a place that the source has
-pub place_there : (source : Listing) (r : ReportFields (Range ℕ)) (start line column shift : ℕ) (e : LineExtent)
-    → start ≡ r.span.start → shift ≡ source.display_offset → start ≤ length (chars source.text) → (e, line, column) ≡ place_of length (listed_lines source) start
-    → place_numbers (Some (line + 1 + shift, column + 1)) ≡ place_text (listed_lines source) source.display_offset (own_place source r)
-unfolding place_numbers place_text own_place line_number
-place_there source r start line column shift e at moved low place =
+pub place_there : (source : Listing) (r : ReportFields (Range ℕ)) (start line column display_offset : ℕ) (e : LineExtent)
+    → start ≡ r.span.start → display_offset ≡ source.display_offset → start ≤ length (chars source.text)
+    → (e, line, column) ≡ location_of length (listed_lines source) start
+    → location_numbers (Some (line + 1 + display_offset, column + 1)) ≡ location_text (listed_lines source) source.display_offset
+    (own_offset source r)
+unfolding location_numbers location_text own_offset printed_number
+place_there source r start line column display_offset e at moved low place =
     let inside : nat_le r.span.start (length (chars source.text)) ≡ true = le-leb r.span.start (length (chars source.text)) (omega arith) in
     let number = place_number length (listed_lines source) start e line column place in
     let behind = place_column length (listed_lines source) start e line column place in
@@ -34,16 +37,17 @@ place_there source r start line column shift e at moved low place =
 
 -- the text where the source has no such place
 pub place_none : (source : Listing) (r : ReportFields (Range ℕ)) (start : ℕ) → start ≡ r.span.start → (start ≤ length (chars source.text) → ⊥)
-    → place_numbers None ≡ place_text (listed_lines source) source.display_offset (own_place source r)
-unfolding place_numbers place_text own_place
+    → location_numbers None ≡ location_text (listed_lines source) source.display_offset (own_offset source r)
+unfolding location_numbers location_text own_offset
 place_none source r start at past =
-    let few : length (chars source.text) < r.span.start = elim (cases_lt (length (chars source.text)) start) [ inl few ↦ omega arith | inr low ↦ absurd (past low) ] in
+    let few : length (chars source.text) < r.span.start = elim (cases_lt (length (chars source.text)) start)
+    [ inl few ↦ omega arith | inr low ↦ absurd (past low) ] in
     let outside : nat_le r.span.start (length (chars source.text)) ≡ false = lt-leb r.span.start (length (chars source.text)) few in
     rw outside refl
 
 -- there is a number one more than a column, since a text has fewer than 2 ^ 63 characters
 pub column_fits : (text : List ℕ) (ls : List (List ℕ)) (start line column : ℕ) (e : LineExtent) → IsUtf8 text → length text < 2 ^ 63
-    → start ≤ length (chars text) → (e, line, column) ≡ place_of length ls start → column + 1 < 2 ^ 64
+    → start ≤ length (chars text) → (e, line, column) ≡ location_of length ls start → column + 1 < 2 ^ 64
 unfolding column_at
 column_fits text ls start line column e utf8 short low place =
     let behind : column ≡ start - line_offset length ls (line_at length ls start) = place_column length ls start e line column place in

@@ -3,16 +3,17 @@ use Rattle.std.proofs.Common.{◌≡◌, ℕ, ◌<◌, true, false, not, ◌&&�
 use Rattle.std.proofs.lemmas.List.{length-map}
 use Rattle.std.proofs.lemmas.Bool.{eq-eqb, ne_eqb, and_from, and_left, not_from_true}
 use Rattle.std.specs.List.{AllByRecursion}
-use Rattle.ariadne_base.specs.Places.{line_offset, line_text}
-use Rattle.ariadne.specs.declared.write.label_info.LabelInfo.{LabelInfo}
-use Rattle.ariadne.specs.declared.write.label_info.LineLabel.{LineLabel}
-use Rattle.ariadne.specs.Lists.{in_order, best, joined}
-use Rattle.ariadne.specs.Ranks.{Sheet, is_on_one_line, multi_line_labels, members, ends_at, margin_label, inline_labels, is_before, line_labels, is_hidden}
-use Rattle.ariadne.specs.Rows.{Row}
-use Rattle.ariadne.specs.Columns.{layout_of}
-use Rattle.ariadne.specs.Pieces.{gutter_len, gutter_pieces}
+use Rattle.ariadne_base.specs.Locations.{line_offset, line_text}
+use Rattle.ariadne_picture.specs.declared.label_info.LabelInfo.{LabelInfo}
+use Rattle.ariadne_picture.specs.declared.label_info.LineLabel.{LineLabel}
+use Rattle.ariadne_picture.specs.Lists.{in_order, best, joined}
+use Rattle.ariadne_picture.specs.Ranks.{Sheet, is_on_one_line, multi_line_labels, gutter_labels, ends_at, margin_label, inline_labels, is_before}
+use Rattle.ariadne_picture.specs.Ranks.{line_labels, is_hidden}
+use Rattle.ariadne_picture.specs.Rows.{Row}
+use Rattle.ariadne_picture.specs.Columns.{layout_of}
+use Rattle.ariadne_picture.specs.Pieces.{gutter_len, gutter_pieces}
 use Rattle.ariadne.specs.OneLine.{inline_label, inline_layout}
-use Rattle.ariadne.proofs.ListFacts.{all-in_order, length-in_order, all-map, all-weaker, filter-all, filter-none}
+use Rattle.ariadne_picture.proofs.Lists.ListFacts.{all-in_order, length-in_order, all-map, all-weaker, filter-all, filter-none}
 use Rattle.ariadne.proofs.OneGroup.{AreWithin}
 
 -- a label that starts and ends on line l lies on one line
@@ -29,21 +30,21 @@ multi_line_labels-within s l h =
     ap (in_order _) (filter-none (λ a. not (is_on_one_line a)) s.labels (all-weaker _ _ s.labels (λ a p. not_from_true _ (on-one_line l a p)) h))
 
 -- so no gutter column has an owner
-pub members-within : (s : Sheet) (l : ℕ) → AreWithin l s.labels → members s ≡ []
-unfolding members
-members-within s l h = ap (filter (λ a. a.has_message)) (multi_line_labels-within s l h)
+pub gutter-labels-within : (s : Sheet) (l : ℕ) → AreWithin l s.labels → gutter_labels s ≡ []
+unfolding gutter_labels
+gutter-labels-within s l h = ap (filter (λ a. a.has_message)) (multi_line_labels-within s l h)
 
 -- and there is no gutter
 pub gutter_pieces-within : (s : Sheet) (l : ℕ) (x : Row) → AreWithin l s.labels → gutter_pieces s x ≡ []
 unfolding gutter_pieces gutter_len joined
-gutter_pieces-within s l x h = rw (members-within s l h)
+gutter_pieces-within s l x h = rw (gutter-labels-within s l h)
 
 -- ---- at a line
 
 -- no label of the gutter starts or ends anywhere
 pub ends_at-within : (s : Sheet) (l k : ℕ) → AreWithin l s.labels → ends_at s k ≡ []
 unfolding ends_at joined
-ends_at-within s l k h = rw (members-within s l h)
+ends_at-within s l k h = rw (gutter-labels-within s l h)
 
 -- no line has a margin label
 pub margin_label-within : (s : Sheet) (l k : ℕ) → AreWithin l s.labels → margin_label s k ≡ None
@@ -64,7 +65,8 @@ unfolding line_labels
 line_labels-within s l h = rw (ends_at-within s l l h, inline_labels-within s l h)
 
 -- what is drawn at the line
-pub layout_of-within : (s : Sheet) (l : ℕ) → AreWithin l s.labels → layout_of s l ≡ inline_layout s.labels (line_offset length s.lines l) (line_text s.lines l)
+pub layout_of-within : (s : Sheet) (l : ℕ) → AreWithin l s.labels
+    → layout_of s l ≡ inline_layout s.labels (line_offset length s.lines l) (line_text s.lines l)
 unfolding layout_of
 layout_of-within s l h = λ i. record {
   margin = margin_label-within s l l h i;
@@ -88,5 +90,6 @@ is_hidden-within s l some h =
     and_left (eqb (length (line_labels s l)) 0) _ (ne_eqb (length (line_labels s l)) 0 (λ z. omega (arith, n, z)))
 
 -- what holds of each label, of its info too, where it stands
-pub all-line_labels : (P : LabelInfo → Type 0) (infos : List LabelInfo) → AllByRecursion P infos → AllByRecursion (λ (x : LineLabel). P x.info) (in_order is_before (map inline_label infos))
+pub all-line_labels : (P : LabelInfo → Type 0) (infos : List LabelInfo) → AllByRecursion P infos
+    → AllByRecursion (λ (x : LineLabel). P x.info) (in_order is_before (map inline_label infos))
 all-line_labels P infos a = all-in_order (λ x. P x.info) is_before (map inline_label infos) (all-map (λ x. P x.info) inline_label infos a)

@@ -2,20 +2,20 @@
 use Rattle.std.proofs.Common.{◌≡◌, ℕ, ◌<◌, true, false, List, [], ◌∷◌, ◌++◌, Option, Some, map, length, refl, ap, ◌∙◌, append_assoc}
 use Rattle.std.specs.Prelude.{if◌then◌else◌, slice_get}
 use Rattle.std.specs.List.{AllByRecursion, enumerate_from}
-use Rattle.ariadne.specs.declared.write.label_info.LabelInfo.{LabelInfo}
-use Rattle.ariadne.specs.declared.write.label_info.LineLabel.{LineLabel}
-use Rattle.ariadne.specs.declared.write.label_info.Side.TheVariants.{Inline}
-use Rattle.ariadne.specs.Lists.{in_order}
-use Rattle.ariadne.specs.Report.{ReportFields, World}
-use Rattle.ariadne.specs.Ranks.{is_start, is_before}
-use Rattle.ariadne.specs.Rows.{source, alternate, arrow}
-use Rattle.ariadne.specs.Columns.{Layout}
-use Rattle.ariadne.specs.Cells.{alternate_place, arrow_place}
-use Rattle.ariadne.specs.Pieces.{Piece, Title, blank_piece, plain_text, margin_pieces, shown_pieces, area_pieces, message_pieces}
-use Rattle.ariadne.specs.Canvas.{Palette, section_of, groups}
-use Rattle.ariadne.specs.Print.{pieces_bytes}
+use Rattle.ariadne_picture.specs.declared.label_info.LabelInfo.{LabelInfo}
+use Rattle.ariadne_picture.specs.declared.label_info.LineLabel.{LineLabel}
+use Rattle.ariadne_picture.specs.declared.label_info.Side.TheVariants.{Inline}
+use Rattle.ariadne_picture.specs.Lists.{in_order}
+use Rattle.ariadne_picture.specs.Report.{ReportFields, World}
+use Rattle.ariadne_picture.specs.Ranks.{is_start, is_before}
+use Rattle.ariadne_picture.specs.Rows.{source, alternate, arrow}
+use Rattle.ariadne_picture.specs.Columns.{Layout}
+use Rattle.ariadne_picture.specs.Cells.{alternate_place, arrow_place}
+use Rattle.ariadne_picture.specs.Pieces.{Piece, Texts, blank_piece, plain_text, margin_pieces, shown_pieces, area_pieces, message_pieces}
+use Rattle.ariadne_picture.specs.Canvas.{Palette, section_of, groups}
+use Rattle.ariadne_picture.specs.Print.{pieces_bytes}
 use Rattle.ariadne.specs.OneLine.{AreOnLine, only_section, inline_label, source_row, alternate_row, arrow_row, sent_row, label_bytes}
-use Rattle.ariadne.proofs.ListFacts.{all-in_order, all-map, all-every}
+use Rattle.ariadne_picture.proofs.Lists.ListFacts.{all-in_order, all-map, all-every}
 use Rattle.ariadne.proofs.OneLineOutline.{groups-on_line}
 use Rattle.ariadne.proofs.Bytes.{pieces_bytes-append}
 
@@ -27,55 +27,68 @@ sent_row-append p xs ys =
     ap (λ b. b ++ 10 ∷ []) (pieces_bytes-append p xs ys) ∙ append_assoc (pieces_bytes p xs) (pieces_bytes p ys) (10 ∷ [])
 
 -- the source row: its margin and its text
-pub source_row-parts : (p : Palette) (t : Title) (w shift l : ℕ) (y : Layout) → sent_row p (source_row t w shift l y) ≡ pieces_bytes p (margin_pieces t.style w shift (source l)) ++ pieces_bytes p (shown_pieces t.style [] y) ++ 10 ∷ []
+pub source_row-parts : (p : Palette) (t : Texts) (w display_offset l : ℕ) (y : Layout)
+    → sent_row p (source_row t w display_offset l y) ≡ pieces_bytes p (margin_pieces t.switches w display_offset (source l))
+    ++ pieces_bytes p (shown_pieces t.switches [] y) ++ 10 ∷ []
 unfolding source_row
-source_row-parts p t w shift l y =
-    ap (λ b. b ++ 10 ∷ []) (pieces_bytes-append p (margin_pieces t.style w shift (source l)) (shown_pieces t.style [] y))
+source_row-parts p t w display_offset l y =
+    ap (λ b. b ++ 10 ∷ []) (pieces_bytes-append p (margin_pieces t.switches w display_offset (source l)) (shown_pieces t.switches [] y))
 
 -- an alternate row: its margin and its text area
-pub alternate_row-parts : (p : Palette) (t : Title) (w shift l : ℕ) (y : Layout) (k : ℕ) → sent_row p (alternate_row t w shift l y k) ≡ pieces_bytes p (margin_pieces t.style w shift (alternate l k)) ++ pieces_bytes p (area_pieces t.style y (alternate_place t.style y k)) ++ 10 ∷ []
+pub alternate_row-parts : (p : Palette) (t : Texts) (w display_offset l : ℕ) (y : Layout) (k : ℕ)
+    → sent_row p (alternate_row t w display_offset l y k) ≡ pieces_bytes p (margin_pieces t.switches w display_offset (alternate l k))
+    ++ pieces_bytes p (area_pieces t.switches y (alternate_place t.switches y k)) ++ 10 ∷ []
 unfolding alternate_row
-alternate_row-parts p t w shift l y k =
-    ap (λ b. b ++ 10 ∷ []) (pieces_bytes-append p (margin_pieces t.style w shift (alternate l k)) (area_pieces t.style y (alternate_place t.style y k)))
+alternate_row-parts p t w display_offset l y k =
+    ap (λ b. b ++ 10 ∷ []) (pieces_bytes-append p (margin_pieces t.switches w display_offset (alternate l k))
+    (area_pieces t.switches y (alternate_place t.switches y k)))
 
 -- an arrow row: its margin, its text area and its message
-pub arrow_row-parts : (p : Palette) (t : Title) (w shift l : ℕ) (y : Layout) (k : ℕ) →
-    sent_row p (arrow_row t w shift l y k) ≡
-    pieces_bytes p (margin_pieces t.style w shift (arrow l k)) ++ pieces_bytes p (area_pieces t.style y (arrow_place t.style y k (slice_get y.labels k))) ++ pieces_bytes p (message_pieces t (slice_get y.labels k)) ++ 10 ∷ []
+pub arrow_row-parts : (p : Palette) (t : Texts) (w display_offset l : ℕ) (y : Layout) (k : ℕ) →
+    sent_row p (arrow_row t w display_offset l y k) ≡
+    pieces_bytes p (margin_pieces t.switches w display_offset (arrow l k))
+    ++ pieces_bytes p (area_pieces t.switches y (arrow_place t.switches y k (slice_get y.labels k)))
+    ++ pieces_bytes p (message_pieces t (slice_get y.labels k)) ++ 10 ∷ []
 unfolding arrow_row
-arrow_row-parts p t w shift l y k =
+arrow_row-parts p t w display_offset l y k =
     let x : Option LineLabel = slice_get y.labels k in
-    let margin : List Piece = margin_pieces t.style w shift (arrow l k) in
-    let area : List Piece = area_pieces t.style y (arrow_place t.style y k x) in
+    let margin : List Piece = margin_pieces t.switches w display_offset (arrow l k) in
+    let area : List Piece = area_pieces t.switches y (arrow_place t.switches y k x) in
     let message : List Piece = message_pieces t x in
-    ap (λ b. b ++ 10 ∷ []) (pieces_bytes-append p (margin ++ area) message ∙ ap (λ b. b ++ pieces_bytes p message) (pieces_bytes-append p margin area))
+    ap (λ b. b ++ 10 ∷ []) (pieces_bytes-append p (margin ++ area) message
+    ∙ ap (λ b. b ++ pieces_bytes p message) (pieces_bytes-append p margin area))
 
 -- in compact form a label has its arrow row alone
-pub label_bytes-compact : (p : Palette) (t : Title) (w shift l : ℕ) (y : Layout) (k : ℕ) → t.style.compact ≡ true → label_bytes p t w shift l y k ≡ sent_row p (arrow_row t w shift l y k)
+pub label_bytes-compact : (p : Palette) (t : Texts) (w display_offset l : ℕ) (y : Layout) (k : ℕ) → t.switches.compact ≡ true
+    → label_bytes p t w display_offset l y k ≡ sent_row p (arrow_row t w display_offset l y k)
 unfolding label_bytes
-label_bytes-compact p t w shift l y k e = rw e
+label_bytes-compact p t w display_offset l y k e = rw e
 
 -- else its alternate row and its arrow row
-pub label_bytes-both : (p : Palette) (t : Title) (w shift l : ℕ) (y : Layout) (k : ℕ) → t.style.compact ≡ false → label_bytes p t w shift l y k ≡ sent_row p (alternate_row t w shift l y k) ++ sent_row p (arrow_row t w shift l y k)
+pub label_bytes-both : (p : Palette) (t : Texts) (w display_offset l : ℕ) (y : Layout) (k : ℕ) → t.switches.compact ≡ false
+    → label_bytes p t w display_offset l y k ≡ sent_row p (alternate_row t w display_offset l y k) ++ sent_row p (arrow_row t w display_offset l y k)
 unfolding label_bytes
-label_bytes-both p t w shift l y k e = rw e
+label_bytes-both p t w display_offset l y k e = rw e
 
 -- ---- messages
 
 -- each label of the line lies within it
 pub all-inline : (infos : List LabelInfo) → AllByRecursion (λ (x : LineLabel). x.side ≡ Inline) (in_order is_before (map inline_label infos))
 all-inline infos =
-    all-in_order (λ x. x.side ≡ Inline) is_before (map inline_label infos) (all-map (λ x. x.side ≡ Inline) inline_label infos (all-every _ (λ a. refl) infos))
+    all-in_order (λ x. x.side ≡ Inline) is_before (map inline_label infos)
+    (all-map (λ x. x.side ≡ Inline) inline_label infos (all-every _ (λ a. refl) infos))
 
 -- so its arrow row shows its message, behind a blank
-pub message_pieces-inline : (t : Title) (x : LineLabel) → x.side ≡ Inline → message_pieces t (Some x) ≡ blank_piece ∷ plain_text (t.message_of x.info.number) ∷ []
+pub message_pieces-inline : (t : Texts) (x : LineLabel) → x.side ≡ Inline → message_pieces t (Some x) ≡ blank_piece
+    ∷ plain_text (t.message_of x.info.position) ∷ []
 unfolding message_pieces is_start
-message_pieces-inline t x e = ap (λ side. if is_start side then [] else blank_piece ∷ plain_text (t.message_of x.info.number) ∷ []) e
+message_pieces-inline t x e = ap (λ side. if is_start side then [] else blank_piece ∷ plain_text (t.message_of x.info.position) ∷ []) e
 
 -- ---- the group
 
 module _ {S Id : Type 0} (w : World S Id) (r : ReportFields S) where
   -- the one group within the picture
-  pub sections-on_line : (l : ℕ) (infos : List LabelInfo) → 0 < length infos → AreOnLine w r l infos → map (section_of w r (length (groups w r infos))) (enumerate_from 0 (groups w r infos)) ≡ only_section w r infos ∷ []
+  pub sections-on_line : (l : ℕ) (infos : List LabelInfo) → 0 < length infos → AreOnLine w r l infos
+      → map (section_of w r (length (groups w r infos))) (enumerate_from 0 (groups w r infos)) ≡ only_section w r infos ∷ []
   sections-on_line l infos some h =
       ap (λ gs. map (section_of w r (length gs)) (enumerate_from 0 gs)) (groups-on_line w r l infos some h)

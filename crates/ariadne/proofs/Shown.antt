@@ -9,10 +9,12 @@ pub length_shown-le : (text : List ℕ) → length (drop_trailing_whitespace tex
 length_shown-le [] = omega arith
 length_shown-le (c ∷ cs) =
     let shown = drop_trailing_whitespace cs in
-    cond_both (is_whitespace c && eqb (length shown) 0) [] (c ∷ shown) (λ t. length t ≤ length (c ∷ cs)) (λ e. omega arith) (λ e. omega (arith, length_shown-le cs))
+    cond_both (is_whitespace c && eqb (length shown) 0) [] (c ∷ shown) (λ t. length t ≤ length (c ∷ cs)) (λ e. omega arith)
+    (λ e. omega (arith, length_shown-le cs))
 
 -- two lists that agree so far agree behind one element more
-behind : (c : ℕ) (xs ys : List ℕ) → ((k : ℕ) → k < length xs → get_or xs k 0 ≡ get_or ys k 0) → (k : ℕ) → k < length (c ∷ xs) → get_or (c ∷ xs) k 0 ≡ get_or (c ∷ ys) k 0
+behind : (c : ℕ) (xs ys : List ℕ) → ((k : ℕ) → k < length xs → get_or xs k 0 ≡ get_or ys k 0) → (k : ℕ) → k < length (c ∷ xs)
+    → get_or (c ∷ xs) k 0 ≡ get_or (c ∷ ys) k 0
 behind c xs ys same zero h = refl
 behind c xs ys same (suc k) h = same k (omega arith)
 

@@ -20,14 +20,16 @@ drop-other (x ∷ xs) c w =
     ∙ cond-false _ [] (x ∷ (xs ++ c ∷ [])) (and_right (is_whitespace x) _ some)
 
 -- a loop's step: the last of the first n characters is white space
-pub drop-take_white : (xs : List ℕ) (n : ℕ) → 0 < n → n ≤ length xs → is_whitespace (get_or xs (n - 1) 0) ≡ true → drop_trailing_whitespace (take n xs) ≡ drop_trailing_whitespace (take (n - 1) xs)
+pub drop-take_white : (xs : List ℕ) (n : ℕ) → 0 < n → n ≤ length xs → is_whitespace (get_or xs (n - 1) 0) ≡ true
+    → drop_trailing_whitespace (take n xs) ≡ drop_trailing_whitespace (take (n - 1) xs)
 drop-take_white xs n some low w =
     let e : n ≡ (n - 1) + 1 = omega arith in
     ap (λ k. drop_trailing_whitespace (take k xs)) e
     ∙ ap drop_trailing_whitespace (take_more xs (n - 1) 0 (omega arith)) ∙ drop-white (take (n - 1) xs) (get_or xs (n - 1) 0) w
 
 -- its end: the last of them is none, so all of them stay
-pub length-take_other : (xs : List ℕ) (n : ℕ) → 0 < n → n ≤ length xs → is_whitespace (get_or xs (n - 1) 0) ≡ false → length (drop_trailing_whitespace (take n xs)) ≡ n
+pub length-take_other : (xs : List ℕ) (n : ℕ) → 0 < n → n ≤ length xs → is_whitespace (get_or xs (n - 1) 0) ≡ false
+    → length (drop_trailing_whitespace (take n xs)) ≡ n
 length-take_other xs n some low w =
     let e : n ≡ (n - 1) + 1 = omega arith in
     ap (λ k. length (drop_trailing_whitespace (take k xs))) e

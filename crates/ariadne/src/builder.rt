@@ -26,7 +26,7 @@ pub struct ReportBuilder<'a, S: Span = Range<usize>> {
 
 impl<'a, S: Span> Model for ReportBuilder<'a, S> {
     ghost use Rattle.std.specs.Prelude.{[], None, string_bytes, option_map};
-    ghost use Rattle.ariadne.specs.Report.{ReportFields};
+    ghost use Rattle.ariadne_picture.specs.Report.{ReportFields};
     ghost use Rattle.ariadne.specs.Kinds.{kind_of};
 
     ghost Value = { ReportFields S };
@@ -45,7 +45,7 @@ impl<'a, S: Span> Model for ReportBuilder<'a, S> {
 }
 
 impl<'a, S: Span> ReportBuilder<'a, S> {
-    ghost use Rattle.ariadne.specs.Report.{new_report};
+    ghost use Rattle.ariadne_picture.specs.Report.{new_report};
     ghost use Rattle.ariadne.specs.Kinds.{kind_of};
 
     pub(crate) fn new(alloc: Global, kind: ReportKind<'a>, span: S) -> ReportBuilder<'a, S>
@@ -65,7 +65,8 @@ impl<'a, S: Span> ReportBuilder<'a, S> {
     pub fn with_message(mut self, message: &str) -> Result<ReportBuilder<'a, S>, AllocError>
     where
         S: Drop,
-        ensures { IfOk result (λ report. report ≡ record self.entry { message = Some message.now }) }
+        ensures { IfOk result (λ report. report ≡ record self.entry
+            { message = Some message.now }) }
     {
         self.message = Some(String::from_str(self.alloc, message)?);
         Ok(self)
@@ -75,7 +76,8 @@ impl<'a, S: Span> ReportBuilder<'a, S> {
     pub fn with_label(mut self, label: Label<S>) -> Result<ReportBuilder<'a, S>, AllocError>
     where
         S: Drop,
-        ensures { IfOk result (λ report. report ≡ record self.entry { labels = self.entry.labels ++ label ∷ [] }) }
+        ensures { IfOk result (λ report. report ≡ record self.entry
+            { labels = self.entry.labels ++ label ∷ [] }) }
     {
         self.labels.push(label)?;
         Ok(self)

@@ -1,38 +1,11 @@
 //! How a report is drawn.
 
 ghost use Rattle.std.specs.Prelude.{◌≡◌, ◌≤◌};
-ghost use Rattle.ariadne.specs.Report.{style_of};
+ghost use Rattle.ariadne_picture.specs.Report.{switches_of};
 
+use ariadne_picture::switches::Switches;
+pub use ariadne_picture::switches::{CharSet, IndexType, LabelAttach};
 use std::marker::Model;
-
-/// Where the arrow of a label within one line is attached.
-#[derive(Clone, Copy, Debug, PartialEq, Eq)]
-pub enum LabelAttach {
-    /// At the first character of its span.
-    Start,
-    /// At the middle of its span.
-    Middle,
-    /// At the last character of its span.
-    End,
-}
-
-/// The characters that strokes are drawn with.
-#[derive(Clone, Copy, Debug, PartialEq, Eq)]
-pub enum CharSet {
-    /// Box drawing characters.
-    Unicode,
-    /// ASCII alone.
-    Ascii,
-}
-
-/// What the offsets of spans count.
-#[derive(Clone, Copy, Debug, PartialEq, Eq)]
-pub enum IndexType {
-    /// Bytes of the source's text in UTF-8.
-    Byte,
-    /// Characters of the source.
-    Char,
-}
 
 /// The switches of a report's picture.
 ///
@@ -54,8 +27,8 @@ pub struct Config {
 
 impl Model for Config {
     ghost use Rattle.std.specs.Prelude.{◌≡◌, ◌≤◌};
-    ghost use Rattle.ariadne.specs.Report.{ConfigFields};
-    ghost use Rattle.ariadne.specs.declared.config.IndexType.TheVariants.{Char};
+    ghost use Rattle.ariadne_picture.specs.Report.{ConfigFields};
+    ghost use Rattle.ariadne_picture.specs.declared.switches.IndexType.TheVariants.{Char};
 
     ghost Value = { ConfigFields };
 
@@ -88,7 +61,7 @@ impl Model for Config {
 }
 
 impl Config {
-    ghost use Rattle.ariadne.specs.Report.{default_config};
+    ghost use Rattle.ariadne_picture.specs.Report.{default_config};
 
     /// The default switches: gaps where arrows cross, arrows attached to the middle, not compact,
     /// underlines, arrows at the ends of labels over several lines, colours, a tab every 4
@@ -126,12 +99,12 @@ impl Config {
     }
 
     /// What the layout reads of it. Offsets count characters: no call asks for bytes yet.
-    pub(crate) fn style(&self) -> Style
-        ensures style { result ≡ style_of self.now }
+    pub(crate) fn switches(&self) -> Switches
+        ensures switches { result ≡ switches_of self.now }
         ensures tabs { 1 ≤ self.now.tab_width }
         ensures in_characters { self.now.index_type ≡ IndexType.Char }
     {
-        Style {
+        Switches {
             cross_gap: self.cross_gap,
             compact: self.compact,
             underlines: self.underlines,
@@ -159,22 +132,11 @@ impl Config {
 }
 
 impl Default for Config {
-    ghost use Rattle.ariadne.specs.Report.{default_config};
+    ghost use Rattle.ariadne_picture.specs.Report.{default_config};
 
     ghost is_default = { λ c. c ≡ default_config };
 
     fn default() -> Config {
         Config::new()
     }
-}
-
-/// What the layout reads of a configuration: neither colours nor what offsets count.
-#[derive(Clone, Copy, Debug, PartialEq, Eq)]
-pub(crate) struct Style {
-    pub(crate) cross_gap: bool,
-    pub(crate) compact: bool,
-    pub(crate) underlines: bool,
-    pub(crate) multiline_arrows: bool,
-    pub(crate) tab_width: usize,
-    pub(crate) char_set: CharSet,
 }

@@ -1,7 +1,7 @@
 //! What kind of report it is.
 
 ghost use Rattle.std.specs.Prelude.{◌≡◌, Some};
-ghost use Rattle.ariadne.specs.Canvas.{kind_color};
+ghost use Rattle.ariadne_picture.specs.Canvas.{kind_color};
 ghost use Rattle.ariadne.specs.Kinds.{kind_of, shown_kind};
 
 use ariadne_base::Color;

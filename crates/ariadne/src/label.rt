@@ -23,7 +23,7 @@ pub struct Label<S: Span = Range<usize>> {
 
 impl<S: Span> Model for Label<S> {
     ghost use Rattle.std.specs.Prelude.{◌≤◌, string_bytes, option_map};
-    ghost use Rattle.ariadne.specs.Report.{LabelFields};
+    ghost use Rattle.ariadne_picture.specs.Report.{LabelFields};
 
     ghost Value = { LabelFields S };
 
@@ -39,7 +39,7 @@ impl<S: Span> Model for Label<S> {
 }
 
 impl<S: Span> Label<S> {
-    ghost use Rattle.ariadne.specs.Report.{new_label};
+    ghost use Rattle.ariadne_picture.specs.Report.{new_label};
 
     /// A label over a span, without message and colour, of order 0 and priority 0.
     pub fn new(span: S) -> Label<S>

@@ -5,10 +5,11 @@ pub mod builder;
 pub mod config;
 pub mod kind;
 pub mod label;
-pub mod laws;
 #[cfg(test)]
 mod refusing;
 pub mod report;
+#[cfg(test)]
+mod tests_laws;
 pub mod write;
 
 pub use ariadne_base::{
@@ -16,6 +17,7 @@ pub use ariadne_base::{
     Foreground, Line, Source, SourceLines, SourceMap, SourceName, SourceText, Span, UnknownSource,
     sources,
 };
+pub use ariadne_picture::laws;
 pub use builder::ReportBuilder;
 pub use config::{CharSet, Config, IndexType, LabelAttach};
 pub use kind::ReportKind;

@@ -26,7 +26,7 @@ pub struct Report<'a, S: Span = Range<usize>> {
 
 impl<'a, S: Span> Model for Report<'a, S> {
     ghost use Rattle.std.specs.Prelude.{[], None, string_bytes, option_map};
-    ghost use Rattle.ariadne.specs.Report.{ReportFields};
+    ghost use Rattle.ariadne_picture.specs.Report.{ReportFields};
     ghost use Rattle.ariadne.specs.Kinds.{kind_of};
 
     ghost Value = { ReportFields S };
@@ -45,8 +45,8 @@ impl<'a, S: Span> Model for Report<'a, S> {
 }
 
 impl<'a, S: Span> Report<'a, S> {
-    ghost use Rattle.ariadne.specs.Report.{new_report};
-    ghost use Rattle.ariadne.specs.Canvas.{title, palette_of};
+    ghost use Rattle.ariadne_picture.specs.Report.{new_report};
+    ghost use Rattle.ariadne_picture.specs.Canvas.{texts_of, palette_of};
     ghost use Rattle.ariadne.specs.Kinds.{kind_of};
 
     /// Begins a report of this kind.
@@ -69,7 +69,7 @@ impl<'a, S: Span> Report<'a, S> {
 
     /// What label number `number` says, or nothing.
     pub(crate) fn message_of(&self, number: usize) -> &str
-        ensures { result.now ≡ (title self.now).message_of number }
+        ensures { result.now ≡ (texts_of self.now).message_of number }
     {
         if number >= self.labels.len() {
             return "";

@@ -1,15 +1,15 @@
 //! Drawing a report: its labels are judged, laid out in groups and rows, drawn, and sent.
 
-ghost use Rattle.std.specs.Prelude.{◌≡◌, None, true};
-ghost use Rattle.ariadne.specs.Written.{is_drawable as drawable_over, is_label_drawable, picture, reasons, Written};
+ghost use Rattle.std.specs.Prelude.{◌≡◌, None, true, IfOk};
+ghost use Rattle.ariadne_picture.specs.Headline.{Headline};
+ghost use Rattle.ariadne.specs.Written.{is_drawable as drawable_over, is_label_drawable};
+ghost use Rattle.ariadne.specs.Written.{drawn, only_source, picture, reasons, Written};
 
 pub(crate) mod accept;
 pub(crate) mod area;
-pub(crate) mod cell;
 pub(crate) mod drawing;
 pub(crate) mod headers;
 pub(crate) mod ink;
-pub(crate) mod label_info;
 pub(crate) mod layout;
 pub(crate) mod margin;
 pub(crate) mod order;
@@ -53,6 +53,9 @@ impl Report<'_> {
     ///
     /// On `Memory` nothing was sent. On `Io` the writer failed, or took nothing of a piece that is
     /// not empty: it has taken exactly the first `sent` bytes of the picture, which has more.
+    ///
+    /// After Ok every message can be found: it has a row of its own, and strokes lead from it to the
+    /// characters that its label points at, in the columns where the source row shows them.
     pub fn write<W: Write>(
         &self,
         cache: &mut Source<String>,
@@ -60,7 +63,13 @@ impl Report<'_> {
     ) -> Result<Vec<LeftOut<()>>, WriteError>
         requires { drawable_over cache.old self.now ≡ true }
         ensures cache { cache.new ≡ cache.old }
-        ensures written { Written (reasons cache.old self.now) (picture cache.old self.now) (W.contents out.old) (W.contents out.new) result }
+        ensures written { Written (reasons cache.old self.now) (picture cache.old self.now)
+            (W.contents out.old) (W.contents out.new) result }
+        ensures traced { let world = only_source cache.old in
+            let accepted = drawn cache.old self.now in
+            let before = W.contents out.old in
+            let after = W.contents out.new in
+            IfOk result (λ list. Headline world self.now accepted before after) }
     {
         let judged = accept(self, cache)?;
         let text = draw(self, cache, &judged.infos)?;
@@ -78,7 +87,11 @@ impl Report<'_> {
     ) -> Result<Vec<LeftOut<()>>, WriteError>
         requires { drawable_over cache.old self.now ≡ true }
         ensures cache { cache.new ≡ cache.old }
-        ensures written { Written (reasons cache.old self.now) (picture cache.old self.now) None None result }
+        ensures written { Written (reasons cache.old self.now)
+            (picture cache.old self.now) None None result }
+        ensures traced { let world = only_source cache.old in
+            let accepted = drawn cache.old self.now in
+            IfOk result (λ list. Headline world self.now accepted None None) }
     {
         self.write(cache, &mut io::writer(rt))
     }

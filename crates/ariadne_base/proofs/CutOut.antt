@@ -9,7 +9,7 @@ use Rattle.std.proofs.lemmas.List.{take-append-drop, drop_more, drop_at, take_at
 use Rattle.std.proofs.lemmas.Grind.{flat_map-append}
 use Rattle.std.proofs.lemmas.Str.{encodes-append, encodes-chars, scalars-chars, IsCharBoundary-at_seam}
 use Rattle.ariadne_base.specs.Lines.{lines_of}
-use Rattle.ariadne_base.specs.Places.{byte_len, line_text, line_offset}
+use Rattle.ariadne_base.specs.Locations.{byte_len, line_text, line_offset}
 use Rattle.ariadne_base.specs.Ranges.{IsCutOut}
 use Rattle.ariadne_base.specs.Table.{line_extent}
 use Rattle.ariadne_base.proofs.LineLaws.{lines_joined, joined_byte_len}
@@ -25,14 +25,16 @@ pub record IsMiddle (text : List ℕ) (from size : ℕ) (middle : List ℕ) : Ty
   pub is : slice_range text from (from + size) ≡ encode_utf8_all middle
 
 -- the middle of three parts stands at the size of the first, and has its own
-middle_of : (text front middle back : List ℕ) → scalars (front ++ (middle ++ back)) ≡ true → text ≡ encode_utf8_all (front ++ (middle ++ back)) → IsMiddle text (byte_len front) (byte_len middle) middle
+middle_of : (text front middle back : List ℕ) → scalars (front ++ (middle ++ back)) ≡ true → text ≡ encode_utf8_all (front ++ (middle ++ back))
+    → IsMiddle text (byte_len front) (byte_len middle) middle
 middle_of text front middle back s e =
     let f = encode_utf8_all front in
     let m = encode_utf8_all middle in
     let b = encode_utf8_all back in
     let behind : scalars (middle ++ back) ≡ true = scalars_behind front (middle ++ back) s in
     let parts : text ≡ f ++ (m ++ b) = e ∙ encodes-append front (middle ++ back) ∙ ap (λ bs. f ++ bs) (encodes-append middle back) in
-    let start = IsCharBoundary-at_seam text f (encode_utf8_all (middle ++ back)) (e ∙ encodes-append front (middle ++ back)) (middle ++ back, (behind, refl)) in
+    let start = IsCharBoundary-at_seam text f (encode_utf8_all (middle ++ back)) (e ∙ encodes-append front (middle ++ back))
+    (middle ++ back, (behind, refl)) in
     let stop = IsCharBoundary-at_seam text (f ++ m) b (parts ∙ sym (append_assoc f m b)) (back, (scalars_behind middle back behind, refl)) in
     let size : byte_len front + byte_len middle - byte_len front ≡ length m = omega arith in
     record {
@@ -44,7 +46,8 @@ middle_of text front middle back s e =
 
 -- the bytes of line n are those of its text
 pub line_middle : (text : List ℕ) → IsUtf8 text → (n : ℕ) → n < length (lines_of (chars text))
-    → IsMiddle text (line_extent (lines_of (chars text)) n).byte_offset (line_extent (lines_of (chars text)) n).byte_len (line_text (lines_of (chars text)) n)
+    → IsMiddle text (line_extent (lines_of (chars text)) n).byte_offset (line_extent (lines_of (chars text)) n).byte_len
+    (line_text (lines_of (chars text)) n)
 unfolding line_extent line_offset
 line_middle text u n h =
     let ls = lines_of (chars text) in

@@ -1,7 +1,7 @@
--- Lines and places.
+-- Lines and locations.
 pub mod LineLaws
 pub mod TableLemmas
-pub mod PlaceLemmas
+pub mod LocationLemmas
 pub mod CutOut
 pub mod RangeLemmas
 pub mod Scanning

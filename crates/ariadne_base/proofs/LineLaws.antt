@@ -1,5 +1,6 @@
 -- The lines of a text meet the condition on whole lists, and no other list does.
-use Rattle.std.proofs.Common.{◌≡◌, ℕ, Bool, true, false, not, ◌&&◌, List, [], ◌∷◌, ◌++◌, length, refl, sym, ap, ◌∙◌, ◌==◌, cond, inl, inr, sum_by, subst, arith, ◌+◌, ◌<◌}
+use Rattle.std.proofs.Common.{◌≡◌, ℕ, Bool, true, false, not, ◌&&◌, List, [], ◌∷◌, ◌++◌, length, refl, sym, ap, ◌∙◌, ◌==◌, cond, inl, inr, sum_by}
+use Rattle.std.proofs.Common.{subst, arith, ◌+◌, ◌<◌}
 use Rattle.std.specs.List.{flat_map}
 use Rattle.std.specs.Str.{encode_utf8_all}
 use Rattle.std.proofs.lemmas.List.{append-nil, length-append}
@@ -7,8 +8,9 @@ use Rattle.std.proofs.lemmas.List.Concat.{length-flat_map}
 use Rattle.std.proofs.lemmas.List.Sums.{sum_by-cons}
 use Rattle.std.proofs.lemmas.Str.{encodes-append}
 use Rattle.std.proofs.lemmas.Bool.{cond_both, cond-true, cond-false, eq-eqb, eqb-true, cases_Bool, not_from_false, and_parts, false_from_ne_true}
-use Rattle.ariadne_base.specs.Lines.{is_separator, begins_with_line_feed, ends_line, in_front, full_lines_of, lines_of, HasNoSeparatorInside, EndsIn, BeginsIn, CutsCrLf, AreFullLines, AreLinesOf, empty_line, full_lines}
-use Rattle.ariadne_base.specs.Places.{byte_len}
+use Rattle.ariadne_base.specs.Lines.{is_separator, begins_with_line_feed, ends_line, in_front, full_lines_of, lines_of, HasNoSeparatorInside, EndsIn}
+use Rattle.ariadne_base.specs.Lines.{BeginsIn, CutsCrLf, AreFullLines, AreLinesOf, empty_line, full_lines}
+use Rattle.ariadne_base.specs.Locations.{byte_len}
 
 -- ---- where a line ends
 
@@ -29,7 +31,8 @@ ends_here c [] e n = rw e (case (c == 13))
     case true = refl
     case false = refl
 ends_here c (d ∷ rest) e n =
-    rw e (not_from_false ((c == 13) && (d == 10)) (false_from_ne_true ((c == 13) && (d == 10)) (λ t. let h = and_parts (c == 13) (d == 10) t in n (eqb-true c 13 h.0, eqb-true d 10 h.1))))
+    rw e (not_from_false ((c == 13) && (d == 10)) (false_from_ne_true ((c == 13) && (d == 10))
+    (λ t. let h = and_parts (c == 13) (d == 10) t in n (eqb-true c 13 h.0, eqb-true d 10 h.1))))
 
 -- what ends its line is a separator, and no CR before LF
 separator_from_end : (c : ℕ) (t : List ℕ) → ends_line c t ≡ true → is_separator c ≡ true
@@ -49,28 +52,34 @@ cr_lf_from_inside : (c d : ℕ) (t : List ℕ) → ends_line c (d ∷ t) ≡ fal
 unfolding ends_line begins_with_line_feed
 cr_lf_from_inside c d t h e = elim (cases_Bool ((c == 13) && (d == 10))) [
   | inl on ↦ let p = and_parts (c == 13) (d == 10) on in (eqb-true c 13 p.0, eqb-true d 10 p.1)
-  | inr off ↦ let f : ((is_separator c && not ((c == 13) && (d == 10))) ≡ false) = h in let g : ((is_separator c && not ((c == 13) && (d == 10))) ≡ true) = rw (e, off) refl in absurd (let z : true ≡ false = sym g ∙ f in cc)
+  | inr off ↦ let f : ((is_separator c && not ((c == 13) && (d == 10))) ≡ false) = h in
+      let g : ((is_separator c && not ((c == 13) && (d == 10))) ≡ true) = rw (e, off) refl in absurd (let z : true ≡ false = sym g ∙ f in cc)
 ]
 
 -- ---- the only such list
 
 -- a line that ends in a separator, before more text
-cut_line : (l rest : List ℕ) → HasNoSeparatorInside l → EndsIn (λ c. is_separator c ≡ true) l → ¬ (CutsCrLf l rest) → full_lines_of (l ++ rest) ≡ l ∷ full_lines_of rest
+cut_line : (l rest : List ℕ) → HasNoSeparatorInside l → EndsIn (λ c. is_separator c ≡ true) l → ¬ (CutsCrLf l rest) → full_lines_of (l ++ rest) ≡ l
+    ∷ full_lines_of rest
 unfolding full_lines_of in_front
 cut_line [] rest i e n = absurd e
 cut_line (c ∷ []) rest i e n = cond-true (ends_line c rest) ((c ∷ []) ∷ full_lines_of rest) (in_front c (full_lines_of rest)) (ends_here c rest e n)
 cut_line (c ∷ d ∷ t) rest i e n =
-    cond-false (ends_line c (d ∷ (t ++ rest))) ((c ∷ []) ∷ full_lines_of (d ∷ (t ++ rest))) (in_front c (full_lines_of (d ∷ (t ++ rest)))) (inner_stays c d t i.0 (t ++ rest))
+    cond-false (ends_line c (d ∷ (t ++ rest))) ((c ∷ []) ∷ full_lines_of (d ∷ (t ++ rest))) (in_front c (full_lines_of (d ∷ (t ++ rest))))
+    (inner_stays c d t i.0 (t ++ rest))
     ∙ ap (in_front c) (cut_line (d ∷ t) rest i.1 e n)
 
 -- the last line
 cut_last : (c : ℕ) (t : List ℕ) → HasNoSeparatorInside (c ∷ t) → full_lines_of (c ∷ t) ≡ (c ∷ t) ∷ []
 unfolding full_lines_of in_front
 cut_last c [] i = cond_both (ends_line c []) ((c ∷ []) ∷ []) ((c ∷ []) ∷ []) (λ r. r ≡ (c ∷ []) ∷ []) (λ _. refl) (λ _. refl)
-cut_last c (d ∷ t) i = cond-false (ends_line c (d ∷ t)) ((c ∷ []) ∷ full_lines_of (d ∷ t)) (in_front c (full_lines_of (d ∷ t))) (inner_stays c d t i.0 t) ∙ ap (in_front c) (cut_last d t i.1)
+cut_last c (d ∷ t) i =
+    cond-false (ends_line c (d ∷ t)) ((c ∷ []) ∷ full_lines_of (d ∷ t)) (in_front c (full_lines_of (d ∷ t))) (inner_stays c d t i.0 t)
+    ∙ ap (in_front c) (cut_last d t i.1)
 
 -- what the joined lines begin with, the first line begins with
-begins_alone : (P : ℕ → Type 0) (m : List ℕ) (ls : List (List ℕ)) → BeginsIn (λ c. Unit {0}) m → BeginsIn P (flat_map (λ l. l) (m ∷ ls)) → BeginsIn P m
+begins_alone : (P : ℕ → Type 0) (m : List ℕ) (ls : List (List ℕ)) → BeginsIn (λ c. Unit {0}) m → BeginsIn P (flat_map (λ l. l) (m ∷ ls))
+    → BeginsIn P m
 begins_alone P [] ls b h = absurd b
 begins_alone P (c ∷ m) ls b h = h
 
@@ -168,7 +177,8 @@ alone_at : (d : ℕ) (m : List ℕ) → d ≡ 10 → HasNoSeparatorInside (d ∷
 alone_at d m e h = alone m (subst (λ d. HasNoSeparatorInside (d ∷ m)) e h)
 
 -- a character that doesn't end its line makes the first line longer
-longer : (c d : ℕ) (m : List ℕ) (ls : List (List ℕ)) → (is_separator c ≡ true → (c ≡ 13) × (d ≡ 10)) → AreFullLines ((d ∷ m) ∷ ls) → AreFullLines ((c ∷ d ∷ m) ∷ ls)
+longer : (c d : ℕ) (m : List ℕ) (ls : List (List ℕ)) → (is_separator c ≡ true → (c ≡ 13) × (d ≡ 10)) → AreFullLines ((d ∷ m) ∷ ls)
+    → AreFullLines ((c ∷ d ∷ m) ∷ ls)
 longer c d m [] h a = ((λ s. let p = h s in (p.0, p.1, alone_at d m p.1 a.0), a.0), tt)
 longer c d m (n ∷ ls) h a = ((λ s. let p = h s in (p.0, p.1, alone_at d m p.1 a.0), a.0), a.1, a.2, a.3)
 

@@ -1,13 +1,15 @@
 -- The scan of a text: the lines that it has closed, the one that is open, and what is left of the text.
-use Rattle.std.proofs.Common.{◌≡◌, ◌≢◌, ℕ, ◌+◌, ◌-◌, ◌<◌, ◌≤◌, true, false, cond, List, [], ◌∷◌, ◌++◌, length, refl, sym, ap, ◌∙◌, arith, get_or, sum_by, ◌==◌, inl, inr, ◌⊎◌, length-append}
+use Rattle.std.proofs.Common.{◌≡◌, ◌≢◌, ℕ, ◌+◌, ◌-◌, ◌<◌, ◌≤◌, true, false, cond, List, [], ◌∷◌, ◌++◌, length, refl, sym, ap, ◌∙◌, arith, get_or}
+use Rattle.std.proofs.Common.{sum_by, ◌==◌, inl, inr, ◌⊎◌, length-append}
 use Rattle.std.specs.Str.{chars, IsUtf8, encode_utf8_all}
 use Rattle.std.specs.Char.{encode_utf8, len_utf8}
 use Rattle.std.proofs.lemmas.Bool.{cond-true, cond-false, cases_Bool, eq-eqb, eqb-true, false_from_ne_true}
 use Rattle.std.proofs.lemmas.List.{append_assoc, append-nil, length_push, nil_from_length}
 use Rattle.std.proofs.lemmas.List.Sums.{sum_by_push}
-use Rattle.std.proofs.lemmas.Str.{chars_past_char, IsUtf8-past_char, chars_from_encodes, encodes-append, length-encode, len_utf8_bounds, byte_from_char, char_from_byte, chars-nil}
+use Rattle.std.proofs.lemmas.Str.{chars_past_char, IsUtf8-past_char, chars_from_encodes, encodes-append, length-encode, len_utf8_bounds}
+use Rattle.std.proofs.lemmas.Str.{byte_from_char, char_from_byte, chars-nil}
 use Rattle.ariadne_base.specs.Lines.{ends_line, begins_with_line_feed, in_front, full_lines_of, lines_of}
-use Rattle.ariadne_base.specs.Places.{byte_len}
+use Rattle.ariadne_base.specs.Locations.{byte_len}
 use Rattle.ariadne_base.specs.Table.{LineExtent, line_table}
 use Rattle.ariadne_base.proofs.TableLemmas.{row, same_row, line_table_push, line_table-nil, length-line_table}
 
@@ -98,18 +100,21 @@ full_lines-cons : (c : ℕ) (t : List ℕ) → full_lines_of (c ∷ t) ≡ cond 
 unfolding full_lines_of
 full_lines-cons c t = refl
 
-module _ (text rest left : List ℕ) (c : ℕ) (table : List LineExtent) (offset byte_offset at : ℕ) (s : IsScanned text rest table offset byte_offset at) (e : rest ≡ encode_utf8 c ++ left) where
+module _ (text rest left : List ℕ) (c : ℕ) (table : List LineExtent) (offset byte_offset at : ℕ) (s : IsScanned text rest table offset byte_offset at)
+    (e : rest ≡ encode_utf8 c ++ left) where
   -- what a character takes of the rest
   cut : length rest ≡ len_utf8 c + length left
   cut = ap length e ∙ length-append (encode_utf8 c) left ∙ ap (λ n. n + length left) (length-encode c)
 
   -- the full lines of the rest, by its first character
-  cut_chars : full_lines_of (chars rest) ≡ cond (ends_line c (chars left)) ((c ∷ []) ∷ full_lines_of (chars left)) (in_front c (full_lines_of (chars left)))
+  cut_chars : full_lines_of (chars rest) ≡ cond (ends_line c (chars left)) ((c ∷ []) ∷ full_lines_of (chars left))
+      (in_front c (full_lines_of (chars left)))
   cut_chars = ap full_lines_of (chars_past_char rest left c s.utf8 e) ∙ full_lines-cons c (chars left)
 
   -- a character that ends its line closes it
   pub scan_closed : ends_line c (chars left) ≡ true
-      → IsScanned text left (table ++ row offset (at + 1 - offset) byte_offset (length text - length left - byte_offset) ∷ []) (at + 1) (length text - length left) (at + 1)
+      → IsScanned text left (table ++ row offset (at + 1 - offset) byte_offset (length text - length left - byte_offset) ∷ []) (at + 1)
+      (length text - length left) (at + 1)
   unfolding before
   scan_closed h =
       let wide = len_utf8_bounds c in
@@ -155,7 +160,9 @@ module _ (text rest left : List ℕ) (c : ℕ) (table : List LineExtent) (offset
       record {
         done = s.done;
         opened = s.opened ++ c ∷ [];
-        lines = s.lines ∙ ap (λ ls. s.done ++ before s.opened ls) (cut_chars ∙ cond-false _ _ _ h) ∙ ap (λ ls. s.done ++ ls) (before-in_front s.opened c (full_lines_of (chars left)));
+        lines =
+            s.lines ∙ ap (λ ls. s.done ++ before s.opened ls) (cut_chars ∙ cond-false _ _ _ h)
+            ∙ ap (λ ls. s.done ++ ls) (before-in_front s.opened c (full_lines_of (chars left)));
         kept = s.kept;
         offset_is = s.offset_is;
         byte_offset_is = s.byte_offset_is;
@@ -204,11 +211,14 @@ last_line done [] t e (inl h) = absurd (omega arith)
 last_line done [] t e (inr h) = ap lines_of (full_lines-none t (e ∙ append-nil done ∙ h)) ∙ rw h refl
 last_line done (c ∷ o) t e h = lines_of-full t (λ n. push_some done (c ∷ o) (sym e ∙ n)) ∙ e
 
-module _ (text rest : List ℕ) (table : List LineExtent) (offset byte_offset at : ℕ) (s : IsScanned text rest table offset byte_offset at) (over : length rest ≡ 0) where
+module _ (text rest : List ℕ) (table : List LineExtent) (offset byte_offset at : ℕ) (s : IsScanned text rest table offset byte_offset at)
+    (over : length rest ≡ 0) where
   -- at the end the lines are those closed and the open one
   at_end : full_lines_of (chars text) ≡ s.done ++ before s.opened []
   unfolding full_lines_of
-  at_end = s.lines ∙ ap (λ bs. s.done ++ before s.opened (full_lines_of (chars bs))) (nil_from_length rest over) ∙ ap (λ cs. s.done ++ before s.opened (full_lines_of cs)) chars-nil
+  at_end =
+      s.lines ∙ ap (λ bs. s.done ++ before s.opened (full_lines_of (chars bs))) (nil_from_length rest over)
+      ∙ ap (λ cs. s.done ++ before s.opened (full_lines_of cs)) chars-nil
 
   -- there is a row for each closed line
   closed : length table ≡ length s.done
@@ -226,7 +236,8 @@ module _ (text rest : List ℕ) (table : List LineExtent) (offset byte_offset at
       s.kept ∙ ap line_table (sym whole ∙ sym (lines_of-full (chars text) full))
 
   -- the open line is the last
-  pub scan_last : (offset < at) ⊎ (length table ≡ 0) → table ++ row offset (at - offset) byte_offset (length text - byte_offset) ∷ [] ≡ line_table (lines_of (chars text))
+  pub scan_last : (offset < at) ⊎ (length table ≡ 0) → table ++ row offset (at - offset) byte_offset (length text - byte_offset)
+      ∷ [] ≡ line_table (lines_of (chars text))
   scan_last h =
       let n = closed in
       let a = s.at_is in

@@ -3,7 +3,7 @@ use Rattle.std.proofs.Common.{◌≡◌, ℕ, zero, suc, ◌+◌, ◌<◌, ◌�
 use Rattle.std.specs.List.{range_with_len}
 use Rattle.std.proofs.lemmas.List.{length_push, take_all, take-append-le, get_or_push, get_or_append_left}
 use Rattle.std.proofs.lemmas.List.FromFn.{map-range_with_len_more, length-map-range_with_len}
-use Rattle.ariadne_base.specs.Places.{byte_len, line_offset}
+use Rattle.ariadne_base.specs.Locations.{byte_len, line_offset}
 use Rattle.ariadne_base.specs.Table.{LineExtent, line_extent, line_table}
 
 -- a row of the table
@@ -34,7 +34,8 @@ line_extent-last : (ls : List (List ℕ)) (l : List ℕ)
     → line_extent (ls ++ l ∷ []) (length ls) ≡ row (sum_by length ls) (length l) (sum_by byte_len ls) (byte_len l)
 unfolding line_extent line_offset
 line_extent-last ls l =
-    let before : take (length ls) (ls ++ l ∷ []) ≡ ls = take-append-le (length ls) ls (l ∷ []) (omega arith) ∙ take_all (length ls) ls (omega arith) in
+    let before : take (length ls) (ls ++ l ∷ []) ≡ ls = take-append-le (length ls) ls (l ∷ []) (omega arith)
+    ∙ take_all (length ls) ls (omega arith) in
     rw (before, get_or_push ls l [] (length ls) refl) refl
 
 -- a line more is a row of the table more
@@ -44,7 +45,8 @@ unfolding line_table
 line_table_push ls l =
     ap (λ n. map (line_extent (ls ++ l ∷ [])) (range_with_len 0 n)) (length_push ls l)
     ∙ map-range_with_len_more (line_extent (ls ++ l ∷ [])) 0 (length ls) (length ls) (omega arith)
-    ∙ ap (λ xs. xs ++ line_extent (ls ++ l ∷ []) (length ls) ∷ []) (map_same (line_extent (ls ++ l ∷ [])) (line_extent ls) 0 (length ls) (λ k h. line_extent-append ls (l ∷ []) k (omega arith)))
+    ∙ ap (λ xs. xs ++ line_extent (ls ++ l ∷ []) (length ls) ∷ [])
+    (map_same (line_extent (ls ++ l ∷ [])) (line_extent ls) 0 (length ls) (λ k h. line_extent-append ls (l ∷ []) k (omega arith)))
     ∙ ap (λ x. map (line_extent ls) (range_with_len 0 (length ls)) ++ x ∷ []) (line_extent-last ls l)
 
 -- no lines have no rows

@@ -7,12 +7,12 @@ abbrev state : ℕ → ℕ → ℕ → ℕ → GeneratorState
 state red green blue brightness = record { red = red; green = green; blue = blue; brightness = brightness }
 
 -- no call moves nothing
-nothing_moved : (place start : ℕ) → start < 65536 → start ≡ number_after place 0 start
-nothing_moved place start low = omega arith
+nothing_moved : (channel start : ℕ) → start < 65536 → start ≡ number_after channel 0 start
+nothing_moved channel start low = omega arith
 
 -- one call more adds one step more
-once_more : (place n start : ℕ) → (number_after place n start + step_at place) % 65536 ≡ number_after place (suc n) start
-once_more place n start = omega arith
+once_more : (channel n start : ℕ) → (number_after channel n start + step_at channel) % 65536 ≡ number_after channel (suc n) start
+once_more channel n start = omega arith
 
 -- by induction on the number of calls
 pub rises_evenly : (s : GeneratorState) (n : ℕ) → IsInRange s → RisesEvenly n s

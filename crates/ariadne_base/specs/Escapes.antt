@@ -1,5 +1,5 @@
--- The escape before a painted text, as the code writes it: a text that is the colour's own, and behind
--- it the numbers of the colour, if it has any.
+-- The escape before a painted text, as the code writes it: a text that is the colour's own, and
+-- behind it the numbers of the colour, if it has any.
 use Rattle.std.specs.Prelude.{◌≡◌, ℕ, List, [], ◌∷◌, ◌++◌, Option, Some, None, codes, decimal}
 use Rattle.ariadne_base.specs.declared.color.Color.{Color}
 use Rattle.ariadne_base.specs.declared.color.Color.TheVariants.{Fixed, Rgb}
@@ -24,6 +24,7 @@ abbrev pub opened : Option Color → List ℕ
 opened None = []
 opened (Some c) = opening foreground c
 
+-- what stands behind it
 abbrev pub closed : Option Color → List ℕ
 closed None = []
 closed (Some c) = closing

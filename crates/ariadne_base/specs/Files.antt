@@ -1,5 +1,5 @@
--- What a cache of files shows. It holds sources under paths; a path is found by its text, whichever type
--- the id that asks for it has.
+-- What a cache of files shows. It holds sources under paths; a path is found by its text, whichever
+-- type the id that asks for it has.
 use Rattle.std.specs.Prelude.{ℕ, List, map, String, string_bytes, codes}
 use Rattle.std.specs.Borrow.{Bor}
 use Rattle.std.specs.declared.alloc.Global.{Global}

@@ -1,10 +1,12 @@
--- The colour generator. It keeps three numbers below 65536, for red, green and blue, and a brightness
--- in thousandths. Each call adds to each number a step of its own, modulo 65536, and answers a colour
--- of the cube of 6 * 6 * 6 colours that begins at number 16 of the 256-colour palette.
+-- The colour generator. It keeps three numbers below 65536, for red, green and blue, and a
+-- brightness in thousandths. Each call adds to each number a step of its own, modulo 65536, and
+-- answers a colour of the cube of 6 * 6 * 6 colours that begins at number 16 of the 256-colour
+-- palette.
 use Rattle.std.specs.Prelude.{◌≡◌, ℕ, zero, suc, ◌+◌, ◌-◌, ◌*◌, ◌/◌, ◌%◌, ◌<◌}
 use Rattle.ariadne_base.specs.declared.color.Color.{Color}
 use Rattle.ariadne_base.specs.declared.color.Color.TheVariants.{Fixed}
 
+-- what a generator holds: a number for each of three channels, and how bright its colours are
 pub record GeneratorState : Type 0 where
   pub red : ℕ
   pub green : ℕ
@@ -15,13 +17,13 @@ pub record GeneratorState : Type 0 where
 abbrev pub usual_start : GeneratorState
 usual_start = record { red = 30000; green = 15000; blue = 35000; brightness = 500 }
 
--- what a call adds to the number at a place, where red is at 0, green at 1 and blue at 2
+-- what a call adds to the number at a channel, where red is at 0, green at 1 and blue at 2
 abbrev pub step_at : ℕ → ℕ
-step_at place = 40503 * (4 * place + 1130)
+step_at channel = 40503 * (4 * channel + 1130)
 
--- the number at a place, after n calls from where it began
+-- the number at a channel, after n calls from where it began
 abbrev pub number_after : ℕ → ℕ → ℕ → ℕ
-number_after place n start = (start + n * step_at place) % 65536
+number_after channel n start = (start + n * step_at channel) % 65536
 
 -- the state after a call
 abbrev pub stepped : GeneratorState → GeneratorState

@@ -1,5 +1,5 @@
 pub mod Lines
-pub mod Places
+pub mod Locations
 pub mod Table
 pub mod Ranges
 pub mod Listing

@@ -1,9 +1,10 @@
--- Ranges of a source: the lines that a span of characters runs across, also where it is reversed or lies
--- past the source, and which bytes are a text that can be cut out.
-use Rattle.std.specs.Prelude.{ℕ, suc, ◌-◌, max, nat_le, Option, Some, None, unwrap_or, if◌then◌else◌, List, length, sum_by}
+-- Ranges of a source: the lines that a span of characters runs across, also where it is reversed or
+-- lies past the source, and which bytes are a text that can be cut out.
+use Rattle.std.specs.Prelude.{ℕ, suc, ◌-◌, max, nat_le, Option, Some, None, unwrap_or}
+use Rattle.std.specs.Prelude.{if◌then◌else◌, List, length, sum_by}
 use Rattle.std.specs.Option.{option_map_or}
 use Rattle.std.specs.Str.{IsCharBoundary}
-use Rattle.ariadne_base.specs.Places.{line_at}
+use Rattle.ariadne_base.specs.Locations.{line_at}
 
 -- the last offset of a span from start to before stop; an empty or reversed span has its start
 abbrev pub last_offset : ℕ → ℕ → ℕ

@@ -1,7 +1,8 @@
--- What is kept of each line of a text: where it lies and how long it is, in characters and in bytes,
--- and what a look-up of an offset gives: the line of its place, that line's number, and the column.
+-- What is kept of each line of a text: where it lies and how long it is, in characters and in
+-- bytes, and what a look-up of an offset gives: the line of its location, that line's number, and
+-- the column.
 use Rattle.std.specs.Prelude.{ℕ, ◌+◌, List, map, length}
-use Rattle.ariadne_base.specs.Places.{byte_len, upto, line_text, line_offset, line_at, column_at}
+use Rattle.ariadne_base.specs.Locations.{byte_len, upto, line_text, line_offset, line_at, column_at}
 
 -- a line's offset in its text and its length, in characters and in bytes
 pub record LineExtent : Type 0 where
@@ -27,6 +28,6 @@ line_extent ls n = record {
 unfoldable pub line_table : List (List ℕ) → List LineExtent
 line_table ls = map (line_extent ls) (upto (length ls))
 
--- the place of an offset: its line, the number of that line, and its column
-unfoldable pub place_of : (List ℕ → ℕ) → List (List ℕ) → ℕ → LineExtent × ℕ × ℕ
-place_of size ls o = (line_extent ls (line_at size ls o), line_at size ls o, column_at size ls o)
+-- the location of an offset: its line, the number of that line, and its column
+unfoldable pub location_of : (List ℕ → ℕ) → List (List ℕ) → ℕ → LineExtent × ℕ × ℕ
+location_of size ls o = (line_extent ls (line_at size ls o), line_at size ls o, column_at size ls o)

@@ -1,6 +1,8 @@
-//! Sources: texts with their lines, and the place of an offset in them.
+//! Sources: texts with their lines, and the location of an offset in them.
 
-ghost use Rattle.std.specs.Prelude.{◌≡◌, ℕ, ◌+◌, ◌^◌, ◌<◌, ◌≤◌, ◌↔◌, ◌==◌, ◌&&◌, ◌++◌, List, [], Bool, true, length, nat_eq, IsTrue, IsSome, IfSome, IfOk, IsSomeAnd, slice_get, slice_range, encode_utf8_all, chars};
+ghost use Rattle.std.specs.Prelude.{◌≡◌, ℕ, ◌+◌, ◌^◌, ◌<◌, ◌≤◌, ◌↔◌, ◌==◌, ◌&&◌, ◌++◌, List, []};
+ghost use Rattle.std.specs.Prelude.{Bool, true, length, nat_eq, IsTrue, IsSome, IfSome, IfOk};
+ghost use Rattle.std.specs.Prelude.{IsSomeAnd, slice_get, slice_range, encode_utf8_all, chars};
 ghost use Rattle.std.specs.Str.Iter.{chars_rest, chars_steps};
 ghost use Rattle.std.specs.Iterator.Runs.{EveryRun, ItemsAreChars};
 ghost use Rattle.std.specs.Cmp.Lexicographic.{pointwise};
@@ -9,8 +11,8 @@ ghost use Rattle.std.specs.Hash as fed;
 ghost use Rattle.std.proofs.Common.{rules};
 ghost use Rattle.ariadne_base.specs.Lines.{AreLinesOf};
 ghost use Rattle.ariadne_base.specs.Listing.{listed_lines};
-ghost use Rattle.ariadne_base.specs.Places.{byte_len, line_text};
-ghost use Rattle.ariadne_base.specs.Table.{byte_end, line_extent, line_table, place_of};
+ghost use Rattle.ariadne_base.specs.Locations.{byte_len, line_text};
+ghost use Rattle.ariadne_base.specs.Table.{byte_end, line_extent, line_table, location_of};
 ghost use Rattle.ariadne_base.specs.Ranges.{first_line, line_end, line_number, IsCutOut};
 
 mod halving;
@@ -160,7 +162,8 @@ impl<I: SourceText> Source<I> {
     /// the last line.
     pub fn get_offset_line(&self, offset: usize) -> Option<(Line, usize, usize)>
         ensures found { IsSome result ↔ (offset ≤ length (chars self.now.text)) }
-        ensures place { IfSome result (λ p. p ≡ place_of length (listed_lines self.now) offset) }
+        ensures location { IfSome result
+            (λ p. p ≡ location_of length (listed_lines self.now) offset) }
         ensures number { IfSome result (λ p. p.1 < length (listed_lines self.now)) }
     {
         if offset > self.len() {
@@ -177,8 +180,8 @@ impl<I: SourceText> Source<I> {
     /// `None` where the offset exceeds the number of bytes.
     pub fn get_byte_line(&self, byte_offset: usize) -> Option<(Line, usize, usize)>
         ensures found { IsSome result ↔ (byte_offset ≤ length self.now.text) }
-        ensures place { IfSome result (λ p. p
-            ≡ place_of byte_len (listed_lines self.now) byte_offset) }
+        ensures location { IfSome result (λ p. p
+            ≡ location_of byte_len (listed_lines self.now) byte_offset) }
         ensures number { IfSome result (λ p. p.1 < length (listed_lines self.now)) }
     {
         if byte_offset > self.text().len() {

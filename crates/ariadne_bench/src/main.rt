@@ -1,9 +1,9 @@
 //! Measures workloads: `NAME N` runs the workload NAME N times and prints one line,
 //! `NAME N BYTES CHECKSUM NANOSECONDS`.
 //!
-//! BYTES are those of its text, or of its picture, CHECKSUM is that of the last answer, and NANOSECONDS are those of all
-//! N rounds, without what is made before them. A third word `--check` leaves the time out, so that
-//! the line is the same in every run.
+//! BYTES are those of its text, or of its picture, CHECKSUM is that of the last answer, and
+//! NANOSECONDS are those of all N rounds, without what is made before them. A third word `--check`
+//! leaves the time out, so that the line is the same in every run.
 #![tactic(auto)]
 
 mod checksum;

@@ -4,7 +4,7 @@ use Rattle.std.specs.Prelude.{ℕ, ◌⊎◌, Bool, true, List, [], ◌∷◌, �
 use Rattle.std.specs.List.{Contains}
 use Rattle.std.proofs.lemmas.List.{append_assoc}
 use Rattle.std.proofs.lemmas.List.Elements.{Contains-append_left, Contains-append_right}
-use Rattle.ariadne.proofs.ListFacts.{all-append}
+use Rattle.ariadne_picture.proofs.Lists.ListFacts.{all-append}
 use Rattle.ariadne_programs.specs.Words.{AskBehindOptions, HaveOptions, IsOption}
 
 -- a word that is there, or that comes last

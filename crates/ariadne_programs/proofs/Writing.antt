@@ -19,7 +19,8 @@ use Rattle.ariadne_programs.specs.Drawn.{Drawing, Ended, Wrote, picture_of}
 
 module _ (words : List (List ℕ)) (input before after : Option (List ℕ)) where
   -- a fault of the writer
-  pub wrote_part : (d : Drawing words input) (reasons : List (Option (Reason (Unit {0})))) (picture : List ℕ) (e : WriteError) (result : Result (Vec (LeftOut (Unit {0})) Global) Fault)
+  pub wrote_part : (d : Drawing words input) (reasons : List (Option (Reason (Unit {0})))) (picture : List ℕ) (e : WriteError)
+      (result : Result (Vec (LeftOut (Unit {0})) Global) Fault)
       → picture ≡ picture_of d → Written reasons picture before after (Err e) → IsErrAnd result (λ f. f ≡ fault_of e)
       → Wrote words input before after result
   wrote_part d reasons picture e (Ok list) same written told = elim told [ ]

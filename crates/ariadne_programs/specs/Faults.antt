@@ -2,14 +2,17 @@
 use Rattle.ariadne.specs.declared.write.send.WriteError.{WriteError}
 use Rattle.ariadne.specs.declared.write.send.WriteError.TheVariants as write
 use Rattle.ariadne_programs.specs.declared.fault.Fault.{Fault}
-use Rattle.ariadne_programs.specs.declared.fault.Fault.TheVariants.{Usage, Unread, NotUtf8, Writer, Memory}
+use Rattle.ariadne_programs.specs.declared.fault.Fault.TheVariants.{Usage, Unread, NotUtf8, Writer}
+use Rattle.ariadne_programs.specs.declared.fault.Fault.TheVariants.{Memory}
 use Rattle.ariadne_programs.specs.declared.fault.Status.{Status}
 use Rattle.ariadne_programs.specs.declared.fault.Status.TheVariants.{BadInput, Failed}
 
+-- the fault that an error is
 abbrev pub fault_of : WriteError → Fault
 fault_of (write.Memory refused) = Memory refused
 fault_of (write.Io sent fault) = Writer sent
 
+-- the status that a fault ends with
 abbrev pub status_of : Fault → Status
 status_of Usage = BadInput
 status_of Unread = BadInput

@@ -1,16 +1,18 @@
--- What the words of the command line ask for: options in front, then the message, then three words for
--- each label. Words are their bytes.
+-- What the words of the command line ask for: options in front, then the message, then three words
+-- for each label. Words are their bytes.
 use Rattle.std.specs.Prelude.{ℕ, ◌≡◌, ◌≢◌, ◌⊎◌, Bool, true, List, [], ◌∷◌, ◌++◌, take, codes}
 use Rattle.std.specs.List.{AllByRecursion, Contains}
 use Rattle.ariadne_programs.specs.declared.asked.Asked.{Asked}
 use Rattle.ariadne_programs.specs.declared.asked.AskedLabel.{AskedLabel}
 use Rattle.ariadne_programs.specs.Numbers.{IsNumber, number_of}
 
+-- a word is one of the options
 abbrev pub IsOption : List ℕ → Type 0
 IsOption word = (word ≡ codes "--ascii") ⊎ (word ≡ codes "--plain")
 
 -- options in front of other words, and whether each is among them
-pub record HaveOptions (words : List (List ℕ)) (ascii plain : Bool) (behind : List (List ℕ)) : Type 0 where
+pub record HaveOptions (words : List (List ℕ)) (ascii plain : Bool)
+    (behind : List (List ℕ)) : Type 0 where
   pub options : List (List ℕ)
   pub joins : words ≡ options ++ behind
   pub are_options : AllByRecursion IsOption options
@@ -19,7 +21,8 @@ pub record HaveOptions (words : List (List ℕ)) (ascii plain : Bool) (behind : 
 
 -- nothing, or the word that lets a message begin with `--` too
 abbrev pub MayPrecede : List (List ℕ) → List ℕ → Type 0
-MayPrecede dashes message = (dashes ≡ codes "--" ∷ []) ⊎ ((dashes ≡ []) × (take 2 message ≢ codes "--"))
+MayPrecede dashes message =
+    (dashes ≡ codes "--" ∷ []) ⊎ ((dashes ≡ []) × (take 2 message ≢ codes "--"))
 
 -- three words ask for a label: two numbers, the first not the greater, and a text
 pub record AsksForLabel (start end text : List ℕ) (label : AskedLabel) : Type 0 where
@@ -29,16 +32,19 @@ pub record AsksForLabel (start end text : List ℕ) (label : AskedLabel) : Type 
   pub ends : label.end ≡ number_of end
   pub says : label.text.now ≡ text
 
+-- words in threes ask for these labels
 abbrev pub AskForLabels : List (List ℕ) → List AskedLabel → Type 0
 AskForLabels [] [] = Unit {0}
 AskForLabels [] (label ∷ labels) = ⊥
 AskForLabels (start ∷ []) labels = ⊥
 AskForLabels (start ∷ end ∷ []) labels = ⊥
 AskForLabels (start ∷ end ∷ text ∷ words) [] = ⊥
-AskForLabels (start ∷ end ∷ text ∷ words) (label ∷ labels) = AsksForLabel start end text label × AskForLabels words labels
+AskForLabels (start ∷ end ∷ text ∷ words) (label ∷ labels) =
+    AsksForLabel start end text label × AskForLabels words labels
 
 -- the words from the message on
-pub record AskBehindOptions (behind : List (List ℕ)) (message : List ℕ) (rest : List (List ℕ)) : Type 0 where
+pub record AskBehindOptions (behind : List (List ℕ)) (message : List ℕ)
+    (rest : List (List ℕ)) : Type 0 where
   pub dashes : List (List ℕ)
   pub joins : behind ≡ dashes ++ message ∷ rest
   pub precede : MayPrecede dashes message

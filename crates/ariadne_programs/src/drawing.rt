@@ -13,14 +13,15 @@ use std::io::{Read, Write};
 use std::ops::Range;
 use std::rt::Files;
 
-/// Draws the report that `words` ask for over the text of `input`, and answers how the program ends.
+/// Draws the report that `words` ask for over the text of `input`, and answers how the program
+/// ends.
 ///
 /// The words are those of the command line without the program's name. They are judged first, then
 /// the input is read, then the report is written to `out`, then `faults` gets a line for each label
-/// that was left out, or the one line that says why nothing could be drawn. A failure of `faults` is
-/// passed over. A report that can't be drawn yet, as one with labels on different lines, is answered
-/// as bad words are. No word names a file yet, so the file system isn't read. What `out` got is told
-/// by the status.
+/// that was left out, or the one line that says why nothing could be drawn. A failure of `faults`
+/// is passed over. A report that can't be drawn yet, as one with labels on different lines, is
+/// answered as bad words are. No word names a file yet, so the file system isn't read. What `out`
+/// got is told by the status.
 pub fn draw<R: Files, I: Read, W: Write, F: Write>(
     _files: &R,
     alloc: Global,
@@ -29,7 +30,8 @@ pub fn draw<R: Files, I: Read, W: Write, F: Write>(
     out: &mut W,
     faults: &mut F,
 ) -> Status
-    ensures { Ended (map string_bytes words.now) (I.remaining input.old) (W.contents out.old) (W.contents out.new) result }
+    ensures { Ended (map string_bytes words.now) (I.remaining input.old) (W.contents out.old)
+        (W.contents out.new) result }
 {
     match write_report(alloc, words, input, out) {
         Ok(left_out) if left_out.is_empty() => Status::Drawn,
@@ -48,7 +50,8 @@ fn write_report<I: Read, W: Write>(
     input: &mut I,
     out: &mut W,
 ) -> Result<Vec<LeftOut<()>>, Fault>
-    ensures { Wrote (map string_bytes words.now) (I.remaining input.old) (W.contents out.old) (W.contents out.new) result }
+    ensures { Wrote (map string_bytes words.now) (I.remaining input.old) (W.contents out.old)
+        (W.contents out.new) result }
 {
     let asked = read_words(alloc, words)?;
     let mut source = Source::from(alloc, read_text(alloc, input)?)?;
@@ -61,7 +64,8 @@ fn write_report<I: Read, W: Write>(
 
 /// The text of a reader, to its end.
 fn read_text<I: Read>(alloc: Global, input: &mut I) -> Result<String, Fault>
-    ensures read { IfOk result (λ text. IfSome (I.remaining input.old) (λ bytes. string_bytes text ≡ bytes)) }
+    ensures read { IfOk result (λ text. IfSome (I.remaining input.old)
+        (λ bytes. string_bytes text ≡ bytes)) }
     ensures refused { IfErr result IsBeforeWriting }
 {
     let mut bytes = Vec::new(alloc);

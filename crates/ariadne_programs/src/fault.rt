@@ -74,7 +74,8 @@ impl From<WriteError> for Fault {
 impl Fault {
     /// What an error of the system means: want of memory where it is of that kind, else `other`.
     pub fn of_error(error: &io::Error, other: Fault) -> Fault
-        ensures memory { error_kind error.now ≡ ErrorKind.OutOfMemory → result ≡ Memory alloc_error }
+        ensures memory { error_kind error.now ≡ ErrorKind.OutOfMemory
+            → result ≡ Memory alloc_error }
         ensures other { error_kind error.now ≢ ErrorKind.OutOfMemory → result ≡ other }
     {
         if error.kind() == ErrorKind::OutOfMemory {

@@ -9,8 +9,8 @@ use super::tests_streams::{Given, Taker};
 use std::alloc::Global;
 use std::test::Fail;
 
-/// A request for this many bytes and n more asks `tools/refuse` to refuse the nth request from there
-/// on, none where n is 0. In a test that runs without it nothing is refused.
+/// A request for this many bytes and n more asks `tools/refuse` to refuse the nth request from
+/// there on, none where n is 0. In a test that runs without it nothing is refused.
 const WATCHED: usize = 0x5e_ed00;
 
 /// A request for this many bytes more is refused where that nth request was.

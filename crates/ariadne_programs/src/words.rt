@@ -1,6 +1,7 @@
 //! Reading the words of the command line.
 
-ghost use Rattle.std.specs.Prelude.{◌≡◌, ◌≤◌, ◌↔◌, ℕ, List, ◌∷◌, map, IsSome, IfErr, IfOk, IfSome, SomeIff, string_bytes};
+ghost use Rattle.std.specs.Prelude.{◌≡◌, ◌≤◌, ◌↔◌, ℕ, List, ◌∷◌, map, IsSome, IfErr, IfOk, IfSome};
+ghost use Rattle.std.specs.Prelude.{SomeIff, string_bytes};
 ghost use Rattle.ariadne_programs.specs.Faults.{IsBeforeWriting};
 ghost use Rattle.ariadne_programs.specs.Words.{AskBehindOptions, AskFor, AskForLabels, HaveOptions};
 ghost use Rattle.ariadne_programs.specs.Numbers.{IsNumber, number_of};
@@ -20,8 +21,8 @@ struct Options {
 ///
 /// Options come first, and each may be repeated. The first word that doesn't begin with `--` is the
 /// message. Where a word `--` stands before it, the message is the word behind that, whatever it
-/// begins with. Three words for each label follow. `--ascii` and `--plain` must both be there, since
-/// nothing else is drawn yet. Words of any other form are `Fault::Usage`.
+/// begins with. Three words for each label follow. `--ascii` and `--plain` must both be there,
+/// since nothing else is drawn yet. Words of any other form are `Fault::Usage`.
 pub fn read_words<'a>(alloc: Global, words: &'a [String]) -> Result<Asked<'a>, Fault>
     ensures asked { IfOk result (λ asked. AskFor (map string_bytes words.now) asked) }
     ensures refused { IfErr result IsBeforeWriting }
@@ -42,7 +43,8 @@ pub fn read_words<'a>(alloc: Global, words: &'a [String]) -> Result<Asked<'a>, F
 fn read_options(words: &[String]) -> Result<(Options, &[String]), Fault>
     ensures found { IfOk result (λ found. (behind : List (List ℕ))
         × HaveOptions (map string_bytes words.now) found.0.is_ascii found.0.is_plain behind
-        × ((message : List ℕ) (rest : List (List ℕ)) → map string_bytes found.1.now ≡ message ∷ rest → AskBehindOptions behind message rest)) }
+        × ((message : List ℕ) (rest : List (List ℕ)) → map string_bytes found.1.now ≡ message ∷ rest
+        → AskBehindOptions behind message rest)) }
     ensures refused { IfErr result IsBeforeWriting }
 {
     let mut options = Options::default();
@@ -62,7 +64,8 @@ fn read_options(words: &[String]) -> Result<(Options, &[String]), Fault>
 
 /// The labels that words name in threes.
 fn read_labels<'a>(alloc: Global, words: &'a [String]) -> Result<Vec<AskedLabel<'a>>, Fault>
-    ensures labels { IfOk result (λ labels. AskForLabels (map string_bytes words.now) labels.items) }
+    ensures labels { let words = map string_bytes words.now in
+        IfOk result (λ labels. AskForLabels words labels.items) }
     ensures refused { IfErr result IsBeforeWriting }
 {
     let mut labels = Vec::new(alloc);

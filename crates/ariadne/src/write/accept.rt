@@ -2,14 +2,16 @@
 
 ghost use Rattle.std.specs.Prelude.{◌≡◌, ◌≤◌, length, chars, IfOk};
 ghost use Rattle.ariadne_base.specs.Listing.{listed_lines};
-ghost use Rattle.ariadne.specs.Written.{listed, reasons, drawn};
-ghost use Rattle.ariadne.specs.Accept.{verdict, info_of, attach_offset as attached_offset};
+ghost use Rattle.ariadne.specs.Written.{listed, only_source, reasons, drawn};
+ghost use Rattle.ariadne_picture.specs.Report.{AreForward};
+ghost use Rattle.ariadne_picture.specs.Accept.{verdict, info_of, attach_offset as attached_offset};
 
-use super::label_info::LabelInfo;
 use crate::config::{Config, LabelAttach};
 use crate::label::Label;
 use crate::report::Report;
 use ariadne_base::{Source, SourceText, Span};
+use ariadne_picture::label_info::LabelInfo;
+use ariadne_picture::verdict::Verdict;
 use std::alloc::AllocError;
 
 /// Why a label is left out of the picture.
@@ -42,7 +44,9 @@ pub(crate) struct Judged<E> {
 /// Judges all labels of a report over one source, in their order.
 pub(crate) fn accept(report: &Report<'_>, source: &Source<String>) -> Result<Judged<()>, AllocError>
     ensures drawn { IfOk result (λ judged. judged.infos.items ≡ drawn source.now report.now) }
-    ensures left_out { IfOk result (λ judged. judged.left_out.items ≡ listed 0 (reasons source.now report.now)) }
+    ensures left_out { let why = reasons source.now report.now in
+        IfOk result (λ judged. judged.left_out.items ≡ listed 0 why) }
+    ensures forward { IfOk result (λ judged. AreForward (only_source source.now) report.now) }
 {
     let mut infos = Vec::with_capacity(report.alloc, report.labels.len())?;
     let mut left_out = Vec::new(report.alloc);
@@ -62,17 +66,6 @@ pub(crate) fn accept(report: &Report<'_>, source: &Source<String>) -> Result<Jud
     Ok(Judged { infos, left_out })
 }
 
-/// What becomes of a label whose source is held.
-#[derive(Clone, Copy, Debug, PartialEq, Eq)]
-pub(crate) enum Verdict {
-    /// It is drawn.
-    Accepted(LabelInfo),
-    /// It begins past its source, or ends more than one past it.
-    PastSource,
-    /// One of its ends lies inside a character.
-    CutsCharacter,
-}
-
 /// Judges label number `number` of a report.
 ///
 /// The offset one past the end of the source is taken as its end, since a parser that runs out of
@@ -83,7 +76,9 @@ pub(crate) fn judge<S: Span, I: SourceText>(
     number: usize,
     label: &Label<S>,
 ) -> Verdict
-    ensures { result ≡ verdict config source.now number label.now (S.start_of label.now.span) (S.end_of label.now.span) }
+    ensures verdict { result ≡ verdict config source.now number label.now
+        (S.start_of label.now.span) (S.end_of label.now.span) }
+    ensures forward { S.start_of label.now.span ≤ S.end_of label.now.span }
 {
     let attach = config.label_attach();
     let len = source.len();
@@ -109,17 +104,17 @@ fn label_info<S: Span, I: SourceText>(
     ensures { result ≡ info_of attach (listed_lines source.now) number label.now start end }
 {
     let last = end.saturating_sub(1).max(start);
-    let (line, start_line, start_column) = source.get_offset_line(start).unwrap();
-    let (_, end_line, end_column) = source.get_offset_line(last).unwrap();
+    let (line, start_line, start_place) = source.get_offset_line(start).unwrap();
+    let (_, end_line, end_place) = source.get_offset_line(last).unwrap();
     let attached = attach_offset(attach, start, end);
     LabelInfo {
-        number,
+        position: number,
         start,
         end,
         start_line,
-        start_column,
+        start_place,
         end_line,
-        end_column,
+        end_place,
         attach: attached.saturating_sub(line.offset()),
         order: label.order(),
         priority: label.priority(),
@@ -128,7 +123,7 @@ fn label_info<S: Span, I: SourceText>(
 }
 
 /// The offset that an arrow is attached to.
-#[tactic(auto, using(crate::proofs::Accepting::halfway), unfolding(crate::specs::Accept::attach_offset))]
+#[tactic(auto, using(crate::proofs::Accepting::halfway), unfolding(ariadne_picture::specs::Accept::attach_offset))]
 fn attach_offset(attach: LabelAttach, start: usize, end: usize) -> usize
     requires forward { start ≤ end }
     ensures { result ≡ attached_offset attach start end }

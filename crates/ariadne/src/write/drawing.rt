@@ -12,31 +12,34 @@
 //!     ---'                                           tail
 //! ```
 
-ghost use Rattle.std.specs.Prelude.{◌≡◌, ◌<◌, ◌≤◌, ◌^◌, ◌++◌, true, decimal, length, OnOk, IfOk, string_bytes};
+ghost use Rattle.std.specs.Prelude.{◌≡◌, ◌<◌, ◌≤◌, ◌^◌, ◌++◌, true, decimal, length, OnOk, IfOk};
+ghost use Rattle.std.specs.Prelude.{string_bytes};
 ghost use Rattle.ariadne_base.specs.Listing.{listed_lines};
-ghost use Rattle.ariadne_base.specs.Places.{line_offset, line_text};
-ghost use Rattle.ariadne.specs.Canvas.{title};
-ghost use Rattle.ariadne.specs.Columns.{arrow_len};
-ghost use Rattle.ariadne.specs.Groups.{line_number};
-ghost use Rattle.ariadne.specs.Heads.{place_numbers};
-ghost use Rattle.ariadne.specs.OneLine.{group_bytes, inline_layout, label_bytes, line_bytes, only_layout, only_number_width, only_section};
-ghost use Rattle.ariadne.specs.Pieces.{message_pieces, place_text};
-ghost use Rattle.ariadne.specs.Print.{pieces_bytes};
-ghost use Rattle.ariadne.specs.Report.{style_of};
-ghost use Rattle.ariadne.specs.Written.{drawable_line, drawn, is_drawable, only_source, own_place, picture};
+ghost use Rattle.ariadne_base.specs.Locations.{line_offset, line_text};
+ghost use Rattle.ariadne_picture.specs.Canvas.{texts_of};
+ghost use Rattle.ariadne_picture.specs.Columns.{arrow_len};
+ghost use Rattle.ariadne_picture.specs.Groups.{printed_number};
+ghost use Rattle.ariadne.specs.Headers.{location_numbers};
+ghost use Rattle.ariadne.specs.OneLine.{group_bytes, inline_layout, label_bytes, line_bytes};
+ghost use Rattle.ariadne.specs.OneLine.{only_layout, only_number_width, only_section};
+ghost use Rattle.ariadne_picture.specs.Pieces.{message_pieces, location_text};
+ghost use Rattle.ariadne_picture.specs.Print.{pieces_bytes};
+ghost use Rattle.ariadne_picture.specs.Report.{switches_of};
+ghost use Rattle.ariadne.specs.Written.{drawable_line, drawn, is_drawable, only_source, own_offset};
+ghost use Rattle.ariadne.specs.Written.{picture};
 
 use super::area::{push_alternate_area, push_arrow_area};
-use super::cell::Glyph;
-use super::headers::{push_head, push_header, push_space, push_tail};
-use super::label_info::{LabelInfo, LineLabel, Side};
+use super::headers::{push_group_header, push_header, push_spacer, push_tail};
 use super::layout::LineLayout;
 use super::margin::{decimal_len, push_line_margin, push_margin};
 use super::order::ordered;
 use super::palette::Palette;
 use super::shown::push_shown;
-use crate::config::Style;
 use crate::report::Report;
 use ariadne_base::{Source, Span};
+use ariadne_picture::cell::Glyph;
+use ariadne_picture::label_info::{LabelInfo, LineLabel, Side};
+use ariadne_picture::switches::Switches;
 use std::alloc::AllocError;
 
 /// How a line is numbered.
@@ -45,7 +48,7 @@ pub(crate) struct LineNumber {
     /// The number of columns that numbers take.
     pub(crate) width: usize,
     /// What the source adds to the numbers of its lines.
-    pub(crate) shift: usize,
+    pub(crate) display_offset: usize,
     /// The line, from 0.
     pub(crate) line: usize,
 }
@@ -62,8 +65,8 @@ pub(crate) fn draw(
     requires infos { infos.now ≡ drawn source.now report.now }
     ensures { IfOk result (λ text. string_bytes text ≡ picture source.now report.now) }
 {
-    // The contract of `style` tells that offsets count characters.
-    let _chars = report.config.style();
+    // The contract of `switches` tells that offsets count characters.
+    let _chars = report.config.switches();
     let palette = report.palette()?;
     let mut out = String::new(report.alloc);
     push_header(
@@ -100,34 +103,34 @@ fn push_group(
     requires infos { infos.now ≡ drawn source.now report.now }
     requires some { 0 < length infos.now }
     requires line { line ≡ drawable_line source.now report.now }
-    ensures { let rows = group_bytes palette.now (title report.now)
+    ensures { let rows = group_bytes palette.now (texts_of report.now)
         (only_section (only_source source.now) report.now infos.now)
         (only_number_width (only_source source.now) report.now line infos.now) line
         (only_layout (only_source source.now) report.now line infos.now) in
         OnOk result (string_bytes out.new ≡ string_bytes out.old ++ rows) }
 {
-    let style = report.config.style();
+    let switches = report.config.switches();
     let group = ordered(report.alloc, infos)?;
     let layout = layout_of(report, source, &group, line)?;
     let number = line_number_of(source, line);
-    let place = header_place(report, source);
-    push_head(
+    let place = header_location(report, source);
+    push_group_header(
         out,
         palette,
-        style.char_set,
+        switches.char_set,
         number.width,
         true,
         "<unknown>",
         place,
     )?;
     out.push('\n')?;
-    if !style.compact {
-        push_space(out, palette, style.char_set, number.width)?;
+    if !switches.compact {
+        push_spacer(out, palette, switches.char_set, number.width)?;
         out.push('\n')?;
     }
-    push_line(out, report, palette, &style, &number, &layout)?;
-    if !style.compact {
-        push_tail(out, palette, style.char_set, number.width, true)?;
+    push_line(out, report, palette, &switches, &number, &layout)?;
+    if !switches.compact {
+        push_tail(out, palette, switches.char_set, number.width, true)?;
         out.push('\n')?;
     }
     Ok(())
@@ -138,52 +141,61 @@ pub(crate) fn push_line<S: Span>(
     out: &mut String,
     report: &Report<'_, S>,
     palette: &Palette,
-    style: &Style,
+    switches: &Switches,
     number: &LineNumber,
     layout: &LineLayout,
 ) -> Result<(), AllocError>
-    requires style { style.now ≡ style_of report.now.config }
-    requires tab { 1 ≤ style.now.tab_width }
-    requires fits { arrow_len style.now layout.now < 2 ^ 64 }
-    requires number { line_number number.now.shift number.now.line < 2 ^ 64 }
-    ensures { let rows = line_bytes palette.now (title report.now) number.now.width number.now.shift number.now.line layout.now in
+    requires switches { switches.now ≡ switches_of report.now.config }
+    requires tab { 1 ≤ switches.now.tab_width }
+    requires fits { arrow_len switches.now layout.now < 2 ^ 64 }
+    requires number { printed_number number.now.display_offset number.now.line < 2 ^ 64 }
+    ensures { let n = number.now in
+        let rows = line_bytes palette.now (texts_of report.now) n.width n.display_offset n.line layout.now in
         OnOk result (string_bytes out.new ≡ string_bytes out.old ++ rows) }
 {
-    push_line_margin(out, palette, style, number.width, number.shift, number.line)?;
-    push_shown(out, palette, style, &[], layout)?;
+    push_line_margin(
+        out,
+        palette,
+        switches,
+        number.width,
+        number.display_offset,
+        number.line,
+    )?;
+    push_shown(out, palette, switches, &[], layout)?;
     out.push('\n')?;
-    for row in 0..layout.labels.len() {
-        push_label_rows(out, report, palette, style, number, layout, row)?;
+    for rank in 0..layout.labels.len() {
+        push_label_rows(out, report, palette, switches, number, layout, rank)?;
     }
     Ok(())
 }
 
-/// Appends the rows of line label number `row`: underlines and verticals, and the arrow to its
-/// message. Compact pictures have the arrow alone.
+/// Appends the rows of the line label of rank `rank`: underlines and verticals, and the arrow to
+/// its message. Compact pictures have the arrow alone.
 fn push_label_rows<S: Span>(
     out: &mut String,
     report: &Report<'_, S>,
     palette: &Palette,
-    style: &Style,
+    switches: &Switches,
     number: &LineNumber,
     layout: &LineLayout,
-    row: usize,
+    rank: usize,
 ) -> Result<(), AllocError>
-    requires style { style.now ≡ style_of report.now.config }
-    requires tab { 1 ≤ style.now.tab_width }
-    requires fits { arrow_len style.now layout.now < 2 ^ 64 }
-    requires row { row < length layout.now.labels }
-    ensures { let rows = label_bytes palette.now (title report.now) number.now.width number.now.shift number.now.line layout.now row in
+    requires switches { switches.now ≡ switches_of report.now.config }
+    requires tab { 1 ≤ switches.now.tab_width }
+    requires fits { arrow_len switches.now layout.now < 2 ^ 64 }
+    requires rank { rank < length layout.now.labels }
+    ensures { let n = number.now in let texts = texts_of report.now in
+        let rows = label_bytes palette.now texts n.width n.display_offset n.line layout.now rank in
         OnOk result (string_bytes out.new ≡ string_bytes out.old ++ rows) }
 {
-    if !style.compact {
-        push_margin(out, palette, style, number.width, Glyph::Vbar)?;
-        push_alternate_area(out, palette, style, layout, row)?;
+    if !switches.compact {
+        push_margin(out, palette, switches, number.width, Glyph::Vbar)?;
+        push_alternate_area(out, palette, switches, layout, rank)?;
         out.push('\n')?;
     }
-    push_margin(out, palette, style, number.width, Glyph::Vbar)?;
-    push_arrow_area(out, palette, style, layout, row)?;
-    push_message(out, report, palette, &layout.labels[row])?;
+    push_margin(out, palette, switches, number.width, Glyph::Vbar)?;
+    push_arrow_area(out, palette, switches, layout, rank)?;
+    push_message(out, report, palette, &layout.labels[rank])?;
     out.push('\n')
 }
 
@@ -194,14 +206,15 @@ fn push_message<S: Span>(
     palette: &Palette,
     label: &LineLabel,
 ) -> Result<(), AllocError>
-    ensures { let written = pieces_bytes palette.now (message_pieces (title report.now) (Some label.now)) in
+    ensures { let written = pieces_bytes palette.now
+        (message_pieces (texts_of report.now) (Some label.now)) in
         OnOk result (string_bytes out.new ≡ string_bytes out.old ++ written) }
 {
     if label.side == Side::Starts {
         return Ok(());
     }
     out.push(' ')?;
-    out.push_str(report.message_of(label.info.number))
+    out.push_str(report.message_of(label.info.position))
 }
 
 /// The layout of the line that all labels of a group lie within.
@@ -213,7 +226,8 @@ fn layout_of(
 ) -> Result<LineLayout, AllocError>
     requires { line < length (listed_lines source.now) }
     ensures layout { let lines = listed_lines source.now in
-        IfOk result (λ y. y ≡ inline_layout group.now (line_offset length lines line) (line_text lines line)) }
+        IfOk result (λ y. y ≡ inline_layout group.now (line_offset length lines line)
+        (line_text lines line)) }
     ensures short { IfOk result (λ y. length y.text < 2 ^ 63) }
 {
     let place = source.line(line).unwrap();
@@ -225,28 +239,30 @@ fn layout_of(
 fn line_number_of(source: &Source<String>, line: usize) -> LineNumber
     requires { line < length (listed_lines source.now) }
     ensures line { result.line ≡ line }
-    ensures shift { result.shift ≡ source.now.display_offset }
-    ensures width { result.width ≡ length (decimal (line_number source.now.display_offset line)) }
-    ensures fits { line_number source.now.display_offset line < 2 ^ 64 }
+    ensures display_offset { result.display_offset ≡ source.now.display_offset }
+    ensures width { result.width ≡ length
+        (decimal (printed_number source.now.display_offset line)) }
+    ensures fits { printed_number source.now.display_offset line < 2 ^ 64 }
 {
-    let shift = source.display_line_offset();
+    let display_offset = source.display_line_offset();
     LineNumber {
-        width: decimal_len(line + 1 + shift),
-        shift,
+        width: decimal_len(line + 1 + display_offset),
+        display_offset,
         line,
     }
 }
 
 /// The numbers of the line and the column that the report's own span starts at, both from 1, if
 /// that is a place of the source.
-fn header_place(report: &Report<'_>, source: &Source<String>) -> Option<(usize, usize)>
-    ensures { place_numbers result ≡ place_text (listed_lines source.now) source.now.display_offset (own_place source.now report.now) }
+fn header_location(report: &Report<'_>, source: &Source<String>) -> Option<(usize, usize)>
+    ensures { location_numbers result ≡ location_text
+        (listed_lines source.now) source.now.display_offset (own_offset source.now report.now) }
 {
-    let shift = source.display_line_offset();
+    let display_offset = source.display_line_offset();
     // A text has fewer than 2^63 bytes, so one more than a column fits.
     let _text = source.text();
     match source.get_offset_line(report.span.start()) {
-        Some((_, line, column)) => Some((line + 1 + shift, column + 1)),
+        Some((_, line, column)) => Some((line + 1 + display_offset, column + 1)),
         None => None,
     }
 }

@@ -1,21 +1,23 @@
 //! The header of a picture, and the rows round the lines of a group.
 
-ghost use Rattle.std.specs.Prelude.{◌≡◌, ◌+◌, ◌++◌, ◌∷◌, [], OnOk, codes, encode_utf8, string_bytes, unwrap_or};
+ghost use Rattle.std.specs.Prelude.{◌≡◌, ◌+◌, ◌++◌, ◌∷◌, [], OnOk, codes, encode_utf8};
+ghost use Rattle.std.specs.Prelude.{string_bytes, unwrap_or};
 ghost use Rattle.std.specs.Option.{option_copied};
-ghost use Rattle.ariadne.specs.Canvas.{code_text};
-ghost use Rattle.ariadne.specs.Heads.{head_line, place_numbers};
-ghost use Rattle.ariadne.specs.Pieces.{painted_text, plain_text, repeated, space_pieces, spaces, tail_pieces};
-ghost use Rattle.ariadne.specs.Print.{pieces_bytes};
+ghost use Rattle.ariadne_picture.specs.Canvas.{code_text};
+ghost use Rattle.ariadne.specs.Headers.{group_header_line, location_numbers};
+ghost use Rattle.ariadne_picture.specs.Pieces.{painted_text, plain_text, repeated, spacer_pieces};
+ghost use Rattle.ariadne_picture.specs.Pieces.{spaces, tail_pieces};
+ghost use Rattle.ariadne_picture.specs.Print.{pieces_bytes};
 
-use super::cell::{Glyph, Paint};
 use super::palette::Palette;
 use super::pen::{push_spaces, push_stroke};
 use crate::config::CharSet;
 use ariadne_base::color::{push_closing, push_opening};
+use ariadne_picture::cell::{Glyph, Paint};
 use std::alloc::AllocError;
 
 /// The paint of the strokes round the lines of a group.
-const FRAME: Paint = Paint::Tint(246);
+const FRAME: Paint = Paint::Margin;
 
 /// Appends the header of a picture.
 ///
@@ -29,9 +31,9 @@ pub(crate) fn push_header(
     kind: &str,
     message: Option<&str>,
 ) -> Result<(), AllocError>
-    ensures { let heading = code_text (option_copied code.entry) ++ kind.now ++ codes ":" in
+    ensures { let kind_text = code_text (option_copied code.entry) ++ kind.now ++ codes ":" in
         let text = codes " " ++ unwrap_or (option_copied message.entry) [] in
-        let header = painted_text Paint.Kind heading ∷ plain_text text ∷ [] in
+        let header = painted_text Paint.Kind kind_text ∷ plain_text text ∷ [] in
         let written = pieces_bytes palette.now header in
         OnOk result (string_bytes out.new ≡ string_bytes out.old ++ written) }
 {
@@ -46,7 +48,7 @@ pub(crate) fn push_header(
 }
 
 /// Appends a report's code in brackets, if it has one.
-#[tactic(auto, unfolding(crate::specs::Canvas::code_text))]
+#[tactic(auto, unfolding(ariadne_picture::specs::Canvas::code_text))]
 fn push_code(out: &mut String, code: Option<&str>) -> Result<(), AllocError>
     ensures { let written = code_text (option_copied code.entry) in
         OnOk result (string_bytes out.new ≡ string_bytes out.old ++ written) }
@@ -67,7 +69,7 @@ fn push_code(out: &mut String, code: Option<&str>) -> Result<(), AllocError>
 /// ```text
 ///        ,-[ <unknown>:1:1 ]
 /// ```
-pub(crate) fn push_head(
+pub(crate) fn push_group_header(
     out: &mut String,
     palette: &Palette,
     set: CharSet,
@@ -76,7 +78,7 @@ pub(crate) fn push_head(
     name: &str,
     place: Option<(usize, usize)>,
 ) -> Result<(), AllocError>
-    ensures { let head = head_line set width is_first name.now (place_numbers place) in
+    ensures { let head = group_header_line set width is_first name.now (location_numbers place) in
         let written = pieces_bytes palette.now head in
         OnOk result (string_bytes out.new ≡ string_bytes out.old ++ written) }
 {
@@ -85,13 +87,17 @@ pub(crate) fn push_head(
     push_stroke(out, palette, set, corner, FRAME)?;
     push_stroke(out, palette, set, Glyph::Hbar, FRAME)?;
     push_stroke(out, palette, set, Glyph::Lbox, FRAME)?;
-    push_place(out, name, place)?;
+    push_location(out, name, place)?;
     push_stroke(out, palette, set, Glyph::Rbox, FRAME)
 }
 
 /// Appends the name of a source and a place in it, between blanks.
-fn push_place(out: &mut String, name: &str, place: Option<(usize, usize)>) -> Result<(), AllocError>
-    ensures { let numbers = place_numbers place in
+fn push_location(
+    out: &mut String,
+    name: &str,
+    place: Option<(usize, usize)>,
+) -> Result<(), AllocError>
+    ensures { let numbers = location_numbers place in
         let written = codes " " ++ name.now ++ codes ":" ++ numbers ++ codes " " in
         OnOk result (string_bytes out.new ≡ string_bytes out.old ++ written) }
 {
@@ -103,9 +109,9 @@ fn push_place(out: &mut String, name: &str, place: Option<(usize, usize)>) -> Re
 }
 
 /// Appends the numbers of a line and a column, if they are known.
-#[tactic(auto, unfolding(crate::specs::Heads::place_numbers))]
+#[tactic(auto, unfolding(crate::specs::Headers::location_numbers))]
 fn push_numbers(out: &mut String, place: Option<(usize, usize)>) -> Result<(), AllocError>
-    ensures { OnOk result (string_bytes out.new ≡ string_bytes out.old ++ place_numbers place) }
+    ensures { OnOk result (string_bytes out.new ≡ string_bytes out.old ++ location_numbers place) }
 {
     match place {
         Some((line, column)) => write!(out, "{line}:{column}"),
@@ -114,13 +120,13 @@ fn push_numbers(out: &mut String, place: Option<(usize, usize)>) -> Result<(), A
 }
 
 /// Appends the row below the header of a group.
-pub(crate) fn push_space(
+pub(crate) fn push_spacer(
     out: &mut String,
     palette: &Palette,
     set: CharSet,
     width: usize,
 ) -> Result<(), AllocError>
-    ensures { let written = pieces_bytes palette.now (space_pieces set width) in
+    ensures { let written = pieces_bytes palette.now (spacer_pieces set width) in
         OnOk result (string_bytes out.new ≡ string_bytes out.old ++ written) }
 {
     push_indent(out, width)?;
@@ -144,7 +150,7 @@ pub(crate) fn push_tail(
         OnOk result (string_bytes out.new ≡ string_bytes out.old ++ written) }
 {
     if !is_last {
-        return push_space(out, palette, set, width);
+        return push_spacer(out, palette, set, width);
     }
     let color = palette.color_of(FRAME);
     let bar = Glyph::Hbar.to_char(set);

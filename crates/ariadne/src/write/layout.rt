@@ -4,16 +4,17 @@ ghost use Rattle.std.specs.Prelude.{◌≡◌, ◌+◌, ◌^◌, ◌<◌, ◌≤
 ghost use Rattle.std.specs.List.{list_any};
 ghost use Rattle.std.specs.Option.{option_copied};
 ghost use Rattle.std.specs.Str.{drop_trailing_whitespace};
-ghost use Rattle.ariadne.specs.Columns.{arrow_len, end_place, shown_columns, width};
-ghost use Rattle.ariadne.specs.Groups.{greatest};
+ghost use Rattle.ariadne_picture.specs.Columns.{arrow_len, places_to_end, shown_columns, width};
+ghost use Rattle.ariadne_picture.specs.Groups.{greatest};
 ghost use Rattle.ariadne.specs.OneLine.{inline_label};
 ghost use Rattle.ariadne.specs.Preferred.{chosen_underline};
-ghost use Rattle.ariadne.specs.Ranks.{is_inline, is_margin};
-ghost use Rattle.ariadne.specs.Strokes.{has_corner, has_vertical, holds, underline_at, vertical_at};
+ghost use Rattle.ariadne_picture.specs.Ranks.{is_inline, is_margin};
+ghost use Rattle.ariadne_picture.specs.Strokes.{has_corner, has_vertical, holds, underline_at};
+ghost use Rattle.ariadne_picture.specs.Strokes.{vertical_at};
 
-use super::label_info::{LabelInfo, LineLabel, Side};
 use super::order::in_order;
-use crate::config::Style;
+use ariadne_picture::label_info::{LabelInfo, LineLabel, Side};
+use ariadne_picture::switches::Switches;
 use std::alloc::{AllocError, Global};
 use std::marker::Model;
 use unicode_width::UnicodeWidthChar;
@@ -36,11 +37,16 @@ pub(crate) struct LineLayout {
 impl Model for LineLayout {
     ghost use Rattle.std.specs.Prelude.{◌≡◌, length};
     ghost use Rattle.std.specs.Str.{drop_trailing_whitespace};
-    ghost use Rattle.ariadne.specs.Columns.{Layout};
+    ghost use Rattle.ariadne_picture.specs.Columns.{Layout};
 
     ghost Value = { Layout };
 
-    ghost view = { λ a. record { margin = a.margin; labels = a.labels.items; offset = a.offset; text = a.text.items } };
+    ghost view = { λ a. record {
+      margin = a.margin;
+      labels = a.labels.items;
+      offset = a.offset;
+      text = a.text.items;
+    } };
 
     ghost invariant = { λ a. a.shown_len ≡ length (drop_trailing_whitespace a.text.items) };
 }
@@ -74,7 +80,7 @@ impl LineLayout {
     }
 
     /// Whether a label's span holds the character at a place.
-    #[tactic(auto, unfolding(crate::specs::Strokes::holds))]
+    #[tactic(auto, unfolding(ariadne_picture::specs::Strokes::holds))]
     pub(crate) fn holds(&self, info: &LabelInfo, place: usize) -> bool
         ensures { result ≡ holds info.now (self.now.offset + place) }
     {
@@ -84,50 +90,55 @@ impl LineLayout {
     }
 
     /// Whether a label of the line is its margin label.
-    #[tactic(auto, unfolding(crate::specs::Ranks::is_margin, crate::specs::Ranks::is_of_member))]
+    #[tactic(auto, unfolding(ariadne_picture::specs::Ranks::is_margin, ariadne_picture::specs::Ranks::is_of_gutter_label))]
     fn is_margin(&self, label: &LineLabel) -> bool
         ensures { result ≡ is_margin self.now.margin label.now }
     {
         match &self.margin {
-            Some(margin) => !label.side.is_inline() && margin.member == label.member,
+            Some(margin) => !label.side.is_inline() && margin.gutter_column == label.gutter_column,
             None => false,
         }
     }
 
     /// Whether a label has its corner at a place of its arrow row.
-    #[tactic(auto, unfolding(crate::specs::Strokes::has_corner))]
+    #[tactic(auto, unfolding(ariadne_picture::specs::Strokes::has_corner))]
     pub(crate) fn has_corner(&self, label: &LineLabel, place: usize) -> bool
         ensures { result ≡ has_corner self.now.margin label.now place }
     {
-        label.column == place && !self.is_margin(label)
+        label.place == place && !self.is_margin(label)
     }
 
     /// Whether a label has its vertical at a place.
-    #[tactic(auto, unfolding(crate::specs::Strokes::has_vertical))]
+    #[tactic(auto, unfolding(ariadne_picture::specs::Strokes::has_vertical))]
     fn has_vertical(&self, label: &LineLabel, place: usize) -> bool
         ensures { result ≡ has_vertical self.now.margin place label.now }
     {
-        label.column == place && label.info.has_message && !self.is_margin(label)
+        label.place == place && label.info.has_message && !self.is_margin(label)
     }
 
-    /// The label whose vertical is seen at a place of the rows of line label number `row`: the
-    /// first from that number on.
-    #[tactic(auto, unfolding(crate::specs::Strokes::vertical_at))]
-    pub(crate) fn vertical_at(&self, row: usize, place: usize) -> Option<&LineLabel>
-        requires { row ≤ length self.now.labels }
-        ensures { option_copied result ≡ vertical_at self.now row place }
+    /// The label whose vertical is seen at a place of the rows of the line label of rank `rank`:
+    /// the first from that number on.
+    #[tactic(auto, unfolding(ariadne_picture::specs::Strokes::vertical_at))]
+    pub(crate) fn vertical_at(&self, rank: usize, place: usize) -> Option<&LineLabel>
+        requires { rank ≤ length self.now.labels }
+        ensures { option_copied result ≡ vertical_at self.now rank place }
     {
-        self.labels[row..]
+        self.labels[rank..]
             .iter()
             .find(|label| self.has_vertical(label, place))
     }
 
     /// The label whose underline is seen at a place of the alternate row of line label number
-    /// `row`: the preferred one of those that reach it, and the first of these.
-    pub(crate) fn underline_at(&self, style: &Style, row: usize, place: usize) -> Option<&LineLabel>
-        ensures { option_copied result ≡ underline_at style.now self.now row place }
+    /// `rank`: the preferred one of those that reach it, and the first of these.
+    pub(crate) fn underline_at(
+        &self,
+        switches: &Switches,
+        rank: usize,
+        place: usize,
+    ) -> Option<&LineLabel>
+        ensures { option_copied result ≡ underline_at switches.now self.now rank place }
     {
-        if !style.underlines || row != 0 {
+        if !switches.underlines || rank != 0 {
             return None;
         }
         let mut seen = None;
@@ -158,30 +169,30 @@ impl LineLayout {
     }
 
     /// How many columns a place has: those of the shown character, and one past the shown text.
-    #[tactic(auto, unfolding(crate::specs::Columns::width, crate::specs::Columns::shown))]
-    pub(crate) fn width_at(&self, style: &Style, place: usize) -> usize
-        requires { 1 ≤ style.now.tab_width }
-        ensures { result ≡ width style.now self.now place }
+    #[tactic(auto, unfolding(ariadne_picture::specs::Columns::width, ariadne_picture::specs::Columns::shown))]
+    pub(crate) fn width_at(&self, switches: &Switches, place: usize) -> usize
+        requires { 1 ≤ switches.now.tab_width }
+        ensures { result ≡ width switches.now self.now place }
     {
         if place < self.shown_len {
-            shown_columns(style.tab_width, place, self.text[place])
+            shown_columns(switches.tab_width, place, self.text[place])
         } else {
             1
         }
     }
 
     /// How many places the rows below the line have.
-    #[tactic(auto, unfolding(crate::specs::Columns::arrow_len))]
-    pub(crate) fn arrow_len(&self, style: &Style) -> usize
-        requires { arrow_len style.now self.now < 2 ^ 64 }
-        ensures { result ≡ arrow_len style.now self.now }
+    #[tactic(auto, unfolding(ariadne_picture::specs::Columns::arrow_len))]
+    pub(crate) fn arrow_len(&self, switches: &Switches) -> usize
+        requires { arrow_len switches.now self.now < 2 ^ 64 }
+        ensures { result ≡ arrow_len switches.now self.now }
     {
         let len = if self.has_long_label() {
             self.text.len()
         } else {
             self.greatest_end()
         };
-        if style.compact { len + 1 } else { len + 2 }
+        if switches.compact { len + 1 } else { len + 2 }
     }
 
     /// Whether a label of several lines has rows below the line.
@@ -193,7 +204,7 @@ impl LineLayout {
 
     /// How far behind the line's start the last of its labels ends.
     fn greatest_end(&self) -> usize
-        ensures { result ≡ greatest (map (end_place self.now) self.now.labels) }
+        ensures { result ≡ greatest (map (places_to_end self.now) self.now.labels) }
     {
         let mut greatest = 0usize;
         for label in &self.labels {
@@ -205,7 +216,7 @@ impl LineLayout {
 
 /// How many columns a shown character at an index of its line has; a tab reaches to the next tab
 /// stop.
-#[tactic(auto, unfolding(crate::specs::Columns::shown_columns, crate::specs::Columns::char_columns))]
+#[tactic(auto, unfolding(ariadne_picture::specs::Columns::shown_columns, ariadne_picture::specs::Columns::char_columns))]
 pub(crate) fn shown_columns(tab_width: usize, index: usize, c: char) -> usize
     requires { 1 ≤ tab_width }
     ensures { result ≡ shown_columns tab_width index c }
@@ -226,8 +237,8 @@ fn inline_label(info: LabelInfo) -> LineLabel
     LineLabel {
         info,
         side: Side::Inline,
-        member: 0,
-        column: info.attach,
+        gutter_column: 0,
+        place: info.attach,
     }
 }
 

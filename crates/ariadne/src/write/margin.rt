@@ -1,21 +1,22 @@
 //! The margins of rows: what stands left of the gutter.
 
-ghost use Rattle.std.specs.Prelude.{◌≡◌, ◌++◌, ◌^◌, ◌<◌, OnOk, decimal, if◌then◌else◌, [], ◌∷◌, length, string_bytes};
-ghost use Rattle.ariadne.specs.Groups.{line_number};
-ghost use Rattle.ariadne.specs.Heads.{bar_margin};
-ghost use Rattle.ariadne.specs.Pieces.{margin_pieces};
-ghost use Rattle.ariadne.specs.Print.{pieces_bytes};
-ghost use Rattle.ariadne.specs.Rows.{source};
+ghost use Rattle.std.specs.Prelude.{◌≡◌, ◌++◌, ◌^◌, ◌<◌, OnOk, decimal, if◌then◌else◌, [], ◌∷◌};
+ghost use Rattle.std.specs.Prelude.{length, string_bytes};
+ghost use Rattle.ariadne_picture.specs.Groups.{printed_number};
+ghost use Rattle.ariadne.specs.Headers.{bar_margin};
+ghost use Rattle.ariadne_picture.specs.Pieces.{margin_pieces};
+ghost use Rattle.ariadne_picture.specs.Print.{pieces_bytes};
+ghost use Rattle.ariadne_picture.specs.Rows.{source};
 
-use super::cell::{Glyph, Paint};
 use super::palette::Palette;
 use super::pen::push_spaces;
-use crate::config::Style;
 use ariadne_base::color::{push_closing, push_opening};
+use ariadne_picture::cell::{Glyph, Paint};
+use ariadne_picture::switches::Switches;
 use std::alloc::AllocError;
 
 /// Appends the margin of the source row of a line, with the line's number. `line` counts from 0;
-/// `shift` is the source's display offset, and numbers take `width` columns.
+/// `display_offset` is the source's display offset, and numbers take `width` columns.
 ///
 /// ```text
 ///       9 |
@@ -24,25 +25,25 @@ use std::alloc::AllocError;
 pub(crate) fn push_line_margin(
     out: &mut String,
     palette: &Palette,
-    style: &Style,
+    switches: &Switches,
     width: usize,
-    shift: usize,
+    display_offset: usize,
     line: usize,
 ) -> Result<(), AllocError>
-    requires { line_number shift line < 2 ^ 64 }
-    ensures { let margin = margin_pieces style.now width shift (source line) in
+    requires { printed_number display_offset line < 2 ^ 64 }
+    ensures { let margin = margin_pieces switches.now width display_offset (source line) in
         let written = pieces_bytes palette.now margin in
         OnOk result (string_bytes out.new ≡ string_bytes out.old ++ written) }
 {
-    let number = line + 1 + shift;
-    let color = palette.color_of(Paint::Tint(246));
+    let number = line + 1 + display_offset;
+    let color = palette.color_of(Paint::Margin);
     out.push(' ')?;
     push_opening(out, color)?;
     push_spaces(out, width.saturating_sub(decimal_len(number)))?;
     write!(out, "{number} ")?;
-    out.push(Glyph::Vbar.to_char(style.char_set))?;
+    out.push(Glyph::Vbar.to_char(switches.char_set))?;
     push_closing(out, color)?;
-    push_margin_end(out, style)
+    push_margin_end(out, switches)
 }
 
 /// Appends the margin of a row without a number, with this bar.
@@ -54,29 +55,33 @@ pub(crate) fn push_line_margin(
 pub(crate) fn push_margin(
     out: &mut String,
     palette: &Palette,
-    style: &Style,
+    switches: &Switches,
     width: usize,
     bar: Glyph,
 ) -> Result<(), AllocError>
-    ensures { let written = pieces_bytes palette.now (bar_margin style.now width bar) in
+    ensures { let written = pieces_bytes palette.now (bar_margin switches.now width bar) in
         OnOk result (string_bytes out.new ≡ string_bytes out.old ++ written) }
 {
-    let color = palette.color_of(Paint::Tint(240));
+    let color = palette.color_of(Paint::SkippedMargin);
     out.push(' ')?;
     push_opening(out, color)?;
     push_spaces(out, width)?;
     out.push(' ')?;
-    out.push(bar.to_char(style.char_set))?;
+    out.push(bar.to_char(switches.char_set))?;
     push_closing(out, color)?;
-    push_margin_end(out, style)
+    push_margin_end(out, switches)
 }
 
 /// Appends the blank behind a margin; compact pictures have none.
-fn push_margin_end(out: &mut String, style: &Style) -> Result<(), AllocError>
-    ensures { let written = (if style.now.compact then [] else 32 ∷ []) in
+fn push_margin_end(out: &mut String, switches: &Switches) -> Result<(), AllocError>
+    ensures { let written = (if switches.now.compact then [] else 32 ∷ []) in
         OnOk result (string_bytes out.new ≡ string_bytes out.old ++ written) }
 {
-    if style.compact { Ok(()) } else { out.push(' ') }
+    if switches.compact {
+        Ok(())
+    } else {
+        out.push(' ')
+    }
 }
 
 /// How many digits a number has.

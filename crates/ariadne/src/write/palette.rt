@@ -1,11 +1,20 @@
 //! The colours of a report's pieces.
 
 ghost use Rattle.std.specs.Prelude.{◌≡◌};
-ghost use Rattle.ariadne.specs.Canvas.{color_of};
+ghost use Rattle.ariadne_picture.specs.Canvas.{color_of};
 
-use super::cell::Paint;
 use ariadne_base::Color;
+use ariadne_picture::cell::Paint;
 use std::marker::Model;
+
+/// The colour of line numbers, and of the strokes round the lines of a group.
+const MARGIN: Color = Color::Fixed(246);
+/// That of the margins of rows without a line number.
+const SKIPPED_MARGIN: Color = Color::Fixed(240);
+/// That of source text outside all labels.
+const UNIMPORTANT: Color = Color::Fixed(249);
+/// That of the word in front of a help or a note.
+const NOTE: Color = Color::Fixed(115);
 
 /// The colours that the pieces of a report's picture may have.
 #[derive(Drop)]
@@ -14,12 +23,12 @@ pub(crate) struct Palette {
     pub(crate) is_on: bool,
     /// The colour of the report's kind.
     pub(crate) kind: Color,
-    /// Those of its labels, by number.
+    /// Those of its labels, by position.
     pub(crate) labels: Vec<Option<Color>>,
 }
 
 impl Model for Palette {
-    ghost use Rattle.ariadne.specs.Canvas.{Palette};
+    ghost use Rattle.ariadne_picture.specs.Canvas.{Palette};
 
     ghost Value = { Palette };
 
@@ -28,7 +37,7 @@ impl Model for Palette {
 
 impl Palette {
     /// The colour of a piece.
-    #[tactic(auto, unfolding(crate::specs::Canvas::color_of, crate::specs::Canvas::paint_color))]
+    #[tactic(auto, unfolding(ariadne_picture::specs::Canvas::color_of, ariadne_picture::specs::Canvas::paint_color))]
     pub(crate) fn color_of(&self, paint: Paint) -> Option<Color>
         ensures { result ≡ color_of self.now paint }
     {
@@ -37,9 +46,12 @@ impl Palette {
         }
         match paint {
             Paint::Plain => None,
-            Paint::Label(number) => self.labels.get(number).copied().flatten(),
+            Paint::Label(position) => self.labels.get(position).copied().flatten(),
             Paint::Kind => Some(self.kind),
-            Paint::Tint(number) => Some(Color::Fixed(number)),
+            Paint::Margin => Some(MARGIN),
+            Paint::SkippedMargin => Some(SKIPPED_MARGIN),
+            Paint::Unimportant => Some(UNIMPORTANT),
+            Paint::Note => Some(NOTE),
         }
     }
 }

@@ -2,14 +2,14 @@
 
 ghost use Rattle.std.specs.Prelude.{◌≡◌, ◌++◌, OnOk, string_bytes};
 ghost use Rattle.ariadne_base.specs.Colors.{painted};
-ghost use Rattle.ariadne.specs.Canvas.{color_of};
-ghost use Rattle.ariadne.specs.Pieces.{glyph_text, ink_pieces, spaces};
-ghost use Rattle.ariadne.specs.Print.{pieces_bytes};
+ghost use Rattle.ariadne_picture.specs.Canvas.{color_of};
+ghost use Rattle.ariadne_picture.specs.Pieces.{glyph_text, ink_pieces, spaces};
+ghost use Rattle.ariadne_picture.specs.Print.{pieces_bytes};
 
-use super::cell::{Glyph, Ink, Paint};
 use super::palette::Palette;
 use crate::config::CharSet;
 use ariadne_base::color::{push_painted, push_painted_char};
+use ariadne_picture::cell::{Glyph, Ink, Paint};
 use std::alloc::AllocError;
 
 /// Appends `count` plain blanks.
@@ -63,9 +63,9 @@ pub(crate) fn push_ink(
     if width == 0 {
         return Ok(());
     }
-    push_stroke(out, palette, set, ink.head, ink.head_paint)?;
+    push_stroke(out, palette, set, ink.first, ink.first_paint)?;
     for _turn in 1..width {
-        push_stroke(out, palette, set, ink.tail, ink.tail_paint)?;
+        push_stroke(out, palette, set, ink.rest, ink.rest_paint)?;
     }
     Ok(())
 }

@@ -1,17 +1,19 @@
 //! The text of a source row: the shown characters of its line, each in the colour of a label.
 
-ghost use Rattle.std.specs.Prelude.{◌≡◌, ◌++◌, ◌∷◌, [], ◌≤◌, OnOk, encode_utf8, fold, map, option_to_list, replicate, string_bytes};
+ghost use Rattle.std.specs.Prelude.{◌≡◌, ◌++◌, ◌∷◌, [], ◌≤◌, OnOk, encode_utf8, fold, map};
+ghost use Rattle.std.specs.Prelude.{option_to_list, replicate, string_bytes};
 ghost use Rattle.std.specs.Option.{option_copied};
-ghost use Rattle.ariadne.specs.Pieces.{Piece, char_paint, char_pieces, painter_paint, shown_pieces, shown_text};
+ghost use Rattle.ariadne_picture.specs.Pieces.{Piece, char_paint, char_pieces, painter_paint};
+ghost use Rattle.ariadne_picture.specs.Pieces.{shown_pieces, shown_text};
 ghost use Rattle.ariadne.specs.Preferred.{chosen_painter};
-ghost use Rattle.ariadne.specs.Print.{pieces_bytes};
+ghost use Rattle.ariadne_picture.specs.Print.{pieces_bytes};
 
-use super::cell::Paint;
-use super::label_info::LabelInfo;
 use super::layout::{LineLayout, shown_columns};
 use super::palette::Palette;
-use crate::config::Style;
 use ariadne_base::color::push_painted_char;
+use ariadne_picture::cell::Paint;
+use ariadne_picture::label_info::LabelInfo;
+use ariadne_picture::switches::Switches;
 use std::alloc::AllocError;
 
 /// The most bytes that a blank takes, with the escapes of its colour.
@@ -25,18 +27,18 @@ const PAINTED_BLANK: usize = 24;
 pub(crate) fn push_shown(
     out: &mut String,
     palette: &Palette,
-    style: &Style,
+    switches: &Switches,
     multi_line: &[LabelInfo],
     layout: &LineLayout,
 ) -> Result<(), AllocError>
-    requires { 1 ≤ style.now.tab_width }
-    ensures { let shown = shown_pieces style.now multi_line.now layout.now in
+    requires { 1 ≤ switches.now.tab_width }
+    ensures { let shown = shown_pieces switches.now multi_line.now layout.now in
         let written = pieces_bytes palette.now shown in
         OnOk result (string_bytes out.new ≡ string_bytes out.old ++ written) }
 {
     for place in 0..layout.shown_len {
         let paint = char_paint(multi_line, layout, place);
-        push_char(out, palette, style, paint, place, layout.text[place])?;
+        push_char(out, palette, switches, paint, place, layout.text[place])?;
     }
     Ok(())
 }
@@ -45,13 +47,13 @@ pub(crate) fn push_shown(
 fn push_char(
     out: &mut String,
     palette: &Palette,
-    style: &Style,
+    switches: &Switches,
     paint: Paint,
     index: usize,
     c: char,
 ) -> Result<(), AllocError>
-    requires { 1 ≤ style.now.tab_width }
-    ensures { let written = pieces_bytes palette.now (char_pieces style.now paint index c) in
+    requires { 1 ≤ switches.now.tab_width }
+    ensures { let written = pieces_bytes palette.now (char_pieces switches.now paint index c) in
         OnOk result (string_bytes out.new ≡ string_bytes out.old ++ written) }
 {
     if c == '\t' {
@@ -59,14 +61,14 @@ fn push_char(
             out,
             palette,
             paint,
-            shown_columns(style.tab_width, index, c),
+            shown_columns(switches.tab_width, index, c),
         );
     }
     push_painted_char(out, palette.color_of(paint), shown_char(c))
 }
 
 /// A character as it is shown: white space as a blank.
-#[tactic(auto, using(crate::proofs::Painters::blank_code), unfolding(crate::specs::Pieces::shown_text))]
+#[tactic(auto, using(crate::proofs::Painters::blank_code), unfolding(ariadne_picture::specs::Pieces::shown_text))]
 fn shown_char(c: char) -> char
     ensures { encode_utf8 result ≡ shown_text c }
 {
@@ -105,13 +107,13 @@ fn char_paint(multi_line: &[LabelInfo], layout: &LineLayout, place: usize) -> Pa
 }
 
 /// The colour of the label that colours a character, if there is one.
-#[tactic(auto, unfolding(crate::specs::Pieces::painter_paint))]
+#[tactic(auto, unfolding(ariadne_picture::specs::Pieces::painter_paint))]
 fn painter_paint(painter: Option<&LabelInfo>) -> Paint
     ensures { result ≡ painter_paint (option_copied painter.entry) }
 {
     match painter {
-        Some(info) => Paint::Label(info.number),
-        None => Paint::Tint(249),
+        Some(info) => Paint::Label(info.position),
+        None => Paint::Unimportant,
     }
 }
 

@@ -1,9 +1,11 @@
 //! A cache that asks a function for the text of each source that it lacks, and holds it for good.
 
-ghost use Rattle.std.specs.Prelude.{◌≡◌, ℕ, List, [], ◌++◌, true, false, Some, None, IfOk, OnOk, OnErr, IsSome, Result, ⊤};
+ghost use Rattle.std.specs.Prelude.{◌≡◌, ℕ, List, [], ◌++◌, true, false, Some, None, IfOk, OnOk};
+ghost use Rattle.std.specs.Prelude.{OnErr, IsSome, Result, ⊤};
 ghost use Rattle.std.specs.Fn.{CalledAt};
 ghost use Rattle.std.proofs.Common.{ap};
-ghost use Rattle.ariadne_base.specs.Cache.{held, Fetched, Grows, SameHeld, KeepsOtherIds, Answers, listing_of};
+ghost use Rattle.ariadne_base.specs.Cache.{held, Fetched, Grows, SameHeld, KeepsOtherIds, Answers};
+ghost use Rattle.ariadne_base.specs.Cache.{listing_of};
 
 use crate::cache::named::SourceName;
 use crate::cache::{Cache, FetchError};

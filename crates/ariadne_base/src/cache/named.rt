@@ -1,6 +1,7 @@
 //! Ids that have names, a source under one such id, and the error for every other.
 
-ghost use Rattle.std.specs.Prelude.{◌≡◌, ℕ, List, [], ◌∷◌, ◌++◌, true, string_bytes, Some, IfOk, IsOk, IfErr, ◌↔◌, codes};
+ghost use Rattle.std.specs.Prelude.{◌≡◌, ℕ, List, [], ◌∷◌, ◌++◌, true, string_bytes, Some, IfOk};
+ghost use Rattle.std.specs.Prelude.{IsOk, IfErr, ◌↔◌, codes};
 ghost use Rattle.std.specs.Cmp.Lexicographic.{bytes_decides};
 ghost use Rattle.std.proofs.Common.{ap};
 ghost use Rattle.ariadne_base.specs.Cache.{Refuses};

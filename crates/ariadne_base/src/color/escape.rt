@@ -1,6 +1,7 @@
 //! The escapes that a terminal is sent before and behind a painted text.
 
-ghost use Rattle.std.specs.Prelude.{◌≡◌, ◌+◌, ◌<◌, ◌++◌, OnOk, OnErr, decimal, encode_utf8, string_bytes};
+ghost use Rattle.std.specs.Prelude.{◌≡◌, ◌+◌, ◌<◌, ◌++◌, OnOk, OnErr, decimal, encode_utf8};
+ghost use Rattle.std.specs.Prelude.{string_bytes};
 ghost use Rattle.ariadne_base.specs.Colors.{foreground, background, painted};
 ghost use Rattle.ariadne_base.specs.Escapes.{BeginsWith, closed, opened, opening, opening_end};
 

@@ -1,16 +1,17 @@
 //! Which colours are taken one after another where the caller names none.
 
 ghost use Rattle.std.specs.Prelude.{◌≡◌, ℕ, ◌+◌, ◌*◌, ◌-◌, ◌%◌, ◌<◌, ◌≤◌, slice_index, min};
-ghost use Rattle.ariadne_base.specs.Generator.{IsInRange, RisesEvenly, color_of, level, step_at, stepped, usual_start, GeneratorState};
+ghost use Rattle.ariadne_base.specs.Generator.{IsInRange, RisesEvenly, color_of, level, step_at};
+ghost use Rattle.ariadne_base.specs.Generator.{stepped, usual_start, GeneratorState};
 
 use crate::color::Color;
 use std::marker::Model;
 
 /// A generator of colours, one after another.
 ///
-/// It keeps three numbers, for red, green and blue. Each call moves all three and answers a colour of
-/// the cube of 6 * 6 * 6 colours in the 256-colour palette. A generator that starts as another did
-/// answers the same colours. No call takes memory.
+/// It keeps three numbers, for red, green and blue. Each call moves all three and answers a colour
+/// of the cube of 6 * 6 * 6 colours in the 256-colour palette. A generator that starts as another
+/// did answers the same colours. No call takes memory.
 ///
 /// ```rust
 /// let mut colors = ColorGenerator::new();
@@ -46,8 +47,8 @@ impl ColorGenerator {
 
     /// A generator that starts at the given numbers, for red, green and blue.
     ///
-    /// The brightness is in thousandths: at 0 a colour may be black, at 1000 each is white. A greater
-    /// number counts as 1000.
+    /// The brightness is in thousandths: at 0 a colour may be black, at 1000 each is white. A
+    /// greater number counts as 1000.
     pub fn from_state(state: [u16; 3], thousandths: u16) -> Self
         ensures red { result.red ≡ slice_index state 0 }
         ensures green { result.green ≡ slice_index state 1 }
@@ -93,12 +94,12 @@ pub fn numbers_rise_evenly()
     ensures { (s : GeneratorState) (n : ℕ) → IsInRange s → RisesEvenly n s }
 {}
 
-/// A number with the step of its place added, modulo 65536.
-fn moved(number: u16, place: u32) -> u16
-    requires { place < 3 }
-    ensures { result ≡ (number + step_at place) % 65536 }
+/// A number with the step of its channel added, modulo 65536.
+fn moved(number: u16, channel: u32) -> u16
+    requires { channel < 3 }
+    ensures { result ≡ (number + step_at channel) % 65536 }
 {
-    ((u32::from(number) + 40503 * (4 * place + 1130)) % 65536) as u16
+    ((u32::from(number) + 40503 * (4 * channel + 1130)) % 65536) as u16
 }
 
 /// A number raised by the brightness, a thousand times as large.

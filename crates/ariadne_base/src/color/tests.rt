@@ -12,7 +12,8 @@ const RED: Option<Color> = Some(Color::Red);
 
 /// The bytes of a painted character are known where it is printed.
 fn painted_char(alloc: Global, c: char, color: Option<Color>) -> Result<String, AllocError>
-    ensures { IfOk result (λ text. string_bytes text ≡ painted_in foreground color (encode_utf8 c)) }
+    ensures { IfOk result (λ text. string_bytes text ≡ painted_in foreground color
+        (encode_utf8 c)) }
 {
     c.fg(color).to_string(alloc)
 }

@@ -2,7 +2,8 @@
 
 ghost use Rattle.std.specs.Prelude.{◌≡◌, IfOk};
 ghost use Rattle.std.specs.Str.{chars};
-ghost use Rattle.ariadne_base.specs.Lines.{is_separator as separates, ends_line as is_last_of_line, begins_with_line_feed as begins_in_line_feed, lines_of};
+ghost use Rattle.ariadne_base.specs.Lines.{is_separator as separates, ends_line as is_last_of_line};
+ghost use Rattle.ariadne_base.specs.Lines.{begins_with_line_feed as begins_in_line_feed, lines_of};
 ghost use Rattle.ariadne_base.specs.Table.{line_table};
 
 use super::line::Line;
@@ -34,7 +35,8 @@ fn ends_line(c: char, rest: &str) -> bool
     is_separator(c) && !(c == '\r' && begins_with_line_feed(rest))
 }
 
-/// The lines of a text, each with its place in characters and in bytes, in one pass over the text.
+/// The lines of a text, each with its location in characters and in bytes, in one pass over the
+/// text.
 pub(super) fn line_table_of(alloc: Global, text: &str) -> Result<Vec<Line>, AllocError>
     ensures { IfOk result (λ v. v.items ≡ line_table (lines_of (chars text.now))) }
 {

@@ -63,7 +63,7 @@ fn seven_characters_end_a_line_and_cr_lf_ends_one(rt: HostRuntime) -> Result<(),
 fn offsets_lie_in_the_last_line_that_begins_before_them(rt: HostRuntime) -> Result<(), Fail> {
     let source = Source::from(rt.alloc(), "\n\r\n\nEmpty Lines")?;
     assert_eq!(rt; source.len(), 15);
-    let places = [
+    let locations = [
         (0, 0, 0),
         (1, 1, 0),
         (2, 1, 1),
@@ -71,7 +71,7 @@ fn offsets_lie_in_the_last_line_that_begins_before_them(rt: HostRuntime) -> Resu
         (4, 3, 0),
         (15, 3, 11),
     ];
-    for (offset, number, column) in places {
+    for (offset, number, column) in locations {
         let want = source.line(number).map(|line| (line, number, column));
         assert_eq!(rt; source.get_offset_line(offset), want, "at {offset}");
     }

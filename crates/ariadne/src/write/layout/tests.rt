@@ -3,15 +3,15 @@
 use super::*;
 use std::test::Fail;
 
-fn info(number: usize, attach: usize) -> LabelInfo {
+fn info(position: usize, attach: usize) -> LabelInfo {
     LabelInfo {
-        number,
+        position,
         start: 12,
         end: 15,
         start_line: 1,
-        start_column: 2,
+        start_place: 2,
         end_line: 1,
-        end_column: 4,
+        end_place: 4,
         attach,
         order: 0,
         priority: 0,
@@ -39,15 +39,15 @@ fn a_line_shows_all_but_the_white_space_at_its_end(rt: HostRuntime) -> Result<()
 }
 
 #[test]
-fn labels_within_a_line_stand_by_the_column_of_their_arrows(rt: HostRuntime) -> Result<(), Fail> {
+fn labels_within_a_line_stand_by_the_place_of_their_arrows(rt: HostRuntime) -> Result<(), Fail> {
     let infos = [info(0, 4), info(1, 2), info(2, 3)];
     let layout = LineLayout::of_line(rt.alloc(), &infos, 10, "  three\n")?;
-    let columns: Vec<usize> = layout
+    let places: Vec<usize> = layout
         .labels
         .iter()
-        .map(|label| label.column)
+        .map(|label| label.place)
         .collect(rt.alloc())?;
-    assert_eq!(rt; columns.as_slice(), [2, 3, 4].as_slice());
+    assert_eq!(rt; places.as_slice(), [2, 3, 4].as_slice());
     assert_eq!(rt; (layout.offset, layout.margin), (10, None));
     Ok(())
 }

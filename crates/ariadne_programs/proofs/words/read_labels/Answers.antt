@@ -7,7 +7,11 @@ use Rattle.ariadne_programs.proofs.Threes.{label_taken, words_taken}
 use Rattle.ariadne_programs.proofs.words.read_labels.Goals as goal
 
 pub loop-three-init : goal.loop-three-init
-loop-three-init c = ([], ap (map string_bytes) (sym (ap chunks_rest c.into_iter-three-iterator.ensures.into_iter_gives ∙ c.chunks-three-items.ensures.rest)), rw c.new-labels.ensures.items tt)
+loop-three-init c = (
+  [],
+  ap (map string_bytes) (sym (ap chunks_rest c.into_iter-three-iterator.ensures.into_iter_gives ∙ c.chunks-three-items.ensures.rest)),
+  rw c.new-labels.ensures.items tt,
+)
 
 pub loop-three-preserved : goal.loop-three-preserved
 loop-three-preserved c =

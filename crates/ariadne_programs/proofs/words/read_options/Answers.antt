@@ -8,7 +8,8 @@ pub returns-in-text-3-clause-found : goal.returns-in-text-3-clause-found
 returns-in-text-3-clause-found c = (
   map string_bytes c.loop-word.rest.now,
   c.loop-word.invariant,
-  dashes_taken _ (map string_bytes c.in-Some.others.now) (string_bytes c.in-Some.word.now) (ap (map string_bytes) c.in-Some.ensures.cases.0) (sym c.as_str.ensures.value ∙ c.in-text-3.is),
+  dashes_taken _ (map string_bytes c.in-Some.others.now) (string_bytes c.in-Some.word.now) (ap (map string_bytes) c.in-Some.ensures.cases.0)
+      (sym c.as_str.ensures.value ∙ c.in-text-3.is),
 )
 
 pub loop-word-preserved-in-text : goal.loop-word-preserved-in-text

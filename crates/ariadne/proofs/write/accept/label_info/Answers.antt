@@ -8,11 +8,12 @@ use Rattle.ariadne.proofs.write.accept.label_info.Goals as goal
 
 pub returns : goal.returns
 returns g c =
-    let first = some_holds _ _ _ c.unwrap-line.ensures c.get_offset_line.ensures.place in
-    let last = some_holds _ _ _ c.unwrap-end_line.ensures c.get_offset_line-2.ensures.place in
+    let first = some_holds _ _ _ c.unwrap-line.ensures c.get_offset_line.ensures.location in
+    let last = some_holds _ _ _ c.unwrap-end_line.ensures c.get_offset_line-2.ensures.location in
     let order : to_z w32 (of_z w32 c.order.result) ≡ c.args.label.now.order = to_z-of_z {w = w32} (search rules) ∙ c.order.ensures in
     let priority : to_z w32 (of_z w32 c.priority.result) ≡ c.args.label.now.priority = to_z-of_z {w = w32} (search rules) ∙ c.priority.ensures in
     let message = c.is_some.ensures ∙ is_some-copied _ _ c.message.ensures in
     let far : c.max-last.result ≡ last_offset c.args.start c.args.end = omega (arith, c.max-last.ensures, c.saturating_sub.ensures) in
-    let behind : c.saturating_sub-2.result ≡ c.attach_offset-attached.result - c.unwrap-line.result.0.offset = omega (arith, c.saturating_sub-2.ensures, c.offset.ensures) in
+    let behind : c.saturating_sub-2.result ≡ c.attach_offset-attached.result - c.unwrap-line.result.0.offset = omega
+    (arith, c.saturating_sub-2.ensures, c.offset.ensures) in
     info_is _ _ _ _ _ _ _ _ _ _ _ _ _ _ _ _ _ _ first far last c.attach_offset-attached.ensures behind order priority message

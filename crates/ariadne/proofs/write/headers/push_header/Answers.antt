@@ -2,6 +2,6 @@ use Rattle.std.proofs.Common.{rules, append_assoc}
 use Rattle.ariadne.proofs.RowBytes.{header_bytes}
 use Rattle.ariadne.proofs.write.headers.push_header.Goals as goal
 
--- the heading in its colour, and the message
+-- the kind_text in its colour, and the message
 pub returns : goal.returns
 returns c = rw header_bytes (search (rules, append_assoc))

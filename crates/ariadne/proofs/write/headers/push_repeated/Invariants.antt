@@ -1,6 +1,6 @@
 -- so far the first characters are written
 use Rattle.std.proofs.Common.{◌≡◌, ◌++◌, encode_utf8, string_bytes}
-use Rattle.ariadne.specs.Pieces.{repeated}
+use Rattle.ariadne_picture.specs.Pieces.{repeated}
 use Rattle.ariadne.proofs.write.headers.push_repeated.Given as goal
 
 abbrev pub invariant-loop-turn : goal.invariant-loop-turn

@@ -1,5 +1,5 @@
 use Rattle.std.proofs.Common.{rules, append_assoc}
-use Rattle.ariadne.specs.Pieces.{tail_pieces, glyph_text}
+use Rattle.ariadne_picture.specs.Pieces.{tail_pieces, glyph_text}
 use Rattle.ariadne.proofs.RowBytes.{tail_bytes, repeated_two}
 use Rattle.ariadne.proofs.write.headers.push_tail.Goals as goal
 

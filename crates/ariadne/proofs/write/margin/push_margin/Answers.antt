@@ -1,5 +1,5 @@
 use Rattle.std.proofs.Common.{rules, append_assoc}
-use Rattle.ariadne.specs.Pieces.{glyph_text}
+use Rattle.ariadne_picture.specs.Pieces.{glyph_text}
 use Rattle.ariadne.proofs.RowBytes.{bar_margin_bytes}
 use Rattle.ariadne.proofs.write.margin.push_margin.Goals as goal
 

@@ -1,9 +1,9 @@
 use Rattle.std.proofs.Common.{◌≡◌, ◌++◌, sym, ap, ◌∙◌, append_assoc, string_bytes, arith}
 use Rattle.std.proofs.lemmas.List.{append-nil}
 use Rattle.ariadne_base.specs.Colors.{painted}
-use Rattle.ariadne.specs.Canvas.{color_of}
-use Rattle.ariadne.specs.Pieces.{glyph_text, ink_pieces}
-use Rattle.ariadne.specs.Print.{pieces_bytes}
+use Rattle.ariadne_picture.specs.Canvas.{color_of}
+use Rattle.ariadne_picture.specs.Pieces.{glyph_text, ink_pieces}
+use Rattle.ariadne_picture.specs.Print.{pieces_bytes}
 use Rattle.ariadne.proofs.Bytes.{ink_none, ink_one, ink_more}
 use Rattle.ariadne.proofs.write.pen.push_ink.Goals as goal
 
@@ -27,7 +27,7 @@ loop-turn-preserved c =
     let p = c.args.palette.now in
     let a = c.args.ink.now in
     let k = c.loop-turn._turn in
-    let tail = painted (color_of p a.tail_paint) (glyph_text c.args.set a.tail) in
+    let tail = painted (color_of p a.rest_paint) (glyph_text c.args.set a.rest) in
     c.in_ok-push_stroke-2.ensures ∙ ap (λ t. t ++ tail) c.loop-turn.invariant
     ∙ append_assoc old (pieces_bytes p (ink_pieces c.args.set a k)) tail
     ∙ ap (λ t. old ++ t) (sym (ink_more p c.args.set a k (omega arith)))

@@ -1,7 +1,7 @@
 -- so far the first cells are written
 use Rattle.std.proofs.Common.{◌≡◌, ◌++◌, string_bytes}
-use Rattle.ariadne.specs.Pieces.{ink_pieces}
-use Rattle.ariadne.specs.Print.{pieces_bytes}
+use Rattle.ariadne_picture.specs.Pieces.{ink_pieces}
+use Rattle.ariadne_picture.specs.Print.{pieces_bytes}
 use Rattle.ariadne.proofs.write.pen.push_ink.Given as goal
 
 abbrev pub invariant-loop-turn : goal.invariant-loop-turn

@@ -1,6 +1,6 @@
 -- so far the first blanks are written
 use Rattle.std.proofs.Common.{◌≡◌, ◌++◌, string_bytes}
-use Rattle.ariadne.specs.Pieces.{spaces}
+use Rattle.ariadne_picture.specs.Pieces.{spaces}
 use Rattle.ariadne.proofs.write.pen.push_spaces.Given as goal
 
 abbrev pub invariant-loop-turn : goal.invariant-loop-turn

@@ -1,5 +1,5 @@
 use Rattle.std.proofs.Common.{rules}
-use Rattle.ariadne.specs.Pieces.{glyph_text}
+use Rattle.ariadne_picture.specs.Pieces.{glyph_text}
 use Rattle.ariadne.proofs.write.pen.push_stroke.Goals as goal
 
 -- a stroke's text is its character

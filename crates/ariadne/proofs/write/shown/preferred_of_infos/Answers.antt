@@ -15,4 +15,5 @@ loop-info-preserved c =
 -- the last turn has looked at all labels
 pub returns : goal.returns
 returns c =
-    c.loop-info.invariant ∙ ap (fold (chosen_painter c.args.layout.now c.args.place) _) (take_all c.loop-info.info-index c.args.infos.now (omega arith))
+    c.loop-info.invariant ∙ ap (fold (chosen_painter c.args.layout.now c.args.place) _)
+    (take_all c.loop-info.info-index c.args.infos.now (omega arith))

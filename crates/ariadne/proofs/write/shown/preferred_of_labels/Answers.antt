@@ -1,8 +1,8 @@
 use Rattle.std.proofs.Common.{◌≡◌, ◌∙◌, ap, arith, fold, map, take}
 use Rattle.std.proofs.lemmas.List.{take_all}
 use Rattle.std.specs.Option.{option_copied}
-use Rattle.ariadne.specs.declared.write.label_info.LineLabel.{LineLabel}
-use Rattle.ariadne.specs.Columns.{Layout}
+use Rattle.ariadne_picture.specs.declared.label_info.LineLabel.{LineLabel}
+use Rattle.ariadne_picture.specs.Columns.{Layout}
 use Rattle.ariadne.specs.Preferred.{chosen_painter}
 use Rattle.ariadne.proofs.Chosen.{fold_map_more}
 use Rattle.ariadne.proofs.write.shown.preferred_of_labels.Goals as goal
@@ -11,7 +11,8 @@ use Rattle.ariadne.proofs.write.shown.preferred_of_labels.Goals as goal
 pub loop-label-preserved : goal.loop-label-preserved
 loop-label-preserved c =
     c.preferred_painter-best.ensures
-    ∙ fold_map_more (chosen_painter c.args.layout.now c.args.place) (λ (x : LineLabel). x.info) _ (option_copied c.loop-label.best) c.deref-label-items.result.now
+    ∙ fold_map_more (chosen_painter c.args.layout.now c.args.place) (λ (x : LineLabel). x.info) _
+    (option_copied c.loop-label.best) c.deref-label-items.result.now
     c.loop-label.label-index _ (omega arith) c.loop-label.invariant
 
 -- the last turn has looked at all labels

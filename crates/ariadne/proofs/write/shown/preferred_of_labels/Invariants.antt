@@ -6,4 +6,5 @@ use Rattle.ariadne.proofs.write.shown.preferred_of_labels.Given as goal
 
 abbrev pub invariant-loop-label : goal.invariant-loop-label
 invariant-loop-label l =
-    option_copied l.best ≡ fold (chosen_painter l.layout l.place) (option_copied l.initial.best) (map (λ x. x.info) (take l.label-index l.label-items))
+    option_copied l.best ≡ fold (chosen_painter l.layout l.place) (option_copied l.initial.best)
+    (map (λ x. x.info) (take l.label-index l.label-items))

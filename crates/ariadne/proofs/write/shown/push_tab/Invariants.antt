@@ -1,7 +1,7 @@
 -- so far the first blanks are written
 use Rattle.std.proofs.Common.{◌≡◌, ◌++◌, ◌∷◌, [], replicate, string_bytes}
-use Rattle.ariadne.specs.Pieces.{Piece}
-use Rattle.ariadne.specs.Print.{pieces_bytes}
+use Rattle.ariadne_picture.specs.Pieces.{Piece}
+use Rattle.ariadne_picture.specs.Print.{pieces_bytes}
 use Rattle.ariadne.proofs.write.shown.push_tab.Given as goal
 
 abbrev pub invariant-loop-turn : goal.invariant-loop-turn

@@ -7,6 +7,7 @@ use Rattle.ariadne_base.proofs.source.Source.display_line_offset.Goals as goal
 
 pub returns-clause-fits : goal.returns-clause-fits
 returns-clause-fits g c =
-    let rows = ap length c.self.invariant.0 ∙ ap (λ s. length (line_table (listed_lines s))) c.self.view_is ∙ length-line_table (listed_lines c.args.self.now) in
+    let rows = ap length c.self.invariant.0 ∙ ap (λ s. length (line_table (listed_lines s))) c.self.view_is
+    ∙ length-line_table (listed_lines c.args.self.now) in
     let offset : c.self.inside.display_line_offset ≡ c.args.self.now.display_offset = ap (λ (s : Listing). s.display_offset) c.self.view_is in
     omega (arith, rows, offset, c.self.invariant.1)

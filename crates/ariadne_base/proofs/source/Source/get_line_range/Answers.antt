@@ -11,21 +11,24 @@ use Rattle.ariadne_base.proofs.source.Source.get_line_range.Goals as goal
 -- a line has a number below their number, which fits
 pub overflow_add-end : goal.overflow_add-end
 overflow_add-end g c =
-    let rows = ap length c.self.invariant.0 ∙ ap (λ s. length (line_table (listed_lines s))) c.self.view_is ∙ length-line_table (listed_lines c.args.self.now) in
+    let rows = ap length c.self.invariant.0 ∙ ap (λ s. length (line_table (listed_lines s))) c.self.view_is
+    ∙ length-line_table (listed_lines c.args.self.now) in
     omega (arith, c.self.invariant.1, c.in-Some.ensures.there)
 
 -- the first line is not behind the last
 pub returns-in-Some-clause-some : goal.returns-in-Some-clause-some
 returns-in-Some-clause-some g c =
     let start : c.unwrap_or-start.result ≡ first_line (listed_lines c.args.self.now) (g.S.Span.start_of c.args.span.now) = search rules in
-    let stop : c.in-Some.number + 1 ≡ line_end (listed_lines c.args.self.now) (g.S.Span.start_of c.args.span.now) (g.S.Span.end_of c.args.span.now) = search rules in
+    let stop : c.in-Some.number + 1 ≡ line_end (listed_lines c.args.self.now) (g.S.Span.start_of c.args.span.now)
+    (g.S.Span.end_of c.args.span.now) = search rules in
     let some = lines_some (chars c.args.self.now.text) (g.S.Span.start_of c.args.span.now) (g.S.Span.end_of c.args.span.now) in
     omega arith
 
 -- there are as many lines as rows of the table
 pub returns-in-None-clause-end : goal.returns-in-None-clause-end
 returns-in-None-clause-end g c =
-    let rows = ap length c.self.invariant.0 ∙ ap (λ s. length (line_table (listed_lines s))) c.self.view_is ∙ length-line_table (listed_lines c.args.self.now) in
+    let rows = ap length c.self.invariant.0 ∙ ap (λ s. length (line_table (listed_lines s))) c.self.view_is
+    ∙ length-line_table (listed_lines c.args.self.now) in
     let len : c.len-end.result ≡ length (listed_lines c.args.self.now) = omega (arith, c.len-end.ensures) in
     let last : c.max-last.result ≡ last_offset (g.S.Span.start_of c.args.span.now) (g.S.Span.end_of c.args.span.now) = search rules in
     let none = c.in-None.ensures.number ∙ ap (line_number (listed_lines c.args.self.now)) last in
@@ -35,12 +38,14 @@ returns-in-None-clause-end g c =
 pub returns-in-None-clause-some : goal.returns-in-None-clause-some
 returns-in-None-clause-some g c =
     let start : c.unwrap_or-start.result ≡ first_line (listed_lines c.args.self.now) (g.S.Span.start_of c.args.span.now) = search rules in
-    let stop : c.len-end.result ≡ line_end (listed_lines c.args.self.now) (g.S.Span.start_of c.args.span.now) (g.S.Span.end_of c.args.span.now) = returns-in-None-clause-end g c in
+    let stop : c.len-end.result ≡ line_end (listed_lines c.args.self.now) (g.S.Span.start_of c.args.span.now)
+    (g.S.Span.end_of c.args.span.now) = returns-in-None-clause-end g c in
     let some = lines_some (chars c.args.self.now.text) (g.S.Span.start_of c.args.span.now) (g.S.Span.end_of c.args.span.now) in
     omega arith
 
 -- the number of rows is that of the lines
 pub returns-in-None-clause-valid : goal.returns-in-None-clause-valid
 returns-in-None-clause-valid g c =
-    let rows = ap length c.self.invariant.0 ∙ ap (λ s. length (line_table (listed_lines s))) c.self.view_is ∙ length-line_table (listed_lines c.args.self.now) in
+    let rows = ap length c.self.invariant.0 ∙ ap (λ s. length (line_table (listed_lines s))) c.self.view_is
+    ∙ length-line_table (listed_lines c.args.self.now) in
     omega (arith, c.len-end.ensures)

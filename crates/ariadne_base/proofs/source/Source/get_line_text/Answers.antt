@@ -1,10 +1,11 @@
 use Rattle.std.proofs.Common.{ap, ◌∙◌, subst}
 use Rattle.std.specs.Str.{IsUtf8}
 use Rattle.ariadne_base.specs.Listing.{listed_lines}
-use Rattle.ariadne_base.specs.Places.{line_text}
+use Rattle.ariadne_base.specs.Locations.{line_text}
 use Rattle.ariadne_base.proofs.CutOut.{IsMiddle, line_middle}
 use Rattle.ariadne_base.proofs.source.Source.get_line_text.Goals as goal
-use Rattle.ariadne_base.proofs.source.Source.get_line_text.Goals.{else-is_char_boundary-via-then-is_char_boundary+else-is_char_boundary-2, else-is_char_boundary-via-else-is_char_boundary}
+use Rattle.ariadne_base.proofs.source.Source.get_line_text.Goals.{else-is_char_boundary-via-then-is_char_boundary+else-is_char_boundary-2}
+use Rattle.ariadne_base.proofs.source.Source.get_line_text.Goals.{else-is_char_boundary-via-else-is_char_boundary}
 
 -- the bytes of a line are its text
 pub returns-then-is_char_boundary-2-clause-own : goal.returns-then-is_char_boundary-2-clause-own
@@ -24,5 +25,6 @@ returns-else-is_char_boundary-clause-own g c = λ n h e.
     rw (c.text-text.ensures, ap (λ r. r.byte_offset) line, ap (λ r. r.byte_len) line) (line_middle c.args.self.now.text utf8 n h) in
     elim c.else-is_char_boundary.branch [
       | else-is_char_boundary-via-then-is_char_boundary+else-is_char_boundary-2 w ↦ let t = w.is_char_boundary-then-is_char_boundary.ensures.test.1 at.whole.1 in let f = w.if-is_char_boundary-2.false in cc
-      | else-is_char_boundary-via-else-is_char_boundary w ↦ let t = c.is_char_boundary.ensures.test.1 at.whole.0 in let f = w.if-is_char_boundary.false in cc
+      | else-is_char_boundary-via-else-is_char_boundary w ↦ let t = c.is_char_boundary.ensures.test.1 at.whole.0 in
+          let f = w.if-is_char_boundary.false in cc
     ]

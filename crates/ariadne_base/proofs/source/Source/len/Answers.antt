@@ -1,6 +1,6 @@
 use Rattle.std.proofs.Common.{◌≡◌, ◌+◌, length, ap, ◌∙◌, arith}
 use Rattle.std.specs.Str.{chars}
-use Rattle.ariadne_base.proofs.PlaceLemmas.{some_row, length_from_last}
+use Rattle.ariadne_base.proofs.LocationLemmas.{some_row, length_from_last}
 use Rattle.ariadne_base.proofs.source.Source.len.Goals as goal
 
 -- there is a last line

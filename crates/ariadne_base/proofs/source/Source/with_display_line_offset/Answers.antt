@@ -7,5 +7,6 @@ use Rattle.ariadne_base.proofs.source.Source.with_display_line_offset.Goals as g
 -- the number of lines is that of the rows of the table
 pub invariant_of-result : goal.invariant_of-result
 invariant_of-result g c =
-    let rows = ap length c.self.invariant.0 ∙ ap (λ s. length (line_table (listed_lines s))) c.self.view_is ∙ length-line_table (listed_lines c.args.self) in
+    let rows = ap length c.self.invariant.0 ∙ ap (λ s. length (line_table (listed_lines s))) c.self.view_is
+    ∙ length-line_table (listed_lines c.args.self) in
     (c.self.invariant.0, omega (arith, c.requires))

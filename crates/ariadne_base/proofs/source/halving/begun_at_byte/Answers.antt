@@ -7,4 +7,5 @@ use Rattle.ariadne_base.proofs.source.halving.begun_at_byte.Goals as goal
 pub returns-clause-point : goal.returns-clause-point
 returns-clause-point c =
     let parted = IsPartitionedBy-leb (λ (l : LineExtent). l.byte_offset) _ c.args.offset c.requires in
-    IsPartitionPoint-from_clause (λ (l : LineExtent). leb l.byte_offset c.args.offset) _ _ c.partition_point.ensures.partitioned parted (λ a r q k. search rules)
+    IsPartitionPoint-from_clause (λ (l : LineExtent). leb l.byte_offset c.args.offset) _ _ c.partition_point.ensures.partitioned parted
+    (λ a r q k. search rules)

@@ -3,7 +3,8 @@ use Rattle.std.specs.Str.{chars}
 use Rattle.ariadne_base.specs.Lines.{ends_line}
 use Rattle.ariadne_base.proofs.Scanning.{scan_start, scan_closed, scan_open, scan_whole, scan_last}
 use Rattle.ariadne_base.proofs.source.scan.line_table_of.Goals as goal
-use Rattle.ariadne_base.proofs.source.scan.line_table_of.Goals.{then-offset-at+in_ok-push-2, then-offset-at-via-then-offset-at, then-offset-at-via-else-offset-at+then-is_empty, else-offset-at+else-is_empty}
+use Rattle.ariadne_base.proofs.source.scan.line_table_of.Goals.{then-offset-at+in_ok-push-2, then-offset-at-via-then-offset-at}
+use Rattle.ariadne_base.proofs.source.scan.line_table_of.Goals.{then-offset-at-via-else-offset-at+then-is_empty, else-offset-at+else-is_empty}
 
 -- nothing is scanned yet
 pub loop-c-init : goal.loop-c-init
@@ -33,5 +34,6 @@ returns c =
             | then-offset-at-via-else-offset-at+then-is_empty w' ↦ inr (let e = w'.is_empty.ensures in let t = w'.if-is_empty.true in search rules)
           ] in
           rw (w.lines-is, w.in_ok-push-2.ensures.items) (scan_last _ _ _ _ _ _ scanned over last)
-      | else-offset-at+else-is_empty w ↦ rw w.lines-is (scan_whole _ _ _ _ _ _ scanned over w.if-offset-at.false (let e = w.is_empty.ensures in let t = w.if-is_empty.false in search rules))
+      | else-offset-at+else-is_empty w ↦ rw w.lines-is
+          (scan_whole _ _ _ _ _ _ scanned over w.if-offset-at.false (let e = w.is_empty.ensures in let t = w.if-is_empty.false in search rules))
     ]

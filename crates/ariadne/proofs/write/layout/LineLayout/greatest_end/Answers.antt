@@ -1,7 +1,7 @@
 use Rattle.std.proofs.Common.{◌≡◌, ◌∙◌, ap, arith, refl, map, take}
 use Rattle.std.proofs.lemmas.List.{take_all}
-use Rattle.ariadne.specs.Columns.{Layout, end_place}
-use Rattle.ariadne.specs.Groups.{greatest}
+use Rattle.ariadne_picture.specs.Columns.{Layout, places_to_end}
+use Rattle.ariadne_picture.specs.Groups.{greatest}
 use Rattle.ariadne.proofs.Chosen.{greatest_end_more}
 use Rattle.ariadne.proofs.write.layout.LineLayout.greatest_end.Goals as goal
 
@@ -24,4 +24,4 @@ returns c =
     let y = c.args.self.now in
     let items : c.deref-label-items.result.now ≡ y.labels = c.deref-label-items.ensures.value ∙ ap (λ (t : Layout). t.labels) c.self.view_is in
     let all : take c.loop-label.label-index c.deref-label-items.result.now ≡ y.labels = take_all _ _ (omega arith) ∙ items in
-    c.loop-label.invariant ∙ ap (λ t. greatest (map (end_place y) t)) all
+    c.loop-label.invariant ∙ ap (λ t. greatest (map (places_to_end y) t)) all

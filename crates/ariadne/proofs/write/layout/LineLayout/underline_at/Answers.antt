@@ -1,15 +1,15 @@
 use Rattle.std.proofs.Common.{◌≡◌, ◌∙◌, ap, sym, arith, None, fold, take}
 use Rattle.std.proofs.lemmas.List.{take_all}
 use Rattle.std.specs.Option.{option_copied}
-use Rattle.ariadne.specs.Columns.{Layout}
+use Rattle.ariadne_picture.specs.Columns.{Layout}
 use Rattle.ariadne.specs.Preferred.{chosen_underline}
 use Rattle.ariadne.proofs.Chosen.{fold_more}
 use Rattle.ariadne.proofs.Underlines.{underline_off, underline_on}
 use Rattle.ariadne.proofs.write.layout.LineLayout.underline_at.Goals as goal
 
 -- no underlines are wanted there
-pub returns-then-not-style : goal.returns-then-not-style
-returns-then-not-style c = underline_off c.args.style.now c.args.self.now c.args.row c.args.place c.then-not-style.either
+pub returns-then-not-switches : goal.returns-then-not-switches
+returns-then-not-switches c = underline_off c.args.switches.now c.args.self.now c.args.rank c.args.place c.then-not-switches.either
 
 -- a turn looks at one label more
 pub loop-label-preserved : goal.loop-label-preserved
@@ -25,4 +25,4 @@ returns c =
     let items : c.deref-label-items.result.now ≡ y.labels = c.deref-label-items.ensures.value ∙ ap (λ (t : Layout). t.labels) c.self.view_is in
     let all : take c.loop-label.label-index c.deref-label-items.result.now ≡ y.labels = take_all _ _ (omega arith) ∙ items in
     c.loop-label.invariant ∙ ap (fold (chosen_underline y c.args.place) None) all
-    ∙ sym (underline_on c.args.style.now y c.args.row c.args.place c.if-not-style.false c.if-row-ne0.false)
+    ∙ sym (underline_on c.args.switches.now y c.args.rank c.args.place c.if-not-switches.false c.if-rank-ne0.false)

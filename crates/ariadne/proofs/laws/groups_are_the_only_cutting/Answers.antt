@@ -1,8 +1,0 @@
-use Rattle.ariadne.proofs.Cutting.{groups-exist, groups-only}
-use Rattle.ariadne.proofs.laws.groups_are_the_only_cutting.Goals as goal
-
-pub returns-clause-exists : goal.returns-clause-exists
-returns-clause-exists c = groups-exist
-
-pub returns-clause-only : goal.returns-clause-only
-returns-clause-only c = groups-only

@@ -1,0 +1,5 @@
+-- The cells of a row, by its name.
+pub mod CanvasRows
+pub mod RowCells
+pub mod MarginTexts
+pub mod PlaceCells

@@ -1,0 +1,371 @@
+-- Each drawn label lies in the lines of its group's sheet, and no two have one number.
+use Rattle.std.proofs.Common.{◌≢◌, map, ◌≡◌, ℕ, zero, suc, ◌+◌, ◌<◌, ◌≤◌, min, Bool, true, false, cond, not, ◌||◌, List, [], ◌∷◌, ◌++◌, Option, Some}
+use Rattle.std.proofs.Common.{None, length, take, slice_get, refl, sym, ap, ◌∙◌, subst, arith, ◌==◌, nat_lt, nat_le, inl, inr, chars, unwrap_or}
+use Rattle.std.proofs.Common.{option_and_then, option_to_list, find}
+use Rattle.std.specs.List.{AllByRecursion, range_with_len, enumerate_from}
+use Rattle.std.proofs.lemmas.Bool.{cond_both, cases_Bool, cases_lt, cases_eq, le-leb, lt-leb, true≢false, eqb-true, eq-eqb, ne_eqb, or_parts}
+use Rattle.std.proofs.lemmas.Bool.{ltb-false, not-false}
+use Rattle.std.proofs.lemmas.List.{length-append}
+use Rattle.std.proofs.lemmas.Str.{encodes-append}
+use Rattle.std.proofs.Math.Utf8.{encodes}
+use Rattle.ariadne_base.specs.Locations.{byte_len, char_offset}
+use Rattle.ariadne_base.specs.Lines.{lines_of}
+use Rattle.ariadne_base.specs.Listing.{Listing, listed_lines}
+use Rattle.ariadne_base.proofs.LineLaws.{lines_length, some_line}
+use Rattle.ariadne_picture.specs.declared.switches.IndexType.{IndexType}
+use Rattle.ariadne_picture.specs.declared.switches.IndexType.TheVariants.{Byte, Char}
+use Rattle.ariadne_picture.specs.declared.verdict.Verdict.TheVariants.{PastSource}
+use Rattle.ariadne_picture.specs.declared.label_info.LabelInfo.{LabelInfo}
+use Rattle.ariadne_picture.specs.Report.{ConfigFields, LabelFields, ReportFields, World}
+use Rattle.ariadne_picture.specs.Accept.{text_len, offset_in_chars, info_of, within, verdict, verdict_in, accepted_info, drawn_label, drawn_labels}
+use Rattle.ariadne_picture.specs.Lists.{joined, total}
+use Rattle.ariadne_picture.specs.Groups.{ordered, is_cut, HasNoCut, AreCut, groups_of}
+use Rattle.ariadne_picture.specs.Pieces.{Section}
+use Rattle.ariadne_picture.specs.Canvas.{section_of, sections, label_id, is_same_id, same_source, group_id, group_source, sheet_of, groups}
+use Rattle.ariadne_picture.proofs.Lists.ListFacts.{Increasing, increasing-append, none≢some, all-append, all-at, all-in_order, all-weaker}
+use Rattle.ariadne_picture.proofs.Lists.Occurrences.{occurrences, total-append, total-in_order}
+use Rattle.ariadne_picture.proofs.Labels.Cutting.{together, groups-exist}
+use Rattle.ariadne_picture.proofs.Labels.LabelPlaces.{IsPlaced, info-placed}
+
+-- ---- offsets in characters
+
+-- the first number of a range that passes a test
+record FirstOf (p : ℕ → Bool) (a n k : ℕ) : Type 0 where
+  passes : p k ≡ true
+  above : a ≤ k
+  below : k < a + n
+  first : (j : ℕ) → a ≤ j → j < k → p j ≡ false
+
+first-of : (p : ℕ → Bool) (a n k : ℕ) → find p (range_with_len a n) ≡ Some k → FirstOf p a n k
+first-of p a zero k e = absurd (none≢some k e)
+first-of p a (suc n) k e = elim (cases_Bool (p a)) [
+  | inl on ↦ let found : find p (a ∷ range_with_len (a + 1) n) ≡ Some a = rw on in let same : a ≡ k = cc in
+      record { passes = subst (λ z. p z ≡ true) same on; above = omega arith; below = omega arith; first = λ j low high. absurd (omega arith) }
+  | inr off ↦
+      let found : find p (a ∷ range_with_len (a + 1) n) ≡ find p (range_with_len (a + 1) n) = rw off in
+      let r : FirstOf p (a + 1) n k = first-of p (a + 1) n k (sym found ∙ e) in
+      let up = r.above in
+      let down = r.below in
+      record {
+        passes = r.passes;
+        above = omega arith;
+        below = omega arith;
+        first = λ j low high. elim (cases_eq j a) [ inl same ↦ subst (λ z. p z ≡ false) (sym same) off | inr other ↦ r.first j (omega arith) high ];
+      }
+]
+
+-- more characters have no fewer bytes
+bytes-grow : (t : List ℕ) (i j : ℕ) → i ≤ j → byte_len (take i t) ≤ byte_len (take j t)
+bytes-grow t zero j h = omega arith
+bytes-grow t (suc i) zero h = absurd (omega arith)
+bytes-grow [] (suc i) (suc j) h = omega arith
+bytes-grow (c ∷ t) (suc i) (suc j) h =
+    let more = bytes-grow t i j (omega arith) in
+    let left = ap length (encodes-append (c ∷ []) (take i t)) ∙ length-append (encodes (c ∷ [])) (encodes (take i t)) in
+    let right = ap length (encodes-append (c ∷ []) (take j t)) ∙ length-append (encodes (c ∷ [])) (encodes (take j t)) in
+    omega arith
+
+-- a later offset has no fewer characters before it
+pub offset-order : (index : IndexType) (t : List ℕ) (b c n m : ℕ) → b ≤ c → c ≤ text_len index t → offset_in_chars index t b ≡ Some n
+    → offset_in_chars index t c ≡ Some m → (n ≤ m) × (m ≤ length t)
+unfolding offset_in_chars text_len char_offset
+offset-order Char t b c n m h j e f = let x : b ≡ n = cc in let y : c ≡ m = cc in (omega arith, omega arith)
+offset-order Byte t b c n m h j e f =
+    let first : FirstOf (λ k. byte_len (take k t) == b) 0 (suc (length t)) n = first-of (λ k. byte_len (take k t) == b) 0 (suc (length t)) n e in
+    let second : FirstOf (λ k. byte_len (take k t) == c) 0 (suc (length t)) m = first-of (λ k. byte_len (take k t) == c) 0 (suc (length t)) m f in
+    let few = second.below in
+    let x : byte_len (take n t) ≡ b = eqb-true (byte_len (take n t)) b first.passes in
+    let y : byte_len (take m t) ≡ c = eqb-true (byte_len (take m t)) c second.passes in
+    elim (cases_lt m n) [
+      | inl less ↦
+          let grow = bytes-grow t m n (omega arith) in
+          let same : byte_len (take m t) ≡ b = omega arith in
+          absurd (true≢false (sym (eq-eqb (byte_len (take m t)) b same) ∙ first.first m (omega arith) less))
+      | inr more ↦ (more, omega arith)
+    ]
+
+-- ---- one label
+
+-- what a verdict accepts lies in the lines of the source
+verdict-placed : {S Id : Type 0} (w : World S Id) (config : ConfigFields) (source : Listing) (k : ℕ) (label : LabelFields S)
+    → w.start_of label.span ≤ w.end_of label.span
+    → AllByRecursion (λ a. IsPlaced (listed_lines source) a × (a.position ≡ k)) (option_to_list (accepted_info (verdict_in w config k label source)))
+unfolding verdict accepted_info within info_of
+verdict-placed {S} w config source k label forward =
+    let text = chars source.text in
+    let size = text_len config.index_type text in
+    let start = w.start_of label.span in
+    let end = w.end_of label.span in
+    cond_both (nat_lt size start || nat_lt (size + 1) end) PastSource
+    (within config.label_attach (listed_lines source) k label (offset_in_chars config.index_type text start)
+    (offset_in_chars config.index_type text (min end size)))
+    (λ v. AllByRecursion (λ a. IsPlaced (listed_lines source) a × (a.position ≡ k)) (option_to_list (accepted_info v))) (λ _. tt)
+    (λ off. let two = or_parts (nat_lt size start) (nat_lt (size + 1) end) off in
+    let low = ltb-false size start two.0 in
+    both start (min end size) (omega arith) (omega arith) (offset_in_chars config.index_type text start)
+    (offset_in_chars config.index_type text (min end size)) refl refl)
+  where
+    both : (b c : ℕ) → b ≤ c → c ≤ text_len config.index_type (chars source.text) → (x y : Option ℕ)
+        → offset_in_chars config.index_type (chars source.text) b ≡ x → offset_in_chars config.index_type (chars source.text) c ≡ y
+        → AllByRecursion (λ a. IsPlaced (listed_lines source) a × (a.position ≡ k))
+        (option_to_list (accepted_info (within config.label_attach (listed_lines source) k label x y)))
+    both b c h j None y e f = tt
+    both b c h j (Some n) None e f = tt
+    both b c h j (Some n) (Some m) e f =
+        let text = chars source.text in
+        let two = offset-order config.index_type text b c n m h j e f in
+        let high = two.1 in
+        let all = lines_length text in
+        ((info-placed config.label_attach (lines_of text) k label n m (some_line text) two.0 (omega arith), refl), tt)
+
+-- ---- all labels of a report
+
+module _ {S Id : Type 0} (w : World S Id) (r : ReportFields S) where
+  -- a drawn label is one of the report's, over a source that is held
+  pub record IsDrawn (a : LabelInfo) : Type 0 where
+    pub label : LabelFields S
+    pub there : slice_get r.labels a.position ≡ Some label
+    pub source : Listing
+    pub held : w.source_of (w.id_of label.span) ≡ Some source
+    pub placed : IsPlaced (listed_lines source) a
+
+  -- a label without a reason, where its source may not be held
+  source-drawn : (k : ℕ) (label : LabelFields S) → slice_get r.labels k ≡ Some label → w.start_of label.span ≤ w.end_of label.span
+      → (o : Option Listing) → w.source_of (w.id_of label.span) ≡ o
+      → AllByRecursion (λ a. IsDrawn a × (a.position ≡ k)) (option_to_list (option_and_then (λ s. accepted_info (verdict_in w r.config k label s)) o))
+  source-drawn k label there forward None e = tt
+  source-drawn k label there forward (Some source) e =
+      all-weaker (λ a. IsPlaced (listed_lines source) a × (a.position ≡ k)) (λ a. IsDrawn a × (a.position ≡ k))
+      (option_to_list (accepted_info (verdict_in w r.config k label source)))
+      (λ a h. (record { label = label; there = ap (slice_get r.labels) h.1 ∙ there; source = source; held = e; placed = h.0 }, h.1))
+      (verdict-placed w r.config source k label forward)
+
+  -- one that may have a reason beside it
+  one-drawn : {R : Type 0} (k : ℕ) (label : LabelFields S) (reason : Option R) → slice_get r.labels k ≡ Some label
+      → w.start_of label.span ≤ w.end_of label.span → AllByRecursion (λ a. IsDrawn a × (a.position ≡ k)) (drawn_label w r.config k label reason)
+  unfolding drawn_label
+  one-drawn k label (Some reason) there forward = tt
+  one-drawn k label None there forward = source-drawn k label there forward (w.source_of (w.id_of label.span)) refl
+
+  -- all
+  drawn-from : {R : Type 0} (k : ℕ) (labels : List (LabelFields S)) (reasons : List (Option R))
+      → ((j : ℕ) → slice_get labels j ≡ slice_get r.labels (k + j)) → AllByRecursion (λ label. w.start_of label.span ≤ w.end_of label.span) labels
+      → AllByRecursion (λ a. IsDrawn a × (k ≤ a.position)) (drawn_labels w r.config k labels reasons)
+  unfolding drawn_labels
+  drawn-from k [] reasons g h = tt
+  drawn-from k (label ∷ labels) [] g h = tt
+  drawn-from k (label ∷ labels) (reason ∷ reasons) g h =
+      let z : k + 0 ≡ k = omega arith in
+      all-append (λ a. IsDrawn a × (k ≤ a.position)) (drawn_label w r.config k label reason) (drawn_labels w r.config (suc k) labels reasons)
+      (all-weaker (λ a. IsDrawn a × (a.position ≡ k)) (λ a. IsDrawn a × (k ≤ a.position)) (drawn_label w r.config k label reason)
+      (λ a d. let e = d.1 in (d.0, omega arith)) (one-drawn k label reason (ap (slice_get r.labels) (sym z) ∙ sym (g 0)) h.0))
+      (all-weaker (λ a. IsDrawn a × (suc k ≤ a.position)) (λ a. IsDrawn a × (k ≤ a.position)) (drawn_labels w r.config (suc k) labels reasons)
+      (λ a d. let e = d.1 in (d.0, omega arith))
+      (drawn-from (suc k) labels reasons (λ j. let e : k + suc j ≡ suc k + j = omega arith in g (suc j) ∙ ap (slice_get r.labels) e) h.1))
+
+  -- no two have one number
+  once-from : {R : Type 0} (n k : ℕ) (labels : List (LabelFields S)) (reasons : List (Option R))
+      → ((j : ℕ) → slice_get labels j ≡ slice_get r.labels (k + j)) → AllByRecursion (λ label. w.start_of label.span ≤ w.end_of label.span) labels
+      → occurrences (λ (a : LabelInfo). a.position == n) (drawn_labels w r.config k labels reasons) ≤ cond (nat_le k n) 1 0
+  unfolding drawn_labels drawn_label total
+  once-from n k [] reasons g h = omega arith
+  once-from n k (label ∷ labels) [] g h = omega arith
+  once-from {R = R} n k (label ∷ labels) (reason ∷ reasons) g h =
+      let f : LabelInfo → ℕ = λ a. cond (a.position == n) 1 0 in
+      let z : k + 0 ≡ k = omega arith in
+      let here = one-count n k label reason (one-drawn k label reason (ap (slice_get r.labels) (sym z) ∙ sym (g 0)) h.0) in
+      let later = once-from n (suc k) labels reasons
+      (λ j. let e : k + suc j ≡ suc k + j = omega arith in g (suc j) ∙ ap (slice_get r.labels) e) h.1 in
+      let sum : total f (drawn_label w r.config k label reason ++ drawn_labels w r.config (suc k) labels reasons) ≡ total f
+      (drawn_label w r.config k label reason) + total f (drawn_labels w r.config (suc k) labels reasons) = total-append f
+      (drawn_label w r.config k label reason) (drawn_labels w r.config (suc k) labels reasons) in
+      let room = steps n k in
+      omega arith
+    where
+      steps : (n k : ℕ) → cond (k == n) 1 0 + cond (nat_le (suc k) n) 1 0 ≤ cond (nat_le k n) 1 0
+      steps n k = elim (cases_lt k n) [
+        | inl less ↦ rw (ne_eqb k n (λ e. omega arith), le-leb (suc k) n less, le-leb k n (omega arith)) (omega arith)
+        | inr no-less ↦ elim (cases_eq k n) [
+          | inl same ↦ rw (eq-eqb k n same, lt-leb (suc k) n (omega arith), le-leb k n (omega arith)) (omega arith)
+          | inr apart ↦ rw (ne_eqb k n apart, lt-leb (suc k) n (omega arith)) (omega arith)
+        ]
+      ]
+
+      some-count : (n k : ℕ) (o : Option LabelInfo) → AllByRecursion (λ a. IsDrawn a × (a.position ≡ k)) (option_to_list o)
+          → total (λ (a : LabelInfo). cond (a.position == n) 1 0) (option_to_list o) ≤ cond (k == n) 1 0
+      some-count n k None a = omega arith
+      some-count n k (Some b) a = let e = (a.0).1 in subst (λ m. cond (b.position == n) 1 0 + 0 ≤ cond (m == n) 1 0) e (omega arith)
+
+      one-count : (n k : ℕ) (label : LabelFields S) (reason : Option R)
+          → AllByRecursion (λ a. IsDrawn a × (a.position ≡ k)) (drawn_label w r.config k label reason)
+          → total (λ (a : LabelInfo). cond (a.position == n) 1 0) (drawn_label w r.config k label reason) ≤ cond (k == n) 1 0
+      one-count n k label (Some reason) a = omega arith
+      one-count n k label None a =
+          some-count n k (option_and_then (λ s. accepted_info (verdict_in w r.config k label s)) (w.source_of (w.id_of label.span))) a
+
+  -- each has another number than the later ones
+  increasing-from : {R : Type 0} (k : ℕ) (labels : List (LabelFields S)) (reasons : List (Option R))
+      → ((j : ℕ) → slice_get labels j ≡ slice_get r.labels (k + j)) → AllByRecursion (λ label. w.start_of label.span ≤ w.end_of label.span) labels
+      → Increasing (λ (a b : LabelInfo). a.position ≢ b.position) (drawn_labels w r.config k labels reasons)
+  unfolding drawn_labels drawn_label
+  increasing-from k [] reasons g h = tt
+  increasing-from k (label ∷ labels) [] g h = tt
+  increasing-from {R = R} k (label ∷ labels) (reason ∷ reasons) g h =
+      let z : k + 0 ≡ k = omega arith in
+      let next : (j : ℕ) → slice_get labels j ≡ slice_get r.labels (suc k + j) = λ j. let e : k + suc j ≡ suc k + j = omega arith in g (suc j)
+      ∙ ap (slice_get r.labels) e in
+      increasing-append (λ (a b : LabelInfo). a.position ≢ b.position) (λ a. IsDrawn a × (a.position ≡ k)) (λ a. IsDrawn a × (suc k ≤ a.position))
+      (drawn_label w r.config k label reason) (drawn_labels w r.config (suc k) labels reasons)
+      (λ a b p q same. let e = p.1 in let low = q.1 in omega arith)
+      (one-drawn k label reason (ap (slice_get r.labels) (sym z) ∙ sym (g 0)) h.0) (drawn-from (suc k) labels reasons next h.1)
+      (alone label reason) (increasing-from (suc k) labels reasons next h.1)
+    where
+      some : (o : Option LabelInfo) → Increasing (λ (a b : LabelInfo). a.position ≢ b.position) (option_to_list o)
+      some None = tt
+      some (Some a) = (tt, tt)
+
+      alone : (label : LabelFields S) (reason : Option R)
+          → Increasing (λ (a b : LabelInfo). a.position ≢ b.position) (drawn_label w r.config k label reason)
+      alone label (Some reason) = tt
+      alone label None = some (option_and_then (λ s. accepted_info (verdict_in w r.config k label s)) (w.source_of (w.id_of label.span)))
+
+  pub drawn-numbers : {R : Type 0} (reasons : List (Option R)) → AllByRecursion (λ label. w.start_of label.span ≤ w.end_of label.span) r.labels
+      → Increasing (λ (a b : LabelInfo). a.position ≢ b.position) (drawn_labels w r.config 0 r.labels reasons)
+  drawn-numbers reasons forward = increasing-from 0 r.labels reasons (λ j. let z : j ≡ 0 + j = omega arith in ap (slice_get r.labels) z) forward
+
+-- ---- groups
+
+-- what holds of each label of groups holds of each of each group
+all-groups : (P : LabelInfo → Type 0) (gs : List (List LabelInfo)) → AllByRecursion P (together gs) → AllByRecursion (AllByRecursion P) gs
+unfolding joined
+all-groups P [] a = tt
+all-groups P (group ∷ gs) a = (first group (together gs) a, all-groups P gs (rest group (together gs) a))
+  where
+    first : (xs ys : List LabelInfo) → AllByRecursion P (xs ++ ys) → AllByRecursion P xs
+    first [] ys a = tt
+    first (x ∷ xs) ys a = (a.0, first xs ys a.1)
+
+    rest : (xs ys : List LabelInfo) → AllByRecursion P (xs ++ ys) → AllByRecursion P ys
+    rest [] ys a = a
+    rest (x ∷ xs) ys a = rest xs ys a.1
+
+-- a sum over one of the groups is a part of that over all
+group-part : (f : LabelInfo → ℕ) (gs : List (List LabelInfo)) (k : ℕ) (group : List LabelInfo) → slice_get gs k ≡ Some group
+    → total f group ≤ total f (together gs)
+unfolding joined
+group-part f [] k group e = absurd (none≢some group e)
+group-part f (g ∷ gs) zero group e =
+    let same : g ≡ group = cc in let sum = total-append f g (together gs) in let size : total f g ≡ total f group = ap (total f) same in omega arith
+group-part f (g ∷ gs) (suc k) group e = let sum = total-append f g (together gs) in let more = group-part f gs k group e in omega arith
+
+-- no cut stands inside a group
+group-uncut : (same : ℕ → ℕ → Bool) (gs : List (List LabelInfo)) (k : ℕ) (a : LabelInfo) (group : List LabelInfo) → AreCut same gs
+    → slice_get gs k ≡ Some (a ∷ group) → HasNoCut same a group
+group-uncut same [] k a group c e = absurd (none≢some (a ∷ group) e)
+group-uncut same ([] ∷ gs) k a group c e = absurd c
+group-uncut same ((b ∷ g) ∷ []) zero a group c e =
+    let one : b ≡ a = cc in let two : g ≡ group = cc in subst (HasNoCut same a) two (subst (λ x. HasNoCut same x g) one c)
+group-uncut same ((b ∷ g) ∷ []) (suc k) a group c e = absurd (none≢some (a ∷ group) e)
+group-uncut same ((b ∷ g) ∷ [] ∷ gs) k a group c e = absurd c
+group-uncut same ((b ∷ g) ∷ (d ∷ next) ∷ gs) zero a group c e =
+    let one : b ≡ a = cc in let two : g ≡ group = cc in subst (HasNoCut same a) two (subst (λ x. HasNoCut same x g) one c.0)
+group-uncut same ((b ∷ g) ∷ (d ∷ next) ∷ gs) (suc k) a group c e = group-uncut same ((d ∷ next) ∷ gs) k a group c.2 e
+
+module _ {S Id : Type 0} (w : World S Id) (r : ReportFields S) (law : (p q : Id) → w.is_same p q ≡ true → w.source_of p ≡ w.source_of q) where
+  -- the id of a drawn label
+  drawn-id : (a : LabelInfo) (d : IsDrawn w r a) → label_id w r a.position ≡ Some (w.id_of d.label.span)
+  unfolding label_id
+  drawn-id a d = let e = d.there in rw e
+
+  -- two drawn labels without a cut between them are over one source
+  one-source : (a b : LabelInfo) (d : IsDrawn w r a) (e : IsDrawn w r b) → is_cut (same_source w r) a b ≡ false → d.source ≡ e.source
+  unfolding is_cut same_source is_same_id
+  one-source a b d e uncut =
+      let two = or_parts (not (is_same_id w r (label_id w r a.position) (label_id w r b.position))) (nat_lt b.end_line a.end_line) uncut in
+      let same : is_same_id w r (label_id w r a.position) (label_id w r b.position) ≡ true = not-false
+      (is_same_id w r (label_id w r a.position) (label_id w r b.position)) two.0 in
+      let ids : w.is_same (w.id_of d.label.span) (w.id_of e.label.span) ≡ true = rw (drawn-id a d, drawn-id b e) at same in
+      let sources = law (w.id_of d.label.span) (w.id_of e.label.span) ids in
+      let p = d.held in
+      let q = e.held in
+      cc
+
+  -- so all labels of a group lie in the lines of the first one's source
+  group-placed : (a : LabelInfo) (group : List LabelInfo) (source : Listing) (d : IsDrawn w r a) → d.source ≡ source
+      → AllByRecursion (IsDrawn w r) group → HasNoCut (same_source w r) a group → AllByRecursion (IsPlaced (listed_lines source)) (a ∷ group)
+  group-placed a [] source d e all uncut = (subst (λ s. IsPlaced (listed_lines s) a) e d.placed, tt)
+  group-placed a (b ∷ group) source d e all uncut = (
+    subst (λ s. IsPlaced (listed_lines s) a) e d.placed,
+    group-placed b group source all.0 (sym (one-source a b d all.0 uncut.0) ∙ e) all.1 uncut.1,
+  )
+
+  -- that of the sheet
+  sheet-placed : (group : List LabelInfo) → AllByRecursion (IsDrawn w r) group
+      → ((a : LabelInfo) (rest : List LabelInfo) → group ≡ a ∷ rest → HasNoCut (same_source w r) a rest)
+      → AllByRecursion (IsPlaced (sheet_of w r group).lines) group
+  unfolding sheet_of group_source group_id
+  sheet-placed [] all uncut = tt
+  sheet-placed (a ∷ group) all uncut =
+      let d : IsDrawn w r a = all.0 in
+      let held : option_and_then w.source_of (label_id w r a.position) ≡ Some d.source = ap (option_and_then w.source_of) (drawn-id a d) ∙ d.held in
+      let is : unwrap_or (option_and_then w.source_of (label_id w r a.position)) (record { text = []; display_offset = 0 }) ≡ d.source = ap
+      (λ o. unwrap_or o (record { text = []; display_offset = 0 })) held in
+      subst (λ s. AllByRecursion (IsPlaced (listed_lines s)) (a ∷ group)) (sym is) (group-placed a group d.source d refl all.1 (uncut a group refl))
+
+  -- each label of each group of drawn labels lies in the lines of the group's sheet
+  pub groups-placed : {R : Type 0} (reasons : List (Option R)) (k : ℕ) (group : List LabelInfo)
+      → AllByRecursion (λ label. w.start_of label.span ≤ w.end_of label.span) r.labels
+      → slice_get (groups w r (drawn_labels w r.config 0 r.labels reasons)) k ≡ Some group
+      → AllByRecursion (IsPlaced (sheet_of w r group).lines) group
+  unfolding groups ordered
+  groups-placed reasons k group forward e =
+      let infos = drawn_labels w r.config 0 r.labels reasons in
+      let exist = groups-exist (same_source w r) (ordered infos) in
+      let drawn : AllByRecursion (IsDrawn w r) infos = all-weaker (λ a. IsDrawn w r a × (0 ≤ a.position)) (IsDrawn w r) infos (λ a d. d.0)
+      (drawn-from w r 0 r.labels reasons (λ j. let z : j ≡ 0 + j = omega arith in ap (slice_get r.labels) z) forward) in
+      let each : AllByRecursion (AllByRecursion (IsDrawn w r)) (groups_of (same_source w r) (ordered infos)) =
+      all-groups (IsDrawn w r) (groups_of (same_source w r) (ordered infos))
+      (subst (AllByRecursion (IsDrawn w r)) (sym exist.joins)
+      (all-in_order (IsDrawn w r) (λ a b. Rattle.std.specs.Prelude.int_lt a.order b.order) infos drawn)) in
+      sheet-placed group (all-at (AllByRecursion (IsDrawn w r)) (groups_of (same_source w r) (ordered infos)) k group e each)
+      (λ a rest same. group-uncut (same_source w r) (groups_of (same_source w r) (ordered infos)) k a rest exist.cut (e ∙ ap Some same))
+
+  -- and no two have one number
+  pub groups-once : {R : Type 0} (reasons : List (Option R)) (k n : ℕ) (group : List LabelInfo)
+      → AllByRecursion (λ label. w.start_of label.span ≤ w.end_of label.span) r.labels
+      → slice_get (groups w r (drawn_labels w r.config 0 r.labels reasons)) k ≡ Some group
+      → occurrences (λ (a : LabelInfo). a.position == n) group ≤ 1
+  unfolding groups ordered
+  groups-once reasons k n group forward e =
+      let f : LabelInfo → ℕ = λ a. cond (a.position == n) 1 0 in
+      let infos = drawn_labels w r.config 0 r.labels reasons in
+      let exist = groups-exist (same_source w r) (ordered infos) in
+      let part : total f group ≤ total f (together (groups_of (same_source w r) (ordered infos))) = group-part f
+      (groups_of (same_source w r) (ordered infos)) k group e in
+      let joint : total f (together (groups_of (same_source w r) (ordered infos))) ≡ total f (ordered infos) = ap (total f) exist.joins in
+      let sorted : total f (ordered infos) ≡ total f infos = total-in_order f (λ a b. Rattle.std.specs.Prelude.int_lt a.order b.order) infos in
+      let once = once-from w r n 0 r.labels reasons (λ j. let z : j ≡ 0 + j = omega arith in ap (slice_get r.labels) z) forward in
+      let few : cond (nat_le 0 n) 1 0 ≤ 1 = cond_both (nat_le 0 n) 1 0 (λ c. c ≤ 1) (λ _. omega arith) (λ _. omega arith) in
+      omega arith
+
+  -- the sections of the picture are those groups
+  pub sections-placed : {R : Type 0} (reasons : List (Option R)) (g : ℕ) (s : Section)
+      → AllByRecursion (λ label. w.start_of label.span ≤ w.end_of label.span) r.labels
+      → slice_get (sections w r (drawn_labels w r.config 0 r.labels reasons)) g ≡ Some s → AllByRecursion (IsPlaced s.sheet.lines) s.sheet.labels
+  unfolding sections section_of sheet_of
+  sections-placed reasons g s forward e =
+      let infos = drawn_labels w r.config 0 r.labels reasons in
+      let gs = groups w r infos in
+      let k = section-group (section_of w r (length gs)) gs 0 g s e in
+      let group : List LabelInfo = k.0 in
+      let there : slice_get gs g ≡ Some group = k.1 in
+      subst (λ (u : Section). AllByRecursion (IsPlaced u.sheet.lines) u.sheet.labels) (sym k.2) (groups-placed reasons g group forward there)
+    where
+      section-group : (f : ℕ × List LabelInfo → Section) (gs : List (List LabelInfo)) (a g : ℕ) (s : Section)
+          → slice_get (map f (enumerate_from a gs)) g ≡ Some s → (group : List LabelInfo) × (slice_get gs g ≡ Some group) × (s ≡ f (a + g, group))
+      section-group f [] a g s e = absurd (none≢some s e)
+      section-group f (group ∷ gs) a zero s e =
+          let same : f (a, group) ≡ s = cc in let z : a ≡ a + 0 = omega arith in (group, refl, sym same ∙ ap (λ n. f (n, group)) z)
+      section-group f (group ∷ gs) a (suc g) s e =
+          let more = section-group f gs (a + 1) g s e in let z : a + 1 + g ≡ a + suc g = omega arith in
+          (more.0, more.1, more.2 ∙ ap (λ n. f (n, more.0)) z)

@@ -1,0 +1,27 @@
+-- What the headline says holds of every report whose picture was sent.
+use Rattle.std.proofs.Common.{◌≡◌, List, Option, ℕ}
+use Rattle.std.specs.Io.KnownBytes.{Appends}
+use Rattle.ariadne_picture.specs.declared.label_info.LabelInfo.{LabelInfo}
+use Rattle.ariadne_picture.specs.Report.{ReportFields, World, HaveOneSource, AreForward}
+use Rattle.ariadne_picture.specs.Accept.{drawn_labels}
+use Rattle.ariadne_picture.specs.Canvas.{canvas}
+use Rattle.ariadne_picture.specs.Print.{printed}
+use Rattle.ariadne_picture.specs.Headline.{Headline}
+use Rattle.ariadne_picture.proofs.Reading.EveryReport.{every-traced}
+use Rattle.ariadne_picture.proofs.Variants.CharLabels.{bytes-draw}
+use Rattle.ariadne_picture.proofs.Variants.ColorsMoveNothing.{colors-move-nothing}
+
+module _ {S Id R : Type 0} (w : World S Id) (r : ReportFields S) (reasons : List (Option R)) where
+  -- the accepted labels
+  abbrev infos : List LabelInfo
+  infos = drawn_labels w r.config 0 r.labels reasons
+
+  -- the picture can be read, and neither colours nor what offsets count move anything
+  pub every-headline : HaveOneSource w → AreForward w r → (before after : Option (List ℕ))
+      → Appends before after (printed (canvas w r infos)) → Headline w r infos before after
+  every-headline law forward before after sent = record {
+    exactly_the_printed_canvas_was_sent = sent;
+    each_message_is_traced = every-traced w r reasons law forward;
+    colors_move_nothing = colors-move-nothing w r infos;
+    bytes_draw_as_characters = bytes-draw w r reasons law;
+  }

@@ -1,0 +1,68 @@
+-- Whether a finished picture can be read by a placing, and the placing that the names of its rows give.
+use Rattle.std.specs.Prelude.{ℕ, ◌+◌, Bool, not, ◌&&◌, ◌==◌, nat_lt, if◌then◌else◌, List, length, map, take, filter, slice_index_or, slice_get, None, Some}
+use Rattle.std.specs.List.{enumerate_from}
+use Rattle.ariadne_picture.specs.declared.label_info.LabelInfo.{LabelInfo}
+use Rattle.ariadne_picture.specs.declared.label_info.LineLabel.{LineLabel}
+use Rattle.ariadne_picture.specs.Lists.{joined, total}
+use Rattle.ariadne_picture.specs.Groups.{group_lines}
+use Rattle.ariadne_picture.specs.Ranks.{gutter_labels, line_labels, margin_label, is_of_gutter_label, is_start}
+use Rattle.ariadne_picture.specs.Rows.{Row, source, arrow, before, row_part, row_line, row_step, rows}
+use Rattle.ariadne_picture.specs.Columns.{layout_of, arrow_len}
+use Rattle.ariadne_picture.specs.Pieces.{Section, Texts}
+use Rattle.ariadne_picture.specs.Canvas.{Cell}
+use Rattle.ariadne_picture.specs.Placing.{Placing, is_placing, has_message_rows, has_inline_traces, has_ends_of_gutter_traces, has_gutter_bars, is_aligned}
+
+-- all clauses of the tracing promise
+unfoldable pub is_read : List (List Cell) → List Section → Texts → Placing → Bool
+is_read cells parts t p =
+    is_placing cells parts p && has_message_rows cells parts p t.message_of && has_inline_traces cells parts p
+    && has_ends_of_gutter_traces cells parts p && has_gutter_bars cells parts p && is_aligned cells parts p
+
+-- ---- the groups of a picture, each with its rows by name
+
+module _ (t : Texts) (ss : List Section) where
+  unfoldable pub row_list : Section → List Row
+  row_list s = rows s.sheet s.is_last t.helps t.notes
+
+  unfoldable pub start_row : ℕ → ℕ
+  start_row g = 1 + total (λ s. length (row_list s)) (take g ss)
+
+  -- where row x stands in group g
+  unfoldable pub row_number : ℕ → Section → Row → ℕ
+  row_number g s x = start_row g + length (filter (λ y. before y x) (row_list s))
+
+  unfoldable pub of_section : ℕ → (Section → ℕ) → ℕ
+  of_section g f = elim (slice_get ss g) [ None ↦ 0 | Some s ↦ f s ]
+
+  unfoldable pub block_len : Section → ℕ → ℕ
+  block_len s l = length (filter (λ y. (row_part y == 2) && (row_line y == l) && nat_lt 0 (row_step y)) (row_list s))
+
+  -- the rows of the line labels of line l that a test holds of
+  unfoldable pub rows_of_labels : ℕ → Section → (LineLabel → Bool) → ℕ → List ℕ
+  rows_of_labels g s test l =
+      map (λ e. row_number g s (arrow l e.0)) (filter (λ e. test e.1) (enumerate_from 0 (line_labels s.sheet l)))
+
+  unfoldable pub message_rows : ℕ → List ℕ
+  message_rows k =
+      joined (λ e. joined (rows_of_labels e.0 e.1 (λ x. not (is_start x.side) && (x.info.position == k))) (group_lines e.1.sheet.labels))
+      (enumerate_from 0 ss)
+
+  unfoldable pub first_row : ℕ → Section → ℕ → ℕ × LabelInfo → ℕ
+  first_row g s i e =
+      let l = e.1.start_line in
+      if is_of_gutter_label (margin_label s.sheet l) i then row_number g s (source l)
+      else slice_index_or (rows_of_labels g s (λ x. is_start x.side && (x.gutter_column == i)) l) 0 0
+
+  unfoldable pub row_placing : Placing
+  row_placing = record {
+    start = start_row;
+    source_row = λ g l. of_section g (λ s. row_number g s (source l));
+    block_len = λ g l. of_section g (λ s. block_len s l);
+    places = λ g l. of_section g (λ s. arrow_len s.sheet.switches (layout_of s.sheet l));
+    message_row = λ k. slice_index_or (message_rows k) 0 0;
+    head_row = λ g i. of_section g (λ s. elim (slice_get (gutter_labels s.sheet) i) [ None ↦ 0 | Some a ↦ first_row g s i (i, a) ]);
+  }
+
+unfoldable pub read_by_rows : Unit {0}
+unfolding is_read row_list start_row row_number of_section block_len rows_of_labels message_rows first_row row_placing
+read_by_rows = tt

@@ -1,0 +1,7 @@
+-- The rows of a group, by their names.
+pub mod RowOrder
+pub mod BarCases
+pub mod GutterLabelRows
+pub mod RowsThere
+pub mod RowNumbers
+pub mod LineBlock

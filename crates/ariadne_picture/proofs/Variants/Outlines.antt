@@ -1,0 +1,142 @@
+-- Two reports that differ in nothing that a picture reads, apart from their spans, have the same outline
+-- wherever the headers of their groups name the same offsets.
+use Rattle.std.proofs.Common.{◌≡◌, ℕ, ◌+◌, Bool, List, [], ◌∷◌, ◌++◌, Option, Some, None, refl, sym, ap, ◌∙◌, max, map, slice_get, unwrap_or}
+use Rattle.std.proofs.Common.{option_and_then, option_map, length, ◌==◌, nat_le, if◌then◌else◌, codes}
+use Rattle.std.specs.List.{AllByRecursion, enumerate_from}
+use Rattle.std.proofs.lemmas.Option.{slice_get-map}
+use Rattle.ariadne_base.specs.Listing.{listed_lines}
+use Rattle.ariadne_picture.specs.declared.switches.IndexType.{IndexType}
+use Rattle.ariadne_picture.specs.declared.label_info.LabelInfo.{LabelInfo}
+use Rattle.ariadne_picture.specs.Report.{ReportFields, World, switches_of}
+use Rattle.ariadne_picture.specs.Accept.{text_len, offset_in_chars}
+use Rattle.ariadne_picture.specs.Lists.{joined}
+use Rattle.ariadne_picture.specs.Groups.{ordered, groups_of, number_len}
+use Rattle.ariadne_picture.specs.Pieces.{Piece, section_rows}
+use Rattle.ariadne_picture.specs.Canvas.{kind_name, code_text, texts_of, label_id, is_same_id, same_source, group_id, group_source, group_name}
+use Rattle.ariadne_picture.specs.Canvas.{header_offset, sheet_of, section_of, groups, number_width, outline, header_pieces}
+use Rattle.ariadne_picture.proofs.Lists.Joined.{joined-enumerated_same}
+
+-- lists of which f and g read the same, read alike at each place
+same-at : {X Y Z : Type 0} (f : X → Z) (g : Y → Z) (xs : List X) (ys : List Y) → map f xs ≡ map g ys → (k : ℕ)
+    → option_map f (slice_get xs k) ≡ option_map g (slice_get ys k)
+same-at f g xs ys e k = sym (slice_get-map f xs k) ∙ ap (λ zs. slice_get zs k) e ∙ slice_get-map g ys k
+
+-- a reading that may give nothing is a reading and then what it gives
+and_then-map : {X Z : Type 0} (f : X → Option Z) (o : Option X) → option_and_then f o ≡ option_and_then (λ x. x) (option_map f o)
+and_then-map f None = refl
+and_then-map f (Some x) = refl
+
+-- so it is the same at each place too
+same-found : {X Y Z : Type 0} (f : X → Option Z) (g : Y → Option Z) (xs : List X) (ys : List Y) → map f xs ≡ map g ys → (k : ℕ)
+    → option_and_then f (slice_get xs k) ≡ option_and_then g (slice_get ys k)
+same-found f g xs ys e k =
+    and_then-map f (slice_get xs k) ∙ ap (option_and_then (λ x. x)) (same-at f g xs ys e k) ∙ sym (and_then-map g (slice_get ys k))
+
+-- the offset that a header names: an own start that lies in its text, or the start of its first label
+abbrev pub header_start : Bool → IndexType → List ℕ → ℕ → Option ℕ → Option ℕ
+header_start is_own index text start first =
+    if is_own then (if nat_le start (text_len index text) then offset_in_chars index text start else None) else first
+
+-- the rows of groups
+abbrev rows_of : {S Id : Type 0} → World S Id → ReportFields S → List (List LabelInfo) → List (List Piece)
+rows_of w r gs = joined (λ e. section_rows (texts_of r) (number_width w r gs) (section_of w r (length gs) e)) (enumerate_from 0 gs)
+
+module _ {S T Id : Type 0} (w : World S Id) (v : World T Id) (r : ReportFields S) (q : ReportFields T) where
+  -- what the outline reads, apart from the offsets of the headers
+  pub record ReadTheSame : Type 0 where
+    pub switches : switches_of r.config ≡ switches_of q.config
+    pub kind : kind_name r.kind ≡ kind_name q.kind
+    pub code : r.code ≡ q.code
+    pub message : r.message ≡ q.message
+    pub notes : r.notes ≡ q.notes
+    pub helps : r.helps ≡ q.helps
+    pub label_messages : map (λ label. label.message) r.labels ≡ map (λ label. label.message) q.labels
+    pub label_ids : map (λ label. w.id_of label.span) r.labels ≡ map (λ label. v.id_of label.span) q.labels
+    pub ids : w.is_same ≡ v.is_same
+    pub names : w.name_of ≡ v.name_of
+    pub sources : w.source_of ≡ v.source_of
+
+  -- an offset that both headers of a group name
+  abbrev pub NameOneOffset : List LabelInfo → Type 0
+  NameOneOffset group = header_offset w r group ≡ header_offset v q group
+
+  module _ (same : ReadTheSame) where
+    -- the texts are read of fields that are the same
+    same-texts : texts_of r ≡ texts_of q
+    unfolding texts_of
+    same-texts = λ i. record {
+      switches = same.switches i;
+      kind_text = code_text (same.code i) ++ same.kind i ++ codes ":";
+      message = same.message i;
+      helps = same.helps i;
+      notes = same.notes i;
+      message_of = λ k. unwrap_or (same-found (λ label. label.message) (λ label. label.message) r.labels q.labels same.label_messages k i) [];
+    }
+
+    -- the ids of the labels are the same at each place
+    same-labels : (k : ℕ) → label_id w r k ≡ label_id v q k
+    unfolding label_id
+    same-labels = same-at (λ label. w.id_of label.span) (λ label. v.id_of label.span) r.labels q.labels same.label_ids
+
+    -- ids are compared by the same test
+    same-ids : (a b : Option Id) → is_same_id w r a b ≡ is_same_id v q a b
+    unfolding is_same_id
+    same-ids (Some a) (Some b) = λ i. same.ids i a b
+    same-ids (Some a) None = refl
+    same-ids None b = refl
+
+    -- a group's id is that of its first label
+    same-group_id : (group : List LabelInfo) → group_id w r group ≡ group_id v q group
+    unfolding group_id
+    same-group_id [] = refl
+    same-group_id (a ∷ group) = same-labels a.position
+
+    -- so it is compared with an id alike
+    pub same-own : (group : List LabelInfo) (own : Option Id) → is_same_id w r (group_id w r group) own ≡ is_same_id v q (group_id v q group) own
+    same-own group own = same-ids (group_id w r group) own ∙ (λ i. is_same_id v q (same-group_id group i) own)
+
+    -- the same source is held under it
+    pub same-group_source : (group : List LabelInfo) → group_source w r group ≡ group_source v q group
+    unfolding group_source
+    same-group_source group = λ i. unwrap_or (option_and_then (same.sources i) (same-group_id group i)) (record { text = []; display_offset = 0 })
+
+    -- labels are over one source alike
+    same-same_source : (j k : ℕ) → same_source w r j k ≡ same_source v q j k
+    unfolding same_source
+    same-same_source j k = same-ids (label_id w r j) (label_id w r k) ∙ (λ i. is_same_id v q (same-labels j i) (same-labels k i))
+
+    -- so cuts stand at the same places
+    same-groups : (infos : List LabelInfo) → groups w r infos ≡ groups v q infos
+    unfolding groups
+    same-groups infos = λ i. groups_of (λ j k. same-same_source j k i) (ordered infos)
+
+    -- display offsets are read of the same sources
+    same-width : (gs : List (List LabelInfo)) → number_width w r gs ≡ number_width v q gs
+    unfolding number_width
+    same-width [] = refl
+    same-width (group ∷ gs) = λ i. max (number_len (same-group_source group i).display_offset group) (same-width gs i)
+
+    -- a group's part of the picture is of the same source, under the same name
+    same-section : (n k : ℕ) (group : List LabelInfo) → NameOneOffset group → section_of w r n (k, group) ≡ section_of v q n (k, group)
+    unfolding section_of sheet_of group_name
+    same-section n k group place = λ i. record {
+      sheet = record { switches = same.switches i; lines = listed_lines (same-group_source group i); labels = group };
+      name = unwrap_or (option_and_then (same.names i) (same-group_id group i)) (codes "<unknown>");
+      display_offset = (same-group_source group i).display_offset;
+      place = place i;
+      is_first = k == 0;
+      is_last = k + 1 == n;
+    }
+
+    -- the rows of the same groups
+    same-rows : (gs : List (List LabelInfo)) → AllByRecursion NameOneOffset gs → rows_of w r gs ≡ rows_of v q gs
+    same-rows gs places =
+        joined-enumerated_same NameOneOffset
+        (λ e. section_rows (texts_of r) (number_width w r gs) (section_of w r (length gs) e))
+        (λ e. section_rows (texts_of q) (number_width v q gs) (section_of v q (length gs) e))
+        (λ k group place. λ i. section_rows (same-texts i) (same-width gs i) (same-section (length gs) k group place i)) 0 gs places
+
+    -- the outline is the header and the rows of the groups, and both are the same
+    pub same-outline : (infos : List LabelInfo) → AllByRecursion NameOneOffset (groups w r infos) → outline w r infos ≡ outline v q infos
+    unfolding outline
+    same-outline infos places = λ i. header_pieces (same-texts i) ∷ (same-rows (groups w r infos) places ∙ ap (rows_of v q) (same-groups infos)) i

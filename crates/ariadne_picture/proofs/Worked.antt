@@ -1,0 +1,16 @@
+-- Worked pictures, by computation: each theorem gives the bytes that a report is drawn as.
+pub mod Unfold
+pub mod Sample
+mod InlinePictures
+mod ColumnPictures
+mod GroupPictures
+mod LongLabelPictures
+mod AsidePictures
+mod CompactPictures
+mod ColorPictures
+mod JudgedLabels
+mod VariedPictures
+mod VariedColorPictures
+pub mod Readings
+mod WrongPictures
+mod OddWorld

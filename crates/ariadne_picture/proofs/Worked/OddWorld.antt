@@ -1,0 +1,69 @@
+-- Where two ids are told to be the same and have two sources, a label can be drawn over a source that it isn't of: its picture can't be read.
+use Rattle.std.proofs.Common.{◌≡◌, ℕ, true, false, List, [], ◌∷◌, None, refl}
+use Rattle.ariadne_picture.specs.declared.label_info.LabelInfo.{LabelInfo}
+use Rattle.ariadne_picture.specs.Report.{World, ReportFields}
+use Rattle.ariadne_picture.specs.Accept.{drawn_labels}
+use Rattle.ariadne_picture.specs.Canvas.{canvas, sections, texts_of}
+use Rattle.ariadne_picture.specs.Placing.{is_placing, has_message_rows, has_inline_traces}
+use Rattle.ariadne_picture.proofs.Reading.RowPlacing.{row_placing}
+use Rattle.ariadne_picture.proofs.Worked.Sample.{Span, Entry, world, reasons, report, label_in, utf8, ascii_config, drawn}
+use Rattle.ariadne_picture.specs.declared.switches.LabelAttach.TheVariants.{Start}
+
+held : List Entry
+held =
+    record { id = utf8 "b"; name = None; listing = record { text = utf8 "b\nb\nb"; display_offset = 0 } }
+    ∷ record { id = utf8 "a"; name = None; listing = record { text = utf8 "x\naaaaaaaaaa"; display_offset = 0 } } ∷ []
+
+-- all ids are told to be the same
+one_id : World Span (List ℕ)
+one_id = record (world held) { is_same = λ p q. true }
+
+-- label 0 over two lines of source b, label 1 in the second line of source a
+two_labels : ReportFields Span
+two_labels = report (label_in "b" 0 3 "over b" ∷ label_in "a" 9 10 "over a" ∷ [])
+
+infos : List LabelInfo
+infos = drawn_labels one_id two_labels.config 0 two_labels.labels (reasons one_id two_labels)
+
+-- both are accepted
+accepted : reasons one_id two_labels ≡ None ∷ None ∷ []
+unfolding drawn held one_id two_labels
+accepted = refl
+
+-- placed, with message rows and aligned, but the inline label's attach character has no place
+placed : is_placing (canvas one_id two_labels infos) (sections one_id two_labels infos)
+    (row_placing (texts_of two_labels) (sections one_id two_labels infos)) ≡ true
+unfolding drawn held one_id two_labels infos
+placed = refl
+
+messages : has_message_rows (canvas one_id two_labels infos) (sections one_id two_labels infos)
+    (row_placing (texts_of two_labels) (sections one_id two_labels infos)) (texts_of two_labels).message_of ≡ true
+unfolding drawn held one_id two_labels infos
+messages = refl
+
+untraced : has_inline_traces (canvas one_id two_labels infos) (sections one_id two_labels infos)
+    (row_placing (texts_of two_labels) (sections one_id two_labels infos)) ≡ false
+unfolding drawn held one_id two_labels infos
+untraced = refl
+
+-- ---- a span whose start is behind its end
+
+back : ReportFields Span
+back = record (report (label_in "b" 4 1 "back" ∷ [])) { config = record ascii_config { compact = true; label_attach = Start } }
+
+one_line : List Entry
+one_line = record { id = utf8 "b"; name = None; listing = record { text = utf8 "bbbbbbbb"; display_offset = 0 } } ∷ []
+
+back_infos : List LabelInfo
+back_infos = drawn_labels (world one_line) back.config 0 back.labels (reasons (world one_line) back)
+
+-- it is accepted
+back_accepted : reasons (world one_line) back ≡ None ∷ []
+unfolding drawn one_line back
+back_accepted = refl
+
+-- but its attach character has no place
+back_untraced : has_inline_traces (canvas (world one_line) back back_infos) (sections (world one_line) back back_infos)
+    (row_placing (texts_of back) (sections (world one_line) back back_infos)) ≡ false
+unfolding drawn one_line back back_infos
+back_untraced = refl

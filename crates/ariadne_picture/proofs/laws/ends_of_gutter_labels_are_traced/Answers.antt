@@ -1,0 +1,8 @@
+-- Every picture can be read, this clause too.
+use Rattle.ariadne_picture.proofs.Reading.EveryReport.{every-traced}
+use Rattle.ariadne_picture.proofs.laws.ends_of_gutter_labels_are_traced.Goals as goal
+
+pub returns : goal.returns
+returns g c w r reasons law forward =
+    let all = every-traced w r reasons law forward in
+    (all.placing, all.rows_belong_together, all.or_to_both_ends_of_the_gutter_column)

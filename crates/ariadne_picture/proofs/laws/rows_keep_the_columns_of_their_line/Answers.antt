@@ -1,0 +1,8 @@
+-- Every picture can be read, this clause too.
+use Rattle.ariadne_picture.proofs.Reading.EveryReport.{every-traced}
+use Rattle.ariadne_picture.proofs.laws.rows_keep_the_columns_of_their_line.Goals as goal
+
+pub returns : goal.returns
+returns g c w r reasons law forward =
+    let all = every-traced w r reasons law forward in
+    (all.placing, all.rows_belong_together, all.in_the_columns_where_the_source_row_shows_them)

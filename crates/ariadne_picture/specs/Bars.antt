@@ -1,0 +1,81 @@
+-- The rows where a gutter bar stands, case by case, as a reader of a picture finds them: beside a
+-- source row, by the lines that the gutter label covers; beside the rows of a line label, by what
+-- the gutter label does at that line. `bar_at` says the same by two rows: the cases are those
+-- strictly between.
+use Rattle.std.specs.Prelude.{◌≡◌, ◌≢◌, ℕ, ◌<◌, ◌≤◌, false, Some, slice_get}
+use Rattle.ariadne_picture.specs.declared.label_info.LabelInfo.{LabelInfo}
+use Rattle.ariadne_picture.specs.declared.label_info.LineLabel.{LineLabel}
+use Rattle.ariadne_picture.specs.declared.label_info.Side.{Side}
+use Rattle.ariadne_picture.specs.declared.label_info.Side.TheVariants.{Starts, Ends}
+use Rattle.ariadne_picture.specs.Ranks.{Sheet, gutter_labels, margin_label, line_labels}
+use Rattle.ariadne_picture.specs.Rows.{Row, group_header, spacer, source, alternate, arrow, gap}
+use Rattle.ariadne_picture.specs.Rows.{bare}
+use Rattle.ariadne_picture.specs.Rows.{blank, piece, tail}
+use Rattle.ariadne_picture.specs.Strokes.{is_at_margin}
+
+-- a label ends on the line where it starts, or on a later one
+abbrev pub EndsNoEarlier : LabelInfo → Type 0
+EndsNoEarlier a = a.start_line ≤ a.end_line
+
+-- a is gutter label i, and ends no earlier than it starts
+pub record IsGutterLabel (s : Sheet) (i : ℕ) (a : LabelInfo) : Type 0 where
+  pub owned : slice_get (gutter_labels s) i ≡ Some a
+  pub rises : EndsNoEarlier a
+
+-- the start, or the end, of gutter label i is the margin label of line l
+pub record IsMarginLabel (s : Sheet) (l : ℕ) (side : Side) (i : ℕ) : Type 0 where
+  pub label : LineLabel
+  pub there : margin_label s l ≡ Some label
+  pub same_side : label.side ≡ side
+  pub same_gutter_column : label.gutter_column ≡ i
+
+-- the start, or the end, of gutter label i is line label number n of line l
+pub record IsLineLabel (s : Sheet) (l : ℕ) (side : Side) (i n : ℕ) : Type 0 where
+  pub label : LineLabel
+  pub there : slice_get (line_labels s l) n ≡ Some label
+  pub same_side : label.side ≡ side
+  pub same_gutter_column : label.gutter_column ≡ i
+
+-- beside the source row of line l, or the gap row in its place: gutter label i, which is a, covers
+-- the line, is not its margin label and doesn't start there
+pub record BarBesideLine (s : Sheet) (i : ℕ) (a : LabelInfo) (l : ℕ) : Type 0 where
+  pub from : a.start_line ≤ l
+  pub to : l ≤ a.end_line
+  pub not_at_margin : is_at_margin s l i ≡ false
+  pub not_its_start : a.start_line ≢ l
+
+-- beside a row of line label number r of line l: `IsAbove e` says that the row stands above the
+-- arrow row of number e
+pub data BarBesideLabel (s : Sheet) (i : ℕ) (a : LabelInfo) (l r : ℕ)
+    (IsAbove : ℕ → Type 0) : Type 0 where
+  -- gutter label i, which is a, starts on an earlier line and ends on a later one
+  passes : a.start_line < l → l < a.end_line → BarBesideLabel s i a l r IsAbove
+  -- it starts on this line as the margin label
+  leaves_margin : a.start_line ≡ l → IsMarginLabel s l Starts i → BarBesideLabel s i a l r IsAbove
+  -- it starts on this line as a line label of a lower number
+  started_above : (n : ℕ) → a.start_line ≡ l → IsLineLabel s l Starts i n → n < r
+      → BarBesideLabel s i a l r IsAbove
+  -- it ends on this line as a line label whose arrow row is below
+  ends_below : (e : ℕ) → a.end_line ≡ l → IsLineLabel s l Ends i e → IsAbove e
+      → BarBesideLabel s i a l r IsAbove
+
+-- the alternate row of number r stands above the arrow row of that number; that one itself doesn't
+abbrev pub BarBesideAlternate : Sheet → ℕ → LabelInfo → ℕ → ℕ → Type 0
+BarBesideAlternate s i a l r = BarBesideLabel s i a l r (λ e. r ≤ e)
+
+-- the arrow row of rank r itself is no row above it
+abbrev pub BarBesideArrow : Sheet → ℕ → LabelInfo → ℕ → ℕ → Type 0
+BarBesideArrow s i a l r = BarBesideLabel s i a l r (λ e. r < e)
+
+-- the rows of a line
+abbrev pub IsOfLine : Row → Type 0
+IsOfLine group_header = ⊥
+IsOfLine spacer = ⊥
+IsOfLine (source l) = Unit {0}
+IsOfLine (alternate l r) = Unit {0}
+IsOfLine (arrow l r) = Unit {0}
+IsOfLine (gap l) = Unit {0}
+IsOfLine (bare l) = Unit {0}
+IsOfLine (blank a k) = ⊥
+IsOfLine (piece a k p) = ⊥
+IsOfLine tail = ⊥

@@ -1,0 +1,204 @@
+-- The picture of a report: its header, and the rows of its groups. The outline tells of each piece
+-- whose colour it has; the canvas looks the colours up.
+use Rattle.std.specs.Prelude.{ℕ, ◌+◌, max, Bool, false, ◌==◌, nat_le, if◌then◌else◌, List, [], ◌∷◌}
+use Rattle.std.specs.Prelude.{◌++◌, length, map, Option, Some, None, slice_get, slice_index_or}
+use Rattle.std.specs.Prelude.{unwrap_or, option_and_then, option_map, codes, chars}
+use Rattle.std.specs.List.{enumerate_from}
+use Rattle.ariadne_base.specs.Listing.{Listing, listed_lines}
+use Rattle.ariadne_base.specs.declared.color.Color.{Color}
+use Rattle.ariadne_base.specs.declared.color.Color.TheVariants.{Red, Yellow, Fixed}
+use Rattle.ariadne_picture.specs.declared.label_info.LabelInfo.{LabelInfo}
+use Rattle.ariadne_picture.specs.declared.cell.Paint.{Paint}
+use Rattle.ariadne_picture.specs.declared.cell.Paint.TheVariants.{Plain, Label, Kind, Margin}
+use Rattle.ariadne_picture.specs.declared.cell.Paint.TheVariants.{SkippedMargin, Unimportant, Note}
+use Rattle.ariadne_picture.specs.Lists.{joined}
+use Rattle.ariadne_picture.specs.Report.{ReportFields, World, switches_of, error, warning, advice}
+use Rattle.ariadne_picture.specs.Report.{custom}
+use Rattle.ariadne_picture.specs.Report as report
+use Rattle.ariadne_picture.specs.Accept.{text_len, offset_in_chars}
+use Rattle.ariadne_picture.specs.Groups.{ordered, groups_of, number_len}
+use Rattle.ariadne_picture.specs.Ranks.{Sheet}
+use Rattle.ariadne_picture.specs.Pieces.{Piece, painted_text, plain_text, Texts, Section}
+use Rattle.ariadne_picture.specs.Pieces.{section_rows}
+
+-- a text in one colour, or in none, and the columns that it takes
+pub record Cell : Type 0 where
+  pub text : List ℕ
+  pub color : Option Color
+  pub columns : ℕ
+
+-- the word that a kind begins its report with
+abbrev pub kind_name : report.Kind → List ℕ
+kind_name error = codes "Error"
+kind_name warning = codes "Warning"
+kind_name advice = codes "Advice"
+kind_name (custom name color) = name
+
+-- the colour of that word
+abbrev pub kind_color : report.Kind → Color
+kind_color error = Red
+kind_color warning = Yellow
+kind_color advice = Fixed 147
+kind_color (custom name color) = color
+
+-- a code in brackets, and a blank
+abbrev pub code_text : Option (List ℕ) → List ℕ
+code_text None = []
+code_text (Some code) = codes "[" ++ code ++ codes "] "
+
+-- the first row of a picture
+unfoldable pub header_pieces : Texts → List Piece
+header_pieces t =
+    painted_text Kind t.kind_text ∷ plain_text (codes " " ++ unwrap_or t.message []) ∷ []
+
+-- ---- colours
+
+-- line numbers, and the strokes round the lines of a group
+abbrev pub margin_color : Color
+margin_color = Fixed 246
+
+-- the margins of rows without a line number
+abbrev pub skipped_margin_color : Color
+skipped_margin_color = Fixed 240
+
+-- source text outside all labels
+abbrev pub unimportant_color : Color
+unimportant_color = Fixed 249
+
+-- the word in front of a help or a note
+abbrev pub note_color : Color
+note_color = Fixed 115
+
+-- the colours of a report: whether there are any, that of its kind, and those of its labels
+pub record Palette : Type 0 where
+  pub is_on : Bool
+  pub kind : Color
+  pub labels : List (Option Color)
+
+-- the colours that a report asks for
+abbrev pub palette_of : {S : Type 0} → ReportFields S → Palette
+palette_of r =
+    record {
+      is_on = r.config.color;
+      kind = kind_color r.kind;
+      labels = map (λ label. label.color) r.labels;
+    }
+
+-- the colour that a paint asks for
+unfoldable pub paint_color : Palette → Paint → Option Color
+paint_color p Plain = None
+paint_color p (Label k) = slice_index_or p.labels k None
+paint_color p Kind = Some p.kind
+paint_color p Margin = Some margin_color
+paint_color p SkippedMargin = Some skipped_margin_color
+paint_color p Unimportant = Some unimportant_color
+paint_color p Note = Some note_color
+
+-- with colours off nothing has one
+unfoldable pub color_of : Palette → Paint → Option Color
+color_of p paint = if p.is_on then paint_color p paint else None
+
+-- a piece in its colour
+abbrev pub cell_of : Palette → Piece → Cell
+cell_of p piece =
+    record { text = piece.text; color = color_of p piece.paint; columns = piece.columns }
+
+-- ---- the whole picture
+
+-- what a report's picture reads beside the labels
+unfoldable pub texts_of : {S : Type 0} → ReportFields S → Texts
+texts_of r = record {
+  switches = switches_of r.config;
+  kind_text = code_text r.code ++ kind_name r.kind ++ codes ":";
+  message = r.message;
+  helps = r.helps;
+  notes = r.notes;
+  message_of = λ k. unwrap_or (option_and_then (λ label. label.message) (slice_get r.labels k)) [];
+}
+
+module _ {S Id : Type 0} (w : World S Id) (r : ReportFields S) where
+  -- label number k
+  unfoldable pub label_id : ℕ → Option Id
+  label_id k = option_map (λ label. w.id_of label.span) (slice_get r.labels k)
+
+  -- two labels' ids count as one
+  unfoldable pub is_same_id : Option Id → Option Id → Bool
+  is_same_id (Some p) (Some q) = w.is_same p q
+  is_same_id (Some p) None = false
+  is_same_id None q = false
+
+  -- the labels at two positions are over the same source
+  unfoldable pub same_source : ℕ → ℕ → Bool
+  same_source j k = is_same_id (label_id j) (label_id k)
+
+  -- a group's source is that of its first label
+  unfoldable pub group_id : List LabelInfo → Option Id
+  group_id [] = None
+  group_id (a ∷ group) = label_id a.position
+
+  -- the source of a group
+  unfoldable pub group_source : List LabelInfo → Listing
+  group_source group =
+      unwrap_or (option_and_then w.source_of (group_id group))
+      (record { text = []; display_offset = 0 })
+
+  -- what it is called in the group header
+  unfoldable pub group_name : List LabelInfo → List ℕ
+  group_name group = unwrap_or (option_and_then w.name_of (group_id group)) (codes "<unknown>")
+
+  -- the offset that a group header names: the report's own start, if it is in this source, else
+  -- that of the group's first label
+  unfoldable pub header_offset : List LabelInfo → Option ℕ
+  header_offset group =
+      let text = chars (group_source group).text in
+      let start = w.start_of r.span in
+      if is_same_id (group_id group) (Some (w.id_of r.span)) then
+      (if nat_le start (text_len r.config.index_type text)
+      then offset_in_chars r.config.index_type text start else None)
+      else option_map (λ a. a.start) (slice_get group 0)
+
+  -- a group's labels over the lines of its source
+  unfoldable pub sheet_of : List LabelInfo → Sheet
+  sheet_of group =
+      record {
+        switches = switches_of r.config;
+        lines = listed_lines (group_source group);
+        labels = group;
+      }
+
+  -- group number k of n
+  unfoldable pub section_of : ℕ → ℕ × List LabelInfo → Section
+  section_of n e = record {
+    sheet = sheet_of e.1;
+    name = group_name e.1;
+    display_offset = (group_source e.1).display_offset;
+    place = header_offset e.1;
+    is_first = e.0 == 0;
+    is_last = e.0 + 1 == n;
+  }
+
+  -- the groups of these labels, from top to bottom
+  unfoldable pub groups : List LabelInfo → List (List LabelInfo)
+  groups infos = groups_of same_source (ordered infos)
+
+  -- how many columns the greatest line number of all groups takes
+  unfoldable pub number_width : List (List LabelInfo) → ℕ
+  number_width [] = 0
+  number_width (group ∷ gs) =
+      max (number_len (group_source group).display_offset group) (number_width gs)
+
+  -- the rows of the picture of these labels, whose pieces tell whose colour they have
+  unfoldable pub outline : List LabelInfo → List (List Piece)
+  outline infos =
+      let gs = groups infos in
+      header_pieces (texts_of r)
+      ∷ joined (λ e. section_rows (texts_of r) (number_width gs) (section_of (length gs) e))
+      (enumerate_from 0 gs)
+
+  -- the groups of these labels, each within the picture
+  unfoldable pub sections : List LabelInfo → List Section
+  sections infos = map (section_of (length (groups infos))) (enumerate_from 0 (groups infos))
+
+  -- the canvas of these labels
+  unfoldable pub canvas : List LabelInfo → List (List Cell)
+  canvas infos = map (map (cell_of (palette_of r))) (outline infos)

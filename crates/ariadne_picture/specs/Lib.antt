@@ -1,0 +1,16 @@
+pub mod Lists
+pub mod Report
+pub mod Accept
+pub mod Groups
+pub mod Ranks
+pub mod Rows
+pub mod Columns
+pub mod Strokes
+pub mod Bars
+pub mod Cells
+pub mod Pieces
+pub mod Canvas
+pub mod Print
+pub mod Placing
+pub mod Variants
+pub mod Headline

@@ -1,0 +1,112 @@
+-- The labels of one group, by what they do beside and below a line. A label over several lines with
+-- a message owns a gutter column, the longest one the leftmost. At each line one of those that
+-- start or end there may be the margin label, whose arrow leaves the gutter beside the source row;
+-- the other labels of the line are its line labels, which have rows below it.
+use Rattle.std.specs.Prelude.{ℕ, ◌-◌, Bool, true, false, not, ◌&&◌, ◌||◌, ◌==◌, nat_lt, int_lt}
+use Rattle.std.specs.Prelude.{if◌then◌else◌, List, [], ◌∷◌, ◌++◌, length, map, Option, Some, None}
+use Rattle.std.specs.Prelude.{filter, is_some}
+use Rattle.std.specs.List.{enumerate_from}
+use Rattle.ariadne_picture.specs.declared.label_info.LabelInfo.{LabelInfo}
+use Rattle.ariadne_picture.specs.declared.label_info.LineLabel.{LineLabel}
+use Rattle.ariadne_picture.specs.declared.label_info.Side.{Side}
+use Rattle.ariadne_picture.specs.declared.label_info.Side.TheVariants.{Inline, Starts, Ends}
+use Rattle.ariadne_picture.specs.declared.switches.Switches.{Switches}
+use Rattle.ariadne_picture.specs.Lists.{in_order, best, joined}
+
+-- a group's labels in order, over the lines of its source, in characters
+pub record Sheet : Type 0 where
+  pub switches : Switches
+  pub lines : List (List ℕ)
+  pub labels : List LabelInfo
+
+-- the label lies within the line
+unfoldable pub is_inline : Side → Bool
+is_inline Inline = true
+is_inline Starts = false
+is_inline Ends = false
+
+-- it starts at the line and ends on a later one
+unfoldable pub is_start : Side → Bool
+is_start Inline = false
+is_start Starts = true
+is_start Ends = false
+
+-- it ends at the line and started on an earlier one
+unfoldable pub is_end : Side → Bool
+is_end Inline = false
+is_end Starts = false
+is_end Ends = true
+
+-- ---- the gutter
+
+-- how many characters a label spans
+unfoldable pub span_len : LabelInfo → ℕ
+span_len a = a.end - a.start
+
+-- a label starts and ends on the same line
+unfoldable pub is_on_one_line : LabelInfo → Bool
+is_on_one_line a = a.start_line == a.end_line
+
+-- the multi-line labels, by falling length
+unfoldable pub multi_line_labels : Sheet → List LabelInfo
+multi_line_labels s =
+    in_order (λ a b. nat_lt (span_len b) (span_len a))
+    (filter (λ a. not (is_on_one_line a)) s.labels)
+
+-- gutter label i owns gutter column i
+unfoldable pub gutter_labels : Sheet → List LabelInfo
+gutter_labels s = filter (λ a. a.has_message) (multi_line_labels s)
+
+-- ---- at a line
+
+-- whether gutter label i starts or ends at line l
+unfoldable pub gutter_label_ends : ℕ → ℕ → LabelInfo → List LineLabel
+gutter_label_ends l i a =
+    (if a.start_line == l then record
+    { info = a; side = Starts; gutter_column = i; place = a.start_place } ∷ [] else [])
+    ++ (if a.end_line == l then record
+    { info = a; side = Ends; gutter_column = i; place = a.end_place } ∷ [] else [])
+
+-- the starts and ends of all gutter labels at line l
+unfoldable pub ends_at : Sheet → ℕ → List LineLabel
+ends_at s l = joined (λ e. gutter_label_ends l e.0 e.1) (enumerate_from 0 (gutter_labels s))
+
+-- the least column, then the greater start
+unfoldable pub is_nearer_margin : LineLabel → LineLabel → Bool
+is_nearer_margin a b =
+    nat_lt a.place b.place || ((a.place == b.place) && nat_lt b.info.start a.info.start)
+
+-- the one whose arrow leaves the gutter beside the source row
+unfoldable pub margin_label : Sheet → ℕ → Option LineLabel
+margin_label s l = best is_nearer_margin (ends_at s l)
+
+-- it is a start or an end of gutter label i
+unfoldable pub is_of_gutter_label : Option LineLabel → ℕ → Bool
+is_of_gutter_label None i = false
+is_of_gutter_label (Some m) i = m.gutter_column == i
+
+-- whether a label of a line is its margin label
+unfoldable pub is_margin : Option LineLabel → LineLabel → Bool
+is_margin margin x = not (is_inline x.side) && is_of_gutter_label margin x.gutter_column
+
+-- the labels that lie within line l
+unfoldable pub inline_labels : Sheet → ℕ → List LineLabel
+inline_labels s l =
+    map (λ a. record { info = a; side = Inline; gutter_column = 0; place = a.attach })
+    (filter (λ a. is_on_one_line a && (a.start_line == l)) s.labels)
+
+-- by order, then by column, then the greater start first
+unfoldable pub is_before : LineLabel → LineLabel → Bool
+is_before a b =
+    int_lt a.info.order b.info.order
+    || (not (int_lt b.info.order a.info.order) && is_nearer_margin a b)
+
+-- the margin label where it starts has no rows of its own
+unfoldable pub line_labels : Sheet → ℕ → List LineLabel
+line_labels s l =
+    in_order is_before (filter (λ x. not (is_start x.side && is_margin (margin_label s l) x))
+    (ends_at s l) ++ inline_labels s l)
+
+-- whether nothing of the group is shown at a line
+unfoldable pub is_hidden : Sheet → ℕ → Bool
+is_hidden s l = (length (line_labels s l) == 0) && not (is_some (margin_label s l))

@@ -1,0 +1,114 @@
+-- A report as a record of fields, as its calls set them, and what the picture reads of the outside:
+-- ids, names and sources. Texts are their bytes in UTF-8.
+use Rattle.std.specs.Prelude.{◌≡◌, ℕ, ◌≤◌, ℤ, pos, Bool, true, false, List, [], Option, None}
+use Rattle.std.specs.List.{AllByRecursion}
+use Rattle.ariadne_base.specs.Listing.{Listing}
+use Rattle.ariadne_base.specs.declared.color.Color.{Color}
+use Rattle.ariadne_picture.specs.declared.switches.LabelAttach.{LabelAttach}
+use Rattle.ariadne_picture.specs.declared.switches.LabelAttach.TheVariants.{Middle}
+use Rattle.ariadne_picture.specs.declared.switches.CharSet.{CharSet}
+use Rattle.ariadne_picture.specs.declared.switches.CharSet.TheVariants.{Unicode}
+use Rattle.ariadne_picture.specs.declared.switches.IndexType.{IndexType}
+use Rattle.ariadne_picture.specs.declared.switches.IndexType.TheVariants.{Char}
+use Rattle.ariadne_picture.specs.declared.switches.Switches.{Switches}
+
+-- the switches of a configuration
+pub record ConfigFields : Type 0 where
+  pub cross_gap : Bool
+  pub label_attach : LabelAttach
+  pub compact : Bool
+  pub underlines : Bool
+  pub multiline_arrows : Bool
+  pub color : Bool
+  pub tab_width : ℕ
+  pub char_set : CharSet
+  pub index_type : IndexType
+
+-- the configuration of a report that is given none
+abbrev pub default_config : ConfigFields
+default_config = record {
+  cross_gap = true;
+  label_attach = Middle;
+  compact = false;
+  underlines = true;
+  multiline_arrows = true;
+  color = true;
+  tab_width = 4;
+  char_set = Unicode;
+  index_type = Char;
+}
+
+-- what a report is: one of three, or of a name and a colour of its own
+pub data Kind : Type 0 where
+  error : Kind
+  warning : Kind
+  advice : Kind
+  custom : List ℕ → Color → Kind
+
+-- a label over a span of type S
+pub record LabelFields (S : Type 0) : Type 0 where
+  pub span : S
+  pub message : Option (List ℕ)
+  pub color : Option Color
+  pub order : ℤ
+  pub priority : ℤ
+
+-- a label as it is made
+abbrev pub new_label : {S : Type 0} → S → LabelFields S
+new_label span =
+    record { span = span; message = None; color = None; order = pos 0; priority = pos 0 }
+
+-- a report over spans of type S
+pub record ReportFields (S : Type 0) : Type 0 where
+  pub kind : Kind
+  pub code : Option (List ℕ)
+  pub message : Option (List ℕ)
+  pub span : S
+  pub labels : List (LabelFields S)
+  pub notes : List (List ℕ)
+  pub helps : List (List ℕ)
+  pub config : ConfigFields
+
+-- a report as it is begun
+abbrev pub new_report : {S : Type 0} → Kind → S → ReportFields S
+new_report kind span = record {
+  kind = kind;
+  code = None;
+  message = None;
+  span = span;
+  labels = [];
+  notes = [];
+  helps = [];
+  config = default_config;
+}
+
+-- how spans of type S are read, which ids are the same, what each id is called, and the source that
+-- is held under it
+pub record World (S Id : Type 0) : Type 0 where
+  pub id_of : S → Id
+  pub start_of : S → ℕ
+  pub end_of : S → ℕ
+  pub is_same : Id → Id → Bool
+  pub name_of : Id → Option (List ℕ)
+  pub source_of : Id → Option Listing
+
+-- ids that count as one have one source: so it is where sources are looked up by their ids
+abbrev pub HaveOneSource : {S Id : Type 0} → World S Id → Type 0
+HaveOneSource {S} {Id} w = (p q : Id) → w.is_same p q ≡ true → w.source_of p ≡ w.source_of q
+
+-- each label starts at most at its end
+abbrev pub AreForward : {S Id : Type 0} → World S Id → ReportFields S → Type 0
+AreForward w r = AllByRecursion (λ label. w.start_of label.span ≤ w.end_of label.span) r.labels
+
+-- ---- what the layout reads of a configuration: neither colours nor what offsets count
+
+-- the switches of a configuration
+abbrev pub switches_of : ConfigFields → Switches
+switches_of c = record {
+  cross_gap = c.cross_gap;
+  compact = c.compact;
+  underlines = c.underlines;
+  multiline_arrows = c.multiline_arrows;
+  tab_width = c.tab_width;
+  char_set = c.char_set;
+}

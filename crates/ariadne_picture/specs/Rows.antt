@@ -1,0 +1,128 @@
+-- The rows of a group, each by a name, from top to bottom. A line with labels has a source row and,
+-- for each line label with a message, an alternate row (underlines and verticals) and an arrow row
+-- (the arrow to the message). A run of lines without labels has one row in its place, or none.
+use Rattle.std.specs.Prelude.{ℕ, ◌+◌, ◌-◌, ◌*◌, Bool, not, ◌&&◌, ◌||◌, ◌==◌, nat_le, nat_lt}
+use Rattle.std.specs.Prelude.{if◌then◌else◌, List, [], ◌∷◌, ◌++◌, map, length}
+use Rattle.std.specs.List.{list_any, enumerate_from}
+use Rattle.std.specs.Str.Lines.{lines}
+use Rattle.ariadne_base.specs.Locations.{line_offset, upto}
+use Rattle.ariadne_picture.specs.declared.label_info.LineLabel.{LineLabel}
+use Rattle.ariadne_picture.specs.Lists.{joined}
+use Rattle.ariadne_picture.specs.Groups.{group_lines, group_start_line}
+use Rattle.ariadne_picture.specs.Ranks.{Sheet, is_hidden, line_labels, is_on_one_line}
+
+-- what stands below the lines of the last group
+pub data Aside : Type 0 where
+  help : Aside
+  note : Aside
+
+-- the name of a row
+pub data Row : Type 0 where
+  -- the group header, and the row below it
+  group_header : Row
+  spacer : Row
+  -- line l; the two rows of its line label number r; the two rows in place of hidden lines from l
+  -- on
+  source : ℕ → Row
+  alternate : ℕ → ℕ → Row
+  arrow : ℕ → ℕ → Row
+  gap : ℕ → Row
+  bare : ℕ → Row
+  -- the row above help or note number k, and piece p of it
+  blank : Aside → ℕ → Row
+  piece : Aside → ℕ → ℕ → Row
+  tail : Row
+
+-- ---- which row stands before which: by part of the group, then by line or number, then by step
+
+-- helps stand before notes
+unfoldable pub aside_part : Aside → ℕ
+aside_part help = 3
+aside_part note = 4
+
+-- which part of its group a row belongs to
+unfoldable pub row_part : Row → ℕ
+row_part group_header = 0
+row_part spacer = 1
+row_part (source l) = 2
+row_part (alternate l r) = 2
+row_part (arrow l r) = 2
+row_part (gap l) = 2
+row_part (bare l) = 2
+row_part (blank a k) = aside_part a
+row_part (piece a k p) = aside_part a
+row_part tail = 5
+
+-- its line, or the number of its help or note
+unfoldable pub row_line : Row → ℕ
+row_line group_header = 0
+row_line spacer = 0
+row_line (source l) = l
+row_line (alternate l r) = l
+row_line (arrow l r) = l
+row_line (gap l) = l
+row_line (bare l) = l
+row_line (blank a k) = k
+row_line (piece a k p) = k
+row_line tail = 0
+
+-- which row of that line, help or note it is
+unfoldable pub row_step : Row → ℕ
+row_step group_header = 0
+row_step spacer = 0
+row_step (source l) = 0
+row_step (alternate l r) = 2 * r + 1
+row_step (arrow l r) = 2 * r + 2
+row_step (gap l) = 0
+row_step (bare l) = 0
+row_step (blank a k) = 0
+row_step (piece a k p) = p + 1
+row_step tail = 0
+
+-- row a stands before row b
+unfoldable pub before : Row → Row → Bool
+before a b =
+    nat_lt (row_part a) (row_part b) || ((row_part a == row_part b)
+    && (nat_lt (row_line a) (row_line b)
+    || ((row_line a == row_line b) && nat_lt (row_step a) (row_step b))))
+
+-- ---- which rows there are
+
+-- the rows of line label number r
+unfoldable pub label_rows : Bool → ℕ → ℕ × LineLabel → List Row
+label_rows compact l e =
+    if e.1.info.has_message then (if compact then [] else alternate l e.0 ∷ []) ++ arrow l e.0 ∷ []
+    else []
+
+-- whether the first character of line l lies inside a multi-line label
+unfoldable pub is_inside : Sheet → ℕ → Bool
+is_inside s l =
+    let o = line_offset length s.lines l in
+    list_any (λ a. not (is_on_one_line a) && nat_le a.start o && nat_lt o a.end) s.labels
+
+-- the rows of line l; of a run of hidden lines only the first has one
+unfoldable pub line_rows : Sheet → ℕ → List Row
+line_rows s l =
+    if is_hidden s l then
+    (if nat_lt (group_start_line s.labels) l && is_hidden s (l - 1) then []
+    else if is_inside s l then gap l ∷ []
+    else if s.switches.compact then [] else bare l ∷ [])
+    else source l ∷ joined (label_rows s.switches.compact l) (enumerate_from 0 (line_labels s l))
+
+-- the rows of a help or a note
+unfoldable pub aside_rows : Bool → Aside → ℕ × List ℕ → List Row
+aside_rows compact a e =
+    (if compact then [] else blank a e.0 ∷ []) ++ map (piece a e.0) (upto (length (lines e.1)))
+
+-- the rows of all helps, or of all notes
+unfoldable pub asides : Bool → Aside → List (List ℕ) → List Row
+asides compact a texts = joined (aside_rows compact a) (enumerate_from 0 texts)
+
+-- the rows of a group; helps and notes stand in the last one
+unfoldable pub rows : Sheet → Bool → List (List ℕ) → List (List ℕ) → List Row
+rows s is_last helps notes =
+    let compact = s.switches.compact in
+    group_header ∷ (if compact then [] else spacer ∷ [])
+    ++ joined (line_rows s) (group_lines s.labels)
+    ++ (if is_last then asides compact help helps ++ asides compact note notes else [])
+    ++ (if compact then [] else tail ∷ [])

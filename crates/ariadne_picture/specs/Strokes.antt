@@ -1,0 +1,101 @@
+-- The strokes of a group. In the text area a stroke covers places of one row or rows of one place;
+-- in the gutter a stroke covers rows of one column or columns of one row. Which of those that meet
+-- in a cell is seen is told elsewhere.
+use Rattle.std.specs.Prelude.{ℕ, ◌+◌, Bool, true, false, not, ◌&&◌, ◌||◌, ◌==◌, nat_le, nat_lt}
+use Rattle.std.specs.Prelude.{int_lt, if◌then◌else◌, drop, find, Option, Some, None, filter, List}
+use Rattle.std.specs.Prelude.{slice_get}
+use Rattle.std.specs.List.{position_or_len}
+use Rattle.ariadne_picture.specs.declared.label_info.LabelInfo.{LabelInfo}
+use Rattle.ariadne_picture.specs.declared.label_info.LineLabel.{LineLabel}
+use Rattle.ariadne_picture.specs.declared.label_info.Side.{Side}
+use Rattle.ariadne_picture.specs.declared.label_info.Side.TheVariants.{Inline, Starts, Ends}
+use Rattle.ariadne_picture.specs.Lists.{best}
+use Rattle.ariadne_picture.specs.declared.switches.Switches.{Switches}
+use Rattle.ariadne_picture.specs.Ranks.{Sheet, is_inline, is_start, is_end, span_len, gutter_labels}
+use Rattle.ariadne_picture.specs.Ranks.{margin_label, is_of_gutter_label, is_margin, line_labels}
+use Rattle.ariadne_picture.specs.Columns.{Layout}
+use Rattle.ariadne_picture.specs.Rows.{Row, source, arrow, before}
+
+-- ---- the text area: a line label x of a line with the layout y
+
+-- its vertical stands at its column, in all rows of the line up to its arrow row
+unfoldable pub has_vertical : Option LineLabel → ℕ → LineLabel → Bool
+has_vertical margin k x = x.info.has_message && not (is_margin margin x) && (x.place == k)
+
+-- so at place k of the rows of number r it is the first from number r on that is seen
+unfoldable pub vertical_at : Layout → ℕ → ℕ → Option LineLabel
+vertical_at y r k = find (has_vertical y.margin k) (drop r y.labels)
+
+-- its corner stands at its column of its arrow row
+unfoldable pub has_corner : Option LineLabel → LineLabel → ℕ → Bool
+has_corner margin x k = (x.place == k) && not (is_margin margin x)
+
+-- the places of its horizontal, in its arrow row
+unfoldable pub is_crossed : Side → ℕ → ℕ → Bool
+is_crossed Inline column k = nat_lt column k
+is_crossed Ends column k = true
+is_crossed Starts column k = nat_le k column
+
+-- a label's span holds the character at offset o
+unfoldable pub holds : LabelInfo → ℕ → Bool
+holds a o = nat_le a.start o && nat_lt o a.end
+
+-- the higher priority, then the shorter span
+unfoldable pub is_preferred : LabelInfo → LabelInfo → Bool
+is_preferred a b =
+    int_lt b.priority a.priority ||
+    (not (int_lt a.priority b.priority) && nat_lt (span_len a) (span_len b))
+
+-- the number of the alternate row that has the underlines
+abbrev pub underline_row : ℕ
+underline_row = 0
+
+-- the labels within the line whose underline reaches place k
+unfoldable pub underlines_at : Layout → ℕ → List LineLabel
+underlines_at y k = filter (λ x. is_inline x.side && holds x.info (y.offset + k)) y.labels
+
+-- the underline that is seen at place k of alternate row number r
+unfoldable pub underline_at : Switches → Layout → ℕ → ℕ → Option LineLabel
+underline_at switches y r k =
+    if switches.underlines && (r == underline_row)
+    then best (λ a b. is_preferred a.info b.info) (underlines_at y k)
+    else None
+
+-- ---- the gutter: gutter label i, in column i
+
+-- gutter label i is the margin label of line l
+unfoldable pub is_at_margin : Sheet → ℕ → ℕ → Bool
+is_at_margin s l i = is_of_gutter_label (margin_label s l) i
+
+-- a line label is the start, or the end, of gutter label i
+unfoldable pub is_end_of_gutter_label : (Side → Bool) → ℕ → LineLabel → Bool
+is_end_of_gutter_label is_side i x = is_side x.side && (x.gutter_column == i)
+
+-- the number that its start, or its end, has among the line labels of line l
+unfoldable pub number_at : Sheet → (Side → Bool) → ℕ → ℕ → ℕ
+number_at s is_side l i = position_or_len (is_end_of_gutter_label is_side i) (line_labels s l)
+
+-- the row of its head
+unfoldable pub first_row : Sheet → ℕ → LabelInfo → Row
+first_row s i a =
+    if is_at_margin s a.start_line i then source a.start_line
+    else arrow a.start_line (number_at s is_start a.start_line i)
+
+-- the row of its corner and its message
+unfoldable pub last_row : Sheet → ℕ → LabelInfo → Row
+last_row s i a = arrow a.end_line (number_at s is_end a.end_line i)
+
+-- its tee stands on the source row where it ends as the margin label
+unfoldable pub has_tee : Sheet → LabelInfo → ℕ → Row → Bool
+has_tee s a i (source l) = (a.end_line == l) && is_at_margin s l i
+has_tee s a i x = false
+
+-- a bar of gutter label i, which is a, stands in row x
+unfoldable pub has_bar : Sheet → ℕ → Row → Option LabelInfo → Bool
+has_bar s i x None = false
+has_bar s i x (Some a) =
+    before (first_row s i a) x && before x (last_row s i a) && not (has_tee s a i x)
+
+-- its bar stands in every other row strictly between the two
+unfoldable pub bar_at : Sheet → Row → ℕ → Bool
+bar_at s x i = has_bar s i x (slice_get (gutter_labels s) i)

@@ -1,0 +1,144 @@
+-- Reports that draw the same picture: one without colours draws what is left where the colours are
+-- taken away, and one whose offsets count bytes draws as the one with the same offsets in
+-- characters.
+use Rattle.std.specs.Prelude.{ℕ, ◌≡◌, ◌≤◌, true, false, not, ◌==◌, List, map, Option, Some, None}
+use Rattle.std.specs.Prelude.{IfSome, find, length, unwrap_or, option_map, option_and_then, chars}
+use Rattle.std.specs.Prelude.{slice_get}
+use Rattle.std.specs.List.{list_all, enumerate_from, AllByRecursion}
+use Rattle.ariadne_base.specs.Listing.{Listing}
+use Rattle.ariadne_base.specs.declared.color.Color.TheVariants.{Primary}
+use Rattle.ariadne_picture.specs.declared.switches.IndexType.TheVariants.{Char}
+use Rattle.ariadne_picture.specs.declared.verdict.Verdict.{Verdict}
+use Rattle.ariadne_picture.specs.declared.verdict.Verdict.TheVariants.{Accepted}
+use Rattle.ariadne_picture.specs.declared.label_info.LabelInfo.{LabelInfo}
+use Rattle.ariadne_picture.specs.Report.{Kind, error, warning, advice, custom, LabelFields}
+use Rattle.ariadne_picture.specs.Report.{ReportFields, World}
+use Rattle.ariadne_picture.specs.Accept.{offset_in_chars, verdict_in}
+use Rattle.ariadne_picture.specs.Canvas.{canvas, kind_name, is_same_id, group_id, group_source}
+use Rattle.ariadne_picture.specs.Canvas.{groups}
+use Rattle.ariadne_picture.specs.Print.{printed, erased, unescaped}
+
+-- ---- without colours
+
+-- a kind without a colour of its own
+abbrev pub plain_kind : Kind → Kind
+plain_kind error = error
+plain_kind warning = warning
+plain_kind advice = advice
+plain_kind (custom name color) = custom name Primary
+
+-- the report without colours
+abbrev pub colorless : {S : Type 0} → ReportFields S → ReportFields S
+colorless {S} r = record r {
+  kind = plain_kind r.kind;
+  labels = map (λ (label : LabelFields S). record label { color = None }) r.labels;
+  config = record r.config { color = false };
+}
+
+-- bytes, or characters, without the one that begins an escape sequence
+abbrev pub HasNoEscape : List ℕ → Type 0
+HasNoEscape text = list_all (λ b. not (b == 27)) text ≡ true
+
+-- no text that was handed in has it: neither the report's own nor what is held under its labels'
+-- ids. Of a source its characters count, since these are shown
+pub record HaveNoEscapes {S Id : Type 0} (w : World S Id) (r : ReportFields S) : Type 0 where
+  pub kind : HasNoEscape (kind_name r.kind)
+  pub code : IfSome r.code HasNoEscape
+  pub message : IfSome r.message HasNoEscape
+  pub labels : AllByRecursion (λ label. IfSome label.message HasNoEscape) r.labels
+  pub notes : AllByRecursion HasNoEscape r.notes
+  pub helps : AllByRecursion HasNoEscape r.helps
+  pub names : AllByRecursion (λ label. IfSome (w.name_of (w.id_of label.span)) HasNoEscape) r.labels
+  pub sources : AllByRecursion (λ label. IfSome (w.source_of (w.id_of label.span))
+      (λ source. HasNoEscape (chars source.text))) r.labels
+
+-- colours move nothing: what is left of the canvas without its colours is the canvas of the report
+-- without colours, and what is left of the bytes without escape sequences is the print of that
+-- canvas
+pub record ColorsMoveNothing {S Id : Type 0} (w : World S Id) (r : ReportFields S)
+    (infos : List LabelInfo) : Type 0 where
+  pub cells : erased (canvas w r infos) ≡ canvas w (colorless r) infos
+  pub bytes : HaveNoEscapes w r → unescaped (printed (canvas w r infos)) ≡ printed
+      (canvas w (colorless r) infos)
+
+-- ---- offsets in characters
+
+-- a span of characters of the source under an id
+pub record CharSpan (Id : Type 0) : Type 0 where
+  pub id : Id
+  pub start : ℕ
+  pub end : ℕ
+
+-- the same world, read by such spans
+abbrev pub char_world : {S Id : Type 0} → World S Id → World (CharSpan Id) Id
+char_world w = record {
+  id_of = λ span. span.id;
+  start_of = λ span. span.start;
+  end_of = λ span. span.end;
+  is_same = w.is_same;
+  name_of = w.name_of;
+  source_of = w.source_of;
+}
+
+-- what becomes of the label at a position, where its source is held
+abbrev pub verdict_at : {S Id : Type 0} → World S Id → ReportFields S → ℕ → Option Verdict
+verdict_at w r k =
+    option_and_then (λ label. option_map (verdict_in w r.config k label)
+    (w.source_of (w.id_of label.span)))
+    (slice_get r.labels k)
+
+module _ {S Id : Type 0} (w : World S Id) (r : ReportFields S) where
+  -- the report's own start in characters, where it has one
+  unfoldable pub own_start : Option ℕ
+  own_start =
+      option_and_then (λ (source : Listing). offset_in_chars r.config.index_type (chars source.text)
+      (w.start_of r.span)) (w.source_of (w.id_of r.span))
+
+  -- a drawn label with its ends in characters; one that is left out stays as it is
+  unfoldable pub char_label : List LabelInfo → ℕ × LabelFields S → LabelFields (CharSpan Id)
+  char_label infos e =
+      let info = find (λ a. a.position == e.0) infos in
+      record {
+        span = record {
+          id = w.id_of e.1.span;
+          start = unwrap_or (option_map (λ a. a.start) info) (w.start_of e.1.span);
+          end = unwrap_or (option_map (λ a. a.end) info) (w.end_of e.1.span);
+        };
+        message = e.1.message;
+        color = e.1.color;
+        order = e.1.order;
+        priority = e.1.priority;
+      }
+
+  -- the report whose offsets are in characters
+  unfoldable pub char_report : List LabelInfo → ReportFields (CharSpan Id)
+  char_report infos = record {
+    kind = r.kind;
+    code = r.code;
+    message = r.message;
+    span =
+        record {
+          id = w.id_of r.span;
+          start = unwrap_or own_start (w.start_of r.span);
+          end = w.end_of r.span;
+        };
+    labels = map (char_label infos) (enumerate_from 0 r.labels);
+    notes = r.notes;
+    helps = r.helps;
+    config = record r.config { index_type = Char };
+  }
+
+  -- wherever a group is over the source of the report's own span, the own start is a boundary of it
+  abbrev pub OwnStartIsBoundary : List LabelInfo → Type 0
+  OwnStartIsBoundary infos =
+      AllByRecursion (λ group. is_same_id w r (group_id w r group) (Some (w.id_of r.span)) ≡ true
+      → (o : ℕ) × (own_start ≡ Some o) × (o ≤ length (chars (group_source w r group).text)))
+      (groups w r infos)
+
+  -- bytes draw as characters: each drawn label is accepted there as the same, and where the own
+  -- start is a boundary the canvas is the same
+  pub record BytesDrawAsCharacters (infos : List LabelInfo) : Type 0 where
+    pub labels : AllByRecursion (λ a. verdict_at (char_world w) (char_report infos) a.position
+        ≡ Some (Accepted a)) infos
+    pub cells : OwnStartIsBoundary infos
+        → canvas w r infos ≡ canvas (char_world w) (char_report infos) infos

@@ -1,0 +1,219 @@
+//! Laws of the definitions that a picture is drawn by. Each is the contract of a function that does
+//! nothing: calling it tells the law.
+
+ghost use Rattle.std.specs.Prelude.{◌≡◌, ◌↔◌, ◌⊎◌, ℕ, Bool, List, [], Option, Some, None};
+ghost use Rattle.std.specs.Prelude.{nat_lt, int_lt, length, slice_get, IsTrue, IsFalse};
+ghost use Rattle.std.specs.Prelude.{All, AllPairs, Contains, IsPermutation, IsSortedBy};
+ghost use Rattle.std.specs.Cmp.{IsStrictWeakOrder};
+ghost use Rattle.std.specs.List.{AllByRecursion, IsFirstBest};
+ghost use Rattle.std.specs.List.Sorted.{IsStableBy};
+ghost use Rattle.ariadne_picture.specs.declared.label_info.LabelInfo.{LabelInfo};
+ghost use Rattle.ariadne_picture.specs.declared.label_info.Side.TheVariants.{Starts, Ends};
+ghost use Rattle.ariadne_picture.specs.Accept.{drawn_labels};
+ghost use Rattle.ariadne_picture.specs.Bars.{BarBesideAlternate, BarBesideArrow, BarBesideLine};
+ghost use Rattle.ariadne_picture.specs.Bars.{EndsNoEarlier, IsLineLabel, IsMarginLabel};
+ghost use Rattle.ariadne_picture.specs.Bars.{IsGutterLabel, IsOfLine};
+ghost use Rattle.ariadne_picture.specs.Canvas.{Cell, canvas, sections, texts_of};
+ghost use Rattle.ariadne_picture.specs.Groups.{AreGroupsOf, groups_of, ordered};
+ghost use Rattle.ariadne_picture.specs.Headline.{CanBeRead, IsTraced};
+ghost use Rattle.ariadne_picture.specs.Lists.{best, in_order};
+ghost use Rattle.ariadne_picture.specs.Placing.{has_ends_of_gutter_traces, has_gutter_bars};
+ghost use Rattle.ariadne_picture.specs.Placing.{has_inline_traces, has_message_rows, is_aligned};
+ghost use Rattle.ariadne_picture.specs.Ranks.{Sheet, is_before, is_hidden, is_nearer_margin};
+ghost use Rattle.ariadne_picture.specs.Ranks.{gutter_labels};
+ghost use Rattle.ariadne_picture.specs.Ranks.{span_len};
+ghost use Rattle.ariadne_picture.specs.Report.{AreForward, ConfigFields, HaveOneSource};
+ghost use Rattle.ariadne_picture.specs.Report.{LabelFields, ReportFields, World};
+ghost use Rattle.ariadne_picture.specs.Rows.{Row, source, alternate, arrow, gap, before, rows};
+ghost use Rattle.ariadne_picture.specs.Strokes.{bar_at, first_row, is_preferred, last_row};
+ghost use Rattle.ariadne_picture.specs.Variants.{BytesDrawAsCharacters, ColorsMoveNothing};
+ghost use Rattle.ariadne_picture.specs.Variants.{HasNoEscape, HaveNoEscapes};
+
+/// `in_order` is a stable sort by any strict weak order: it keeps the elements, leaves none less
+/// than the one before it, and keeps those of which neither is less in the order that they had.
+pub fn in_order_is_a_stable_sort<T>()
+    ensures permutation { (less : T → T → Bool) (xs : List T)
+        → IsPermutation xs (in_order less xs) }
+    ensures sorted { (less : T → T → Bool) (xs : List T)
+        → IsStrictWeakOrder less → IsSortedBy less (in_order less xs) }
+    ensures stable { (less : T → T → Bool) (xs : List T)
+        → IsStrictWeakOrder less → IsStableBy less xs (in_order less xs) }
+{}
+
+/// `best` is the first element that no other beats, by any strict weak order. Only an empty list
+/// has none.
+pub fn best_is_the_first_unbeaten<T>()
+    ensures some { (beats : T → T → Bool) (xs : List T) (b : T)
+        → IsStrictWeakOrder beats → best beats xs ≡ Some b
+        → (k : ℕ) × (slice_get xs k ≡ Some b) × IsFirstBest beats xs (length xs) k }
+    ensures none { (beats : T → T → Bool) (xs : List T) → best beats xs ≡ None → xs ≡ [] }
+{}
+
+/// The orders that a picture sorts and chooses by are strict weak orders: those of the labels, of
+/// the gutter labels by falling length, of the line labels, of the margin label, and of the
+/// underline that is seen.
+pub fn orders_of_a_picture()
+    ensures labels { IsStrictWeakOrder (λ (a b : LabelInfo). int_lt a.order b.order) }
+    ensures lengths { IsStrictWeakOrder (λ (a b : LabelInfo). nat_lt (span_len b) (span_len a)) }
+    ensures line_labels { IsStrictWeakOrder is_before }
+    ensures margin_label { IsStrictWeakOrder is_nearer_margin }
+    ensures underline { IsStrictWeakOrder is_preferred }
+{}
+
+/// Labels in order are cut into groups in exactly one way: `groups_of` is such a cutting, and there
+/// is no other.
+pub fn groups_are_the_only_cutting()
+    ensures exists { (same_source : ℕ → ℕ → Bool) (labels : List LabelInfo)
+        → AreGroupsOf same_source labels (groups_of same_source labels) }
+    ensures only { (same_source : ℕ → ℕ → Bool) (labels : List LabelInfo)
+        (groups : List (List LabelInfo))
+        → AreGroupsOf same_source labels groups → groups ≡ groups_of same_source labels }
+{}
+
+/// Each label that is drawn ends on the line where it starts or on a later one, and so does each
+/// that owns a gutter column of a group of such labels.
+pub fn labels_end_no_earlier<S, Id, R>()
+    ensures drawn { (w : World S Id) (config : ConfigFields) (k : ℕ)
+        (labels : List (LabelFields S)) (reasons : List (Option R))
+        → All EndsNoEarlier (drawn_labels w config k labels reasons) }
+    ensures gutter_labels { (same_source : ℕ → ℕ → Bool) (labels : List LabelInfo)
+        (s : Sheet) (k i : ℕ) (a : LabelInfo)
+        → All EndsNoEarlier labels
+        → slice_get (groups_of same_source (ordered labels)) k ≡ Some s.labels
+        → slice_get (gutter_labels s) i ≡ Some a → IsGutterLabel s i a }
+{}
+
+/// The rows of a group stand in the order of their names, each before every later one; so none
+/// stands twice.
+pub fn rows_stand_in_order()
+    ensures increasing { (s : Sheet) (is_last : Bool) (helps notes : List (List ℕ))
+        → AllPairs (λ a b. IsTrue (before a b)) (rows s is_last helps notes) }
+    ensures not_itself { (a : Row) → IsFalse (before a a) }
+    ensures chain { (a b c : Row)
+        → IsTrue (before a b) → IsTrue (before b c) → IsTrue (before a c) }
+{}
+
+/// A gutter label starts as the margin label of its start line or as a line label there, and ends
+/// as a line label of its end line. These give its first row and its last, which are rows of the
+/// group, the first before the last.
+pub fn gutter_labels_have_a_first_and_a_last_row()
+    ensures starts { (s : Sheet) (i : ℕ) (a : LabelInfo) → IsGutterLabel s i a
+        → IsMarginLabel s a.start_line Starts i
+        ⊎ ((n : ℕ) × IsLineLabel s a.start_line Starts i n) }
+    ensures ends { (s : Sheet) (i : ℕ) (a : LabelInfo) → IsGutterLabel s i a
+        → (n : ℕ) × IsLineLabel s a.end_line Ends i n }
+    ensures from_margin { (s : Sheet) (i : ℕ) (a : LabelInfo)
+        → IsMarginLabel s a.start_line Starts i → first_row s i a ≡ source a.start_line }
+    ensures from_label { (s : Sheet) (i n : ℕ) (a : LabelInfo)
+        → IsLineLabel s a.start_line Starts i n → first_row s i a ≡ arrow a.start_line n }
+    ensures to_label { (s : Sheet) (i n : ℕ) (a : LabelInfo)
+        → IsLineLabel s a.end_line Ends i n → last_row s i a ≡ arrow a.end_line n }
+    ensures first_is_there { (s : Sheet) (is_last : Bool) (helps notes : List (List ℕ))
+        (i : ℕ) (a : LabelInfo) → IsGutterLabel s i a
+        → Contains (rows s is_last helps notes) (first_row s i a) }
+    ensures last_is_there { (s : Sheet) (is_last : Bool) (helps notes : List (List ℕ))
+        (i : ℕ) (a : LabelInfo) → IsGutterLabel s i a
+        → Contains (rows s is_last helps notes) (last_row s i a) }
+    ensures first_before_last { (s : Sheet) (i : ℕ) (a : LabelInfo) → IsGutterLabel s i a
+        → IsTrue (before (first_row s i a) (last_row s i a)) }
+{}
+
+/// The gutter bar of a gutter label stands in the rows where a reader of the picture follows it,
+/// and in no others. Beside a source row, or the gap row of a hidden line: where the gutter label
+/// covers the line, is not its margin label and does not start there. Beside the rows of a line
+/// label: where the gutter label starts on an earlier line and ends on a later one, starts on this
+/// line as the margin label or as a line label of a lower number, or ends on this line as a line
+/// label whose arrow row is further down.
+pub fn bars_stand_case_by_case()
+    ensures source { (s : Sheet) (i l : ℕ) (a : LabelInfo) → IsGutterLabel s i a
+        → (IsTrue (bar_at s (source l) i) ↔ BarBesideLine s i a l) }
+    ensures gap { (s : Sheet) (i l : ℕ) (a : LabelInfo) → IsGutterLabel s i a
+        → IsTrue (is_hidden s l)
+        → (IsTrue (bar_at s (gap l) i) ↔ BarBesideLine s i a l) }
+    ensures alternate { (s : Sheet) (i l r : ℕ) (a : LabelInfo) → IsGutterLabel s i a
+        → (IsTrue (bar_at s (alternate l r) i) ↔ BarBesideAlternate s i a l r) }
+    ensures arrow { (s : Sheet) (i l r : ℕ) (a : LabelInfo) → IsGutterLabel s i a
+        → (IsTrue (bar_at s (arrow l r) i) ↔ BarBesideArrow s i a l r) }
+    ensures elsewhere { (s : Sheet) (x : Row) (i : ℕ) → IsTrue (bar_at s x i) → IsOfLine x }
+{}
+
+/// Each accepted message has one row of its own, which ends in it; every other row below a line
+/// ends with its text.
+pub fn messages_have_rows_of_their_own<S, Id, R>()
+    ensures { (w : World S Id) (r : ReportFields S) (reasons : List (Option R))
+        → HaveOneSource w → AreForward w r
+        → let infos = drawn_labels w r.config 0 r.labels reasons in
+        let rows = canvas w r infos in let groups = sections w r infos in
+        CanBeRead rows groups (λ placing. has_message_rows rows groups placing
+        (texts_of r).message_of) }
+{}
+
+/// From the message of a label within one line strokes lead to its attach character.
+pub fn inline_labels_are_traced<S, Id, R>()
+    ensures { (w : World S Id) (r : ReportFields S) (reasons : List (Option R))
+        → HaveOneSource w → AreForward w r
+        → let infos = drawn_labels w r.config 0 r.labels reasons in
+        let rows = canvas w r infos in let groups = sections w r infos in
+        CanBeRead rows groups (λ placing. has_inline_traces rows groups placing) }
+{}
+
+/// From the message of a label over several lines strokes lead into its gutter column, and out of
+/// it to the line where the label starts.
+pub fn ends_of_gutter_labels_are_traced<S, Id, R>()
+    ensures { (w : World S Id) (r : ReportFields S) (reasons : List (Option R))
+        → HaveOneSource w → AreForward w r
+        → let infos = drawn_labels w r.config 0 r.labels reasons in
+        let rows = canvas w r infos in let groups = sections w r infos in
+        CanBeRead rows groups (λ placing. has_ends_of_gutter_traces rows groups placing) }
+{}
+
+/// The gutter column of a label has a stroke in each row from its head to its message, and none
+/// elsewhere.
+pub fn gutter_bars_are_whole<S, Id, R>()
+    ensures { (w : World S Id) (r : ReportFields S) (reasons : List (Option R))
+        → HaveOneSource w → AreForward w r
+        → let infos = drawn_labels w r.config 0 r.labels reasons in
+        let rows = canvas w r infos in let groups = sections w r infos in
+        CanBeRead rows groups (λ placing. has_gutter_bars rows groups placing) }
+{}
+
+/// Below a line each place stands in the columns where the source row shows its character.
+pub fn rows_keep_the_columns_of_their_line<S, Id, R>()
+    ensures { (w : World S Id) (r : ReportFields S) (reasons : List (Option R))
+        → HaveOneSource w → AreForward w r
+        → let infos = drawn_labels w r.config 0 r.labels reasons in
+        let rows = canvas w r infos in let groups = sections w r infos in
+        CanBeRead rows groups (λ placing. is_aligned rows groups placing) }
+{}
+
+/// Every picture can be read, under one choice of row numbers for all of this: its rows belong
+/// together, each accepted message has a row of its own, and strokes lead from it to its label, in
+/// the columns where the source row shows them. The two premises hold wherever sources are looked
+/// up by their ids, and labels start at most at their ends.
+pub fn every_picture_can_be_read<S, Id, R>()
+    ensures { (w : World S Id) (r : ReportFields S) (reasons : List (Option R))
+        → HaveOneSource w → AreForward w r
+        → let infos = drawn_labels w r.config 0 r.labels reasons in
+        IsTraced (canvas w r infos) (sections w r infos) (texts_of r).message_of }
+{}
+
+/// Colours move nothing: without them the picture is that of the report without colours, and where
+/// no text holds the byte that begins an escape sequence the same is true of its bytes.
+pub fn colors_move_nothing<S, Id>()
+    ensures { (w : World S Id) (r : ReportFields S) (infos : List LabelInfo)
+        → ColorsMoveNothing w r infos }
+{}
+
+/// Where no text that was handed in has the byte that begins an escape sequence, no cell has it.
+pub fn cells_hold_no_escapes<S, Id>()
+    ensures { (w : World S Id) (r : ReportFields S) (infos : List LabelInfo) → HaveNoEscapes w r
+        → AllByRecursion (AllByRecursion (λ (cell : Cell). HasNoEscape cell.text))
+        (canvas w r infos) }
+{}
+
+/// Bytes draw as characters: the report with the same offsets in characters accepts each label as
+/// it is, and has the same picture where its own start is a boundary.
+pub fn bytes_draw_as_characters<S, Id, R>()
+    ensures { (w : World S Id) (r : ReportFields S) (reasons : List (Option R)) → HaveOneSource w
+        → BytesDrawAsCharacters w r (drawn_labels w r.config 0 r.labels reasons) }
+{}
