@@ -4,17 +4,9 @@ pub mod OneLineRows
 pub mod OneLineOutline
 pub mod OneLineBytes
 pub mod OneLineParts
-pub mod Bytes
-pub mod Chosen
-pub mod Shown
-pub mod Underlines
-pub mod RowBytes
-pub mod Painters
 pub mod Accepting
 pub mod Judging
 pub mod Messages
-pub mod Insertion
-pub mod TrailingSpace
 pub mod Drawable
 pub mod OneSource
 pub mod DrawingRows

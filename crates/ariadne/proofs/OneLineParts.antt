@@ -14,10 +14,11 @@ use Rattle.ariadne_picture.specs.Cells.{alternate_place, arrow_place}
 use Rattle.ariadne_picture.specs.Pieces.{Piece, Texts, blank_piece, plain_text, margin_pieces, shown_pieces, area_pieces, message_pieces}
 use Rattle.ariadne_picture.specs.Canvas.{Palette, section_of, groups}
 use Rattle.ariadne_picture.specs.Print.{pieces_bytes}
-use Rattle.ariadne.specs.OneLine.{AreOnLine, only_section, inline_label, source_row, alternate_row, arrow_row, sent_row, label_bytes}
+use Rattle.ariadne.specs.OneLine.{AreOnLine, only_section, source_row, alternate_row, arrow_row, sent_row, label_bytes}
+use Rattle.ariadne_rows.specs.InlineLayout.{inline_label}
 use Rattle.ariadne_picture.proofs.Lists.ListFacts.{all-in_order, all-map, all-every}
 use Rattle.ariadne.proofs.OneLineOutline.{groups-on_line}
-use Rattle.ariadne.proofs.Bytes.{pieces_bytes-append}
+use Rattle.ariadne_rows.proofs.Bytes.{pieces_bytes-append}
 
 -- ---- the rows of the line
 

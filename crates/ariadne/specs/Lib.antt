@@ -14,8 +14,6 @@ pub use Rattle.ariadne_picture.specs.Print
 pub use Rattle.ariadne_picture.specs.Placing
 pub use Rattle.ariadne_picture.specs.Variants
 pub mod OneLine
-pub mod Headers
-pub mod Preferred
 pub mod Kinds
 pub mod Sent
 pub mod Written

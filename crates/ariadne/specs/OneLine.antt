@@ -10,6 +10,7 @@ use Rattle.ariadne_picture.specs.declared.label_info.LabelInfo.{LabelInfo}
 use Rattle.ariadne_picture.specs.declared.label_info.LineLabel.{LineLabel}
 use Rattle.ariadne_picture.specs.declared.label_info.Side.TheVariants.{Inline}
 use Rattle.ariadne_picture.specs.Lists.{in_order, joined}
+use Rattle.ariadne_rows.specs.InlineLayout.{inline_layout}
 use Rattle.ariadne_picture.specs.Report.{ReportFields, World}
 use Rattle.ariadne_picture.specs.Groups.{ordered, printed_number}
 use Rattle.ariadne_picture.specs.Ranks.{is_before}
@@ -35,20 +36,6 @@ pub record AreOnLine {S Id : Type 0} (w : World S Id) (r : ReportFields S) (l : 
 
 -- ---- the line
 
--- a label as it stands at the line that it lies within
-abbrev pub inline_label : LabelInfo → LineLabel
-inline_label a = record { info = a; side = Inline; gutter_column = 0; place = a.attach }
-
--- a line with these labels, which all lie within it
-abbrev pub inline_layout : List LabelInfo → ℕ → List ℕ → Layout
-inline_layout infos offset text =
-    record {
-      margin = None;
-      labels = in_order is_before (map inline_label infos);
-      offset = offset;
-      text = text;
-    }
-
 module _ {S Id : Type 0} (w : World S Id) (r : ReportFields S) where
   -- the one group of such labels within the picture
   abbrev pub only_section : List LabelInfo → Section
@@ -72,7 +59,7 @@ unfoldable pub source_row : Texts → ℕ → ℕ → ℕ → Layout → List Pi
 source_row t w display_offset l y =
     margin_pieces t.switches w display_offset (source l) ++ shown_pieces t.switches [] y
 
--- the two rows of line label number k
+-- the two rows of the line label of rank k
 unfoldable pub alternate_row : Texts → ℕ → ℕ → ℕ → Layout → ℕ → List Piece
 alternate_row t w display_offset l y k =
     margin_pieces t.switches w display_offset (alternate l k)

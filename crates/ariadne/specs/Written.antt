@@ -33,7 +33,7 @@ reason_of (taken info) = None
 reason_of past = Some PastSource
 reason_of cuts = Some CutsCharacter
 
--- the reasons that stand for left-out labels, each with the number of its label, which counts from
+-- the reasons that stand for left-out labels, each with the position of its label, which counts from
 -- n
 abbrev pub listed : {E : Type 0} → ℕ → List (Option (Reason E)) → List (LeftOut E)
 listed n [] = []

@@ -10,6 +10,10 @@ mod refusing;
 pub mod report;
 #[cfg(test)]
 mod tests_laws;
+#[cfg(test)]
+mod tests_layout;
+#[cfg(test)]
+mod tests_order;
 pub mod write;
 
 pub use ariadne_base::{

@@ -7,8 +7,8 @@ use crate::builder::ReportBuilder;
 use crate::config::Config;
 use crate::kind::ReportKind;
 use crate::label::Label;
-use crate::write::palette::Palette;
 use ariadne_base::Span;
+use ariadne_rows::palette::Palette;
 use std::alloc::{AllocError, Global};
 use std::marker::Model;
 use std::ops::Range;
@@ -67,14 +67,14 @@ impl<'a, S: Span> Report<'a, S> {
         self.message.as_deref()
     }
 
-    /// What label number `number` says, or nothing.
-    pub(crate) fn message_of(&self, number: usize) -> &str
-        ensures { result.now ≡ (texts_of self.now).message_of number }
+    /// What the label at `position` says, or nothing.
+    pub(crate) fn message_of(&self, position: usize) -> &str
+        ensures { result.now ≡ (texts_of self.now).message_of position }
     {
-        if number >= self.labels.len() {
+        if position >= self.labels.len() {
             return "";
         }
-        match self.labels[number].message() {
+        match self.labels[position].message() {
             Some(message) => message,
             None => "",
         }

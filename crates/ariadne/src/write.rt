@@ -6,17 +6,8 @@ ghost use Rattle.ariadne.specs.Written.{is_drawable as drawable_over, is_label_d
 ghost use Rattle.ariadne.specs.Written.{drawn, only_source, picture, reasons, Written};
 
 pub(crate) mod accept;
-pub(crate) mod area;
 pub(crate) mod drawing;
-pub(crate) mod headers;
-pub(crate) mod ink;
-pub(crate) mod layout;
-pub(crate) mod margin;
-pub(crate) mod order;
-pub(crate) mod palette;
-pub(crate) mod pen;
 pub(crate) mod send;
-pub(crate) mod shown;
 
 use crate::report::Report;
 use accept::accept;

@@ -13,4 +13,4 @@ mod VariedPictures
 mod VariedColorPictures
 pub mod Readings
 mod WrongPictures
-mod OddWorld
+mod OddReports

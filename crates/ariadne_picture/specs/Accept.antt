@@ -37,7 +37,7 @@ attach_offset End start end = last_offset start end
 
 -- ---- one label
 
--- label number k over the characters from start to end of the lines ls
+-- the label at position k over the characters from start to end of the lines ls
 unfoldable pub info_of : {S : Type 0} → LabelAttach → List (List ℕ) → ℕ → LabelFields S → ℕ → ℕ
     → LabelInfo
 info_of attach ls k label start end =
@@ -64,7 +64,7 @@ within attach ls k label (Some start) (Some end) = Accepted (info_of attach ls k
 within attach ls k label (Some start) None = CutsCharacter
 within attach ls k label None end = CutsCharacter
 
--- what becomes of label number k, from start to end, whose source is held
+-- what becomes of the label at position k, from start to end, whose source is held
 unfoldable pub verdict : {S : Type 0} → ConfigFields → Listing → ℕ → LabelFields S → ℕ → ℕ → Verdict
 verdict config source k label start end =
     let text = chars source.text in
@@ -96,7 +96,7 @@ drawn_label w config k label None =
     let source = w.source_of (w.id_of label.span) in
     option_to_list (option_and_then (λ s. accepted_info (verdict_in w config k label s)) source)
 
--- the labels that have no reason beside them, from number k on
+-- the labels that have no reason beside them; the first is at position k
 unfoldable pub drawn_labels : {S Id R : Type 0} → World S Id → ConfigFields → ℕ
     → List (LabelFields S) → List (Option R) → List LabelInfo
 drawn_labels w config k [] reasons = []

@@ -29,7 +29,7 @@ pub record IsMarginLabel (s : Sheet) (l : ℕ) (side : Side) (i : ℕ) : Type 0 
   pub same_side : label.side ≡ side
   pub same_gutter_column : label.gutter_column ≡ i
 
--- the start, or the end, of gutter label i is line label number n of line l
+-- the start, or the end, of gutter label i is the line label of rank n of line l
 pub record IsLineLabel (s : Sheet) (l : ℕ) (side : Side) (i n : ℕ) : Type 0 where
   pub label : LineLabel
   pub there : slice_get (line_labels s l) n ≡ Some label
@@ -44,22 +44,22 @@ pub record BarBesideLine (s : Sheet) (i : ℕ) (a : LabelInfo) (l : ℕ) : Type 
   pub not_at_margin : is_at_margin s l i ≡ false
   pub not_its_start : a.start_line ≢ l
 
--- beside a row of line label number r of line l: `IsAbove e` says that the row stands above the
--- arrow row of number e
+-- beside a row of the line label of rank r of line l: `IsAbove e` says that the row stands above
+-- the arrow row of rank e
 pub data BarBesideLabel (s : Sheet) (i : ℕ) (a : LabelInfo) (l r : ℕ)
     (IsAbove : ℕ → Type 0) : Type 0 where
   -- gutter label i, which is a, starts on an earlier line and ends on a later one
   passes : a.start_line < l → l < a.end_line → BarBesideLabel s i a l r IsAbove
   -- it starts on this line as the margin label
   leaves_margin : a.start_line ≡ l → IsMarginLabel s l Starts i → BarBesideLabel s i a l r IsAbove
-  -- it starts on this line as a line label of a lower number
+  -- it starts on this line as a line label of a lower rank
   started_above : (n : ℕ) → a.start_line ≡ l → IsLineLabel s l Starts i n → n < r
       → BarBesideLabel s i a l r IsAbove
   -- it ends on this line as a line label whose arrow row is below
   ends_below : (e : ℕ) → a.end_line ≡ l → IsLineLabel s l Ends i e → IsAbove e
       → BarBesideLabel s i a l r IsAbove
 
--- the alternate row of number r stands above the arrow row of that number; that one itself doesn't
+-- the alternate row of rank r stands above the arrow row of that rank; that one itself doesn't
 abbrev pub BarBesideAlternate : Sheet → ℕ → LabelInfo → ℕ → ℕ → Type 0
 BarBesideAlternate s i a l r = BarBesideLabel s i a l r (λ e. r ≤ e)
 

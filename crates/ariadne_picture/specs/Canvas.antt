@@ -117,7 +117,7 @@ texts_of r = record {
 }
 
 module _ {S Id : Type 0} (w : World S Id) (r : ReportFields S) where
-  -- label number k
+  -- the id of the label at position k
   unfoldable pub label_id : ℕ → Option Id
   label_id k = option_map (λ label. w.id_of label.span) (slice_get r.labels k)
 

@@ -79,7 +79,7 @@ ink_of first rest a = ink first (paint_of a) rest (paint_of a)
 
 -- ---- the text area
 
--- place k of alternate row number r: by the vertical and the underline that are seen there
+-- place k of the alternate row of rank r: by the vertical and the underline that are seen there
 unfoldable pub alternate_ink : Switches → ℕ → Option LineLabel → Option LineLabel → Ink
 alternate_ink switches r (Some v) (Some u) = ink_of Underbar Underline v.info
 alternate_ink switches r (Some v) None =
@@ -95,7 +95,7 @@ corner_glyph Inline = Lbot
 corner_glyph Ends = Mbot
 corner_glyph Starts = Rbot
 
--- a place of the arrow row of label x, number r: whether its corner and its horizontal are there,
+-- a place of the arrow row of label x, of rank r: whether its corner and its horizontal are there,
 -- and the vertical that is seen there
 unfoldable pub arrow_ink : Switches → ℕ → LineLabel → Bool → Bool → Option LineLabel → Ink
 arrow_ink switches r x true horizontal vertical = ink_of (corner_glyph x.side) Hbar x.info
@@ -108,7 +108,7 @@ arrow_ink switches r x false false (Some v) =
 arrow_ink switches r x false true None = ink_of Hbar Hbar x.info
 arrow_ink switches r x false false None = blanks
 
--- place k of the alternate row of label number r, and of its arrow row, where that label is x
+-- place k of the alternate row of rank r, and of its arrow row, where that label is x
 unfoldable pub alternate_place : Switches → Layout → ℕ → ℕ → Ink
 alternate_place switches y r k =
     alternate_ink switches r (vertical_at y r k) (underline_at switches y r k)

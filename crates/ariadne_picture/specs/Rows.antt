@@ -21,7 +21,7 @@ pub data Row : Type 0 where
   -- the group header, and the row below it
   group_header : Row
   spacer : Row
-  -- line l; the two rows of its line label number r; the two rows in place of hidden lines from l
+  -- line l; the two rows of its line label of rank r; the two rows in place of hidden lines from l
   -- on
   source : ℕ → Row
   alternate : ℕ → ℕ → Row
@@ -88,7 +88,7 @@ before a b =
 
 -- ---- which rows there are
 
--- the rows of line label number r
+-- the rows of the line label of rank r
 unfoldable pub label_rows : Bool → ℕ → ℕ × LineLabel → List Row
 label_rows compact l e =
     if e.1.info.has_message then (if compact then [] else alternate l e.0 ∷ []) ++ arrow l e.0 ∷ []

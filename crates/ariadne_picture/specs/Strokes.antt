@@ -22,7 +22,7 @@ use Rattle.ariadne_picture.specs.Rows.{Row, source, arrow, before}
 unfoldable pub has_vertical : Option LineLabel → ℕ → LineLabel → Bool
 has_vertical margin k x = x.info.has_message && not (is_margin margin x) && (x.place == k)
 
--- so at place k of the rows of number r it is the first from number r on that is seen
+-- so at place k of the rows of rank r it is the first from rank r on that is seen
 unfoldable pub vertical_at : Layout → ℕ → ℕ → Option LineLabel
 vertical_at y r k = find (has_vertical y.margin k) (drop r y.labels)
 
@@ -46,7 +46,7 @@ is_preferred a b =
     int_lt b.priority a.priority ||
     (not (int_lt a.priority b.priority) && nat_lt (span_len a) (span_len b))
 
--- the number of the alternate row that has the underlines
+-- the rank of the alternate row that has the underlines
 abbrev pub underline_row : ℕ
 underline_row = 0
 
@@ -54,7 +54,7 @@ underline_row = 0
 unfoldable pub underlines_at : Layout → ℕ → List LineLabel
 underlines_at y k = filter (λ x. is_inline x.side && holds x.info (y.offset + k)) y.labels
 
--- the underline that is seen at place k of alternate row number r
+-- the underline that is seen at place k of the alternate row of rank r
 unfoldable pub underline_at : Switches → Layout → ℕ → ℕ → Option LineLabel
 underline_at switches y r k =
     if switches.underlines && (r == underline_row)
@@ -71,19 +71,19 @@ is_at_margin s l i = is_of_gutter_label (margin_label s l) i
 unfoldable pub is_end_of_gutter_label : (Side → Bool) → ℕ → LineLabel → Bool
 is_end_of_gutter_label is_side i x = is_side x.side && (x.gutter_column == i)
 
--- the number that its start, or its end, has among the line labels of line l
-unfoldable pub number_at : Sheet → (Side → Bool) → ℕ → ℕ → ℕ
-number_at s is_side l i = position_or_len (is_end_of_gutter_label is_side i) (line_labels s l)
+-- the rank that its start, or its end, has among the line labels of line l
+unfoldable pub rank_at : Sheet → (Side → Bool) → ℕ → ℕ → ℕ
+rank_at s is_side l i = position_or_len (is_end_of_gutter_label is_side i) (line_labels s l)
 
 -- the row of its head
 unfoldable pub first_row : Sheet → ℕ → LabelInfo → Row
 first_row s i a =
     if is_at_margin s a.start_line i then source a.start_line
-    else arrow a.start_line (number_at s is_start a.start_line i)
+    else arrow a.start_line (rank_at s is_start a.start_line i)
 
 -- the row of its corner and its message
 unfoldable pub last_row : Sheet → ℕ → LabelInfo → Row
-last_row s i a = arrow a.end_line (number_at s is_end a.end_line i)
+last_row s i a = arrow a.end_line (rank_at s is_end a.end_line i)
 
 -- its tee stands on the source row where it ends as the margin label
 unfoldable pub has_tee : Sheet → LabelInfo → ℕ → Row → Bool

@@ -50,15 +50,15 @@ pub(crate) fn accept(report: &Report<'_>, source: &Source<String>) -> Result<Jud
 {
     let mut infos = Vec::with_capacity(report.alloc, report.labels.len())?;
     let mut left_out = Vec::new(report.alloc);
-    for (number, label) in report.labels.iter().enumerate() {
-        match judge(report.config, source, number, label) {
+    for (position, label) in report.labels.iter().enumerate() {
+        match judge(report.config, source, position, label) {
             Verdict::Accepted(info) => infos.push(info)?,
             Verdict::PastSource => left_out.push(LeftOut {
-                label: number,
+                label: position,
                 reason: Reason::PastSource,
             })?,
             Verdict::CutsCharacter => left_out.push(LeftOut {
-                label: number,
+                label: position,
                 reason: Reason::CutsCharacter,
             })?,
         }
@@ -66,17 +66,17 @@ pub(crate) fn accept(report: &Report<'_>, source: &Source<String>) -> Result<Jud
     Ok(Judged { infos, left_out })
 }
 
-/// Judges label number `number` of a report.
+/// Judges the label at `position` of a report.
 ///
 /// The offset one past the end of the source is taken as its end, since a parser that runs out of
 /// input points there.
 pub(crate) fn judge<S: Span, I: SourceText>(
     config: Config,
     source: &Source<I>,
-    number: usize,
+    position: usize,
     label: &Label<S>,
 ) -> Verdict
-    ensures verdict { result ≡ verdict config source.now number label.now
+    ensures verdict { result ≡ verdict config source.now position label.now
         (S.start_of label.now.span) (S.end_of label.now.span) }
     ensures forward { S.start_of label.now.span ≤ S.end_of label.now.span }
 {
@@ -87,28 +87,28 @@ pub(crate) fn judge<S: Span, I: SourceText>(
     if start > len || end.saturating_sub(len) > 1 {
         return Verdict::PastSource;
     }
-    Verdict::Accepted(label_info(attach, source, number, label, start, end.min(len)))
+    Verdict::Accepted(label_info(attach, source, position, label, start, end.min(len)))
 }
 
 /// A label over characters that the source has.
 fn label_info<S: Span, I: SourceText>(
     attach: LabelAttach,
     source: &Source<I>,
-    number: usize,
+    position: usize,
     label: &Label<S>,
     start: usize,
     end: usize,
 ) -> LabelInfo
     requires forward { start ≤ end }
     requires ends_within { end ≤ length (chars source.now.text) }
-    ensures { result ≡ info_of attach (listed_lines source.now) number label.now start end }
+    ensures { result ≡ info_of attach (listed_lines source.now) position label.now start end }
 {
     let last = end.saturating_sub(1).max(start);
     let (line, start_line, start_place) = source.get_offset_line(start).unwrap();
     let (_, end_line, end_place) = source.get_offset_line(last).unwrap();
     let attached = attach_offset(attach, start, end);
     LabelInfo {
-        position: number,
+        position,
         start,
         end,
         start_line,

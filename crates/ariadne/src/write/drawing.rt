@@ -19,8 +19,9 @@ ghost use Rattle.ariadne_base.specs.Locations.{line_offset, line_text};
 ghost use Rattle.ariadne_picture.specs.Canvas.{texts_of};
 ghost use Rattle.ariadne_picture.specs.Columns.{arrow_len};
 ghost use Rattle.ariadne_picture.specs.Groups.{printed_number};
-ghost use Rattle.ariadne.specs.Headers.{location_numbers};
-ghost use Rattle.ariadne.specs.OneLine.{group_bytes, inline_layout, label_bytes, line_bytes};
+ghost use Rattle.ariadne_rows.specs.Headers.{location_numbers};
+ghost use Rattle.ariadne.specs.OneLine.{group_bytes, label_bytes, line_bytes};
+ghost use Rattle.ariadne_rows.specs.InlineLayout.{inline_layout};
 ghost use Rattle.ariadne.specs.OneLine.{only_layout, only_number_width, only_section};
 ghost use Rattle.ariadne_picture.specs.Pieces.{message_pieces, location_text};
 ghost use Rattle.ariadne_picture.specs.Print.{pieces_bytes};
@@ -28,18 +29,18 @@ ghost use Rattle.ariadne_picture.specs.Report.{switches_of};
 ghost use Rattle.ariadne.specs.Written.{drawable_line, drawn, is_drawable, only_source, own_offset};
 ghost use Rattle.ariadne.specs.Written.{picture};
 
-use super::area::{push_alternate_area, push_arrow_area};
-use super::headers::{push_group_header, push_header, push_spacer, push_tail};
-use super::layout::LineLayout;
-use super::margin::{decimal_len, push_line_margin, push_margin};
-use super::order::ordered;
-use super::palette::Palette;
-use super::shown::push_shown;
 use crate::report::Report;
 use ariadne_base::{Source, Span};
 use ariadne_picture::cell::Glyph;
 use ariadne_picture::label_info::{LabelInfo, LineLabel, Side};
 use ariadne_picture::switches::Switches;
+use ariadne_rows::area::{push_alternate_area, push_arrow_area};
+use ariadne_rows::headers::{push_group_header, push_header, push_spacer, push_tail};
+use ariadne_rows::layout::LineLayout;
+use ariadne_rows::margin::{decimal_len, push_line_margin, push_margin};
+use ariadne_rows::order::ordered;
+use ariadne_rows::palette::Palette;
+use ariadne_rows::shown::push_shown;
 use std::alloc::AllocError;
 
 /// How a line is numbered.

@@ -20,7 +20,7 @@ use Rattle.ariadne_picture.specs.Groups.{group_start_line, group_end_line, group
 use Rattle.ariadne_picture.specs.Ranks.{Sheet, is_inline, is_on_one_line, multi_line_labels, gutter_labels, margin_label, is_of_gutter_label, line_labels, is_hidden, is_end, is_start}
 use Rattle.ariadne_picture.specs.Rows.{Row, Aside, help, note, group_header, spacer, source, alternate, arrow, gap, bare, blank, piece, tail, is_inside, label_rows, line_rows, aside_rows, asides, rows, row_part, row_line, row_step}
 use Rattle.ariadne_picture.specs.Columns.{layout_of}
-use Rattle.ariadne_picture.specs.Strokes.{is_at_margin, first_row, last_row, has_tee, bar_at, number_at}
+use Rattle.ariadne_picture.specs.Strokes.{is_at_margin, first_row, last_row, has_tee, bar_at, rank_at}
 use Rattle.ariadne_picture.specs.Cells.{glyph_code, margin_glyph, margin_ink, beside_ink, below_ink, turn_ink, column_ink, alternate_place, ink_of, blanks}
 use Rattle.ariadne_picture.specs.Pieces.{Piece, Texts, Section, stroke, glyph_text, shown_pieces, margin_pieces, gutter_pieces, gutter_len, aside_pieces, rest_pieces, row_pieces, margin_text, margin_paint, area_pieces, spaces, blank_piece}
 use Rattle.ariadne_picture.specs.Canvas.{Cell, Palette, cell_of}
@@ -276,7 +276,7 @@ module _ (p : Palette) (t : Texts) (w : ℕ) (header : List Cell) (ss : List Sec
           let k = rows_above p t w header ss g s a.start_line line in
           let is = source-row-is p t w header ss g s a.start_line line in (
             k,
-            subst (IsRow t ss g s k) (sym (cond-true (is_of_gutter_label (margin_label s.sheet a.start_line) i) (source a.start_line) (arrow a.start_line (Rattle.ariadne_picture.specs.Strokes.number_at s.sheet Rattle.ariadne_picture.specs.Ranks.is_start a.start_line i)) at)) is,
+            subst (IsRow t ss g s k) (sym (cond-true (is_of_gutter_label (margin_label s.sheet a.start_line) i) (source a.start_line) (arrow a.start_line (Rattle.ariadne_picture.specs.Strokes.rank_at s.sheet Rattle.ariadne_picture.specs.Ranks.is_start a.start_line i)) at)) is,
             first-at-margin t ss d g s i a e owned at ∙ number-of-row t ss g s k (source a.start_line) is,
           )
       | inr off ↦
@@ -426,7 +426,7 @@ module _ (p : Palette) (t : Texts) (w : ℕ) (header : List Cell) (ss : List Sec
       no-bare k l is low high hidden out =
           let here : BarRow l 0 (bare l) = record { part = refl; line = refl; step = refl } in
           let top = precedes-row a.start_line l (first_step s.sheet i a) 0 (first_row s.sheet i a) (bare l) (first-is s.sheet i a) here (in-order g s h.from k (first_row s.sheet i a) (bare l) h.top is low) in
-          let end = precedes-row l a.end_line 0 (2 * number_at s.sheet is_end a.end_line i + 2) (bare l) (last_row s.sheet i a) here (last-is s.sheet i a) (in-order g s k h.to (bare l) (last_row s.sheet i a) is h.foot high) in
+          let end = precedes-row l a.end_line 0 (2 * rank_at s.sheet is_end a.end_line i + 2) (bare l) (last_row s.sheet i a) here (last-is s.sheet i a) (in-order g s k h.to (bare l) (last_row s.sheet i a) is h.foot high) in
           let q = its-message p t w header ss d inside g s i a e owned in
           let label = all-at (Has s.sheet.labels) (gutter_labels s.sheet) i a owned (gutter-labels-owned s.sheet) in
           let source_of = all-at (IsInSource s.sheet.lines) s.sheet.labels label.place a label.there (inside g s e) in

@@ -16,7 +16,7 @@ use Rattle.ariadne_picture.specs.Lists.{joined}
 use Rattle.ariadne_picture.specs.Ranks.{Sheet, is_inline, multi_line_labels, gutter_labels, margin_label, is_of_gutter_label, line_labels, is_hidden}
 use Rattle.ariadne_picture.specs.Rows.{Row, group_header, spacer, source, alternate, arrow, gap, bare, blank, piece, tail}
 use Rattle.ariadne_picture.specs.Columns.{layout_of}
-use Rattle.ariadne_picture.specs.Strokes.{is_at_margin, first_row, last_row, bar_at, number_at}
+use Rattle.ariadne_picture.specs.Strokes.{is_at_margin, first_row, last_row, bar_at, rank_at}
 use Rattle.ariadne_picture.specs.Cells.{glyph_code, margin_ink, beside_ink, below_ink, turn_ink, column_ink, ink_of, alternate_place}
 use Rattle.ariadne_picture.specs.Pieces.{Texts, Section, stroke, spaces, repeated, glyph_text, shown_pieces, margin_pieces, gutter_pieces, gutter_len, column_size, area_pieces, group_header_pieces, spacer_pieces, tail_pieces, aside_pieces, rest_pieces, row_pieces}
 use Rattle.ariadne_picture.specs.Canvas.{Cell, Palette, cell_of}
@@ -230,12 +230,12 @@ module _ (p : Palette) (t : Texts) (w : ℕ) (header : List Cell) (ss : List Sec
           | inl b ↦
               let row = first-at-source s.sheet i a (record { label = q.label; there = ap (margin_label s.sheet) b.1 ∙ q.there; same_side = b.0; same_gutter_column = q.owner }) ∙ ap source b.1 in
               let z : k ≡ h.from = same-place p t w header ss d inside g s k h.from (source l) is (subst (IsRow t ss g s h.from) row h.top) in
-              let up2 = by-order p t w header ss d inside g s k h.to (source l) (last_row s.sheet i a) is h.foot (row-precedes l a.end_line 0 (2 * number_at s.sheet Rattle.ariadne_picture.specs.Ranks.is_end a.end_line i + 2) (source l) (last_row s.sheet i a) (source-row l) (last-is s.sheet i a) (inl (subst (λ l. l < a.end_line) b.1 less))) in
+              let up2 = by-order p t w header ss d inside g s k h.to (source l) (last_row s.sheet i a) is h.foot (row-precedes l a.end_line 0 (2 * rank_at s.sheet Rattle.ariadne_picture.specs.Ranks.is_end a.end_line i + 2) (source l) (last_row s.sheet i a) (source-row l) (last-is s.sheet i a) (inl (subst (λ l. l < a.end_line) b.1 less))) in
               (omega arith, omega arith)
           | inr b ↦
               let is_end_line : IsRow t ss g s k (source a.end_line) = subst (λ l. IsRow t ss g s k (source l)) (sym b.1) is in
               let low = by-order p t w header ss d inside g s h.from k (first_row s.sheet i a) (source a.end_line) h.top is_end_line (row-precedes a.start_line a.end_line (Rattle.ariadne_picture.proofs.Rows.BarCases.first_step s.sheet i a) 0 (first_row s.sheet i a) (source a.end_line) (first-is s.sheet i a) (source-row a.end_line) (inl less)) in
-              let high = by-order p t w header ss d inside g s k h.to (source a.end_line) (last_row s.sheet i a) is_end_line h.foot (row-precedes a.end_line a.end_line 0 (2 * number_at s.sheet Rattle.ariadne_picture.specs.Ranks.is_end a.end_line i + 2) (source a.end_line) (last_row s.sheet i a) (source-row a.end_line) (last-is s.sheet i a) (inr (refl, omega arith))) in
+              let high = by-order p t w header ss d inside g s k h.to (source a.end_line) (last_row s.sheet i a) is_end_line h.foot (row-precedes a.end_line a.end_line 0 (2 * rank_at s.sheet Rattle.ariadne_picture.specs.Ranks.is_end a.end_line i + 2) (source a.end_line) (last_row s.sheet i a) (source-row a.end_line) (last-is s.sheet i a) (inr (refl, omega arith))) in
               (omega arith, omega arith)
         ]
 
@@ -245,7 +245,7 @@ module _ (p : Palette) (t : Texts) (w : ℕ) (header : List Cell) (ss : List Sec
         let lines = gutter-label-lines t ss d g s i a e owned in
         let less : a.start_line < a.end_line = strict-less a.start_line a.end_line lines.1 (two-lines s.sheet i a owned) in
         by-order p t w header ss d inside g s h.from h.to (first_row s.sheet i a) (last_row s.sheet i a) h.top h.foot
-        (row-precedes a.start_line a.end_line (Rattle.ariadne_picture.proofs.Rows.BarCases.first_step s.sheet i a) (2 * number_at s.sheet Rattle.ariadne_picture.specs.Ranks.is_end a.end_line i + 2) (first_row s.sheet i a) (last_row s.sheet i a) (first-is s.sheet i a) (last-is s.sheet i a) (inl less))
+        (row-precedes a.start_line a.end_line (Rattle.ariadne_picture.proofs.Rows.BarCases.first_step s.sheet i a) (2 * rank_at s.sheet Rattle.ariadne_picture.specs.Ranks.is_end a.end_line i + 2) (first_row s.sheet i a) (last_row s.sheet i a) (first-is s.sheet i a) (last-is s.sheet i a) (inl less))
 
     -- outside the cells are free
     outside-free : (k : ℕ) (x : Row) → IsRow t ss g s k x → IsName s.sheet x → guard s (row_number t ss g s x) ≡ true → (k < h.from) ⊎ (h.to < k)

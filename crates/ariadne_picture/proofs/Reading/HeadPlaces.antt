@@ -9,7 +9,7 @@ use Rattle.ariadne_picture.specs.Bars.{EndsNoEarlier}
 use Rattle.ariadne_picture.specs.Groups.{group_start_line, group_end_line}
 use Rattle.ariadne_picture.specs.Ranks.{is_start, is_of_gutter_label, margin_label, gutter_labels, line_labels}
 use Rattle.ariadne_picture.specs.Rows.{source, arrow}
-use Rattle.ariadne_picture.specs.Strokes.{is_at_margin, number_at}
+use Rattle.ariadne_picture.specs.Strokes.{is_at_margin, rank_at}
 use Rattle.ariadne_picture.specs.Pieces.{Texts, Section}
 use Rattle.ariadne_picture.proofs.Rows.BarCases.{numbered-start}
 use Rattle.ariadne_picture.proofs.Lists.Elements.{Has, has-filter, has-map, all-numbered, first-has, both-true}
@@ -120,7 +120,7 @@ module _ (t : Texts) (ss : List Section) (d : AreDrawn t ss) (g : ℕ) (s : Sect
   unfolding is_at_margin first_row is_start
   head-place off =
       let h = numbered-start s.sheet i a owned off in
-      let n = number_at s.sheet is_start a.start_line i in
+      let n = rank_at s.sheet is_start a.start_line i in
       let passes : starts_gutter_label i h.label ≡ true = both-true (is_start h.label.side) (h.label.gutter_column == i) (ap is_start h.same_side) (eq-eqb h.label.gutter_column i h.same_gutter_column) in
       let found = has-head a.start_line n h.label h.there passes in
       head-from off (slice_index_or (rows_of_labels t ss g s (starts_gutter_label i) a.start_line) 0 0)

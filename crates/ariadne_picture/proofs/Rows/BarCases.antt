@@ -12,7 +12,7 @@ use Rattle.ariadne_picture.specs.declared.label_info.Side.TheVariants.{Inline, S
 use Rattle.ariadne_picture.specs.Ranks.{Sheet, is_start, is_end, gutter_labels, margin_label, is_of_gutter_label, line_labels, is_hidden}
 use Rattle.ariadne_picture.specs.Rows.{Row, group_header, spacer, source, alternate, arrow, gap, bare, blank, piece, tail, help, note, aside_part}
 use Rattle.ariadne_picture.specs.Rows.{row_part, row_line, row_step, before}
-use Rattle.ariadne_picture.specs.Strokes.{is_at_margin, is_end_of_gutter_label, number_at, first_row, last_row, has_tee, has_bar, bar_at}
+use Rattle.ariadne_picture.specs.Strokes.{is_at_margin, is_end_of_gutter_label, rank_at, first_row, last_row, has_tee, has_bar, bar_at}
 use Rattle.ariadne_picture.specs.Bars.{IsGutterLabel, IsOfLine, IsMarginLabel, IsLineLabel, BarBesideLine, BarBesideLabel, BarBesideAlternate}
 use Rattle.ariadne_picture.specs.Bars.{BarBesideArrow, passes, leaves_margin, started_above, ends_below}
 use Rattle.ariadne_picture.proofs.Lists.Occurrences.{PassesAt, first-passes, only-passes}
@@ -90,14 +90,14 @@ row-precedes l m j k x y a b (inr h) =
 
 -- the step of a gutter label's first row
 pub first_step : Sheet → ℕ → LabelInfo → ℕ
-first_step s i a = cond (is_at_margin s a.start_line i) 0 (2 * number_at s is_start a.start_line i + 2)
+first_step s i a = cond (is_at_margin s a.start_line i) 0 (2 * rank_at s is_start a.start_line i + 2)
 
 -- the first row is on the start line
 pub first-is : (s : Sheet) (i : ℕ) (a : LabelInfo) → IsRow a.start_line (first_step s i a) (first_row s i a)
 unfolding first_row first_step
 first-is s i a = elim (cases_Bool (is_at_margin s a.start_line i)) [
   | inl t ↦ rw t (source-row a.start_line)
-  | inr f ↦ rw f (arrow-row a.start_line (number_at s is_start a.start_line i))
+  | inr f ↦ rw f (arrow-row a.start_line (rank_at s is_start a.start_line i))
 ]
 
 -- its step is 0 where the gutter label is the margin label
@@ -107,14 +107,14 @@ first-at-margin s i a t = rw t
 
 -- and that of its arrow row where it is a line label
 pub first-at-label : (s : Sheet) (i : ℕ) (a : LabelInfo) → is_at_margin s a.start_line i ≡ false
-    → first_step s i a ≡ 2 * number_at s is_start a.start_line i + 2
+    → first_step s i a ≡ 2 * rank_at s is_start a.start_line i + 2
 unfolding first_step
 first-at-label s i a f = rw f
 
 -- the last row is an arrow row of the end line
-pub last-is : (s : Sheet) (i : ℕ) (a : LabelInfo) → IsRow a.end_line (2 * number_at s is_end a.end_line i + 2) (last_row s i a)
+pub last-is : (s : Sheet) (i : ℕ) (a : LabelInfo) → IsRow a.end_line (2 * rank_at s is_end a.end_line i + 2) (last_row s i a)
 unfolding last_row
-last-is s i a = arrow-row a.end_line (number_at s is_end a.end_line i)
+last-is s i a = arrow-row a.end_line (rank_at s is_end a.end_line i)
 
 -- ---- numbers of starts and ends
 
@@ -162,30 +162,30 @@ passes-label is_side side s l i n f h =
     record { label = h.item; there = h.there; same_side = f h.item.side parts.0; same_gutter_column = eqb-true h.item.gutter_column i parts.1 }
 
 -- the number of a start among the line labels is that of its place, and so is that of an end
-pub start-number : (s : Sheet) (l i n : ℕ) → IsLineLabel s l Starts i n → number_at s is_start l i ≡ n
-unfolding number_at
+pub start-number : (s : Sheet) (l i n : ℕ) → IsLineLabel s l Starts i n → rank_at s is_start l i ≡ n
+unfolding rank_at
 start-number s l i n h =
     only-passes (is_end_of_gutter_label is_start i) (line_labels s l) n (label-passes is_start Starts s l i n side-starts h)
     (labels-once is_start starting s l i)
 
 -- the number of an end is that of its place
-pub end-number : (s : Sheet) (l i n : ℕ) → IsLineLabel s l Ends i n → number_at s is_end l i ≡ n
-unfolding number_at
+pub end-number : (s : Sheet) (l i n : ℕ) → IsLineLabel s l Ends i n → rank_at s is_end l i ≡ n
+unfolding rank_at
 end-number s l i n h =
     only-passes (is_end_of_gutter_label is_end i) (line_labels s l) n (label-passes is_end Ends s l i n side-ends h) (labels-once is_end ending s l i)
 
 -- a gutter label that starts at a line, not as its margin label, is the line label of its number there
 pub numbered-start : (s : Sheet) (i : ℕ) (a : LabelInfo) → slice_get (gutter_labels s) i ≡ Some a → is_at_margin s a.start_line i ≡ false
-    → IsLineLabel s a.start_line Starts i (number_at s is_start a.start_line i)
-unfolding number_at
+    → IsLineLabel s a.start_line Starts i (rank_at s is_start a.start_line i)
+unfolding rank_at
 numbered-start s i a e off =
     passes-label is_start Starts s a.start_line i (position_or_len (is_end_of_gutter_label is_start i) (line_labels s a.start_line)) start-side
     (first-passes (is_end_of_gutter_label is_start i) (line_labels s a.start_line) (start-label s i a e off))
 
 -- a gutter label that ends at a line is the line label of its number there
 pub numbered-end : (s : Sheet) (i : ℕ) (a : LabelInfo) → slice_get (gutter_labels s) i ≡ Some a
-    → IsLineLabel s a.end_line Ends i (number_at s is_end a.end_line i)
-unfolding number_at
+    → IsLineLabel s a.end_line Ends i (rank_at s is_end a.end_line i)
+unfolding rank_at
 numbered-end s i a e =
     passes-label is_end Ends s a.end_line i (position_or_len (is_end_of_gutter_label is_end i) (line_labels s a.end_line)) end-side
     (first-passes (is_end_of_gutter_label is_end i) (line_labels s a.end_line) (end-label s i a e))
@@ -263,12 +263,12 @@ module _ (s : Sheet) (i : ℕ) (a : LabelInfo) (m : IsGutterLabel s i a) where
       ]
 
   -- the end where the bar comes from above
-  pub case-end : (l r k : ℕ) (IsAbove : ℕ → Type 0) → IsBeside r k IsAbove → a.end_line ≡ l → k < 2 * number_at s is_end a.end_line i + 2
+  pub case-end : (l r k : ℕ) (IsAbove : ℕ → Type 0) → IsBeside r k IsAbove → a.end_line ≡ l → k < 2 * rank_at s is_end a.end_line i + 2
       → BarBesideLabel s i a l r IsAbove
   case-end l r k IsAbove b e h =
-      ends_below (number_at s is_end a.end_line i) e
-      (subst (λ n. IsLineLabel s n Ends i (number_at s is_end a.end_line i)) e (numbered-end s i a m.owned))
-      (b.to (number_at s is_end a.end_line i) h)
+      ends_below (rank_at s is_end a.end_line i) e
+      (subst (λ n. IsLineLabel s n Ends i (rank_at s is_end a.end_line i)) e (numbered-end s i a m.owned))
+      (b.to (rank_at s is_end a.end_line i) h)
 
   -- the start where the bar goes on below
   pub case-start : (l r k : ℕ) (IsAbove : ℕ → Type 0) → IsBeside r k IsAbove → a.start_line ≡ l → first_step s i a < k
@@ -276,7 +276,7 @@ module _ (s : Sheet) (i : ℕ) (a : LabelInfo) (m : IsGutterLabel s i a) where
   case-start l r k IsAbove b e h = elim (cases_Bool (is_at_margin s a.start_line i)) [
     | inl t ↦ leaves_margin e (starts-margin l e (subst (λ n. is_at_margin s n i ≡ true) e t))
     | inr f ↦
-        let n : ℕ = number_at s is_start a.start_line i in
+        let n : ℕ = rank_at s is_start a.start_line i in
         let step : first_step s i a ≡ 2 * n + 2 = first-at-label s i a f in
         let high = b.high in
         started_above n e (subst (λ q. IsLineLabel s q Starts i n) e (numbered-start s i a m.owned f)) (omega arith)
@@ -287,7 +287,7 @@ module _ (s : Sheet) (i : ℕ) (a : LabelInfo) (m : IsGutterLabel s i a) where
       → BarBesideLabel s i a l r IsAbove
   bar-case l r k x IsAbove row b h =
       let bar : Between s x i a = bar-between s x i a m.owned h in
-      let last = precedes-row l a.end_line k (2 * number_at s is_end a.end_line i + 2) x (last_row s i a) row (last-is s i a) bar.until in
+      let last = precedes-row l a.end_line k (2 * rank_at s is_end a.end_line i + 2) x (last_row s i a) row (last-is s i a) bar.until in
       elim (precedes-row a.start_line l (first_step s i a) k (first_row s i a) x (first-is s i a) row bar.after) [
         | inr p ↦ case-start l r k IsAbove b p.0 p.1
         | inl p ↦ elim last [
@@ -302,17 +302,17 @@ module _ (s : Sheet) (i : ℕ) (a : LabelInfo) (m : IsGutterLabel s i a) where
     | inl t ↦ let step = first-at-margin s i a t in omega arith
     | inr f ↦
         let step = first-at-label s i a f in
-        let number : number_at s is_start a.start_line i ≡ n = ap (λ q. number_at s is_start q i) e ∙ start-number s l i n h in
+        let number : rank_at s is_start a.start_line i ≡ n = ap (λ q. rank_at s is_start q i) e ∙ start-number s l i n h in
         omega arith
   ]
 
   -- in each of the cases the bar stands
   pub case-between : (l r k : ℕ) (x : Row) (IsAbove : ℕ → Type 0) → IsRow l k x → IsBeside r k IsAbove → has_tee s a i x ≡ false
       → (a.start_line < l) ⊎ ((a.start_line ≡ l) × (first_step s i a < k)) → (l < a.end_line)
-      ⊎ ((l ≡ a.end_line) × (k < 2 * number_at s is_end a.end_line i + 2)) → Between s x i a
+      ⊎ ((l ≡ a.end_line) × (k < 2 * rank_at s is_end a.end_line i + 2)) → Between s x i a
   case-between l r k x IsAbove row b tee h j = record {
     after = row-precedes a.start_line l (first_step s i a) k (first_row s i a) x (first-is s i a) row h;
-    until = row-precedes l a.end_line k (2 * number_at s is_end a.end_line i + 2) x (last_row s i a) row (last-is s i a) j;
+    until = row-precedes l a.end_line k (2 * rank_at s is_end a.end_line i + 2) x (last_row s i a) row (last-is s i a) j;
     no_tee = tee;
   }
 
@@ -328,7 +328,7 @@ module _ (s : Sheet) (i : ℕ) (a : LabelInfo) (m : IsGutterLabel s i a) where
   case-bar l r k x IsAbove row b tee (started_above n e h less) =
       between-bar s x i a m.owned (case-between l r k x IsAbove row b tee (inr (e, started-step l r n k e h less b.low)) (inl (goes-on l e)))
   case-bar l r k x IsAbove row b tee (ends_below n e h above) =
-      let number : number_at s is_end a.end_line i ≡ n = ap (λ q. number_at s is_end q i) e ∙ end-number s l i n h in
+      let number : rank_at s is_end a.end_line i ≡ n = ap (λ q. rank_at s is_end q i) e ∙ end-number s l i n h in
       let up = b.from n above in
       between-bar s x i a m.owned (case-between l r k x IsAbove row b tee (inl (ends-in l e)) (inr (sym e, omega arith)))
 
@@ -367,7 +367,7 @@ module _ (s : Sheet) (i : ℕ) (a : LabelInfo) (m : IsGutterLabel s i a) where
   -- the first row stands before the last
   pub first-before-last : IsBefore (first_row s i a) (last_row s i a)
   first-before-last =
-      row-precedes a.start_line a.end_line (first_step s i a) (2 * number_at s is_end a.end_line i + 2) (first_row s i a) (last_row s i a)
+      row-precedes a.start_line a.end_line (first_step s i a) (2 * rank_at s is_end a.end_line i + 2) (first_row s i a) (last_row s i a)
       (first-is s i a) (last-is s i a) (inl rises)
 
   -- ---- source and gap rows
@@ -376,7 +376,7 @@ module _ (s : Sheet) (i : ℕ) (a : LabelInfo) (m : IsGutterLabel s i a) where
   pub between-lines : (l : ℕ) (x : Row) → IsRow l 0 x → Between s x i a → (a.start_line < l) × (l ≤ a.end_line)
   between-lines l x row b =
       let first = precedes-row a.start_line l (first_step s i a) 0 (first_row s i a) x (first-is s i a) row b.after in
-      let last = precedes-row l a.end_line 0 (2 * number_at s is_end a.end_line i + 2) x (last_row s i a) row (last-is s i a) b.until in (
+      let last = precedes-row l a.end_line 0 (2 * rank_at s is_end a.end_line i + 2) x (last_row s i a) row (last-is s i a) b.until in (
         elim first [ inl h ↦ h | inr h ↦ let none = h.1 in absurd (omega arith) ],
         elim last [ inl h ↦ omega arith | inr h ↦ let same = h.0 in omega arith ],
       )
@@ -386,7 +386,7 @@ module _ (s : Sheet) (i : ℕ) (a : LabelInfo) (m : IsGutterLabel s i a) where
   lines-between l x row tee h j = record {
     after = row-precedes a.start_line l (first_step s i a) 0 (first_row s i a) x (first-is s i a) row (inl h);
     until =
-        row-precedes l a.end_line 0 (2 * number_at s is_end a.end_line i + 2) x (last_row s i a) row (last-is s i a)
+        row-precedes l a.end_line 0 (2 * rank_at s is_end a.end_line i + 2) x (last_row s i a) row (last-is s i a)
         (elim (Rattle.std.proofs.lemmas.Bool.cases_eq l a.end_line) [ inl e ↦ inr (e, omega arith) | inr n ↦ inl (omega arith) ]);
     no_tee = tee;
   }

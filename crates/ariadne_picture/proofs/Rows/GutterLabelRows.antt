@@ -10,7 +10,7 @@ use Rattle.ariadne_picture.specs.declared.label_info.Side.TheVariants.{Inline, S
 use Rattle.ariadne_picture.specs.Ranks.{Sheet, is_inline, is_start, is_on_one_line, gutter_labels, ends_at, margin_label, is_of_gutter_label}
 use Rattle.ariadne_picture.specs.Ranks.{is_margin, inline_labels, is_before, line_labels}
 use Rattle.ariadne_picture.specs.Rows.{source, arrow}
-use Rattle.ariadne_picture.specs.Strokes.{is_at_margin, number_at, first_row, last_row}
+use Rattle.ariadne_picture.specs.Strokes.{is_at_margin, rank_at, first_row, last_row}
 use Rattle.ariadne_picture.specs.Bars.{IsGutterLabel, IsMarginLabel, IsLineLabel}
 use Rattle.ariadne_picture.proofs.Lists.ListFacts.{all-append, all-weaker, all-kept, all-in_order, all-map, all-every, all-at}
 use Rattle.ariadne_picture.proofs.Labels.LineLabels.{IsEndAt, same-info, line-labels-are}
@@ -50,12 +50,12 @@ pub starts-somewhere : (s : Sheet) (i : ℕ) (a : LabelInfo) → IsGutterLabel s
     ⊎ ((n : ℕ) × IsLineLabel s a.start_line Starts i n)
 starts-somewhere s i a m = elim (cases_Bool (is_at_margin s a.start_line i)) [
   | inl t ↦ inl (starts-margin s i a m a.start_line refl t)
-  | inr f ↦ inr (number_at s is_start a.start_line i, numbered-start s i a m.owned f)
+  | inr f ↦ inr (rank_at s is_start a.start_line i, numbered-start s i a m.owned f)
 ]
 
 -- a gutter label ends as a line label
 pub ends-somewhere : (s : Sheet) (i : ℕ) (a : LabelInfo) → IsGutterLabel s i a → (n : ℕ) × IsLineLabel s a.end_line Ends i n
-ends-somewhere s i a m = (number_at s Rattle.ariadne_picture.specs.Ranks.is_end a.end_line i, numbered-end s i a m.owned)
+ends-somewhere s i a m = (rank_at s Rattle.ariadne_picture.specs.Ranks.is_end a.end_line i, numbered-end s i a m.owned)
 
 -- ---- its first row and its last
 
@@ -63,14 +63,14 @@ ends-somewhere s i a m = (number_at s Rattle.ariadne_picture.specs.Ranks.is_end 
 pub first-at-source : (s : Sheet) (i : ℕ) (a : LabelInfo) → IsMarginLabel s a.start_line Starts i → first_row s i a ≡ source a.start_line
 unfolding first_row
 first-at-source s i a h =
-    cond-true (is_at_margin s a.start_line i) (source a.start_line) (arrow a.start_line (number_at s is_start a.start_line i))
+    cond-true (is_at_margin s a.start_line i) (source a.start_line) (arrow a.start_line (rank_at s is_start a.start_line i))
     (margin-at s a.start_line i Starts h)
 
 -- the first row of a line label is its arrow row
 pub first-at-arrow : (s : Sheet) (i n : ℕ) (a : LabelInfo) → IsLineLabel s a.start_line Starts i n → first_row s i a ≡ arrow a.start_line n
 unfolding first_row
 first-at-arrow s i n a h =
-    cond-false (is_at_margin s a.start_line i) (source a.start_line) (arrow a.start_line (number_at s is_start a.start_line i))
+    cond-false (is_at_margin s a.start_line i) (source a.start_line) (arrow a.start_line (rank_at s is_start a.start_line i))
     (label-off-margin s a.start_line i n h)
     ∙ ap (arrow a.start_line) (start-number s a.start_line i n h)
 

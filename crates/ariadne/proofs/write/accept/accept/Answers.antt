@@ -11,23 +11,23 @@ use Rattle.ariadne.proofs.write.accept.accept.Goals as goal
 use Rattle.ariadne.proofs.write.accept.accept.Goals.{in-Accepted+in_ok-push-in-Accepted, in-PastSource+in_ok-push-in-PastSource}
 use Rattle.ariadne.proofs.write.accept.accept.Goals.{in-CutsCharacter+in_ok-push-in-CutsCharacter}
 
-pub loop-number-init : goal.loop-number-init
-loop-number-init c = record { drawn = rw c.in_ok-infos.ensures.items refl; left_out = rw c.new-left_out.ensures.items refl; forward = tt }
+pub loop-position-init : goal.loop-position-init
+loop-position-init c = record { drawn = rw c.in_ok-infos.ensures.items refl; left_out = rw c.new-left_out.ensures.items refl; forward = tt }
 
-pub loop-number-preserved : goal.loop-number-preserved
+pub loop-position-preserved : goal.loop-position-preserved
 unfolding accepted_info
-loop-number-preserved c =
+loop-position-preserved c =
     let source = c.args.source.now in
     let config = c.args.report.now.config in
-    let n = c.loop-number.number in
+    let n = c.loop-position.position in
     let labels = c.args.report.now.labels in
     let same : c.deref-label-items.result.now ≡ labels = c.deref-label-items.ensures.value
     ∙ ap (λ (r : ReportFields (Range ℕ)). r.labels) c.report.view_is in
-    let here : n < length labels = rw same at c.loop-number-test.true in
+    let here : n < length labels = rw same at c.loop-position-test.true in
     let item : c.label-item.result ≡ get_or labels n c.label-item.result = rw same at c.label-item.is in
     let settings : c.report.inside.config ≡ config = ap (λ (r : ReportFields (Range ℕ)). r.config) c.report.view_is in
     let judged : c.judge.result ≡ verdict_at source config n c.label-item.result = rw settings at c.judge.ensures.verdict in
-    let inv = c.loop-number.invariant in
+    let inv = c.loop-position.invariant in
     let forward = forward_more labels n c.label-item.result here item inv.forward c.judge.ensures.forward in
     elim c.match-judge.branch [
       | in-Accepted+in_ok-push-in-Accepted w ↦ rw (w.infos-is, w.left_out-is, w.in_ok-push-in-Accepted.ensures.items) (record {
@@ -53,8 +53,8 @@ returns-clause-drawn c =
     let labels = c.args.report.now.labels in
     let same : c.deref-label-items.result.now ≡ labels = c.deref-label-items.ensures.value
     ∙ ap (λ (r : ReportFields (Range ℕ)). r.labels) c.report.view_is in
-    drawn_whole c.args.source.now c.args.report.now.config c.loop-number.number labels _ _
-    (rw same at c.loop-number-test.false) c.loop-number.invariant.drawn
+    drawn_whole c.args.source.now c.args.report.now.config c.loop-position.position labels _ _
+    (rw same at c.loop-position-test.false) c.loop-position.invariant.drawn
 
 pub returns-clause-left_out : goal.returns-clause-left_out
 unfolding reasons
@@ -62,12 +62,12 @@ returns-clause-left_out c =
     let labels = c.args.report.now.labels in
     let same : c.deref-label-items.result.now ≡ labels = c.deref-label-items.ensures.value
     ∙ ap (λ (r : ReportFields (Range ℕ)). r.labels) c.report.view_is in
-    listed_whole c.args.source.now c.args.report.now.config c.loop-number.number labels _ _
-    (rw same at c.loop-number-test.false) c.loop-number.invariant.left_out
+    listed_whole c.args.source.now c.args.report.now.config c.loop-position.position labels _ _
+    (rw same at c.loop-position-test.false) c.loop-position.invariant.left_out
 
 pub returns-clause-forward : goal.returns-clause-forward
 returns-clause-forward c =
     let labels = c.args.report.now.labels in
     let same : c.deref-label-items.result.now ≡ labels = c.deref-label-items.ensures.value
     ∙ ap (λ (r : ReportFields (Range ℕ)). r.labels) c.report.view_is in
-    forward_whole labels c.loop-number.number (rw same at c.loop-number-test.false) c.loop-number.invariant.forward
+    forward_whole labels c.loop-position.position (rw same at c.loop-position-test.false) c.loop-position.invariant.forward

@@ -5,11 +5,11 @@ use Rattle.ariadne.proofs.Judging.{drawn_from, reasons_of, IsForward}
 use Rattle.ariadne.proofs.write.accept.accept.Given as goal
 
 -- what was found, and what the labels to come add to it; the spans so far run forward
-abbrev pub invariant-loop-number : goal.invariant-loop-number
-invariant-loop-number l = record {
-  drawn : l.infos.items ++ drawn_from l.source l.report.config l.number (drop l.number l.report.labels)
+abbrev pub invariant-loop-position : goal.invariant-loop-position
+invariant-loop-position l = record {
+  drawn : l.infos.items ++ drawn_from l.source l.report.config l.position (drop l.position l.report.labels)
       ≡ drawn_from l.source l.report.config 0 l.report.labels;
-  left_out : l.left_out.items ++ listed l.number (reasons_of l.source l.report.config (drop l.number l.report.labels)) ≡ listed 0
+  left_out : l.left_out.items ++ listed l.position (reasons_of l.source l.report.config (drop l.position l.report.labels)) ≡ listed 0
       (reasons_of l.source l.report.config l.report.labels);
-  forward : AllByRecursion IsForward (take l.number l.report.labels);
+  forward : AllByRecursion IsForward (take l.position l.report.labels);
 }
