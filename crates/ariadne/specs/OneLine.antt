@@ -1,19 +1,16 @@
 -- The picture of labels that all lie within one and the same line of one source, each with a
 -- message: a single group, whose rows are those of its line. No row has a gutter then, and the
 -- number of rows of the line is told by its labels alone.
-use Rattle.std.specs.Prelude.{ℕ, ◌≡◌, true, if◌then◌else◌, List, [], ◌∷◌, ◌++◌, map, length, None}
+use Rattle.std.specs.Prelude.{ℕ, ◌≡◌, true, if◌then◌else◌, List, [], ◌∷◌, ◌++◌, length}
 use Rattle.std.specs.Prelude.{slice_get, decimal}
 use Rattle.std.specs.List.{AllByRecursion}
 use Rattle.ariadne_base.specs.Locations.{line_offset, line_text, upto}
 use Rattle.ariadne_base.specs.Listing.{listed_lines}
 use Rattle.ariadne_picture.specs.declared.label_info.LabelInfo.{LabelInfo}
-use Rattle.ariadne_picture.specs.declared.label_info.LineLabel.{LineLabel}
-use Rattle.ariadne_picture.specs.declared.label_info.Side.TheVariants.{Inline}
-use Rattle.ariadne_picture.specs.Lists.{in_order, joined}
+use Rattle.ariadne_picture.specs.Lists.{joined}
 use Rattle.ariadne_rows.specs.InlineLayout.{inline_layout}
 use Rattle.ariadne_picture.specs.Report.{ReportFields, World}
 use Rattle.ariadne_picture.specs.Groups.{ordered, printed_number}
-use Rattle.ariadne_picture.specs.Ranks.{is_before}
 use Rattle.ariadne_picture.specs.Rows.{source, alternate, arrow}
 use Rattle.ariadne_picture.specs.Columns.{Layout}
 use Rattle.ariadne_picture.specs.Cells.{alternate_place, arrow_place}

@@ -1,15 +1,26 @@
 -- The tracing promise, clause by clause.
 pub mod RowPlacing
+pub mod Pictures
 pub mod ShownLine
+pub mod TextRows
+pub mod InOrder
 pub mod MessagePlaces
 pub mod HeadPlaces
 pub mod Placed
 pub mod Aligned
 pub mod MessageRows
-pub mod DrawnReports
+pub mod InkCells
+pub mod PlaceCounts
 pub mod InlineTraces
+pub mod GutterInks
+pub mod GutterCells
 pub mod EndTraces
+pub mod RowNames
+pub mod GapMargins
+pub mod GutterSpans
 pub mod GutterBars
+pub mod GutterRows
 pub mod GutterFree
+pub mod DrawnReports
 pub mod EveryReport
 pub mod EveryHeadline

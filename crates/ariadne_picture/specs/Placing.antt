@@ -2,11 +2,11 @@
 -- clause of the tracing promise is a test of the canvas alone: of row numbers, cell texts and
 -- columns, and of what the labels are, but of no row name and no stroke. Rows, cells, lines and
 -- places count from 0.
-use Rattle.std.specs.Prelude.{ℕ, ◌+◌, ◌-◌, ◌*◌, ◌≡◌, Bool, true, not, ◌&&◌, ◌||◌, ◌==◌, nat_eq}
+use Rattle.std.specs.Prelude.{ℕ, ◌+◌, ◌-◌, ◌*◌, Bool, true, not, ◌&&◌, ◌||◌, ◌==◌, nat_eq}
 use Rattle.std.specs.Prelude.{nat_le, nat_lt, if◌then◌else◌, List, [], ◌∷◌, ◌++◌, length, map, take}
 use Rattle.std.specs.Prelude.{drop, filter, None, is_some, slice_index_or, replicate, decimal}
 use Rattle.std.specs.Prelude.{codes}
-use Rattle.std.specs.List.{list_all, list_any, range_with_len, prefix_len, enumerate_from}
+use Rattle.std.specs.List.{list_all, list_any, range_with_len, prefix_len}
 use Rattle.std.specs.Cmp.Lexicographic.{pointwise}
 use Rattle.ariadne_picture.specs.declared.switches.CharSet.{CharSet}
 use Rattle.ariadne_picture.specs.declared.label_info.LabelInfo.{LabelInfo}
@@ -14,7 +14,8 @@ use Rattle.ariadne_picture.specs.declared.label_info.LineLabel.{LineLabel}
 use Rattle.ariadne_picture.specs.declared.cell.Glyph.{Glyph}
 use Rattle.ariadne_picture.specs.declared.cell.Glyph.TheVariants.{Hbar, Vbar, Xbar, VbarGap, Rarrow}
 use Rattle.ariadne_picture.specs.declared.cell.Glyph.TheVariants.{Ltop, Lbot, Rbot, Mbot, Lcross}
-use Rattle.ariadne_picture.specs.Lists.{joined, total}
+use Rattle.ariadne_picture.specs.Lists.{joined, total, all_numbered, any_numbered}
+use Rattle.ariadne_picture.specs.Lists.{joined_numbered}
 use Rattle.ariadne_picture.specs.Groups.{group_lines, printed_number}
 use Rattle.ariadne_picture.specs.Ranks.{gutter_labels, margin_label, is_of_gutter_label}
 use Rattle.ariadne_picture.specs.Ranks.{is_on_one_line, is_inline, is_hidden}
@@ -36,20 +37,6 @@ pub record Placing : Type 0 where
   pub message_row : ℕ → ℕ
   -- the row of the head of gutter label i of group g
   pub head_row : ℕ → ℕ → ℕ
-
--- ---- lists whose elements are numbered from 0
-
--- a test holds of each element with its number
-abbrev pub all_numbered : {X : Type 0} → (ℕ → X → Bool) → List X → Bool
-all_numbered test xs = list_all (λ e. test e.0 e.1) (enumerate_from 0 xs)
-
--- a test holds of an element with its number
-abbrev pub any_numbered : {X : Type 0} → (ℕ → X → Bool) → List X → Bool
-any_numbered test xs = list_any (λ e. test e.0 e.1) (enumerate_from 0 xs)
-
--- the lists that the elements give with their numbers, joined
-abbrev pub joined_numbered : {X Y : Type 0} → (ℕ → X → List Y) → List X → List Y
-joined_numbered f xs = joined (λ e. f e.0 e.1) (enumerate_from 0 xs)
 
 -- the numbers from a to before b
 abbrev pub between : ℕ → ℕ → List ℕ
@@ -265,13 +252,17 @@ module _ (canvas : List (List Cell)) (sections : List Section) (p : Placing) whe
       list_any (λ a. p.message_row a.position == n) ended
       || (length (row_at n) == text_cell s + cells)
 
+  -- the row of label a ends in its message
+  abbrev pub ends_in_message : (ℕ → List ℕ) → Section → ℕ → LabelInfo → Bool
+  ends_in_message message_of s cells a =
+      is_message_row s cells (message_of a.position) (p.message_row a.position)
+
   -- the rows of a block end as they should
   unfoldable pub are_block_ends : (ℕ → List ℕ) → ℕ → Section → ℕ → Bool
   are_block_ends message_of g s l =
       let cells = cells_of_places g s l in
       let ended = filter (λ a. a.end_line == l) (messages_of s) in
-      list_all (λ a. is_message_row s cells (message_of a.position)
-      (p.message_row a.position)) ended
+      list_all (ends_in_message message_of s cells) ended
       && list_all (is_block_end s cells ended) (block_rows g l)
 
   -- the clause on message rows
@@ -281,13 +272,14 @@ module _ (canvas : List (List Cell)) (sections : List Section) (p : Placing) whe
 
   -- ---- strokes in the text; a place without a cell is passed over
 
-  -- the places from a to before b are among those of row n, and the test holds of the first cell of
-  -- each
+  -- place k of row n has no cell, or the test holds of its first one
+  abbrev pub holds_at_place : Section → ℕ → ℕ → (Cell → Bool) → ℕ → Bool
+  holds_at_place s l n test k = not (has_cell s l k) || test (cell_at n (place_cell s l k))
+
+  -- the places from a to before b are among those of row n, and the test holds at each
   unfoldable pub holds_at_places : ℕ → Section → ℕ → ℕ → ℕ → ℕ → (Cell → Bool) → Bool
   holds_at_places g s l n a b test =
-      list_all (λ k. nat_lt k (p.places g l)
-      && (not (has_cell s l k) || test (cell_at n (place_cell s l k))))
-      (between a b)
+      list_all (λ k. nat_lt k (p.places g l) && holds_at_place s l n test k) (between a b)
 
   -- place k is not blank in each of these rows
   unfoldable pub is_traced_at : ℕ → Section → ℕ → ℕ → List ℕ → Bool
@@ -321,15 +313,15 @@ module _ (canvas : List (List Cell)) (sections : List Section) (p : Placing) whe
   -- each label within line l is underlined, where underlines are drawn
   unfoldable pub is_underlined : ℕ → Section → ℕ → Bool
   is_underlined g s l =
+      let labels = (layout_of s.sheet l).labels in
       not (has_underlines s l)
-      || list_all (λ x. not (is_inline x.side) || is_span_underlined g s l x)
-      (layout_of s.sheet l).labels
+      || list_all (λ x. not (is_inline x.side) || is_span_underlined g s l x) labels
 
   -- the clause on inline traces
   unfoldable pub has_inline_traces : Bool
   has_inline_traces =
-      all_groups (λ g s. list_all (λ a. not (is_on_one_line a) || is_inline_traced g s a)
-      (messages_of s)
+      all_groups (λ g s.
+      list_all (λ a. not (is_on_one_line a) || is_inline_traced g s a) (messages_of s)
       && list_all (is_underlined g s) (shown_lines s))
 
   -- ---- ends of gutter traces: gutter label i of group g, a label over several lines
@@ -340,8 +332,7 @@ module _ (canvas : List (List Cell)) (sections : List Section) (p : Placing) whe
       list_all (λ c. is_level (set_of s) (cell_at n c))
       (between (column_cell s i + 1) (text_cell s))
 
-  -- at its end as the margin label: a tee and an arrow head beside the line, and a level all the
-  -- way
+  -- at its end as the margin label: a tee and an arrow head beside the line, and a level below
   abbrev pub ends_at_margin : ℕ → Section → ℕ → LabelInfo → Bool
   ends_at_margin g s i a =
       let l = a.end_line in
@@ -370,8 +361,7 @@ module _ (canvas : List (List Cell)) (sections : List Section) (p : Placing) whe
       && holds_at_places g s l n (a.end_place + 1) (p.places g l) (is_level set)
       && (if is_margin_at s l i then ends_at_margin g s i a else ends_below g s a)
 
-  -- its head as a line label: a level from column i to a corner at its first character, a vertical
-  -- above
+  -- its head as a line label: a level from column i to a corner at its first character
   abbrev pub starts_below : ℕ → Section → ℕ → LabelInfo → Bool
   starts_below g s i a =
       let l = a.start_line in
@@ -434,10 +424,10 @@ module _ (canvas : List (List Cell)) (sections : List Section) (p : Placing) whe
   is_bar g s i a b n =
       let set = set_of s in
       let c = gutter_cell s n i in
+      let is_beside_line = list_any (λ l. p.source_row g l == n) (shown_lines s) in
       if n == a then is_glyph set Ltop c
       else if n == b then is_glyph set Lbot c
-      else if list_any (λ l. p.source_row g l == n) (shown_lines s) then is_glyph set Vbar c
-      || is_glyph set Lcross c
+      else if is_beside_line then is_glyph set Vbar c || is_glyph set Lcross c
       else if is_gap_row set n then is_glyph set VbarGap c
       else is_glyph set Vbar c || (is_crossed_in g s i n && is_level set c)
 
@@ -455,15 +445,17 @@ module _ (canvas : List (List Cell)) (sections : List Section) (p : Placing) whe
       list_all (is_bar g s i a b) (between a (b + 1))
       && list_all (is_free_outside s i a b) (gutter_rows g s)
 
-  -- the column of arrow heads has no bar
+  -- row n has no bar in the column of arrow heads
+  abbrev pub has_no_bar : Section → ℕ → Bool
+  has_no_bar s n =
+      let set = set_of s in
+      let c = gutter_cell s n (arrow_column s) in
+      is_blank c || is_glyph set Hbar c || is_glyph set Rarrow c
+
+  -- nor has any other row of the group
   unfoldable pub is_last_column_free : ℕ → Section → Bool
   is_last_column_free g s =
-      let set = set_of s in
-      let cell = λ (n : ℕ). gutter_cell s n (arrow_column s) in
-      (arrow_column s == 0)
-      || list_all (λ n. is_blank (cell n) || is_glyph set Hbar (cell n)
-      || is_glyph set Rarrow (cell n))
-      (gutter_rows g s)
+      (arrow_column s == 0) || list_all (has_no_bar s) (gutter_rows g s)
 
   -- the clause on gutter bars
   unfoldable pub has_gutter_bars : Bool

@@ -4,7 +4,7 @@
 use Rattle.std.specs.Prelude.{ℕ, ◌≡◌, ◌≤◌, true, false, not, ◌==◌, List, map, Option, Some, None}
 use Rattle.std.specs.Prelude.{IfSome, find, length, unwrap_or, option_map, option_and_then, chars}
 use Rattle.std.specs.Prelude.{slice_get}
-use Rattle.std.specs.List.{list_all, enumerate_from, AllByRecursion}
+use Rattle.std.specs.List.{list_all, AllByRecursion}
 use Rattle.ariadne_base.specs.Listing.{Listing}
 use Rattle.ariadne_base.specs.declared.color.Color.TheVariants.{Primary}
 use Rattle.ariadne_picture.specs.declared.switches.IndexType.TheVariants.{Char}
@@ -13,6 +13,7 @@ use Rattle.ariadne_picture.specs.declared.verdict.Verdict.TheVariants.{Accepted}
 use Rattle.ariadne_picture.specs.declared.label_info.LabelInfo.{LabelInfo}
 use Rattle.ariadne_picture.specs.Report.{Kind, error, warning, advice, custom, LabelFields}
 use Rattle.ariadne_picture.specs.Report.{ReportFields, World}
+use Rattle.ariadne_picture.specs.Lists.{mapped_numbered}
 use Rattle.ariadne_picture.specs.Accept.{offset_in_chars, verdict_in}
 use Rattle.ariadne_picture.specs.Canvas.{canvas, kind_name, is_same_id, group_id, group_source}
 use Rattle.ariadne_picture.specs.Canvas.{groups}
@@ -58,8 +59,8 @@ pub record HaveNoEscapes {S Id : Type 0} (w : World S Id) (r : ReportFields S) :
 pub record ColorsMoveNothing {S Id : Type 0} (w : World S Id) (r : ReportFields S)
     (infos : List LabelInfo) : Type 0 where
   pub cells : erased (canvas w r infos) ≡ canvas w (colorless r) infos
-  pub bytes : HaveNoEscapes w r → unescaped (printed (canvas w r infos)) ≡ printed
-      (canvas w (colorless r) infos)
+  pub bytes : HaveNoEscapes w r
+      → unescaped (printed (canvas w r infos)) ≡ printed (canvas w (colorless r) infos)
 
 -- ---- offsets in characters
 
@@ -82,32 +83,33 @@ char_world w = record {
 
 -- what becomes of the label at a position, where its source is held
 abbrev pub verdict_at : {S Id : Type 0} → World S Id → ReportFields S → ℕ → Option Verdict
-verdict_at w r k =
-    option_and_then (λ label. option_map (verdict_in w r.config k label)
-    (w.source_of (w.id_of label.span)))
-    (slice_get r.labels k)
+verdict_at {S} w r k =
+    let over = λ (label : LabelFields S).
+    option_map (verdict_in w r.config k label) (w.source_of (w.id_of label.span)) in
+    option_and_then over (slice_get r.labels k)
 
 module _ {S Id : Type 0} (w : World S Id) (r : ReportFields S) where
   -- the report's own start in characters, where it has one
   unfoldable pub own_start : Option ℕ
   own_start =
-      option_and_then (λ (source : Listing). offset_in_chars r.config.index_type (chars source.text)
-      (w.start_of r.span)) (w.source_of (w.id_of r.span))
+      let in_chars = λ (source : Listing).
+      offset_in_chars r.config.index_type (chars source.text) (w.start_of r.span) in
+      option_and_then in_chars (w.source_of (w.id_of r.span))
 
-  -- a drawn label with its ends in characters; one that is left out stays as it is
-  unfoldable pub char_label : List LabelInfo → ℕ × LabelFields S → LabelFields (CharSpan Id)
-  char_label infos e =
-      let info = find (λ a. a.position == e.0) infos in
+  -- the label at position k, where it is drawn, with its ends in characters
+  unfoldable pub char_label : List LabelInfo → ℕ → LabelFields S → LabelFields (CharSpan Id)
+  char_label infos k label =
+      let info = find (λ a. a.position == k) infos in
       record {
         span = record {
-          id = w.id_of e.1.span;
-          start = unwrap_or (option_map (λ a. a.start) info) (w.start_of e.1.span);
-          end = unwrap_or (option_map (λ a. a.end) info) (w.end_of e.1.span);
+          id = w.id_of label.span;
+          start = unwrap_or (option_map (λ a. a.start) info) (w.start_of label.span);
+          end = unwrap_or (option_map (λ a. a.end) info) (w.end_of label.span);
         };
-        message = e.1.message;
-        color = e.1.color;
-        order = e.1.order;
-        priority = e.1.priority;
+        message = label.message;
+        color = label.color;
+        order = label.order;
+        priority = label.priority;
       }
 
   -- the report whose offsets are in characters
@@ -122,7 +124,7 @@ module _ {S Id : Type 0} (w : World S Id) (r : ReportFields S) where
           start = unwrap_or own_start (w.start_of r.span);
           end = w.end_of r.span;
         };
-    labels = map (char_label infos) (enumerate_from 0 r.labels);
+    labels = mapped_numbered (char_label infos) r.labels;
     notes = r.notes;
     helps = r.helps;
     config = record r.config { index_type = Char };
@@ -138,7 +140,7 @@ module _ {S Id : Type 0} (w : World S Id) (r : ReportFields S) where
   -- bytes draw as characters: each drawn label is accepted there as the same, and where the own
   -- start is a boundary the canvas is the same
   pub record BytesDrawAsCharacters (infos : List LabelInfo) : Type 0 where
-    pub labels : AllByRecursion (λ a. verdict_at (char_world w) (char_report infos) a.position
-        ≡ Some (Accepted a)) infos
+    pub labels : AllByRecursion
+        (λ a. verdict_at (char_world w) (char_report infos) a.position ≡ Some (Accepted a)) infos
     pub cells : OwnStartIsBoundary infos
         → canvas w r infos ≡ canvas (char_world w) (char_report infos) infos

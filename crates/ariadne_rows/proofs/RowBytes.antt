@@ -8,7 +8,7 @@ use Rattle.ariadne_picture.specs.declared.switches.CharSet.{CharSet}
 use Rattle.ariadne_picture.specs.declared.switches.Switches.{Switches}
 use Rattle.ariadne_picture.specs.declared.cell.Glyph.{Glyph}
 use Rattle.ariadne_picture.specs.declared.cell.Glyph.TheVariants.{Hbar, Vbar, VbarGap, Ltop, Rbot, Lbox, Rbox, Lcross}
-use Rattle.ariadne_picture.specs.declared.cell.Paint.TheVariants.{Kind, Margin, SkippedMargin, Unimportant, Note}
+use Rattle.ariadne_picture.specs.declared.cell.Paint.TheVariants.{Kind, Margin, SkippedMargin}
 use Rattle.ariadne_picture.specs.Canvas.{Palette, color_of}
 use Rattle.ariadne_picture.specs.Rows.{Aside, source, alternate, arrow, gap, bare, blank, piece}
 use Rattle.ariadne_picture.specs.Lists.{joined}

@@ -7,7 +7,6 @@ use Rattle.ariadne_picture.specs.declared.switches.Switches.{Switches}
 use Rattle.ariadne_picture.specs.declared.cell.Glyph.{Glyph}
 use Rattle.ariadne_picture.specs.declared.cell.Glyph.TheVariants.{Hbar, Ltop, Rbox, Lbox, Lcross}
 use Rattle.ariadne_picture.specs.declared.cell.Paint.TheVariants.{Margin, SkippedMargin}
-use Rattle.ariadne_picture.specs.declared.cell.Paint.TheVariants.{Unimportant, Note}
 use Rattle.ariadne_picture.specs.Pieces.{Piece, plain_text, spaces, stroke, glyph_text, blank_piece}
 
 -- the margin of a row without a number, with this bar

@@ -1,5 +1,5 @@
 -- What the headline says holds of every report whose picture was sent.
-use Rattle.std.proofs.Common.{◌≡◌, List, Option, ℕ}
+use Rattle.std.proofs.Common.{List, Option, ℕ}
 use Rattle.std.specs.Io.KnownBytes.{Appends}
 use Rattle.ariadne_picture.specs.declared.label_info.LabelInfo.{LabelInfo}
 use Rattle.ariadne_picture.specs.Report.{ReportFields, World, HaveOneSource, AreForward}

@@ -1,5 +1,6 @@
 -- Whether a finished picture can be read by a placing, and the placing that the names of its rows give.
-use Rattle.std.specs.Prelude.{ℕ, ◌+◌, Bool, not, ◌&&◌, ◌==◌, nat_lt, if◌then◌else◌, List, length, map, take, filter, slice_index_or, slice_get, None, Some}
+use Rattle.std.specs.Prelude.{ℕ, ◌+◌, Bool, not, ◌&&◌, ◌==◌, nat_lt, if◌then◌else◌, List, length, map, take, filter, slice_index_or, slice_get, None}
+use Rattle.std.specs.Prelude.{Some}
 use Rattle.std.specs.List.{enumerate_from}
 use Rattle.ariadne_picture.specs.declared.label_info.LabelInfo.{LabelInfo}
 use Rattle.ariadne_picture.specs.declared.label_info.LineLabel.{LineLabel}
@@ -10,7 +11,8 @@ use Rattle.ariadne_picture.specs.Rows.{Row, source, arrow, before, row_part, row
 use Rattle.ariadne_picture.specs.Columns.{layout_of, arrow_len}
 use Rattle.ariadne_picture.specs.Pieces.{Section, Texts}
 use Rattle.ariadne_picture.specs.Canvas.{Cell}
-use Rattle.ariadne_picture.specs.Placing.{Placing, is_placing, has_message_rows, has_inline_traces, has_ends_of_gutter_traces, has_gutter_bars, is_aligned}
+use Rattle.ariadne_picture.specs.Placing.{Placing, is_placing, has_message_rows, has_inline_traces, has_ends_of_gutter_traces, has_gutter_bars}
+use Rattle.ariadne_picture.specs.Placing.{is_aligned}
 
 -- all clauses of the tracing promise
 unfoldable pub is_read : List (List Cell) → List Section → Texts → Placing → Bool

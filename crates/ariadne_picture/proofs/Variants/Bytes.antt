@@ -71,10 +71,10 @@ same-start false index text start n first own = refl
 module _ {S Id : Type 0} (w : World S Id) (r : ReportFields S) (infos : List LabelInfo) where
   -- what is read of each label beside its span is read alike of the one in characters
   char-labels : {X : Type 0} (f : LabelFields S → X) (g : LabelFields (CharSpan Id) → X)
-      → ((e : ℕ × LabelFields S) → f e.1 ≡ g (char_label w r infos e))
-      → (n : ℕ) (labels : List (LabelFields S)) → map f labels ≡ map g (map (char_label w r infos) (enumerate_from n labels))
+      → ((k : ℕ) (label : LabelFields S) → f label ≡ g (char_label w r infos k label))
+      → (n : ℕ) (labels : List (LabelFields S)) → map f labels ≡ map g (map (λ e. char_label w r infos e.0 e.1) (enumerate_from n labels))
   char-labels f g same n [] = refl
-  char-labels f g same n (label ∷ labels) = λ i. same (n, label) i ∷ char-labels f g same (n + 1) labels i
+  char-labels f g same n (label ∷ labels) = λ i. same n label i ∷ char-labels f g same (n + 1) labels i
 
   -- the offsets and what they count are no part of what an outline reads
   read-alike : ReadTheSame w (char_world w) r (char_report w r infos)
@@ -86,8 +86,8 @@ module _ {S Id : Type 0} (w : World S Id) (r : ReportFields S) (infos : List Lab
     message = refl;
     notes = refl;
     helps = refl;
-    label_messages = char-labels (λ label. label.message) (λ label. label.message) (λ e. refl) 0 r.labels;
-    label_ids = char-labels (λ label. w.id_of label.span) (λ label. label.span.id) (λ e. refl) 0 r.labels;
+    label_messages = char-labels (λ label. label.message) (λ label. label.message) (λ k label. refl) 0 r.labels;
+    label_ids = char-labels (λ label. w.id_of label.span) (λ label. label.span.id) (λ k label. refl) 0 r.labels;
     ids = refl;
     names = refl;
     sources = refl;
@@ -146,5 +146,5 @@ module _ {S Id : Type 0} (w : World S Id) (r : ReportFields S) (infos : List Lab
   same-canvas law boundaries =
       let headers = all-weaker _ _ (groups w r infos) (same-header law) boundaries in
       let outlines = same-outline w (char_world w) r (char_report w r infos) read-alike infos headers in
-      let colors = char-labels (λ label. label.color) (λ label. label.color) (λ e. refl) 0 r.labels in
+      let colors = char-labels (λ label. label.color) (λ label. label.color) (λ k label. refl) 0 r.labels in
       λ i. map (map (cell_of (record { is_on = r.config.color; kind = kind_color r.kind; labels = colors i }))) (outlines i)

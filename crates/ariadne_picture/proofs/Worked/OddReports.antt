@@ -86,7 +86,9 @@ silent : ReportFields Span
 silent = report (silent_label_in "b" 0 1 ∷ [])
 
 -- its label is accepted, and its source row shows the escape
-shows_escape : get_or (get_or (canvas (world over_no_text) silent (drawn_labels (world over_no_text) silent.config 0 silent.labels (reasons (world over_no_text) silent))) 3 []) 3 no_cell
+shows_escape : get_or
+    (get_or (canvas (world over_no_text) silent (drawn_labels (world over_no_text) silent.config 0 silent.labels
+    (reasons (world over_no_text) silent))) 3 []) 3 no_cell
     ≡ record { text = 27 ∷ []; color = None; columns = 1 }
 unfolding drawn no_text over_no_text silent chars
 shows_escape = refl

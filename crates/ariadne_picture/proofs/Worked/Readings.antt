@@ -1,6 +1,6 @@
 -- Placings that finished pictures are read by, and reports that draw the same, by computation. Each worked
 -- picture is read too, by the placing that the names of its rows give.
-use Rattle.std.specs.Prelude.{ℕ, ◌≡◌, ◌==◌, Bool, true, false, if◌then◌else◌, refl, codes, [], ◌∷◌, None, List, slice_set, slice_index_or}
+use Rattle.std.specs.Prelude.{ℕ, ◌≡◌, ◌==◌, Bool, true, if◌then◌else◌, refl, codes, [], ◌∷◌, List}
 use Rattle.ariadne_base.specs.declared.color.Color.TheVariants.{Blue}
 use Rattle.ariadne_picture.specs.declared.switches.IndexType.TheVariants.{Byte}
 use Rattle.ariadne_picture.specs.declared.label_info.LabelInfo.{LabelInfo}
@@ -9,7 +9,7 @@ use Rattle.ariadne_picture.specs.Accept.{drawn_labels}
 use Rattle.ariadne_picture.specs.Pieces.{Section}
 use Rattle.ariadne_picture.specs.Canvas.{Cell, canvas, sections, texts_of}
 use Rattle.ariadne_picture.specs.Print.{erased, unescaped, printed}
-use Rattle.ariadne_picture.specs.Placing.{Placing, has_message_rows, has_inline_traces, has_ends_of_gutter_traces, has_gutter_bars}
+use Rattle.ariadne_picture.specs.Placing.{Placing}
 use Rattle.ariadne_picture.specs.Variants.{colorless, char_world, own_start, char_label, char_report}
 use Rattle.ariadne_picture.proofs.Reading.RowPlacing.{is_read}
 use Rattle.ariadne_picture.proofs.Worked.Sample.{Span, Entry, world, reasons, ascii_config, one, label, report, drawn}

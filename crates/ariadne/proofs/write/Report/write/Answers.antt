@@ -1,5 +1,5 @@
 -- What was sent is the picture, and of every picture the headline holds.
-use Rattle.std.proofs.Common.{◌≡◌, refl, rules}
+use Rattle.std.proofs.Common.{refl, rules}
 use Rattle.std.specs.Io.KnownBytes.{Appends}
 use Rattle.ariadne.specs.Written.{only_source, reasons, drawn, picture}
 use Rattle.ariadne_picture.proofs.Reading.EveryHeadline.{every-headline}
