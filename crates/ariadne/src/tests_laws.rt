@@ -4,9 +4,10 @@ use ariadne_picture::laws::{
     bars_stand_case_by_case, best_is_the_first_unbeaten, bytes_draw_as_characters,
     cells_hold_no_escapes, colors_move_nothing, ends_of_gutter_labels_are_traced,
     every_picture_can_be_read, groups_are_the_only_cutting, gutter_bars_are_whole,
-    gutter_labels_have_a_first_and_a_last_row, in_order_is_a_stable_sort, inline_labels_are_traced,
-    labels_end_no_earlier, messages_have_rows_of_their_own, orders_of_a_picture,
-    rows_keep_the_columns_of_their_line, rows_stand_in_order,
+    gutter_columns_show_their_strokes, gutter_labels_have_a_first_and_a_last_row,
+    in_order_is_a_stable_sort, inline_labels_are_traced, labels_end_no_earlier,
+    messages_have_rows_of_their_own, orders_of_a_picture, rows_keep_the_columns_of_their_line,
+    rows_stand_in_order, the_last_gutter_column_has_no_bar,
 };
 
 #[test]
@@ -19,6 +20,8 @@ fn every_law_can_be_called() {
     rows_stand_in_order();
     gutter_labels_have_a_first_and_a_last_row();
     bars_stand_case_by_case();
+    gutter_columns_show_their_strokes();
+    the_last_gutter_column_has_no_bar();
 }
 
 #[test]

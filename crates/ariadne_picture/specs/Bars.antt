@@ -2,16 +2,18 @@
 -- source row, by the lines that the gutter label covers; beside the rows of a line label, by what
 -- the gutter label does at that line. `bar_at` says the same by two rows: the cases are those
 -- strictly between.
-use Rattle.std.specs.Prelude.{◌≡◌, ◌≢◌, ℕ, ◌<◌, ◌≤◌, false, Some, slice_get}
+use Rattle.std.specs.Prelude.{true, ◌⊎◌, ◌≡◌, ◌≢◌, ℕ, ◌<◌, ◌≤◌, false, Some, slice_get}
 use Rattle.ariadne_picture.specs.declared.label_info.LabelInfo.{LabelInfo}
 use Rattle.ariadne_picture.specs.declared.label_info.LineLabel.{LineLabel}
 use Rattle.ariadne_picture.specs.declared.label_info.Side.{Side}
 use Rattle.ariadne_picture.specs.declared.label_info.Side.TheVariants.{Starts, Ends}
 use Rattle.ariadne_picture.specs.Ranks.{Sheet, gutter_labels, margin_label, line_labels}
-use Rattle.ariadne_picture.specs.Rows.{Row, group_header, spacer, source, alternate, arrow, gap}
+use Rattle.ariadne_picture.specs.Rows.{before, Row, group_header, spacer, source, alternate, arrow, gap}
 use Rattle.ariadne_picture.specs.Rows.{bare}
 use Rattle.ariadne_picture.specs.Rows.{blank, piece, tail}
-use Rattle.ariadne_picture.specs.Strokes.{is_at_margin}
+use Rattle.ariadne_picture.specs.declared.cell.Glyph.{Glyph}
+use Rattle.ariadne_picture.specs.Strokes.{is_at_margin, first_row, last_row}
+use Rattle.ariadne_picture.specs.Cells.{column_ink}
 
 -- a label ends on the line where it starts, or on a later one
 abbrev pub EndsNoEarlier : LabelInfo → Type 0
@@ -79,3 +81,18 @@ IsOfLine (bare l) = Unit {0}
 IsOfLine (blank a k) = ⊥
 IsOfLine (piece a k p) = ⊥
 IsOfLine tail = ⊥
+
+-- ---- what a gutter column shows
+
+-- row x shows this in gutter column i
+abbrev pub Shows : Sheet → Row → ℕ → Glyph → Type 0
+Shows s x i glyph = (column_ink s x i).first ≡ glyph
+
+-- row x stands below the row of gutter label i's head, which is a's, and above that of its message
+pub record IsInside (s : Sheet) (i : ℕ) (a : LabelInfo) (x : Row) : Type 0 where
+  pub below : before (first_row s i a) x ≡ true
+  pub above : before x (last_row s i a) ≡ true
+
+-- row x stands above the one or below the other
+abbrev pub IsOutside : Sheet → ℕ → LabelInfo → Row → Type 0
+IsOutside s i a x = (before x (first_row s i a) ≡ true) ⊎ (before (last_row s i a) x ≡ true)

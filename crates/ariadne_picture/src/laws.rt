@@ -7,12 +7,16 @@ ghost use Rattle.std.specs.Prelude.{All, AllPairs, Contains, IsPermutation, IsSo
 ghost use Rattle.std.specs.Cmp.{IsStrictWeakOrder};
 ghost use Rattle.std.specs.List.{AllByRecursion, IsFirstBest};
 ghost use Rattle.std.specs.List.Sorted.{IsStableBy};
+ghost use Rattle.ariadne_picture.specs.declared.cell.Glyph.TheVariants.{Blank, Hbar, Vbar, Xbar};
+ghost use Rattle.ariadne_picture.specs.declared.cell.Glyph.TheVariants.{Lbot, Lcross, Ltop};
+ghost use Rattle.ariadne_picture.specs.declared.cell.Glyph.TheVariants.{Rarrow, VbarGap};
 ghost use Rattle.ariadne_picture.specs.declared.label_info.LabelInfo.{LabelInfo};
 ghost use Rattle.ariadne_picture.specs.declared.label_info.Side.TheVariants.{Starts, Ends};
 ghost use Rattle.ariadne_picture.specs.Accept.{drawn_labels};
 ghost use Rattle.ariadne_picture.specs.Bars.{BarBesideAlternate, BarBesideArrow, BarBesideLine};
 ghost use Rattle.ariadne_picture.specs.Bars.{EndsNoEarlier, IsLineLabel, IsMarginLabel};
 ghost use Rattle.ariadne_picture.specs.Bars.{IsGutterLabel, IsOfLine};
+ghost use Rattle.ariadne_picture.specs.Bars.{IsInside, IsOutside, Shows};
 ghost use Rattle.ariadne_picture.specs.Canvas.{Cell, canvas, sections, texts_of};
 ghost use Rattle.ariadne_picture.specs.Groups.{AreGroupsOf, groups_of, ordered};
 ghost use Rattle.ariadne_picture.specs.Headline.{CanBeRead, IsTraced};
@@ -135,6 +139,34 @@ pub fn bars_stand_case_by_case()
     ensures arrow { (s : Sheet) (i l r : ℕ) (a : LabelInfo) → IsGutterLabel s i a
         → (IsTrue (bar_at s (arrow l r) i) ↔ BarBesideArrow s i a l r) }
     ensures elsewhere { (s : Sheet) (x : Row) (i : ℕ) → IsTrue (bar_at s x i) → IsOfLine x }
+{}
+
+/// What the column of a gutter label shows, row by row: its head in its first row and its corner in
+/// its last; between these a bar, a tee, a broken bar beside hidden lines, or a horizontal that
+/// crosses it; and outside of these nothing but a horizontal that crosses it.
+pub fn gutter_columns_show_their_strokes()
+    ensures head { (s : Sheet) (i : ℕ) (a : LabelInfo) → IsGutterLabel s i a
+        → Shows s (first_row s i a) i Ltop }
+    ensures corner { (s : Sheet) (i : ℕ) (a : LabelInfo) → IsGutterLabel s i a
+        → Shows s (last_row s i a) i Lbot }
+    ensures beside_a_line { (s : Sheet) (i l : ℕ) (a : LabelInfo) → IsGutterLabel s i a
+        → IsInside s i a (source l)
+        → Shows s (source l) i Vbar ⊎ Shows s (source l) i Lcross }
+    ensures beside_hidden_lines { (s : Sheet) (i l : ℕ) (a : LabelInfo) → IsGutterLabel s i a
+        → IsInside s i a (gap l) → Shows s (gap l) i VbarGap }
+    ensures in_alternate_rows { (s : Sheet) (i l r : ℕ) (a : LabelInfo) → IsGutterLabel s i a
+        → IsInside s i a (alternate l r) → Shows s (alternate l r) i Vbar }
+    ensures in_arrow_rows { (s : Sheet) (i l r : ℕ) (a : LabelInfo) → IsGutterLabel s i a
+        → IsInside s i a (arrow l r)
+        → Shows s (arrow l r) i Vbar ⊎ Shows s (arrow l r) i Hbar ⊎ Shows s (arrow l r) i Xbar }
+    ensures outside { (s : Sheet) (i : ℕ) (a : LabelInfo) (x : Row) → IsGutterLabel s i a
+        → IsOutside s i a x → Shows s x i Blank ⊎ Shows s x i Hbar }
+{}
+
+/// The column of arrow heads has no bar: each row shows nothing there, a horizontal, or a head.
+pub fn the_last_gutter_column_has_no_bar()
+    ensures { (s : Sheet) (x : Row) → let last = length (gutter_labels s) in
+        Shows s x last Blank ⊎ Shows s x last Hbar ⊎ Shows s x last Rarrow }
 {}
 
 /// Each accepted message has one row of its own, which ends in it; every other row below a line
