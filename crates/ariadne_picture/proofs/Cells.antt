@@ -2,4 +2,6 @@
 pub mod CanvasRows
 pub mod RowCells
 pub mod MarginTexts
-pub mod PlaceCells
+pub mod GutterInks
+pub mod InkCells
+pub mod GutterStrokes

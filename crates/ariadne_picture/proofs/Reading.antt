@@ -1,5 +1,4 @@
 -- The tracing promise, clause by clause.
-pub mod RowPlacing
 pub mod Pictures
 pub mod ShownLine
 pub mod TextRows
@@ -9,10 +8,8 @@ pub mod HeadPlaces
 pub mod Placed
 pub mod Aligned
 pub mod MessageRows
-pub mod InkCells
 pub mod PlaceCounts
 pub mod InlineTraces
-pub mod GutterInks
 pub mod GutterCells
 pub mod EndTraces
 pub mod RowNames
@@ -24,3 +21,4 @@ pub mod GutterFree
 pub mod DrawnReports
 pub mod EveryReport
 pub mod EveryHeadline
+pub mod PlaceCells

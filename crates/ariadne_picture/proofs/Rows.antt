@@ -2,7 +2,7 @@
 pub mod RowOrder
 pub mod BarCases
 pub mod GutterLabelRows
-pub mod GutterStrokes
 pub mod RowsThere
 pub mod RowNumbers
 pub mod LineBlock
+pub mod RowPlacing

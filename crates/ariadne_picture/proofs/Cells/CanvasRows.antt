@@ -10,7 +10,7 @@ use Rattle.ariadne_picture.specs.Canvas.{Cell, Palette, palette_of, cell_of, hea
 use Rattle.ariadne_picture.specs.Canvas.{outline, sections, canvas}
 use Rattle.ariadne_picture.proofs.Lists.ListFacts.{all-map, all-every, all-at}
 use Rattle.ariadne_picture.proofs.Lists.Joined.{joined-map, map-joined, joined-same}
-use Rattle.ariadne_picture.proofs.Reading.RowPlacing.{row_list}
+use Rattle.ariadne_picture.proofs.Rows.RowPlacing.{row_list}
 use Rattle.ariadne_picture.proofs.Rows.RowNumbers.{picture_rows}
 
 -- a map of a map

@@ -21,8 +21,7 @@ use Rattle.ariadne_picture.specs.Cells.{glyph_code}
 use Rattle.ariadne_picture.specs.Pieces.{blank_piece, Piece, Section, spaces, glyph_text, shown_text, char_pieces, place_pieces, char_paint}
 use Rattle.ariadne_picture.specs.Pieces.{shown_pieces, margin_text, margin_paint, margin_pieces}
 use Rattle.ariadne_picture.specs.Placing.{unindented}
-use Rattle.ariadne_picture.proofs.Reading.Aligned.{joined-numbered}
-use Rattle.ariadne_picture.proofs.Lists.Joined.{map-joined, joined-same}
+use Rattle.ariadne_picture.proofs.Lists.Joined.{joined-numbered, map-joined, joined-same}
 use Rattle.ariadne_picture.proofs.Cells.RowCells.{front_pieces}
 
 -- ---- texts without the blanks in front

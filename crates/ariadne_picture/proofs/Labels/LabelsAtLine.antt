@@ -10,14 +10,14 @@ use Rattle.ariadne_picture.specs.declared.label_info.Side.TheVariants.{Inline, S
 use Rattle.ariadne_picture.specs.Lists.{joined, total}
 use Rattle.ariadne_picture.specs.Ranks.{Sheet, is_start, is_on_one_line, span_len, multi_line_labels, gutter_labels, gutter_label_ends, ends_at}
 use Rattle.ariadne_picture.specs.Ranks.{margin_label, is_margin, inline_labels, is_before, line_labels}
-use Rattle.ariadne_picture.proofs.Lists.ListFacts.{none≢some, all-weaker, all-append, all-joined, all-filter, all-in_order, all-map, all-at}
+use Rattle.ariadne_picture.proofs.Lists.ListFacts.{all-filtered, none≢some, all-weaker, all-append, all-joined, all-filter, all-in_order, all-map}
+use Rattle.ariadne_picture.proofs.Lists.ListFacts.{all-at}
 use Rattle.ariadne_picture.proofs.Lists.ListFacts.{Increasing}
 use Rattle.ariadne_picture.proofs.Lists.Elements.{Has, has-first, has-front, has-back, has-filter, has-in_order, has-map, has-joined, all-from}
 use Rattle.ariadne_picture.proofs.Lists.Elements.{both-true, all-numbered}
 use Rattle.ariadne_picture.proofs.Lists.Occurrences.{occurrences, total-append, total-joined, total-in_order, total-filter, total-le, only-passes}
 use Rattle.ariadne_picture.proofs.Rows.RowNumbers.{total-next, total-rises}
 use Rattle.ariadne_picture.proofs.Rows.RowsThere.{all-gutter-labels, enumerated-at}
-use Rattle.ariadne_picture.proofs.Reading.ShownLine.{all-filtered}
 
 -- ---- what the line labels are
 

@@ -1,5 +1,6 @@
 -- Facts on lists that are joined from parts, and on the parts by number.
-use Rattle.std.proofs.Common.{◌≡◌, ℕ, zero, suc, ◌+◌, List, [], ◌∷◌, ◌++◌, length, map, refl, sym, ap, ◌∙◌, arith, append_assoc, zero-add, add-zero}
+use Rattle.std.proofs.Common.{slice_index, ◌≡◌, ℕ, zero, suc, ◌+◌, List, [], ◌∷◌, ◌++◌, length, map, refl, sym, ap, ◌∙◌, arith, append_assoc}
+use Rattle.std.proofs.Common.{zero-add, add-zero}
 use Rattle.std.proofs.lemmas.List.{append-nil, map-append}
 use Rattle.std.specs.List.{AllByRecursion, range_with_len, enumerate_from}
 use Rattle.ariadne_base.specs.Locations.{upto}
@@ -93,3 +94,16 @@ pub joined-enumerated_same : {X Y : Type 0} (P : X → Type 0) (f g : ℕ × X �
 unfolding joined
 joined-enumerated_same P f g e n [] a = refl
 joined-enumerated_same P f g e n (x ∷ xs) a = λ i. e n x a.0 i ++ joined-enumerated_same P f g e (n + 1) xs a.1 i
+
+-- what the numbers of a list give by its elements, its numbered elements give
+pub joined-numbered : {Y : Type 0} (f : ℕ × ℕ → List Y) (whole : List ℕ) (a : ℕ) (xs : List ℕ)
+    → ((k : ℕ) → slice_index xs k ≡ slice_index whole (a + k))
+    → joined (λ (k : ℕ). f (k, slice_index whole k)) (range_with_len a (length xs)) ≡ joined f (enumerate_from a xs)
+unfolding joined
+joined-numbered f whole a [] h = refl
+joined-numbered f whole a (x ∷ xs) h =
+    let z : a + 0 ≡ a = omega arith in
+    let here : slice_index whole a ≡ x = ap (slice_index whole) (sym z) ∙ sym (h 0) in
+    let later : (k : ℕ) → slice_index xs k ≡ slice_index whole (a + 1 + k) =
+    λ k. let e : a + suc k ≡ a + 1 + k = omega arith in h (suc k) ∙ ap (slice_index whole) e in
+    λ i. f (a, here i) ++ joined-numbered f whole (a + 1) xs later i

@@ -140,3 +140,10 @@ increasing-append R P Q (x ∷ xs) ys f p q i j =
 pub increasing-pairs : {X : Type 0} (R : X → X → Type 0) (xs : List X) → Increasing R xs → AllPairs R xs
 increasing-pairs R [] i = λ j k d h less. absurd (omega arith)
 increasing-pairs R (x ∷ xs) i = AllPairs-cons R x xs (All-from_recursion (R x) xs i.0) (increasing-pairs R xs i.1)
+
+-- an element that passes a filter's test has what each such element has
+pub all-filtered : {X : Type 0} (P : X → Type 0) (test : X → Bool) (xs : List X)
+    → AllByRecursion (λ x. test x ≡ true → P x) xs → AllByRecursion P (filter test xs)
+all-filtered P test [] a = tt
+all-filtered P test (x ∷ xs) a =
+    cond_both (test x) _ _ (AllByRecursion P) (λ e. (a.0 e, all-filtered P test xs a.1)) (λ _. all-filtered P test xs a.1)

@@ -2,7 +2,7 @@
 use Rattle.std.proofs.Common.{◌≡◌, ℕ, zero, suc, ◌+◌, Bool, true, List, [], ◌∷◌, ◌++◌, map, take, length, replicate, refl, sym, ap, ◌∙◌, arith, ◌==◌}
 use Rattle.std.proofs.Common.{inl, inr}
 use Rattle.std.specs.Prelude.{slice_index}
-use Rattle.std.specs.List.{AllByRecursion, range_with_len, list_all, enumerate_from}
+use Rattle.std.specs.List.{AllByRecursion, list_all, enumerate_from}
 use Rattle.std.specs.Cmp.Derive.{both_true}
 use Rattle.std.proofs.lemmas.Bool.{eq-eqb, le-leb, cases_Bool}
 use Rattle.std.proofs.lemmas.List.{length-append, length-map, map-append, take_at}
@@ -21,7 +21,7 @@ use Rattle.ariadne_picture.specs.Placing.{char_widths, text_cells, cells_of_plac
 use Rattle.ariadne_picture.specs.Placing.{is_aligned}
 use Rattle.ariadne_picture.proofs.Cells.CanvasRows.{map-map}
 use Rattle.ariadne_picture.proofs.Lists.Elements.{list_all-true, pointwise-equal}
-use Rattle.ariadne_picture.proofs.Lists.Joined.{map-joined, joined-same}
+use Rattle.ariadne_picture.proofs.Lists.Joined.{joined-numbered, map-joined, joined-same}
 use Rattle.ariadne_picture.proofs.Lists.ListFacts.{all-map, all-weaker}
 use Rattle.ariadne_picture.proofs.Lists.Occurrences.{total-append}
 use Rattle.ariadne_picture.proofs.Cells.RowCells.{front_pieces, area-columns, gutter-columns, length-gutter}
@@ -37,19 +37,6 @@ abbrev cell_columns : Cell → ℕ
 cell_columns c = c.columns
 
 -- ---- the source row
-
--- what the numbers of a list give by its elements, its numbered elements give
-pub joined-numbered : {Y : Type 0} (f : ℕ × ℕ → List Y) (whole : List ℕ) (a : ℕ) (xs : List ℕ)
-    → ((k : ℕ) → slice_index xs k ≡ slice_index whole (a + k))
-    → joined (λ (k : ℕ). f (k, slice_index whole k)) (range_with_len a (length xs)) ≡ joined f (enumerate_from a xs)
-unfolding joined
-joined-numbered f whole a [] h = refl
-joined-numbered f whole a (x ∷ xs) h =
-    let z : a + 0 ≡ a = omega arith in
-    let here : slice_index whole a ≡ x = ap (slice_index whole) (sym z) ∙ sym (h 0) in
-    let later : (k : ℕ) → slice_index xs k ≡ slice_index whole (a + 1 + k) =
-    λ k. let e : a + suc k ≡ a + 1 + k = omega arith in h (suc k) ∙ ap (slice_index whole) e in
-    λ i. f (a, here i) ++ joined-numbered f whole (a + 1) xs later i
 
 -- a map of equal elements is its value at one of them, as often
 map-replicate : {X Y : Type 0} (f : X → Y) (n : ℕ) (x : X) → map f (replicate n x) ≡ replicate n (f x)

@@ -21,7 +21,7 @@ use Rattle.ariadne_picture.proofs.Lists.ListFacts.{none≢some, all-in_order, In
 use Rattle.ariadne_picture.proofs.Reading.InOrder.{increasing-in_order}
 use Rattle.ariadne_picture.proofs.Reading.MessageRows.{message-rows}
 use Rattle.ariadne_picture.proofs.Reading.Placed.{rows-placed}
-use Rattle.ariadne_picture.proofs.Reading.RowPlacing.{row_placing}
+use Rattle.ariadne_picture.proofs.Rows.RowPlacing.{row_placing}
 use Rattle.ariadne_picture.proofs.Reading.Pictures.{AreDrawn, Picture, read}
 
 -- what holds of two lists joined holds of the second

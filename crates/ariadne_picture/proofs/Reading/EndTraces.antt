@@ -18,7 +18,7 @@ use Rattle.ariadne_picture.specs.Cells.{corner_glyph, margin_glyph, turn_glyph}
 use Rattle.ariadne_picture.specs.Pieces.{Section}
 use Rattle.ariadne_picture.specs.Placing.{is_level, set_of, is_margin_at, arrow_column, holds_at_places, is_level_right_of, is_end_traced}
 use Rattle.ariadne_picture.specs.Placing.{is_start_traced, is_pointed, are_ends_traced, has_ends_of_gutter_traces}
-use Rattle.ariadne_picture.proofs.Cells.PlaceCells.{label-corner, label-level, label-traced}
+use Rattle.ariadne_picture.proofs.Reading.PlaceCells.{label-corner, label-level, label-traced}
 use Rattle.ariadne_picture.proofs.Labels.LabelsAtLine.{IsHere, IsEndHere, gutter-labels-owned, apart, increasing-part}
 use Rattle.ariadne_picture.proofs.Labels.LineLabels.{multi-line, two-lines}
 use Rattle.ariadne_picture.proofs.Lists.Elements.{Has, all-range, all-numbered, list_all-true, left-true, right-true}
@@ -27,7 +27,7 @@ use Rattle.ariadne_picture.proofs.Rows.BarCases.{at-margin}
 use Rattle.ariadne_picture.proofs.Rows.RowOrder.{before-irreflexive}
 use Rattle.ariadne_picture.proofs.Rows.RowsThere.{gutter-label-message}
 use Rattle.ariadne_picture.proofs.Reading.GutterCells.{own-glyph, column_shows, gutter-glyph, level-right, few, arrow-few}
-use Rattle.ariadne_picture.proofs.Reading.GutterInks.{bar-beside, leave-beside, cross-beside, head-beside, own-arrow, behind-arrow}
+use Rattle.ariadne_picture.proofs.Cells.GutterInks.{bar-beside, leave-beside, cross-beside, head-beside, own-arrow, behind-arrow}
 use Rattle.ariadne_picture.proofs.Reading.HeadPlaces.{IsGutterLabelOf, margin-of, margin-line, head-at-margin, head-place}
 use Rattle.ariadne_picture.proofs.Reading.InOrder.{increasing-filter, increasing-in_order}
 use Rattle.ariadne_picture.proofs.Reading.PlaceCounts.{ArePlaced, column-place}

@@ -17,7 +17,7 @@ use Rattle.ariadne_picture.proofs.Reading.GutterFree.{gutter-bars}
 use Rattle.ariadne_picture.proofs.Reading.InlineTraces.{inline-traces}
 use Rattle.ariadne_picture.proofs.Reading.EndTraces.{end-traces}
 use Rattle.ariadne_picture.proofs.Reading.Pictures.{Picture}
-use Rattle.ariadne_picture.proofs.Reading.RowPlacing.{row_placing}
+use Rattle.ariadne_picture.proofs.Rows.RowPlacing.{row_placing}
 
 module _ {S Id R : Type 0} (w : World S Id) (r : ReportFields S) (reasons : List (Option R))
     (law : (p q : Id) → w.is_same p q ≡ true → w.source_of p ≡ w.source_of q)

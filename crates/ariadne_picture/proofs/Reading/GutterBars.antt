@@ -32,9 +32,9 @@ use Rattle.ariadne_picture.proofs.Rows.RowNumbers.{start-next}
 use Rattle.ariadne_picture.proofs.Reading.EndTraces.{its-message, head-corner, end-corner, margin-leaves, tee-no-bar, end-side}
 use Rattle.ariadne_picture.proofs.Reading.GapMargins.{alternate-no-gap, arrow-no-gap, gap-margin}
 use Rattle.ariadne_picture.proofs.Reading.GutterCells.{own-glyph, column_shows, gutter-cell, column-few}
-use Rattle.ariadne_picture.proofs.Reading.GutterInks.{bar-beside, bar-gap, bar-alternate, bar-arrow, behind-arrow}
+use Rattle.ariadne_picture.proofs.Cells.GutterInks.{bar-beside, bar-gap, bar-alternate, bar-arrow, behind-arrow}
 use Rattle.ariadne_picture.proofs.Reading.HeadPlaces.{IsGutterLabelOf, head-place}
-use Rattle.ariadne_picture.proofs.Reading.InkCells.{shows-level}
+use Rattle.ariadne_picture.proofs.Cells.InkCells.{shows-level}
 use Rattle.ariadne_picture.proofs.Reading.InOrder.{in-order}
 use Rattle.ariadne_picture.proofs.Reading.PlaceCounts.{ArePlaced}
 use Rattle.ariadne_picture.proofs.Reading.GutterSpans.{IsSpan, bar-inside, own-place}
@@ -45,7 +45,7 @@ use Rattle.ariadne_picture.proofs.Reading.ShownLine.{group-line-at, source-row-i
 use Rattle.ariadne_picture.proofs.Reading.TextRows.{IsTextRow, source-text, arrow-text, alternate-text, front-at, gap-text}
 use Rattle.ariadne_picture.proofs.Reading.Placed.{margin-shows}
 use Rattle.ariadne_picture.proofs.Reading.RowNames.{IsName, name-of, named-arrow}
-use Rattle.ariadne_picture.proofs.Reading.RowPlacing.{row_list}
+use Rattle.ariadne_picture.proofs.Rows.RowPlacing.{row_list}
 
 -- where each element fails a test, none passes
 list_any-false : {X : Type 0} (test : X → Bool) (xs : List X) → AllByRecursion (λ x. test x ≡ false) xs → list_any test xs ≡ false

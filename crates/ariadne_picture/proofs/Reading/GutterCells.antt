@@ -14,9 +14,9 @@ use Rattle.ariadne_picture.specs.Pieces.{Piece, Section, column_size, gutter_len
 use Rattle.ariadne_picture.specs.Placing.{is_glyph, is_level, set_of, gutter_cell, cell_at, column_cell, text_cell, is_level_right_of, arrow_column}
 use Rattle.ariadne_picture.proofs.Lists.Elements.{all-range, list_all-true}
 use Rattle.ariadne_picture.proofs.Cells.RowCells.{ink-tail, column-at, column-first}
-use Rattle.ariadne_picture.proofs.Reading.GutterInks.{gutter-some}
+use Rattle.ariadne_picture.proofs.Cells.GutterInks.{gutter-some}
 use Rattle.ariadne_picture.proofs.Reading.HeadPlaces.{IsGutterLabelOf}
-use Rattle.ariadne_picture.proofs.Reading.InkCells.{IsLevel, ink_cell, shows-glyph, shows-level}
+use Rattle.ariadne_picture.proofs.Cells.InkCells.{IsLevel, ink_cell, shows-glyph, shows-level}
 use Rattle.ariadne_picture.proofs.Reading.Pictures.{Picture, read, number}
 use Rattle.ariadne_picture.proofs.Reading.TextRows.{IsTextRow, front-at}
 

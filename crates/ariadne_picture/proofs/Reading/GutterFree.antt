@@ -28,9 +28,9 @@ use Rattle.ariadne_picture.proofs.Reading.GutterSpans.{IsSpan, span, bar-outside
 use Rattle.ariadne_picture.proofs.Reading.MessagePlaces.{label-here}
 use Rattle.ariadne_picture.proofs.Reading.Pictures.{Picture, RowAt, read, number, every-group, message_row, head_row, number-at}
 use Rattle.ariadne_picture.proofs.Reading.GutterCells.{gutter-cell, few, column-few}
-use Rattle.ariadne_picture.proofs.Reading.GutterInks.{IsFree, no-bar-last, free-beside, last-beside, free-gap, free-alternate, free-arrow}
+use Rattle.ariadne_picture.proofs.Cells.GutterInks.{IsFree, no-bar-last, free-beside, last-beside, free-gap, free-alternate, free-arrow}
 use Rattle.ariadne_picture.proofs.Reading.HeadPlaces.{IsGutterLabelOf, gutter-label-lines}
-use Rattle.ariadne_picture.proofs.Reading.InkCells.{ink_cell, shows-blank, shows-glyph}
+use Rattle.ariadne_picture.proofs.Cells.InkCells.{ink_cell, shows-blank, shows-glyph}
 use Rattle.ariadne_picture.proofs.Reading.InOrder.{by-order, same-place}
 use Rattle.ariadne_picture.proofs.Reading.PlaceCounts.{ArePlaced}
 use Rattle.ariadne_picture.proofs.Reading.RowNames.{IsName, named-arrow}

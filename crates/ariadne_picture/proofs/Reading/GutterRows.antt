@@ -19,11 +19,11 @@ use Rattle.ariadne_picture.proofs.Cells.RowCells.{front_pieces, length-margin}
 use Rattle.ariadne_picture.proofs.Lists.Elements.{all-range}
 use Rattle.ariadne_picture.proofs.Reading.MessagePlaces.{two-true}
 use Rattle.ariadne_picture.proofs.Reading.Pictures.{Picture, row-there, RowAt, read, number, start_of}
-use Rattle.ariadne_picture.proofs.Reading.ShownLine.{all-filtered}
 use Rattle.ariadne_picture.proofs.Reading.TextRows.{gap-text, IsTextRow, row-read, source-text, arrow-text, alternate-text}
 use Rattle.ariadne_picture.proofs.Reading.RowNames.{IsName, name-of}
-use Rattle.ariadne_picture.proofs.Reading.RowPlacing.{row_placing}
+use Rattle.ariadne_picture.proofs.Rows.RowPlacing.{row_placing}
 use Rattle.ariadne_picture.proofs.Cells.CanvasRows.{row_cells}
+use Rattle.ariadne_picture.proofs.Lists.ListFacts.{all-filtered}
 
 -- two blanks or more are no single one
 wide-text : (w : ℕ) → is_text (spaces (w + 2)) (32 ∷ []) ≡ false

@@ -21,7 +21,7 @@ use Rattle.ariadne_picture.proofs.Lists.ListFacts.{all-at}
 use Rattle.ariadne_picture.proofs.Reading.MessagePlaces.{two-true, label-here, all-found, has-found}
 use Rattle.ariadne_picture.proofs.Reading.Pictures.{Picture, number, section-is, head_row}
 use Rattle.ariadne_picture.proofs.Reading.ShownLine.{IsArrowRow, arrow-row, IsShownLine}
-use Rattle.ariadne_picture.proofs.Reading.RowPlacing.{rows_of_labels, first_row, row_placing}
+use Rattle.ariadne_picture.proofs.Rows.RowPlacing.{rows_of_labels, first_row, row_placing}
 use Rattle.ariadne_picture.proofs.Rows.RowsThere.{all-gutter-labels, gutter-label-within, gutter-label-message, shown-by-label, shown-by-margin}
 
 -- a line label is the start of gutter label i

@@ -11,7 +11,7 @@ use Rattle.ariadne_picture.specs.Placing.{are_rising, are_distinct}
 use Rattle.ariadne_picture.proofs.Lists.Elements.{all-range, list_all-true}
 use Rattle.ariadne_picture.proofs.Lists.ListFacts.{none≢some, all-at, all-filter, all-map, all-weaker, all-placed, all-in_order, Increasing}
 use Rattle.ariadne_picture.proofs.Rows.RowOrder.{IsBefore, before-irreflexive, before-chain, rows-increasing}
-use Rattle.ariadne_picture.proofs.Reading.RowPlacing.{row_list}
+use Rattle.ariadne_picture.proofs.Rows.RowPlacing.{row_list}
 use Rattle.ariadne_picture.proofs.Reading.Pictures.{Picture, RowAt}
 
 -- ---- lists

@@ -18,13 +18,13 @@ use Rattle.ariadne_picture.specs.Cells.{corner_glyph, alternate_ink, alternate_p
 use Rattle.ariadne_picture.specs.Pieces.{Section}
 use Rattle.ariadne_picture.specs.Canvas.{Cell}
 use Rattle.ariadne_picture.specs.Placing.{is_blank, is_inline_traced, has_underlines, is_span_underlined, is_underlined, has_inline_traces}
-use Rattle.ariadne_picture.proofs.Cells.PlaceCells.{holds-at, label-corner, label-level, label-traced, alternate-cell}
+use Rattle.ariadne_picture.proofs.Reading.PlaceCells.{holds-at, label-corner, label-level, label-traced, alternate-cell}
 use Rattle.ariadne_picture.proofs.Lists.Elements.{Has, has-filter, all-from, list_all-true, left-true, right-true}
 use Rattle.ariadne_picture.proofs.Labels.LabelsAtLine.{IsHere, IsInlineHere}
 use Rattle.ariadne_picture.proofs.Labels.LineLabels.{multi-line}
 use Rattle.ariadne_picture.proofs.Lists.ListFacts.{none≢some}
 use Rattle.ariadne_picture.proofs.Rows.RowOrder.{shown_rows}
-use Rattle.ariadne_picture.proofs.Reading.InkCells.{shows-something, underline-seen}
+use Rattle.ariadne_picture.proofs.Cells.InkCells.{shows-something, underline-seen}
 use Rattle.ariadne_picture.proofs.Reading.PlaceCounts.{ArePlaced, inline-end, column-place}
 use Rattle.ariadne_picture.proofs.Reading.MessagePlaces.{IsMessage, MessagePlace, label-here, every-message, message-place, two-true}
 use Rattle.ariadne_picture.proofs.Reading.Pictures.{Picture, placing_of, read, number, every-group, source_row, number-at}

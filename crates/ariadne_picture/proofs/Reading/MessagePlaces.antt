@@ -18,12 +18,12 @@ use Rattle.ariadne_picture.specs.Placing.{messages_of}
 use Rattle.ariadne_picture.proofs.Lists.Elements.{Has, has-filter, has-map, has-joined, all-from, all-numbered, first-has}
 use Rattle.ariadne_picture.proofs.Labels.LabelsAtLine.{IsHere, labels-here, label-owned, label-ends, Shows, shown-by, shows_number, shows-once, apart}
 use Rattle.ariadne_picture.proofs.Labels.LabelsAtLine.{same-part, increasing-part, has-once}
-use Rattle.ariadne_picture.proofs.Lists.ListFacts.{all-joined, all-map, all-at}
+use Rattle.ariadne_picture.proofs.Lists.ListFacts.{all-filtered, all-joined, all-map, all-at}
 use Rattle.ariadne_picture.proofs.Rows.RowNumbers.{at-part}
-use Rattle.ariadne_picture.proofs.Reading.RowPlacing.{row_list, start_row, rows_of_labels, message_rows, row_placing}
+use Rattle.ariadne_picture.proofs.Rows.RowPlacing.{row_list, start_row, rows_of_labels, message_rows, row_placing}
 use Rattle.ariadne_picture.proofs.Rows.RowsThere.{starts-within, ends-within, shown-by-label}
 use Rattle.ariadne_picture.proofs.Reading.Pictures.{Picture, number, message_row, number-at}
-use Rattle.ariadne_picture.proofs.Reading.ShownLine.{all-filtered, all-group-lines, group-line-at, IsArrowRow, numbered-at, arrow-row, arrow-at}
+use Rattle.ariadne_picture.proofs.Reading.ShownLine.{all-group-lines, group-line-at, IsArrowRow, numbered-at, arrow-row, arrow-at}
 
 -- two tests that both pass
 pub two-true : (b c : Bool) → (b && c) ≡ true → (b ≡ true) × (c ≡ true)

@@ -22,8 +22,9 @@ use Rattle.ariadne_picture.proofs.Labels.LabelsAtLine.{label-owned, label-ends}
 use Rattle.ariadne_picture.proofs.Rows.RowNumbers.{at-back}
 use Rattle.ariadne_picture.proofs.Reading.MessagePlaces.{label-here, every-message, message-place, arrow-shows}
 use Rattle.ariadne_picture.proofs.Reading.Pictures.{Picture, read, number, message_row}
-use Rattle.ariadne_picture.proofs.Reading.ShownLine.{IsArrowRow, arrow-at, IsShownLine, all-filtered, every-shown-line, every-block-row}
+use Rattle.ariadne_picture.proofs.Reading.ShownLine.{IsArrowRow, arrow-at, IsShownLine, every-shown-line, every-block-row}
 use Rattle.ariadne_picture.proofs.Reading.TextRows.{IsTextRow, area, arrow_inks, area-length, arrow-text, alternate-text, row-length, text-at}
+use Rattle.ariadne_picture.proofs.Lists.ListFacts.{all-filtered}
 
 -- a label that is no start shows its message, behind a blank
 message-shown : (t : Texts) (o : Option LineLabel) (x : LineLabel) → o ≡ Some x → is_start x.side ≡ false

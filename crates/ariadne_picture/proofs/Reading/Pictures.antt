@@ -14,7 +14,7 @@ use Rattle.ariadne_picture.proofs.Lists.ListFacts.{Increasing}
 use Rattle.ariadne_picture.proofs.Cells.CanvasRows.{row_cells}
 use Rattle.ariadne_picture.proofs.Lists.Elements.{all-numbered, list_all-true}
 use Rattle.ariadne_picture.proofs.Rows.RowNumbers.{IsRow, row-within, picture_rows, number-of-row}
-use Rattle.ariadne_picture.proofs.Reading.RowPlacing.{start_row, row_number, of_section, row_placing}
+use Rattle.ariadne_picture.proofs.Rows.RowPlacing.{start_row, row_number, of_section, row_placing}
 
 -- what is asked of its groups: the switches of the report, labels that end no earlier than they start, and
 -- a position for each label

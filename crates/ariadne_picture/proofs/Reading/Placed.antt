@@ -35,7 +35,7 @@ use Rattle.ariadne_picture.proofs.Reading.Pictures.{number-at}
 use Rattle.ariadne_picture.proofs.Reading.ShownLine.{IsArrowRow, arrow-at, IsShownLine, source-is, source-at, block-at, every-line, every-block-row}
 use Rattle.ariadne_picture.proofs.Reading.ShownLine.{source-row-is}
 use Rattle.ariadne_picture.proofs.Reading.TextRows.{IsTextRow, source-text, arrow-text, alternate-text, text-cells, front-at}
-use Rattle.ariadne_picture.proofs.Reading.RowPlacing.{row_placing}
+use Rattle.ariadne_picture.proofs.Rows.RowPlacing.{row_placing}
 
 -- a filter of lists joined filters each
 filter-joined : {X Y : Type 0} (test : Y → Bool) (f : X → List Y) (xs : List X)

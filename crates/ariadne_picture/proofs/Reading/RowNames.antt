@@ -17,7 +17,7 @@ use Rattle.ariadne_picture.proofs.Rows.LineBlock.{IsBlockRow, block-rows-are}
 use Rattle.ariadne_picture.proofs.Rows.RowOrder.{shown_rows}
 use Rattle.ariadne_picture.proofs.Reading.Pictures.{Picture, RowAt}
 use Rattle.ariadne_picture.proofs.Reading.ShownLine.{IsArrowRow, arrow-row, all-group-lines}
-use Rattle.ariadne_picture.proofs.Reading.RowPlacing.{row_list}
+use Rattle.ariadne_picture.proofs.Rows.RowPlacing.{row_list}
 
 -- line l is shown, with line label r, which has a message
 pub record IsLabelRow (s : Sheet) (l r : ℕ) : Type 0 where

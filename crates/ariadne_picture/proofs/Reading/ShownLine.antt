@@ -1,9 +1,9 @@
 -- The rows of a shown line: its source row, and the block of the rows of its line labels below it.
 use Rattle.std.proofs.Common.{◌≡◌, ℕ, suc, ◌+◌, ◌-◌, ◌≤◌, Bool, true, false, not, List, [], ◌∷◌, length, Some, ap, ◌∙◌, subst, arith, inl, inr}
 use Rattle.std.proofs.Common.{if◌then◌else◌}
-use Rattle.std.specs.Prelude.{slice_get, filter, slice_index_or}
+use Rattle.std.specs.Prelude.{slice_get, slice_index_or}
 use Rattle.std.specs.List.{AllByRecursion, list_all, enumerate_from}
-use Rattle.std.proofs.lemmas.Bool.{cond_both, not-true}
+use Rattle.std.proofs.lemmas.Bool.{not-true}
 use Rattle.std.proofs.lemmas.Option.{slice_get-get_or}
 use Rattle.ariadne_picture.specs.declared.label_info.LabelInfo.{LabelInfo}
 use Rattle.ariadne_picture.specs.Groups.{group_start_line, group_end_line, group_lines}
@@ -13,12 +13,12 @@ use Rattle.ariadne_picture.specs.Columns.{layout_of, arrow_len}
 use Rattle.ariadne_picture.specs.Pieces.{Section}
 use Rattle.ariadne_picture.specs.Placing.{shown_lines, block_rows}
 use Rattle.ariadne_picture.specs.Lists.{all_numbered}
-use Rattle.ariadne_picture.proofs.Lists.ListFacts.{all-at}
+use Rattle.ariadne_picture.proofs.Lists.ListFacts.{all-filtered, all-at}
 use Rattle.ariadne_picture.proofs.Lists.Elements.{all-range, list_all-true}
 use Rattle.ariadne_picture.proofs.Rows.LineBlock.{IsBlockRow, above, source-place, block-place, block-count, block-rows-are}
 use Rattle.ariadne_picture.proofs.Rows.RowOrder.{shown_rows}
 use Rattle.ariadne_picture.proofs.Rows.RowsThere.{range-at}
-use Rattle.ariadne_picture.proofs.Reading.RowPlacing.{row_list, block_len, row_placing}
+use Rattle.ariadne_picture.proofs.Rows.RowPlacing.{row_list, block_len, row_placing}
 use Rattle.ariadne_picture.specs.declared.label_info.LineLabel.{LineLabel}
 use Rattle.ariadne_picture.proofs.Rows.RowsThere.{enumerated-at}
 use Rattle.ariadne_picture.specs.Ranks.{line_labels}
@@ -45,13 +45,6 @@ pub record IsArrowRow (v : Picture) (g : ℕ) (s : Section) (l r : ℕ) (x : Lin
 -- how many places a row below line l has
 abbrev pub places_of : Section → ℕ → ℕ
 places_of s l = arrow_len s.sheet.switches (layout_of s.sheet l)
-
--- an element that passes a filter's test has what each such element has
-pub all-filtered : {X : Type 0} (P : X → Type 0) (test : X → Bool) (xs : List X)
-    → AllByRecursion (λ x. test x ≡ true → P x) xs → AllByRecursion P (filter test xs)
-all-filtered P test [] a = tt
-all-filtered P test (x ∷ xs) a =
-    cond_both (test x) _ _ (AllByRecursion P) (λ e. (a.0 e, all-filtered P test xs a.1)) (λ _. all-filtered P test xs a.1)
 
 -- the lines of a group are those from its first one to its last one
 pub all-group-lines : (P : ℕ → Type 0) (labels : List LabelInfo)

@@ -10,7 +10,7 @@ use Rattle.ariadne_picture.specs.Rows.{Row, before, rows}
 use Rattle.ariadne_picture.specs.Pieces.{Texts, Section}
 use Rattle.ariadne_picture.proofs.Lists.ListFacts.{none≢some, all-weaker, all-at, filter-none, Increasing}
 use Rattle.ariadne_picture.proofs.Rows.RowOrder.{IsBefore, before-irreflexive, before-chain, rows-increasing}
-use Rattle.ariadne_picture.proofs.Reading.RowPlacing.{row_list, start_row, row_number}
+use Rattle.ariadne_picture.proofs.Rows.RowPlacing.{row_list, start_row, row_number}
 
 -- ---- elements of lists joined
 

@@ -11,7 +11,7 @@ use Rattle.ariadne_picture.specs.Canvas.{Cell, canvas, sections, texts_of}
 use Rattle.ariadne_picture.specs.Print.{erased, unescaped, printed}
 use Rattle.ariadne_picture.specs.Placing.{Placing}
 use Rattle.ariadne_picture.specs.Variants.{colorless, char_world, own_start, char_label, char_report}
-use Rattle.ariadne_picture.proofs.Reading.RowPlacing.{is_read}
+use Rattle.ariadne_picture.proofs.Rows.RowPlacing.{is_read}
 use Rattle.ariadne_picture.proofs.Worked.Sample.{Span, Entry, world, reasons, ascii_config, one, label, report, drawn}
 
 unfoldable pub infos : List Entry → ReportFields Span → List LabelInfo

@@ -16,7 +16,7 @@ use Rattle.ariadne_picture.specs.Accept.{verdict_in, drawn_labels}
 use Rattle.ariadne_picture.specs.Canvas.{canvas, sections, texts_of}
 use Rattle.ariadne_picture.specs.Print.{printed}
 use Rattle.ariadne_picture.proofs.Worked.Unfold.{evaluated}
-use Rattle.ariadne_picture.proofs.Reading.RowPlacing.{is_read, row_placing, read_by_rows}
+use Rattle.ariadne_picture.proofs.Rows.RowPlacing.{is_read, row_placing, read_by_rows}
 
 -- a text from its characters
 unfoldable pub text : List ℕ → List ℕ

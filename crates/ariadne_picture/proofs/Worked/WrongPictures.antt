@@ -8,7 +8,7 @@ use Rattle.ariadne_picture.specs.Report.{ReportFields}
 use Rattle.ariadne_picture.specs.Canvas.{Cell, texts_of}
 use Rattle.ariadne_picture.specs.Placing.{no_cell, is_placing, has_message_rows, has_inline_traces, has_ends_of_gutter_traces, has_gutter_bars}
 use Rattle.ariadne_picture.specs.Placing.{is_aligned}
-use Rattle.ariadne_picture.proofs.Reading.RowPlacing.{row_placing}
+use Rattle.ariadne_picture.proofs.Rows.RowPlacing.{row_placing}
 use Rattle.ariadne_picture.proofs.Worked.Sample.{Span, Entry, utf8, one, label, report, drawn}
 use Rattle.ariadne_picture.proofs.Worked.Readings.{infos, cells_of, parts_of, nested, apart, wide}
 

@@ -1,5 +1,5 @@
-use Rattle.ariadne_picture.proofs.Rows.GutterStrokes.{shows-head, shows-corner, shows-beside-line, shows-beside-hidden, shows-alternate}
-use Rattle.ariadne_picture.proofs.Rows.GutterStrokes.{shows-arrow, shows-outside}
+use Rattle.ariadne_picture.proofs.Cells.GutterStrokes.{shows-head, shows-corner, shows-beside-line, shows-beside-hidden, shows-alternate}
+use Rattle.ariadne_picture.proofs.Cells.GutterStrokes.{shows-arrow, shows-outside}
 use Rattle.ariadne_picture.proofs.laws.gutter_columns_show_their_strokes.Goals as goal
 
 pub returns-clause-head : goal.returns-clause-head

@@ -1,4 +1,4 @@
-use Rattle.ariadne_picture.proofs.Rows.GutterStrokes.{shows-last}
+use Rattle.ariadne_picture.proofs.Cells.GutterStrokes.{shows-last}
 use Rattle.ariadne_picture.proofs.laws.the_last_gutter_column_has_no_bar.Goals as goal
 
 pub returns : goal.returns

@@ -14,7 +14,7 @@ use Rattle.ariadne_picture.specs.Rows.{Row, source, alternate, arrow, gap}
 use Rattle.ariadne_picture.specs.Strokes.{has_bar, bar_at}
 use Rattle.ariadne_picture.specs.Cells.{margin_glyph, margin_ink, beside_ink, below_ink, turn_glyph, turn_ink, column_ink, ink_of}
 use Rattle.ariadne_picture.specs.Pieces.{gutter_len}
-use Rattle.ariadne_picture.proofs.Reading.InkCells.{IsLevel}
+use Rattle.ariadne_picture.proofs.Cells.InkCells.{IsLevel}
 
 -- a horizontal, or nothing
 abbrev pub IsFree : Ink → Type 0

@@ -19,9 +19,9 @@ use Rattle.ariadne_picture.proofs.Rows.RowOrder.{IsBefore, before-irreflexive, b
 use Rattle.ariadne_picture.proofs.Rows.BarCases.{at-margin, between-bar, bar-between, source-row, precedes-row, first-is, first_step}
 use Rattle.ariadne_picture.proofs.Rows.BarCases.{first-at-margin, last-is, rises, first-before-last, no-tee-alternate, no-tee-arrow, no-tee-gap}
 use Rattle.ariadne_picture.proofs.Rows.GutterLabelRows.{starts-somewhere, ends-somewhere, first-at-source, first-at-arrow, last-at-arrow}
-use Rattle.ariadne_picture.proofs.Reading.GutterInks.{IsFree, no-bar-last, bar-beside, leave-beside, free-beside, last-beside, bar-gap}
-use Rattle.ariadne_picture.proofs.Reading.GutterInks.{bar-alternate, free-alternate, own-arrow, behind-arrow, bar-arrow, free-arrow}
-use Rattle.ariadne_picture.proofs.Reading.InkCells.{IsLevel}
+use Rattle.ariadne_picture.proofs.Cells.GutterInks.{IsFree, no-bar-last, bar-beside, leave-beside, free-beside, last-beside, bar-gap}
+use Rattle.ariadne_picture.proofs.Cells.GutterInks.{bar-alternate, free-alternate, own-arrow, behind-arrow, bar-arrow, free-arrow}
+use Rattle.ariadne_picture.proofs.Cells.InkCells.{IsLevel}
 
 -- no two rows stand before each other, as none stands before itself
 not-both : (x y : Row) → IsBefore x y → IsBefore y x → ⊥

@@ -24,7 +24,7 @@ use Rattle.ariadne_picture.proofs.Rows.RowNumbers.{at-front}
 use Rattle.ariadne_picture.proofs.Rows.RowOrder.{IsBefore, before-decides, shown_rows}
 use Rattle.ariadne_picture.proofs.Cells.RowCells.{area-first}
 use Rattle.ariadne_picture.proofs.Reading.InOrder.{in-order}
-use Rattle.ariadne_picture.proofs.Reading.InkCells.{ink_cell, shows-glyph, shows-level, shows-something, level-ink, arrow-seen, alternate-seen}
+use Rattle.ariadne_picture.proofs.Cells.InkCells.{ink_cell, shows-glyph, shows-level, shows-something, level-ink, arrow-seen, alternate-seen}
 use Rattle.ariadne_picture.proofs.Reading.Pictures.{Picture, RowAt, placing_of, read, number, source_row, number-at}
 use Rattle.ariadne_picture.proofs.Reading.ShownLine.{IsArrowRow, arrow-row, arrow-at, IsShownLine, places_of, places-are, source-at, block-row-is}
 use Rattle.ariadne_picture.proofs.Reading.TextRows.{IsTextRow, area, arrow_inks, alternate_inks, arrow-text, alternate-text, text-at}
