@@ -172,7 +172,7 @@ module _ {S Id : Type 0} (w : World S Id) (r : ReportFields S) where
     sheet = sheet_of e.1;
     name = group_name e.1;
     display_offset = (group_source e.1).display_offset;
-    place = header_offset e.1;
+    header_offset = header_offset e.1;
     is_first = e.0 == 0;
     is_last = e.0 + 1 == n;
   }

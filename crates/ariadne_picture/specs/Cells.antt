@@ -108,7 +108,7 @@ arrow_ink switches r x false false (Some v) =
 arrow_ink switches r x false true None = ink_of Hbar Hbar x.info
 arrow_ink switches r x false false None = blanks
 
--- place k of the alternate row of rank r, and of its arrow row, where that label is x
+-- place k of the alternate row of rank r
 unfoldable pub alternate_place : Switches → Layout → ℕ → ℕ → Ink
 alternate_place switches y r k =
     alternate_ink switches r (vertical_at y r k) (underline_at switches y r k)

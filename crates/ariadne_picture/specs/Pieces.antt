@@ -151,7 +151,8 @@ gutter_pieces s x =
 
 -- ---- the rows of a group
 
--- what a report's picture reads beside the labels
+-- what a report's picture reads beside the labels: its switches, its texts (first the code and the
+-- word of the kind), and the message of the label at each position
 pub record Texts : Type 0 where
   pub switches : Switches
   pub kind_text : List ℕ
@@ -160,12 +161,13 @@ pub record Texts : Type 0 where
   pub notes : List (List ℕ)
   pub message_of : ℕ → List ℕ
 
--- a group within the picture
+-- a group within the picture: its labels and lines, what its source is called, what is added to the
+-- numbers of the lines, the offset that its header names, and where it stands
 pub record Section : Type 0 where
   pub sheet : Sheet
   pub name : List ℕ
   pub display_offset : ℕ
-  pub place : Option ℕ
+  pub header_offset : Option ℕ
   pub is_first : Bool
   pub is_last : Bool
 
@@ -183,7 +185,7 @@ group_header_pieces g w =
     plain_text (spaces (w + 2)) ∷ stroke set (if g.is_first then Ltop else Lcross) Margin
     ∷ stroke set Hbar Margin ∷ stroke set Lbox Margin
     ∷ plain_text (codes " " ++ g.name ++ codes ":"
-    ++ location_text g.sheet.lines g.display_offset g.place ++ codes " ")
+    ++ location_text g.sheet.lines g.display_offset g.header_offset ++ codes " ")
     ∷ stroke set Rbox Margin ∷ []
 
 -- the row below a group header, and between two groups

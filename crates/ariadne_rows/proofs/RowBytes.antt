@@ -111,7 +111,7 @@ piece_margin s w display_offset a k q = refl
 
 -- the header of a group, whose place is told as a text
 pub group-header-pieces-is : (g : Section) (w : ℕ) → group_header_pieces g w ≡ group_header_line g.sheet.switches.char_set w g.is_first g.name
-    (location_text g.sheet.lines g.display_offset g.place)
+    (location_text g.sheet.lines g.display_offset g.header_offset)
 unfolding group_header_pieces group_header_line
 group-header-pieces-is g w = refl
 

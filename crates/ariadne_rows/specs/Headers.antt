@@ -19,15 +19,15 @@ bar_margin switches w bar =
     }
     ∷ (if switches.compact then [] else blank_piece ∷ [])
 
--- the text of a place, by the numbers of its line and its column, if there is one
+-- the text of a location, by the numbers of its line and its column, if there is one
 unfoldable pub location_numbers : Option (ℕ × ℕ) → List ℕ
 location_numbers None = codes "?:?"
 location_numbers (Some p) = decimal p.0 ++ codes ":" ++ decimal p.1
 
--- the header of a group in a source with this name, where its place has this text
+-- the header of a group in a source with this name, where its location has this text
 unfoldable pub group_header_line : CharSet → ℕ → Bool → List ℕ → List ℕ → List Piece
-group_header_line set w is_first name place =
+group_header_line set w is_first name location =
     plain_text (spaces (w + 2)) ∷ stroke set (if is_first then Ltop else Lcross) Margin
     ∷ stroke set Hbar Margin ∷ stroke set Lbox Margin
-    ∷ plain_text (codes " " ++ name ++ codes ":" ++ place ++ codes " ")
+    ∷ plain_text (codes " " ++ name ++ codes ":" ++ location ++ codes " ")
     ∷ stroke set Rbox Margin ∷ []

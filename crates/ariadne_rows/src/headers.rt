@@ -64,7 +64,7 @@ fn push_code(out: &mut String, code: Option<&str>) -> Result<(), AllocError>
 }
 
 /// Appends the header of a group: the name of its source, and the numbers of a line and a column,
-/// if the place is known.
+/// if the location is known.
 ///
 /// ```text
 ///        ,-[ <unknown>:1:1 ]
@@ -76,9 +76,9 @@ pub fn push_group_header(
     width: usize,
     is_first: bool,
     name: &str,
-    place: Option<(usize, usize)>,
+    location: Option<(usize, usize)>,
 ) -> Result<(), AllocError>
-    ensures { let head = group_header_line set width is_first name.now (location_numbers place) in
+    ensures { let head = group_header_line set width is_first name.now (location_numbers location) in
         let written = pieces_bytes palette.now head in
         OnOk result (string_bytes out.new ≡ string_bytes out.old ++ written) }
 {
@@ -87,33 +87,33 @@ pub fn push_group_header(
     push_stroke(out, palette, set, corner, FRAME)?;
     push_stroke(out, palette, set, Glyph::Hbar, FRAME)?;
     push_stroke(out, palette, set, Glyph::Lbox, FRAME)?;
-    push_location(out, name, place)?;
+    push_location(out, name, location)?;
     push_stroke(out, palette, set, Glyph::Rbox, FRAME)
 }
 
-/// Appends the name of a source and a place in it, between blanks.
+/// Appends the name of a source and a location in it, between blanks.
 fn push_location(
     out: &mut String,
     name: &str,
-    place: Option<(usize, usize)>,
+    location: Option<(usize, usize)>,
 ) -> Result<(), AllocError>
-    ensures { let numbers = location_numbers place in
+    ensures { let numbers = location_numbers location in
         let written = codes " " ++ name.now ++ codes ":" ++ numbers ++ codes " " in
         OnOk result (string_bytes out.new ≡ string_bytes out.old ++ written) }
 {
     out.push(' ')?;
     out.push_str(name)?;
     out.push(':')?;
-    push_numbers(out, place)?;
+    push_numbers(out, location)?;
     out.push(' ')
 }
 
 /// Appends the numbers of a line and a column, if they are known.
 #[tactic(auto, unfolding(crate::specs::Headers::location_numbers))]
-fn push_numbers(out: &mut String, place: Option<(usize, usize)>) -> Result<(), AllocError>
-    ensures { OnOk result (string_bytes out.new ≡ string_bytes out.old ++ location_numbers place) }
+fn push_numbers(out: &mut String, location: Option<(usize, usize)>) -> Result<(), AllocError>
+    ensures { OnOk result (string_bytes out.new ≡ string_bytes out.old ++ location_numbers location) }
 {
-    match place {
+    match location {
         Some((line, column)) => write!(out, "{line}:{column}"),
         None => out.push_str("?:?"),
     }

@@ -114,7 +114,7 @@ fn push_group(
     let group = ordered(report.alloc, infos)?;
     let layout = layout_of(report, source, &group, line)?;
     let number = line_number_of(source, line);
-    let place = header_location(report, source);
+    let location = header_location(report, source);
     push_group_header(
         out,
         palette,
@@ -122,7 +122,7 @@ fn push_group(
         number.width,
         true,
         "<unknown>",
-        place,
+        location,
     )?;
     out.push('\n')?;
     if !switches.compact {
@@ -231,9 +231,9 @@ fn layout_of(
         (line_text lines line)) }
     ensures short { IfOk result (λ y. length y.text < 2 ^ 63) }
 {
-    let place = source.line(line).unwrap();
-    let text = source.get_line_text(place).unwrap();
-    LineLayout::of_line(report.alloc, group, place.offset(), text)
+    let extent = source.line(line).unwrap();
+    let text = source.get_line_text(extent).unwrap();
+    LineLayout::of_line(report.alloc, group, extent.offset(), text)
 }
 
 /// How a line of a source is numbered, where it is the only one of a picture.
@@ -254,7 +254,7 @@ fn line_number_of(source: &Source<String>, line: usize) -> LineNumber
 }
 
 /// The numbers of the line and the column that the report's own span starts at, both from 1, if
-/// that is a place of the source.
+/// that lies in the source.
 fn header_location(report: &Report<'_>, source: &Source<String>) -> Option<(usize, usize)>
     ensures { location_numbers result ≡ location_text
         (listed_lines source.now) source.now.display_offset (own_offset source.now report.now) }

@@ -125,7 +125,7 @@ clean-location ls display_offset (Some o) = search (clean-append, clean-decimal,
 clean-header : (g : Section) (w : ℕ) → IsCleanSection g → AreClean (group_header_pieces g w)
 unfolding group_header_pieces
 clean-header g w h =
-    let name = h.name in let place = clean-location g.sheet.lines g.display_offset g.place in
+    let name = h.name in let place = clean-location g.sheet.lines g.display_offset g.header_offset in
     search (clean-append, clean-spaces, clean-glyph, clean-from)
 
 -- the row below it

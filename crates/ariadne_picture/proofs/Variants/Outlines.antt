@@ -123,7 +123,7 @@ module _ {S T Id : Type 0} (w : World S Id) (v : World T Id) (r : ReportFields S
       sheet = record { switches = same.switches i; lines = listed_lines (same-group_source group i); labels = group };
       name = unwrap_or (option_and_then (same.names i) (same-group_id group i)) (codes "<unknown>");
       display_offset = (same-group_source group i).display_offset;
-      place = place i;
+      header_offset = place i;
       is_first = k == 0;
       is_last = k + 1 == n;
     }

@@ -82,7 +82,7 @@ returns c =
     let compact = c.switches-switches.result.compact in
     let w : ℕ = length (decimal (printed_number s.display_offset c.args.line)) in
     let wide : c.line_number_of-number.result.width ≡ w = c.line_number_of-number.ensures.width in
-    let head : List ℕ = pieces_bytes p (group_header_line set w true (codes "<unknown>") (location_numbers c.header_location-place.result)) in
+    let head : List ℕ = pieces_bytes p (group_header_line set w true (codes "<unknown>") (location_numbers c.header_location-location.result)) in
     let above : List ℕ = pieces_bytes p (spacer_pieces set w) in
     let below : List ℕ = pieces_bytes p (tail_pieces set w true) in
     let rows : List ℕ = line_bytes p (texts_of r) w s.display_offset c.args.line y in
@@ -109,6 +109,6 @@ returns c =
           (string_bytes c.push_line.new.out) below v.if-not-switches-2.false refl)
     ] in
     let group = group_styled s r p c.args.line c.args.infos.now
-    (location_numbers c.header_location-place.result) c.switches-switches.result same c.requires.some on chars c.header_location-place.ensures in
+    (location_numbers c.header_location-location.result) c.switches-switches.result same c.requires.some on chars c.header_location-location.ensures in
     four_parts old (head ++ 10 ∷ []) (if compact then [] else above ++ 10 ∷ []) rows (if compact then [] else below ++ 10 ∷ []) _ _ _ _ n1 n2 n3 n4
     ∙ ap (λ b. old ++ b) (sym group)
