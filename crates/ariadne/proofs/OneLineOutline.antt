@@ -12,7 +12,7 @@ use Rattle.ariadne_picture.specs.Report.{ReportFields, World}
 use Rattle.ariadne_picture.specs.Groups.{groups_of, ordered, number_len}
 use Rattle.ariadne_picture.specs.Ranks.{Sheet}
 use Rattle.ariadne_picture.specs.Rows.{Row, group_header, spacer, source, alternate, arrow, tail, rows}
-use Rattle.ariadne_picture.specs.Columns.{Layout, layout_of}
+use Rattle.ariadne_picture.specs.Columns.{Layout}
 use Rattle.ariadne_picture.specs.Cells.{arrow_place}
 use Rattle.ariadne_picture.specs.Pieces.{Piece, Texts, Section, margin_pieces, area_pieces, message_pieces, rest_pieces, row_pieces, section_rows}
 use Rattle.ariadne_picture.specs.Pieces.{spacer_pieces, tail_pieces}
@@ -135,11 +135,6 @@ module _ {S Id : Type 0} (w : World S Id) (r : ReportFields S) where
       let digits : number_len display_offset (ordered infos) ≡ only_number_width w r l infos = number_len-within display_offset l (ordered infos)
       (omega arith) (within-ordered l infos h.lines) in
       rw (groups-on_line l infos some h, digits) (max-0 (only_number_width w r l infos))
-
-  -- the layout of the line of the group
-  pub layout-on_line : (l : ℕ) (infos : List LabelInfo) → AreOnLine w r l infos → layout_of (sheet_of w r (ordered infos)) l ≡ only_layout w r l infos
-  unfolding sheet_of
-  layout-on_line l infos h = layout_of-within (sheet_of w r (ordered infos)) l (within-ordered l infos h.lines)
 
   -- the rows of the picture
   pub outline-on_line : (l : ℕ) (infos : List LabelInfo) → 0 < length infos → AreOnLine w r l infos

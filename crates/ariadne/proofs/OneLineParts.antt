@@ -1,31 +1,21 @@
 -- The rows of labels within one line, part by part, as a writer pushes them.
-use Rattle.std.proofs.Common.{◌≡◌, ℕ, ◌<◌, true, false, List, [], ◌∷◌, ◌++◌, Option, Some, map, length, refl, ap, ◌∙◌, append_assoc}
-use Rattle.std.specs.Prelude.{if◌then◌else◌, slice_get}
-use Rattle.std.specs.List.{AllByRecursion, enumerate_from}
+use Rattle.std.proofs.Common.{◌≡◌, ℕ, ◌<◌, List, [], ◌∷◌, ◌++◌, Option, map, length, ap, ◌∙◌}
+use Rattle.std.specs.Prelude.{slice_get}
+use Rattle.std.specs.List.{enumerate_from}
 use Rattle.ariadne_picture.specs.declared.label_info.LabelInfo.{LabelInfo}
 use Rattle.ariadne_picture.specs.declared.label_info.LineLabel.{LineLabel}
-use Rattle.ariadne_picture.specs.declared.label_info.Side.TheVariants.{Inline}
-use Rattle.ariadne_picture.specs.Lists.{in_order}
 use Rattle.ariadne_picture.specs.Report.{ReportFields, World}
-use Rattle.ariadne_picture.specs.Ranks.{is_start, is_before}
 use Rattle.ariadne_picture.specs.Rows.{source, alternate, arrow}
 use Rattle.ariadne_picture.specs.Columns.{Layout}
 use Rattle.ariadne_picture.specs.Cells.{alternate_place, arrow_place}
-use Rattle.ariadne_picture.specs.Pieces.{Piece, Texts, blank_piece, plain_text, margin_pieces, shown_pieces, area_pieces, message_pieces}
+use Rattle.ariadne_picture.specs.Pieces.{Piece, Texts, margin_pieces, shown_pieces, area_pieces, message_pieces}
 use Rattle.ariadne_picture.specs.Canvas.{Palette, section_of, groups}
 use Rattle.ariadne_picture.specs.Print.{pieces_bytes}
-use Rattle.ariadne.specs.OneLine.{AreOnLine, only_section, source_row, alternate_row, arrow_row, sent_row, label_bytes}
-use Rattle.ariadne_rows.specs.InlineLayout.{inline_label}
-use Rattle.ariadne_picture.proofs.Lists.ListFacts.{all-in_order, all-map, all-every}
+use Rattle.ariadne.specs.OneLine.{AreOnLine, only_section, source_row, alternate_row, arrow_row, sent_row}
 use Rattle.ariadne.proofs.OneLineOutline.{groups-on_line}
 use Rattle.ariadne_rows.proofs.Bytes.{pieces_bytes-append}
 
 -- ---- the rows of the line
-
--- a row in two parts
-pub sent_row-append : (p : Palette) (xs ys : List Piece) → sent_row p (xs ++ ys) ≡ pieces_bytes p xs ++ sent_row p ys
-sent_row-append p xs ys =
-    ap (λ b. b ++ 10 ∷ []) (pieces_bytes-append p xs ys) ∙ append_assoc (pieces_bytes p xs) (pieces_bytes p ys) (10 ∷ [])
 
 -- the source row: its margin and its text
 pub source_row-parts : (p : Palette) (t : Texts) (w display_offset l : ℕ) (y : Layout)
@@ -59,31 +49,7 @@ arrow_row-parts p t w display_offset l y k =
     ap (λ b. b ++ 10 ∷ []) (pieces_bytes-append p (margin ++ area) message
     ∙ ap (λ b. b ++ pieces_bytes p message) (pieces_bytes-append p margin area))
 
--- in compact form a label has its arrow row alone
-pub label_bytes-compact : (p : Palette) (t : Texts) (w display_offset l : ℕ) (y : Layout) (k : ℕ) → t.switches.compact ≡ true
-    → label_bytes p t w display_offset l y k ≡ sent_row p (arrow_row t w display_offset l y k)
-unfolding label_bytes
-label_bytes-compact p t w display_offset l y k e = rw e
-
--- else its alternate row and its arrow row
-pub label_bytes-both : (p : Palette) (t : Texts) (w display_offset l : ℕ) (y : Layout) (k : ℕ) → t.switches.compact ≡ false
-    → label_bytes p t w display_offset l y k ≡ sent_row p (alternate_row t w display_offset l y k) ++ sent_row p (arrow_row t w display_offset l y k)
-unfolding label_bytes
-label_bytes-both p t w display_offset l y k e = rw e
-
 -- ---- messages
-
--- each label of the line lies within it
-pub all-inline : (infos : List LabelInfo) → AllByRecursion (λ (x : LineLabel). x.side ≡ Inline) (in_order is_before (map inline_label infos))
-all-inline infos =
-    all-in_order (λ x. x.side ≡ Inline) is_before (map inline_label infos)
-    (all-map (λ x. x.side ≡ Inline) inline_label infos (all-every _ (λ a. refl) infos))
-
--- so its arrow row shows its message, behind a blank
-pub message_pieces-inline : (t : Texts) (x : LineLabel) → x.side ≡ Inline → message_pieces t (Some x) ≡ blank_piece
-    ∷ plain_text (t.message_of x.info.position) ∷ []
-unfolding message_pieces is_start
-message_pieces-inline t x e = ap (λ side. if is_start side then [] else blank_piece ∷ plain_text (t.message_of x.info.position) ∷ []) e
 
 -- ---- the group
 

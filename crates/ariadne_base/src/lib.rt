@@ -1,4 +1,5 @@
-//! Colours, sources and the caches that hold them.
+//! Colours, sources and the caches that hold them. `ariadne` gives out the names at the end; what else
+//! is public here serves the crates above, and is no part of its surface.
 #![tactic(auto)]
 
 pub mod cache;

@@ -7,10 +7,10 @@ use Rattle.ariadne_base.specs.Colors.{painted}
 use Rattle.ariadne_picture.specs.declared.switches.CharSet.{CharSet}
 use Rattle.ariadne_picture.specs.declared.switches.Switches.{Switches}
 use Rattle.ariadne_picture.specs.declared.cell.Glyph.{Glyph}
-use Rattle.ariadne_picture.specs.declared.cell.Glyph.TheVariants.{Hbar, Vbar, VbarGap, Ltop, Rbot, Lbox, Rbox, Lcross}
+use Rattle.ariadne_picture.specs.declared.cell.Glyph.TheVariants.{Hbar, Vbar, Ltop, Rbot, Lbox, Rbox, Lcross}
 use Rattle.ariadne_picture.specs.declared.cell.Paint.TheVariants.{Kind, Margin, SkippedMargin}
 use Rattle.ariadne_picture.specs.Canvas.{Palette, color_of}
-use Rattle.ariadne_picture.specs.Rows.{Aside, source, alternate, arrow, gap, bare, blank, piece}
+use Rattle.ariadne_picture.specs.Rows.{source, alternate, arrow}
 use Rattle.ariadne_picture.specs.Lists.{joined}
 use Rattle.ariadne_rows.specs.Headers.{bar_margin, group_header_line}
 use Rattle.ariadne_base.specs.Escapes.{opened as opening, closed as closing}
@@ -83,14 +83,6 @@ line_margin_bytes p s w display_offset l =
 
 -- ---- the margins of the rows without a number
 
-pub gap_margin : (s : Switches) (w display_offset l : ℕ) → margin_pieces s w display_offset (gap l) ≡ bar_margin s w VbarGap
-unfolding margin_pieces margin_paint margin_text bar_margin
-gap_margin s w display_offset l = refl
-
-pub bare_margin : (s : Switches) (w display_offset l : ℕ) → margin_pieces s w display_offset (bare l) ≡ bar_margin s w Vbar
-unfolding margin_pieces margin_paint margin_text bar_margin
-bare_margin s w display_offset l = refl
-
 pub alternate_margin : (s : Switches) (w display_offset l r : ℕ) → margin_pieces s w display_offset (alternate l r) ≡ bar_margin s w Vbar
 unfolding margin_pieces margin_paint margin_text bar_margin
 alternate_margin s w display_offset l r = refl
@@ -98,14 +90,6 @@ alternate_margin s w display_offset l r = refl
 pub arrow_margin : (s : Switches) (w display_offset l r : ℕ) → margin_pieces s w display_offset (arrow l r) ≡ bar_margin s w Vbar
 unfolding margin_pieces margin_paint margin_text bar_margin
 arrow_margin s w display_offset l r = refl
-
-pub blank_margin : (s : Switches) (w display_offset : ℕ) (a : Aside) (k : ℕ) → margin_pieces s w display_offset (blank a k) ≡ bar_margin s w Vbar
-unfolding margin_pieces margin_paint margin_text bar_margin
-blank_margin s w display_offset a k = refl
-
-pub piece_margin : (s : Switches) (w display_offset : ℕ) (a : Aside) (k q : ℕ) → margin_pieces s w display_offset (piece a k q) ≡ bar_margin s w Vbar
-unfolding margin_pieces margin_paint margin_text bar_margin
-piece_margin s w display_offset a k q = refl
 
 -- ---- the rows round the lines of a group
 

@@ -37,7 +37,3 @@ length-take_other xs n some low w =
     ∙ ap length (drop-other (take (n - 1) xs) (get_or xs (n - 1) 0) w)
     ∙ length_push (take (n - 1) xs) (get_or xs (n - 1) 0)
     ∙ (let short : length (take (n - 1) xs) ≡ n - 1 = length-take-le (n - 1) xs (omega arith) in omega (arith, short))
-
--- its end: there is no character left
-pub length-take_none : (xs : List ℕ) (n : ℕ) → n ≤ 0 → length (drop_trailing_whitespace (take n xs)) ≡ n
-length-take_none xs n none = let e : n ≡ 0 = omega arith in rw e

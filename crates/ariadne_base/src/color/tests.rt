@@ -77,7 +77,7 @@ fn greatest_after_one() -> ColorGenerator
 }
 
 #[test]
-fn every_colour_in_front_and_behind(rt: HostRuntime) -> Result<(), Fail> {
+fn every_color_in_front_and_behind(rt: HostRuntime) -> Result<(), Fail> {
     let cases = [
         (Color::Primary, "39", "49"),
         (Color::Fixed(0), "38;5;0", "48;5;0"),
@@ -125,7 +125,7 @@ fn every_colour_in_front_and_behind(rt: HostRuntime) -> Result<(), Fail> {
 }
 
 #[test]
-fn values_without_colour_stand_alone(rt: HostRuntime) -> Result<(), Fail> {
+fn values_without_color_stand_alone(rt: HostRuntime) -> Result<(), Fail> {
     let alloc = rt.alloc();
     assert_eq!(rt;
         format!(in alloc; "{}{}", "x".fg(None), 7.bg(None))?.as_str(),
@@ -176,7 +176,7 @@ fn numbers_and_empty_texts_are_painted(rt: HostRuntime) -> Result<(), Fail> {
 }
 
 #[test]
-fn colours_of_the_usual_generator(rt: HostRuntime) {
+fn colors_of_the_usual_generator(rt: HostRuntime) {
     let mut usual = ColorGenerator::new();
     let mut default = ColorGenerator::default();
     for number in [201, 155, 187] {

@@ -1,9 +1,9 @@
 -- Each drawn label lies in the lines of its group's sheet, and no two have one number.
-use Rattle.std.proofs.Common.{◌≢◌, map, ◌≡◌, ℕ, zero, suc, ◌+◌, ◌<◌, ◌≤◌, min, Bool, true, false, cond, not, ◌||◌, List, [], ◌∷◌, ◌++◌, Option, Some}
-use Rattle.std.proofs.Common.{None, length, take, slice_get, refl, sym, ap, ◌∙◌, subst, arith, ◌==◌, nat_lt, nat_le, inl, inr, chars, unwrap_or}
+use Rattle.std.proofs.Common.{◌≢◌, map, ◌≡◌, ℕ, zero, suc, ◌+◌, ◌<◌, ◌≤◌, min, Bool, true, false, not, ◌||◌, List, [], ◌∷◌, ◌++◌, Option, Some}
+use Rattle.std.proofs.Common.{None, length, take, slice_get, refl, sym, ap, ◌∙◌, subst, arith, ◌==◌, nat_lt, inl, inr, chars, unwrap_or}
 use Rattle.std.proofs.Common.{option_and_then, option_to_list, find}
 use Rattle.std.specs.List.{AllByRecursion, range_with_len, enumerate_from}
-use Rattle.std.proofs.lemmas.Bool.{cond_both, cases_Bool, cases_lt, cases_eq, le-leb, lt-leb, true≢false, eqb-true, eq-eqb, ne_eqb, or_parts}
+use Rattle.std.proofs.lemmas.Bool.{cond_both, cases_Bool, cases_lt, cases_eq, true≢false, eqb-true, eq-eqb, or_parts}
 use Rattle.std.proofs.lemmas.Bool.{ltb-false, not-false}
 use Rattle.std.proofs.lemmas.List.{length-append}
 use Rattle.std.proofs.lemmas.Str.{encodes-append}
@@ -18,12 +18,11 @@ use Rattle.ariadne_picture.specs.declared.verdict.Verdict.TheVariants.{PastSourc
 use Rattle.ariadne_picture.specs.declared.label_info.LabelInfo.{LabelInfo}
 use Rattle.ariadne_picture.specs.Report.{ConfigFields, LabelFields, ReportFields, World}
 use Rattle.ariadne_picture.specs.Accept.{text_len, offset_in_chars, info_of, within, verdict, verdict_in, accepted_info, drawn_label, drawn_labels}
-use Rattle.ariadne_picture.specs.Lists.{joined, total}
+use Rattle.ariadne_picture.specs.Lists.{joined}
 use Rattle.ariadne_picture.specs.Groups.{ordered, is_cut, HasNoCut, AreCut, groups_of}
 use Rattle.ariadne_picture.specs.Pieces.{Section}
 use Rattle.ariadne_picture.specs.Canvas.{section_of, sections, label_id, is_same_id, same_source, group_id, group_source, sheet_of, groups}
 use Rattle.ariadne_picture.proofs.Lists.ListFacts.{Increasing, increasing-append, none≢some, all-append, all-at, all-in_order, all-weaker}
-use Rattle.ariadne_picture.proofs.Lists.Occurrences.{occurrences, total-append, total-in_order}
 use Rattle.ariadne_picture.proofs.Labels.Cutting.{together, groups-exist}
 use Rattle.ariadne_picture.proofs.Labels.LabelPlaces.{IsPlaced, info-placed}
 
@@ -163,46 +162,6 @@ module _ {S Id : Type 0} (w : World S Id) (r : ReportFields S) where
       (λ a d. let e = d.1 in (d.0, omega arith))
       (drawn-from (suc k) labels reasons (λ j. let e : k + suc j ≡ suc k + j = omega arith in g (suc j) ∙ ap (slice_get r.labels) e) h.1))
 
-  -- no two have one number
-  once-from : {R : Type 0} (n k : ℕ) (labels : List (LabelFields S)) (reasons : List (Option R))
-      → ((j : ℕ) → slice_get labels j ≡ slice_get r.labels (k + j)) → AllByRecursion (λ label. w.start_of label.span ≤ w.end_of label.span) labels
-      → occurrences (λ (a : LabelInfo). a.position == n) (drawn_labels w r.config k labels reasons) ≤ cond (nat_le k n) 1 0
-  unfolding drawn_labels drawn_label total
-  once-from n k [] reasons g h = omega arith
-  once-from n k (label ∷ labels) [] g h = omega arith
-  once-from {R = R} n k (label ∷ labels) (reason ∷ reasons) g h =
-      let f : LabelInfo → ℕ = λ a. cond (a.position == n) 1 0 in
-      let z : k + 0 ≡ k = omega arith in
-      let here = one-count n k label reason (one-drawn k label reason (ap (slice_get r.labels) (sym z) ∙ sym (g 0)) h.0) in
-      let later = once-from n (suc k) labels reasons
-      (λ j. let e : k + suc j ≡ suc k + j = omega arith in g (suc j) ∙ ap (slice_get r.labels) e) h.1 in
-      let sum : total f (drawn_label w r.config k label reason ++ drawn_labels w r.config (suc k) labels reasons) ≡ total f
-      (drawn_label w r.config k label reason) + total f (drawn_labels w r.config (suc k) labels reasons) = total-append f
-      (drawn_label w r.config k label reason) (drawn_labels w r.config (suc k) labels reasons) in
-      let room = steps n k in
-      omega arith
-    where
-      steps : (n k : ℕ) → cond (k == n) 1 0 + cond (nat_le (suc k) n) 1 0 ≤ cond (nat_le k n) 1 0
-      steps n k = elim (cases_lt k n) [
-        | inl less ↦ rw (ne_eqb k n (λ e. omega arith), le-leb (suc k) n less, le-leb k n (omega arith)) (omega arith)
-        | inr no-less ↦ elim (cases_eq k n) [
-          | inl same ↦ rw (eq-eqb k n same, lt-leb (suc k) n (omega arith), le-leb k n (omega arith)) (omega arith)
-          | inr apart ↦ rw (ne_eqb k n apart, lt-leb (suc k) n (omega arith)) (omega arith)
-        ]
-      ]
-
-      some-count : (n k : ℕ) (o : Option LabelInfo) → AllByRecursion (λ a. IsDrawn a × (a.position ≡ k)) (option_to_list o)
-          → total (λ (a : LabelInfo). cond (a.position == n) 1 0) (option_to_list o) ≤ cond (k == n) 1 0
-      some-count n k None a = omega arith
-      some-count n k (Some b) a = let e = (a.0).1 in subst (λ m. cond (b.position == n) 1 0 + 0 ≤ cond (m == n) 1 0) e (omega arith)
-
-      one-count : (n k : ℕ) (label : LabelFields S) (reason : Option R)
-          → AllByRecursion (λ a. IsDrawn a × (a.position ≡ k)) (drawn_label w r.config k label reason)
-          → total (λ (a : LabelInfo). cond (a.position == n) 1 0) (drawn_label w r.config k label reason) ≤ cond (k == n) 1 0
-      one-count n k label (Some reason) a = omega arith
-      one-count n k label None a =
-          some-count n k (option_and_then (λ s. accepted_info (verdict_in w r.config k label s)) (w.source_of (w.id_of label.span))) a
-
   -- each has another number than the later ones
   increasing-from : {R : Type 0} (k : ℕ) (labels : List (LabelFields S)) (reasons : List (Option R))
       → ((j : ℕ) → slice_get labels j ≡ slice_get r.labels (k + j)) → AllByRecursion (λ label. w.start_of label.span ≤ w.end_of label.span) labels
@@ -248,15 +207,6 @@ all-groups P (group ∷ gs) a = (first group (together gs) a, all-groups P gs (r
     rest : (xs ys : List LabelInfo) → AllByRecursion P (xs ++ ys) → AllByRecursion P ys
     rest [] ys a = a
     rest (x ∷ xs) ys a = rest xs ys a.1
-
--- a sum over one of the groups is a part of that over all
-group-part : (f : LabelInfo → ℕ) (gs : List (List LabelInfo)) (k : ℕ) (group : List LabelInfo) → slice_get gs k ≡ Some group
-    → total f group ≤ total f (together gs)
-unfolding joined
-group-part f [] k group e = absurd (none≢some group e)
-group-part f (g ∷ gs) zero group e =
-    let same : g ≡ group = cc in let sum = total-append f g (together gs) in let size : total f g ≡ total f group = ap (total f) same in omega arith
-group-part f (g ∷ gs) (suc k) group e = let sum = total-append f g (together gs) in let more = group-part f gs k group e in omega arith
 
 -- no cut stands inside a group
 group-uncut : (same : ℕ → ℕ → Bool) (gs : List (List LabelInfo)) (k : ℕ) (a : LabelInfo) (group : List LabelInfo) → AreCut same gs
@@ -329,24 +279,6 @@ module _ {S Id : Type 0} (w : World S Id) (r : ReportFields S) (law : (p q : Id)
       (all-in_order (IsDrawn w r) (λ a b. Rattle.std.specs.Prelude.int_lt a.order b.order) infos drawn)) in
       sheet-placed group (all-at (AllByRecursion (IsDrawn w r)) (groups_of (same_source w r) (ordered infos)) k group e each)
       (λ a rest same. group-uncut (same_source w r) (groups_of (same_source w r) (ordered infos)) k a rest exist.cut (e ∙ ap Some same))
-
-  -- and no two have one number
-  pub groups-once : {R : Type 0} (reasons : List (Option R)) (k n : ℕ) (group : List LabelInfo)
-      → AllByRecursion (λ label. w.start_of label.span ≤ w.end_of label.span) r.labels
-      → slice_get (groups w r (drawn_labels w r.config 0 r.labels reasons)) k ≡ Some group
-      → occurrences (λ (a : LabelInfo). a.position == n) group ≤ 1
-  unfolding groups ordered
-  groups-once reasons k n group forward e =
-      let f : LabelInfo → ℕ = λ a. cond (a.position == n) 1 0 in
-      let infos = drawn_labels w r.config 0 r.labels reasons in
-      let exist = groups-exist (same_source w r) (ordered infos) in
-      let part : total f group ≤ total f (together (groups_of (same_source w r) (ordered infos))) = group-part f
-      (groups_of (same_source w r) (ordered infos)) k group e in
-      let joint : total f (together (groups_of (same_source w r) (ordered infos))) ≡ total f (ordered infos) = ap (total f) exist.joins in
-      let sorted : total f (ordered infos) ≡ total f infos = total-in_order f (λ a b. Rattle.std.specs.Prelude.int_lt a.order b.order) infos in
-      let once = once-from w r n 0 r.labels reasons (λ j. let z : j ≡ 0 + j = omega arith in ap (slice_get r.labels) z) forward in
-      let few : cond (nat_le 0 n) 1 0 ≤ 1 = cond_both (nat_le 0 n) 1 0 (λ c. c ≤ 1) (λ _. omega arith) (λ _. omega arith) in
-      omega arith
 
   -- the sections of the picture are those groups
   pub sections-placed : {R : Type 0} (reasons : List (Option R)) (g : ℕ) (s : Section)

@@ -130,11 +130,6 @@ module _ (ls : List (List ℕ)) (a : LabelInfo) (h : IsPlaced ls a) where
       let k = subst (λ n. last_offset a.start a.end ≤ line_offset length ls n + length (line_text ls n)) (sym one) last-in-line in
       omega arith
 
-  pub span-places : a.start_line ≡ a.end_line → (k : ℕ) → k < a.end - line_offset length ls a.start_line → k < length (line_text ls a.start_line)
-  span-places one k less =
-      let j = subst (λ n. a.end ≤ line_offset length ls n + length (line_text ls n)) (sym one) end-in-line in
-      omega arith
-
   -- its attach place is none behind its end
   pub attach-before-end : a.attach ≤ a.end - line_offset length ls a.start_line
   attach-before-end = let to = h.attach_to in let forward = h.forward in omega arith
@@ -142,10 +137,6 @@ module _ (ls : List (List ℕ)) (a : LabelInfo) (h : IsPlaced ls a) where
   -- all its text on its last line lies in that line
   pub last-text : a.end - line_offset length ls a.end_line ≤ length (line_text ls a.end_line)
   last-text = let k = end-in-line in omega arith
-
-  -- the place of its start is no later than that of any of its characters
-  pub starts-in-line : line_offset length ls a.start_line ≤ a.start
-  starts-in-line = subst (λ n. line_offset length ls n ≤ a.start) (sym h.starts) (line_at_is length ls a.start h.some).begins
 
 -- a label that lies so ends on the line where it starts or on a later one
 pub placed-rises : (ls : List (List ℕ)) (a : LabelInfo) → IsPlaced ls a → EndsNoEarlier a

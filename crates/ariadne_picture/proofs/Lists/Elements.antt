@@ -5,7 +5,7 @@ use Rattle.std.specs.Prelude.{slice_get, filter, slice_index_or, nat_eq}
 use Rattle.std.specs.Cmp.Lexicographic.{pointwise}
 use Rattle.std.specs.List.{AllByRecursion, enumerate_from, range_with_len, list_all, list_any}
 use Rattle.std.proofs.lemmas.Bool.{cond_both, true≢false, eq-eqb, cases_Bool}
-use Rattle.ariadne_picture.specs.Lists.{placed, in_order, joined}
+use Rattle.ariadne_picture.specs.Lists.{inserted, in_order, joined}
 use Rattle.ariadne_picture.proofs.Lists.ListFacts.{none≢some, all-at, all-enumerated}
 use Rattle.ariadne_picture.proofs.Rows.RowNumbers.{at-front, at-back}
 
@@ -29,10 +29,6 @@ has-front xs ys x h = record { place = h.place; there = at-front xs ys h.place x
 pub has-back : {X : Type 0} (xs ys : List X) (x : X) → Has ys x → Has (xs ++ ys) x
 has-back xs ys x h = record { place = length xs + h.place; there = at-back xs ys h.place ∙ h.there }
 
--- what holds of all elements
-pub all-has : {X : Type 0} (P : X → Type 0) (xs : List X) (x : X) → AllByRecursion P xs → Has xs x → P x
-all-has P xs x a h = all-at P xs h.place x h.there a
-
 -- what holds of each element of a list holds of all
 pub all-from : {X : Type 0} (P : X → Type 0) (xs : List X) → ((k : ℕ) (x : X) → slice_get xs k ≡ Some x → P x) → AllByRecursion P xs
 all-from P [] f = tt
@@ -50,26 +46,26 @@ has-filter test (y ∷ xs) (suc k) x e t =
     cond_both (test y) (y ∷ filter test xs) (filter test xs) (λ zs. Has zs x)
     (λ _. has-later y (filter test xs) x (has-filter test xs k x e t)) (λ _. has-filter test xs k x e t)
 
--- an element placed among others
-pub has-placed : {X : Type 0} (less : X → X → Bool) (x : X) (ys : List X) → Has (placed less x ys) x
-unfolding placed
-has-placed less x [] = has-first x []
-has-placed less x (y ∷ ys) =
-    cond_both (less y x) (y ∷ placed less x ys) (x ∷ y ∷ ys) (λ zs. Has zs x) (λ _. has-later y (placed less x ys) x (has-placed less x ys))
+-- an element inserted among others
+pub has-inserted : {X : Type 0} (less : X → X → Bool) (x : X) (ys : List X) → Has (inserted less x ys) x
+unfolding inserted
+has-inserted less x [] = has-first x []
+has-inserted less x (y ∷ ys) =
+    cond_both (less y x) (y ∷ inserted less x ys) (x ∷ y ∷ ys) (λ zs. Has zs x) (λ _. has-later y (inserted less x ys) x (has-inserted less x ys))
     (λ _. has-first x (y ∷ ys))
 
 -- one of those others
-pub has-kept : {X : Type 0} (less : X → X → Bool) (x : X) (ys : List X) (k : ℕ) (z : X) → slice_get ys k ≡ Some z → Has (placed less x ys) z
-unfolding placed
+pub has-kept : {X : Type 0} (less : X → X → Bool) (x : X) (ys : List X) (k : ℕ) (z : X) → slice_get ys k ≡ Some z → Has (inserted less x ys) z
+unfolding inserted
 has-kept less x [] k z e = absurd (none≢some z e)
 has-kept less x (y ∷ ys) zero z e =
     let same : y ≡ z = cc in
-    cond_both (less y x) (y ∷ placed less x ys) (x ∷ y ∷ ys) (λ zs. Has zs z)
-    (λ _. subst (λ w. Has (w ∷ placed less x ys) z) (sym same) (has-first z (placed less x ys)))
+    cond_both (less y x) (y ∷ inserted less x ys) (x ∷ y ∷ ys) (λ zs. Has zs z)
+    (λ _. subst (λ w. Has (w ∷ inserted less x ys) z) (sym same) (has-first z (inserted less x ys)))
     (λ _. has-later x (y ∷ ys) z (subst (λ w. Has (w ∷ ys) z) (sym same) (has-first z ys)))
 has-kept less x (y ∷ ys) (suc k) z e =
-    cond_both (less y x) (y ∷ placed less x ys) (x ∷ y ∷ ys) (λ zs. Has zs z)
-    (λ _. has-later y (placed less x ys) z (has-kept less x ys k z e))
+    cond_both (less y x) (y ∷ inserted less x ys) (x ∷ y ∷ ys) (λ zs. Has zs z)
+    (λ _. has-later y (inserted less x ys) z (has-kept less x ys k z e))
     (λ _. has-later x (y ∷ ys) z (has-later y ys z (record { place = k; there = e })))
 
 -- a sort
@@ -77,7 +73,7 @@ pub has-in_order : {X : Type 0} (less : X → X → Bool) (xs : List X) (k : ℕ
 unfolding in_order
 has-in_order less [] k x e = absurd (none≢some x e)
 has-in_order less (y ∷ xs) zero x e =
-    let same : y ≡ x = cc in subst (λ z. Has (placed less z (in_order less xs)) x) (sym same) (has-placed less x (in_order less xs))
+    let same : y ≡ x = cc in subst (λ z. Has (inserted less z (in_order less xs)) x) (sym same) (has-inserted less x (in_order less xs))
 has-in_order less (y ∷ xs) (suc k) x e = let h = has-in_order less xs k x e in has-kept less y (in_order less xs) h.place x h.there
 
 -- a map

@@ -17,16 +17,6 @@ pub joined-one : {X Y : Type 0} (f : X → List Y) (x : X) → joined f (x ∷ [
 unfolding joined
 joined-one f x = append-nil (f x)
 
--- no part
-pub joined-none : {X Y : Type 0} (f : X → List Y) → joined f [] ≡ []
-unfolding joined
-joined-none f = refl
-
--- one part more in front
-pub joined-cons : {X Y : Type 0} (f : X → List Y) (x : X) (xs : List X) → joined f (x ∷ xs) ≡ f x ++ joined f xs
-unfolding joined
-joined-cons f x xs = refl
-
 -- the parts of a mapped list
 pub joined-map : {X Y Z : Type 0} (f : Y → List Z) (g : X → Y) (xs : List X) → joined f (map g xs) ≡ joined (λ x. f (g x)) xs
 unfolding joined

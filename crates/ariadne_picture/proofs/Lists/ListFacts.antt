@@ -7,7 +7,7 @@ use Rattle.std.specs.List.{AllByRecursion, enumerate_from, best_of}
 use Rattle.std.proofs.lemmas.Bool.{cond_both, cond-true, cond-false}
 use Rattle.std.proofs.lemmas.List.Elements.{All-from_recursion}
 use Rattle.std.proofs.lemmas.List.Kept.{AllPairs-cons}
-use Rattle.ariadne_picture.specs.Lists.{placed, in_order, joined, best}
+use Rattle.ariadne_picture.specs.Lists.{inserted, in_order, joined, best}
 
 -- ---- each element
 
@@ -40,19 +40,19 @@ all-kept t [] = tt
 all-kept t (x ∷ xs) =
     cond_both (t x) (x ∷ filter t xs) (filter t xs) (AllByRecursion (λ x. t x ≡ true)) (λ h. (h, all-kept t xs)) (λ _. all-kept t xs)
 
--- an element placed among others
-pub all-placed : {X : Type 0} (P : X → Type 0) (less : X → X → Bool) (x : X) (ys : List X) → P x → AllByRecursion P ys
-    → AllByRecursion P (placed less x ys)
-unfolding placed
-all-placed P less x [] p a = (p, tt)
-all-placed P less x (y ∷ ys) p a =
-    cond_both (less y x) (y ∷ placed less x ys) (x ∷ y ∷ ys) (AllByRecursion P) (λ _. (a.0, all-placed P less x ys p a.1)) (λ _. (p, a))
+-- an element inserted among others
+pub all-inserted : {X : Type 0} (P : X → Type 0) (less : X → X → Bool) (x : X) (ys : List X) → P x → AllByRecursion P ys
+    → AllByRecursion P (inserted less x ys)
+unfolding inserted
+all-inserted P less x [] p a = (p, tt)
+all-inserted P less x (y ∷ ys) p a =
+    cond_both (less y x) (y ∷ inserted less x ys) (x ∷ y ∷ ys) (AllByRecursion P) (λ _. (a.0, all-inserted P less x ys p a.1)) (λ _. (p, a))
 
 -- a sort
 pub all-in_order : {X : Type 0} (P : X → Type 0) (less : X → X → Bool) (xs : List X) → AllByRecursion P xs → AllByRecursion P (in_order less xs)
 unfolding in_order
 all-in_order P less [] a = tt
-all-in_order P less (x ∷ xs) a = all-placed P less x (in_order less xs) a.0 (all-in_order P less xs a.1)
+all-in_order P less (x ∷ xs) a = all-inserted P less x (in_order less xs) a.0 (all-in_order P less xs a.1)
 
 -- a map
 pub all-map : {X Y : Type 0} (P : Y → Type 0) (f : X → Y) (xs : List X) → AllByRecursion (λ x. P (f x)) xs → AllByRecursion P (map f xs)
@@ -98,19 +98,19 @@ all-enumerated whole a (x ∷ xs) g =
 
 -- ---- how many elements
 
--- an element placed among others is one more
-length-placed : {X : Type 0} (less : X → X → Bool) (x : X) (ys : List X) → length (placed less x ys) ≡ suc (length ys)
-unfolding placed
-length-placed less x [] = refl
-length-placed less x (y ∷ ys) =
-    cond_both (less y x) (y ∷ placed less x ys) (x ∷ y ∷ ys) (λ zs. length zs ≡ suc (suc (length ys))) (λ _. ap suc (length-placed less x ys))
+-- an element inserted among others is one more
+length-inserted : {X : Type 0} (less : X → X → Bool) (x : X) (ys : List X) → length (inserted less x ys) ≡ suc (length ys)
+unfolding inserted
+length-inserted less x [] = refl
+length-inserted less x (y ∷ ys) =
+    cond_both (less y x) (y ∷ inserted less x ys) (x ∷ y ∷ ys) (λ zs. length zs ≡ suc (suc (length ys))) (λ _. ap suc (length-inserted less x ys))
     (λ _. refl)
 
 -- a sort has as many
 pub length-in_order : {X : Type 0} (less : X → X → Bool) (xs : List X) → length (in_order less xs) ≡ length xs
 unfolding in_order
 length-in_order less [] = refl
-length-in_order less (x ∷ xs) = length-placed less x (in_order less xs) ∙ ap suc (length-in_order less xs)
+length-in_order less (x ∷ xs) = length-inserted less x (in_order less xs) ∙ ap suc (length-in_order less xs)
 
 -- a filter that every element passes
 pub filter-all : {X : Type 0} (test : X → Bool) (xs : List X) → AllByRecursion (λ x. test x ≡ true) xs → filter test xs ≡ xs

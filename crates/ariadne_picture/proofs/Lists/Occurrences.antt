@@ -4,7 +4,7 @@ use Rattle.std.proofs.Common.{◌==◌, inl, inr, map, add_assoc, zero-add, one-
 use Rattle.std.specs.Prelude.{slice_get, filter}
 use Rattle.std.specs.List.{enumerate_from, position_or_len}
 use Rattle.std.proofs.lemmas.Bool.{cond_both, true≢false, cond-false, eqb-true, ne_eqb, cases_Bool}
-use Rattle.ariadne_picture.specs.Lists.{placed, in_order, joined, total}
+use Rattle.ariadne_picture.specs.Lists.{inserted, in_order, joined, total}
 use Rattle.ariadne_picture.proofs.Lists.ListFacts.{none≢some}
 
 -- how many elements pass
@@ -25,20 +25,20 @@ unfolding joined total
 total-joined g f [] = refl
 total-joined g f (x ∷ xs) = total-append g (f x) (joined f xs) ∙ ap (λ t. total g (f x) + t) (total-joined g f xs)
 
--- of an element placed among others
-pub total-placed : {X : Type 0} (f : X → ℕ) (less : X → X → Bool) (x : X) (ys : List X) → total f (placed less x ys) ≡ f x + total f ys
-unfolding total placed
-total-placed f less x [] = refl
-total-placed f less x (y ∷ ys) =
-    let more = total-placed f less x ys in
-    cond_both (less y x) (y ∷ placed less x ys) (x ∷ y ∷ ys) (λ zs. total f zs ≡ f x + (f y + total f ys)) (λ _. ap (λ t. f y + t) more ∙ omega arith)
+-- of an element inserted among others
+pub total-inserted : {X : Type 0} (f : X → ℕ) (less : X → X → Bool) (x : X) (ys : List X) → total f (inserted less x ys) ≡ f x + total f ys
+unfolding total inserted
+total-inserted f less x [] = refl
+total-inserted f less x (y ∷ ys) =
+    let more = total-inserted f less x ys in
+    cond_both (less y x) (y ∷ inserted less x ys) (x ∷ y ∷ ys) (λ zs. total f zs ≡ f x + (f y + total f ys)) (λ _. ap (λ t. f y + t) more ∙ omega arith)
     (λ _. refl)
 
 -- of a sort
 pub total-in_order : {X : Type 0} (f : X → ℕ) (less : X → X → Bool) (xs : List X) → total f (in_order less xs) ≡ total f xs
 unfolding total in_order
 total-in_order f less [] = refl
-total-in_order f less (x ∷ xs) = total-placed f less x (in_order less xs) ∙ ap (λ t. f x + t) (total-in_order f less xs)
+total-in_order f less (x ∷ xs) = total-inserted f less x (in_order less xs) ∙ ap (λ t. f x + t) (total-in_order f less xs)
 
 -- of a filter
 pub total-filter : {X : Type 0} (f : X → ℕ) (t : X → Bool) (xs : List X) → total f (filter t xs) ≤ total f xs

@@ -4,12 +4,12 @@ use Rattle.std.specs.Prelude.{slice_get, filter}
 use Rattle.std.specs.List.{AllByRecursion, range_with_len}
 use Rattle.std.specs.Cmp.Derive.{both_true}
 use Rattle.std.proofs.lemmas.Bool.{cond_both, cases_lt, true≢false, lt-ltb, ne_eqb}
-use Rattle.ariadne_picture.specs.Lists.{placed, in_order}
+use Rattle.ariadne_picture.specs.Lists.{inserted, in_order}
 use Rattle.ariadne_picture.specs.Rows.{Row}
 use Rattle.ariadne_picture.specs.Pieces.{Section}
 use Rattle.ariadne_picture.specs.Placing.{are_rising, are_distinct}
 use Rattle.ariadne_picture.proofs.Lists.Elements.{all-range, list_all-true}
-use Rattle.ariadne_picture.proofs.Lists.ListFacts.{none≢some, all-at, all-filter, all-map, all-weaker, all-placed, all-in_order, Increasing}
+use Rattle.ariadne_picture.proofs.Lists.ListFacts.{none≢some, all-at, all-filter, all-map, all-weaker, all-inserted, all-in_order, Increasing}
 use Rattle.ariadne_picture.proofs.Rows.RowOrder.{IsBefore, before-irreflexive, before-chain, rows-increasing}
 use Rattle.ariadne_picture.proofs.Rows.RowPlacing.{row_list}
 use Rattle.ariadne_picture.proofs.Reading.Pictures.{Picture, RowAt}
@@ -35,13 +35,13 @@ increasing-filter R test (x ∷ xs) h =
     (λ _. increasing-filter R test xs h.1)
 
 -- a sort keeps what holds of each two elements in either order
-increasing-placed : {X : Type 0} (R : X → X → Type 0) (less : X → X → Bool) (x : X) (ys : List X) → ((a b : X) → R a b → R b a)
-    → AllByRecursion (R x) ys → Increasing R ys → Increasing R (placed less x ys)
-unfolding placed
-increasing-placed R less x [] f a i = (tt, tt)
-increasing-placed R less x (y ∷ ys) f a i =
+increasing-inserted : {X : Type 0} (R : X → X → Type 0) (less : X → X → Bool) (x : X) (ys : List X) → ((a b : X) → R a b → R b a)
+    → AllByRecursion (R x) ys → Increasing R ys → Increasing R (inserted less x ys)
+unfolding inserted
+increasing-inserted R less x [] f a i = (tt, tt)
+increasing-inserted R less x (y ∷ ys) f a i =
     cond_both (less y x) _ _ (Increasing R)
-    (λ _. (all-placed (R y) less x ys (f x y a.0) i.0, increasing-placed R less x ys f a.1 i.1)) (λ _. (a, i))
+    (λ _. (all-inserted (R y) less x ys (f x y a.0) i.0, increasing-inserted R less x ys f a.1 i.1)) (λ _. (a, i))
 
 -- as it places each element among the others
 pub increasing-in_order : {X : Type 0} (R : X → X → Type 0) (less : X → X → Bool) (xs : List X) → ((a b : X) → R a b → R b a)
@@ -49,7 +49,7 @@ pub increasing-in_order : {X : Type 0} (R : X → X → Type 0) (less : X → X 
 unfolding in_order
 increasing-in_order R less [] f i = tt
 increasing-in_order R less (x ∷ xs) f i =
-    increasing-placed R less x (in_order less xs) f (all-in_order (R x) less xs i.0) (increasing-in_order R less xs f i.1)
+    increasing-inserted R less x (in_order less xs) f (all-in_order (R x) less xs i.0) (increasing-in_order R less xs f i.1)
 
 -- elements in order that all have a property are in each order that follows from both
 pub increasing-weaker : {X : Type 0} (P : X → Type 0) (R Q : X → X → Type 0) (xs : List X)

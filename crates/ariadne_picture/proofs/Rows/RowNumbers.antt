@@ -159,8 +159,3 @@ module _ (t : Texts) (ss : List Section) where
       let here = number-of-row g s k x h in
       let few = slice_get_within (row_list t ss s) k x h.name in
       (omega arith, omega arith)
-
-  -- groups follow one another
-  pub start-rises : (g d : ℕ) → start_row t ss g ≤ start_row t ss (g + d)
-  unfolding start_row
-  start-rises g d = let e = total-rises (λ s. length (row_list t ss s)) g d ss in omega (arith, e)

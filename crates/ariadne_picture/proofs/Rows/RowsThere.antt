@@ -163,17 +163,6 @@ pub alternate-of-label : (l n : ℕ) (x : LineLabel) → x.info.has_message ≡ 
 unfolding label_rows
 alternate-of-label l n x h = rw h (contains-first (alternate l n) (arrow l n ∷ []))
 
--- so the rows of its line have it
-pub alternate-there : (s : Sheet) (l n : ℕ) (x : LineLabel) → slice_get (line_labels s l) n ≡ Some x → x.info.has_message ≡ true
-    → s.switches.compact ≡ false → Contains (line_rows s l) (alternate l n)
-alternate-there s l n x e h wide =
-    let z : 0 + n ≡ n = omega arith in
-    let there : slice_get (enumerate_from 0 (line_labels s l)) n ≡ Some (n, x) = enumerated-at 0 n (line_labels s l) x e ∙ ap (λ k. Some (k, x)) z in
-    subst (λ xs. Contains xs (alternate l n)) (sym (shown s l (shown-by-label s l n x e)))
-    (contains-later (source l) (joined (label_rows s.switches.compact l) (enumerate_from 0 (line_labels s l))) (alternate l n)
-    (contains-joined (label_rows s.switches.compact l) (enumerate_from 0 (line_labels s l)) n (n, x) (alternate l n) there
-    (subst (λ c. Contains (label_rows c l (n, x)) (alternate l n)) (sym wide) (alternate-of-label l n x h))))
-
 -- ---- rows of the group
 
 module _ (s : Sheet) (is_last : Bool) (helps notes : List (List ℕ)) where

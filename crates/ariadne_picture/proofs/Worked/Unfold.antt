@@ -2,7 +2,7 @@
 use Rattle.std.specs.Fmt.{digits}
 use Rattle.ariadne_base.specs.Lines.{is_separator, begins_with_line_feed, ends_line, in_front, full_lines_of, lines_of}
 use Rattle.ariadne_base.specs.Locations.{line_offset, line_at, column_at, char_offset}
-use Rattle.ariadne_picture.specs.Lists.{placed, in_order, best, joined, total}
+use Rattle.ariadne_picture.specs.Lists.{inserted, in_order, best, joined, total}
 use Rattle.ariadne_picture.specs.Accept.{text_len, offset_in_chars, attach_offset, info_of, within, verdict, accepted_info, drawn_label, drawn_labels}
 use Rattle.ariadne_picture.specs.Groups.{ordered, is_cut, last_of, ahead, groups_of, greatest, least_below, group_end_line, group_start_line}
 use Rattle.ariadne_picture.specs.Groups.{group_lines, printed_number, number_len}
@@ -31,7 +31,7 @@ use Rattle.ariadne_picture.specs.Placing.{is_pointed, has_ends_of_gutter_traces,
 use Rattle.ariadne_picture.specs.Placing.{is_last_column_free, has_gutter_bars, columns_before, is_line_aligned, is_aligned}
 
 unfoldable pub evaluated : Unit {0}
-unfolding digits is_separator begins_with_line_feed ends_line in_front full_lines_of lines_of line_offset line_at column_at char_offset placed
+unfolding digits is_separator begins_with_line_feed ends_line in_front full_lines_of lines_of line_offset line_at column_at char_offset inserted
     in_order best joined total text_len offset_in_chars attach_offset info_of within verdict accepted_info drawn_label drawn_labels ordered is_cut
     last_of ahead groups_of greatest least_below group_end_line group_start_line group_lines printed_number number_len is_inline is_start is_end
     span_len is_on_one_line multi_line_labels gutter_labels gutter_label_ends ends_at is_nearer_margin margin_label is_of_gutter_label is_margin

@@ -8,5 +8,6 @@ use Rattle.ariadne_rows.proofs.layout.characters.Goals as goal
 pub returns : goal.returns
 returns c =
     let t = YieldsList-end
-    (YieldsList-from_chars c.args.text.now c.utf8.text cc) c.loop-character.yielded _ c.loop-character.yielded_by _ _ c.in-None.is c.next.ensures.steps in
+    (YieldsList-from_chars c.args.text.now c.utf8.text cc) c.loop-character.yielded _ c.loop-character.yielded_by _ _
+    c.in-None.is c.next.ensures.steps in
     c.loop-character.invariant ∙ sym (map-id c.loop-character.yielded) ∙ t.0

@@ -92,7 +92,8 @@ returns c =
     let n2 : string_bytes c.if-not-switches.out ≡ string_bytes c.push.new.self ++ (if compact then [] else above ++ 10 ∷ []) =
     elim c.if-not-switches.branch [
       | then-not-switches+in_ok-push_spacer+in_ok-push-2 v ↦ rw v.out-is
-          (row_optional compact (string_bytes c.push.new.self) (string_bytes v.push_spacer.new.out) (string_bytes v.push-then-not-switches.new.self) above
+          (row_optional compact (string_bytes c.push.new.self) (string_bytes v.push_spacer.new.out)
+          (string_bytes v.push-then-not-switches.new.self) above
           v.if-not-switches.true (rw wide at v.in_ok-push_spacer.ensures) v.in_ok-push-2.ensures.bytes)
       | else-not-switches v ↦ rw v.out-is (row_left_out compact (string_bytes c.push.new.self)
           (string_bytes c.push.new.self) above v.if-not-switches.false refl)

@@ -27,9 +27,11 @@ returns g c =
     elim c.if-not-switches.branch [
       | then-not-switches+in_ok-push_margin+in_ok-push_alternate_area+in_ok-push w ↦
           ap string_bytes w.out-is
-          ∙ alternate_written p t n.width n.display_offset n.line y s same k old _ _ _ w.if-not-switches.true w.in_ok-push_margin.ensures w.in_ok-push_alternate_area.ensures w.in_ok-push.ensures.bytes
+          ∙ alternate_written p t n.width n.display_offset n.line y s same k old _ _ _ w.if-not-switches.true
+          w.in_ok-push_margin.ensures w.in_ok-push_alternate_area.ensures w.in_ok-push.ensures.bytes
       | else-not-switches w ↦ ap string_bytes w.out-is ∙ compact_written p t n.width n.display_offset n.line y s same k old w.if-not-switches.false
     ] in
     let all : string_bytes c.push_message.new.out ++ encode_utf8 10 ≡ old ++ label_bytes p t n.width n.display_offset n.line y k =
-    arrow_written p t n.width n.display_offset n.line y s same k c.index.result.now old _ _ _ _ own above c.in_ok-push_margin-2.ensures c.in_ok-push_arrow_area.ensures c.in_ok-push_message.ensures in
+    arrow_written p t n.width n.display_offset n.line y s same k c.index.result.now old _ _ _ _ own above
+    c.in_ok-push_margin-2.ensures c.in_ok-push_arrow_area.ensures c.in_ok-push_message.ensures in
     rw (← all) (search rules)

@@ -24,7 +24,9 @@ returns-else-is_char_boundary-clause-own g c = λ n h e.
     let at : IsMiddle c.text-text.result.now c.line.inside.byte_offset c.line.inside.byte_len (line_text (listed_lines c.args.self.now) n) =
     rw (c.text-text.ensures, ap (λ r. r.byte_offset) line, ap (λ r. r.byte_len) line) (line_middle c.args.self.now.text utf8 n h) in
     elim c.else-is_char_boundary.branch [
-      | else-is_char_boundary-via-then-is_char_boundary+else-is_char_boundary-2 w ↦ let t = w.is_char_boundary-then-is_char_boundary.ensures.test.1 at.whole.1 in let f = w.if-is_char_boundary-2.false in cc
+      | else-is_char_boundary-via-then-is_char_boundary+else-is_char_boundary-2 w ↦
+          let t = w.is_char_boundary-then-is_char_boundary.ensures.test.1 at.whole.1 in
+          let f = w.if-is_char_boundary-2.false in cc
       | else-is_char_boundary-via-else-is_char_boundary w ↦ let t = c.is_char_boundary.ensures.test.1 at.whole.0 in
           let f = w.if-is_char_boundary.false in cc
     ]
