@@ -1,0 +1,3 @@
+pub mod Gutters
+pub mod Headers
+pub mod Sheets
