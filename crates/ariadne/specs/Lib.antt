@@ -13,7 +13,8 @@ pub use Rattle.ariadne_picture.specs.Canvas
 pub use Rattle.ariadne_picture.specs.Print
 pub use Rattle.ariadne_picture.specs.Placing
 pub use Rattle.ariadne_picture.specs.Variants
-pub mod OneLine
+pub mod Drawn
+pub mod Judging
 pub mod Kinds
 pub mod Sent
 pub mod Written

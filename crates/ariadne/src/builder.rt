@@ -1,6 +1,6 @@
 //! Reports in the making.
 
-ghost use Rattle.std.specs.Prelude.{◌≡◌, ◌++◌, ◌∷◌, [], Some, IfOk};
+ghost use Rattle.std.specs.Prelude.{◌≡◌, ◌++◌, ◌∷◌, [], Some, IfOk, OnOk, OnErr};
 
 use crate::config::Config;
 use crate::kind::ReportKind;
@@ -13,35 +13,19 @@ use std::ops::Range;
 
 /// A report in the making, which [`Report::build`] begins.
 ///
-/// A call by value that is refused memory drops the report.
+/// A call by value that is refused memory drops the report. A call by reference that is refused
+/// leaves it as it was.
 #[derive(Drop)]
 pub struct ReportBuilder<'a, S: Span = Range<usize>> {
-    kind: ReportKind<'a>,
-    message: Option<String>,
-    span: S,
-    labels: Vec<Label<S>>,
-    config: Config,
-    alloc: Global,
+    report: Report<'a, S>,
 }
 
 impl<'a, S: Span> Model for ReportBuilder<'a, S> {
-    ghost use Rattle.std.specs.Prelude.{[], None, string_bytes, option_map};
     ghost use Rattle.ariadne_picture.specs.Report.{ReportFields};
-    ghost use Rattle.ariadne.specs.Kinds.{kind_of};
 
     ghost Value = { ReportFields S };
 
-    // Codes, notes and helps have no calls yet.
-    ghost view = { λ a. record {
-      kind = kind_of a.kind;
-      code = None;
-      message = option_map string_bytes a.message;
-      span = a.span;
-      labels = a.labels.items;
-      notes = [];
-      helps = [];
-      config = a.config;
-    } };
+    ghost view = { λ a. a.report };
 }
 
 impl<'a, S: Span> ReportBuilder<'a, S> {
@@ -52,12 +36,17 @@ impl<'a, S: Span> ReportBuilder<'a, S> {
         ensures { result ≡ new_report (kind_of kind.entry) span }
     {
         ReportBuilder {
-            kind,
-            message: None,
-            span,
-            labels: Vec::new(alloc),
-            config: Config::new(),
-            alloc,
+            report: Report {
+                kind,
+                code: None,
+                message: None,
+                span,
+                labels: Vec::new(alloc),
+                notes: Vec::new(alloc),
+                helps: Vec::new(alloc),
+                config: Config::new(),
+                alloc,
+            },
         }
     }
 
@@ -68,8 +57,21 @@ impl<'a, S: Span> ReportBuilder<'a, S> {
         ensures { IfOk result (λ report. report ≡ record self.entry
             { message = Some message.now }) }
     {
-        self.message = Some(String::from_str(self.alloc, message)?);
+        self.report.message = Some(String::from_str(self.report.alloc, message)?);
         Ok(self)
+    }
+
+    /// Adds a label behind those that the report has. A refused one is dropped, and the report is
+    /// as it was.
+    pub fn add_label(&mut self, label: Label<S>) -> Result<(), AllocError>
+    where
+        S: Drop,
+        ensures ok { OnOk result (self.new ≡ record self.old
+            { labels = self.old.labels ++ label ∷ [] }) }
+        ensures err { OnErr result (self.new ≡ self.old) }
+    {
+        self.report.labels.push(label)?;
+        Ok(())
     }
 
     /// The report with one label more, behind those that it has.
@@ -79,7 +81,7 @@ impl<'a, S: Span> ReportBuilder<'a, S> {
         ensures { IfOk result (λ report. report ≡ record self.entry
             { labels = self.entry.labels ++ label ∷ [] }) }
     {
-        self.labels.push(label)?;
+        self.add_label(label)?;
         Ok(self)
     }
 
@@ -87,7 +89,7 @@ impl<'a, S: Span> ReportBuilder<'a, S> {
     pub fn with_config(mut self, config: Config) -> ReportBuilder<'a, S>
         ensures { result ≡ record self.entry { config = config } }
     {
-        self.config = config;
+        self.report.config = config;
         self
     }
 
@@ -95,21 +97,7 @@ impl<'a, S: Span> ReportBuilder<'a, S> {
     pub fn finish(self) -> Report<'a, S>
         ensures { result ≡ self.entry }
     {
-        let ReportBuilder {
-            kind,
-            message,
-            span,
-            labels,
-            config,
-            alloc,
-        } = self;
-        Report {
-            kind,
-            message,
-            span,
-            labels,
-            config,
-            alloc,
-        }
+        let ReportBuilder { report } = self;
+        report
     }
 }

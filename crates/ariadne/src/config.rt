@@ -28,7 +28,6 @@ pub struct Config {
 impl Model for Config {
     ghost use Rattle.std.specs.Prelude.{◌≡◌, ◌≤◌};
     ghost use Rattle.ariadne_picture.specs.Report.{ConfigFields};
-    ghost use Rattle.ariadne_picture.specs.declared.switches.IndexType.TheVariants.{Char};
 
     ghost Value = { ConfigFields };
 
@@ -44,8 +43,7 @@ impl Model for Config {
       index_type = a.index_type;
     } };
 
-    // No call sets another index type yet.
-    ghost invariant = { λ a. (1 ≤ a.tab_width) × (a.index_type ≡ Char) };
+    ghost invariant = { λ a. 1 ≤ a.tab_width };
 
     ghost inverse = { λ c. record {
       cross_gap = c.cross_gap;
@@ -98,11 +96,10 @@ impl Config {
         self
     }
 
-    /// What the layout reads of it. Offsets count characters: no call asks for bytes yet.
+    /// What the layout reads of it.
     pub(crate) fn switches(&self) -> Switches
         ensures switches { result ≡ switches_of self.now }
         ensures tabs { 1 ≤ self.now.tab_width }
-        ensures in_characters { self.now.index_type ≡ IndexType.Char }
     {
         Switches {
             cross_gap: self.cross_gap,
@@ -114,13 +111,18 @@ impl Config {
         }
     }
 
-    /// Where arrows of labels within one line are attached. Offsets count characters: no call asks
-    /// for bytes yet.
+    /// Where arrows of labels within one line are attached.
     pub(crate) fn label_attach(&self) -> LabelAttach
-        ensures attach { result ≡ self.now.label_attach }
-        ensures in_characters { self.now.index_type ≡ IndexType.Char }
+        ensures { result ≡ self.now.label_attach }
     {
         self.label_attach
+    }
+
+    /// What offsets count.
+    pub(crate) fn index_type(&self) -> IndexType
+        ensures { result ≡ self.now.index_type }
+    {
+        self.index_type
     }
 
     /// Whether there are colours.

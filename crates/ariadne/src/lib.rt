@@ -5,15 +5,9 @@ pub mod builder;
 pub mod config;
 pub mod kind;
 pub mod label;
-#[cfg(test)]
-mod refusing;
 pub mod report;
 #[cfg(test)]
 mod tests_laws;
-#[cfg(test)]
-mod tests_layout;
-#[cfg(test)]
-mod tests_order;
 pub mod write;
 
 pub use ariadne_base::{

@@ -1,6 +1,6 @@
 //! Reports: what is said of which pieces of sources.
 
-ghost use Rattle.std.specs.Prelude.{◌≡◌, IfOk};
+ghost use Rattle.std.specs.Prelude.{◌≡◌, IfOk, map, string_bytes};
 ghost use Rattle.std.specs.Option.{option_copied};
 
 use crate::builder::ReportBuilder;
@@ -8,7 +8,7 @@ use crate::config::Config;
 use crate::kind::ReportKind;
 use crate::label::Label;
 use ariadne_base::Span;
-use ariadne_lines::palette::Palette;
+use ariadne_cells::palette::Palette;
 use std::alloc::{AllocError, Global};
 use std::marker::Model;
 use std::ops::Range;
@@ -17,36 +17,38 @@ use std::ops::Range;
 #[derive(Drop)]
 pub struct Report<'a, S: Span = Range<usize>> {
     pub(crate) kind: ReportKind<'a>,
+    pub(crate) code: Option<String>,
     pub(crate) message: Option<String>,
     pub(crate) span: S,
     pub(crate) labels: Vec<Label<S>>,
+    pub(crate) notes: Vec<String>,
+    pub(crate) helps: Vec<String>,
     pub(crate) config: Config,
     pub(crate) alloc: Global,
 }
 
 impl<'a, S: Span> Model for Report<'a, S> {
-    ghost use Rattle.std.specs.Prelude.{[], None, string_bytes, option_map};
+    ghost use Rattle.std.specs.Prelude.{map, option_map, string_bytes};
     ghost use Rattle.ariadne_picture.specs.Report.{ReportFields};
     ghost use Rattle.ariadne.specs.Kinds.{kind_of};
 
     ghost Value = { ReportFields S };
 
-    // Codes, notes and helps have no calls yet.
     ghost view = { λ a. record {
       kind = kind_of a.kind;
-      code = None;
+      code = option_map string_bytes a.code;
       message = option_map string_bytes a.message;
       span = a.span;
       labels = a.labels.items;
-      notes = [];
-      helps = [];
+      notes = map string_bytes a.notes.items;
+      helps = map string_bytes a.helps.items;
       config = a.config;
     } };
 }
 
 impl<'a, S: Span> Report<'a, S> {
     ghost use Rattle.ariadne_picture.specs.Report.{new_report};
-    ghost use Rattle.ariadne_picture.specs.Canvas.{texts_of, palette_of};
+    ghost use Rattle.ariadne_picture.specs.Canvas.{palette_of, texts_of};
     ghost use Rattle.ariadne.specs.Kinds.{kind_of};
 
     /// Begins a report of this kind.
@@ -58,6 +60,13 @@ impl<'a, S: Span> Report<'a, S> {
         ensures { result ≡ new_report (kind_of kind.entry) span }
     {
         ReportBuilder::new(alloc, kind, span)
+    }
+
+    /// What stands in brackets in front of its kind.
+    pub(crate) fn code(&self) -> Option<&str>
+        ensures { option_copied result ≡ self.now.code }
+    {
+        self.code.as_deref()
     }
 
     /// What its header says.
@@ -78,6 +87,41 @@ impl<'a, S: Span> Report<'a, S> {
             Some(message) => message,
             None => "",
         }
+    }
+
+    /// Its labels.
+    pub(crate) fn labels(&self) -> &[Label<S>]
+        ensures { result.now ≡ self.now.labels }
+    {
+        &self.labels
+    }
+
+    /// The texts of its helps.
+    pub(crate) fn helps(&self) -> &[String]
+        ensures { map string_bytes result.now ≡ self.now.helps }
+    {
+        &self.helps
+    }
+
+    /// Those of its notes.
+    pub(crate) fn notes(&self) -> &[String]
+        ensures { map string_bytes result.now ≡ self.now.notes }
+    {
+        &self.notes
+    }
+
+    /// The place that its header names.
+    pub(crate) fn span(&self) -> &S
+        ensures { result.now ≡ self.now.span }
+    {
+        &self.span
+    }
+
+    /// How it is drawn.
+    pub(crate) fn config(&self) -> Config
+        ensures { result ≡ self.now.config }
+    {
+        self.config
     }
 
     /// The colours that the pieces of its picture may have.

@@ -1,0 +1,65 @@
+-- What is read of a cache while a report is drawn, and what is known of a label that is drawn.
+use Rattle.std.specs.Prelude.{ℕ, ◌≡◌, ◌+◌, ◌<◌, ◌≤◌, Bool, true, List, length, Option, Some}
+use Rattle.std.specs.Prelude.{slice_get}
+use Rattle.std.specs.List.{AllByRecursion}
+use Rattle.ariadne_base.specs.Cache.{held}
+use Rattle.ariadne_base.specs.Listing.{Listing, listed_lines}
+use Rattle.ariadne_base.specs.Locations.{line_offset, line_text}
+use Rattle.ariadne_picture.specs.declared.label_info.LabelInfo.{LabelInfo}
+use Rattle.ariadne_picture.specs.declared.verdict.Verdict.TheVariants.{Accepted}
+use Rattle.ariadne_picture.specs.Report.{LabelFields, ReportFields, World}
+use Rattle.ariadne_picture.specs.declared.switches.Switches.{Switches}
+use Rattle.ariadne_picture.specs.Accept.{verdict_in}
+use Rattle.ariadne_picture.specs.Lists.{total}
+use Rattle.ariadne_picture.specs.Pieces.{Section, Texts}
+use Rattle.ariadne_picture.specs.Strokes.{holds}
+
+-- the ids, the offsets, the names and the sources that a report over spans of type S reads, where a
+-- cache has these contents
+abbrev pub world : {S Id : Type 0} → (S → Id) → (S → ℕ) → (S → ℕ) → (Id → Id → Bool)
+    → (Id → Option (List ℕ)) → List (Id × Listing) → World S Id
+world id_of start_of end_of eq names contents = record {
+  id_of = id_of;
+  start_of = start_of;
+  end_of = end_of;
+  is_same = eq;
+  name_of = names;
+  source_of = held eq contents;
+}
+
+module _ {S Id : Type 0} (w : World S Id) (r : ReportFields S) where
+  -- a is a label of the report, over a source that is held, which accepts it
+  pub record IsDrawn (a : LabelInfo) : Type 0 where
+    pub label : LabelFields S
+    pub there : slice_get r.labels a.position ≡ Some label
+    pub source : Listing
+    pub is_held : w.source_of (w.id_of label.span) ≡ Some source
+    pub accepted : verdict_in w r.config a.position label source ≡ Accepted a
+
+  -- each of these is so
+  abbrev pub AreDrawn : List LabelInfo → Type 0
+  AreDrawn infos = AllByRecursion IsDrawn infos
+
+-- ---- what the lines of a source know of a label that is drawn over them
+
+-- its ends lie in the lines, it ends no earlier than it starts, and it touches each line of which it
+-- holds a character
+pub record IsOverLines (lines : List (List ℕ)) (a : LabelInfo) : Type 0 where
+  pub rises : a.start_line ≤ a.end_line
+  pub within : a.end_line < length lines
+  pub ends_inside : a.end ≤ total length lines
+  pub holders : (l o : ℕ) → line_offset length lines l ≤ o
+      → o < line_offset length lines l + length (line_text lines l)
+      → holds a o ≡ true → (a.start_line ≤ l) × (l ≤ a.end_line)
+
+-- each of these is so
+abbrev pub AreOverLines : List (List ℕ) → List LabelInfo → Type 0
+AreOverLines lines infos = AllByRecursion (IsOverLines lines) infos
+
+-- a group over these lines, as a report with these texts draws it
+pub record IsDrawnGroup (t : Texts) (g : Section) (switches : Switches) (source : Listing)
+    (labels : List LabelInfo) : Type 0 where
+  pub texts : t.switches ≡ switches
+  pub sheet : g.sheet
+      ≡ record { switches = switches; lines = listed_lines source; labels = labels }
+  pub display_offset : g.display_offset ≡ source.display_offset
