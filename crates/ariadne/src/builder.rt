@@ -51,14 +51,26 @@ impl<'a, S: Span> ReportBuilder<'a, S> {
     }
 
     /// The report with this message, in place of the one that it may have had.
-    pub fn with_message(mut self, message: &str) -> Result<ReportBuilder<'a, S>, AllocError>
+    pub fn with_message(self, message: &str) -> Result<ReportBuilder<'a, S>, AllocError>
     where
         S: Drop,
         ensures { IfOk result (λ report. report ≡ record self.entry
             { message = Some message.now }) }
     {
-        self.report.message = Some(String::from_str(self.report.alloc, message)?);
-        Ok(self)
+        let ReportBuilder { mut report } = self;
+        report.message = Some(String::from_str(report.alloc, message)?);
+        Ok(ReportBuilder { report })
+    }
+
+    /// Gives the report this message, in place of the one that it may have had. Where there is no
+    /// memory for the message the report is as it was.
+    pub fn set_message(&mut self, message: &str) -> Result<(), AllocError>
+        ensures ok { OnOk result (self.new ≡ record self.old { message = Some message.now }) }
+        ensures err { OnErr result (self.new ≡ self.old) }
+    {
+        let report = &mut self.report;
+        report.message = Some(String::from_str(report.alloc, message)?);
+        Ok(())
     }
 
     /// Adds a label behind those that the report has. A refused one is dropped, and the report is
@@ -86,11 +98,12 @@ impl<'a, S: Span> ReportBuilder<'a, S> {
     }
 
     /// The report with this configuration, whatever it had.
-    pub fn with_config(mut self, config: Config) -> ReportBuilder<'a, S>
+    pub fn with_config(self, config: Config) -> ReportBuilder<'a, S>
         ensures { result ≡ record self.entry { config = config } }
     {
-        self.report.config = config;
-        self
+        let ReportBuilder { mut report } = self;
+        report.config = config;
+        ReportBuilder { report }
     }
 
     /// The report.

@@ -80,6 +80,47 @@ impl Config {
         }
     }
 
+    /// Whether a horizontal that crosses a vertical hides it; else it is drawn as a crossing.
+    pub const fn with_cross_gap(mut self, cross_gap: bool) -> Config
+        ensures { result ≡ record self { cross_gap = cross_gap } }
+    {
+        self.cross_gap = cross_gap;
+        self
+    }
+
+    /// Where the arrow of a label within one line is attached.
+    pub const fn with_label_attach(mut self, label_attach: LabelAttach) -> Config
+        ensures { result ≡ record self { label_attach = label_attach } }
+    {
+        self.label_attach = label_attach;
+        self
+    }
+
+    /// Whether the picture is drawn with fewer rows and columns: without underlines, and without the
+    /// rows round those that tell something.
+    pub const fn with_compact(mut self, compact: bool) -> Config
+        ensures { result ≡ record self { compact = compact } }
+    {
+        self.compact = compact;
+        self
+    }
+
+    /// Whether labels within one line are underlined. Compact pictures have no underlines.
+    pub const fn with_underlines(mut self, underlines: bool) -> Config
+        ensures { result ≡ record self { underlines = underlines } }
+    {
+        self.underlines = underlines;
+        self
+    }
+
+    /// Whether the ends of labels over several lines are shown by arrow heads below their line.
+    pub const fn with_multiline_arrows(mut self, multiline_arrows: bool) -> Config
+        ensures { result ≡ record self { multiline_arrows = multiline_arrows } }
+    {
+        self.multiline_arrows = multiline_arrows;
+        self
+    }
+
     /// Whether the picture has colours.
     pub const fn with_color(mut self, color: bool) -> Config
         ensures { result ≡ record self { color = color } }
@@ -88,11 +129,28 @@ impl Config {
         self
     }
 
+    /// How many characters of a line stand between two tab stops.
+    pub const fn with_tab_width(mut self, tab_width: usize) -> Config
+        requires { 1 ≤ tab_width }
+        ensures { result ≡ record self { tab_width = tab_width } }
+    {
+        self.tab_width = tab_width;
+        self
+    }
+
     /// The characters that strokes are drawn with.
     pub const fn with_char_set(mut self, char_set: CharSet) -> Config
         ensures { result ≡ record self { char_set = char_set } }
     {
         self.char_set = char_set;
+        self
+    }
+
+    /// What the offsets of spans count: characters, or bytes of a source's text.
+    pub const fn with_index_type(mut self, index_type: IndexType) -> Config
+        ensures { result ≡ record self { index_type = index_type } }
+    {
+        self.index_type = index_type;
         self
     }
 

@@ -66,6 +66,50 @@ impl<S: Span> Label<S> {
         Ok(self)
     }
 
+    /// The label in this colour.
+    pub fn with_color(mut self, color: Color) -> Label<S>
+        ensures { result ≡ record self { color = Some color } }
+    {
+        self.color = Some(color);
+        self
+    }
+
+    /// The label with this order. Labels of a lower order are drawn first, above the others.
+    pub fn with_order(mut self, order: i32) -> Label<S>
+        ensures { result ≡ record self { order = order } }
+    {
+        self.order = order;
+        self
+    }
+
+    /// The label with this priority. Where spans overlap, the label of the highest priority is seen.
+    pub fn with_priority(mut self, priority: i32) -> Label<S>
+        ensures { result ≡ record self { priority = priority } }
+    {
+        self.priority = priority;
+        self
+    }
+
+    /// A copy, where a clone of the span is the span. On `Err` there was no memory for it.
+    pub fn clone(&self) -> Result<Label<S>, AllocError>
+    where
+        S: Clone,
+        requires { (x y : S) → S.is_clone x y → y ≡ x }
+        ensures { IfOk result (λ label. label ≡ self.now) }
+    {
+        let message = match &self.message {
+            Some(message) => Some(message.clone()?),
+            None => None,
+        };
+        Ok(Label {
+            span: self.span.clone()?,
+            message,
+            color: self.color,
+            order: self.order,
+            priority: self.priority,
+        })
+    }
+
     /// What it points at.
     pub(crate) fn span(&self) -> &S
         ensures span { result.now ≡ self.now.span }

@@ -7,17 +7,21 @@
 #![tactic(auto)]
 
 mod checksum;
+mod jobs;
 mod order;
 mod pictures;
 mod texts;
 
 use ariadne::Source;
+use jobs::Job;
 use order::{Order, Workload};
 use std::alloc::{AllocError, Global};
 use std::process::ExitCode;
 use std::rt::Clock;
 use std::time::Instant;
+use std::io::ErrorKind;
 use std::{env, io};
+use texts::LARGE;
 
 /// The status of words that name no workload.
 const USAGE: u8 = 2;
@@ -55,35 +59,67 @@ fn measure_index(
     })
 }
 
-/// Measures the writing of the report on two labels.
-fn measure_two(rt: &(impl AllocGlobal + Clock), rounds: u32) -> io::Result<Outcome> {
-    let mut source = pictures::apples(rt.alloc())?;
-    let report = pictures::two(rt.alloc())?;
+/// Measures the writing of a report over one source.
+fn measure_job(
+    rt: &(impl AllocGlobal + Clock),
+    job: Job,
+    rounds: u32,
+) -> io::Result<Outcome> {
+    let report = pictures::report_of(rt.alloc(), &job)?;
+    let mut source = Source::from(rt.alloc(), job.text)?;
     let mut out = Vec::new(rt.alloc());
     let start = Instant::now(rt)?;
     pictures::draw(&report, &mut source, rounds, &mut out)?;
     let nanoseconds = start.elapsed(rt)?.as_nanos();
-    Ok(Outcome {
-        bytes: out.len(),
-        checksum: checksum::of_bytes(&out),
+    Ok(outcome_of(&out, nanoseconds))
+}
+
+/// Measures the writing of a report over so many sources.
+fn measure_sources(
+    rt: &(impl AllocGlobal + Clock),
+    count: u16,
+    rounds: u32,
+) -> io::Result<Outcome> {
+    let report = pictures::report_on_sources(rt.alloc(), count)?;
+    let mut cache = pictures::many_sources(rt.alloc(), count)?;
+    let mut out = Vec::new(rt.alloc());
+    let start = Instant::now(rt)?;
+    pictures::draw(&report, &mut cache, rounds, &mut out)?;
+    let nanoseconds = start.elapsed(rt)?.as_nanos();
+    Ok(outcome_of(&out, nanoseconds))
+}
+
+/// What the writing of this picture answered.
+fn outcome_of(picture: &[u8], nanoseconds: u128) -> Outcome {
+    Outcome {
+        bytes: picture.len(),
+        checksum: checksum::of_bytes(picture),
         nanoseconds,
-    })
+    }
+}
+
+/// Measures a workload.
+fn measure(rt: &(impl AllocGlobal + Clock), order: &Order<'_>) -> io::Result<Outcome> {
+    let alloc = rt.alloc();
+    match order.workload {
+        Workload::Index => measure_index(rt, texts::narrow(alloc, LARGE)?, order.rounds),
+        Workload::IndexBytes => measure_index(rt, texts::wide(alloc, LARGE)?, order.rounds),
+        Workload::Sources(count) => measure_sources(rt, count, order.rounds),
+        workload => match Job::of(alloc, workload)? {
+            Some(job) => measure_job(rt, job, order.rounds),
+            None => Err(io::Error::from(ErrorKind::InvalidInput)),
+        },
+    }
 }
 
 /// Runs what was ordered, and prints its line.
-fn run(rt: &(impl Print + AllocGlobal + Clock), order: &Order) -> io::Result<()> {
-    let rounds = order.rounds;
-    let outcome = match order.workload {
-        Workload::Index => measure_index(rt, texts::narrow(rt.alloc())?, rounds)?,
-        Workload::IndexBytes => measure_index(rt, texts::wide(rt.alloc())?, rounds)?,
-        Workload::Two => measure_two(rt, rounds)?,
-    };
+fn run(rt: &(impl Print + AllocGlobal + Clock), order: &Order<'_>) -> io::Result<()> {
     let Outcome {
         bytes,
         checksum,
         nanoseconds,
-    } = outcome;
-    let name = order.workload.name();
+    } = measure(rt, order)?;
+    let (name, rounds) = (order.name, order.rounds);
     if order.has_time {
         println!(rt; "{name} {rounds} {bytes} {checksum:016x} {nanoseconds}")
     } else {
@@ -98,7 +134,7 @@ fn main(rt: HostRuntime) -> io::Result<ExitCode> {
     }
     let Some(order) = Order::from_words(&words) else {
         eprintln!(rt;
-            "usage: ariadne_bench NAME N [--check], NAME one of index, index-bytes, two"
+            "usage: ariadne_bench NAME N [--check], with NAME as docs/SPEED.md has them"
         )?;
         return Ok(ExitCode::from(USAGE));
     };
@@ -108,17 +144,32 @@ fn main(rt: HostRuntime) -> io::Result<ExitCode> {
 
 #[cfg(test)]
 mod tests {
+    use super::order::Workload;
     use super::{checksum, pictures};
+    use crate::jobs::Job;
+    use ariadne::Source;
     use std::test::Fail;
 
     #[test]
-    fn two_labels_give_the_bytes_of_the_original(rt: HostRuntime) -> Result<(), Fail> {
-        let mut source = pictures::apples(rt.alloc())?;
-        let report = pictures::two(rt.alloc())?;
-        let mut out = Vec::new(rt.alloc());
-        pictures::draw(&report, &mut source, 3, &mut out)?;
-        assert_eq!(rt; out.len(), 223);
-        assert_eq!(rt; checksum::of_bytes(&out), 0x57ba_2383_89fa_c696);
+    fn small_workloads_give_the_bytes_of_the_original(rt: HostRuntime) -> Result<(), Fail> {
+        let alloc = rt.alloc();
+        let cases = [
+            (Workload::Two, 223, 0x57ba_2383_89fa_c696),
+            (Workload::TwoColored, 1162, 0xb775_b5ba_44d3_88aa),
+            (Workload::Nested(1), 50_021, 0x4b78_9553_d315_93ee),
+            (Workload::NestedColored, 319_882, 0x5c83_42df_90e9_fb03),
+        ];
+        for (workload, len, sum) in cases {
+            let Some(job) = Job::of(alloc, workload)? else {
+                return Err(Fail::from("no job"));
+            };
+            let report = pictures::report_of(alloc, &job)?;
+            let mut source = Source::from(alloc, job.text)?;
+            let mut out = Vec::new(alloc);
+            pictures::draw(&report, &mut source, 2, &mut out)?;
+            assert_eq!(rt; out.len(), len);
+            assert_eq!(rt; checksum::of_bytes(&out), sum);
+        }
         Ok(())
     }
 }

@@ -1,44 +1,111 @@
 //! The reports of the workloads, and their writing.
 
-use ariadne::{CharSet, Config, Label, Report, ReportKind, Source, WriteError};
+use crate::jobs::{Job, Mark};
+use crate::texts::line;
+use ariadne::{
+    Cache, CharSet, Config, IndexType, Label, Report, ReportKind, SourceMap, Span, WriteError,
+    sources,
+};
+use ariadne::Color;
 use std::alloc::{AllocError, Global};
 use std::io;
 use std::io::ErrorKind;
+use std::ops::Range;
 
-/// The source of the report on two labels.
-pub fn apples(alloc: Global) -> Result<Source<String>, AllocError> {
-    Source::from(alloc, String::from_str(alloc, "apple == orange;")?)
+/// The first of the 200 colours that labels have in turn.
+const FIRST_COLOR: u8 = 17;
+
+/// The span of a mark.
+fn span_of(mark: &Mark) -> Range<usize> {
+    mark.start..mark.end.max(mark.start)
 }
 
-/// A report with two labels in one line, in ASCII and without colours.
-pub fn two(alloc: Global) -> Result<Report<'static>, AllocError> {
-    let apple = Label::new(0..5).with_message(alloc, "This is an apple")?;
-    let orange = Label::new(9..15).with_message(alloc, "This is an orange")?;
-    let report = Report::build(alloc, ReportKind::Error, 0..5)
+/// The label of a mark, in the colour of its number.
+fn label_of(
+    alloc: Global,
+    mark: &Mark,
+    number: usize,
+    is_colored: bool,
+) -> Result<Label, AllocError> {
+    let span = span_of(mark);
+    let label = match &mark.message {
+        Some(message) => Label::new(span).with_message(alloc, message.as_str())?,
+        None => Label::new(span),
+    };
+    if is_colored {
+        Ok(label.with_color(Color::Fixed(FIRST_COLOR + (number % 200) as u8)))
+    } else {
+        Ok(label)
+    }
+}
+
+/// The report of a job. Its own span is that of its first label.
+pub fn report_of(alloc: Global, job: &Job) -> Result<Report<'static>, AllocError> {
+    let config = if job.is_colored {
+        Config::new()
+    } else {
+        Config::new()
+            .with_color(false)
+            .with_char_set(CharSet::Ascii)
+    };
+    let config = if job.in_bytes {
+        config.with_index_type(IndexType::Byte)
+    } else {
+        config
+    };
+    let span = job.marks.first().map_or(0..0, span_of);
+    let mut report = Report::build(alloc, ReportKind::Error, span)
+        .with_config(config)
+        .with_message(job.message)?;
+    for (number, mark) in job.marks.iter().enumerate() {
+        report.add_label(label_of(alloc, mark, number, job.is_colored)?)?;
+    }
+    Ok(report.finish())
+}
+
+/// A report with a label in each of `count` sources.
+pub fn report_on_sources(
+    alloc: Global,
+    count: u16,
+) -> Result<Report<'static, (String, Range<usize>)>, AllocError> {
+    let span = (String::from_str(alloc, "name0")?, 14..19);
+    let mut report = Report::build(alloc, ReportKind::Error, span)
         .with_config(
             Config::new()
                 .with_color(false)
                 .with_char_set(CharSet::Ascii),
         )
-        .with_message("can't compare apples with oranges")?
-        .with_label(apple)?
-        .with_label(orange)?;
+        .with_message("sources")?;
+    for number in 0..count {
+        let id = format!(in alloc; "name{number}")?;
+        let message = format!(in alloc; "source {number}")?;
+        report.add_label(Label::new((id, 14..19)).with_message(alloc, message.as_str())?)?;
+    }
     Ok(report.finish())
 }
 
-/// Writes a report `rounds` times, each time into the same room, if it can be drawn.
-pub fn draw(
-    report: &Report<'_>,
-    source: &mut Source<String>,
+/// These sources: each has the line of its number.
+pub fn many_sources(alloc: Global, count: u16) -> Result<SourceMap<String, String>, AllocError> {
+    let mut texts = Vec::new(alloc);
+    for number in 0..count {
+        let id = format!(in alloc; "name{number}")?;
+        texts.push((id, line(alloc, u32::from(number))?))?;
+    }
+    sources(alloc, texts)
+}
+
+/// Writes a report `rounds` times, each time into the same room.
+pub fn draw<S: Span, C: Cache<S::SourceId>>(
+    report: &Report<'_, S>,
+    cache: &mut C,
     rounds: u32,
     out: &mut Vec<u8>,
-) -> io::Result<()> {
+) -> io::Result<()>
+    requires { C.can_fetch cache.old }
+{
     for _ in 0..rounds {
-        if !report.drawable(source) {
-            return Err(io::Error::from(ErrorKind::InvalidInput));
-        }
         out.clear();
-        match report.write(source, out) {
+        match report.write(cache, out) {
             Ok(_) => {}
             Err(WriteError::Memory(_)) => return Err(io::Error::from(ErrorKind::OutOfMemory)),
             Err(WriteError::Io { fault, .. }) => return Err(fault),

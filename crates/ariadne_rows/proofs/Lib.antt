@@ -1,0 +1,3 @@
+pub mod BarBits
+pub mod GutterSteps
+pub mod Numbered

@@ -1,0 +1,199 @@
+//! What the workloads draw: a text, and pieces of it with messages.
+
+use crate::order::Workload;
+use crate::texts::{LARGE, narrow, tabbed_words, wide, words};
+use std::alloc::{AllocError, Global};
+
+/// Where the words `alpha`, `beta`, `gamma` and `delta` stand in a line.
+const WORDS: [(usize, usize); 4] = [(14, 19), (22, 26), (29, 34), (37, 42)];
+
+/// The lines of a large text that have a label.
+const FAR_LINES: [usize; 3] = [99, 99_999, 199_899];
+
+/// A piece of a text, by its offsets, and what is said of it.
+#[derive(Drop)]
+pub struct Mark {
+    pub start: usize,
+    pub end: usize,
+    pub message: Option<String>,
+}
+
+/// A report in the making, over one source.
+#[derive(Drop)]
+pub struct Job {
+    pub text: String,
+    pub message: &'static str,
+    /// In the order in which they are added.
+    pub marks: Vec<Mark>,
+    /// Whether it is drawn in colours, and with box drawing characters.
+    pub is_colored: bool,
+    /// Whether offsets count bytes.
+    pub in_bytes: bool,
+}
+
+/// A mark with a message.
+fn mark(start: usize, end: usize, message: String) -> Mark {
+    Mark {
+        start,
+        end,
+        message: Some(message),
+    }
+}
+
+impl Job {
+    /// The job of a workload that writes a report over one source.
+    pub fn of(alloc: Global, workload: Workload) -> Result<Option<Job>, AllocError> {
+        let job = match workload {
+            Workload::Two => two(alloc, false)?,
+            Workload::TwoColored => two(alloc, true)?,
+            Workload::Nested(times) => nested(alloc, times, false)?,
+            Workload::NestedColored => nested(alloc, 1, true)?,
+            Workload::Wide(count) => side_by_side(alloc, count, words(alloc, count)?)?,
+            Workload::Tabbed(count) => side_by_side(alloc, count, tabbed_words(alloc, count)?)?,
+            Workload::Large => large(alloc, false)?,
+            Workload::LargeBytes => large(alloc, true)?,
+            Workload::Lines(count) => lines(alloc, count)?,
+            Workload::Deep(count) => deep(alloc, count)?,
+            Workload::Crossing(count) => crossing(alloc, count)?,
+            Workload::Same(count) => same(alloc, count)?,
+            Workload::Silent(count) => silent(alloc, count)?,
+            Workload::Index | Workload::IndexBytes | Workload::Sources(_) => return Ok(None),
+        };
+        Ok(Some(job))
+    }
+
+    /// A job without colours, whose offsets count characters.
+    fn plain(text: String, message: &'static str, marks: Vec<Mark>) -> Job {
+        Job {
+            text,
+            message,
+            marks,
+            is_colored: false,
+            in_bytes: false,
+        }
+    }
+}
+
+/// Two labels in one line.
+fn two(alloc: Global, is_colored: bool) -> Result<Job, AllocError> {
+    let mut marks = Vec::new(alloc);
+    let apple = String::from_str(alloc, "This is an apple")?;
+    marks.push(mark(0, 5, apple))?;
+    let orange = String::from_str(alloc, "This is an orange")?;
+    marks.push(mark(9, 15, orange))?;
+    let text = String::from_str(alloc, "apple == orange;")?;
+    let mut job = Job::plain(text, "can't compare apples with oranges", marks);
+    job.is_colored = is_colored;
+    Ok(job)
+}
+
+/// Four labels in each of `50 * times` lines, and behind those of the last ones `20 * times` labels
+/// over several lines, of which each lies inside the next.
+fn nested(alloc: Global, times: u16, is_colored: bool) -> Result<Job, AllocError> {
+    let lines = 50 * u32::from(times);
+    let mut marks = Vec::new(alloc);
+    for line in 0..lines {
+        let start = 50 * line as usize;
+        for (word, (from, to)) in WORDS.iter().enumerate() {
+            let message = format!(in alloc; "inline {line} {word}")?;
+            marks.push(mark(start + *from, start + *to, message))?;
+        }
+        let first = lines - 1 - line;
+        if first < 20 * u32::from(times) {
+            let message = format!(in alloc; "nested {first}")?;
+            marks.push(mark(50 * first as usize + 4, start + 48, message))?;
+        }
+    }
+    let mut job = Job::plain(narrow(alloc, lines)?, "nested", marks);
+    job.is_colored = is_colored;
+    Ok(job)
+}
+
+/// A label over the first seven of each ten characters of one line.
+fn side_by_side(alloc: Global, count: u16, text: String) -> Result<Job, AllocError> {
+    let mut marks = Vec::new(alloc);
+    for number in 0..count {
+        let start = 10 * usize::from(number);
+        let message = format!(in alloc; "wide {number}")?;
+        marks.push(mark(start, start + 7, message))?;
+    }
+    Ok(Job::plain(text, "wide", marks))
+}
+
+/// Three labels far apart in a large text.
+fn large(alloc: Global, in_bytes: bool) -> Result<Job, AllocError> {
+    let (text, len) = if in_bytes {
+        (wide(alloc, LARGE)?, 65)
+    } else {
+        (narrow(alloc, LARGE)?, 50)
+    };
+    let mut marks = Vec::new(alloc);
+    for line in FAR_LINES {
+        let end = len * (line + 1);
+        let message = format!(in alloc; "line {line}")?;
+        marks.push(mark(end - 7, end - 2, message))?;
+    }
+    let mut job = Job::plain(text, "large", marks);
+    job.in_bytes = in_bytes;
+    Ok(job)
+}
+
+/// A label in every second line.
+fn lines(alloc: Global, count: u16) -> Result<Job, AllocError> {
+    let mut marks = Vec::new(alloc);
+    for number in 0..count {
+        let start = 100 * usize::from(number);
+        let message = format!(in alloc; "line {number}")?;
+        marks.push(mark(start + 14, start + 19, message))?;
+    }
+    Ok(Job::plain(narrow(alloc, 2 * u32::from(count))?, "lines", marks))
+}
+
+/// Labels over several lines, of which each lies inside the next.
+fn deep(alloc: Global, count: u16) -> Result<Job, AllocError> {
+    let mut marks = Vec::new(alloc);
+    for turn in 0..count {
+        let first = usize::from(count - 1 - turn);
+        let last = usize::from(count) + usize::from(turn);
+        let message = format!(in alloc; "deep {first}")?;
+        marks.push(mark(50 * first + 4, 50 * last + 48, message))?;
+    }
+    Ok(Job::plain(narrow(alloc, 2 * u32::from(count))?, "deep", marks))
+}
+
+/// Labels over several lines, of which each starts and ends one line below the one before.
+fn crossing(alloc: Global, count: u16) -> Result<Job, AllocError> {
+    let mut marks = Vec::new(alloc);
+    for number in 0..count {
+        let first = usize::from(number);
+        let last = usize::from(count) + first;
+        let message = format!(in alloc; "crossing {number}")?;
+        marks.push(mark(50 * first + 4, 50 * last + 48, message))?;
+    }
+    Ok(Job::plain(narrow(alloc, 2 * u32::from(count))?, "crossing", marks))
+}
+
+/// Labels over one word.
+fn same(alloc: Global, count: u16) -> Result<Job, AllocError> {
+    let mut marks = Vec::new(alloc);
+    for number in 0..count {
+        marks.push(mark(14, 19, format!(in alloc; "same {number}")?))?;
+    }
+    Ok(Job::plain(narrow(alloc, 1)?, "same", marks))
+}
+
+/// Labels over two lines without message, and labels with one on the lines between them.
+fn silent(alloc: Global, count: u16) -> Result<Job, AllocError> {
+    let mut marks = Vec::new(alloc);
+    for number in 0..count {
+        let start = 200 * usize::from(number);
+        marks.push(Mark {
+            start: start + 14,
+            end: start + 60,
+            message: None,
+        })?;
+        let message = format!(in alloc; "said {number}")?;
+        marks.push(mark(start + 114, start + 119, message))?;
+    }
+    Ok(Job::plain(narrow(alloc, 4 * u32::from(count))?, "silent", marks))
+}
