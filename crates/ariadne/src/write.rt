@@ -7,6 +7,7 @@ ghost use Rattle.ariadne.specs.Written.{Written};
 
 pub(crate) mod accept;
 pub(crate) mod drawing;
+pub(crate) mod groups;
 pub(crate) mod lines;
 pub(crate) mod send;
 

@@ -32,7 +32,7 @@ pub struct Job {
 }
 
 /// A mark with a message.
-fn mark(start: usize, end: usize, message: String) -> Mark {
+fn said(start: usize, end: usize, message: String) -> Mark {
     Mark {
         start,
         end,
@@ -78,9 +78,9 @@ impl Job {
 fn two(alloc: Global, is_colored: bool) -> Result<Job, AllocError> {
     let mut marks = Vec::new(alloc);
     let apple = String::from_str(alloc, "This is an apple")?;
-    marks.push(mark(0, 5, apple))?;
+    marks.push(said(0, 5, apple))?;
     let orange = String::from_str(alloc, "This is an orange")?;
-    marks.push(mark(9, 15, orange))?;
+    marks.push(said(9, 15, orange))?;
     let text = String::from_str(alloc, "apple == orange;")?;
     let mut job = Job::plain(text, "can't compare apples with oranges", marks);
     job.is_colored = is_colored;
@@ -96,12 +96,12 @@ fn nested(alloc: Global, times: u16, is_colored: bool) -> Result<Job, AllocError
         let start = 50 * line as usize;
         for (word, (from, to)) in WORDS.iter().enumerate() {
             let message = format!(in alloc; "inline {line} {word}")?;
-            marks.push(mark(start + *from, start + *to, message))?;
+            marks.push(said(start + *from, start + *to, message))?;
         }
         let first = lines - 1 - line;
         if first < 20 * u32::from(times) {
             let message = format!(in alloc; "nested {first}")?;
-            marks.push(mark(50 * first as usize + 4, start + 48, message))?;
+            marks.push(said(50 * first as usize + 4, start + 48, message))?;
         }
     }
     let mut job = Job::plain(narrow(alloc, lines)?, "nested", marks);
@@ -115,7 +115,7 @@ fn side_by_side(alloc: Global, count: u16, text: String) -> Result<Job, AllocErr
     for number in 0..count {
         let start = 10 * usize::from(number);
         let message = format!(in alloc; "wide {number}")?;
-        marks.push(mark(start, start + 7, message))?;
+        marks.push(said(start, start + 7, message))?;
     }
     Ok(Job::plain(text, "wide", marks))
 }
@@ -131,7 +131,7 @@ fn large(alloc: Global, in_bytes: bool) -> Result<Job, AllocError> {
     for line in FAR_LINES {
         let end = len * (line + 1);
         let message = format!(in alloc; "line {line}")?;
-        marks.push(mark(end - 7, end - 2, message))?;
+        marks.push(said(end - 7, end - 2, message))?;
     }
     let mut job = Job::plain(text, "large", marks);
     job.in_bytes = in_bytes;
@@ -144,7 +144,7 @@ fn lines(alloc: Global, count: u16) -> Result<Job, AllocError> {
     for number in 0..count {
         let start = 100 * usize::from(number);
         let message = format!(in alloc; "line {number}")?;
-        marks.push(mark(start + 14, start + 19, message))?;
+        marks.push(said(start + 14, start + 19, message))?;
     }
     Ok(Job::plain(narrow(alloc, 2 * u32::from(count))?, "lines", marks))
 }
@@ -156,7 +156,7 @@ fn deep(alloc: Global, count: u16) -> Result<Job, AllocError> {
         let first = usize::from(count - 1 - turn);
         let last = usize::from(count) + usize::from(turn);
         let message = format!(in alloc; "deep {first}")?;
-        marks.push(mark(50 * first + 4, 50 * last + 48, message))?;
+        marks.push(said(50 * first + 4, 50 * last + 48, message))?;
     }
     Ok(Job::plain(narrow(alloc, 2 * u32::from(count))?, "deep", marks))
 }
@@ -168,7 +168,7 @@ fn crossing(alloc: Global, count: u16) -> Result<Job, AllocError> {
         let first = usize::from(number);
         let last = usize::from(count) + first;
         let message = format!(in alloc; "crossing {number}")?;
-        marks.push(mark(50 * first + 4, 50 * last + 48, message))?;
+        marks.push(said(50 * first + 4, 50 * last + 48, message))?;
     }
     Ok(Job::plain(narrow(alloc, 2 * u32::from(count))?, "crossing", marks))
 }
@@ -177,7 +177,7 @@ fn crossing(alloc: Global, count: u16) -> Result<Job, AllocError> {
 fn same(alloc: Global, count: u16) -> Result<Job, AllocError> {
     let mut marks = Vec::new(alloc);
     for number in 0..count {
-        marks.push(mark(14, 19, format!(in alloc; "same {number}")?))?;
+        marks.push(said(14, 19, format!(in alloc; "same {number}")?))?;
     }
     Ok(Job::plain(narrow(alloc, 1)?, "same", marks))
 }
@@ -193,7 +193,7 @@ fn silent(alloc: Global, count: u16) -> Result<Job, AllocError> {
             message: None,
         })?;
         let message = format!(in alloc; "said {number}")?;
-        marks.push(mark(start + 114, start + 119, message))?;
+        marks.push(said(start + 114, start + 119, message))?;
     }
     Ok(Job::plain(narrow(alloc, 4 * u32::from(count))?, "silent", marks))
 }

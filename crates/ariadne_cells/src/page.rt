@@ -80,4 +80,11 @@ impl Page {
     {
         self.palette.color_of(paint)
     }
+
+    /// Whether there are colours.
+    pub fn is_colored(&self) -> bool
+        ensures { result ≡ self.now.palette.is_on }
+    {
+        self.palette.is_on
+    }
 }

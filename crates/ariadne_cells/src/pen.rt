@@ -12,6 +12,7 @@ ghost use Rattle.ariadne_picture.specs.Pieces.{spaces, stroke};
 ghost use Rattle.ariadne_picture.specs.Rows.{bare, gap, source};
 
 use crate::page::Page;
+use ariadne_base::color::push_painted_char;
 use ariadne_picture::cell::{Glyph, Ink, Paint};
 use std::alloc::{AllocError, Global};
 use std::marker::Model;
@@ -144,6 +145,15 @@ impl<'a> Pen<'a> {
             (Adds self.old self.new (painted (color_of self.old.page.palette paint) text.now)) }
     {
         Err(AllocError)
+    }
+
+    /// Writes a character in the colour of a piece.
+    pub fn push_piece_char(&mut self, paint: Paint, c: char) -> Result<(), AllocError>
+        ensures { OnOk result (Adds self.old self.new
+            (painted (color_of self.old.page.palette paint) (encode_utf8 c))) }
+    {
+        let page = self.page;
+        push_painted_char(&mut self.text, page.color_of(paint), c)
     }
 
     /// Writes one cell of a stroke.

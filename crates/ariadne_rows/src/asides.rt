@@ -8,7 +8,9 @@ ghost use Rattle.ariadne_rows.specs.Gutters.{IsOfSheet};
 ghost use Rattle.ariadne_rows.specs.Headers.{IsOnPage};
 
 use crate::gutter::Gutter;
+use ariadne_cells::margin::decimal_len;
 use ariadne_cells::pen::Pen;
+use ariadne_picture::cell::Paint;
 use std::alloc::AllocError;
 
 /// Writes the rows of all helps of a report.
@@ -30,7 +32,7 @@ pub fn push_helps(
         OnOk result (DrawsRows pen.old pen.new
         (map (row_pieces t page.number_width g) (asides page.switches.compact help t.helps))) }
 {
-    Err(AllocError)
+    push_asides(pen, gutter, "Help", helps)
 }
 
 /// Writes the rows of all notes of a report.
@@ -51,5 +53,74 @@ pub fn push_notes(
         OnOk result (DrawsRows pen.old pen.new
         (map (row_pieces t page.number_width g) (asides page.switches.compact note t.notes))) }
 {
-    Err(AllocError)
+    push_asides(pen, gutter, "Note", notes)
+}
+
+/// Writes the rows of all texts with this word in front.
+fn push_asides(
+    pen: &mut Pen<'_>,
+    gutter: &Gutter<'_>,
+    word: &str,
+    texts: &[String],
+) -> Result<(), AllocError> {
+    for (index, text) in texts.iter().enumerate() {
+        if !pen.page().switches().compact {
+            push_start(pen, gutter)?;
+            pen.end_row()?;
+        }
+        let number = if texts.len() == 1 { None } else { Some(index + 1) };
+        push_lines(pen, gutter, word, number, text.as_str())?;
+    }
+    Ok(())
+}
+
+/// Writes the lines of one text: the first stands behind its word, the others below the first.
+fn push_lines(
+    pen: &mut Pen<'_>,
+    gutter: &Gutter<'_>,
+    word: &str,
+    number: Option<usize>,
+    text: &str,
+) -> Result<(), AllocError> {
+    for (index, line) in text.lines().enumerate() {
+        push_start(pen, gutter)?;
+        if index == 0 {
+            push_prefix(pen, word, number)?;
+            pen.push_text(": ")?;
+        } else {
+            pen.push_spaces(prefix_len(word, number) + 2)?;
+        }
+        pen.push_text(line)?;
+        pen.end_row()?;
+    }
+    Ok(())
+}
+
+/// Writes the word in front of a text, and its number where there are several.
+fn push_prefix(
+    pen: &mut Pen<'_>,
+    word: &str,
+    number: Option<usize>,
+) -> Result<(), AllocError> {
+    pen.push_opening(Paint::Note)?;
+    pen.push_text(word)?;
+    if let Some(number) = number {
+        pen.push_char(' ')?;
+        pen.push_number(number)?;
+    }
+    pen.push_closing(Paint::Note)
+}
+
+/// How many characters the word and the number take.
+fn prefix_len(word: &str, number: Option<usize>) -> usize {
+    match number {
+        Some(number) => word.len() + 1 + decimal_len(number),
+        None => word.len(),
+    }
+}
+
+/// Writes the margin of a row below all lines, and its blank gutter.
+fn push_start(pen: &mut Pen<'_>, gutter: &Gutter<'_>) -> Result<(), AllocError> {
+    pen.push_margin()?;
+    gutter.push_blank(pen)
 }

@@ -1,15 +1,19 @@
 //! The header of a picture, and the rows round the lines of a group.
 
-ghost use Rattle.std.specs.Prelude.{◌≡◌, ◌++◌, OnOk, codes};
+ghost use Rattle.std.specs.Prelude.{◌≡◌, ◌+◌, ◌++◌, OnOk, codes};
 ghost use Rattle.std.specs.Option.{option_copied};
-ghost use Rattle.ariadne_cells.specs.Pages.{DrawsRow};
+ghost use Rattle.ariadne_cells.specs.Pages.{Adds, DrawsRow};
 ghost use Rattle.ariadne_picture.specs.Canvas.{code_text, header_pieces};
 ghost use Rattle.ariadne_picture.specs.Pieces.{Section, Texts, group_header_pieces, location_text};
-ghost use Rattle.ariadne_picture.specs.Pieces.{spacer_pieces, tail_pieces};
+ghost use Rattle.ariadne_picture.specs.Pieces.{spacer_pieces, spaces, tail_pieces};
 ghost use Rattle.ariadne_rows.specs.Headers.{location_numbers};
 
 use ariadne_cells::pen::Pen;
+use ariadne_picture::cell::{Glyph, Paint};
 use std::alloc::AllocError;
+
+/// The paint of the strokes round the lines of a group.
+const FRAME: Paint = Paint::Margin;
 
 /// Writes the header of a picture.
 ///
@@ -27,7 +31,28 @@ pub fn push_header(
         t.message ≡ option_copied message.entry →
         OnOk result (DrawsRow pen.old pen.new (header_pieces t)) }
 {
-    Err(AllocError)
+    pen.push_opening(Paint::Kind)?;
+    push_code(pen, code)?;
+    pen.push_text(kind)?;
+    pen.push_char(':')?;
+    pen.push_closing(Paint::Kind)?;
+    pen.push_char(' ')?;
+    pen.push_text(message.unwrap_or(""))?;
+    pen.end_row()
+}
+
+/// Writes a report's code in brackets, if it has one.
+fn push_code(pen: &mut Pen<'_>, code: Option<&str>) -> Result<(), AllocError>
+    ensures { OnOk result (Adds pen.old pen.new (code_text (option_copied code.entry))) }
+{
+    match code {
+        Some(code) => {
+            pen.push_char('[')?;
+            pen.push_text(code)?;
+            pen.push_text("] ")
+        }
+        None => Ok(()),
+    }
 }
 
 /// Writes the header of a group: the name of its source, and the numbers of a line and a column,
@@ -47,7 +72,45 @@ pub fn push_group_header(
         location_text g.sheet.lines g.display_offset g.header_offset ≡ location_numbers location →
         OnOk result (DrawsRow pen.old pen.new (group_header_pieces g page.number_width)) }
 {
-    Err(AllocError)
+    let corner = if is_first { Glyph::Ltop } else { Glyph::Lcross };
+    push_indent(pen)?;
+    pen.push_stroke(corner, FRAME)?;
+    pen.push_stroke(Glyph::Hbar, FRAME)?;
+    pen.push_stroke(Glyph::Lbox, FRAME)?;
+    push_location(pen, name, location)?;
+    pen.push_stroke(Glyph::Rbox, FRAME)?;
+    pen.end_row()
+}
+
+/// Writes the name of a source and a location in it, between blanks.
+fn push_location(
+    pen: &mut Pen<'_>,
+    name: &str,
+    location: Option<(usize, usize)>,
+) -> Result<(), AllocError>
+    ensures { let numbers = location_numbers location in
+        OnOk result (Adds pen.old pen.new
+        (codes " " ++ name.now ++ codes ":" ++ numbers ++ codes " ")) }
+{
+    pen.push_char(' ')?;
+    pen.push_text(name)?;
+    pen.push_char(':')?;
+    push_numbers(pen, location)?;
+    pen.push_char(' ')
+}
+
+/// Writes the numbers of a line and a column, if they are known.
+fn push_numbers(pen: &mut Pen<'_>, location: Option<(usize, usize)>) -> Result<(), AllocError>
+    ensures { OnOk result (Adds pen.old pen.new (location_numbers location)) }
+{
+    match location {
+        Some((line, column)) => {
+            pen.push_number(line)?;
+            pen.push_char(':')?;
+            pen.push_number(column)
+        }
+        None => pen.push_text("?:?"),
+    }
 }
 
 /// Writes the row below the header of a group.
@@ -60,7 +123,9 @@ pub fn push_spacer(pen: &mut Pen<'_>) -> Result<(), AllocError>
         OnOk result (DrawsRow pen.old pen.new
         (spacer_pieces page.switches.char_set page.number_width)) }
 {
-    Err(AllocError)
+    push_indent(pen)?;
+    pen.push_stroke(Glyph::Vbar, FRAME)?;
+    pen.end_row()
 }
 
 /// Writes the row below the lines of a group.
@@ -74,5 +139,26 @@ pub fn push_tail(pen: &mut Pen<'_>, is_last: bool) -> Result<(), AllocError>
         OnOk result (DrawsRow pen.old pen.new
         (tail_pieces page.switches.char_set page.number_width is_last)) }
 {
-    Err(AllocError)
+    if !is_last {
+        return push_spacer(pen);
+    }
+    let set = pen.page().switches().char_set;
+    let width = pen.page().number_width();
+    let bar = Glyph::Hbar.to_char(set);
+    pen.push_opening(FRAME)?;
+    pen.push_repeated(bar, width)?;
+    pen.push_char(bar)?;
+    pen.push_char(bar)?;
+    pen.push_char(Glyph::Rbot.to_char(set))?;
+    pen.push_closing(FRAME)?;
+    pen.end_row()
+}
+
+/// Writes the blanks in front of the strokes round the lines of a group.
+fn push_indent(pen: &mut Pen<'_>) -> Result<(), AllocError>
+    ensures { OnOk result (Adds pen.old pen.new (spaces (pen.old.page.number_width + 2))) }
+{
+    let width = pen.page().number_width();
+    pen.push_spaces(width)?;
+    pen.push_text("  ")
 }

@@ -15,23 +15,25 @@
 //! ```
 
 ghost use Rattle.std.specs.Prelude.{◌≡◌, ◌<◌, ◌^◌, ℕ, true, false, Some, None, OnOk, slice_get};
-ghost use Rattle.ariadne_cells.specs.Pages.{DrawsRow};
+ghost use Rattle.ariadne_cells.specs.Pages.{Draws, DrawsRow};
 ghost use Rattle.ariadne_cells.specs.Tables.{ArePaints, IsTable, tab_columns};
 ghost use Rattle.ariadne_picture.specs.Columns.{layout_of};
 ghost use Rattle.ariadne_picture.specs.Groups.{printed_number};
-ghost use Rattle.ariadne_picture.specs.Pieces.{Section, Texts, row_pieces};
+ghost use Rattle.ariadne_picture.specs.Pieces.{Section, Texts, message_pieces, row_pieces};
 ghost use Rattle.ariadne_picture.specs.Ranks.{is_margin, line_labels, margin_label};
 ghost use Rattle.ariadne_picture.specs.Ranks.{multi_line_labels};
 ghost use Rattle.ariadne_picture.specs.Rows.{alternate, arrow, bare, gap, source};
 ghost use Rattle.ariadne_rows.specs.Gutters.{HasBarsOf};
 ghost use Rattle.ariadne_rows.specs.Headers.{IsOnPage};
 
+use crate::area::{push_alternate_area, push_arrow_area};
 use crate::gutter::Gutter;
+use crate::shown::push_shown;
 use ariadne_cells::layout::LineLayout;
 use ariadne_cells::pen::Pen;
 use ariadne_cells::stretches::Stretch;
 use ariadne_cells::table::LineTable;
-use ariadne_picture::label_info::LineLabel;
+use ariadne_picture::label_info::{LineLabel, Side};
 use std::alloc::AllocError;
 
 /// Writes the source row of a line, whose printed number is `number`. `paints` are the labels that
@@ -56,7 +58,10 @@ pub fn push_source_row(
         OnOk result (DrawsRow pen.old pen.new (row_pieces t page.number_width g (source l))) }
     ensures tabs { OnOk result (tab_columns pen.old.page.switches layout.now < 2 ^ 63) }
 {
-    Err(AllocError)
+    pen.push_line_margin(number)?;
+    gutter.push_source(pen, layout.margin())?;
+    push_shown(pen, layout, paints)?;
+    pen.end_row()
 }
 
 /// Writes the alternate row of the line label of rank `rank`. Compact pictures have none.
@@ -78,7 +83,10 @@ pub fn push_alternate_row(
         OnOk result (DrawsRow pen.old pen.new
         (row_pieces t page.number_width g (alternate l rank))) }
 {
-    Err(AllocError)
+    pen.push_margin()?;
+    gutter.push_alternate(pen)?;
+    push_alternate_area(pen, table, rank)?;
+    pen.end_row()
 }
 
 /// Writes the arrow row of the line label of rank `rank`, which is `own`: its arrow and its
@@ -105,7 +113,23 @@ pub fn push_arrow_row(
         t.message_of own.now.info.position ≡ message.now →
         OnOk result (DrawsRow pen.old pen.new (row_pieces t page.number_width g (arrow l rank))) }
 {
-    Err(AllocError)
+    pen.push_margin()?;
+    gutter.push_arrow(pen, own)?;
+    push_arrow_area(pen, table, rank, own, at_margin)?;
+    push_message(pen, own, message)?;
+    pen.end_row()
+}
+
+/// Writes the message of a label behind its arrow. Where the label starts it shows none.
+fn push_message(pen: &mut Pen<'_>, own: &LineLabel, message: &str) -> Result<(), AllocError>
+    ensures { (t : Texts) → t.message_of own.now.info.position ≡ message.now →
+        OnOk result (Draws pen.old pen.new (message_pieces t (Some own.now))) }
+{
+    if own.side == Side::Starts {
+        return Ok(());
+    }
+    pen.push_char(' ')?;
+    pen.push_text(message)
 }
 
 /// Writes the row in place of hidden lines, where the first of them begins inside a label over
@@ -121,7 +145,9 @@ pub fn push_gap_row(pen: &mut Pen<'_>, gutter: &Gutter<'_>) -> Result<(), AllocE
         margin_label g.sheet l ≡ None →
         OnOk result (DrawsRow pen.old pen.new (row_pieces t page.number_width g (gap l))) }
 {
-    Err(AllocError)
+    pen.push_gap_margin()?;
+    gutter.push_gap(pen)?;
+    pen.end_row()
 }
 
 /// Writes the row in place of other hidden lines.
@@ -133,5 +159,6 @@ pub fn push_bare_row(pen: &mut Pen<'_>) -> Result<(), AllocError>
     ensures { let page = pen.old.page in (t : Texts) (g : Section) (l : ℕ) → IsOnPage t g page →
         OnOk result (DrawsRow pen.old pen.new (row_pieces t page.number_width g (bare l))) }
 {
-    Err(AllocError)
+    pen.push_margin()?;
+    pen.end_row()
 }
