@@ -3,9 +3,10 @@
 ghost use Rattle.std.specs.Prelude.{◌≡◌, ◌≤◌, IfOk};
 ghost use Rattle.ariadne_picture.specs.Canvas.{color_of};
 
+use crate::margin::margin_text;
 use crate::palette::Palette;
 use ariadne_base::Color;
-use ariadne_picture::cell::Paint;
+use ariadne_picture::cell::{Glyph, Paint};
 use ariadne_picture::switches::Switches;
 use std::alloc::{AllocError, Global};
 use std::marker::Model;
@@ -56,7 +57,15 @@ impl Page {
         ensures { IfOk result (λ page. page
             ≡ record { palette = palette; switches = switches; number_width = number_width }) }
     {
-        Err(AllocError)
+        let bar_margin = margin_text(alloc, &palette, &switches, number_width, Glyph::Vbar)?;
+        let gap_margin = margin_text(alloc, &palette, &switches, number_width, Glyph::VbarGap)?;
+        Ok(Page {
+            palette,
+            switches,
+            number_width,
+            bar_margin,
+            gap_margin,
+        })
     }
 
     /// Its switches.

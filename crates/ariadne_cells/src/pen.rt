@@ -12,7 +12,10 @@ ghost use Rattle.ariadne_picture.specs.Pieces.{spaces, stroke};
 ghost use Rattle.ariadne_picture.specs.Rows.{bare, gap, source};
 
 use crate::page::Page;
-use ariadne_base::color::push_painted_char;
+use crate::runs::push_painted_run;
+use crate::{margin, runs};
+use ariadne_base::color;
+use ariadne_base::color::{push_painted, push_painted_char};
 use ariadne_picture::cell::{Glyph, Ink, Paint};
 use std::alloc::{AllocError, Global};
 use std::marker::Model;
@@ -85,42 +88,42 @@ impl<'a> Pen<'a> {
     pub fn push_text(&mut self, text: &str) -> Result<(), AllocError>
         ensures { OnOk result (Adds self.old self.new text.now) }
     {
-        Err(AllocError)
+        self.text.push_str(text)
     }
 
     /// Writes a character without colour.
     pub fn push_char(&mut self, c: char) -> Result<(), AllocError>
         ensures { OnOk result (Adds self.old self.new (encode_utf8 c)) }
     {
-        Err(AllocError)
+        self.text.push(c)
     }
 
     /// Writes a number in decimal digits, without colour.
     pub fn push_number(&mut self, number: usize) -> Result<(), AllocError>
         ensures { OnOk result (Adds self.old self.new (decimal number)) }
     {
-        Err(AllocError)
+        write!(self.text, "{number}")
     }
 
     /// Ends a row.
     pub fn end_row(&mut self) -> Result<(), AllocError>
         ensures { OnOk result (Adds self.old self.new (10 ∷ [])) }
     {
-        Err(AllocError)
+        self.text.push('\n')
     }
 
     /// Writes `count` plain blanks.
     pub fn push_spaces(&mut self, count: usize) -> Result<(), AllocError>
         ensures { OnOk result (Adds self.old self.new (spaces count)) }
     {
-        Err(AllocError)
+        runs::push_spaces(&mut self.text, count)
     }
 
     /// Writes a character `count` times, without colour.
     pub fn push_repeated(&mut self, c: char, count: usize) -> Result<(), AllocError>
         ensures { OnOk result (Adds self.old self.new (repeated count (encode_utf8 c))) }
     {
-        Err(AllocError)
+        runs::push_repeated(&mut self.text, c, count)
     }
 
     /// Writes what stands before a text in the colour of a piece.
@@ -128,7 +131,8 @@ impl<'a> Pen<'a> {
         ensures { OnOk result
             (Adds self.old self.new (opened (color_of self.old.page.palette paint))) }
     {
-        Err(AllocError)
+        let page = self.page;
+        color::push_opening(&mut self.text, page.color_of(paint))
     }
 
     /// Writes what stands behind a text in the colour of a piece.
@@ -136,7 +140,8 @@ impl<'a> Pen<'a> {
         ensures { OnOk result
             (Adds self.old self.new (closed (color_of self.old.page.palette paint))) }
     {
-        Err(AllocError)
+        let page = self.page;
+        color::push_closing(&mut self.text, page.color_of(paint))
     }
 
     /// Writes a text in the colour of a piece.
@@ -144,7 +149,8 @@ impl<'a> Pen<'a> {
         ensures { OnOk result
             (Adds self.old self.new (painted (color_of self.old.page.palette paint) text.now)) }
     {
-        Err(AllocError)
+        let page = self.page;
+        push_painted(&mut self.text, page.color_of(paint), text)
     }
 
     /// Writes a character in the colour of a piece.
@@ -157,12 +163,15 @@ impl<'a> Pen<'a> {
     }
 
     /// Writes one cell of a stroke.
+    #[tactic(auto, unfolding(ariadne_picture::specs::Pieces::glyph_text))]
     pub fn push_stroke(&mut self, glyph: Glyph, paint: Paint) -> Result<(), AllocError>
         ensures { let set = self.old.page.switches.char_set in
             OnOk result (Adds self.old self.new
             (painted (color_of self.old.page.palette paint) (glyph_text set glyph))) }
     {
-        Err(AllocError)
+        let page = self.page;
+        let c = glyph.to_char(page.switches().char_set);
+        push_painted_char(&mut self.text, page.color_of(paint), c)
     }
 
     /// Writes `count` cells of one stroke.
@@ -170,7 +179,13 @@ impl<'a> Pen<'a> {
         ensures { let set = self.old.page.switches.char_set in
             OnOk result (Draws self.old self.new (replicate count (stroke set glyph paint))) }
     {
-        Err(AllocError)
+        if count == 0 {
+            return Ok(());
+        }
+        let page = self.page;
+        let color = page.color_of(paint);
+        let c = glyph.to_char(page.switches().char_set);
+        push_painted_run(&mut self.text, &mut self.cell, color, c, count)
     }
 
     /// Writes the cells of a place or column of `width` columns.
@@ -178,7 +193,11 @@ impl<'a> Pen<'a> {
         ensures { let set = self.old.page.switches.char_set in
             OnOk result (Draws self.old self.new (ink_pieces set ink.now width)) }
     {
-        Err(AllocError)
+        if width == 0 {
+            return Ok(());
+        }
+        self.push_stroke(ink.first, ink.first_paint)?;
+        self.push_run(ink.rest, ink.rest_paint, width - 1)
     }
 
     /// Writes the margin of a row without a number.
@@ -191,7 +210,8 @@ impl<'a> Pen<'a> {
             OnOk result (Draws self.old self.new
             (margin_pieces page.switches page.number_width 0 (bare 0))) }
     {
-        Err(AllocError)
+        let page = self.page;
+        self.text.push_str(&page.bar_margin)
     }
 
     /// Writes the margin of a row in place of hidden lines, inside a label.
@@ -204,7 +224,8 @@ impl<'a> Pen<'a> {
             OnOk result (Draws self.old self.new
             (margin_pieces page.switches page.number_width 0 (gap 0))) }
     {
-        Err(AllocError)
+        let page = self.page;
+        self.text.push_str(&page.gap_margin)
     }
 
     /// Writes the margin of the source row of a line, whose printed number is `number`.
@@ -219,6 +240,6 @@ impl<'a> Pen<'a> {
             OnOk result (Draws self.old self.new
             (margin_pieces page.switches page.number_width display_offset (source line))) }
     {
-        Err(AllocError)
+        margin::push_line_margin(&mut self.text, self.page, number)
     }
 }

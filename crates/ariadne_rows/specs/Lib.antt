@@ -1,3 +1,4 @@
+pub mod Areas
 pub mod Gutters
 pub mod Headers
 pub mod Sheets
