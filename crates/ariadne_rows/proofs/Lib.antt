@@ -2,7 +2,13 @@ pub mod Areas
 pub mod ArrowRows
 pub mod BarBits
 pub mod Bytes
+pub mod GutterBytes
+pub mod GutterLevels
+pub mod GutterPen
+pub mod GutterRows
+pub mod GutterState
 pub mod GutterSteps
+pub mod GutterText
 pub mod Numbered
 pub mod SeenInks
 pub mod UnderlinedRows

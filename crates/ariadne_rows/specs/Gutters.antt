@@ -2,10 +2,19 @@
 -- the row that is written next.
 use Rattle.std.specs.Prelude.{ℕ, ◌≡◌, ◌<◌, Bool, false, ◌&&◌, ◌||◌, ◌==◌, not, nat_le, nat_lt}
 use Rattle.std.specs.Prelude.{List, length, map, slice_get, slice_index_or, Option, Some, None}
+use Rattle.std.specs.Prelude.{◌+◌, if◌then◌else◌}
+use Rattle.ariadne_base.specs.Locations.{upto}
 use Rattle.ariadne_cells.specs.Pages.{PageFields}
+use Rattle.ariadne_picture.specs.declared.cell.Glyph.{Glyph}
+use Rattle.ariadne_picture.specs.declared.cell.Glyph.TheVariants.{Blank, Hbar, Vbar, Xbar}
+use Rattle.ariadne_picture.specs.declared.cell.Ink.{Ink}
+use Rattle.ariadne_picture.specs.declared.cell.Paint.TheVariants.{Plain, Label}
 use Rattle.ariadne_picture.specs.declared.label_info.LabelInfo.{LabelInfo}
 use Rattle.ariadne_picture.specs.declared.label_info.LineLabel.{LineLabel}
-use Rattle.ariadne_picture.specs.Lists.{mapped_numbered}
+use Rattle.ariadne_picture.specs.Cells.{blanks, ink, ink_of, margin_ink, turn_glyph}
+use Rattle.ariadne_picture.specs.Lists.{joined, mapped_numbered}
+use Rattle.ariadne_picture.specs.Pieces.{column_size, ink_pieces}
+use Rattle.ariadne_picture.specs.Print.{pieces_bytes}
 use Rattle.ariadne_picture.specs.Ranks.{Sheet, gutter_labels, is_start, is_end, is_inline}
 use Rattle.ariadne_picture.specs.Ranks.{line_labels}
 use Rattle.ariadne_picture.specs.Rows.{Row, source, arrow}
@@ -71,3 +80,57 @@ pub record HasBarsOf (s : Sheet) (x : Row) (g : GutterFields) : Type 0 where
   pub len : length g.bars ≡ length (gutter_labels s)
   pub bars : (i : ℕ) → i < length (gutter_labels s) → owns_column s x i ≡ false
       → bar_in g.bars i ≡ bar_at s x i
+
+-- ---- what its columns show, by its bars alone
+
+-- how many columns it has: one for each gutter label and one for arrow heads, or none at all
+unfoldable pub columns : GutterFields → ℕ
+columns g = if length g.bars == 0 then 0 else length g.bars + 1
+
+-- the position of the gutter label whose bar stands in column i, if it does
+unfoldable pub bar_of : GutterFields → ℕ → Option ℕ
+bar_of g i = if bar_in g.bars i then Some (slice_index_or g.positions i 0) else None
+
+-- a column with the bar of the label at a position, or without bar
+unfoldable pub bar_ink : Glyph → Option ℕ → Ink
+bar_ink glyph None = blanks
+bar_ink glyph (Some position) = ink glyph (Label position) Blank Plain
+
+-- column i of a row that has bars alone, drawn with this glyph
+unfoldable pub bars_ink : Glyph → GutterFields → ℕ → Ink
+bars_ink glyph g i = bar_ink glyph (bar_of g i)
+
+-- column i of the source row of a line whose margin label is m
+unfoldable pub margin_row_ink : GutterFields → LineLabel → ℕ → Ink
+margin_row_ink g m i =
+    if bar_in g.bars i && not (m.gutter_column == i) then bars_ink Vbar g i
+    else margin_ink (length g.bars) i (Some m)
+
+-- column i of the arrow row of the start or the end x of a gutter label
+unfoldable pub turn_row_ink : GutterFields → LineLabel → ℕ → Ink
+turn_row_ink g x i =
+    if x.gutter_column == i then ink_of (turn_glyph x.side) Hbar x.info
+    else if nat_lt x.gutter_column i then
+    (if bar_in g.bars i && not g.page.switches.cross_gap then ink_of Xbar Hbar x.info
+    else ink_of Hbar Hbar x.info)
+    else bars_ink Vbar g i
+
+-- the bytes of a column with this ink
+unfoldable pub column_bytes : PageFields → Ink → List ℕ
+column_bytes page ink =
+    let switches = page.switches in
+    pieces_bytes page.palette (ink_pieces switches.char_set ink (column_size switches))
+
+-- those of the columns before column n, whose inks are told by column
+unfoldable pub columns_bytes : PageFields → (ℕ → Ink) → ℕ → List ℕ
+columns_bytes page ink_at n = joined (λ i. column_bytes page (ink_at i)) (upto n)
+
+-- where column i begins in a row that has bars alone
+unfoldable pub start_of : GutterFields → ℕ → ℕ
+start_of g i = length (columns_bytes g.page (bars_ink Vbar g) i)
+
+-- these are the bytes of a row that has its bars alone, and the offsets of the columns in them
+pub record IsReady (g : GutterFields) (bytes offsets : List ℕ) : Type 0 where
+  pub positions : length g.positions ≡ length g.bars
+  pub text : bytes ≡ columns_bytes g.page (bars_ink Vbar g) (columns g)
+  pub starts : offsets ≡ map (start_of g) (upto (columns g))
