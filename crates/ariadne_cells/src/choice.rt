@@ -3,7 +3,8 @@
 ghost use Rattle.std.specs.Prelude.{◌≡◌, ◌+◌, ◌<◌, [], ◌∷◌, length, option_copied, option_map};
 ghost use Rattle.std.specs.Prelude.{option_to_list};
 ghost use Rattle.std.specs.List.{All};
-ghost use Rattle.ariadne_cells.specs.Choices.{Considers, IsChoice, infos_of, inline_infos, numbered};
+ghost use Rattle.ariadne_cells.specs.Choices.{Considers, IsChoice};
+ghost use Rattle.ariadne_cells.specs.Choices.{infos_of, inline_infos, numbered};
 
 use ariadne_picture::label_info::{LabelInfo, LineLabel};
 

@@ -171,7 +171,7 @@ impl<'a> Pen<'a> {
     {
         let page = self.page;
         let c = glyph.to_char(page.switches().char_set);
-        push_painted_char(&mut self.text, page.color_of(paint), c)
+        self.push_piece_char(paint, c)
     }
 
     /// Writes `count` cells of one stroke.

@@ -71,9 +71,9 @@ impl LineTable {
 
     /// Finds the labels that colour the shown characters of a line.
     ///
-    /// `multi_line` are the multi-line labels of the line's group, and `touching` the numbers, rising,
-    /// of those that may hold a shown character of the line. On `Err` there was no memory for it, and
-    /// the colours that are held are of no line.
+    /// `multi_line` are the multi-line labels of the line's group, and `touching` the numbers,
+    /// rising, of those that may hold a shown character of the line. On `Err` there was no memory
+    /// for it, and the colours that are held are of no line.
     pub fn fill_paints(
         &mut self,
         layout: &LineLayout<'_>,
