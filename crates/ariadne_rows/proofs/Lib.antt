@@ -2,6 +2,7 @@ pub mod Areas
 pub mod ArrowRows
 pub mod BarBits
 pub mod Bytes
+pub mod Events
 pub mod GutterBytes
 pub mod GutterLevels
 pub mod GutterPen
@@ -9,6 +10,12 @@ pub mod GutterRows
 pub mod GutterState
 pub mod GutterSteps
 pub mod GutterText
+pub mod Insides
+pub mod Listing
 pub mod Numbered
+pub mod Passing
+pub mod Ranking
+pub mod Rising
 pub mod SeenInks
+pub mod Touching
 pub mod UnderlinedRows

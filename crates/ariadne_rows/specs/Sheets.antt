@@ -3,7 +3,7 @@
 -- the lines of a group are walked once, and those without an event are the hidden ones.
 use Rattle.std.specs.Prelude.{ℕ, ◌≡◌, ◌+◌, ◌<◌, ◌≤◌, Bool, true, ◌&&◌, ◌==◌, nat_le, nat_lt}
 use Rattle.std.specs.Prelude.{if◌then◌else◌, List, [], ◌∷◌, ◌++◌, length, map, filter, slice_get}
-use Rattle.std.specs.Prelude.{Option, option_map, option_to_list}
+use Rattle.std.specs.Prelude.{◌≢◌, Option, Some, false, option_map, option_to_list, unwrap_or}
 use Rattle.std.specs.List.{AllByRecursion, enumerate_from}
 use Rattle.ariadne_base.specs.Locations.{line_offset, line_text}
 use Rattle.ariadne_picture.specs.declared.label_info.LabelInfo.{LabelInfo}
@@ -61,6 +61,15 @@ labels_of s events = joined (λ e. option_to_list (event_label s e.side e.index)
 unfoldable pub events_at : Sheet → ℕ → List Event
 events_at s l = filter (λ e. e.line == l) (events_of s)
 
+-- the events from `from` to before `end` are on one line, and the next one, if there is one, is not
+pub record IsLineEnd (events : List Event) (from end : ℕ) : Type 0 where
+  pub behind : from < end
+  pub within : end ≤ length events
+  pub same_line : (k : ℕ) (a b : Event) → from ≤ k → k < end → slice_get events from ≡ Some a
+      → slice_get events k ≡ Some b → b.line ≡ a.line
+  pub next_line : (a b : Event) → slice_get events from ≡ Some a → slice_get events end ≡ Some b
+      → b.line ≢ a.line
+
 -- ---- labels that touch a line
 
 -- a label starts on line l or above, and ends on it or below
@@ -71,6 +80,10 @@ touches l a = nat_le a.start_line l && nat_le l a.end_line
 unfoldable pub touching : Sheet → ℕ → List ℕ
 touching s l =
     map (λ e. e.0) (filter (λ e. touches l e.1) (enumerate_from 0 (multi_line_labels s)))
+
+-- label number i of these holds the character at offset o
+abbrev pub holds_at : List LabelInfo → ℕ → ℕ → Bool
+holds_at labels o i = unwrap_or (option_map (λ a. holds a o) (slice_get labels i)) false
 
 -- a label that holds a character of line l touches the line
 abbrev pub HoldersTouch : Sheet → ℕ → Type 0

@@ -4,6 +4,7 @@
 
 pub mod area;
 pub mod asides;
+mod group_lists;
 pub mod gutter;
 pub mod headers;
 pub mod rows;
