@@ -235,7 +235,8 @@ impl<'a> Pen<'a> {
     ///      10 |
     /// ```
     pub fn push_line_margin(&mut self, number: usize) -> Result<(), AllocError>
-        ensures { let page = self.old.page in
+        ensures page { OnOk result (self.new.page ≡ self.old.page) }
+        ensures drawn { let page = self.old.page in
             (display_offset line : ℕ) → number ≡ printed_number display_offset line →
             OnOk result (Draws self.old self.new
             (margin_pieces page.switches page.number_width display_offset (source line))) }

@@ -60,6 +60,7 @@ none (x ∷ xs) e = absurd (omega arith)
 
 -- ---- the events rise by line
 
+-- they are put in order
 pub events-rise : (s : Sheet) → RisesBy (λ e. e.line) (events_of s)
 unfolding events_of
 events-rise s =
@@ -331,7 +332,7 @@ events-between s l =
     ∙ filter_agree (λ x. nat_le l x.line && nat_lt x.line (l + 1)) (λ x. x.line == l) (λ x. at_line l x.line) (events_of s)
 
 -- a later event is on no earlier line
-later-line : (s : Sheet) (k j : ℕ) (a b : Event) → k < j → slice_get (events_of s) k ≡ Some a → slice_get (events_of s) j ≡ Some b → a.line ≤ b.line
+pub later-line : (s : Sheet) (k j : ℕ) (a b : Event) → k < j → slice_get (events_of s) k ≡ Some a → slice_get (events_of s) j ≡ Some b → a.line ≤ b.line
 later-line s k j a b less e f =
     let xs : List Event = events_of s in
     let pair : (get_or xs k a).line ≤ (get_or xs j a).line =

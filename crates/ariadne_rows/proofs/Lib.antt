@@ -1,5 +1,6 @@
 pub mod Areas
 pub mod ArrowRows
+pub mod AsideRows
 pub mod BarBits
 pub mod Bytes
 pub mod Events
@@ -10,12 +11,15 @@ pub mod GutterRows
 pub mod GutterState
 pub mod GutterSteps
 pub mod GutterText
+pub mod HeaderBytes
 pub mod Insides
+pub mod LineRows
 pub mod Listing
 pub mod Numbered
 pub mod Passing
 pub mod Ranking
 pub mod Rising
 pub mod SeenInks
+pub mod ShownRows
 pub mod Touching
 pub mod UnderlinedRows

@@ -14,12 +14,12 @@ use Rattle.ariadne_picture.specs.declared.label_info.Side.TheVariants.{Inline}
 use Rattle.ariadne_picture.specs.declared.switches.CharSet.TheVariants.{Ascii}
 use Rattle.ariadne_picture.specs.Lists.{in_order, best, joined}
 use Rattle.ariadne_picture.specs.Ranks.{Sheet, ends_at, inline_labels, is_before, is_inline, is_margin, is_nearer_margin, is_start, line_labels, margin_label}
-use Rattle.ariadne_rows.specs.declared.sheet.Event.{Event}
-use Rattle.ariadne_rows.specs.Sheets.{event_label, labels_of}
 use Rattle.ariadne_picture.proofs.Labels.LineLabels.{IsEndAt, ends-are}
 use Rattle.ariadne_picture.proofs.Labels.Orders.{best-none}
 use Rattle.ariadne_picture.proofs.Lists.Joined.{joined-append, joined-one}
 use Rattle.ariadne_picture.proofs.Lists.ListFacts.{all-every, all-map, all-weaker, filter-all, filter-none}
+use Rattle.ariadne_rows.specs.declared.sheet.Event.{Event}
+use Rattle.ariadne_rows.specs.Sheets.{event_label, labels_of}
 
 -- some group with these labels
 abbrev pub sheet_of : List LabelInfo → Sheet
@@ -45,9 +45,9 @@ filter-taken t xs i d h pass =
     filter_more t xs i d h ∙ ap (λ ys. filter t (take i xs) ++ ys) (cond-true (t (get_or xs i d)) (get_or xs i d ∷ []) [] pass)
 
 -- the first is the best of one
-pub best-first : {X : Type 0} (beats : X → X → Bool) (xs : List X) (x : X) → best beats xs ≡ None → best beats (xs ++ x ∷ []) ≡ Some x
+pub best-alone : {X : Type 0} (beats : X → X → Bool) (xs : List X) (x : X) → best beats xs ≡ None → best beats (xs ++ x ∷ []) ≡ Some x
 unfolding best
-best-first beats xs x e = ap (λ t. best beats (t ++ x ∷ [])) (best-none beats xs e)
+best-alone beats xs x e = ap (λ t. best beats (t ++ x ∷ [])) (best-none beats xs e)
 
 -- one more is it where it beats the best so far
 pub best-more : {X : Type 0} (beats : X → X → Bool) (xs : List X) (b x : X) → best beats xs ≡ Some b
@@ -67,7 +67,7 @@ pub best-taken : {X : Type 0} (beats : X → X → Bool) (t : X → Bool) (xs : 
     → now ≡ best beats (filter t (take i xs)) → t (get_or xs i d) ≡ true
     → MatchOption now (Unit {0}) (λ b. beats (get_or xs i d) b ≡ true) → Some (get_or xs i d) ≡ best beats (filter t (take (i + 1) xs))
 best-taken beats t xs i d None h e pass m =
-    sym (ap (best beats) (filter-taken t xs i d h pass) ∙ best-first beats (filter t (take i xs)) (get_or xs i d) (sym e))
+    sym (ap (best beats) (filter-taken t xs i d h pass) ∙ best-alone beats (filter t (take i xs)) (get_or xs i d) (sym e))
 best-taken beats t xs i d (Some b) h e pass m =
     sym (ap (best beats) (filter-taken t xs i d h pass) ∙ best-more beats (filter t (take i xs)) b (get_or xs i d) (sym e)
     ∙ ap Some (cond-true (beats (get_or xs i d) b) (get_or xs i d) b m))
@@ -130,6 +130,8 @@ labels-found s l all margin e m =
     ap (in_order is_before)
     ((λ i. filter (λ x. not (is_start x.side && is_margin (m i) x)) (e i)) ∙ filter-append test (ends_at s l) (inline_labels s l)
     ∙ ap (λ t. filter test (ends_at s l) ++ t) inlines)
+
+-- ---- results and options
 
 -- what holds on Ok holds where it is Ok
 pub on-ok : {T E P : Type 0} (r : Result T E) → is_ok r ≡ true → OnOk r P → P

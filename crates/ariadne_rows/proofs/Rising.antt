@@ -97,6 +97,7 @@ module _ {X : Type 0} (f : X → ℕ) where
   pub taken-below : (b : ℕ) (xs : List X) → RisesBy f xs → take (length (below b xs)) xs ≡ below b xs
   taken-below b xs h = ap (take (length (below b xs))) (sym (parted b xs h)) ∙ take_at (below b xs) (from b xs) (length (below b xs)) refl
 
+  -- the others are left
   pub dropped-below : (b : ℕ) (xs : List X) → RisesBy f xs → drop (length (below b xs)) xs ≡ from b xs
   dropped-below b xs h = ap (drop (length (below b xs))) (sym (parted b xs h)) ∙ drop_at (below b xs) (from b xs) (length (below b xs)) refl
 

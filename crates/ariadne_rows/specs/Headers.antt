@@ -1,5 +1,5 @@
 -- The page and the texts that a row is drawn with, and the numbers that a group header names.
-use Rattle.std.specs.Prelude.{ℕ, ◌≡◌, List, ◌++◌, Option, Some, None, codes, decimal}
+use Rattle.std.specs.Prelude.{ℕ, ◌≡◌, List, [], ◌++◌, Option, Some, None, codes, decimal}
 use Rattle.ariadne_cells.specs.Pages.{PageFields}
 use Rattle.ariadne_picture.specs.Pieces.{Texts, Section}
 
@@ -12,3 +12,12 @@ pub record IsOnPage (t : Texts) (g : Section) (page : PageFields) : Type 0 where
 unfoldable pub location_numbers : Option (ℕ × ℕ) → List ℕ
 location_numbers None = codes "?:?"
 location_numbers (Some p) = decimal p.0 ++ codes ":" ++ decimal p.1
+
+-- the number of a help or a note behind its word, if it has one
+unfoldable pub aside_number : Option ℕ → List ℕ
+aside_number None = []
+aside_number (Some n) = codes " " ++ decimal n
+
+-- the word and the number
+unfoldable pub prefix_text : List ℕ → Option ℕ → List ℕ
+prefix_text word number = word ++ aside_number number

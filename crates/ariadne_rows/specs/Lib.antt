@@ -3,3 +3,4 @@ pub mod GroupLists
 pub mod Gutters
 pub mod Headers
 pub mod Sheets
+pub mod ShownTexts

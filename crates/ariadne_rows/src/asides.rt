@@ -1,11 +1,14 @@
 //! Helps and notes, below the lines of the last group.
 
-ghost use Rattle.std.specs.Prelude.{◌≡◌, OnOk, map, string_bytes};
-ghost use Rattle.ariadne_cells.specs.Pages.{DrawsRows};
-ghost use Rattle.ariadne_picture.specs.Pieces.{Section, Texts, row_pieces};
-ghost use Rattle.ariadne_picture.specs.Rows.{asides, help, note};
+ghost use Rattle.std.specs.Prelude.{◌≡◌, ◌+◌, ◌++◌, ◌∷◌, [], ℕ, OnOk, length, map};
+ghost use Rattle.std.specs.Prelude.{string_bytes};
+ghost use Rattle.ariadne_cells.specs.Pages.{Adds, Draws, DrawsRows};
+ghost use Rattle.ariadne_picture.specs.Pieces.{Section, Texts, gutter_pieces, margin_pieces};
+ghost use Rattle.ariadne_picture.specs.Pieces.{painted_text, row_pieces, spaces};
+ghost use Rattle.ariadne_picture.specs.Ranks.{Sheet};
+ghost use Rattle.ariadne_picture.specs.Rows.{Aside, asides, bare, blank, help, note, piece};
 ghost use Rattle.ariadne_rows.specs.Gutters.{IsOfSheet};
-ghost use Rattle.ariadne_rows.specs.Headers.{IsOnPage};
+ghost use Rattle.ariadne_rows.specs.Headers.{IsOnPage, aside_number, prefix_text};
 
 use crate::gutter::Gutter;
 use ariadne_cells::margin::decimal_len;
@@ -68,7 +71,11 @@ fn push_asides(
             push_start(pen, gutter)?;
             pen.end_row()?;
         }
-        let number = if texts.len() == 1 { None } else { Some(index + 1) };
+        let number = if texts.len() == 1 {
+            None
+        } else {
+            Some(index + 1)
+        };
         push_lines(pen, gutter, word, number, text.as_str())?;
     }
     Ok(())
@@ -88,7 +95,7 @@ fn push_lines(
             push_prefix(pen, word, number)?;
             pen.push_text(": ")?;
         } else {
-            pen.push_spaces(prefix_len(word, number) + 2)?;
+            push_hanging(pen, word, number)?;
         }
         pen.push_text(line)?;
         pen.end_row()?;
@@ -97,30 +104,63 @@ fn push_lines(
 }
 
 /// Writes the word in front of a text, and its number where there are several.
-fn push_prefix(
-    pen: &mut Pen<'_>,
-    word: &str,
-    number: Option<usize>,
-) -> Result<(), AllocError> {
+fn push_prefix(pen: &mut Pen<'_>, word: &str, number: Option<usize>) -> Result<(), AllocError>
+    ensures { let text = prefix_text word.now number in
+        OnOk result (Draws pen.old pen.new (painted_text Paint.Note text ∷ [])) }
+{
     pen.push_opening(Paint::Note)?;
     pen.push_text(word)?;
-    if let Some(number) = number {
-        pen.push_char(' ')?;
-        pen.push_number(number)?;
-    }
+    push_aside_number(pen, number)?;
     pen.push_closing(Paint::Note)
 }
 
-/// How many characters the word and the number take.
-fn prefix_len(word: &str, number: Option<usize>) -> usize {
+/// Writes the number of a text, where there are several.
+#[tactic(auto, unfolding(crate::specs::Headers::aside_number))]
+fn push_aside_number(pen: &mut Pen<'_>, number: Option<usize>) -> Result<(), AllocError>
+    ensures { OnOk result (Adds pen.old pen.new (aside_number number)) }
+{
     match number {
-        Some(number) => word.len() + 1 + decimal_len(number),
-        None => word.len(),
+        Some(number) => {
+            pen.push_char(' ')?;
+            pen.push_number(number)
+        }
+        None => Ok(()),
+    }
+}
+
+/// Writes blanks in place of the word, its number and what stands behind them.
+fn push_hanging(pen: &mut Pen<'_>, word: &str, number: Option<usize>) -> Result<(), AllocError>
+    ensures { let len = length word.now + length (aside_number number) in
+        OnOk result (Adds pen.old pen.new (spaces (len + 2))) }
+{
+    pen.push_spaces(word.len())?;
+    push_hanging_number(pen, number)?;
+    pen.push_text("  ")
+}
+
+/// Writes blanks in place of a text's number.
+fn push_hanging_number(pen: &mut Pen<'_>, number: Option<usize>) -> Result<(), AllocError>
+    ensures { OnOk result (Adds pen.old pen.new (spaces (length (aside_number number)))) }
+{
+    match number {
+        Some(number) => {
+            pen.push_char(' ')?;
+            pen.push_spaces(decimal_len(number))
+        }
+        None => Ok(()),
     }
 }
 
 /// Writes the margin of a row below all lines, and its blank gutter.
-fn push_start(pen: &mut Pen<'_>, gutter: &Gutter<'_>) -> Result<(), AllocError> {
+fn push_start(pen: &mut Pen<'_>, gutter: &Gutter<'_>) -> Result<(), AllocError>
+    requires page { gutter.now.page ≡ pen.old.page }
+    ensures blank { let page = pen.old.page in (s : Sheet) (a : Aside) (k : ℕ) →
+        IsOfSheet s gutter.now → OnOk result (Draws pen.old pen.new
+        (margin_pieces page.switches page.number_width 0 (bare 0) ++ gutter_pieces s (blank a k))) }
+    ensures piece { let page = pen.old.page in (s : Sheet) (a : Aside) (k p : ℕ) →
+        IsOfSheet s gutter.now → OnOk result (Draws pen.old pen.new
+        (margin_pieces page.switches page.number_width 0 (bare 0) ++ gutter_pieces s (piece a k p))) }
+{
     pen.push_margin()?;
     gutter.push_blank(pen)
 }

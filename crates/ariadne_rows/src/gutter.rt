@@ -166,7 +166,8 @@ impl<'a> Gutter<'a> {
         margin: Option<LineLabel>,
     ) -> Result<(), AllocError>
         requires page { self.now.page ≡ pen.old.page }
-        ensures { (s : Sheet) (l : ℕ) → HasBarsOf s (source l) self.now →
+        ensures page { OnOk result (pen.new.page ≡ pen.old.page) }
+        ensures drawn { (s : Sheet) (l : ℕ) → HasBarsOf s (source l) self.now →
             margin_label s l ≡ margin →
             OnOk result (Draws pen.old pen.new (gutter_pieces s (source l))) }
     {

@@ -1,11 +1,11 @@
 //! The header of a picture, and the rows round the lines of a group.
 
-ghost use Rattle.std.specs.Prelude.{◌≡◌, ◌+◌, ◌++◌, OnOk, codes};
+ghost use Rattle.std.specs.Prelude.{◌≡◌, ◌+◌, ◌++◌, ◌∷◌, [], OnOk, codes};
 ghost use Rattle.std.specs.Option.{option_copied};
-ghost use Rattle.ariadne_cells.specs.Pages.{Adds, DrawsRow};
+ghost use Rattle.ariadne_cells.specs.Pages.{Adds, Draws, DrawsRow};
 ghost use Rattle.ariadne_picture.specs.Canvas.{code_text, header_pieces};
 ghost use Rattle.ariadne_picture.specs.Pieces.{Section, Texts, group_header_pieces, location_text};
-ghost use Rattle.ariadne_picture.specs.Pieces.{spacer_pieces, spaces, tail_pieces};
+ghost use Rattle.ariadne_picture.specs.Pieces.{painted_text, spacer_pieces, spaces, tail_pieces};
 ghost use Rattle.ariadne_rows.specs.Headers.{location_numbers};
 
 use ariadne_cells::pen::Pen;
@@ -31,14 +31,22 @@ pub fn push_header(
         t.message ≡ option_copied message.entry →
         OnOk result (DrawsRow pen.old pen.new (header_pieces t)) }
 {
+    push_kind(pen, code, kind)?;
+    pen.push_char(' ')?;
+    pen.push_text(message.unwrap_or(""))?;
+    pen.end_row()
+}
+
+/// Writes the word of a report's kind in its colour, behind the report's code.
+fn push_kind(pen: &mut Pen<'_>, code: Option<&str>, kind: &str) -> Result<(), AllocError>
+    ensures { let text = code_text (option_copied code.entry) ++ kind.now ++ codes ":" in
+        OnOk result (Draws pen.old pen.new (painted_text Paint.Kind text ∷ [])) }
+{
     pen.push_opening(Paint::Kind)?;
     push_code(pen, code)?;
     pen.push_text(kind)?;
     pen.push_char(':')?;
-    pen.push_closing(Paint::Kind)?;
-    pen.push_char(' ')?;
-    pen.push_text(message.unwrap_or(""))?;
-    pen.end_row()
+    pen.push_closing(Paint::Kind)
 }
 
 /// Writes a report's code in brackets, if it has one.
@@ -100,6 +108,7 @@ fn push_location(
 }
 
 /// Writes the numbers of a line and a column, if they are known.
+#[tactic(auto, unfolding(crate::specs::Headers::location_numbers))]
 fn push_numbers(pen: &mut Pen<'_>, location: Option<(usize, usize)>) -> Result<(), AllocError>
     ensures { OnOk result (Adds pen.old pen.new (location_numbers location)) }
 {

@@ -125,11 +125,13 @@ fn push_message(pen: &mut Pen<'_>, own: &LineLabel, message: &str) -> Result<(),
     ensures { (t : Texts) → t.message_of own.now.info.position ≡ message.now →
         OnOk result (Draws pen.old pen.new (message_pieces t (Some own.now))) }
 {
-    if own.side == Side::Starts {
-        return Ok(());
+    match own.side {
+        Side::Starts => Ok(()),
+        Side::Inline | Side::Ends => {
+            pen.push_char(' ')?;
+            pen.push_text(message)
+        }
     }
-    pen.push_char(' ')?;
-    pen.push_text(message)
 }
 
 /// Writes the row in place of hidden lines, where the first of them begins inside a label over

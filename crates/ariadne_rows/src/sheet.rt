@@ -274,12 +274,13 @@ fn stands_nearer(label: &LineLabel, nearest: &Option<LineLabel>) -> bool
 }
 
 /// Whether a label is the margin label and starts at the line.
-#[tactic(auto, unfolding(ariadne_picture::specs::Ranks::is_inline, ariadne_picture::specs::Ranks::is_margin, ariadne_picture::specs::Ranks::is_of_gutter_label, ariadne_picture::specs::Ranks::is_start,))]
 fn starts_at_margin(label: &LineLabel, margin: &Option<LineLabel>) -> bool
     ensures { result ≡ (is_start label.now.side && is_margin margin.now label.now) }
 {
-    match (label.side, margin) {
-        (Side::Starts, Some(margin)) => margin.gutter_column == label.gutter_column,
-        _ => false,
+    match margin {
+        Some(margin) => {
+            matches!(label.side, Side::Starts) && margin.gutter_column == label.gutter_column
+        }
+        None => false,
     }
 }

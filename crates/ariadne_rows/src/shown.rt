@@ -1,12 +1,15 @@
 //! The text of a source row: the shown characters of its line, each in the colour of a label.
 
-ghost use Rattle.std.specs.Prelude.{◌≡◌, ◌<◌, ◌≤◌, ◌^◌, List, true, OnOk};
+ghost use Rattle.std.specs.Prelude.{◌≡◌, ◌<◌, ◌≤◌, ◌^◌, ℕ, List, Some, true, OnOk, drop, encode_utf8};
+ghost use Rattle.std.specs.Prelude.{length, replicate, slice_get};
 ghost use Rattle.ariadne_cells.specs.Pages.{Draws};
-ghost use Rattle.ariadne_cells.specs.Tables.{ArePaints, tab_columns};
+ghost use Rattle.ariadne_cells.specs.Tables.{ArePaints, position_paint, shown_at, tab_columns};
 ghost use Rattle.ariadne_picture.specs.declared.label_info.LabelInfo.{LabelInfo};
-ghost use Rattle.ariadne_picture.specs.Pieces.{shown_pieces};
+ghost use Rattle.ariadne_picture.specs.Pieces.{char_pieces, shown_pieces, shown_text};
+ghost use Rattle.ariadne_rows.specs.ShownTexts.{blank_of, shown_in};
 
-use ariadne_cells::layout::{LineLayout, shown_columns};
+use ariadne_cells::columns::shown_columns;
+use ariadne_cells::layout::LineLayout;
 use ariadne_cells::pen::Pen;
 use ariadne_cells::stretches::Stretch;
 use ariadne_picture::cell::{Glyph, Paint};
@@ -30,6 +33,24 @@ pub fn push_shown(
         OnOk result (Draws pen.old pen.new (shown_pieces page.switches multi_line layout.now)) }
     ensures tabs { OnOk result (tab_columns pen.old.page.switches layout.now < 2 ^ 63) }
 {
+    push_characters(pen, layout, paints)?;
+    // Text that was written lies in memory, and so is shorter than `usize` can count.
+    let _len = pen.len();
+    Ok(())
+}
+
+/// Writes the shown characters of a line, in the colours that there are.
+fn push_characters(
+    pen: &mut Pen<'_>,
+    layout: &LineLayout<'_>,
+    paints: &[Stretch],
+) -> Result<(), AllocError>
+    ensures drawn { let page = pen.old.page in (multi_line : List LabelInfo) →
+        (page.palette.is_on ≡ true → ArePaints multi_line layout.now paints.now) →
+        OnOk result (Draws pen.old pen.new (shown_pieces page.switches multi_line layout.now)) }
+    ensures tabs { OnOk result
+        (tab_columns pen.old.page.switches layout.now ≤ length pen.new.bytes) }
+{
     if pen.page().is_colored() {
         push_painted_shown(pen, layout, paints)
     } else if layout.is_plain() {
@@ -40,7 +61,10 @@ pub fn push_shown(
 }
 
 /// The same without colours.
-fn push_plain_shown(pen: &mut Pen<'_>, layout: &LineLayout<'_>) -> Result<(), AllocError> {
+fn push_plain_shown(pen: &mut Pen<'_>, layout: &LineLayout<'_>) -> Result<(), AllocError>
+    ensures { let switches = pen.old.page.switches in
+        OnOk result (Draws pen.old pen.new (shown_in switches layout.now (λ _. Paint.Plain))) }
+{
     for (index, c) in layout.shown().chars().enumerate() {
         push_char(pen, Paint::Plain, index, c)?;
     }
@@ -52,23 +76,48 @@ fn push_painted_shown(
     pen: &mut Pen<'_>,
     layout: &LineLayout<'_>,
     paints: &[Stretch],
-) -> Result<(), AllocError> {
+) -> Result<(), AllocError>
+    ensures { let switches = pen.old.page.switches in
+        OnOk result (Draws pen.old pen.new
+        (shown_in switches layout.now (λ k. position_paint (shown_at paints.now k)))) }
+{
     let mut number = 0;
     for (index, c) in layout.shown().chars().enumerate() {
-        while number < paints.len() && paints[number].end <= index {
-            number += 1;
-        }
-        let paint = match paints.get(number) {
-            Some(stretch) => paint_of(stretch.position),
-            None => Paint::Unimportant,
-        };
-        push_char(pen, paint, index, c)?;
+        number = stretch_at(paints, number, index);
+        push_char(pen, stretch_paint(paints, number), index, c)?;
     }
     Ok(())
 }
 
+/// The number of the first stretch that ends behind a place, from number `first` on.
+fn stretch_at(paints: &[Stretch], first: usize, place: usize) -> usize
+    ensures seen { (k : ℕ) → place ≤ k →
+        shown_at (drop result paints.now) k ≡ shown_at (drop first paints.now) k }
+    ensures reaches { (s : Stretch) → slice_get paints.now result ≡ Some s → place < s.end }
+{
+    let mut number = first;
+    while number < paints.len() && paints[number].end <= place {
+        number += 1;
+    }
+    number
+}
+
+/// The colour of the places of stretch `number`, or that of text outside all labels.
+fn stretch_paint(paints: &[Stretch], number: usize) -> Paint
+    ensures { (k : ℕ) → ((s : Stretch) → slice_get paints.now number ≡ Some s → k < s.end) →
+        result ≡ position_paint (shown_at (drop number paints.now) k) }
+{
+    match paints.get(number) {
+        Some(stretch) => paint_of(stretch.position),
+        None => Paint::Unimportant,
+    }
+}
+
 /// The colour of the label at a position, or that of text outside all labels.
-fn paint_of(position: Option<usize>) -> Paint {
+#[tactic(auto, unfolding(ariadne_cells::specs::Tables::position_paint))]
+fn paint_of(position: Option<usize>) -> Paint
+    ensures { result ≡ position_paint position }
+{
     match position {
         Some(position) => Paint::Label(position),
         None => Paint::Unimportant,
@@ -76,12 +125,23 @@ fn paint_of(position: Option<usize>) -> Paint {
 }
 
 /// Writes the shown character at an index of its line: a tab as blanks, other white space as one.
-fn push_char(pen: &mut Pen<'_>, paint: Paint, index: usize, c: char) -> Result<(), AllocError> {
+fn push_char(pen: &mut Pen<'_>, paint: Paint, index: usize, c: char) -> Result<(), AllocError>
+    ensures { let switches = pen.old.page.switches in
+        OnOk result (Draws pen.old pen.new (char_pieces switches paint index c)) }
+{
     if c == '\t' {
         let columns = shown_columns(pen.page().switches().tab_width, index, c);
         return push_tab(pen, paint, columns);
     }
-    pen.push_piece_char(paint, if c.is_whitespace() { ' ' } else { c })
+    pen.push_piece_char(paint, shown_char(c))
+}
+
+/// A character as it is shown: white space as a blank.
+#[tactic(auto, using(crate::proofs::ShownRows::blank_code), unfolding(ariadne_picture::specs::Pieces::shown_text))]
+fn shown_char(c: char) -> char
+    ensures { encode_utf8 result ≡ shown_text c }
+{
+    if c.is_whitespace() { ' ' } else { c }
 }
 
 /// The most bytes that a blank takes, with the escapes of its colour.
@@ -89,8 +149,14 @@ const PAINTED_BLANK: usize = 24;
 
 /// Writes the blanks of a tab. There is room for all of them before the first is written, so that
 /// too wide a tab is refused at once.
-fn push_tab(pen: &mut Pen<'_>, paint: Paint, columns: usize) -> Result<(), AllocError> {
-    let size = if pen.page().color_of(paint).is_some() { PAINTED_BLANK } else { 1 };
+fn push_tab(pen: &mut Pen<'_>, paint: Paint, columns: usize) -> Result<(), AllocError>
+    ensures { OnOk result (Draws pen.old pen.new (replicate columns (blank_of paint))) }
+{
+    let size = if pen.page().color_of(paint).is_some() {
+        PAINTED_BLANK
+    } else {
+        1
+    };
     pen.reserve(columns.saturating_mul(size))?;
     pen.push_run(Glyph::Blank, paint, columns)
 }
