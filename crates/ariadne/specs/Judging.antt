@@ -1,7 +1,7 @@
 -- Which labels of a report are left out, and why. A label has a reason, or none where it is drawn;
 -- what the reasons may be is told by the contents of the cache before and after they were found.
 use Rattle.std.specs.Prelude.{ℕ, suc, ◌+◌, ◌≡◌, ⊤, Bool, true, false, List, [], ◌∷◌, Option, Some}
-use Rattle.std.specs.Prelude.{None, IsSomeAnd}
+use Rattle.std.specs.Prelude.{None, IsSomeAnd, Result, Ok, Err}
 use Rattle.std.specs.List.{AllZip, list_any}
 use Rattle.ariadne_base.specs.Cache.{Grows, held}
 use Rattle.ariadne_base.specs.Listing.{Listing}
@@ -47,6 +47,13 @@ module _ {S Id E : Type 0} (fails : Id → E → Type 0) (before after : World S
       (λ s. verdict_in after config k label s ≡ cuts)
   IsJudged k label (Some (Unfetched e)) =
       (before.source_of (before.id_of label.span) ≡ None) × fails (before.id_of label.span) e
+
+  -- what became of the label at position k: it is drawn as this, or it has this reason
+  abbrev pub IsOutcome : ℕ → LabelFields S → Result LabelInfo (Reason E) → Type 0
+  IsOutcome k label (Ok a) =
+      IsSomeAnd (after.source_of (after.id_of label.span))
+      (λ s. verdict_in after config k label s ≡ Accepted a)
+  IsOutcome k label (Err reason) = IsJudged k label (Some reason)
 
   -- each label, of which the first is at position k, has the reason at its place
   abbrev pub AreJudged : ℕ → List (LabelFields S) → List (Option (Reason E)) → Type 0

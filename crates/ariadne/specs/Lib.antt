@@ -13,8 +13,10 @@ pub use Rattle.ariadne_picture.specs.Canvas
 pub use Rattle.ariadne_picture.specs.Print
 pub use Rattle.ariadne_picture.specs.Placing
 pub use Rattle.ariadne_picture.specs.Variants
+pub mod Building
 pub mod Drawn
 pub mod Judging
 pub mod Kinds
+pub mod Labels
 pub mod Sent
 pub mod Written

@@ -1,6 +1,11 @@
 //! Reports in the making.
 
-ghost use Rattle.std.specs.Prelude.{◌≡◌, ◌++◌, ◌∷◌, [], Some, IfOk, OnOk, OnErr};
+ghost use Rattle.std.specs.Prelude.{◌≡◌, ℕ, ◌++◌, ◌∷◌, [], List, map, Some, IfOk, OnOk, OnErr};
+ghost use Rattle.std.specs.Prelude.{string_bytes};
+ghost use Rattle.std.specs.Borrow.{Bor};
+ghost use Rattle.std.specs.Iterator.{IsFiniteIterable};
+ghost use Rattle.ariadne_picture.specs.Report.{LabelFields};
+ghost use Rattle.ariadne.specs.Building.{numeric_code, filled_code, GivesAll, GivesMore};
 
 use crate::config::Config;
 use crate::kind::ReportKind;
@@ -50,20 +55,36 @@ impl<'a, S: Span> ReportBuilder<'a, S> {
         }
     }
 
-    /// The report with this message, in place of the one that it may have had.
-    pub fn with_message(self, message: &str) -> Result<ReportBuilder<'a, S>, AllocError>
+    /// The report with this number as its code, which stands in brackets in front of its kind, in
+    /// place of the code that it may have had. The code is the number's decimal digits, with zeros
+    /// in front where they are less than two.
+    pub fn with_code(self, code: u64) -> Result<ReportBuilder<'a, S>, AllocError>
     where
         S: Drop,
         ensures { IfOk result (λ report. report ≡ record self.entry
-            { message = Some message.now }) }
+            { code = Some (numeric_code code) }) }
     {
         let ReportBuilder { mut report } = self;
-        report.message = Some(String::from_str(report.alloc, message)?);
+        report.code = Some(number_code(report.alloc, code)?);
         Ok(ReportBuilder { report })
     }
 
-    /// Gives the report this message, in place of the one that it may have had. Where there is no
-    /// memory for the message the report is as it was.
+    /// The report with this text as its code, which stands in brackets in front of its kind, in
+    /// place of the code that it may have had. Blanks stand behind it where it has less than two
+    /// characters.
+    pub fn with_code_text(self, code: &str) -> Result<ReportBuilder<'a, S>, AllocError>
+    where
+        S: Drop,
+        ensures { IfOk result (λ report. report ≡ record self.entry
+            { code = Some (filled_code code.now) }) }
+    {
+        let ReportBuilder { mut report } = self;
+        report.code = Some(text_code(report.alloc, code)?);
+        Ok(ReportBuilder { report })
+    }
+
+    /// Gives the report this message, in place of the one that it may have had. On `Err` there was
+    /// no memory for it, and the report is as it was.
     pub fn set_message(&mut self, message: &str) -> Result<(), AllocError>
         ensures ok { OnOk result (self.new ≡ record self.old { message = Some message.now }) }
         ensures err { OnErr result (self.new ≡ self.old) }
@@ -73,8 +94,144 @@ impl<'a, S: Span> ReportBuilder<'a, S> {
         Ok(())
     }
 
-    /// Adds a label behind those that the report has. A refused one is dropped, and the report is
-    /// as it was.
+    /// The report with this message, in place of the one that it may have had. On `Err` there was
+    /// no memory for it, and the report is dropped.
+    pub fn with_message(mut self, message: &str) -> Result<ReportBuilder<'a, S>, AllocError>
+    where
+        S: Drop,
+        ensures { IfOk result (λ report. report ≡ record self.entry
+            { message = Some message.now }) }
+    {
+        self.set_message(message)?;
+        Ok(self)
+    }
+
+    /// Gives the report this note, in place of all that it had. On `Err` there was no memory for
+    /// it, and the report is as it was.
+    pub fn set_note(&mut self, note: &str) -> Result<(), AllocError>
+        ensures ok { OnOk result (self.new ≡ record self.old { notes = note.now ∷ [] }) }
+        ensures err { OnErr result (self.new ≡ self.old) }
+    {
+        let report = &mut self.report;
+        let note = String::from_str(report.alloc, note)?;
+        report.notes = vec![in report.alloc; note]?;
+        Ok(())
+    }
+
+    /// Adds a note behind those that the report has. On `Err` there was no memory for it, and the
+    /// report is as it was.
+    pub fn add_note(&mut self, note: &str) -> Result<(), AllocError>
+        ensures ok { OnOk result (self.new ≡ record self.old
+            { notes = self.old.notes ++ note.now ∷ [] }) }
+        ensures err { OnErr result (self.new ≡ self.old) }
+    {
+        let report = &mut self.report;
+        let note = String::from_str(report.alloc, note)?;
+        report.notes.push(note)?;
+        Ok(())
+    }
+
+    /// Adds these notes in turn, behind those that the report has. On `Err` there was no memory
+    /// for one of them: those before it stay added, and it and those behind it are dropped.
+    pub fn with_notes<'t, T: IntoIterator<Item = &'t str>>(
+        &mut self,
+        notes: T,
+    ) -> Result<(), AllocError>
+    where
+        T::IntoIter: Drop,
+        requires { IsFiniteIterable T.into_iter_gives T.IntoIter.can_next T.IntoIter.remaining
+            notes }
+        ensures ok { OnOk result ((texts : List (Bor (List ℕ)))
+            × GivesAll T.into_iter_gives T.IntoIter.next_gives notes texts
+            × (self.new ≡ record self.old
+            { notes = self.old.notes ++ map (λ text. text.now) texts })) }
+        ensures err { OnErr result ((texts : List (Bor (List ℕ)))
+            × GivesMore T.into_iter_gives T.IntoIter.next_gives notes texts
+            × (self.new ≡ record self.old
+            { notes = self.old.notes ++ map (λ text. text.now) texts })) }
+    {
+        for text in notes {
+            self.add_note(text)?;
+        }
+        Ok(())
+    }
+
+    /// The report with one note more, behind those that it has. On `Err` there was no memory for
+    /// it, and the report is dropped.
+    pub fn with_note(mut self, note: &str) -> Result<ReportBuilder<'a, S>, AllocError>
+    where
+        S: Drop,
+        ensures { IfOk result (λ report. report ≡ record self.entry
+            { notes = self.entry.notes ++ note.now ∷ [] }) }
+    {
+        self.add_note(note)?;
+        Ok(self)
+    }
+
+    /// Gives the report this help, in place of all that it had. On `Err` there was no memory for
+    /// it, and the report is as it was.
+    pub fn set_help(&mut self, help: &str) -> Result<(), AllocError>
+        ensures ok { OnOk result (self.new ≡ record self.old { helps = help.now ∷ [] }) }
+        ensures err { OnErr result (self.new ≡ self.old) }
+    {
+        let report = &mut self.report;
+        let help = String::from_str(report.alloc, help)?;
+        report.helps = vec![in report.alloc; help]?;
+        Ok(())
+    }
+
+    /// Adds a help behind those that the report has. On `Err` there was no memory for it, and the
+    /// report is as it was.
+    pub fn add_help(&mut self, help: &str) -> Result<(), AllocError>
+        ensures ok { OnOk result (self.new ≡ record self.old
+            { helps = self.old.helps ++ help.now ∷ [] }) }
+        ensures err { OnErr result (self.new ≡ self.old) }
+    {
+        let report = &mut self.report;
+        let help = String::from_str(report.alloc, help)?;
+        report.helps.push(help)?;
+        Ok(())
+    }
+
+    /// Adds these helps in turn, behind those that the report has. On `Err` there was no memory
+    /// for one of them: those before it stay added, and it and those behind it are dropped.
+    pub fn with_helps<'t, T: IntoIterator<Item = &'t str>>(
+        &mut self,
+        helps: T,
+    ) -> Result<(), AllocError>
+    where
+        T::IntoIter: Drop,
+        requires { IsFiniteIterable T.into_iter_gives T.IntoIter.can_next T.IntoIter.remaining
+            helps }
+        ensures ok { OnOk result ((texts : List (Bor (List ℕ)))
+            × GivesAll T.into_iter_gives T.IntoIter.next_gives helps texts
+            × (self.new ≡ record self.old
+            { helps = self.old.helps ++ map (λ text. text.now) texts })) }
+        ensures err { OnErr result ((texts : List (Bor (List ℕ)))
+            × GivesMore T.into_iter_gives T.IntoIter.next_gives helps texts
+            × (self.new ≡ record self.old
+            { helps = self.old.helps ++ map (λ text. text.now) texts })) }
+    {
+        for text in helps {
+            self.add_help(text)?;
+        }
+        Ok(())
+    }
+
+    /// The report with one help more, behind those that it has. On `Err` there was no memory for
+    /// it, and the report is dropped.
+    pub fn with_help(mut self, help: &str) -> Result<ReportBuilder<'a, S>, AllocError>
+    where
+        S: Drop,
+        ensures { IfOk result (λ report. report ≡ record self.entry
+            { helps = self.entry.helps ++ help.now ∷ [] }) }
+    {
+        self.add_help(help)?;
+        Ok(self)
+    }
+
+    /// Adds a label behind those that the report has. On `Err` there was no memory for it: it is
+    /// dropped, and the report is as it was.
     pub fn add_label(&mut self, label: Label<S>) -> Result<(), AllocError>
     where
         S: Drop,
@@ -86,7 +243,32 @@ impl<'a, S: Span> ReportBuilder<'a, S> {
         Ok(())
     }
 
-    /// The report with one label more, behind those that it has.
+    /// Adds these labels in turn, behind those that the report has. On `Err` there was no memory
+    /// for one of them: those before it stay added, and it and those behind it are dropped.
+    pub fn add_labels<T: IntoIterator<Item = Label<S>>>(
+        &mut self,
+        labels: T,
+    ) -> Result<(), AllocError>
+    where
+        S: Drop,
+        T::IntoIter: Drop,
+        requires { IsFiniteIterable T.into_iter_gives T.IntoIter.can_next T.IntoIter.remaining
+            labels }
+        ensures ok { OnOk result ((added : List (LabelFields S))
+            × GivesAll T.into_iter_gives T.IntoIter.next_gives labels added
+            × (self.new ≡ record self.old { labels = self.old.labels ++ added })) }
+        ensures err { OnErr result ((added : List (LabelFields S))
+            × GivesMore T.into_iter_gives T.IntoIter.next_gives labels added
+            × (self.new ≡ record self.old { labels = self.old.labels ++ added })) }
+    {
+        for added in labels {
+            self.add_label(added)?;
+        }
+        Ok(())
+    }
+
+    /// The report with one label more, behind those that it has. On `Err` there was no memory for
+    /// it, and label and report are dropped.
     pub fn with_label(mut self, label: Label<S>) -> Result<ReportBuilder<'a, S>, AllocError>
     where
         S: Drop,
@@ -94,6 +276,25 @@ impl<'a, S: Span> ReportBuilder<'a, S> {
             { labels = self.entry.labels ++ label ∷ [] }) }
     {
         self.add_label(label)?;
+        Ok(self)
+    }
+
+    /// The report with these labels in turn, behind those that it has. On `Err` there was no memory
+    /// for one of them, and labels and report are dropped.
+    pub fn with_labels<T: IntoIterator<Item = Label<S>>>(
+        mut self,
+        labels: T,
+    ) -> Result<ReportBuilder<'a, S>, AllocError>
+    where
+        S: Drop,
+        T::IntoIter: Drop,
+        requires { IsFiniteIterable T.into_iter_gives T.IntoIter.can_next T.IntoIter.remaining
+            labels }
+        ensures { IfOk result (λ report. (added : List (LabelFields S))
+            × GivesAll T.into_iter_gives T.IntoIter.next_gives labels added
+            × (report ≡ record self.entry { labels = self.entry.labels ++ added })) }
+    {
+        self.add_labels(labels)?;
         Ok(self)
     }
 
@@ -106,11 +307,31 @@ impl<'a, S: Span> ReportBuilder<'a, S> {
         ReportBuilder { report }
     }
 
-    /// The report.
+    /// The report, ready to be written.
     pub fn finish(self) -> Report<'a, S>
         ensures { result ≡ self.entry }
     {
         let ReportBuilder { report } = self;
         report
     }
+}
+
+/// The code that a number is: its digits, with zeros in front where they are less than two.
+#[tactic(auto, using(crate::proofs::Building::zero_filled))]
+fn number_code(alloc: Global, number: u64) -> Result<String, AllocError>
+    ensures { IfOk result (λ code. string_bytes code ≡ numeric_code number) }
+{
+    format!(in alloc; "{number:02}")
+}
+
+/// The code that a text is: with blanks behind it where it has less than two characters.
+fn text_code(alloc: Global, text: &str) -> Result<String, AllocError>
+    ensures { IfOk result (λ code. string_bytes code ≡ filled_code text.now) }
+{
+    let filler = match text.chars().count() {
+        0 => "  ",
+        1 => " ",
+        _ => "",
+    };
+    format!(in alloc; "{text}{filler}")
 }

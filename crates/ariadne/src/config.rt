@@ -80,7 +80,8 @@ impl Config {
         }
     }
 
-    /// Whether a horizontal that crosses a vertical hides it; else it is drawn as a crossing.
+    /// Whether a horizontal that crosses a vertical hides it; else it is drawn as a crossing. By
+    /// default it does.
     pub const fn with_cross_gap(mut self, cross_gap: bool) -> Config
         ensures { result ≡ record self { cross_gap = cross_gap } }
     {
@@ -88,7 +89,8 @@ impl Config {
         self
     }
 
-    /// Where the arrow of a label within one line is attached.
+    /// Where the arrow of a label within one line is attached: at its first character, its middle
+    /// one or its last one. By default it is the middle.
     pub const fn with_label_attach(mut self, label_attach: LabelAttach) -> Config
         ensures { result ≡ record self { label_attach = label_attach } }
     {
@@ -96,8 +98,8 @@ impl Config {
         self
     }
 
-    /// Whether the picture is drawn with fewer rows and columns: without underlines, and without the
-    /// rows round those that tell something.
+    /// Whether the picture is drawn with fewer rows and columns: without underlines, and without
+    /// the rows round those that tell something. By default it is not.
     pub const fn with_compact(mut self, compact: bool) -> Config
         ensures { result ≡ record self { compact = compact } }
     {
@@ -105,7 +107,8 @@ impl Config {
         self
     }
 
-    /// Whether labels within one line are underlined. Compact pictures have no underlines.
+    /// Whether labels within one line are underlined. By default they are; compact pictures have no
+    /// underlines.
     pub const fn with_underlines(mut self, underlines: bool) -> Config
         ensures { result ≡ record self { underlines = underlines } }
     {
@@ -113,7 +116,8 @@ impl Config {
         self
     }
 
-    /// Whether the ends of labels over several lines are shown by arrow heads below their line.
+    /// Whether the ends of labels over several lines are shown by arrow heads below their line. By
+    /// default they are.
     pub const fn with_multiline_arrows(mut self, multiline_arrows: bool) -> Config
         ensures { result ≡ record self { multiline_arrows = multiline_arrows } }
     {
@@ -121,7 +125,8 @@ impl Config {
         self
     }
 
-    /// Whether the picture has colours.
+    /// Whether the picture has colours. By default it has; else all colours of the report are left
+    /// out as it is drawn.
     pub const fn with_color(mut self, color: bool) -> Config
         ensures { result ≡ record self { color = color } }
     {
@@ -129,7 +134,8 @@ impl Config {
         self
     }
 
-    /// How many characters of a line stand between two tab stops.
+    /// How many characters of a line stand from one tab stop to the next: at least 1, and 4 by
+    /// default. They are counted from 0 at the start of the line, whatever columns they take.
     pub const fn with_tab_width(mut self, tab_width: usize) -> Config
         requires { 1 ≤ tab_width }
         ensures { result ≡ record self { tab_width = tab_width } }
@@ -138,7 +144,7 @@ impl Config {
         self
     }
 
-    /// The characters that strokes are drawn with.
+    /// The characters that strokes are drawn with, by default those for boxes of Unicode.
     pub const fn with_char_set(mut self, char_set: CharSet) -> Config
         ensures { result ≡ record self { char_set = char_set } }
     {
@@ -146,7 +152,8 @@ impl Config {
         self
     }
 
-    /// What the offsets of spans count: characters, or bytes of a source's text.
+    /// What the offsets of spans count from 0: characters of a source, or bytes of its text in
+    /// UTF-8. By default they are characters.
     pub const fn with_index_type(mut self, index_type: IndexType) -> Config
         ensures { result ≡ record self { index_type = index_type } }
     {

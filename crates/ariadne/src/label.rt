@@ -1,10 +1,13 @@
 //! Labels: pieces of sources with messages.
 
-ghost use Rattle.std.specs.Prelude.{◌≡◌, ◌≤◌, Some, IfOk};
+ghost use Rattle.std.specs.Prelude.{◌≡◌, ◌≤◌, true, Some, IfOk};
 ghost use Rattle.std.specs.Option.{option_copied};
+ghost use Rattle.std.specs.Cmp.{partial_equiv_from_equiv};
+ghost use Rattle.ariadne.specs.Labels.{label_eq, label_equiv, label_writes, label_alike};
 
 use ariadne_base::{Color, Span};
 use std::alloc::{AllocError, Global};
+use std::hash::{Hash, Hasher};
 use std::marker::Model;
 use std::ops::Range;
 
@@ -82,32 +85,13 @@ impl<S: Span> Label<S> {
         self
     }
 
-    /// The label with this priority. Where spans overlap, the label of the highest priority is seen.
+    /// The label with this priority. Where spans overlap, the label of the highest priority is
+    /// seen.
     pub fn with_priority(mut self, priority: i32) -> Label<S>
         ensures { result ≡ record self { priority = priority } }
     {
         self.priority = priority;
         self
-    }
-
-    /// A copy, where a clone of the span is the span. On `Err` there was no memory for it.
-    pub fn clone(&self) -> Result<Label<S>, AllocError>
-    where
-        S: Clone,
-        requires { (x y : S) → S.is_clone x y → y ≡ x }
-        ensures { IfOk result (λ label. label ≡ self.now) }
-    {
-        let message = match &self.message {
-            Some(message) => Some(message.clone()?),
-            None => None,
-        };
-        Ok(Label {
-            span: self.span.clone()?,
-            message,
-            color: self.color,
-            order: self.order,
-            priority: self.priority,
-        })
     }
 
     /// What it points at.
@@ -144,5 +128,66 @@ impl<S: Span> Label<S> {
         ensures { result ≡ self.now.priority }
     {
         self.priority
+    }
+}
+
+impl<S: Span + Eq> Label<S> {
+    /// A copy of the label. A clone of its span is to equal the span, and to start and end where
+    /// the span does; all else of the copy is the same. On `Err` there was no memory for it.
+    pub fn clone(&self) -> Result<Label<S>, AllocError>
+    where
+        S: Clone,
+        requires equal { (x y : S) → S.is_clone x y → S.eq x y ≡ true }
+        requires starts { (x y : S) → S.is_clone x y → S.start_of y ≡ S.start_of x }
+        requires ends { (x y : S) → S.is_clone x y → S.end_of y ≡ S.end_of x }
+        ensures span { IfOk result (λ label. S.eq self.now.span label.span ≡ true) }
+        ensures starts { IfOk result (λ label. S.start_of label.span ≡ S.start_of self.now.span) }
+        ensures ends { IfOk result (λ label. S.end_of label.span ≡ S.end_of self.now.span) }
+        ensures rest { IfOk result (λ label. label ≡ record self.now { span = label.span }) }
+    {
+        let message = match &self.message {
+            Some(message) => Some(message.clone()?),
+            None => None,
+        };
+        Ok(Label {
+            span: self.span.clone()?,
+            message,
+            color: self.color,
+            order: self.order,
+            priority: self.priority,
+        })
+    }
+}
+
+/// Labels are equal where their spans, messages, colours, orders and priorities are.
+impl<S: Span + Eq> PartialEq for Label<S> {
+    ghost eq = { label_eq S.eq };
+
+    ghost laws = { partial_equiv_from_equiv (label_equiv S.Eq.laws) };
+
+    fn eq(&self, other: &Label<S>) -> bool {
+        self.span == other.span
+            && self.message == other.message
+            && self.color == other.color
+            && self.order == other.order
+            && self.priority == other.priority
+    }
+}
+
+impl<S: Span + Eq> Eq for Label<S> {
+    ghost laws = { label_equiv S.Eq.laws };
+}
+
+impl<S: Span + Hash> Hash for Label<S> {
+    ghost hash_input = { label_writes S.hash_input };
+
+    ghost respects_eq = { (label_alike (record { fed = S.Hash.respects_eq })).fed };
+
+    fn hash<H: Hasher>(&self, state: &mut H) {
+        self.span.hash(state);
+        self.message.hash(state);
+        self.color.hash(state);
+        self.order.hash(state);
+        self.priority.hash(state);
     }
 }

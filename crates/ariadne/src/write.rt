@@ -18,10 +18,25 @@ use ariadne_base::{Cache, Span};
 use drawing::draw;
 pub use send::WriteError;
 use send::send;
-use std::io::Write;
+use std::io;
+use std::io::{Stderr, Write};
 
 impl<'a, S: Span> Report<'a, S> {
     /// Draws the report over the sources of a cache and sends the picture to `out`.
+    ///
+    /// The source of each label is fetched, in the order of the labels, and no other is. A label is
+    /// left out where its source can't be had, where it begins past its source or ends more than
+    /// one past it, and where one of its ends lies inside a character; the answer lists these
+    /// labels by their positions, from 0, each with its reason. The picture is drawn whole before
+    /// its first byte is sent, and sending takes no memory.
+    ///
+    /// On `Memory` nothing was sent: the cache had no memory for a source, or there was none for
+    /// the picture. On `Io` the writer failed, or took nothing of a piece that is not empty: it has
+    /// taken exactly the first `sent` bytes of the picture, which has more. After each answer the
+    /// cache holds what it held, and beyond that at most sources of labels.
+    ///
+    /// After Ok every message can be found: it has a row of its own, and strokes lead from it to
+    /// the characters that its label points at, in the columns where the source row shows them.
     pub fn write<C: Cache<S::SourceId>, W: Write>(
         &self,
         cache: &mut C,
@@ -42,5 +57,71 @@ impl<'a, S: Span> Report<'a, S> {
         let text = draw(self, cache, judged.infos)?;
         send(out, text.as_bytes())?;
         Ok(judged.left_out)
+    }
+
+    /// Draws the report over the sources of a cache and sends the picture to `out`, which is to be
+    /// printed to standard output. It is `write` under another name: no terminal is asked, so the
+    /// bytes and the answers are the same.
+    pub fn write_for_stdout<C: Cache<S::SourceId>, W: Write>(
+        &self,
+        cache: &mut C,
+        out: &mut W,
+    ) -> Result<Vec<LeftOut<C::Error>>, WriteError>
+        requires { C.can_fetch cache.old }
+        ensures again { C.can_fetch cache.new }
+        ensures naming { (q : S.SourceId) → C.names cache.new q ≡ C.names cache.old q }
+        ensures grows { GrowsFor S.source_of S.SourceId.eq self.now.labels
+            (C.contents cache.old) (C.contents cache.new) }
+        ensures written { let old = world S.source_of S.start_of S.end_of S.SourceId.eq
+            (C.names cache.old) (C.contents cache.old) in
+            let w = world S.source_of S.start_of S.end_of S.SourceId.eq
+            (C.names cache.new) (C.contents cache.new) in
+            Written C.fails old w self.now (W.contents out.old) (W.contents out.new) result }
+    {
+        self.write(cache, out)
+    }
+
+    /// Draws the report over the sources of a cache and sends the picture to the runtime's standard
+    /// output, as `write` does. What that output holds is not known, so the contract tells which
+    /// labels are left out, and that a fault sent less than the picture, and not what was sent.
+    pub fn print<C: Cache<S::SourceId>, R: Print>(
+        &self,
+        cache: &mut C,
+        rt: &R,
+    ) -> Result<Vec<LeftOut<C::Error>>, WriteError>
+        requires { C.can_fetch cache.old }
+        ensures again { C.can_fetch cache.new }
+        ensures naming { (q : S.SourceId) → C.names cache.new q ≡ C.names cache.old q }
+        ensures grows { GrowsFor S.source_of S.SourceId.eq self.now.labels
+            (C.contents cache.old) (C.contents cache.new) }
+        ensures written { let old = world S.source_of S.start_of S.end_of S.SourceId.eq
+            (C.names cache.old) (C.contents cache.old) in
+            let w = world S.source_of S.start_of S.end_of S.SourceId.eq
+            (C.names cache.new) (C.contents cache.new) in
+            Written C.fails old w self.now None None result }
+    {
+        self.write(cache, &mut io::writer(rt))
+    }
+
+    /// Draws the report over the sources of a cache and sends the picture to the runtime's standard
+    /// error, `rt.stderr()`, as `write` does. What that holds is not known, so the contract tells
+    /// what that of `print` does.
+    pub fn eprint<C: Cache<S::SourceId>>(
+        &self,
+        cache: &mut C,
+        mut stderr: Stderr,
+    ) -> Result<Vec<LeftOut<C::Error>>, WriteError>
+        requires { C.can_fetch cache.old }
+        ensures again { C.can_fetch cache.new }
+        ensures naming { (q : S.SourceId) → C.names cache.new q ≡ C.names cache.old q }
+        ensures grows { GrowsFor S.source_of S.SourceId.eq self.now.labels
+            (C.contents cache.old) (C.contents cache.new) }
+        ensures written { let old = world S.source_of S.start_of S.end_of S.SourceId.eq
+            (C.names cache.old) (C.contents cache.old) in
+            let w = world S.source_of S.start_of S.end_of S.SourceId.eq
+            (C.names cache.new) (C.contents cache.new) in
+            Written C.fails old w self.now None None result }
+    {
+        self.write(cache, &mut stderr)
     }
 }

@@ -1,9 +1,23 @@
 //! The picture of a report, as text: its header, and the rows of its groups.
 
-ghost use Rattle.std.specs.Prelude.{◌≡◌, IfOk, string_bytes};
-ghost use Rattle.ariadne.specs.Drawn.{AreDrawn, world};
-ghost use Rattle.ariadne_picture.specs.Canvas.{canvas};
+ghost use Rattle.std.specs.Prelude.{◌≡◌, ◌+◌, ◌<◌, ◌≤◌, ◌==◌, ◌++◌, ℕ, List, [], ◌∷◌, Option, Some};
+ghost use Rattle.std.specs.Prelude.{IfOk, OnOk, chars, if◌then◌else◌, length, map, slice_get};
+ghost use Rattle.std.specs.Prelude.{string_bytes};
+ghost use Rattle.std.specs.List.{enumerate_from};
+ghost use Rattle.ariadne.specs.Drawn.{AreDrawn, AreOverLines, world};
+ghost use Rattle.ariadne_base.specs.Listing.{Listing, listed_lines};
+ghost use Rattle.ariadne_cells.specs.Pages.{DrawsRows};
+ghost use Rattle.ariadne_picture.specs.Canvas.{canvas, group_id, group_source, header_offset};
+ghost use Rattle.ariadne_picture.specs.Canvas.{same_source, section_of, texts_of};
+ghost use Rattle.ariadne_picture.specs.Groups.{groups_of};
+ghost use Rattle.ariadne_picture.specs.Lists.{joined};
+ghost use Rattle.ariadne_picture.specs.Pieces.{Section, Texts, location_text, row_pieces};
+ghost use Rattle.ariadne_picture.specs.Pieces.{section_rows};
 ghost use Rattle.ariadne_picture.specs.Print.{printed};
+ghost use Rattle.ariadne_picture.specs.Report.{switches_of};
+ghost use Rattle.ariadne_picture.specs.Rows.{asides, group_header, help, note, spacer, tail};
+ghost use Rattle.ariadne_rows.specs.Gutters.{IsOfSheet};
+ghost use Rattle.ariadne_rows.specs.Headers.{IsOnPage, location_numbers};
 
 use super::accept::offset_in_chars;
 use super::groups::{group_end, number_width};
@@ -41,7 +55,12 @@ pub(crate) fn draw<S: Span, C: Cache<S::SourceId>>(
     let switches = report.config().switches();
     let page = Page::new(report.alloc, report.palette()?, switches, width)?;
     let mut pen = Pen::new(report.alloc, &page);
-    push_header(&mut pen, report.code(), report.kind.name(), report.message())?;
+    push_header(
+        &mut pen,
+        report.code(),
+        report.kind.name(),
+        report.message(),
+    )?;
     push_groups(&mut pen, &page, report, cache, &infos)?;
     Ok(pen.into_text())
 }
@@ -53,7 +72,18 @@ fn push_groups<'a, S: Span, C: Cache<S::SourceId>>(
     report: &Report<'_, S>,
     cache: &C,
     infos: &'a [LabelInfo],
-) -> Result<(), AllocError> {
+) -> Result<(), AllocError>
+    requires page { pen.old.page ≡ page.now }
+    requires switches { page.now.switches ≡ switches_of report.now.config }
+    requires drawn { let w = world S.source_of S.start_of S.end_of S.SourceId.eq
+        (C.names cache.now) (C.contents cache.now) in AreDrawn w report.now infos.now }
+    ensures { let w = world S.source_of S.start_of S.end_of S.SourceId.eq
+        (C.names cache.now) (C.contents cache.now) in let r = report.now in
+        let gs = groups_of (same_source w r) infos.now in
+        OnOk result (DrawsRows pen.old pen.new
+        (joined (λ e. section_rows (texts_of r) page.now.number_width
+        (section_of w r (length gs) e)) (enumerate_from 0 gs))) }
+{
     let mut lists = Lists {
         sheet: GroupSheet::new(report.alloc),
         gutter: Gutter::new(report.alloc, page),
@@ -63,15 +93,9 @@ fn push_groups<'a, S: Span, C: Cache<S::SourceId>>(
     let mut start = 0;
     while start < infos.len() {
         let end = group_end(report, infos, start);
+        let is_last = end == infos.len();
         lists.sheet.fill(&infos[start..end])?;
-        push_group(
-            pen,
-            &mut lists,
-            report,
-            cache,
-            start == 0,
-            end == infos.len(),
-        )?;
+        push_group(pen, &mut lists, report, cache, start == 0, is_last)?;
         start = end;
     }
     Ok(())
@@ -85,26 +109,82 @@ fn push_group<S: Span, C: Cache<S::SourceId>>(
     cache: &C,
     is_first: bool,
     is_last: bool,
-) -> Result<(), AllocError> {
+) -> Result<(), AllocError>
+    requires page { lists.old.gutter.page ≡ pen.old.page }
+    requires switches { pen.old.page.switches ≡ switches_of report.now.config }
+    requires line { lists.old.sheet.line ≡ 0 }
+    requires labels { 0 < length lists.old.sheet.labels }
+    requires drawn { let w = world S.source_of S.start_of S.end_of S.SourceId.eq
+        (C.names cache.now) (C.contents cache.now) in
+        AreDrawn w report.now lists.old.sheet.labels }
+    requires over { let w = world S.source_of S.start_of S.end_of S.SourceId.eq
+        (C.names cache.now) (C.contents cache.now) in let labels = lists.old.sheet.labels in
+        AreOverLines (listed_lines (group_source w report.now labels)) labels }
+    ensures page { OnOk result (lists.new.gutter.page ≡ lists.old.gutter.page) }
+    ensures drawn { let w = world S.source_of S.start_of S.end_of S.SourceId.eq
+        (C.names cache.now) (C.contents cache.now) in let r = report.now in
+        (n k : ℕ) → is_first ≡ (k == 0) → is_last ≡ (k + 1 == n) →
+        OnOk result (DrawsRows pen.old pen.new
+        (section_rows (texts_of r) pen.old.page.number_width
+        (section_of w r n (k, lists.old.sheet.labels)))) }
+{
     let info = lists.sheet.labels()[0];
     let id = report.labels()[info.position].span().source();
     let source = C::get(cache, id).unwrap();
     let name = C::display(cache, id).unwrap_or("<unknown>");
     let location = header_location(report, id, source, &info);
-    push_group_header(pen, is_first, name, location)?;
-    if !pen.page().switches().compact {
-        push_spacer(pen)?;
-    }
+    push_head(pen, is_first, name, location)?;
     lists.gutter.begin(lists.sheet.gutter_labels())?;
     push_lines(pen, lists, report, source)?;
+    push_foot(pen, &lists.gutter, report, is_last)
+}
+
+/// Writes the rows above the lines of a group: its header, and a row below it if not compact.
+fn push_head(
+    pen: &mut Pen<'_>,
+    is_first: bool,
+    name: &str,
+    location: Option<(usize, usize)>,
+) -> Result<(), AllocError>
+    ensures { let page = pen.old.page in (t : Texts) (g : Section) →
+        g.sheet.switches ≡ page.switches → g.is_first ≡ is_first → g.name ≡ name.now →
+        location_text g.sheet.lines g.display_offset g.header_offset ≡ location_numbers location →
+        OnOk result (DrawsRows pen.old pen.new (map (row_pieces t page.number_width g)
+        (group_header ∷ (if page.switches.compact then [] else spacer ∷ [])))) }
+{
+    push_group_header(pen, is_first, name, location)?;
+    if pen.page().switches().compact {
+        return Ok(());
+    }
+    push_spacer(pen)
+}
+
+/// Writes the rows below the lines of a group: helps and notes in the last one, and a tail if not
+/// compact.
+fn push_foot<S: Span>(
+    pen: &mut Pen<'_>,
+    gutter: &Gutter<'_>,
+    report: &Report<'_, S>,
+    is_last: bool,
+) -> Result<(), AllocError>
+    requires page { gutter.now.page ≡ pen.old.page }
+    requires group { (g : Section) × IsOnPage (texts_of report.now) g pen.old.page
+        × IsOfSheet g.sheet gutter.now }
+    ensures { let page = pen.old.page in let t = texts_of report.now in
+        let compact = page.switches.compact in
+        (g : Section) → IsOnPage t g page → IsOfSheet g.sheet gutter.now → g.is_last ≡ is_last →
+        OnOk result (DrawsRows pen.old pen.new (map (row_pieces t page.number_width g)
+        ((if is_last then asides compact help t.helps ++ asides compact note t.notes else [])
+        ++ (if compact then [] else tail ∷ [])))) }
+{
     if is_last {
-        push_helps(pen, &lists.gutter, report.helps())?;
-        push_notes(pen, &lists.gutter, report.notes())?;
+        push_helps(pen, gutter, report.helps())?;
+        push_notes(pen, gutter, report.notes())?;
     }
-    if !pen.page().switches().compact {
-        push_tail(pen, is_last)?;
+    if pen.page().switches().compact {
+        return Ok(());
     }
-    Ok(())
+    push_tail(pen, is_last)
 }
 
 /// The numbers of the line and the column that the header of a group names: where the report's own
@@ -114,12 +194,23 @@ fn header_location<S: Span, I: SourceText>(
     id: &S::SourceId,
     source: &Source<I>,
     info: &LabelInfo,
-) -> Option<(usize, usize)> {
+) -> Option<(usize, usize)>
+    requires within { info.now.start ≤ length (chars source.now.text) }
+    ensures { (names : S.SourceId → Option (List ℕ)) (contents : List (S.SourceId × Listing)) →
+        let w = world S.source_of S.start_of S.end_of S.SourceId.eq names contents in
+        let r = report.now in (group : List LabelInfo) →
+        group_id w r group ≡ Some id.now → group_source w r group ≡ source.now →
+        slice_get group 0 ≡ Some info.now →
+        location_text (listed_lines source.now) source.now.display_offset
+        (header_offset w r group) ≡ location_numbers result }
+{
     let offset = if *id == *report.span().source() {
         offset_in_chars(report.config().index_type(), source, report.span().start())?
     } else {
         info.start
     };
+    let _text = source.text();
+    let display_offset = source.display_line_offset();
     let (_, line, column) = source.get_offset_line(offset)?;
-    Some((line + 1 + source.display_line_offset(), column + 1))
+    Some((line + 1 + display_offset, column + 1))
 }

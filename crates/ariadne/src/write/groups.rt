@@ -1,5 +1,13 @@
 //! The groups of a picture: where the labels in order are cut.
 
+ghost use Rattle.std.specs.Prelude.{◌≡◌, ◌<◌, ◌≤◌, ℕ, List, ◌∷◌, Option, drop, length};
+ghost use Rattle.std.specs.Prelude.{slice_range};
+ghost use Rattle.std.specs.List.{AllByRecursion};
+ghost use Rattle.ariadne.specs.Drawn.{AreDrawn, AreThere, world};
+ghost use Rattle.ariadne_base.specs.Listing.{Listing};
+ghost use Rattle.ariadne_picture.specs.Canvas.{number_width, same_source};
+ghost use Rattle.ariadne_picture.specs.Groups.{groups_of, is_cut};
+
 use super::lines::last_line;
 use crate::report::Report;
 use ariadne_base::{Cache, Span};
@@ -7,11 +15,18 @@ use ariadne_cells::margin::decimal_len;
 use ariadne_picture::label_info::LabelInfo;
 
 /// The end of the group that begins at `start`: where the next cut stands.
-pub(crate) fn group_end<S: Span>(
-    report: &Report<'_, S>,
-    infos: &[LabelInfo],
-    start: usize,
-) -> usize {
+pub(crate) fn group_end<S: Span>(report: &Report<'_, S>, infos: &[LabelInfo], start: usize) -> usize
+    requires there { AreThere report.now infos.now }
+    requires start { start < length infos.now }
+    ensures after { start < result }
+    ensures within { result ≤ length infos.now }
+    ensures groups { (names : S.SourceId → Option (List ℕ))
+        (contents : List (S.SourceId × Listing)) →
+        let same = same_source (world S.source_of S.start_of S.end_of S.SourceId.eq names contents)
+        report.now in
+        groups_of same (drop start infos.now)
+        ≡ slice_range infos.now start result ∷ groups_of same (drop result infos.now) }
+{
     let mut end = start + 1;
     while end < infos.len() && !is_cut(report, &infos[end - 1], &infos[end]) {
         end += 1;
@@ -21,7 +36,14 @@ pub(crate) fn group_end<S: Span>(
 
 /// Whether a cut stands between two neighbours: their sources differ, or the second ends on an
 /// earlier line.
-fn is_cut<S: Span>(report: &Report<'_, S>, a: &LabelInfo, b: &LabelInfo) -> bool {
+fn is_cut<S: Span>(report: &Report<'_, S>, a: &LabelInfo, b: &LabelInfo) -> bool
+    requires first { a.now.position < length report.now.labels }
+    requires second { b.now.position < length report.now.labels }
+    ensures { (names : S.SourceId → Option (List ℕ)) (contents : List (S.SourceId × Listing)) →
+        result ≡ is_cut (same_source
+        (world S.source_of S.start_of S.end_of S.SourceId.eq names contents) report.now)
+        a.now b.now }
+{
     let labels = report.labels();
     let first = labels[a.position].span().source();
     let second = labels[b.position].span().source();
@@ -33,14 +55,21 @@ pub(crate) fn number_width<S: Span, C: Cache<S::SourceId>>(
     report: &Report<'_, S>,
     cache: &C,
     infos: &[LabelInfo],
-) -> usize {
+) -> usize
+    requires drawn { let w = world S.source_of S.start_of S.end_of S.SourceId.eq
+        (C.names cache.now) (C.contents cache.now) in AreDrawn w report.now infos.now }
+    ensures { let w = world S.source_of S.start_of S.end_of S.SourceId.eq
+        (C.names cache.now) (C.contents cache.now) in
+        result ≡ number_width w report.now (groups_of (same_source w report.now) infos.now) }
+{
     let mut width = 0;
     let mut start = 0;
     while start < infos.len() {
         let end = group_end(report, infos, start);
         let id = report.labels()[infos[start].position].span().source();
         let source = C::get(cache, id).unwrap();
-        let number = last_line(&infos[start..end]) + 1 + source.display_line_offset();
+        let offset = source.display_line_offset();
+        let number = last_line(&infos[start..end]) + 1 + offset;
         width = width.max(decimal_len(number));
         start = end;
     }

@@ -1,0 +1,208 @@
+-- The groups of labels in order: the first group, by where the next cut stands, and the groups of the rest.
+use Rattle.std.proofs.Common.{◌≡◌, ℕ, zero, suc, ◌+◌, ◌-◌, ◌<◌, ◌≤◌, Bool, true, false, List, [], ◌∷◌, ◌++◌, refl, sym, ap, ◌∙◌, length, take, drop, get_or, arith, subst}
+use Rattle.std.proofs.Common.{append_assoc}
+use Rattle.std.proofs.lemmas.Bool.{cond_both, cond-false, cases_lt}
+use Rattle.std.proofs.lemmas.List.{get_or-drop, get_or_default, drop_all}
+use Rattle.std.proofs.lemmas.List.Folds.{drop_split}
+use Rattle.std.proofs.Math.ListN.{length-drop}
+use Rattle.std.proofs.Math.Seq.{drop-cons, take-suc}
+use Rattle.std.proofs.Common.{map, max}
+use Rattle.std.specs.List.{slice_range, AllByRecursion}
+use Rattle.std.proofs.lemmas.List.{drop_more}
+use Rattle.ariadne_picture.specs.declared.label_info.LabelInfo.{LabelInfo}
+use Rattle.ariadne_picture.specs.Groups.{ahead, greatest, groups_of, is_cut, HasNoCut, AreCut}
+
+-- ---- ranges of a list
+
+module _ {X : Type 0} (xs : List X) where
+  -- a range with the item behind it
+  pub range_more : (start m : ℕ) (x : X) → start ≤ m → m < length xs → x ≡ get_or xs m x → slice_range xs start (m + 1) ≡ slice_range xs start m ++ x ∷ []
+  range_more start m x low high e =
+      let n : m + 1 - start ≡ suc (m - start) = omega arith in
+      let place : start + (m - start) ≡ m = omega arith in
+      let few : m - start < length (drop start xs) = omega (arith, length-drop start xs) in
+      let at : get_or (drop start xs) (m - start) x ≡ x = get_or-drop start xs (m - start) x ∙ ap (λ k. get_or xs k x) place ∙ sym e in
+      ap (λ k. take k (drop start xs)) n ∙ take-suc (drop start xs) (m - start) x few ∙ ap (λ y. take (m - start) (drop start xs) ++ y ∷ []) at
+
+  -- what stands from an item on
+  pub drop_from : (m : ℕ) (x : X) → m < length xs → x ≡ get_or xs m x → drop m xs ≡ x ∷ drop (suc m) xs
+  drop_from m x high e = drop-cons xs m x high ∙ ap (λ y. y ∷ drop (suc m) xs) (sym e)
+
+-- ---- groups
+
+module _ (same : ℕ → ℕ → Bool) where
+  -- no cut stands between two of these labels
+  abbrev pub NoCuts : List LabelInfo → Type 0
+  NoCuts [] = Unit {0}
+  NoCuts (a ∷ group) = HasNoCut same a group
+
+  -- a cut stands behind the label x, in front of these, if there are any
+  abbrev pub CutBehind : LabelInfo → List LabelInfo → Type 0
+  CutBehind x [] = Unit {0}
+  CutBehind x (y ∷ rest) = is_cut same x y ≡ true
+
+  -- a label that no cut parts from the last one joins it
+  pub more : (p : List LabelInfo) (x y : LabelInfo) → NoCuts (p ++ x ∷ []) → is_cut same x y ≡ false → NoCuts ((p ++ x ∷ []) ++ y ∷ [])
+  more [] x y h e = (e, tt)
+  more (a ∷ []) x y h e = (h.0, (e, tt))
+  more (a ∷ b ∷ p) x y h e = (h.0, more (b ∷ p) x y h.1 e)
+
+  -- a label in front of a cut is a group of its own
+  cut_ahead : (x y : LabelInfo) (gs : List (List LabelInfo)) → is_cut same x y ≡ true → ahead same x (ahead same y gs) ≡ (x ∷ []) ∷ ahead same y gs
+  unfolding ahead
+  cut_ahead x y [] e = rw e refl
+  cut_ahead x y ([] ∷ gs) e = rw e refl
+  cut_ahead x y ((b ∷ g) ∷ gs) e =
+      cond_both (is_cut same y b) ((y ∷ []) ∷ (b ∷ g) ∷ gs) ((y ∷ b ∷ g) ∷ gs) (λ z. ahead same x z ≡ (x ∷ []) ∷ z) (λ _. rw e refl) (λ _. rw e refl)
+
+  -- labels without a cut, in front of one, are the first group
+  pub first_group : (p : List LabelInfo) (x : LabelInfo) (rest : List LabelInfo) → NoCuts (p ++ x ∷ []) → CutBehind x rest
+      → groups_of same ((p ++ x ∷ []) ++ rest) ≡ (p ++ x ∷ []) ∷ groups_of same rest
+  unfolding groups_of ahead
+  first_group [] x [] h e = refl
+  first_group [] x (y ∷ rest) h e = cut_ahead x y (groups_of same rest) e
+  first_group (a ∷ []) x rest h e =
+      ap (ahead same a) (first_group [] x rest h.1 e)
+      ∙ cond-false (is_cut same a x) ((a ∷ []) ∷ (x ∷ []) ∷ groups_of same rest) ((a ∷ x ∷ []) ∷ groups_of same rest) h.0
+  first_group (a ∷ b ∷ p) x rest h e =
+      ap (ahead same a) (first_group (b ∷ p) x rest h.1 e)
+      ∙ cond-false (is_cut same a b) ((a ∷ []) ∷ (b ∷ (p ++ x ∷ [])) ∷ groups_of same rest) ((a ∷ b ∷ (p ++ x ∷ [])) ∷ groups_of same rest) h.0
+
+  module _ (infos : List LabelInfo) where
+    -- one label has no cut
+    pub start_uncut : (start : ℕ) (x : LabelInfo) → start < length infos → x ≡ get_or infos start x → NoCuts (slice_range infos start (start + 1))
+    start_uncut start x high e =
+        let none : slice_range infos start start ≡ [] = let z : start - start ≡ 0 = omega arith in ap (λ k. take k (drop start infos)) z in
+        subst NoCuts (sym (range_more infos start start x (omega arith) high e ∙ ap (λ p. p ++ x ∷ []) none)) tt
+
+    -- a range without cuts goes on over two neighbours, m and the one behind
+    pub range_uncut : (start m end : ℕ) (x y : LabelInfo) → end ≡ m + 1 → start ≤ m → end < length infos → x ≡ get_or infos m x → y ≡ get_or infos end y
+        → is_cut same x y ≡ false → NoCuts (slice_range infos start end) → NoCuts (slice_range infos start (end + 1))
+    range_uncut start m end x y next low high ex ey e h =
+        let before = ap (slice_range infos start) next ∙ range_more infos start m x low (omega arith) ex in
+        let behind = range_more infos start end y (omega arith) high ey ∙ ap (λ p. p ++ y ∷ []) before in
+        subst NoCuts (sym behind) (more (slice_range infos start m) x y (subst NoCuts before h) e)
+
+    -- the groups from `start` on, where the range up to m has no cut and a cut stands behind, or nothing
+    pub groups_from : (start m end : ℕ) (x : LabelInfo) → end ≡ m + 1 → start ≤ m → end ≤ length infos → x ≡ get_or infos m x
+        → NoCuts (slice_range infos start end) → CutBehind x (drop end infos)
+        → groups_of same (drop start infos) ≡ slice_range infos start end ∷ groups_of same (drop end infos)
+    groups_from start m end x next low high ex h cut =
+        let before = ap (slice_range infos start) next ∙ range_more infos start m x low (omega arith) ex in
+        let split = drop_split infos start end (omega arith) in
+        ap (groups_of same) (split ∙ ap (λ p. p ++ drop end infos) before)
+        ∙ first_group (slice_range infos start m) x (drop end infos) (subst NoCuts before h) cut
+        ∙ ap (λ p. p ∷ groups_of same (drop end infos)) (sym before)
+
+    -- a cut stands in front of the label at `end`
+    pub cut_behind : (end : ℕ) (x y : LabelInfo) → end < length infos → y ≡ get_or infos end y → is_cut same x y ≡ true → CutBehind x (drop end infos)
+    cut_behind end x y high ey e = subst (CutBehind x) (sym (drop_from infos end y high ey)) e
+
+    -- nothing stands behind the last
+    pub none_behind : (end : ℕ) (x : LabelInfo) → length infos ≤ end → CutBehind x (drop end infos)
+    none_behind end x past = subst (CutBehind x) (sym (drop_all end infos past)) tt
+
+  -- the same, where the labels are looked up with a label in place of none
+  module _ (infos : List LabelInfo) (start end : ℕ) (d : LabelInfo) (after : start < end) (uncut : NoCuts (slice_range infos start end)) where
+    -- a range goes on where no cut stands
+    pub goes_on : (b : Bool) → end < length infos → b ≡ is_cut same (get_or infos (end - 1) d) (get_or infos end d) → b ≡ false
+        → NoCuts (slice_range infos start (end + 1))
+    goes_on b high e f =
+        let x = get_or infos (end - 1) d in
+        let y = get_or infos end d in
+        range_uncut infos start (end - 1) end x y (omega arith) (omega arith) high (get_or_default infos (end - 1) d x (omega arith))
+        (get_or_default infos end d y high) (sym e ∙ f) uncut
+
+    -- it ends where a cut stands
+    pub ends_at_cut : (b : Bool) → end < length infos → b ≡ is_cut same (get_or infos (end - 1) d) (get_or infos end d) → b ≡ true
+        → groups_of same (drop start infos) ≡ slice_range infos start end ∷ groups_of same (drop end infos)
+    ends_at_cut b high e f =
+        let x = get_or infos (end - 1) d in
+        let y = get_or infos end d in
+        groups_from infos start (end - 1) end x (omega arith) (omega arith) (omega arith) (get_or_default infos (end - 1) d x (omega arith)) uncut
+        (cut_behind infos end x y high (get_or_default infos end d y high) (sym e ∙ f))
+
+    -- and at the last label
+    pub ends_at_last : end ≤ length infos → length infos ≤ end
+        → groups_of same (drop start infos) ≡ slice_range infos start end ∷ groups_of same (drop end infos)
+    ends_at_last high past =
+        let x = get_or infos (end - 1) d in
+        groups_from infos start (end - 1) end x (omega arith) (omega arith) high (get_or_default infos (end - 1) d x (omega arith)) uncut
+        (none_behind infos end x past)
+
+  -- the last group ends at the last label
+  pub ends_last : (infos : List LabelInfo) (start end : ℕ) → start < end → end ≤ length infos → length infos ≤ end → NoCuts (slice_range infos start end)
+      → groups_of same (drop start infos) ≡ slice_range infos start end ∷ groups_of same (drop end infos)
+  ends_last [] start end after high past uncut = absurd (none start end after high)
+    where
+      none : (start end : ℕ) → start < end → end ≤ 0 → ⊥
+      none start end a b = omega arith
+  ends_last (a ∷ infos) start end after high past uncut = ends_at_last (a ∷ infos) start end a after uncut high past
+
+  -- one label has no cut
+  pub one_uncut : (infos : List LabelInfo) (start : ℕ) → start < length infos → NoCuts (slice_range infos start (start + 1))
+  one_uncut [] start high = absurd (none start high)
+    where
+      none : (start : ℕ) → start < 0 → ⊥
+      none start a = omega arith
+  one_uncut (a ∷ infos) start high =
+      let x = get_or (a ∷ infos) start a in
+      start_uncut (a ∷ infos) start x high (get_or_default (a ∷ infos) start a x high)
+
+  -- the first of groups has no cut
+  pub cut_first : (g : List LabelInfo) (gs : List (List LabelInfo)) → AreCut same (g ∷ gs) → NoCuts g
+  cut_first [] gs h = tt
+  cut_first (a ∷ g) [] h = h
+  cut_first (a ∷ g) ([] ∷ gs) h = absurd h
+  cut_first (a ∷ g) ((b ∷ next) ∷ gs) h = h.0
+
+-- ---- each of some items
+
+-- those that stand behind the first n
+pub all_drop : {X : Type 0} (P : X → Type 0) (n : ℕ) (xs : List X) → AllByRecursion P xs → AllByRecursion P (drop n xs)
+all_drop P zero xs a = a
+all_drop P (suc n) [] a = tt
+all_drop P (suc n) (x ∷ xs) a = all_drop P n xs a.1
+
+-- the first n
+pub all_take : {X : Type 0} (P : X → Type 0) (n : ℕ) (xs : List X) → AllByRecursion P xs → AllByRecursion P (take n xs)
+all_take P zero xs a = tt
+all_take P (suc n) [] a = tt
+all_take P (suc n) (x ∷ xs) a = (a.0, all_take P n xs a.1)
+
+-- those of a range
+pub all_range : {X : Type 0} (P : X → Type 0) (xs : List X) (i j : ℕ) → AllByRecursion P xs → AllByRecursion P (slice_range xs i j)
+all_range P xs i j a = all_take P (j - i) (drop i xs) (all_drop P i xs a)
+
+-- the one at place k
+pub all_at : {X : Type 0} (P : X → Type 0) (xs : List X) (k : ℕ) (d : X) → k < length xs → AllByRecursion P xs → P (get_or xs k d)
+all_at P [] k d h a = absurd (none k h)
+  where
+    none : (k : ℕ) → k < 0 → ⊥
+    none k h = omega arith
+all_at P (x ∷ xs) zero d h a = a.0
+all_at P (x ∷ xs) (suc k) d h a = all_at P xs k d (omega arith) a.1
+
+-- a range that is not empty begins with its first item
+pub range_first : {X : Type 0} (xs : List X) (i j : ℕ) (d : X) → i < j → i < length xs
+    → slice_range xs i j ≡ get_or xs i d ∷ take (j - suc i) (drop (suc i) xs)
+range_first xs i j d low high =
+    let n : j - i ≡ suc (j - suc i) = omega arith in
+    ap (λ k. take k (drop i xs)) n ∙ ap (take (suc (j - suc i))) (drop-cons xs i d high)
+
+-- one step to the greatest line, as it is computed
+more_steps : (xs : List LabelInfo) (i : ℕ) (d : LabelInfo) (last g : ℕ) → i < length xs
+    → max last (greatest (map (λ a. a.end_line) (drop i xs))) ≡ g
+    → max (max last (get_or xs i d).end_line) (greatest (map (λ a. a.end_line) (drop (i + 1) xs))) ≡ g
+unfolding greatest
+more_steps xs i d last g h e =
+    let cut : drop i xs ≡ get_or xs i d ∷ drop (i + 1) xs = drop_more xs i d h in
+    let whole : max last (greatest (map (λ a. a.end_line) (get_or xs i d ∷ drop (i + 1) xs))) ≡ g =
+    ap (λ ys. max last (greatest (map (λ (a : LabelInfo). a.end_line) ys))) (sym cut) ∙ e in
+    omega arith
+
+-- one step to the greatest line
+pub last_more : (xs : List LabelInfo) (i : ℕ) (d : LabelInfo) (last new g : ℕ) → i < length xs → new ≡ max last (get_or xs i d).end_line
+    → max last (greatest (map (λ a. a.end_line) (drop i xs))) ≡ g → max new (greatest (map (λ a. a.end_line) (drop (i + 1) xs))) ≡ g
+last_more xs i d last new g h e f =
+    ap (λ n. max n (greatest (map (λ (a : LabelInfo). a.end_line) (drop (i + 1) xs)))) e ∙ more_steps xs i d last g h f

@@ -1,0 +1,21 @@
+use Rattle.std.proofs.Common.{rules}
+use Rattle.ariadne.proofs.Building.{on_err-intro}
+use Rattle.ariadne.proofs.builder.ReportBuilder.with_helps.Goals as goal
+
+-- the helps before the refused one stand, as its call left the report as it was
+pub returns-in_err-add_help-clause-err : goal.returns-in_err-add_help-clause-err
+returns-in_err-add_help-clause-err g c = on_err-intro c.from_residual.result (
+  c.loop-text.yielded,
+  (
+    _,
+    _,
+    _,
+    c.into_iter-text-iterator.ensures.into_iter_gives,
+    (
+      _,
+      c.loop-text.yielded_by,
+      c.in-Some.ensures.steps,
+    ),
+  ),
+  search rules,
+)

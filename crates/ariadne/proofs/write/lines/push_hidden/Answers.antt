@@ -1,0 +1,85 @@
+use Rattle.std.proofs.Common.{◌≡◌, ◌∙◌, sym, ap, subst, refl, true, false, [], ◌∷◌, length, Some}
+use Rattle.std.specs.Option.{IsSome}
+use Rattle.ariadne_base.specs.Listing.{listed_lines}
+use Rattle.ariadne_base.specs.Locations.{line_offset, line_text}
+use Rattle.ariadne_base.specs.Table.{LineExtent, line_extent}
+use Rattle.ariadne_base.proofs.LocationLemmas.{offset_is}
+use Rattle.ariadne_cells.specs.Pages.{PageFields, DrawsRow}
+use Rattle.ariadne_picture.specs.declared.switches.Switches.{Switches}
+use Rattle.ariadne_picture.specs.Pieces.{row_pieces}
+use Rattle.ariadne_picture.specs.Ranks.{Sheet}
+use Rattle.ariadne_picture.specs.Rows.{bare, gap, is_inside, line_rows}
+use Rattle.ariadne_rows.specs.Headers.{IsOnPage}
+use Rattle.ariadne_rows.specs.Sheets.{GroupFields}
+use Rattle.ariadne_rows.proofs.GutterSteps.{beside-gap}
+use Rattle.ariadne.specs.Drawn.{AreOverLines}
+use Rattle.ariadne.proofs.LinesHidden.{drawn-page, drawn-lines, drawn-labels, drawn-switches, drawn-over, inside-told, line-read, over-rise, hidden-none, line-there, run-gap, run-none, run-bare}
+use Rattle.ariadne.proofs.LinesRows.{on-ok, rows-none, rows-one, rows-of}
+use Rattle.ariadne.proofs.write.lines.push_hidden.Goals as goal
+
+-- the line is there
+pub unwrap-extent-requires : goal.unwrap-extent-requires
+unwrap-extent-requires g c =
+    subst (λ o. IsSome o) (sym (c.line.ensures ∙ line-there (listed_lines c.args.source.now) c.args.line c.requires.within)) refl
+
+-- the start of the line lies inside a label
+pub returns-then-is_inside-clause-drawn : goal.returns-then-is_inside-clause-drawn
+returns-then-is_inside-clause-drawn g c = λ t s h over some beside hidden run.
+    let l = c.args.line in
+    let page = c.args.pen.now.page in
+    let source = c.args.source.now in
+    let labels = c.args.sheet.now.labels in
+    let own : AreOverLines s.sheet.lines s.sheet.labels = drawn-over t s page.switches source labels h over in
+    let told : c.is_inside.result ≡ is_inside s.sheet l =
+    inside-told s.sheet source c.go_to.new.self labels l c.offset.result c.unwrap-extent.result c.is_inside.result
+    (drawn-lines t s page source labels h) (drawn-labels t s page source labels h) c.in_ok-go_to.ensures.ok
+    (line-read c.line.result (listed_lines source) l c.unwrap-extent.result c.line.ensures c.unwrap-extent.ensures c.requires.within)
+    c.offset.ensures some own c.is_inside.ensures in
+    let inside : is_inside s.sheet l ≡ true = sym told ∙ c.if-is_inside.true in
+    on-ok c.push_gap_row.result (λ d.
+    rows-of t s page.number_width c.args.pen.now c.push_gap_row.new.pen (gap l ∷ []) (line_rows s.sheet l) (run-gap s.sheet l hidden run inside)
+    (rows-one c.args.pen.now c.push_gap_row.new.pen (row_pieces t page.number_width s (gap l)) d))
+    (c.push_gap_row.ensures t s l (drawn-page t s page source labels h)
+    (beside-gap s.sheet l c.args.gutter.now (over-rise s.sheet.lines s.sheet.labels own) beside) (hidden-none s.sheet l hidden))
+
+-- it does not, in the compact form
+pub returns-then-switches-clause-drawn : goal.returns-then-switches-clause-drawn
+returns-then-switches-clause-drawn g c = λ t s h over some beside hidden run.
+    let l = c.args.line in
+    let page = c.args.pen.now.page in
+    let source = c.args.source.now in
+    let labels = c.args.sheet.now.labels in
+    let own : AreOverLines s.sheet.lines s.sheet.labels = drawn-over t s page.switches source labels h over in
+    let told : c.is_inside.result ≡ is_inside s.sheet l =
+    inside-told s.sheet source c.go_to.new.self labels l c.offset.result c.unwrap-extent.result c.is_inside.result
+    (drawn-lines t s page source labels h) (drawn-labels t s page source labels h) c.in_ok-go_to.ensures.ok
+    (line-read c.line.result (listed_lines source) l c.unwrap-extent.result c.line.ensures c.unwrap-extent.ensures c.requires.within)
+    c.offset.ensures some own c.is_inside.ensures in
+    let outside : is_inside s.sheet l ≡ false = sym told ∙ c.if-is_inside.false in
+    let compact : s.sheet.switches.compact ≡ true =
+    ap (λ (z : Switches). z.compact) (drawn-switches t s page source labels h) ∙ ap (λ (p : PageFields). p.switches.compact) (sym c.page.ensures)
+    ∙ ap (λ (w : Switches). w.compact) (sym c.switches.ensures.switches) ∙ c.if-switches.true in
+    rows-of t s page.number_width c.args.pen.now c.args.pen.now [] (line_rows s.sheet l) (run-none s.sheet l hidden run outside compact)
+    (rows-none c.args.pen.now)
+
+-- it does not
+pub returns-clause-drawn : goal.returns-clause-drawn
+returns-clause-drawn g c = λ t s h over some beside hidden run.
+    let l = c.args.line in
+    let page = c.args.pen.now.page in
+    let source = c.args.source.now in
+    let labels = c.args.sheet.now.labels in
+    let own : AreOverLines s.sheet.lines s.sheet.labels = drawn-over t s page.switches source labels h over in
+    let told : c.is_inside.result ≡ is_inside s.sheet l =
+    inside-told s.sheet source c.go_to.new.self labels l c.offset.result c.unwrap-extent.result c.is_inside.result
+    (drawn-lines t s page source labels h) (drawn-labels t s page source labels h) c.in_ok-go_to.ensures.ok
+    (line-read c.line.result (listed_lines source) l c.unwrap-extent.result c.line.ensures c.unwrap-extent.ensures c.requires.within)
+    c.offset.ensures some own c.is_inside.ensures in
+    let outside : is_inside s.sheet l ≡ false = sym told ∙ c.if-is_inside.false in
+    let full : s.sheet.switches.compact ≡ false =
+    ap (λ (z : Switches). z.compact) (drawn-switches t s page source labels h) ∙ ap (λ (p : PageFields). p.switches.compact) (sym c.page.ensures)
+    ∙ ap (λ (w : Switches). w.compact) (sym c.switches.ensures.switches) ∙ c.if-switches.false in
+    on-ok c.push_bare_row.result (λ d.
+    rows-of t s page.number_width c.args.pen.now c.push_bare_row.new.pen (bare l ∷ []) (line_rows s.sheet l) (run-bare s.sheet l hidden run outside full)
+    (rows-one c.args.pen.now c.push_bare_row.new.pen (row_pieces t page.number_width s (bare l)) d))
+    (c.push_bare_row.ensures t s l (drawn-page t s page source labels h))
