@@ -15,8 +15,8 @@ use Rattle.ariadne_base.proofs.TableLemmas.{length-line_table}
 use Rattle.ariadne_picture.specs.Columns.{Layout}
 use Rattle.ariadne_picture.specs.declared.label_info.LabelInfo.{LabelInfo}
 use Rattle.ariadne_picture.specs.Groups.{printed_number}
-use Rattle.ariadne_rows.specs.Headers.{location_numbers}
-use Rattle.ariadne_rows.specs.InlineLayout.{inline_layout}
+use Rattle.ariadne_lines.specs.Headers.{location_numbers}
+use Rattle.ariadne_lines.specs.InlineLayout.{inline_layout}
 use Rattle.ariadne_picture.specs.Pieces.{location_text}
 use Rattle.ariadne_picture.specs.Report.{ReportFields}
 use Rattle.ariadne.specs.Written.{own_offset}

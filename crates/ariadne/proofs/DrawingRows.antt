@@ -13,16 +13,16 @@ use Rattle.ariadne_picture.specs.declared.label_info.Side.TheVariants.{Inline, S
 use Rattle.ariadne_picture.specs.Canvas.{Palette, texts_of}
 use Rattle.ariadne_picture.specs.Cells.{alternate_place, arrow_place}
 use Rattle.ariadne_picture.specs.Columns.{Layout}
-use Rattle.ariadne_rows.specs.Headers.{bar_margin}
+use Rattle.ariadne_lines.specs.Headers.{bar_margin}
 use Rattle.ariadne.specs.OneLine.{source_row, alternate_row, sent_row, label_bytes}
 use Rattle.ariadne_picture.specs.Pieces.{Piece, Texts, blank_piece, plain_text, margin_pieces, shown_pieces, area_pieces, message_pieces}
 use Rattle.ariadne_picture.specs.Print.{pieces_bytes}
 use Rattle.ariadne_picture.specs.Ranks.{is_start}
 use Rattle.ariadne_picture.specs.Report.{ReportFields, switches_of}
 use Rattle.ariadne_picture.specs.Rows.{source, alternate, arrow}
-use Rattle.ariadne_rows.proofs.Bytes.{pieces_bytes_none}
+use Rattle.ariadne_lines.proofs.Bytes.{pieces_bytes_none}
 use Rattle.ariadne.proofs.OneLineParts.{source_row-parts, alternate_row-parts, arrow_row-parts}
-use Rattle.ariadne_rows.proofs.RowBytes.{alternate_margin, arrow_margin, blank_first, plain_last}
+use Rattle.ariadne_lines.proofs.RowBytes.{alternate_margin, arrow_margin, blank_first, plain_last}
 
 -- ---- messages
 

@@ -8,7 +8,7 @@ use Rattle.ariadne_picture.specs.declared.label_info.LineLabel.{LineLabel}
 use Rattle.ariadne_picture.specs.Groups.{greatest}
 use Rattle.ariadne_picture.specs.Ranks.{is_inline}
 use Rattle.ariadne_picture.specs.Columns.{Layout, places_to_end, arrow_len}
-use Rattle.ariadne_rows.specs.InlineLayout.{inline_layout}
+use Rattle.ariadne_lines.specs.InlineLayout.{inline_layout}
 use Rattle.ariadne.proofs.OneLineLayout.{all-line_labels}
 
 -- the greatest of numbers up to b is one too

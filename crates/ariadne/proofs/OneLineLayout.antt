@@ -12,7 +12,7 @@ use Rattle.ariadne_picture.specs.Ranks.{line_labels, is_hidden}
 use Rattle.ariadne_picture.specs.Rows.{Row}
 use Rattle.ariadne_picture.specs.Columns.{layout_of}
 use Rattle.ariadne_picture.specs.Pieces.{gutter_len, gutter_pieces}
-use Rattle.ariadne_rows.specs.InlineLayout.{inline_label, inline_layout}
+use Rattle.ariadne_lines.specs.InlineLayout.{inline_label, inline_layout}
 use Rattle.ariadne_picture.proofs.Lists.ListFacts.{all-in_order, length-in_order, all-map, all-weaker, filter-all, filter-none}
 use Rattle.ariadne.proofs.OneGroup.{AreWithin}
 

@@ -18,7 +18,7 @@ use Rattle.ariadne_picture.specs.Pieces.{Piece, Texts, Section, margin_pieces, a
 use Rattle.ariadne_picture.specs.Pieces.{spacer_pieces, tail_pieces}
 use Rattle.ariadne_picture.specs.Canvas.{header_pieces, texts_of, same_source, group_source, sheet_of, section_of, groups, number_width, outline}
 use Rattle.ariadne.specs.OneLine.{AreOnLine, only_section, only_layout, only_number_width, source_row, alternate_row, arrow_row}
-use Rattle.ariadne_rows.specs.InlineLayout.{inline_layout}
+use Rattle.ariadne_lines.specs.InlineLayout.{inline_layout}
 use Rattle.ariadne.specs.OneLine.{rows_of_label, one_line_outline}
 use Rattle.ariadne_picture.proofs.Lists.Joined.{map-joined, joined-same}
 use Rattle.ariadne.proofs.OneGroup.{AreWithin, groups-within, within-ordered, together-ordered, messages-ordered, length-ordered, number_len-within}

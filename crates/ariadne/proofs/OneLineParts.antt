@@ -13,7 +13,7 @@ use Rattle.ariadne_picture.specs.Canvas.{Palette, section_of, groups}
 use Rattle.ariadne_picture.specs.Print.{pieces_bytes}
 use Rattle.ariadne.specs.OneLine.{AreOnLine, only_section, source_row, alternate_row, arrow_row, sent_row}
 use Rattle.ariadne.proofs.OneLineOutline.{groups-on_line}
-use Rattle.ariadne_rows.proofs.Bytes.{pieces_bytes-append}
+use Rattle.ariadne_lines.proofs.Bytes.{pieces_bytes-append}
 
 -- ---- the rows of the line
 

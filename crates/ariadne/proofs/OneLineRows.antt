@@ -10,7 +10,7 @@ use Rattle.ariadne_picture.specs.Lists.{in_order, joined}
 use Rattle.ariadne_picture.specs.Groups.{group_lines}
 use Rattle.ariadne_picture.specs.Ranks.{Sheet, is_before, is_hidden}
 use Rattle.ariadne_picture.specs.Rows.{Row, group_header, spacer, source, alternate, arrow, tail, label_rows, line_rows, asides, rows}
-use Rattle.ariadne_rows.specs.InlineLayout.{inline_label}
+use Rattle.ariadne_lines.specs.InlineLayout.{inline_label}
 use Rattle.ariadne_picture.proofs.Lists.Joined.{joined-enumerated, joined-enumerated_same, joined-one}
 use Rattle.ariadne.proofs.OneGroup.{AreWithin, group_lines-within}
 use Rattle.ariadne.proofs.OneLineLayout.{line_labels-within, is_hidden-within, all-line_labels}

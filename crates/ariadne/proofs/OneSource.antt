@@ -14,13 +14,13 @@ use Rattle.ariadne_picture.specs.Groups.{ordered, printed_number}
 use Rattle.ariadne_picture.specs.Pieces.{spacer_pieces, tail_pieces, location_text}
 use Rattle.ariadne_picture.specs.Canvas.{Palette, label_id, is_same_id, same_source, group_id, group_source, group_name, header_offset, sheet_of}
 use Rattle.ariadne_picture.specs.Canvas.{section_of, texts_of}
-use Rattle.ariadne_rows.specs.Headers.{group_header_line}
+use Rattle.ariadne_lines.specs.Headers.{group_header_line}
 use Rattle.ariadne.specs.OneLine.{AreOnLine, only_section, only_number_width, only_layout, line_bytes, group_bytes, sent_row}
-use Rattle.ariadne_rows.specs.InlineLayout.{inline_layout}
+use Rattle.ariadne_lines.specs.InlineLayout.{inline_layout}
 use Rattle.ariadne.specs.Written.{only_source, own_offset}
 use Rattle.ariadne_picture.proofs.Lists.ListFacts.{length-in_order}
 use Rattle.ariadne.proofs.OneGroup.{together-ordered}
-use Rattle.ariadne_rows.proofs.RowBytes.{group-header-pieces-is}
+use Rattle.ariadne_lines.proofs.RowBytes.{group-header-pieces-is}
 
 -- labels in order are as many
 some_ordered : (infos : List LabelInfo) → 0 < length infos → 0 < length (ordered infos)

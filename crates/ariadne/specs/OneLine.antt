@@ -8,7 +8,7 @@ use Rattle.ariadne_base.specs.Locations.{line_offset, line_text, upto}
 use Rattle.ariadne_base.specs.Listing.{listed_lines}
 use Rattle.ariadne_picture.specs.declared.label_info.LabelInfo.{LabelInfo}
 use Rattle.ariadne_picture.specs.Lists.{joined}
-use Rattle.ariadne_rows.specs.InlineLayout.{inline_layout}
+use Rattle.ariadne_lines.specs.InlineLayout.{inline_layout}
 use Rattle.ariadne_picture.specs.Report.{ReportFields, World}
 use Rattle.ariadne_picture.specs.Groups.{ordered, printed_number}
 use Rattle.ariadne_picture.specs.Rows.{source, alternate, arrow}

@@ -8,7 +8,7 @@ use crate::config::Config;
 use crate::kind::ReportKind;
 use crate::label::Label;
 use ariadne_base::Span;
-use ariadne_rows::palette::Palette;
+use ariadne_lines::palette::Palette;
 use std::alloc::{AllocError, Global};
 use std::marker::Model;
 use std::ops::Range;

@@ -1,7 +1,7 @@
 //! The layout of a line that all labels lie within.
 
+use ariadne_lines::layout::LineLayout;
 use ariadne_picture::label_info::LabelInfo;
-use ariadne_rows::layout::LineLayout;
 use std::test::Fail;
 
 fn info(position: usize, attach: usize) -> LabelInfo {

@@ -1,13 +1,11 @@
-//! The rows of a picture: what is seen at each place of a line, and one writer for each kind of row.
-//! What is public here serves `ariadne`, and is no part of its surface.
+//! The rows of a picture: one writer for each kind of row, and the labels of a group by line. What
+//! is public here serves `ariadne`, and is no part of its surface.
 #![tactic(auto)]
 
 pub mod area;
+mod group_lists;
+pub mod gutter;
 pub mod headers;
-pub mod ink;
-pub mod layout;
-pub mod margin;
-pub mod order;
-pub mod palette;
-pub mod pen;
+pub mod rows;
+pub mod sheet;
 pub mod shown;

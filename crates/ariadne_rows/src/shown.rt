@@ -1,183 +1,162 @@
 //! The text of a source row: the shown characters of its line, each in the colour of a label.
 
-ghost use Rattle.std.specs.Prelude.{◌≡◌, ◌++◌, ◌∷◌, [], ◌≤◌, OnOk, encode_utf8, fold, map};
-ghost use Rattle.std.specs.Prelude.{option_to_list, replicate, string_bytes};
-ghost use Rattle.std.specs.Option.{option_copied};
-ghost use Rattle.ariadne_picture.specs.Pieces.{Piece, char_paint, char_pieces, painter_paint};
-ghost use Rattle.ariadne_picture.specs.Pieces.{shown_pieces, shown_text};
-ghost use Rattle.ariadne_rows.specs.Preferred.{chosen_painter};
-ghost use Rattle.ariadne_picture.specs.Print.{pieces_bytes};
+ghost use Rattle.std.specs.Prelude.{◌≡◌, ◌<◌, ◌≤◌, ◌^◌, ℕ, List, Some, true, OnOk, drop, encode_utf8};
+ghost use Rattle.std.specs.Prelude.{length, replicate, slice_get};
+ghost use Rattle.ariadne_cells.specs.Pages.{Draws};
+ghost use Rattle.ariadne_cells.specs.Tables.{ArePaints, position_paint, shown_at, tab_columns};
+ghost use Rattle.ariadne_picture.specs.declared.label_info.LabelInfo.{LabelInfo};
+ghost use Rattle.ariadne_picture.specs.Pieces.{char_pieces, shown_pieces, shown_text};
+ghost use Rattle.ariadne_rows.specs.ShownTexts.{blank_of, shown_in};
 
-use crate::layout::{LineLayout, shown_columns};
-use crate::palette::Palette;
-use ariadne_base::color::push_painted_char;
-use ariadne_picture::cell::Paint;
-use ariadne_picture::label_info::LabelInfo;
-use ariadne_picture::switches::Switches;
+use ariadne_cells::columns::shown_columns;
+use ariadne_cells::layout::LineLayout;
+use ariadne_cells::pen::Pen;
+use ariadne_cells::stretches::Stretch;
+use ariadne_picture::cell::{Glyph, Paint};
 use std::alloc::AllocError;
 
-/// The most bytes that a blank takes, with the escapes of its colour.
-const PAINTED_BLANK: usize = 24;
-
-/// Appends the text of a source row, of a group with these multi-line labels.
+/// Writes the text of a source row. `paints` are the labels that colour its characters; without
+/// colours they are not read.
 ///
 /// ```text
 ///     1 | apple == orange;
 /// ```
+///
+/// After `Ok` all its tabs stand in memory, so that none of its columns is past `usize`.
 pub fn push_shown(
-    out: &mut String,
-    palette: &Palette,
-    switches: &Switches,
-    multi_line: &[LabelInfo],
-    layout: &LineLayout,
+    pen: &mut Pen<'_>,
+    layout: &LineLayout<'_>,
+    paints: &[Stretch],
 ) -> Result<(), AllocError>
-    requires { 1 ≤ switches.now.tab_width }
-    ensures { let shown = shown_pieces switches.now multi_line.now layout.now in
-        let written = pieces_bytes palette.now shown in
-        OnOk result (string_bytes out.new ≡ string_bytes out.old ++ written) }
+    ensures drawn { let page = pen.old.page in (multi_line : List LabelInfo) →
+        (page.palette.is_on ≡ true → ArePaints multi_line layout.now paints.now) →
+        OnOk result (Draws pen.old pen.new (shown_pieces page.switches multi_line layout.now)) }
+    ensures tabs { OnOk result (tab_columns pen.old.page.switches layout.now < 2 ^ 63) }
 {
-    for place in 0..layout.shown_len {
-        let paint = char_paint(multi_line, layout, place);
-        push_char(out, palette, switches, paint, place, layout.text[place])?;
+    push_characters(pen, layout, paints)?;
+    // Text that was written lies in memory, and so is shorter than `usize` can count.
+    let _len = pen.len();
+    Ok(())
+}
+
+/// Writes the shown characters of a line, in the colours that there are.
+fn push_characters(
+    pen: &mut Pen<'_>,
+    layout: &LineLayout<'_>,
+    paints: &[Stretch],
+) -> Result<(), AllocError>
+    ensures drawn { let page = pen.old.page in (multi_line : List LabelInfo) →
+        (page.palette.is_on ≡ true → ArePaints multi_line layout.now paints.now) →
+        OnOk result (Draws pen.old pen.new (shown_pieces page.switches multi_line layout.now)) }
+    ensures tabs { OnOk result
+        (tab_columns pen.old.page.switches layout.now ≤ length pen.new.bytes) }
+{
+    if pen.page().is_colored() {
+        push_painted_shown(pen, layout, paints)
+    } else if layout.is_plain() {
+        pen.push_text(layout.shown())
+    } else {
+        push_plain_shown(pen, layout)
+    }
+}
+
+/// The same without colours.
+fn push_plain_shown(pen: &mut Pen<'_>, layout: &LineLayout<'_>) -> Result<(), AllocError>
+    ensures { let switches = pen.old.page.switches in
+        OnOk result (Draws pen.old pen.new (shown_in switches layout.now (λ _. Paint.Plain))) }
+{
+    for (index, c) in layout.shown().chars().enumerate() {
+        push_char(pen, Paint::Plain, index, c)?;
     }
     Ok(())
 }
 
-/// Appends the shown character at an index of its line: a tab as blanks, other white space as one.
-fn push_char(
-    out: &mut String,
-    palette: &Palette,
-    switches: &Switches,
-    paint: Paint,
-    index: usize,
-    c: char,
+/// The same with colours, stretch by stretch.
+fn push_painted_shown(
+    pen: &mut Pen<'_>,
+    layout: &LineLayout<'_>,
+    paints: &[Stretch],
 ) -> Result<(), AllocError>
-    requires { 1 ≤ switches.now.tab_width }
-    ensures { let written = pieces_bytes palette.now (char_pieces switches.now paint index c) in
-        OnOk result (string_bytes out.new ≡ string_bytes out.old ++ written) }
+    ensures { let switches = pen.old.page.switches in
+        OnOk result (Draws pen.old pen.new
+        (shown_in switches layout.now (λ k. position_paint (shown_at paints.now k)))) }
+{
+    let mut number = 0;
+    for (index, c) in layout.shown().chars().enumerate() {
+        number = stretch_at(paints, number, index);
+        push_char(pen, stretch_paint(paints, number), index, c)?;
+    }
+    Ok(())
+}
+
+/// The number of the first stretch that ends behind a place, from number `first` on.
+fn stretch_at(paints: &[Stretch], first: usize, place: usize) -> usize
+    ensures seen { (k : ℕ) → place ≤ k →
+        shown_at (drop result paints.now) k ≡ shown_at (drop first paints.now) k }
+    ensures reaches { (s : Stretch) → slice_get paints.now result ≡ Some s → place < s.end }
+{
+    let mut number = first;
+    while number < paints.len() && paints[number].end <= place {
+        number += 1;
+    }
+    number
+}
+
+/// The colour of the places of stretch `number`, or that of text outside all labels.
+fn stretch_paint(paints: &[Stretch], number: usize) -> Paint
+    ensures { (k : ℕ) → ((s : Stretch) → slice_get paints.now number ≡ Some s → k < s.end) →
+        result ≡ position_paint (shown_at (drop number paints.now) k) }
+{
+    match paints.get(number) {
+        Some(stretch) => paint_of(stretch.position),
+        None => Paint::Unimportant,
+    }
+}
+
+/// The colour of the label at a position, or that of text outside all labels.
+#[tactic(auto, unfolding(ariadne_cells::specs::Tables::position_paint))]
+fn paint_of(position: Option<usize>) -> Paint
+    ensures { result ≡ position_paint position }
+{
+    match position {
+        Some(position) => Paint::Label(position),
+        None => Paint::Unimportant,
+    }
+}
+
+/// Writes the shown character at an index of its line: a tab as blanks, other white space as one.
+fn push_char(pen: &mut Pen<'_>, paint: Paint, index: usize, c: char) -> Result<(), AllocError>
+    ensures { let switches = pen.old.page.switches in
+        OnOk result (Draws pen.old pen.new (char_pieces switches paint index c)) }
 {
     if c == '\t' {
-        return push_tab(
-            out,
-            palette,
-            paint,
-            shown_columns(switches.tab_width, index, c),
-        );
+        let columns = shown_columns(pen.page().switches().tab_width, index, c);
+        return push_tab(pen, paint, columns);
     }
-    push_painted_char(out, palette.color_of(paint), shown_char(c))
+    pen.push_piece_char(paint, shown_char(c))
 }
 
 /// A character as it is shown: white space as a blank.
-#[tactic(auto, using(crate::proofs::Painters::blank_code), unfolding(ariadne_picture::specs::Pieces::shown_text))]
+#[tactic(auto, using(crate::proofs::ShownRows::blank_code), unfolding(ariadne_picture::specs::Pieces::shown_text))]
 fn shown_char(c: char) -> char
     ensures { encode_utf8 result ≡ shown_text c }
 {
     if c.is_whitespace() { ' ' } else { c }
 }
 
-/// Appends the blanks of a tab. There is room for all of them before the first is written, so that
+/// The most bytes that a blank takes, with the escapes of its colour.
+const PAINTED_BLANK: usize = 24;
+
+/// Writes the blanks of a tab. There is room for all of them before the first is written, so that
 /// too wide a tab is refused at once.
-fn push_tab(
-    out: &mut String,
-    palette: &Palette,
-    paint: Paint,
-    columns: usize,
-) -> Result<(), AllocError>
-    ensures { let blank : Piece = record { text = 32 ∷ []; paint = paint; columns = 1 } in
-        let written = pieces_bytes palette.now (replicate columns blank) in
-        OnOk result (string_bytes out.new ≡ string_bytes out.old ++ written) }
+fn push_tab(pen: &mut Pen<'_>, paint: Paint, columns: usize) -> Result<(), AllocError>
+    ensures { OnOk result (Draws pen.old pen.new (replicate columns (blank_of paint))) }
 {
-    let color = palette.color_of(paint);
-    let size = if color.is_some() { PAINTED_BLANK } else { 1 };
-    out.reserve(columns.saturating_mul(size))?;
-    for _turn in 0..columns {
-        push_painted_char(out, color, ' ')?;
-    }
-    Ok(())
-}
-
-/// Whose colour the character at a place has: that of the preferred label that holds it, among the
-/// line's margin label, the group's multi-line labels and the line's labels, in this order.
-fn char_paint(multi_line: &[LabelInfo], layout: &LineLayout, place: usize) -> Paint
-    ensures { result ≡ char_paint multi_line.now layout.now place }
-{
-    let first = preferred_of_margin(layout, place);
-    let second = preferred_of_infos(layout, first, multi_line, place);
-    painter_paint(preferred_of_labels(layout, second, place))
-}
-
-/// The colour of the label that colours a character, if there is one.
-#[tactic(auto, unfolding(ariadne_picture::specs::Pieces::painter_paint))]
-fn painter_paint(painter: Option<&LabelInfo>) -> Paint
-    ensures { result ≡ painter_paint (option_copied painter.entry) }
-{
-    match painter {
-        Some(info) => Paint::Label(info.position),
-        None => Paint::Unimportant,
-    }
-}
-
-/// The label that colours a character, if it is the line's margin label.
-fn preferred_of_margin(layout: &LineLayout, place: usize) -> Option<&LabelInfo>
-    ensures { let infos = map (λ x. x.info) (option_to_list layout.now.margin) in
-        option_copied result ≡ fold (chosen_painter layout.now place) None infos }
-{
-    match &layout.margin {
-        Some(margin) => preferred_painter(layout, None, &margin.info, place),
-        None => None,
-    }
-}
-
-/// The label that colours a character, after the labels of a list.
-fn preferred_of_infos<'a>(
-    layout: &LineLayout,
-    best: Option<&'a LabelInfo>,
-    infos: &'a [LabelInfo],
-    place: usize,
-) -> Option<&'a LabelInfo>
-    ensures { let so_far = option_copied best.entry in
-        option_copied result ≡ fold (chosen_painter layout.now place) so_far infos.now }
-{
-    let mut best = best;
-    for info in infos {
-        best = preferred_painter(layout, best, info, place);
-    }
-    best
-}
-
-/// The label that colours a character, after the line's labels.
-fn preferred_of_labels<'a>(
-    layout: &'a LineLayout,
-    best: Option<&'a LabelInfo>,
-    place: usize,
-) -> Option<&'a LabelInfo>
-    ensures { let infos = map (λ x. x.info) layout.now.labels in
-        let so_far = option_copied best.entry in
-        option_copied result ≡ fold (chosen_painter layout.now place) so_far infos }
-{
-    let mut best = best;
-    for label in &layout.labels {
-        best = preferred_painter(layout, best, &label.info, place);
-    }
-    best
-}
-
-/// The label that colours a character, after one more label.
-#[tactic(auto, unfolding(crate::specs::Preferred::chosen, crate::specs::Preferred::better))]
-fn preferred_painter<'a>(
-    layout: &LineLayout,
-    best: Option<&'a LabelInfo>,
-    info: &'a LabelInfo,
-    place: usize,
-) -> Option<&'a LabelInfo>
-    ensures { let so_far = option_copied best.entry in
-        option_copied result ≡ chosen_painter layout.now place so_far info.now }
-{
-    if !layout.holds(info, place) {
-        return best;
-    }
-    match best {
-        Some(other) if !info.is_preferred_to(other) => best,
-        _ => Some(info),
-    }
+    let size = if pen.page().color_of(paint).is_some() {
+        PAINTED_BLANK
+    } else {
+        1
+    };
+    pen.reserve(columns.saturating_mul(size))?;
+    pen.push_run(Glyph::Blank, paint, columns)
 }

@@ -19,9 +19,9 @@ ghost use Rattle.ariadne_base.specs.Locations.{line_offset, line_text};
 ghost use Rattle.ariadne_picture.specs.Canvas.{texts_of};
 ghost use Rattle.ariadne_picture.specs.Columns.{arrow_len};
 ghost use Rattle.ariadne_picture.specs.Groups.{printed_number};
-ghost use Rattle.ariadne_rows.specs.Headers.{location_numbers};
+ghost use Rattle.ariadne_lines.specs.Headers.{location_numbers};
 ghost use Rattle.ariadne.specs.OneLine.{group_bytes, label_bytes, line_bytes};
-ghost use Rattle.ariadne_rows.specs.InlineLayout.{inline_layout};
+ghost use Rattle.ariadne_lines.specs.InlineLayout.{inline_layout};
 ghost use Rattle.ariadne.specs.OneLine.{only_layout, only_number_width, only_section};
 ghost use Rattle.ariadne_picture.specs.Pieces.{message_pieces, location_text};
 ghost use Rattle.ariadne_picture.specs.Print.{pieces_bytes};
@@ -31,16 +31,16 @@ ghost use Rattle.ariadne.specs.Written.{picture};
 
 use crate::report::Report;
 use ariadne_base::{Source, Span};
+use ariadne_lines::area::{push_alternate_area, push_arrow_area};
+use ariadne_lines::headers::{push_group_header, push_header, push_spacer, push_tail};
+use ariadne_lines::layout::LineLayout;
+use ariadne_lines::margin::{decimal_len, push_line_margin, push_margin};
+use ariadne_lines::order::ordered;
+use ariadne_lines::palette::Palette;
+use ariadne_lines::shown::push_shown;
 use ariadne_picture::cell::Glyph;
 use ariadne_picture::label_info::{LabelInfo, LineLabel, Side};
 use ariadne_picture::switches::Switches;
-use ariadne_rows::area::{push_alternate_area, push_arrow_area};
-use ariadne_rows::headers::{push_group_header, push_header, push_spacer, push_tail};
-use ariadne_rows::layout::LineLayout;
-use ariadne_rows::margin::{decimal_len, push_line_margin, push_margin};
-use ariadne_rows::order::ordered;
-use ariadne_rows::palette::Palette;
-use ariadne_rows::shown::push_shown;
 use std::alloc::AllocError;
 
 /// How a line is numbered.

@@ -1,38 +1,46 @@
-use Rattle.std.proofs.Common.{◌≡◌, ◌++◌, ◌∙◌, ap, arith, string_bytes}
-use Rattle.ariadne_base.specs.Locations.{upto}
-use Rattle.ariadne_picture.specs.Lists.{joined}
+use Rattle.std.proofs.Common.{◌≡◌, sym, ap, ◌∙◌, subst}
+use Rattle.std.proofs.lemmas.Result.{on_ok_weaker}
+use Rattle.ariadne_cells.specs.Pages.{PageFields}
+use Rattle.ariadne_picture.specs.declared.switches.Switches.{Switches}
 use Rattle.ariadne_picture.specs.Cells.{alternate_place}
-use Rattle.ariadne_picture.specs.Columns.{width, arrow_len}
-use Rattle.ariadne_picture.specs.Pieces.{ink_pieces, area_pieces}
-use Rattle.ariadne_picture.specs.Print.{pieces_bytes}
-use Rattle.ariadne_rows.proofs.Bytes.{places_none, places_more}
+use Rattle.ariadne_rows.specs.declared.area.Backdrop.{Backdrop}
+use Rattle.ariadne_rows.specs.Areas.{alternate_backdrop, underlined_ink, DrawsPlaces, DrawsOver}
+use Rattle.ariadne_rows.proofs.Areas.{draws_area, draws_same, draws_row}
+use Rattle.ariadne_rows.proofs.SeenInks.{underlined_at, plain_at}
 use Rattle.ariadne_rows.proofs.area.push_alternate_area.Goals as goal
 
-pub loop-place-init : goal.loop-place-init
-loop-place-init c = places_none c.args.palette.now _ (string_bytes c.args.out.now)
+-- the row that has the underlines
+pub returns-then-rank-eq-UNDERLINE_ROW : goal.returns-then-rank-eq-UNDERLINE_ROW
+returns-then-rank-eq-UNDERLINE_ROW c = λ y t off.
+    let s : Switches = c.args.pen.now.page.switches in
+    let table = c.args.table.now in
+    let old = c.args.pen.now in
+    let new = c.push_underlined.new.pen in
+    let blank : c.alternate_backdrop-blank.result ≡ alternate_backdrop s c.args.rank =
+    c.alternate_backdrop-blank.ensures
+    ∙ ap (λ (q : Switches). alternate_backdrop q c.args.rank)
+    (c.switches.ensures.switches ∙ ap (λ (q : PageFields). q.switches) c.page.ensures) in
+    on_ok_weaker c.push_underlined.result
+    (λ d. draws_area old new y c.args.rank table (alternate_place s y c.args.rank) t
+    (draws_same old new table (underlined_ink table (alternate_backdrop s c.args.rank)) (alternate_place s y c.args.rank) 0 table.len
+    (λ k low high. sym (underlined_at s y c.args.rank table t off c.if-rank-eq-UNDERLINE_ROW.true k high))
+    (subst (λ (b : Backdrop). DrawsPlaces old new table (underlined_ink table b) 0 table.len) blank d)))
+    c.push_underlined.ensures
 
--- a turn writes the cells of one place more
-pub loop-place-preserved : goal.loop-place-preserved
-loop-place-preserved c =
-    let s = c.args.switches.now in
-    let y = c.args.layout.now in
-    let k = c.loop-place.place in
-    let p = c.args.palette.now in
-    let ink = alternate_place s y c.args.rank in
-    let here : pieces_bytes p (ink_pieces s.char_set c.alternate_place-ink.result c.width_at.result) ≡ pieces_bytes p
-    (ink_pieces s.char_set (ink k) (width s y k)) =
-    λ i. pieces_bytes p (ink_pieces s.char_set (c.alternate_place-ink.ensures i) (c.width_at.ensures i)) in
-    c.in_ok-push_ink.ensures
-    ∙ places_more p (λ k. ink_pieces s.char_set (ink k) (width s y k)) (string_bytes c.args.out.now)
-    (string_bytes c.loop-place.out) _ k c.loop-place.invariant here
-
--- the last turn has written all places
-pub returns : goal.returns
-unfolding area_pieces
-returns c =
-    let s = c.args.switches.now in
-    let y = c.args.layout.now in
-    let last : c.loop-place.place ≡ arrow_len s y = omega arith in
-    c.loop-place.invariant
-    ∙ ap (λ n. string_bytes c.args.out.now ++ pieces_bytes c.args.palette.now
-    (joined (λ k. ink_pieces s.char_set (alternate_place s y c.args.rank k) (width s y k)) (upto n))) last
+-- any other
+pub returns-else-rank-eq-UNDERLINE_ROW : goal.returns-else-rank-eq-UNDERLINE_ROW
+returns-else-rank-eq-UNDERLINE_ROW c = λ y t off.
+    let s : Switches = c.args.pen.now.page.switches in
+    let table = c.args.table.now in
+    let old = c.args.pen.now in
+    let new = c.push_places.new.pen in
+    let blank : c.alternate_backdrop-blank.result ≡ alternate_backdrop s c.args.rank =
+    c.alternate_backdrop-blank.ensures
+    ∙ ap (λ (q : Switches). alternate_backdrop q c.args.rank)
+    (c.switches.ensures.switches ∙ ap (λ (q : PageFields). q.switches) c.page.ensures) in
+    on_ok_weaker c.push_places.result
+    (λ d. draws_area old new y c.args.rank table (alternate_place s y c.args.rank) t
+    (draws_row old new table (alternate_backdrop s c.args.rank) (alternate_place s y c.args.rank) 0 table.len
+    (λ k low high. plain_at s y c.args.rank table t c.if-rank-eq-UNDERLINE_ROW.false k)
+    (subst (λ (b : Backdrop). DrawsOver old new table b 0 table.len) blank d)))
+    c.push_places.ensures

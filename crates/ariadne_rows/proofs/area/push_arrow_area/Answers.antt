@@ -1,44 +1,38 @@
-use Rattle.std.proofs.Common.{◌≡◌, ◌++◌, ◌∙◌, ap, sym, arith, slice_get, get_or, length, refl, Some, string_bytes}
-use Rattle.std.proofs.lemmas.Option.{slice_get_read}
-use Rattle.ariadne_base.specs.Locations.{upto}
-use Rattle.ariadne_picture.specs.Lists.{joined}
-use Rattle.ariadne_picture.specs.Cells.{arrow_place}
-use Rattle.ariadne_picture.specs.Columns.{Layout, width, arrow_len}
-use Rattle.ariadne_picture.specs.Pieces.{ink_pieces, area_pieces}
-use Rattle.ariadne_picture.specs.Print.{pieces_bytes}
-use Rattle.ariadne_rows.proofs.Bytes.{places_none, places_more}
+use Rattle.std.proofs.Common.{ap, ◌∙◌, arith}
+use Rattle.std.proofs.lemmas.Result.{on_ok_weaker}
+use Rattle.ariadne_cells.specs.Pages.{PageFields}
+use Rattle.ariadne_rows.proofs.ArrowRows.{arrow_at_margin, arrow_cut, arrow_turned}
+use Rattle.ariadne_rows.proofs.SeenInks.{margin_side}
 use Rattle.ariadne_rows.proofs.area.push_arrow_area.Goals as goal
 
-pub loop-place-init : goal.loop-place-init
-loop-place-init c = places_none c.args.palette.now _ (string_bytes c.args.out.now)
+-- the margin label has no corner
+pub returns-then-at_margin : goal.returns-then-at_margin
+returns-then-at_margin c = λ y t m.
+    let x = c.args.own.now in
+    let found = c.arrow_backdrops-before in
+    let end = c.horizontal_end-end in
+    let margin = m ∙ c.if-at_margin.true in
+    on_ok_weaker c.push_places-then-at_margin.result
+    (arrow_at_margin c.args.pen.now y c.args.rank c.args.table.now t x c.switches.result.now
+    (c.switches.ensures.switches ∙ ap (λ (q : PageFields). q.switches) c.page.ensures) found.result.0 found.result.1 found.ensures.before
+    found.ensures.behind c.push_places.new.pen c.push_places-then-at_margin.new.pen end.result margin end.ensures.within
+    (end.ensures.covered (margin_side y.margin x margin)) c.in_ok-push_places.ensures)
+    c.push_places-then-at_margin.ensures
 
--- a turn writes the cells of one place more
-pub loop-place-preserved : goal.loop-place-preserved
-loop-place-preserved c =
-    let s = c.args.switches.now in
-    let y = c.args.layout.now in
-    let k = c.loop-place.place in
-    let p = c.args.palette.now in
-    let r = c.args.rank in
-    let own : slice_get y.labels r ≡ Some c.index-own.result.now =
-    slice_get_read y.labels (length y.labels) r _ refl c.requires.rank
-    (c.index-own.ensures ∙ ap (λ (t : Layout). get_or t.labels r c.index-own.result.now) c.layout.view_is) in
-    let ink = arrow_place s y r (slice_get y.labels r) in
-    let seen : c.arrow_place-ink.result ≡ ink k = c.arrow_place-ink.ensures ∙ ap (λ x. arrow_place s y r x k) (sym own) in
-    let here : pieces_bytes p (ink_pieces s.char_set c.arrow_place-ink.result c.width_at.result) ≡ pieces_bytes p
-    (ink_pieces s.char_set (ink k) (width s y k)) =
-    λ i. pieces_bytes p (ink_pieces s.char_set (seen i) (c.width_at.ensures i)) in
-    c.in_ok-push_ink.ensures
-    ∙ places_more p (λ k. ink_pieces s.char_set (ink k) (width s y k)) (string_bytes c.args.out.now)
-    (string_bytes c.loop-place.out) _ k c.loop-place.invariant here
+-- any other turns at its own place
+pub returns-in_ok-push_places-3 : goal.returns-in_ok-push_places-3
+returns-in_ok-push_places-3 c = λ y t m.
+    let found = c.arrow_backdrops-before in
+    arrow_turned c.args.pen.now y c.args.rank c.args.table.now t c.args.own.now c.switches.result.now
+    (c.switches.ensures.switches ∙ ap (λ (q : PageFields). q.switches) c.page.ensures) found.result.0 found.result.1 found.ensures.before
+    found.ensures.behind c.push_places-2.new.pen c.push_ink.new.self c.push_places-then-place-table.new.pen c.min-place.result
+    c.width.result c.corner_ink.result (m ∙ c.if-at_margin.false) (omega arith) c.if-place-table.true c.corner_ink.ensures c.width.ensures
+    c.in_ok-push_places-2.ensures c.in_ok-push_ink.ensures c.in_ok-push_places-3.ensures
 
--- the last turn has written all places
-pub returns : goal.returns
-unfolding area_pieces
-returns c =
-    let s = c.args.switches.now in
-    let y = c.args.layout.now in
-    let last : c.loop-place.place ≡ arrow_len s y = omega arith in
-    c.loop-place.invariant
-    ∙ ap (λ n. string_bytes c.args.out.now ++ pieces_bytes c.args.palette.now
-    (joined (λ k. ink_pieces s.char_set (arrow_place s y c.args.rank (slice_get y.labels c.args.rank) k) (width s y k)) (upto n))) last
+-- unless that is past the row
+pub returns-else-place-table : goal.returns-else-place-table
+returns-else-place-table c = λ y t m.
+    let found = c.arrow_backdrops-before in
+    arrow_cut c.args.pen.now y c.args.rank c.args.table.now t c.args.own.now c.switches.result.now
+    (c.switches.ensures.switches ∙ ap (λ (q : PageFields). q.switches) c.page.ensures) found.result.0 found.result.1 found.ensures.before
+    found.ensures.behind c.push_places-2.new.pen c.min-place.result (omega arith) (omega arith) c.in_ok-push_places-2.ensures

@@ -1,7 +1,27 @@
-use Rattle.std.proofs.Common.{rules, append_assoc}
-use Rattle.ariadne_rows.proofs.RowBytes.{head_bytes}
+use Rattle.std.proofs.Common.{rules, append_assoc, ◌∷◌, [], ◌+◌, ◌++◌, OnOk, codes, if◌then◌else◌}
+use Rattle.std.proofs.lemmas.Result.{on_ok_weaker}
+use Rattle.ariadne_base.specs.Colors.{painted}
+use Rattle.ariadne_cells.specs.Pages.{Adds}
+use Rattle.ariadne_cells.proofs.Drawn.{adds_same}
+use Rattle.ariadne_picture.specs.declared.cell.Glyph.TheVariants.{Hbar, Ltop, Lbox, Rbox, Lcross}
+use Rattle.ariadne_picture.specs.declared.cell.Paint.TheVariants.{Margin}
+use Rattle.ariadne_picture.specs.Canvas.{color_of}
+use Rattle.ariadne_picture.specs.Pieces.{spaces, glyph_text}
+use Rattle.ariadne_rows.specs.Headers.{location_numbers}
+use Rattle.ariadne_rows.proofs.HeaderBytes.{group_header_row}
 use Rattle.ariadne_rows.proofs.headers.push_group_header.Goals as goal
 
 -- text after text
 pub returns : goal.returns
-returns c = rw head_bytes (search (rules, append_assoc))
+returns c = λ g same is named at.
+    let page = c.args.pen.now.page in
+    let set = page.switches.char_set in
+    let chained : OnOk c.end_row.result (Adds c.args.pen.now c.end_row.new.self (spaces (page.number_width + 2)
+    ++ painted (color_of page.palette Margin) (glyph_text set (if c.args.is_first then Ltop else Lcross))
+    ++ painted (color_of page.palette Margin) (glyph_text set Hbar) ++ painted (color_of page.palette Margin) (glyph_text set Lbox)
+    ++ (codes " " ++ c.args.name.now ++ codes ":" ++ location_numbers c.args.location ++ codes " ")
+    ++ painted (color_of page.palette Margin) (glyph_text set Rbox) ++ 10 ∷ [])) =
+    search (rules, append_assoc) in
+    on_ok_weaker c.end_row.result
+    (adds_same _ _ _ _ (group_header_row page.palette g page.number_width page.switches c.args.is_first c.args.name.now _ same is named at))
+    chained

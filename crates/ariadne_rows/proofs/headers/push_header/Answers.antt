@@ -1,7 +1,22 @@
-use Rattle.std.proofs.Common.{rules, append_assoc}
-use Rattle.ariadne_rows.proofs.RowBytes.{header_bytes}
+use Rattle.std.proofs.Common.{◌≡◌, ◌∙◌, ℕ, List, [], Bor, Option, Some, None, unwrap_or, refl, sym, ap}
+use Rattle.std.proofs.lemmas.Result.{on_ok_weaker}
+use Rattle.std.specs.Option.{option_copied}
+use Rattle.ariadne_rows.proofs.HeaderBytes.{draws_header}
 use Rattle.ariadne_rows.proofs.headers.push_header.Goals as goal
 
--- the kind_text in its colour, and the message
+-- what is borrowed, or else another text
+copied : (m : Option (Bor (List ℕ))) (d : Bor (List ℕ)) → (unwrap_or m d).now ≡ unwrap_or (option_copied m) d.now
+copied None d = refl
+copied (Some b) d = refl
+
+-- the word of the kind, and the message
 pub returns : goal.returns
-returns c = rw header_bytes (search (rules, append_assoc))
+unfolding lib.Utf8.encode
+returns c = λ t kind message.
+    let said : c.unwrap_or.result.now ≡ unwrap_or (option_copied c.args.message) [] =
+    ap (λ (b : Bor (List ℕ)). b.now) c.unwrap_or.ensures ∙ copied c.args.message _ in
+    on_ok_weaker c.end_row.result
+    (draws_header c.args.pen.now c.push_kind.new.pen c.push_char.new.self c.push_text.new.self c.end_row.new.self t _ c.unwrap_or.result.now
+    kind (ap (λ (m : Option (List ℕ)). unwrap_or m []) message ∙ sym said) c.in_ok-push_kind.ensures c.in_ok-push_char.ensures
+    c.in_ok-push_text.ensures)
+    c.end_row.ensures

@@ -9,13 +9,13 @@ use Rattle.ariadne_picture.specs.declared.switches.IndexType.TheVariants.{Char}
 use Rattle.ariadne_picture.specs.declared.label_info.LabelInfo.{LabelInfo}
 use Rattle.ariadne_picture.specs.Canvas.{texts_of}
 use Rattle.ariadne_picture.specs.Groups.{ordered, printed_number}
-use Rattle.ariadne_rows.specs.Headers.{group_header_line, location_numbers}
+use Rattle.ariadne_lines.specs.Headers.{group_header_line, location_numbers}
 use Rattle.ariadne_picture.specs.Pieces.{spacer_pieces, tail_pieces}
 use Rattle.ariadne_picture.specs.Print.{pieces_bytes}
 use Rattle.ariadne_picture.specs.Columns.{Layout}
 use Rattle.ariadne_picture.specs.Report.{ReportFields, switches_of}
 use Rattle.ariadne.specs.OneLine.{AreOnLine, line_bytes}
-use Rattle.ariadne_rows.specs.InlineLayout.{inline_layout}
+use Rattle.ariadne_lines.specs.InlineLayout.{inline_layout}
 use Rattle.ariadne.specs.Written.{only_source, drawn}
 use Rattle.ariadne_picture.proofs.Lists.ListFacts.{all-in_order}
 use Rattle.ariadne.proofs.Drawable.{drawn-on_line, drawn-ends, drawn-line}

@@ -1,0 +1,109 @@
+-- The list of the columns that the places of a line begin at: it is filled over the shown characters, and then past them.
+use Rattle.std.proofs.Common.{◌≡◌, ℕ, zero, suc, ◌+◌, ◌-◌, ◌<◌, ◌≤◌, min, List, [], ◌∷◌, ◌++◌, length, map, get_or, take, refl, sym, ap, ◌∙◌, arith}
+use Rattle.std.proofs.Common.{append_assoc, append-nil}
+use Rattle.std.specs.List.{AllByRecursion, enumerate_from, range_with_len}
+use Rattle.std.proofs.lemmas.List.{get_or-take, get_or_read, length-take}
+use Rattle.std.proofs.lemmas.List.FromFn.{get_or-map-range_with_len, length-map-range_with_len, map-range_with_len_more}
+use Rattle.std.proofs.lemmas.List.FromFn.{get_or-enumerate_from, length-enumerate_from}
+use Rattle.std.proofs.lemmas.Option.{unwrap_or-slice_get}
+use Rattle.ariadne_base.specs.Locations.{upto}
+use Rattle.ariadne_picture.specs.declared.switches.Switches.{Switches}
+use Rattle.ariadne_picture.specs.Columns.{Layout, shown, shown_columns, width, column_of}
+use Rattle.ariadne_picture.proofs.Lists.Joined.{range_more}
+use Rattle.ariadne_cells.specs.Tables.{AreColumns, column_in}
+use Rattle.ariadne_cells.proofs.PlaceColumns.{width-shown, column_of-more, column_of-behind, column_of-plain}
+
+-- ---- a line of printable ASCII
+
+-- needs no list
+pub columns-plain : (s : Switches) (y : Layout) (len : ℕ) → AllByRecursion (λ c. (32 ≤ c) × (c ≤ 126)) (shown y) → AreColumns s y len []
+unfolding column_in
+columns-plain s y len plain = λ k h. sym (column_of-plain s y k plain)
+
+-- ---- the shown characters
+
+-- a turn of the loop over the shown characters, of which the first len are taken
+pub shown-turn : (cs : List ℕ) (len n place c : ℕ) → n < length (enumerate_from 0 (take len cs))
+    → ◌≡◌ {A = ℕ × ℕ} (place, c) (get_or (enumerate_from 0 (take len cs)) n (place, c))
+    → (n < len) × (n < length cs) × (place ≡ n) × (c ≡ get_or cs n 0)
+shown-turn cs len n place c below item =
+    let size = length-enumerate_from 0 (take len cs) in
+    let taken = length-take len cs in
+    let inside : n < length (take len cs) = omega (arith, size) in
+    let both : ◌≡◌ {A = ℕ × ℕ} (place, c) (0 + n, get_or (take len cs) n c) = item ∙ get_or-enumerate_from 0 (take len cs) n (place, c) inside in
+    let number : place ≡ 0 + n = ap (λ (p : ℕ × ℕ). p.0) both in
+    let char : c ≡ get_or (take len cs) n c = ap (λ (p : ℕ × ℕ). p.1) both in
+    let short : n < len = omega (arith, taken) in
+    let long : n < length cs = omega (arith, taken) in
+    (short, long, omega (arith, number), get_or_read cs n c long (char ∙ get_or-take len cs n c short) 0)
+
+-- it pushes the column of its place
+pub columns-more : (s : Switches) (y : Layout) (columns more : List ℕ) (n x : ℕ) → columns ≡ map (column_of s y) (upto n) → x ≡ column_of s y n
+    → more ≡ columns ++ x ∷ [] → more ≡ map (column_of s y) (upto (n + 1))
+columns-more s y columns more n x sofar here pushed =
+    let z : 0 + n ≡ n = omega arith in
+    pushed ∙ (λ i. sofar i ++ here i ∷ []) ∙ sym (map-range_with_len_more (column_of s y) 0 n n z)
+
+-- and then has that of the next
+pub column-step : (s : Switches) (y : Layout) (n place c x w : ℕ) → n < length (shown y) → place ≡ n → c ≡ get_or (shown y) n 0
+    → x ≡ column_of s y n → w ≡ shown_columns s.tab_width place c → x + w ≡ column_of s y (n + 1)
+column-step s y n place c x w below number char sofar size =
+    let here : shown_columns s.tab_width place c ≡ width s y n =
+    (λ i. shown_columns s.tab_width (number i) (char i)) ∙ sym (width-shown s y n below) in
+    let more = column_of-more s y n in
+    omega (arith, sofar, size, here, more)
+
+-- the end of that loop
+pub shown-end : (cs : List ℕ) (len n : ℕ) → n ≡ length (enumerate_from 0 (take len cs)) → n ≡ min len (length cs)
+shown-end cs len n all = all ∙ length-enumerate_from 0 (take len cs) ∙ length-take len cs
+
+-- ---- the places past them
+
+-- one more of those that have one column each
+pub run-more : (front sofar : List ℕ) (x first place : ℕ) → first ≤ place → sofar ≡ front ++ range_with_len x (place - first)
+    → sofar ++ (x + (place - first)) ∷ [] ≡ front ++ range_with_len x (place + 1 - first)
+run-more front sofar x first place h e =
+    let d = place - first in
+    let more : d + 1 ≡ place + 1 - first = omega arith in
+    ap (λ t. t ++ (x + d) ∷ []) e ∙ append_assoc front (range_with_len x d) ((x + d) ∷ []) ∙ sym (ap (λ t. front ++ t) (range_more x d))
+    ∙ ap (λ m. front ++ range_with_len x m) more
+
+-- places that have one column each follow one another
+columns-run : (s : Switches) (y : Layout) (n d : ℕ) → ((j : ℕ) → j < d → column_of s y (n + j) ≡ column_of s y n + j)
+    → map (column_of s y) (upto n) ++ range_with_len (column_of s y n) d ≡ map (column_of s y) (upto (n + d))
+columns-run s y n zero each = let e : n + 0 ≡ n = omega arith in append-nil (map (column_of s y) (upto n)) ∙ sym (ap (λ m. map (column_of s y) (upto m)) e)
+columns-run s y n (suc d) each =
+    let f = column_of s y in
+    let e : suc d ≡ d + 1 = omega arith in
+    let g : n + d + 1 ≡ n + suc d = omega arith in
+    let sofar = columns-run s y n d (λ j h. each j (omega arith)) in
+    let last : f n + d ≡ f (n + d) = sym (each d (omega arith)) in
+    ap (λ m. map f (upto n) ++ range_with_len (f n) m) e ∙ ap (λ t. map f (upto n) ++ t) (range_more (f n) d)
+    ∙ sym (append_assoc (map f (upto n)) (range_with_len (f n) d) ((f n + d) ∷ []))
+    ∙ columns-more s y (map f (upto n) ++ range_with_len (f n) d) _ (n + d) (f n + d) sofar last refl ∙ ap (λ m. map f (upto m)) g
+
+-- ---- both together
+
+-- the columns of the shown places before len, and of those behind them up to len, are those of all places up to len
+pub columns-filled : (s : Switches) (y : Layout) (len n x : ℕ) (front all : List ℕ) → n ≡ min len (length (shown y))
+    → front ≡ map (column_of s y) (upto n) → x ≡ column_of s y n → all ≡ front ++ range_with_len x (len + 1 - length front)
+    → all ≡ map (column_of s y) (upto (len + 1))
+columns-filled s y len n x front all least first here whole =
+    let f = column_of s y in
+    let size : length front ≡ n = ap length first ∙ length-map-range_with_len f 0 n in
+    let e : n + (len + 1 - n) ≡ len + 1 = omega arith in
+    whole ∙ ap (λ m. front ++ range_with_len x (len + 1 - m)) size ∙ (λ i. first i ++ range_with_len (here i) (len + 1 - n))
+    ∙ columns-run s y n (len + 1 - n) each ∙ ap (λ m. map f (upto m)) e
+  where
+    -- behind the shown text each has one column, and in front of its end there is place len alone
+    each : (j : ℕ) → j < len + 1 - n → column_of s y (n + j) ≡ column_of s y n + j
+    each zero h = let z : n + 0 ≡ n = omega arith in let f = ap (column_of s y) z in omega (arith, f)
+    each (suc j) h = column_of-behind s y n (suc j) (omega arith)
+
+-- which is what a full list holds
+pub columns-held : (s : Switches) (y : Layout) (len : ℕ) (columns : List ℕ) → columns ≡ map (column_of s y) (upto (len + 1)) → AreColumns s y len columns
+unfolding column_in
+columns-held s y len columns full = λ k h.
+    let z : 0 + k ≡ k = omega arith in
+    let below : k < len + 1 = omega arith in
+    unwrap_or-slice_get columns k k ∙ ap (λ t. get_or t k k) full ∙ get_or-map-range_with_len (column_of s y) 0 (len + 1) k k k below z

@@ -1,0 +1,13 @@
+pub mod Bytes
+pub mod Choices
+pub mod ColumnLists
+pub mod Copies
+pub mod Drawn
+pub mod FallingVerticals
+pub mod LabelVerticals
+pub mod Layouts
+pub mod Margins
+pub mod OneOrder
+pub mod PlaceColumns
+pub mod Stretched
+pub mod Touching

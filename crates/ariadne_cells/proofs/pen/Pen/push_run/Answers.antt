@@ -1,0 +1,14 @@
+use Rattle.std.proofs.Common.{rules}
+use Rattle.ariadne_picture.specs.Pieces.{glyph_text}
+use Rattle.ariadne_cells.proofs.Bytes.{run_bytes}
+use Rattle.ariadne_cells.proofs.Drawn.{draws_none}
+use Rattle.ariadne_cells.proofs.pen.Pen.push_run.Goals as goal
+
+-- no cells are no pieces
+pub returns-then-count-eq0 : goal.returns-then-count-eq0
+returns-then-count-eq0 c = rw c.if-count-eq0.true (draws_none c.args.self.now)
+
+-- the cells of a run are copies of one text
+pub returns : goal.returns
+unfolding glyph_text
+returns c = rw run_bytes (search rules)

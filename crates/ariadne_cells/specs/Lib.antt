@@ -1,0 +1,4 @@
+pub mod Choices
+pub mod Falling
+pub mod Pages
+pub mod Tables

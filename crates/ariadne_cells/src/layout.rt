@@ -1,0 +1,202 @@
+//! What is drawn at one line of a source: its labels, and its characters.
+
+ghost use Rattle.std.specs.Prelude.{◌≡◌, ◌≤◌, ◌<◌, ◌^◌, IsTrue, chars, length, map, not};
+ghost use Rattle.std.specs.List.{AllByRecursion, list_any};
+ghost use Rattle.ariadne_picture.specs.Columns.{arrow_len, places_to_end, shown};
+ghost use Rattle.ariadne_picture.specs.Groups.{greatest};
+ghost use Rattle.ariadne_picture.specs.Ranks.{is_inline, is_margin};
+
+use ariadne_picture::label_info::LineLabel;
+use ariadne_picture::switches::Switches;
+use std::marker::Model;
+
+/// The labels of a line and its characters.
+#[derive(Drop)]
+pub struct LineLayout<'a> {
+    margin: Option<LineLabel>,
+    labels: &'a [LineLabel],
+    offset: usize,
+    /// The whole line, with its terminator.
+    text: &'a str,
+    /// The number of its characters.
+    len: usize,
+    /// The line without the white space at the end.
+    shown: &'a str,
+    /// The number of its characters.
+    shown_len: usize,
+    /// Whether all of them are printable ASCII.
+    is_plain: bool,
+}
+
+impl<'a> Model for LineLayout<'a> {
+    ghost use Rattle.std.specs.Prelude.{◌≡◌, ◌≤◌, IsTrue, chars, length};
+    ghost use Rattle.std.specs.List.{AllByRecursion};
+    ghost use Rattle.std.specs.Str.{drop_trailing_whitespace};
+    ghost use Rattle.ariadne_picture.specs.Columns.{Layout};
+
+    ghost Value = { Layout };
+
+    ghost view = { λ a. record {
+      margin = a.margin;
+      labels = a.labels.now;
+      offset = a.offset;
+      text = chars a.text.now;
+    } };
+
+    ghost invariant = { λ a. (a.len ≡ length (chars a.text.now))
+        × (chars a.shown.now ≡ drop_trailing_whitespace (chars a.text.now))
+        × (a.shown_len ≡ length (chars a.shown.now))
+        × (IsTrue a.is_plain → AllByRecursion (λ c. (32 ≤ c) × (c ≤ 126)) (chars a.shown.now)) };
+}
+
+impl<'a> LineLayout<'a> {
+    /// The layout of a line with these labels.
+    ///
+    /// `offset` counts the characters of the source before the line; `text` is the whole line with
+    /// its terminator, and `len` the number of its characters.
+    pub fn new(
+        margin: Option<LineLabel>,
+        labels: &'a [LineLabel],
+        offset: usize,
+        len: usize,
+        text: &'a str,
+    ) -> LineLayout<'a>
+        requires len { len ≡ length (chars text.now) }
+        ensures { result ≡ record {
+          margin = margin;
+          labels = labels.now;
+          offset = offset;
+          text = chars text.now;
+        } }
+    {
+        let shown = text.trim_end();
+        let shown_len = if text.len() == len {
+            shown.len()
+        } else {
+            shown.chars().count()
+        };
+        let is_plain = is_printable(shown);
+        LineLayout {
+            margin,
+            labels,
+            offset,
+            text,
+            len,
+            shown,
+            shown_len,
+            is_plain,
+        }
+    }
+
+    /// The label whose arrow leaves the gutter beside the source row.
+    pub fn margin(&self) -> Option<LineLabel>
+        ensures { result ≡ self.now.margin }
+    {
+        self.margin
+    }
+
+    /// The labels that have rows below the line, in the order of these rows.
+    pub fn labels(&self) -> &'a [LineLabel]
+        ensures { result.now ≡ self.now.labels }
+    {
+        self.labels
+    }
+
+    /// How many characters of the source stand before the line.
+    pub fn offset(&self) -> usize
+        ensures { result ≡ self.now.offset }
+    {
+        self.offset
+    }
+
+    /// Its characters without the white space at the end.
+    #[tactic(auto, unfolding(ariadne_picture::specs::Columns::shown))]
+    pub fn shown(&self) -> &'a str
+        ensures { chars result.now ≡ shown self.now }
+    {
+        self.shown
+    }
+
+    /// How many characters are shown.
+    #[tactic(auto, unfolding(ariadne_picture::specs::Columns::shown))]
+    pub fn shown_len(&self) -> usize
+        ensures { result ≡ length (shown self.now) }
+    {
+        self.shown_len
+    }
+
+    /// Whether each shown character is printable ASCII, and so takes one column.
+    #[tactic(auto, unfolding(ariadne_picture::specs::Columns::shown))]
+    pub fn is_plain(&self) -> bool
+        ensures { IsTrue result → AllByRecursion (λ c. (32 ≤ c) × (c ≤ 126)) (shown self.now) }
+    {
+        self.is_plain
+    }
+
+    /// How many characters the line has, its terminator among them.
+    pub fn len(&self) -> usize
+        ensures { result ≡ length self.now.text }
+    {
+        self.len
+    }
+
+    /// Whether a label of the line is its margin label.
+    #[tactic(auto, unfolding(ariadne_picture::specs::Ranks::is_margin, ariadne_picture::specs::Ranks::is_of_gutter_label))]
+    pub fn is_margin(&self, label: &LineLabel) -> bool
+        ensures { result ≡ is_margin self.now.margin label.now }
+    {
+        match &self.margin {
+            Some(margin) => !label.side.is_inline() && margin.gutter_column == label.gutter_column,
+            None => false,
+        }
+    }
+
+    /// Whether there are rows below the line: one of its labels has a message.
+    pub fn has_rows(&self) -> bool
+        ensures { result ≡ list_any (λ x. x.info.has_message) self.now.labels }
+    {
+        self.labels.iter().any(|label| label.info.has_message)
+    }
+
+    /// How many places the rows below the line have.
+    #[tactic(auto, unfolding(ariadne_picture::specs::Columns::arrow_len))]
+    pub fn arrow_len(&self, switches: &Switches) -> usize
+        requires fits { arrow_len switches.now self.now < 2 ^ 64 }
+        ensures { result ≡ arrow_len switches.now self.now }
+    {
+        let len = if self.has_long_label() {
+            self.len
+        } else {
+            self.greatest_end()
+        };
+        if switches.compact { len + 1 } else { len + 2 }
+    }
+
+    /// Whether a label of several lines has rows below the line.
+    fn has_long_label(&self) -> bool
+        ensures { result ≡ list_any (λ x. not (is_inline x.side)) self.now.labels }
+    {
+        self.labels.iter().any(|label| !label.side.is_inline())
+    }
+
+    /// How far behind the line's start the last of its labels ends.
+    fn greatest_end(&self) -> usize
+        ensures { result ≡ greatest (map (places_to_end self.now) self.now.labels) }
+    {
+        let mut greatest = 0usize;
+        for label in self.labels {
+            greatest = greatest.max(label.info.end.saturating_sub(self.offset));
+        }
+        greatest
+    }
+}
+
+/// Whether each character of a text is printable ASCII. All bytes are read, so that many of them
+/// are tested at once.
+fn is_printable(text: &str) -> bool
+    ensures { IsTrue result → AllByRecursion (λ c. (32 ≤ c) × (c ≤ 126)) (chars text.now) }
+{
+    text.as_bytes()
+        .iter()
+        .fold(true, |all, byte| all & matches!(byte, 0x20..=0x7e))
+}

@@ -1,0 +1,16 @@
+//! What is seen at each place of a line, and how it is appended to a picture. What is public here
+//! serves the crates that draw, and is no part of the surface of `ariadne`.
+#![tactic(auto)]
+
+mod choice;
+pub mod columns;
+pub mod layout;
+pub mod margin;
+pub mod order;
+pub mod page;
+pub mod palette;
+pub mod pen;
+mod runs;
+pub mod stretches;
+pub mod table;
+pub mod verticals;

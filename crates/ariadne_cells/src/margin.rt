@@ -1,0 +1,100 @@
+//! The margins of rows: what stands left of the gutter.
+
+ghost use Rattle.std.specs.Prelude.{◌≡◌, ℕ, ◌++◌, [], ◌∷◌, IfOk, OnOk, decimal, if◌then◌else◌, length};
+ghost use Rattle.std.specs.Prelude.{string_bytes};
+ghost use Rattle.ariadne_picture.specs.Groups.{printed_number};
+ghost use Rattle.ariadne_picture.specs.Pieces.{margin_pieces};
+ghost use Rattle.ariadne_picture.specs.Print.{pieces_bytes};
+ghost use Rattle.ariadne_picture.specs.Rows.{bare, gap, source};
+
+use crate::page::Page;
+use crate::palette::Palette;
+use crate::runs::push_spaces;
+use ariadne_base::color::{push_closing, push_opening};
+use ariadne_picture::cell::{Glyph, Paint};
+use ariadne_picture::switches::Switches;
+use std::alloc::{AllocError, Global};
+
+/// The margin of a row without a number, with this bar, where line numbers take `width` columns.
+///
+/// ```text
+///         |       below a line
+///         :       in place of hidden lines, inside a label
+/// ```
+pub(crate) fn margin_text(
+    alloc: Global,
+    palette: &Palette,
+    switches: &Switches,
+    width: usize,
+    bar: Glyph,
+) -> Result<String, AllocError>
+    ensures bar { let margin = margin_pieces switches.now width 0 (bare 0) in
+        bar ≡ Glyph.Vbar →
+        IfOk result (λ text. string_bytes text ≡ pieces_bytes palette.now margin) }
+    ensures gap { let margin = margin_pieces switches.now width 0 (gap 0) in
+        bar ≡ Glyph.VbarGap →
+        IfOk result (λ text. string_bytes text ≡ pieces_bytes palette.now margin) }
+{
+    let mut text = String::new(alloc);
+    let color = palette.color_of(Paint::SkippedMargin);
+    text.push(' ')?;
+    push_opening(&mut text, color)?;
+    push_spaces(&mut text, width)?;
+    text.push(' ')?;
+    text.push(bar.to_char(switches.char_set))?;
+    push_closing(&mut text, color)?;
+    push_margin_end(&mut text, switches)?;
+    Ok(text)
+}
+
+/// Appends the margin of the source row of a line, whose printed number is `number`.
+///
+/// ```text
+///       9 |
+///      10 |
+/// ```
+pub(crate) fn push_line_margin(
+    out: &mut String,
+    page: &Page,
+    number: usize,
+) -> Result<(), AllocError>
+    ensures { (display_offset line : ℕ) → number ≡ printed_number display_offset line →
+        let page = page.now in
+        let margin = margin_pieces page.switches page.number_width display_offset (source line) in
+        let written = pieces_bytes page.palette margin in
+        OnOk result (string_bytes out.new ≡ string_bytes out.old ++ written) }
+{
+    let color = page.color_of(Paint::Margin);
+    let switches = page.switches();
+    out.push(' ')?;
+    push_opening(out, color)?;
+    push_spaces(out, page.number_width().saturating_sub(decimal_len(number)))?;
+    write!(out, "{number} ")?;
+    out.push(Glyph::Vbar.to_char(switches.char_set))?;
+    push_closing(out, color)?;
+    push_margin_end(out, switches)
+}
+
+/// Appends the blank behind a margin; compact pictures have none.
+fn push_margin_end(out: &mut String, switches: &Switches) -> Result<(), AllocError>
+    ensures { let written = (if switches.now.compact then [] else 32 ∷ []) in
+        OnOk result (string_bytes out.new ≡ string_bytes out.old ++ written) }
+{
+    if switches.compact {
+        Ok(())
+    } else {
+        out.push(' ')
+    }
+}
+
+/// How many digits a number has.
+#[tactic(auto, using(std::proofs::lemmas::Fmt::decimal_digit, std::proofs::lemmas::Fmt::decimal_step))]
+pub fn decimal_len(number: usize) -> usize
+    ensures { result ≡ length (decimal number) }
+{
+    if number < 10 {
+        1
+    } else {
+        decimal_len(number / 10) + 1
+    }
+}

@@ -1,0 +1,92 @@
+//! What is seen at the places of one line, found once for the line.
+
+ghost use Rattle.std.specs.Prelude.{◌≡◌, ℕ, ◌<◌, ◌≤◌, ◌^◌, ◌+◌, ◌==◌, false, OnOk, [], length};
+ghost use Rattle.std.specs.Prelude.{slice_get, Some};
+ghost use Rattle.std.specs.List.{All, list_any};
+ghost use Rattle.std.specs.List.Sorted.{IsStrictlyIncreasing};
+ghost use Rattle.ariadne_cells.specs.Tables.{ArePaints, IsTable, tab_columns};
+ghost use Rattle.ariadne_picture.specs.declared.label_info.LabelInfo.{LabelInfo};
+ghost use Rattle.ariadne_picture.specs.Columns.{arrow_len, shown};
+ghost use Rattle.ariadne_picture.specs.Strokes.{holds};
+
+use crate::columns::Columns;
+use crate::layout::LineLayout;
+use crate::stretches::{Stretch, find_paints, find_underlines};
+use crate::verticals::Verticals;
+use ariadne_picture::label_info::LabelInfo;
+use ariadne_picture::switches::Switches;
+use std::alloc::{AllocError, Global};
+
+/// The places of one line, and what is seen there in the source row and in the rows below it.
+#[derive(Drop)]
+pub struct LineTable {
+    /// How many places the rows below the line have.
+    pub len: usize,
+    /// The column that each place begins at.
+    pub columns: Columns,
+    /// The verticals of the line labels that are still to be written.
+    pub verticals: Verticals,
+    /// The labels whose underlines are seen.
+    pub underlines: Vec<Stretch>,
+    /// The labels that colour the shown characters.
+    pub paints: Vec<Stretch>,
+}
+
+impl LineTable {
+    /// A table of no line, to be filled.
+    pub fn new(alloc: Global) -> LineTable
+        ensures len { result.len ≡ 0 }
+        ensures columns { result.columns ≡ [] }
+        ensures verticals { result.verticals ≡ [] }
+        ensures underlines { result.underlines.items ≡ [] }
+        ensures paints { result.paints.items ≡ [] }
+    {
+        LineTable {
+            len: 0,
+            columns: Columns::new(alloc),
+            verticals: Verticals::new(alloc),
+            underlines: Vec::new(alloc),
+            paints: Vec::new(alloc),
+        }
+    }
+
+    /// Finds what the rows below a line show, all of whose labels are still to be written.
+    ///
+    /// The compact form has no row with underlines, so it finds none there. On `Err` there was no
+    /// memory for it, and what is held is of no line.
+    pub fn fill(&mut self, switches: &Switches, layout: &LineLayout<'_>) -> Result<(), AllocError>
+        requires tabs { 1 ≤ switches.now.tab_width }
+        requires columns_fit { tab_columns switches.now layout.now < 2 ^ 63 }
+        requires places_fit { arrow_len switches.now layout.now < 2 ^ 64 }
+        ensures { OnOk result (IsTable switches.now layout.now 0 self.new) }
+    {
+        self.len = layout.arrow_len(switches);
+        self.columns.fill(switches, layout, self.len)?;
+        self.verticals.fill(layout)?;
+        if !switches.compact {
+            find_underlines(switches, layout, self.len, &mut self.underlines)?;
+        }
+        Ok(())
+    }
+
+    /// Finds the labels that colour the shown characters of a line.
+    ///
+    /// `multi_line` are the multi-line labels of the line's group, and `touching` the numbers,
+    /// rising, of those that may hold a shown character of the line. On `Err` there was no memory
+    /// for it, and the colours that are held are of no line.
+    pub fn fill_paints(
+        &mut self,
+        layout: &LineLayout<'_>,
+        multi_line: &[LabelInfo],
+        touching: &[usize],
+    ) -> Result<(), AllocError>
+        requires within { All (λ i. i < length multi_line.now) touching.now }
+        requires rising { IsStrictlyIncreasing touching.now }
+        requires touching { (i : ℕ) (a : LabelInfo) → slice_get multi_line.now i ≡ Some a
+            → list_any (λ j. j == i) touching.now ≡ false
+            → (k : ℕ) → k < length (shown layout.now) → holds a (layout.now.offset + k) ≡ false }
+        ensures { OnOk result (ArePaints multi_line.now layout.now self.new.paints.items) }
+    {
+        find_paints(layout, multi_line, touching, &mut self.paints)
+    }
+}

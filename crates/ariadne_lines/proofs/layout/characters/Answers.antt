@@ -1,0 +1,13 @@
+-- The loop has pushed all characters of the text.
+use Rattle.std.proofs.Common.{sym, ◌∙◌}
+use Rattle.std.proofs.lemmas.List.{map-id}
+use Rattle.std.proofs.lemmas.Iterator.{YieldsList-from_chars}
+use Rattle.std.proofs.lemmas.Iterator.Consumers.{YieldsList-end}
+use Rattle.ariadne_lines.proofs.layout.characters.Goals as goal
+
+pub returns : goal.returns
+returns c =
+    let t = YieldsList-end
+    (YieldsList-from_chars c.args.text.now c.utf8.text cc) c.loop-character.yielded _ c.loop-character.yielded_by _ _
+    c.in-None.is c.next.ensures.steps in
+    c.loop-character.invariant ∙ sym (map-id c.loop-character.yielded) ∙ t.0

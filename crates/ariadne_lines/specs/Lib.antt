@@ -1,0 +1,13 @@
+pub mod InlineLayout
+pub mod Headers
+pub mod Preferred
+pub use Rattle.ariadne_picture.specs.Canvas
+pub use Rattle.ariadne_picture.specs.Cells
+pub use Rattle.ariadne_picture.specs.Columns
+pub use Rattle.ariadne_picture.specs.Groups
+pub use Rattle.ariadne_picture.specs.Lists
+pub use Rattle.ariadne_picture.specs.Pieces
+pub use Rattle.ariadne_picture.specs.Print
+pub use Rattle.ariadne_picture.specs.Ranks
+pub use Rattle.ariadne_picture.specs.Rows
+pub use Rattle.ariadne_picture.specs.Strokes

@@ -1,0 +1,290 @@
+-- The characters of a source row: how each is written, and how many bytes its tabs take at least.
+use Rattle.std.proofs.Common.{◌≡◌, ℕ, zero, suc, ◌+◌, ◌<◌, ◌≤◌, ◌==◌, eq-eqb, cond, Bool, true, false, List, [], ◌∷◌, ◌++◌, Option, Some, None, length, replicate, encode_utf8, encode_utf8_all, take, get_or, drop, ltb, slice_get, slice_index}
+use Rattle.std.proofs.Common.{lit<, refl, sym, ap, subst, ◌∙◌, arith, length-append}
+use Rattle.std.specs.Char.{is_whitespace}
+use Rattle.std.specs.List.{AllByRecursion, enumerate_from}
+use Rattle.std.specs.Str.{chars, IsUtf8}
+use Rattle.std.proofs.lemmas.Bool.{ne_eqb, cond_both, lt-ltb, le-ltb}
+use Rattle.std.proofs.lemmas.List.{append-nil, at_drop_all, at_drop_more, get_or_read, take_more, take_all}
+use Rattle.std.proofs.lemmas.Bool.Decides.{nat_tests}
+use Rattle.std.proofs.lemmas.List.FromFn.{get_or-enumerate_from, length-enumerate_from}
+use Rattle.std.proofs.lemmas.Option.{get_or_from_slice_get, slice_get_within}
+use Rattle.std.proofs.lemmas.Str.{encode_ascii, encodes-append, encodes-chars}
+use Rattle.ariadne_base.specs.declared.color.Color.{Color}
+use Rattle.ariadne_base.specs.Colors.{painted}
+use Rattle.ariadne_base.specs.Escapes.{opened, closed}
+use Rattle.ariadne_base.specs.Locations.{upto}
+use Rattle.ariadne_picture.specs.declared.cell.Glyph.TheVariants.{Blank}
+use Rattle.ariadne_picture.specs.declared.cell.Paint.{Paint}
+use Rattle.ariadne_picture.specs.declared.cell.Paint.TheVariants.{Plain, Unimportant}
+use Rattle.ariadne_picture.specs.declared.label_info.LabelInfo.{LabelInfo}
+use Rattle.ariadne_picture.specs.declared.switches.CharSet.{CharSet}
+use Rattle.ariadne_picture.specs.declared.switches.Switches.{Switches}
+use Rattle.ariadne_picture.specs.Canvas.{Palette, color_of, paint_color}
+use Rattle.ariadne_picture.specs.Cells.{glyph_code}
+use Rattle.ariadne_picture.specs.Columns.{Layout, shown, shown_columns, width}
+use Rattle.ariadne_picture.specs.Lists.{joined, total}
+use Rattle.ariadne_picture.specs.Pieces.{Piece, char_paint, char_pieces, glyph_text, place_pieces, repeated, shown_pieces, shown_text, stroke}
+use Rattle.ariadne_picture.specs.Print.{pieces_bytes}
+use Rattle.ariadne_picture.proofs.Lists.Joined.{joined-upto_more}
+use Rattle.ariadne_cells.specs.Pages.{Adds, Draws, PenFields}
+use Rattle.ariadne_cells.specs.declared.stretches.Stretch.{Stretch}
+use Rattle.ariadne_cells.specs.Tables.{position_paint, shown_at, tab_columns}
+use Rattle.ariadne_cells.proofs.Bytes.{painted_parts, plain_bytes, pieces_bytes-append, pieces_bytes_first, pieces_bytes_none, pieces_bytes_one, run_bytes}
+use Rattle.ariadne_cells.proofs.Drawn.{adds_same, draws_one, draws_places_more, page_kept}
+use Rattle.ariadne_cells.proofs.PlaceColumns.{total-upto_more, width-shown}
+use Rattle.ariadne_rows.specs.ShownTexts.{blank_of, place_in, shown_in}
+
+-- ---- single characters
+
+-- a blank is one byte
+pub blank_code : encode_utf8 32 ≡ 32 ∷ []
+blank_code = encode_ascii 32 (lit< tt)
+
+-- so is the stroke of a blank
+pub blank_stroke : (set : CharSet) (paint : Paint) → stroke set Blank paint ≡ blank_of paint
+unfolding glyph_text glyph_code
+blank_stroke set paint = ap (λ (t : List ℕ). record { text = t; paint = paint; columns = 1 }) blank_code
+
+-- a tab is blanks
+pub tab_pieces : (s : Switches) (paint : Paint) (k c : ℕ) → c ≡ 9
+    → char_pieces s paint k c ≡ replicate (shown_columns s.tab_width k c) (blank_of paint)
+unfolding char_pieces
+tab_pieces s paint k c is =
+    let columns = shown_columns s.tab_width k c in
+    let one : Piece = record { text = shown_text c; paint = paint; columns = columns } in
+    λ i. cond (eq-eqb c 9 is i) (replicate columns (blank_of paint)) (one ∷ [])
+
+-- any other character is one piece
+pub draws_char : (a b : PenFields) (s : Switches) (paint : Paint) (k c : ℕ) → (c ≡ 9 → ⊥)
+    → Adds a b (painted (color_of a.page.palette paint) (shown_text c)) → Draws a b (char_pieces s paint k c)
+unfolding char_pieces
+draws_char a b s paint k c other h =
+    let columns = shown_columns s.tab_width k c in
+    let one : Piece = record { text = shown_text c; paint = paint; columns = columns } in
+    subst (Draws a b) (λ i. cond (sym (ne_eqb c 9 other) i) (replicate columns (blank_of paint)) (one ∷ [])) (draws_one a b one h)
+
+-- ---- a turn of a loop over the shown characters
+
+-- is at the next place
+pub char-turn : (cs : List ℕ) (n place c : ℕ) → n < length (enumerate_from 0 cs)
+    → ◌≡◌ {A = ℕ × ℕ} (place, c) (get_or (enumerate_from 0 cs) n (place, c))
+    → (n < length cs) × (place ≡ n) × (c ≡ slice_index cs n)
+char-turn cs n place c below item =
+    let size = length-enumerate_from 0 cs in
+    let inside : n < length cs = omega (arith, size) in
+    let both : ◌≡◌ {A = ℕ × ℕ} (place, c) (0 + n, get_or cs n c) = item ∙ get_or-enumerate_from 0 cs n (place, c) inside in
+    let number : place ≡ 0 + n = ap (λ (p : ℕ × ℕ). p.0) both in
+    let char : c ≡ get_or cs n c = ap (λ (p : ℕ × ℕ). p.1) both in
+    (inside, omega (arith, number), get_or_read cs n c inside char 0)
+
+-- ---- colours
+
+-- the same colour gives the same bytes
+char_bytes : (p : Palette) (s : Switches) (q r : Paint) (k c : ℕ) → color_of p q ≡ color_of p r
+    → pieces_bytes p (char_pieces s q k c) ≡ pieces_bytes p (char_pieces s r k c)
+unfolding char_pieces
+char_bytes p s q r k c e = each (c == 9)
+  where
+    n : ℕ
+    n = shown_columns s.tab_width k c
+
+    one : Paint → Piece
+    one paint = record { text = shown_text c; paint = paint; columns = n }
+
+    each : (b : Bool) → pieces_bytes p (cond b (replicate n (blank_of q)) (one q ∷ [])) ≡ pieces_bytes p (cond b (replicate n (blank_of r)) (one r ∷ []))
+    each true = run_bytes p n (blank_of q) ∙ ap (λ o. repeated n (painted o (32 ∷ []))) e ∙ sym (run_bytes p n (blank_of r))
+    each false = pieces_bytes_one p (one q) ∙ ap (λ o. painted o (shown_text c)) e ∙ sym (pieces_bytes_one p (one r))
+
+-- places with the same bytes
+bytes_on : (p : Palette) (f g : ℕ → List Piece) (n : ℕ) → ((k : ℕ) → k < n → pieces_bytes p (f k) ≡ pieces_bytes p (g k))
+    → pieces_bytes p (joined f (upto n)) ≡ pieces_bytes p (joined g (upto n))
+unfolding joined
+bytes_on p f g zero e = refl
+bytes_on p f g (suc n) e =
+    let m : suc n ≡ n + 1 = omega arith in
+    let part : (h : ℕ → List Piece) → pieces_bytes p (joined h (upto (suc n))) ≡ pieces_bytes p (joined h (upto n)) ++ pieces_bytes p (h n) =
+    λ h. ap (λ j. pieces_bytes p (joined h (upto j))) m ∙ ap (pieces_bytes p) (joined-upto_more h n) ∙ pieces_bytes-append p (joined h (upto n)) (h n) in
+    part f ∙ (λ i. bytes_on p f g n (λ k l. e k (omega arith)) i ++ e n (omega arith) i) ∙ sym (part g)
+
+-- a text whose places have the colours of the labels that paint them
+pub draws_shown : (a b : PenFields) (s : Switches) (multi_line : List LabelInfo) (y : Layout) (q : ℕ → Paint)
+    → ((k : ℕ) → k < length (shown y) → color_of a.page.palette (q k) ≡ color_of a.page.palette (char_paint multi_line y k))
+    → Draws a b (shown_in s y q) → Draws a b (shown_pieces s multi_line y)
+unfolding shown_in shown_pieces place_in place_pieces
+draws_shown a b s multi_line y q e h =
+    let p = a.page.palette in
+    adds_same a b _ _ (bytes_on p (place_in s y q) (place_pieces s multi_line y) (length (shown y))
+    (λ k l. char_bytes p s (q k) (char_paint multi_line y k) k (slice_index (shown y) k) (e k l))) h
+
+-- without colours none has one
+pub no_colors : (p : Palette) (q r : Paint) → p.is_on ≡ false → color_of p q ≡ color_of p r
+unfolding color_of
+no_colors p q r off = (λ i. cond (off i) (paint_color p q) None) ∙ (λ i. cond (sym off i) (paint_color p r) None)
+
+-- ---- the bytes of tabs
+
+-- a blank has a byte at least
+blank_least : (c : Option Color) → 1 ≤ length (painted c (32 ∷ []))
+blank_least c =
+    let whole = ap length (painted_parts c (32 ∷ [])) in
+    let first = length-append (opened c) (32 ∷ []) in
+    let both = length-append (opened c ++ 32 ∷ []) (closed c) in
+    omega (arith, whole, first, both)
+
+-- so blanks have as many
+blanks_least : (p : Palette) (paint : Paint) (n : ℕ) → n ≤ length (pieces_bytes p (replicate n (blank_of paint)))
+blanks_least p paint zero = omega arith
+blanks_least p paint (suc n) =
+    let rest = replicate n (blank_of paint) in
+    let one = blank_least (color_of p paint) in
+    let whole = ap length (pieces_bytes_first p (blank_of paint) rest) ∙ length-append _ (pieces_bytes p rest) in
+    omega (arith, one, whole, blanks_least p paint n)
+
+-- the columns of a tab, and none of another place
+abbrev tab_part : Switches → Layout → ℕ → ℕ
+tab_part s y k = cond (slice_index (shown y) k == 9) (width s y k) 0
+
+-- a place has as many bytes
+place_least : (p : Palette) (s : Switches) (y : Layout) (q : ℕ → Paint) (k : ℕ) → k < length (shown y)
+    → tab_part s y k ≤ length (pieces_bytes p (place_in s y q k))
+unfolding place_in char_pieces
+place_least p s y q k h = each (slice_index (shown y) k == 9)
+  where
+    c : ℕ
+    c = slice_index (shown y) k
+
+    n : ℕ
+    n = shown_columns s.tab_width k c
+
+    each : (b : Bool) → cond b (width s y k) 0
+        ≤ length (pieces_bytes p (cond b (replicate n (blank_of (q k))) (record { text = shown_text c; paint = q k; columns = n } ∷ [])))
+    each true = let least = blanks_least p (q k) n in let wide : width s y k ≡ n = width-shown s y k h in omega (arith, least, wide)
+    each false = omega arith
+
+-- and so have the first places
+places_least : (p : Palette) (s : Switches) (y : Layout) (q : ℕ → Paint) (n : ℕ) → n ≤ length (shown y)
+    → total (tab_part s y) (upto n) ≤ length (pieces_bytes p (joined (place_in s y q) (upto n)))
+unfolding total
+places_least p s y q zero h = omega arith
+places_least p s y q (suc n) h =
+    let f = place_in s y q in
+    let e : suc n ≡ n + 1 = omega arith in
+    let tabs : total (tab_part s y) (upto (suc n)) ≡ total (tab_part s y) (upto n) + tab_part s y n =
+    ap (λ j. total (tab_part s y) (upto j)) e ∙ total-upto_more (tab_part s y) n in
+    let bytes : length (pieces_bytes p (joined f (upto (suc n)))) ≡ length (pieces_bytes p (joined f (upto n))) + length (pieces_bytes p (f n)) =
+    ap (λ j. length (pieces_bytes p (joined f (upto j)))) e ∙ ap (λ t. length (pieces_bytes p t)) (joined-upto_more f n)
+    ∙ ap length (pieces_bytes-append p (joined f (upto n)) (f n)) ∙ length-append _ (pieces_bytes p (f n)) in
+    omega (arith, tabs, bytes, places_least p s y q n (omega arith), place_least p s y q n (omega arith))
+
+-- so all tabs of a written line stand in what was written
+pub tabs_written : (a b : PenFields) (s : Switches) (y : Layout) (q : ℕ → Paint) → Draws a b (shown_in s y q) → tab_columns s y ≤ length b.bytes
+unfolding shown_in tab_columns
+tabs_written a b s y q h =
+    let p = a.page.palette in
+    let least = places_least p s y q (length (shown y)) (omega arith) in
+    let whole : length b.bytes ≡ length a.bytes + length (pieces_bytes p (joined (place_in s y q) (upto (length (shown y))))) =
+    ap (λ (pen : PenFields). length pen.bytes) h ∙ length-append a.bytes _ in
+    omega (arith, least, whole)
+
+-- ---- what a call has written
+
+-- the blanks of a tab, behind making room for them
+pub draws_tab : (a b c : PenFields) (paint : Paint) (n : ℕ) → b ≡ a → Draws b c (replicate n (stroke b.page.switches.char_set Blank paint))
+    → Draws a c (replicate n (blank_of paint))
+draws_tab a b c paint n e h =
+    subst (λ (pen : PenFields). Draws pen c (replicate n (blank_of paint))) e
+    (subst (λ (x : Piece). Draws b c (replicate n x)) (blank_stroke b.page.switches.char_set paint) h)
+
+-- one place more
+pub draws_place : (a b c : PenFields) (y : Layout) (q : ℕ → Paint) (n place x : ℕ) (paint : Paint)
+    → Draws a b (joined (place_in a.page.switches y q) (upto n)) → place ≡ n → x ≡ slice_index (shown y) n → paint ≡ q n
+    → Draws b c (char_pieces b.page.switches paint place x) → Draws a c (joined (place_in a.page.switches y q) (upto (n + 1)))
+unfolding place_in
+draws_place a b c y q n place x paint before number char own here =
+    let kept = page_kept a b _ before in
+    draws_places_more a b c (place_in a.page.switches y q) n before
+    (subst (Draws b c) (λ i. char_pieces ((kept i).switches) (own i) (number i) (char i)) here)
+
+-- all places
+pub draws_all : (a b : PenFields) (y : Layout) (q : ℕ → Paint) (n : ℕ) → n ≡ length (shown y)
+    → Draws a b (joined (place_in a.page.switches y q) (upto n)) → Draws a b (shown_in a.page.switches y q)
+unfolding shown_in
+draws_all a b y q n e h = subst (λ m. Draws a b (joined (place_in a.page.switches y q) (upto m))) e h
+
+-- ---- a line of printable ASCII
+
+-- a printable character is shown as it is
+printable_text : (c : ℕ) → 32 ≤ c → c ≤ 126 → shown_text c ≡ encode_utf8 c
+unfolding shown_text
+printable_text c low high =
+    cond_both (is_whitespace c) (32 ∷ []) (encode_utf8 c) (λ t. t ≡ encode_utf8 c)
+    (λ e. let is : c ≡ 32 = grind (arith, nat_tests) in sym (ap encode_utf8 is ∙ blank_code)) (λ e. refl)
+
+-- so are its bytes
+printable_bytes : (p : Palette) (s : Switches) (k c : ℕ) → 32 ≤ c → c ≤ 126 → pieces_bytes p (char_pieces s Plain k c) ≡ encode_utf8 c
+unfolding char_pieces
+printable_bytes p s k c low high =
+    let n = shown_columns s.tab_width k c in
+    let one : Piece = record { text = shown_text c; paint = Plain; columns = n } in
+    let other : (c == 9) ≡ false = ne_eqb c 9 (λ e. omega (arith, e)) in
+    (λ i. pieces_bytes p (cond (other i) (replicate n (blank_of Plain)) (one ∷ [])))
+    ∙ pieces_bytes_one p one ∙ plain_bytes p (shown_text c) ∙ printable_text c low high
+
+-- the element at a place of a list has what all elements have
+get_or-all : (P : ℕ → Type 0) (xs : List ℕ) (k : ℕ) → AllByRecursion P xs → k < length xs → P (get_or xs k 0)
+get_or-all P [] k a h = absurd (omega arith)
+get_or-all P (x ∷ xs) zero a h = a.0
+get_or-all P (x ∷ xs) (suc k) a h = get_or-all P xs k a.1 (omega arith)
+
+-- the first places are written as they are
+printable_places : (p : Palette) (s : Switches) (y : Layout) (n : ℕ) → AllByRecursion (λ c. (32 ≤ c) × (c ≤ 126)) (shown y) → n ≤ length (shown y)
+    → pieces_bytes p (joined (place_in s y (λ k. Plain)) (upto n)) ≡ encode_utf8_all (take n (shown y))
+unfolding joined place_in
+printable_places p s y zero all h = pieces_bytes_none p
+printable_places p s y (suc n) all h =
+    let f = place_in s y (λ k. Plain) in
+    let e : suc n ≡ n + 1 = omega arith in
+    let c = get_or-all (λ c. (32 ≤ c) × (c ≤ 126)) (shown y) n all (omega arith) in
+    let x = get_or (shown y) n 0 in
+    ap (λ j. pieces_bytes p (joined f (upto j))) e ∙ ap (pieces_bytes p) (joined-upto_more f n) ∙ pieces_bytes-append p (joined f (upto n)) (f n)
+    ∙ (λ i. printable_places p s y n all (omega arith) i ++ printable_bytes p s n x c.0 c.1 i)
+    ∙ sym (ap encode_utf8_all (ap (λ j. take j (shown y)) e ∙ take_more (shown y) n 0 (omega arith)) ∙ encodes-append (take n (shown y)) (x ∷ []) ∙ ap (λ t. encode_utf8_all (take n (shown y)) ++ t) (append-nil (encode_utf8 x)))
+
+-- the whole text
+pub draws_printable : (a b : PenFields) (y : Layout) (text : List ℕ) → AllByRecursion (λ c. (32 ≤ c) × (c ≤ 126)) (shown y) → IsUtf8 text
+    → chars text ≡ shown y → Adds a b text → Draws a b (shown_in a.page.switches y (λ k. Plain))
+unfolding shown_in
+draws_printable a b y text all u e h =
+    let p = a.page.palette in
+    adds_same a b text _
+    (sym (printable_places p a.page.switches y (length (shown y)) all (omega arith)
+    ∙ ap encode_utf8_all (take_all (length (shown y)) (shown y) (omega arith)) ∙ ap encode_utf8_all (sym e) ∙ encodes-chars text u)) h
+
+-- ---- stretches of places in one colour
+
+-- before the end of stretch n its own label is shown
+pub stretch_shown : (xs : List Stretch) (n k : ℕ) (s : Stretch) → slice_get xs n ≡ Some s → k < s.end → shown_at (drop n xs) k ≡ s.position
+unfolding shown_at
+stretch_shown xs n k s there h =
+    at_drop_more (λ (ys : List Stretch). shown_at ys k) xs n s (slice_get_within xs n s there)
+    ∙ ap (λ (x : Stretch). cond (ltb k x.end) x.position (shown_at (drop (n + 1) xs) k)) (get_or_from_slice_get xs n s s there)
+    ∙ ap (λ b. cond b s.position (shown_at (drop (n + 1) xs) k)) (lt-ltb k s.end h)
+
+-- a stretch reaches past a place, as its number does
+pub stretch_reaches : (xs : List Stretch) (n k : ℕ) (s d : Stretch) → slice_get xs n ≡ Some s → k < (get_or xs n d).end → k < s.end
+stretch_reaches xs n k s d there h = let e = ap (λ (x : Stretch). x.end) (get_or_from_slice_get xs n s d there) in omega (arith, e, h)
+
+-- from there on the others tell
+pub stretch_passed : (xs : List Stretch) (n place k : ℕ) (d : Stretch) → n < length xs → (get_or xs n d).end ≤ place → place ≤ k
+    → shown_at (drop n xs) k ≡ shown_at (drop (n + 1) xs) k
+unfolding shown_at
+stretch_passed xs n place k d there h on =
+    let s : Stretch = get_or xs n d in
+    at_drop_more (λ (ys : List Stretch). shown_at ys k) xs n d there
+    ∙ ap (λ b. cond b s.position (shown_at (drop (n + 1) xs) k)) (le-ltb k s.end (omega (arith, h, on)))
+
+-- behind the last no label is shown
+pub stretch_absent : (xs : List Stretch) (n k : ℕ) → length xs ≤ n → position_paint (shown_at (drop n xs) k) ≡ Unimportant
+unfolding shown_at position_paint
+stretch_absent xs n k h = ap position_paint (at_drop_all (λ (ys : List Stretch). shown_at ys k) xs n h)

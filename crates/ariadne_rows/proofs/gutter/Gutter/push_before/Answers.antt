@@ -1,0 +1,34 @@
+use Rattle.std.proofs.Common.{◌≡◌, arith}
+use Rattle.ariadne_picture.specs.declared.cell.Glyph.TheVariants.{Vbar}
+use Rattle.ariadne_rows.specs.Gutters.{bars_ink, columns_bytes}
+use Rattle.ariadne_rows.proofs.GutterState.{ready-for, columns-some, offsets-len, offset-read, text-cut, text-front}
+use Rattle.ariadne_rows.proofs.gutter.Gutter.push_before.Goals as goal
+
+-- the column has an offset
+pub index-requires : goal.index-requires
+index-requires c =
+    let g = c.args.self.now in
+    let ready = ready-for _ g _ _ c.self.view_is c.self.invariant in
+    omega (arith, offsets-len g _ _ ready, columns-some g c.args.column c.requires.column, c.self.inside.starts.ok.0)
+
+-- the text may be cut there
+pub range-requires-clause-end_boundary : goal.range-requires-clause-end_boundary
+range-requires-clause-end_boundary c =
+    let g = c.args.self.now in
+    let k = c.args.column in
+    let ready = ready-for _ g _ _ c.self.view_is c.self.invariant in
+    let some = columns-some g k c.requires.column in
+    let to = offset-read g _ _ ready k _ (omega (arith, some)) c.index.ensures in
+    rw (to, c.deref.ensures) (text-cut g _ _ ready k (omega (arith, some)))
+
+-- before it stand the columns before
+pub returns : goal.returns
+returns c =
+    let g = c.args.self.now in
+    let k = c.args.column in
+    let ready = ready-for _ g _ _ c.self.view_is c.self.invariant in
+    let some = columns-some g k c.requires.column in
+    let to = offset-read g _ _ ready k _ (omega (arith, some)) c.index.ensures in
+    let there : c.range.result.now ≡ columns_bytes g.page (bars_ink Vbar g) k =
+    rw (c.range.ensures.value, to, c.deref.ensures) (text-front g _ _ ready k (omega (arith, some))) in
+    rw there at c.push_text.ensures

@@ -1,0 +1,9 @@
+use Rattle.std.proofs.lemmas.Result.{on_ok_weaker}
+use Rattle.ariadne_rows.proofs.LineRows.{draws_bare}
+use Rattle.ariadne_rows.proofs.rows.push_bare_row.Goals as goal
+
+-- a margin alone
+pub returns : goal.returns
+returns c = λ t g l on.
+    on_ok_weaker c.end_row.result
+    (draws_bare c.args.pen.now t g on c.push_margin.new.self c.end_row.new.self l c.in_ok-push_margin.ensures) c.end_row.ensures

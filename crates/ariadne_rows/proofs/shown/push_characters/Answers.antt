@@ -1,0 +1,69 @@
+use Rattle.std.proofs.Common.{◌≡◌, ◌∙◌, sym, ap}
+use Rattle.std.proofs.lemmas.Result.{on_ok_weaker}
+use Rattle.ariadne_picture.specs.declared.cell.Paint.TheVariants.{Plain}
+use Rattle.ariadne_picture.specs.Canvas.{color_of}
+use Rattle.ariadne_picture.specs.Pieces.{char_paint}
+use Rattle.ariadne_cells.specs.Pages.{PageFields}
+use Rattle.ariadne_cells.specs.Tables.{position_paint, shown_at}
+use Rattle.ariadne_rows.proofs.ShownRows.{draws_printable, draws_shown, no_colors, tabs_written}
+use Rattle.ariadne_rows.proofs.shown.push_characters.Goals as goal
+
+-- with colours the stretches tell them
+pub returns-then-is_colored-clause-drawn : goal.returns-then-is_colored-clause-drawn
+returns-then-is_colored-clause-drawn c = λ multi_line paints.
+    let pen = c.args.pen.now in
+    let y = c.args.layout.now in
+    let lit : c.is_colored.result ≡ pen.page.palette.is_on = c.is_colored.ensures ∙ ap (λ (p : PageFields). p.palette.is_on) c.page.ensures in
+    let on = sym lit ∙ c.if-is_colored.true in
+    on_ok_weaker c.push_painted_shown.result
+    (draws_shown pen c.push_painted_shown.new.pen pen.page.switches multi_line y (λ k. position_paint (shown_at c.args.paints.now k))
+    (λ k l. ap (color_of pen.page.palette) (paints on k l)))
+    c.push_painted_shown.ensures
+
+pub returns-then-is_colored-clause-tabs : goal.returns-then-is_colored-clause-tabs
+returns-then-is_colored-clause-tabs c =
+    let pen = c.args.pen.now in
+    on_ok_weaker c.push_painted_shown.result
+    (tabs_written pen c.push_painted_shown.new.pen pen.page.switches c.args.layout.now (λ k. position_paint (shown_at c.args.paints.now k)))
+    c.push_painted_shown.ensures
+
+-- without them printable characters are their bytes
+pub returns-then-is_plain-clause-drawn : goal.returns-then-is_plain-clause-drawn
+returns-then-is_plain-clause-drawn c = λ multi_line paints.
+    let pen = c.args.pen.now in
+    let new = c.push_text.new.self in
+    let y = c.args.layout.now in
+    let lit : c.is_colored.result ≡ pen.page.palette.is_on = c.is_colored.ensures ∙ ap (λ (p : PageFields). p.palette.is_on) c.page.ensures in
+    let off = sym lit ∙ c.if-is_colored.false in
+    on_ok_weaker c.push_text.result
+    (λ h. draws_shown pen new pen.page.switches multi_line y (λ k. Plain) (λ k l. no_colors pen.page.palette Plain (char_paint multi_line y k) off)
+    (draws_printable pen new y c.shown.result.now (c.is_plain.ensures c.if-is_plain.true) c.shown.utf8 c.shown.ensures h))
+    c.push_text.ensures
+
+pub returns-then-is_plain-clause-tabs : goal.returns-then-is_plain-clause-tabs
+returns-then-is_plain-clause-tabs c =
+    let pen = c.args.pen.now in
+    let new = c.push_text.new.self in
+    let y = c.args.layout.now in
+    on_ok_weaker c.push_text.result
+    (λ h. tabs_written pen new pen.page.switches y (λ k. Plain)
+    (draws_printable pen new y c.shown.result.now (c.is_plain.ensures c.if-is_plain.true) c.shown.utf8 c.shown.ensures h))
+    c.push_text.ensures
+
+-- and others are written one by one
+pub returns-else-is_plain-clause-drawn : goal.returns-else-is_plain-clause-drawn
+returns-else-is_plain-clause-drawn c = λ multi_line paints.
+    let pen = c.args.pen.now in
+    let y = c.args.layout.now in
+    let lit : c.is_colored.result ≡ pen.page.palette.is_on = c.is_colored.ensures ∙ ap (λ (p : PageFields). p.palette.is_on) c.page.ensures in
+    let off = sym lit ∙ c.if-is_colored.false in
+    on_ok_weaker c.push_plain_shown.result
+    (draws_shown pen c.push_plain_shown.new.pen pen.page.switches multi_line y (λ k. Plain)
+    (λ k l. no_colors pen.page.palette Plain (char_paint multi_line y k) off))
+    c.push_plain_shown.ensures
+
+pub returns-else-is_plain-clause-tabs : goal.returns-else-is_plain-clause-tabs
+returns-else-is_plain-clause-tabs c =
+    let pen = c.args.pen.now in
+    on_ok_weaker c.push_plain_shown.result
+    (tabs_written pen c.push_plain_shown.new.pen pen.page.switches c.args.layout.now (λ k. Plain)) c.push_plain_shown.ensures

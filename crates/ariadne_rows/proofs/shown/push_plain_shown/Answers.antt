@@ -1,0 +1,53 @@
+use Rattle.std.proofs.Common.{◌≡◌, ◌+◌, ◌<◌, [], ◌∷◌, ◌++◌, length, slice_index, refl, ap, ◌∙◌}
+use Rattle.std.proofs.lemmas.List.{length_push}
+use Rattle.std.proofs.lemmas.List.FromFn.{length-enumerate_from}
+use Rattle.std.proofs.lemmas.Iterator.{YieldsList-from_chars}
+use Rattle.std.proofs.lemmas.Iterator.Consumers.{YieldsList-from_enumerate, YieldsList-at, YieldsList-turn, YieldsList-end}
+use Rattle.std.specs.Str.{chars}
+use Rattle.ariadne_picture.specs.declared.cell.Paint.TheVariants.{Plain}
+use Rattle.ariadne_picture.specs.Columns.{shown}
+use Rattle.ariadne_cells.proofs.Drawn.{draws_places_none}
+use Rattle.ariadne_rows.specs.ShownTexts.{place_in}
+use Rattle.ariadne_rows.proofs.ShownRows.{char-turn, draws_all, draws_place}
+use Rattle.ariadne_rows.proofs.shown.push_plain_shown.Goals as goal
+
+-- a turn is at the next place, and at its character
+turn : (c : goal.In_ok-push_char)
+    → (length c.loop-index.yielded < length (shown c.args.layout.now)) × (c.in-Some.index ≡ length c.loop-index.yielded)
+    × (c.in-Some.c ≡ slice_index (shown c.args.layout.now) (length c.loop-index.yielded))
+turn c =
+    let text = c.shown.result.now in
+    let read = YieldsList-from_chars {s = c.chars.result} text c.shown.utf8 c.chars.ensures.rest in
+    let source = YieldsList-at c.enumerate-index-items.ensures.source read in
+    let numbered = YieldsList-from_enumerate {s = c.enumerate-index-items.result} source c.enumerate-index-items.ensures.count in
+    let whole = YieldsList-at c.into_iter-index-iterator.ensures.into_iter_gives numbered in
+    let t = YieldsList-turn whole c.loop-index.yielded _ c.loop-index.yielded_by _ _ _ c.in-Some.is c.next.ensures.steps in
+    let at = char-turn (chars text) (length c.loop-index.yielded) c.in-Some.index c.in-Some.c t.0 t.1 in
+    rw c.shown.ensures at at
+
+-- the end comes behind the last shown place
+ended : (c : goal.In-None) → length c.loop-index.yielded ≡ length (shown c.args.layout.now)
+ended c =
+    let text = c.shown.result.now in
+    let read = YieldsList-from_chars {s = c.chars.result} text c.shown.utf8 c.chars.ensures.rest in
+    let source = YieldsList-at c.enumerate-index-items.ensures.source read in
+    let numbered = YieldsList-from_enumerate {s = c.enumerate-index-items.result} source c.enumerate-index-items.ensures.count in
+    let whole = YieldsList-at c.into_iter-index-iterator.ensures.into_iter_gives numbered in
+    let e = YieldsList-end whole c.loop-index.yielded _ c.loop-index.yielded_by _ _ c.in-None.is c.next.ensures.steps in
+    e.1 ∙ length-enumerate_from 0 (chars text) ∙ ap length c.shown.ensures
+
+pub loop-index-init : goal.loop-index-init
+loop-index-init c = draws_places_none c.args.pen.now (place_in c.args.pen.now.page.switches c.args.layout.now (λ k. Plain))
+
+-- a turn writes one place more
+pub loop-index-preserved : goal.loop-index-preserved
+loop-index-preserved c =
+    let n = length c.loop-index.yielded in
+    let e : length (c.loop-index.yielded ++ (c.in-Some.index, c.in-Some.c) ∷ []) ≡ n + 1 = length_push _ _ in
+    let t = turn c in
+    rw e (draws_place c.args.pen.now c.loop-index.pen c.push_char.new.pen c.args.layout.now (λ k. Plain) n c.in-Some.index c.in-Some.c Plain
+    c.loop-index.invariant t.1 t.2 refl c.in_ok-push_char.ensures)
+
+-- the last turn was at the last place
+pub returns : goal.returns
+returns c = draws_all c.args.pen.now c.loop-index.pen c.args.layout.now (λ k. Plain) (length c.loop-index.yielded) (ended c) c.loop-index.invariant
