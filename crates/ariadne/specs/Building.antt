@@ -2,9 +2,9 @@
 use Rattle.std.specs.Prelude.{ℕ, ◌-◌, ◌++◌, Bool, List, length, replicate, Option, Some, chars}
 use Rattle.std.specs.Prelude.{decimal}
 use Rattle.std.specs.Iterator.{Drains, YieldsThen}
-use Rattle.ariadne_base.specs.declared.color.Color.{Color}
-use Rattle.ariadne_base.specs.contracts.color.ColorPartialEq.TheImpl as equality
-use Rattle.ariadne_base.specs.contracts.color.ColorHash.TheImpl as hashing
+use Rattle.ariadne_color.specs.declared.color.Color.{Color}
+use Rattle.ariadne_color.specs.contracts.color.ColorPartialEq.TheImpl as equality
+use Rattle.ariadne_color.specs.contracts.color.ColorHash.TheImpl as hashing
 
 -- two colours are the same
 abbrev pub color_eq : Color → Color → Bool

@@ -9,8 +9,8 @@ use Rattle.std.specs.Cmp.Lexicographic.{pointwise, options_equiv, nat_list_eq_eq
 use Rattle.std.specs.Cmp.Rules.{hashing}
 use Rattle.std.specs.Hash.{Alike, and-Alike, on_Alike, option, str, i32, isize}
 use Rattle.std.proofs.Common.{rules, refl, ap, sym, true≢false}
-use Rattle.ariadne_base.specs.contracts.color.ColorEq.TheImpl.Laws as equality
-use Rattle.ariadne_base.specs.contracts.color.ColorHash.TheImpl.Laws as hashes
+use Rattle.ariadne_color.specs.contracts.color.ColorEq.TheImpl.Laws as equality
+use Rattle.ariadne_color.specs.contracts.color.ColorHash.TheImpl.Laws as hashes
 use Rattle.ariadne_picture.specs.Report.{LabelFields}
 use Rattle.ariadne.specs.Building.{color_eq, color_writes}
 

@@ -4,7 +4,7 @@ ghost use Rattle.std.specs.Prelude.{◌≡◌, Some};
 ghost use Rattle.ariadne_picture.specs.Canvas.{kind_color};
 ghost use Rattle.ariadne.specs.Kinds.{kind_of, shown_kind};
 
-use ariadne_base::Color;
+use ariadne_color::Color;
 use std::fmt;
 
 /// The kind of a report, which its header names.

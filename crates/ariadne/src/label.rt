@@ -5,7 +5,8 @@ ghost use Rattle.std.specs.Option.{option_copied};
 ghost use Rattle.std.specs.Cmp.{partial_equiv_from_equiv};
 ghost use Rattle.ariadne.specs.Labels.{label_eq, label_equiv, label_writes, label_alike};
 
-use ariadne_base::{Color, Span};
+use ariadne_base::Span;
+use ariadne_color::Color;
 use std::alloc::{AllocError, Global};
 use std::hash::{Hash, Hasher};
 use std::marker::Model;

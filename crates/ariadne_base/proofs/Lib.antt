@@ -6,8 +6,6 @@ pub mod CutOut
 pub mod RangeLemmas
 pub mod Scanning
 -- Colours.
-pub mod Decimals
-pub mod Turns
 -- Caches.
 pub mod Lookups
 pub mod Paths

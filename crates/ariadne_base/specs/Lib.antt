@@ -3,9 +3,6 @@ pub mod Locations
 pub mod Table
 pub mod Ranges
 pub mod Listing
-pub mod Colors
-pub mod Escapes
-pub mod Generator
 pub mod Cache
 pub mod Stored
 pub mod Files

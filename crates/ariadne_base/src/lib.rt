@@ -1,9 +1,8 @@
-//! Colours, sources and the caches that hold them. `ariadne` gives out the names at the end; what else
+//! Sources and the caches that hold them. `ariadne` gives out the names at the end; what else
 //! is public here serves the crates above, and is no part of its surface.
 #![tactic(auto)]
 
 pub mod cache;
-pub mod color;
 pub mod source;
 pub mod span;
 pub mod text;
@@ -13,7 +12,6 @@ pub use cache::function::FnCache;
 pub use cache::map::{SourceMap, sources};
 pub use cache::named::{SourceName, UnknownSource};
 pub use cache::{Cache, FetchError};
-pub use color::{Background, Color, ColorGenerator, Fmt, Foreground};
 pub use source::{Line, Source, SourceLines};
 pub use span::Span;
 pub use text::SourceText;

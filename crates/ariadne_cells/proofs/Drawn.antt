@@ -1,7 +1,7 @@
 -- What a pen has written after one call and another: bytes, pieces and rows, one behind the other.
 use Rattle.std.proofs.Common.{◌≡◌, ℕ, ◌+◌, List, [], ◌∷◌, ◌++◌, replicate, sym, ap, ◌∙◌, append_assoc, subst}
 use Rattle.std.proofs.lemmas.List.{append-nil}
-use Rattle.ariadne_base.specs.Colors.{painted}
+use Rattle.ariadne_color.specs.Colors.{painted}
 use Rattle.ariadne_base.specs.Locations.{upto}
 use Rattle.ariadne_picture.specs.declared.switches.CharSet.{CharSet}
 use Rattle.ariadne_picture.specs.declared.cell.Glyph.TheVariants.{Blank}

@@ -1,7 +1,7 @@
 -- The bytes of margins: text after text.
 use Rattle.std.proofs.Common.{◌≡◌, ℕ, ◌+◌, ◌-◌, Bool, true, false, if◌then◌else◌, List, [], ◌∷◌, ◌++◌, length, decimal, codes, refl, sym, ap, ◌∙◌}
 use Rattle.std.proofs.Common.{append_assoc}
-use Rattle.ariadne_base.specs.Escapes.{opened, closed}
+use Rattle.ariadne_color.specs.Escapes.{opened, closed}
 use Rattle.ariadne_picture.specs.declared.switches.Switches.{Switches}
 use Rattle.ariadne_picture.specs.declared.cell.Glyph.TheVariants.{Vbar, VbarGap}
 use Rattle.ariadne_picture.specs.declared.cell.Paint.{Paint}

@@ -10,7 +10,7 @@ ghost use Rattle.ariadne_picture.specs.Rows.{bare, gap, source};
 use crate::page::Page;
 use crate::palette::Palette;
 use crate::runs::push_spaces;
-use ariadne_base::color::{push_closing, push_opening};
+use ariadne_color::color::{push_closing, push_opening};
 use ariadne_picture::cell::{Glyph, Paint};
 use ariadne_picture::switches::Switches;
 use std::alloc::{AllocError, Global};

@@ -5,7 +5,7 @@ ghost use Rattle.ariadne_picture.specs.Canvas.{color_of};
 
 use crate::margin::margin_text;
 use crate::palette::Palette;
-use ariadne_base::Color;
+use ariadne_color::Color;
 use ariadne_picture::cell::{Glyph, Paint};
 use ariadne_picture::switches::Switches;
 use std::alloc::{AllocError, Global};

@@ -2,8 +2,8 @@
 
 ghost use Rattle.std.specs.Prelude.{◌≡◌, ◌<◌, ◌^◌, ℕ, [], ◌∷◌, OnOk, decimal, encode_utf8, length};
 ghost use Rattle.std.specs.Prelude.{replicate, string_bytes};
-ghost use Rattle.ariadne_base.specs.Colors.{painted};
-ghost use Rattle.ariadne_base.specs.Escapes.{closed, opened};
+ghost use Rattle.ariadne_color.specs.Colors.{painted};
+ghost use Rattle.ariadne_color.specs.Escapes.{closed, opened};
 ghost use Rattle.ariadne_cells.specs.Pages.{Adds, Draws};
 ghost use Rattle.ariadne_picture.specs.Canvas.{color_of};
 ghost use Rattle.ariadne_picture.specs.Groups.{printed_number};
@@ -15,7 +15,7 @@ use crate::page::Page;
 use crate::runs::push_painted_run;
 use crate::{margin, runs};
 use ariadne_base::color;
-use ariadne_base::color::{push_painted, push_painted_char};
+use ariadne_color::color::{push_painted, push_painted_char};
 use ariadne_picture::cell::{Glyph, Ink, Paint};
 use std::alloc::{AllocError, Global};
 use std::marker::Model;

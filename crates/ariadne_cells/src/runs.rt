@@ -1,11 +1,11 @@
 //! Runs of one character, appended to a text.
 
 ghost use Rattle.std.specs.Prelude.{◌≡◌, ◌++◌, OnOk, encode_utf8, string_bytes};
-ghost use Rattle.ariadne_base.specs.Colors.{painted};
+ghost use Rattle.ariadne_color.specs.Colors.{painted};
 ghost use Rattle.ariadne_picture.specs.Pieces.{repeated, spaces};
 
-use ariadne_base::Color;
-use ariadne_base::color::push_painted_char;
+use ariadne_color::Color;
+use ariadne_color::color::push_painted_char;
 use std::alloc::AllocError;
 
 /// How many copies of a character each of the texts below holds.

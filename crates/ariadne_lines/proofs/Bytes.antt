@@ -3,7 +3,7 @@ use Rattle.std.proofs.Common.{◌≡◌, ℕ, zero, suc, ◌+◌, ◌≤◌, Lis
 use Rattle.std.proofs.Common.{add-one}
 use Rattle.std.proofs.lemmas.List.{append-nil, map-append, replicate_more}
 use Rattle.std.proofs.lemmas.Bool.{cond_both}
-use Rattle.ariadne_base.specs.Colors.{painted}
+use Rattle.ariadne_color.specs.Colors.{painted}
 use Rattle.ariadne_base.specs.Locations.{upto}
 use Rattle.ariadne_picture.specs.declared.switches.CharSet.{CharSet}
 use Rattle.ariadne_picture.specs.declared.cell.Ink.{Ink}

@@ -2,8 +2,8 @@
 use Rattle.std.proofs.Common.{◌≡◌, ℕ, ◌+◌, Bool, true, false, if◌then◌else◌, List, [], ◌∷◌, ◌++◌, Option, Some, None, codes, refl, sym, ap, ◌∙◌}
 use Rattle.std.proofs.Common.{append_assoc, arith}
 use Rattle.std.proofs.lemmas.List.{append-nil}
-use Rattle.ariadne_base.specs.declared.color.Color.{Color}
-use Rattle.ariadne_base.specs.Colors.{painted}
+use Rattle.ariadne_color.specs.declared.color.Color.{Color}
+use Rattle.ariadne_color.specs.Colors.{painted}
 use Rattle.ariadne_picture.specs.declared.switches.CharSet.{CharSet}
 use Rattle.ariadne_picture.specs.declared.switches.Switches.{Switches}
 use Rattle.ariadne_picture.specs.declared.cell.Glyph.{Glyph}
@@ -13,7 +13,7 @@ use Rattle.ariadne_picture.specs.Canvas.{Palette, color_of}
 use Rattle.ariadne_picture.specs.Rows.{source, alternate, arrow}
 use Rattle.ariadne_picture.specs.Lists.{joined}
 use Rattle.ariadne_lines.specs.Headers.{bar_margin, group_header_line}
-use Rattle.ariadne_base.specs.Escapes.{opened as opening, closed as closing}
+use Rattle.ariadne_color.specs.Escapes.{opened as opening, closed as closing}
 use Rattle.ariadne_picture.specs.Pieces.{Piece, Section, painted_text, plain_text, blank_piece, stroke, spaces, repeated, glyph_text, margin_text}
 use Rattle.ariadne_picture.specs.Pieces.{margin_paint, margin_pieces, group_header_pieces, location_text, spacer_pieces, tail_pieces}
 use Rattle.ariadne_picture.specs.Print.{pieces_bytes}

@@ -11,7 +11,7 @@ ghost use Rattle.ariadne_picture.specs.Print.{pieces_bytes};
 
 use crate::palette::Palette;
 use crate::pen::{push_spaces, push_stroke};
-use ariadne_base::color::{push_closing, push_opening};
+use ariadne_color::color::{push_closing, push_opening};
 use ariadne_picture::cell::{Glyph, Paint};
 use ariadne_picture::switches::CharSet;
 use std::alloc::AllocError;

@@ -10,7 +10,7 @@ ghost use Rattle.ariadne_picture.specs.Rows.{source};
 
 use crate::palette::Palette;
 use crate::pen::push_spaces;
-use ariadne_base::color::{push_closing, push_opening};
+use ariadne_color::color::{push_closing, push_opening};
 use ariadne_picture::cell::{Glyph, Paint};
 use ariadne_picture::switches::Switches;
 use std::alloc::AllocError;

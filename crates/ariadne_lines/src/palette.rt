@@ -3,7 +3,7 @@
 ghost use Rattle.std.specs.Prelude.{◌≡◌};
 ghost use Rattle.ariadne_picture.specs.Canvas.{color_of};
 
-use ariadne_base::Color;
+use ariadne_color::Color;
 use ariadne_picture::cell::Paint;
 use std::marker::Model;
 

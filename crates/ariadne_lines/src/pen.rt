@@ -1,13 +1,13 @@
 //! The pen of a row: pieces, strokes and inks, appended to the bytes of a picture.
 
 ghost use Rattle.std.specs.Prelude.{◌≡◌, ◌++◌, OnOk, string_bytes};
-ghost use Rattle.ariadne_base.specs.Colors.{painted};
+ghost use Rattle.ariadne_color.specs.Colors.{painted};
 ghost use Rattle.ariadne_picture.specs.Canvas.{color_of};
 ghost use Rattle.ariadne_picture.specs.Pieces.{glyph_text, ink_pieces, spaces};
 ghost use Rattle.ariadne_picture.specs.Print.{pieces_bytes};
 
 use crate::palette::Palette;
-use ariadne_base::color::{push_painted, push_painted_char};
+use ariadne_color::color::{push_painted, push_painted_char};
 use ariadne_picture::cell::{Glyph, Ink, Paint};
 use ariadne_picture::switches::CharSet;
 use std::alloc::AllocError;

@@ -10,7 +10,7 @@ ghost use Rattle.ariadne_picture.specs.Print.{pieces_bytes};
 
 use crate::layout::{LineLayout, shown_columns};
 use crate::palette::Palette;
-use ariadne_base::color::push_painted_char;
+use ariadne_color::color::push_painted_char;
 use ariadne_picture::cell::Paint;
 use ariadne_picture::label_info::LabelInfo;
 use ariadne_picture::switches::Switches;

@@ -5,8 +5,8 @@ use Rattle.std.specs.Prelude.{◌++◌, length, map, Option, Some, None, slice_g
 use Rattle.std.specs.Prelude.{unwrap_or, option_and_then, option_map, codes, chars}
 use Rattle.std.specs.List.{enumerate_from}
 use Rattle.ariadne_base.specs.Listing.{Listing, listed_lines}
-use Rattle.ariadne_base.specs.declared.color.Color.{Color}
-use Rattle.ariadne_base.specs.declared.color.Color.TheVariants.{Red, Yellow, Fixed}
+use Rattle.ariadne_color.specs.declared.color.Color.{Color}
+use Rattle.ariadne_color.specs.declared.color.Color.TheVariants.{Red, Yellow, Fixed}
 use Rattle.ariadne_picture.specs.declared.label_info.LabelInfo.{LabelInfo}
 use Rattle.ariadne_picture.specs.declared.cell.Paint.{Paint}
 use Rattle.ariadne_picture.specs.declared.cell.Paint.TheVariants.{Plain, Label, Kind, Margin}

@@ -3,7 +3,7 @@
 use Rattle.std.specs.Prelude.{ℕ, zero, suc, ◌+◌, ◌-◌, Bool, ◌&&◌, ◌||◌, ◌==◌, nat_le, if◌then◌else◌}
 use Rattle.std.specs.Prelude.{List, [], ◌∷◌, ◌++◌, map, slice_index, None}
 use Rattle.std.specs.List.{prefix_len}
-use Rattle.ariadne_base.specs.Colors.{painted}
+use Rattle.ariadne_color.specs.Colors.{painted}
 use Rattle.ariadne_picture.specs.Lists.{joined}
 use Rattle.ariadne_picture.specs.Pieces.{Piece}
 use Rattle.ariadne_picture.specs.Canvas.{Cell, Palette, cell_of}

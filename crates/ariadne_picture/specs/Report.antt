@@ -3,7 +3,7 @@
 use Rattle.std.specs.Prelude.{◌≡◌, ℕ, ◌≤◌, ℤ, pos, Bool, true, false, List, [], Option, None}
 use Rattle.std.specs.List.{AllByRecursion}
 use Rattle.ariadne_base.specs.Listing.{Listing}
-use Rattle.ariadne_base.specs.declared.color.Color.{Color}
+use Rattle.ariadne_color.specs.declared.color.Color.{Color}
 use Rattle.ariadne_picture.specs.declared.switches.LabelAttach.{LabelAttach}
 use Rattle.ariadne_picture.specs.declared.switches.LabelAttach.TheVariants.{Middle}
 use Rattle.ariadne_picture.specs.declared.switches.CharSet.{CharSet}

@@ -6,7 +6,7 @@ use Rattle.std.specs.Prelude.{IfSome, find, length, unwrap_or, option_map, optio
 use Rattle.std.specs.Prelude.{slice_get}
 use Rattle.std.specs.List.{list_all, AllByRecursion}
 use Rattle.ariadne_base.specs.Listing.{Listing}
-use Rattle.ariadne_base.specs.declared.color.Color.TheVariants.{Primary}
+use Rattle.ariadne_color.specs.declared.color.Color.TheVariants.{Primary}
 use Rattle.ariadne_picture.specs.declared.switches.IndexType.TheVariants.{Char}
 use Rattle.ariadne_picture.specs.declared.verdict.Verdict.{Verdict}
 use Rattle.ariadne_picture.specs.declared.verdict.Verdict.TheVariants.{Accepted}

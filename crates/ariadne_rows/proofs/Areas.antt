@@ -4,7 +4,7 @@ use Rattle.std.proofs.Common.{zero-add, add-zero, lit<}
 use Rattle.std.specs.List.{range_with_len}
 use Rattle.std.proofs.lemmas.List.{append-nil, replicate-append-replicate}
 use Rattle.std.proofs.lemmas.Str.{encode_ascii}
-use Rattle.ariadne_base.specs.Colors.{painted}
+use Rattle.ariadne_color.specs.Colors.{painted}
 use Rattle.ariadne_base.specs.Locations.{upto}
 use Rattle.ariadne_cells.specs.declared.table.LineTable.{LineTable}
 use Rattle.ariadne_cells.specs.declared.verticals.Vertical.{Vertical}

@@ -1,6 +1,6 @@
 -- The rows of helps and notes.
 use Rattle.std.proofs.Common.{◌≡◌, ℕ, List, [], ◌∷◌, ◌++◌, Option, Some, None, ◌+◌, length, decimal, codes, refl, sym, ap, ◌∙◌, subst}
-use Rattle.ariadne_base.specs.Escapes.{opened, closed}
+use Rattle.ariadne_color.specs.Escapes.{opened, closed}
 use Rattle.ariadne_picture.specs.declared.cell.Paint.TheVariants.{Note}
 use Rattle.ariadne_picture.specs.Canvas.{color_of}
 use Rattle.ariadne_picture.specs.Pieces.{painted_text, spaces}

@@ -2,8 +2,8 @@
 use Rattle.std.proofs.Common.{◌≡◌, ℕ, ◌+◌, Bool, true, false, if◌then◌else◌, List, [], ◌∷◌, ◌++◌, Option, codes, unwrap_or, sym, ap, subst, ◌∙◌, arith}
 use Rattle.std.proofs.Common.{append_assoc}
 use Rattle.std.proofs.lemmas.List.{replicate-append-replicate}
-use Rattle.ariadne_base.specs.Colors.{painted}
-use Rattle.ariadne_base.specs.Escapes.{opened, closed}
+use Rattle.ariadne_color.specs.Colors.{painted}
+use Rattle.ariadne_color.specs.Escapes.{opened, closed}
 use Rattle.ariadne_picture.specs.declared.switches.CharSet.{CharSet}
 use Rattle.ariadne_picture.specs.declared.switches.Switches.{Switches}
 use Rattle.ariadne_picture.specs.declared.cell.Glyph.{Glyph}

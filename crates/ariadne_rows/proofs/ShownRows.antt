@@ -10,9 +10,9 @@ use Rattle.std.proofs.lemmas.Bool.Decides.{nat_tests}
 use Rattle.std.proofs.lemmas.List.FromFn.{get_or-enumerate_from, length-enumerate_from}
 use Rattle.std.proofs.lemmas.Option.{get_or_from_slice_get, slice_get_within}
 use Rattle.std.proofs.lemmas.Str.{encode_ascii, encodes-append, encodes-chars}
-use Rattle.ariadne_base.specs.declared.color.Color.{Color}
-use Rattle.ariadne_base.specs.Colors.{painted}
-use Rattle.ariadne_base.specs.Escapes.{opened, closed}
+use Rattle.ariadne_color.specs.declared.color.Color.{Color}
+use Rattle.ariadne_color.specs.Colors.{painted}
+use Rattle.ariadne_color.specs.Escapes.{opened, closed}
 use Rattle.ariadne_base.specs.Locations.{upto}
 use Rattle.ariadne_picture.specs.declared.cell.Glyph.TheVariants.{Blank}
 use Rattle.ariadne_picture.specs.declared.cell.Paint.{Paint}

@@ -8,9 +8,9 @@ use Rattle.std.specs.List.{prefix_len, list_all, AllByRecursion}
 use Rattle.std.proofs.lemmas.Bool.{cond_both, cond-true, and_from, and_parts, lt-ltb, le-leb, ne_eqb, not-true}
 use Rattle.std.proofs.lemmas.List.{append-nil, length-append}
 use Rattle.std.proofs.lemmas.List.Folds.{list_all-append}
-use Rattle.ariadne_base.specs.declared.color.Color.{Color}
-use Rattle.ariadne_base.specs.declared.color.Color.TheVariants.{Primary, Fixed, Rgb}
-use Rattle.ariadne_base.specs.Colors.{foreground, parameters, painted}
+use Rattle.ariadne_color.specs.declared.color.Color.{Color}
+use Rattle.ariadne_color.specs.declared.color.Color.TheVariants.{Primary, Fixed, Rgb}
+use Rattle.ariadne_color.specs.Colors.{foreground, parameters, painted}
 use Rattle.ariadne_picture.specs.Lists.{joined}
 use Rattle.ariadne_picture.specs.Canvas.{Cell}
 use Rattle.ariadne_picture.specs.Print.{cell_bytes, row_bytes, printed, erased, is_parameter, sequence_len, unescaped_after, unescaped}

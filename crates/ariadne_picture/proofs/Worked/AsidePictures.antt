@@ -1,6 +1,6 @@
 -- Pictures of headers, helps and notes.
 use Rattle.std.specs.Prelude.{◌≡◌, refl, ◌∷◌, [], Some}
-use Rattle.ariadne_base.specs.declared.color.Color.TheVariants.{Blue}
+use Rattle.ariadne_color.specs.declared.color.Color.TheVariants.{Blue}
 use Rattle.ariadne_picture.specs.Report.{custom}
 use Rattle.ariadne_picture.proofs.Worked.Sample.{drawn, picture, left_out, rows, one, label, report, titled, utf8, texts}
 

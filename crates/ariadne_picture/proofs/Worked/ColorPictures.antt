@@ -1,6 +1,6 @@
 -- Pictures in colour, and those of the Unicode set. In rows with colours a ~ stands for the escape byte.
 use Rattle.std.specs.Prelude.{◌≡◌, refl, ◌∷◌, [], Some, false, pos}
-use Rattle.ariadne_base.specs.declared.color.Color.TheVariants.{Fixed, Red, Blue}
+use Rattle.ariadne_color.specs.declared.color.Color.TheVariants.{Fixed, Red, Blue}
 use Rattle.ariadne_picture.specs.declared.switches.CharSet.TheVariants.{Unicode}
 use Rattle.ariadne_picture.specs.Report.{warning, advice, custom}
 use Rattle.ariadne_picture.proofs.Worked.Sample.{drawn, picture, rows, rows_in_color, one, silent_label, label, ascii_config, color_config}

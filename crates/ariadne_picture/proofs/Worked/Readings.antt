@@ -1,7 +1,7 @@
 -- Placings that finished pictures are read by, and reports that draw the same, by computation. Each worked
 -- picture is read too, by the placing that the names of its rows give.
 use Rattle.std.specs.Prelude.{ℕ, ◌≡◌, ◌==◌, Bool, true, if◌then◌else◌, refl, codes, [], ◌∷◌, List}
-use Rattle.ariadne_base.specs.declared.color.Color.TheVariants.{Blue}
+use Rattle.ariadne_color.specs.declared.color.Color.TheVariants.{Blue}
 use Rattle.ariadne_picture.specs.declared.switches.IndexType.TheVariants.{Byte}
 use Rattle.ariadne_picture.specs.declared.label_info.LabelInfo.{LabelInfo}
 use Rattle.ariadne_picture.specs.Report.{ReportFields, custom}

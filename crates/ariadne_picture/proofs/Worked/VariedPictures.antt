@@ -1,6 +1,6 @@
 -- Pictures of many kinds of rows at once. Their bytes come from an independent model of the rules.
 use Rattle.std.specs.Prelude.{◌≡◌, refl, ◌∷◌, [], Some, None, true, false, pos, negsuc}
-use Rattle.ariadne_base.specs.declared.color.Color.TheVariants.{Primary, Fixed, Rgb, Red, Blue, BrightGreen}
+use Rattle.ariadne_color.specs.declared.color.Color.TheVariants.{Primary, Fixed, Rgb, Red, Blue, BrightGreen}
 use Rattle.ariadne_picture.specs.declared.switches.LabelAttach.TheVariants.{Start, End}
 use Rattle.ariadne_picture.specs.declared.switches.CharSet.TheVariants.{Unicode}
 use Rattle.ariadne_picture.specs.declared.switches.IndexType.TheVariants.{Byte}

@@ -3,7 +3,7 @@
 -- looks at less lets one of them through.
 use Rattle.std.specs.Prelude.{ℕ, ◌≡◌, Bool, true, false, refl, [], ◌∷◌, ◌++◌, Some, None, List, take, drop, slice_set, slice_index_or}
 use Prim.Native.String.{String}
-use Rattle.ariadne_base.specs.declared.color.Color.TheVariants.{Blue}
+use Rattle.ariadne_color.specs.declared.color.Color.TheVariants.{Blue}
 use Rattle.ariadne_picture.specs.Report.{ReportFields}
 use Rattle.ariadne_picture.specs.Canvas.{Cell, texts_of}
 use Rattle.ariadne_picture.specs.Placing.{no_cell, is_placing, has_message_rows, has_inline_traces, has_ends_of_gutter_traces, has_gutter_bars}

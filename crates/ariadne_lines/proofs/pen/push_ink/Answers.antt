@@ -1,6 +1,6 @@
 use Rattle.std.proofs.Common.{◌≡◌, ◌++◌, sym, ap, ◌∙◌, append_assoc, string_bytes, arith}
 use Rattle.std.proofs.lemmas.List.{append-nil}
-use Rattle.ariadne_base.specs.Colors.{painted}
+use Rattle.ariadne_color.specs.Colors.{painted}
 use Rattle.ariadne_picture.specs.Canvas.{color_of}
 use Rattle.ariadne_picture.specs.Pieces.{glyph_text, ink_pieces}
 use Rattle.ariadne_picture.specs.Print.{pieces_bytes}

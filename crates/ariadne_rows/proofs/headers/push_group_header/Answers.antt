@@ -1,6 +1,6 @@
 use Rattle.std.proofs.Common.{rules, append_assoc, ◌∷◌, [], ◌+◌, ◌++◌, OnOk, codes, if◌then◌else◌}
 use Rattle.std.proofs.lemmas.Result.{on_ok_weaker}
-use Rattle.ariadne_base.specs.Colors.{painted}
+use Rattle.ariadne_color.specs.Colors.{painted}
 use Rattle.ariadne_cells.specs.Pages.{Adds}
 use Rattle.ariadne_cells.proofs.Drawn.{adds_same}
 use Rattle.ariadne_picture.specs.declared.cell.Glyph.TheVariants.{Hbar, Ltop, Lbox, Rbox, Lcross}

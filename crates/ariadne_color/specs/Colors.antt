@@ -1,12 +1,12 @@
 -- Painted texts: what a terminal is sent for a text in a colour. Texts are their bytes in UTF-8.
 use Rattle.std.specs.Prelude.{ℕ, ◌+◌, List, ◌∷◌, ◌++◌, Option, Some, None, codes, decimal}
-use Rattle.ariadne_base.specs.declared.color.Color.{Color}
-use Rattle.ariadne_base.specs.declared.color.Color.TheVariants.{Primary, Fixed, Rgb, Black, Red}
-use Rattle.ariadne_base.specs.declared.color.Color.TheVariants.{Green, Yellow, Blue, Magenta, Cyan}
-use Rattle.ariadne_base.specs.declared.color.Color.TheVariants.{White, BrightBlack, BrightRed}
-use Rattle.ariadne_base.specs.declared.color.Color.TheVariants.{BrightGreen, BrightYellow}
-use Rattle.ariadne_base.specs.declared.color.Color.TheVariants.{BrightBlue, BrightMagenta}
-use Rattle.ariadne_base.specs.declared.color.Color.TheVariants.{BrightCyan, BrightWhite}
+use Rattle.ariadne_color.specs.declared.color.Color.{Color}
+use Rattle.ariadne_color.specs.declared.color.Color.TheVariants.{Primary, Fixed, Rgb, Black, Red}
+use Rattle.ariadne_color.specs.declared.color.Color.TheVariants.{Green, Yellow, Blue, Magenta, Cyan}
+use Rattle.ariadne_color.specs.declared.color.Color.TheVariants.{White, BrightBlack, BrightRed}
+use Rattle.ariadne_color.specs.declared.color.Color.TheVariants.{BrightGreen, BrightYellow}
+use Rattle.ariadne_color.specs.declared.color.Color.TheVariants.{BrightBlue, BrightMagenta}
+use Rattle.ariadne_color.specs.declared.color.Color.TheVariants.{BrightCyan, BrightWhite}
 
 -- whether a colour is that of the characters or of what is behind them
 pub data Layer : Type 0 where

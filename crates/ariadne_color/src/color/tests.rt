@@ -1,7 +1,7 @@
 //! What a painted value prints, and the colours of the generator.
 
 ghost use Rattle.std.specs.Prelude.{◌≡◌, ◌++◌, IfOk, decimal, encode_utf8, string_bytes};
-ghost use Rattle.ariadne_base.specs.Colors.{background, foreground, painted_in};
+ghost use Rattle.ariadne_color.specs.Colors.{background, foreground, painted_in};
 
 use super::{Color, ColorGenerator, Fmt, numbers_rise_evenly, push_painted, push_painted_char};
 use std::alloc::{AllocError, Global};

@@ -1,6 +1,6 @@
 -- How the numbers of the generator move from call to call.
 use Rattle.std.proofs.Common.{◌≡◌, ℕ, zero, suc, ◌+◌, ◌%◌, ◌<◌, arith, ap, ◌∙◌}
-use Rattle.ariadne_base.specs.Generator.{GeneratorState, state_after, stepped, number_after, step_at, IsInRange, RisesEvenly}
+use Rattle.ariadne_color.specs.Generator.{GeneratorState, state_after, stepped, number_after, step_at, IsInRange, RisesEvenly}
 
 -- a state from its numbers
 abbrev state : ℕ → ℕ → ℕ → ℕ → GeneratorState

@@ -2,8 +2,8 @@
 
 ghost use Rattle.std.specs.Prelude.{◌≡◌, ◌+◌, ◌<◌, ◌++◌, OnOk, OnErr, decimal, encode_utf8};
 ghost use Rattle.std.specs.Prelude.{string_bytes};
-ghost use Rattle.ariadne_base.specs.Colors.{foreground, background, painted};
-ghost use Rattle.ariadne_base.specs.Escapes.{BeginsWith, closed, opened, opening, opening_end};
+ghost use Rattle.ariadne_color.specs.Colors.{foreground, background, painted};
+ghost use Rattle.ariadne_color.specs.Escapes.{BeginsWith, closed, opened, opening, opening_end};
 
 use crate::color::Color;
 use std::alloc::AllocError;

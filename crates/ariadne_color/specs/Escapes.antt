@@ -1,9 +1,9 @@
 -- The escape before a painted text, as the code writes it: a text that is the colour's own, and
 -- behind it the numbers of the colour, if it has any.
 use Rattle.std.specs.Prelude.{◌≡◌, ℕ, List, [], ◌∷◌, ◌++◌, Option, Some, None, codes, decimal}
-use Rattle.ariadne_base.specs.declared.color.Color.{Color}
-use Rattle.ariadne_base.specs.declared.color.Color.TheVariants.{Fixed, Rgb}
-use Rattle.ariadne_base.specs.Colors.{Layer, foreground, parameters}
+use Rattle.ariadne_color.specs.declared.color.Color.{Color}
+use Rattle.ariadne_color.specs.declared.color.Color.TheVariants.{Fixed, Rgb}
+use Rattle.ariadne_color.specs.Colors.{Layer, foreground, parameters}
 
 -- the escape that opens a colour: ESC [ parameters m
 abbrev pub opening : Layer → Color → List ℕ

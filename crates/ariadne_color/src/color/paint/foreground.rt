@@ -1,7 +1,7 @@
 //! Values with their characters in a colour.
 
 ghost use Rattle.std.specs.Prelude.{◌≡◌, option_map, ⊤};
-ghost use Rattle.ariadne_base.specs.Colors.{foreground, painted_in};
+ghost use Rattle.ariadne_color.specs.Colors.{foreground, painted_in};
 
 use super::write_painted;
 use crate::color::Color;
@@ -19,7 +19,7 @@ pub struct Foreground<T> {
 }
 
 impl<T> Model for Foreground<T> {
-    ghost use Rattle.ariadne_base.specs.Colors.{Painting};
+    ghost use Rattle.ariadne_color.specs.Colors.{Painting};
 
     ghost Value = { Painting T };
 

@@ -1,7 +1,7 @@
 //! Values with a colour behind their characters.
 
 ghost use Rattle.std.specs.Prelude.{◌≡◌, option_map, ⊤};
-ghost use Rattle.ariadne_base.specs.Colors.{background, painted_in};
+ghost use Rattle.ariadne_color.specs.Colors.{background, painted_in};
 
 use super::write_painted;
 use crate::color::Color;
@@ -19,7 +19,7 @@ pub struct Background<T> {
 }
 
 impl<T> Model for Background<T> {
-    ghost use Rattle.ariadne_base.specs.Colors.{Painting};
+    ghost use Rattle.ariadne_color.specs.Colors.{Painting};
 
     ghost Value = { Painting T };
 

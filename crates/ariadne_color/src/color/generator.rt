@@ -1,8 +1,8 @@
 //! Which colours are taken one after another where the caller names none.
 
 ghost use Rattle.std.specs.Prelude.{◌≡◌, ℕ, ◌+◌, ◌*◌, ◌-◌, ◌%◌, ◌<◌, ◌≤◌, slice_index, min};
-ghost use Rattle.ariadne_base.specs.Generator.{IsInRange, RisesEvenly, color_of, level, step_at};
-ghost use Rattle.ariadne_base.specs.Generator.{stepped, usual_start, GeneratorState};
+ghost use Rattle.ariadne_color.specs.Generator.{IsInRange, RisesEvenly, color_of, level, step_at};
+ghost use Rattle.ariadne_color.specs.Generator.{stepped, usual_start, GeneratorState};
 
 use crate::color::Color;
 use std::marker::Model;
@@ -28,7 +28,7 @@ pub struct ColorGenerator {
 
 impl Model for ColorGenerator {
     ghost use Rattle.std.specs.Prelude.{◌≤◌};
-    ghost use Rattle.ariadne_base.specs.Generator.{GeneratorState};
+    ghost use Rattle.ariadne_color.specs.Generator.{GeneratorState};
 
     ghost Value = { GeneratorState };
 

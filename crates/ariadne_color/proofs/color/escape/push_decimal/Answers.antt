@@ -1,9 +1,9 @@
 use Rattle.std.proofs.Common.{◌≡◌, ◌+◌, ◌%◌, ◌++◌, ◌∷◌, [], decimal, string_bytes, rules, arith, append_assoc}
 use Rattle.std.proofs.lemmas.Fmt.{decimal_digit}
-use Rattle.ariadne_base.proofs.Decimals.{two_digits, three_digits}
-use Rattle.ariadne_base.proofs.color.escape.push_decimal.Goals as goal
-use Rattle.ariadne_base.proofs.color.escape.push_decimal.Goals.{then-number-ge100+in_ok-push+in_ok-push-2}
-use Rattle.ariadne_base.proofs.color.escape.push_decimal.Goals.{else-number-ge100+then-number-ge10+in_ok-push-3, else-number-ge100+else-number-ge10}
+use Rattle.ariadne_color.proofs.Decimals.{two_digits, three_digits}
+use Rattle.ariadne_color.proofs.color.escape.push_decimal.Goals as goal
+use Rattle.ariadne_color.proofs.color.escape.push_decimal.Goals.{then-number-ge100+in_ok-push+in_ok-push-2}
+use Rattle.ariadne_color.proofs.color.escape.push_decimal.Goals.{else-number-ge100+then-number-ge10+in_ok-push-3, else-number-ge100+else-number-ge10}
 
 -- in each branch the digits before the last one stand there
 pub returns-clause-ok : goal.returns-clause-ok

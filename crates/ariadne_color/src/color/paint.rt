@@ -2,7 +2,7 @@
 
 ghost use Rattle.std.specs.Prelude.{◌≡◌, ◌++◌, option_map};
 ghost use Rattle.std.specs.Fmt.{DisplaysOnOk};
-ghost use Rattle.ariadne_base.specs.Escapes.{closing, opening_end};
+ghost use Rattle.ariadne_color.specs.Escapes.{closing, opening_end};
 
 mod background;
 mod foreground;

@@ -3,8 +3,8 @@
 -- answers a colour of the cube of 6 * 6 * 6 colours that begins at number 16 of the 256-colour
 -- palette.
 use Rattle.std.specs.Prelude.{◌≡◌, ℕ, zero, suc, ◌+◌, ◌-◌, ◌*◌, ◌/◌, ◌%◌, ◌<◌}
-use Rattle.ariadne_base.specs.declared.color.Color.{Color}
-use Rattle.ariadne_base.specs.declared.color.Color.TheVariants.{Fixed}
+use Rattle.ariadne_color.specs.declared.color.Color.{Color}
+use Rattle.ariadne_color.specs.declared.color.Color.TheVariants.{Fixed}
 
 -- what a generator holds: a number for each of three channels, and how bright its colours are
 pub record GeneratorState : Type 0 where

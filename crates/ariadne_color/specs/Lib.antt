@@ -1,0 +1,3 @@
+pub mod Colors
+pub mod Escapes
+pub mod Generator
