@@ -14,7 +14,7 @@ ghost use Rattle.ariadne_picture.specs.Rows.{bare, gap, source};
 use crate::page::Page;
 use crate::runs::push_painted_run;
 use crate::{margin, runs};
-use ariadne_base::color;
+use ariadne_color::color;
 use ariadne_color::color::{push_painted, push_painted_char};
 use ariadne_picture::cell::{Glyph, Ink, Paint};
 use std::alloc::{AllocError, Global};
