@@ -6,6 +6,7 @@ mod choice;
 pub mod columns;
 pub mod layout;
 pub mod margin;
+mod opening;
 pub mod order;
 pub mod page;
 pub mod palette;

@@ -11,11 +11,11 @@ ghost use Rattle.ariadne_picture.specs.Pieces.{glyph_text, ink_pieces, margin_pi
 ghost use Rattle.ariadne_picture.specs.Pieces.{spaces, stroke};
 ghost use Rattle.ariadne_picture.specs.Rows.{bare, gap, source};
 
+use crate::opening::{Opening, push_painted, push_painted_char};
 use crate::page::Page;
 use crate::runs::push_painted_run;
 use crate::{margin, runs};
 use ariadne_color::color;
-use ariadne_color::color::{push_painted, push_painted_char};
 use ariadne_picture::cell::{Glyph, Ink, Paint};
 use std::alloc::{AllocError, Global};
 use std::marker::Model;
@@ -26,6 +26,7 @@ use std::marker::Model;
 pub struct Pen<'a> {
     text: String,
     cell: String,
+    opening: Opening,
     page: &'a Page,
 }
 
@@ -46,6 +47,7 @@ impl<'a> Pen<'a> {
         Pen {
             text: String::new(alloc),
             cell: String::new(alloc),
+            opening: Opening::new(alloc),
             page,
         }
     }
@@ -64,6 +66,7 @@ impl<'a> Pen<'a> {
         let Pen {
             text,
             cell: _cell,
+            opening: _opening,
             page: _page,
         } = self;
         text
@@ -132,7 +135,7 @@ impl<'a> Pen<'a> {
             (Adds self.old self.new (opened (color_of self.old.page.palette paint))) }
     {
         let page = self.page;
-        color::push_opening(&mut self.text, page.color_of(paint))
+        self.opening.push(&mut self.text, page.color_of(paint))
     }
 
     /// Writes what stands behind a text in the colour of a piece.
@@ -150,7 +153,12 @@ impl<'a> Pen<'a> {
             (Adds self.old self.new (painted (color_of self.old.page.palette paint) text.now)) }
     {
         let page = self.page;
-        push_painted(&mut self.text, page.color_of(paint), text)
+        push_painted(
+            &mut self.text,
+            &mut self.opening,
+            page.color_of(paint),
+            text,
+        )
     }
 
     /// Writes a character in the colour of a piece.
@@ -159,7 +167,7 @@ impl<'a> Pen<'a> {
             (painted (color_of self.old.page.palette paint) (encode_utf8 c))) }
     {
         let page = self.page;
-        push_painted_char(&mut self.text, page.color_of(paint), c)
+        push_painted_char(&mut self.text, &mut self.opening, page.color_of(paint), c)
     }
 
     /// Writes one cell of a stroke.
@@ -185,7 +193,14 @@ impl<'a> Pen<'a> {
         let page = self.page;
         let color = page.color_of(paint);
         let c = glyph.to_char(page.switches().char_set);
-        push_painted_run(&mut self.text, &mut self.cell, color, c, count)
+        push_painted_run(
+            &mut self.text,
+            &mut self.cell,
+            &mut self.opening,
+            color,
+            c,
+            count,
+        )
     }
 
     /// Writes the cells of a place or column of `width` columns.

@@ -4,8 +4,8 @@ ghost use Rattle.std.specs.Prelude.{◌≡◌, ◌++◌, OnOk, encode_utf8, stri
 ghost use Rattle.ariadne_color.specs.Colors.{painted};
 ghost use Rattle.ariadne_picture.specs.Pieces.{repeated, spaces};
 
+use crate::opening::{Opening, push_painted_char};
 use ariadne_color::Color;
-use ariadne_color::color::push_painted_char;
 use std::alloc::AllocError;
 
 /// How many copies of a character each of the texts below holds.
@@ -73,6 +73,7 @@ fn push_one_by_one(out: &mut String, c: char, count: usize) -> Result<(), AllocE
 pub(crate) fn push_painted_run(
     out: &mut String,
     cell: &mut String,
+    opening: &mut Opening,
     color: Option<Color>,
     c: char,
     count: usize,
@@ -84,10 +85,10 @@ pub(crate) fn push_painted_run(
         return push_repeated(out, c, count);
     }
     if count == 1 {
-        return push_painted_char(out, color, c);
+        return push_painted_char(out, opening, color, c);
     }
     cell.clear();
-    push_painted_char(cell, color, c)?;
+    push_painted_char(cell, opening, color, c)?;
     push_texts(out, cell, count)
 }
 
