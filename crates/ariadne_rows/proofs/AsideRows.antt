@@ -1,6 +1,8 @@
 -- The rows of helps and notes.
-use Rattle.std.proofs.Common.{◌≡◌, ℕ, zero, suc, List, [], ◌∷◌, ◌++◌, Option, Some, None, ◌+◌, length, map, decimal, codes, refl, sym, ap, ◌∙◌, subst}
+use Rattle.std.proofs.Common.{◌≡◌, ℕ, zero, suc, Bool, true, false, if◌then◌else◌, List, [], ◌∷◌, ◌++◌, Option, Some, None, ◌+◌, ◌<◌, length, map, take, slice_index_or, decimal, codes, refl, sym, ap, ◌∙◌, subst}
 use Rattle.std.proofs.Common.{append_assoc, length-append, zero-add}
+use Rattle.std.specs.List.{enumerate_from}
+use Rattle.std.specs.Str.Lines.{lines}
 use Rattle.std.proofs.lemmas.List.{map-append}
 use Rattle.ariadne_base.specs.Escapes.{opened, closed}
 use Rattle.ariadne_base.specs.Locations.{upto}
@@ -9,12 +11,15 @@ use Rattle.ariadne_picture.specs.declared.switches.Switches.{Switches}
 use Rattle.ariadne_picture.specs.Canvas.{color_of}
 use Rattle.ariadne_picture.specs.Pieces.{Piece, Section, Texts, aside_line, aside_pieces, aside_prefix, gutter_pieces, margin_paint, margin_pieces}
 use Rattle.ariadne_picture.specs.Pieces.{margin_text, painted_text, plain_text, rest_pieces, row_pieces, spaces}
-use Rattle.ariadne_picture.specs.Rows.{Aside, Row, bare, blank, piece}
-use Rattle.ariadne_picture.proofs.Lists.Joined.{range_more}
+use Rattle.ariadne_picture.specs.Rows.{Aside, Row, aside_rows, bare, blank, piece}
+use Rattle.ariadne_picture.specs.Lists.{joined}
+use Rattle.ariadne_picture.proofs.Lists.Joined.{joined-append, joined-one, range_more}
 use Rattle.ariadne_cells.specs.Pages.{Adds, Draws, DrawsRow, DrawsRows, PageFields, PenFields}
 use Rattle.ariadne_cells.proofs.Bytes.{painted_parts, spaces-append}
-use Rattle.ariadne_cells.proofs.Drawn.{adds_same, adds-append, draws-append, draws_one, draws_plain, draws_row_ended, draws_rows_more, page_kept}
+use Rattle.ariadne_cells.proofs.Drawn.{adds_same, adds-append, draws-append, draws_one, draws_plain, draws_row_ended}
+use Rattle.ariadne_cells.proofs.Drawn.{draws_rows_more, draws_rows_none, draws_rows_one, draws_rows-append, page_kept}
 use Rattle.ariadne_rows.proofs.HeaderBytes.{spaces_two}
+use Rattle.ariadne_rows.proofs.Listing.{enumerated-more}
 use Rattle.ariadne_rows.specs.Headers.{IsOnPage, aside_number, prefix_text}
 
 -- ---- the word in front of a text, and what stands in its place
@@ -103,6 +108,16 @@ module _ (a : PenFields) (t : Texts) (g : Section) (on : IsOnPage t g a.page) wh
       subst (DrawsRow a d) (append_assoc (margin a.page.switches) gutter pieces ∙ sym (ap (λ s. margin s ++ (gutter ++ pieces)) on.sheet))
       (draws_row_ended a c d _ (draws-append a b c (margin a.page.switches ++ gutter) pieces start text) end)
 
+-- without it nothing is drawn
+pub draws_above_none : (a : PenFields) (f : Row → List Piece) (row : Row) (compact : Bool) → compact ≡ true
+    → DrawsRows a a (map f (if compact then [] else row ∷ []))
+draws_above_none a f row compact e = subst (DrawsRows a a) (ap (λ b. map f (if b then [] else row ∷ [])) (sym e)) (draws_rows_none a)
+
+-- with it that row is
+pub draws_above : (a b : PenFields) (f : Row → List Piece) (row : Row) (compact : Bool) → compact ≡ false → DrawsRow a b (f row)
+    → DrawsRows a b (map f (if compact then [] else row ∷ []))
+draws_above a b f row compact e h = subst (DrawsRows a b) (ap (λ c. map f (if c then [] else row ∷ [])) (sym e)) (draws_rows_one a b (f row) h)
+
 -- the rows of one line more
 lines_more : (f : Row → List Piece) (x : Aside) (k n : ℕ)
     → map f (map (piece x k) (upto n)) ++ f (piece x k n) ∷ [] ≡ map f (map (piece x k) (upto (n + 1)))
@@ -121,3 +136,30 @@ draws_line a b c t g x k n kept before here =
     subst (DrawsRows a c) (lines_more f x k n)
     (draws_rows_more a b c (map f (map (piece x k) (upto n))) (f (piece x k n)) before
     (subst (λ (page : PageFields). DrawsRow b c (row_pieces t page.number_width g (piece x k n))) kept here))
+
+-- the rows of a text are the one above it, and those of its lines
+pub draws_aside : (a b c : PenFields) (t : Texts) (g : Section) (x : Aside) (k : ℕ) (text : List ℕ) → b.page ≡ a.page
+    → DrawsRows a b (map (row_pieces t a.page.number_width g) (if a.page.switches.compact then [] else blank x k ∷ []))
+    → DrawsRows b c (map (row_pieces t b.page.number_width g) (map (piece x k) (upto (length (lines text)))))
+    → DrawsRows a c (map (row_pieces t a.page.number_width g) (aside_rows a.page.switches.compact x (k, text)))
+unfolding aside_rows
+draws_aside a b c t g x k text kept above told =
+    let f = row_pieces t a.page.number_width g in
+    let rows = map (piece x k) (upto (length (lines text))) in
+    let first = if a.page.switches.compact then [] else blank x k ∷ [] in
+    subst (DrawsRows a c) (sym (map-append f first rows))
+    (draws_rows-append a b c (map f first) (map f rows) above
+    (subst (λ (page : PageFields). DrawsRows b c (map (row_pieces t page.number_width g) rows)) kept told))
+
+-- ---- all texts
+
+-- the rows of one text more
+asides_more : (f : Row → List Piece) (compact : Bool) (x : Aside) (texts : List (List ℕ)) (k : ℕ) → k < length texts
+    → map f (joined (aside_rows compact x) (take k (enumerate_from 0 texts))) ++ map f (aside_rows compact x (k, slice_index_or texts k []))
+    ≡ map f (joined (aside_rows compact x) (take (k + 1) (enumerate_from 0 texts)))
+asides_more f compact x texts k h =
+    let rows = aside_rows compact x in
+    let so_far = take k (enumerate_from 0 texts) in
+    let here : ℕ × List ℕ = (k, slice_index_or texts k []) in
+    sym (ap (λ es. map f (joined rows es)) (enumerated-more texts k [] h) ∙ ap (map f) (joined-append rows so_far (here ∷ []))
+    ∙ map-append f (joined rows so_far) (joined rows (here ∷ [])) ∙ ap (λ rs. map f (joined rows so_far) ++ map f rs) (joined-one rows here))

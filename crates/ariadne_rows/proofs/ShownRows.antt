@@ -64,20 +64,6 @@ draws_char a b s paint k c other h =
     let one : Piece = record { text = shown_text c; paint = paint; columns = columns } in
     subst (Draws a b) (λ i. cond (sym (ne_eqb c 9 other) i) (replicate columns (blank_of paint)) (one ∷ [])) (draws_one a b one h)
 
--- ---- a turn of a loop over the shown characters
-
--- is at the next place
-pub char-turn : (cs : List ℕ) (n place c : ℕ) → n < length (enumerate_from 0 cs)
-    → ◌≡◌ {A = ℕ × ℕ} (place, c) (get_or (enumerate_from 0 cs) n (place, c))
-    → (n < length cs) × (place ≡ n) × (c ≡ slice_index cs n)
-char-turn cs n place c below item =
-    let size = length-enumerate_from 0 cs in
-    let inside : n < length cs = omega (arith, size) in
-    let both : ◌≡◌ {A = ℕ × ℕ} (place, c) (0 + n, get_or cs n c) = item ∙ get_or-enumerate_from 0 cs n (place, c) inside in
-    let number : place ≡ 0 + n = ap (λ (p : ℕ × ℕ). p.0) both in
-    let char : c ≡ get_or cs n c = ap (λ (p : ℕ × ℕ). p.1) both in
-    (inside, omega (arith, number), get_or_read cs n c inside char 0)
-
 -- ---- colours
 
 -- the same colour gives the same bytes

@@ -110,20 +110,22 @@ fn push_aside(
         OnOk result (DrawsRows pen.old pen.new (map (row_pieces t page.number_width g)
         (aside_rows page.switches.compact a (k, text.now)))) }
 {
-    if !pen.page().switches().compact {
-        push_blank_row(pen, gutter)?;
-    }
+    push_above(pen, gutter)?;
     push_lines(pen, gutter, word, number, text)
 }
 
-/// Writes the row above a text.
-fn push_blank_row(pen: &mut Pen<'_>, gutter: &Gutter<'_>) -> Result<(), AllocError>
+/// Writes the row above a text. A compact picture has none.
+fn push_above(pen: &mut Pen<'_>, gutter: &Gutter<'_>) -> Result<(), AllocError>
     requires page { gutter.now.page ≡ pen.old.page }
     ensures page { OnOk result (pen.new.page ≡ pen.old.page) }
     ensures drawn { let page = pen.old.page in (t : Texts) (g : Section) (a : Aside) (k : ℕ) →
         IsOnPage t g page → IsOfSheet g.sheet gutter.now →
-        OnOk result (DrawsRow pen.old pen.new (row_pieces t page.number_width g (blank a k))) }
+        OnOk result (DrawsRows pen.old pen.new (map (row_pieces t page.number_width g)
+        (if page.switches.compact then [] else blank a k ∷ []))) }
 {
+    if pen.page().switches().compact {
+        return Ok(());
+    }
     push_start(pen, gutter)?;
     pen.end_row()
 }
