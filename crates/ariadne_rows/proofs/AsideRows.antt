@@ -1,17 +1,18 @@
 -- The rows of helps and notes.
-use Rattle.std.proofs.Common.{◌≡◌, ℕ, zero, suc, Bool, true, false, if◌then◌else◌, List, [], ◌∷◌, ◌++◌, Option, Some, None, ◌+◌, ◌<◌, length, map, take, slice_index_or, decimal, codes, refl, sym, ap, ◌∙◌, subst}
+use Rattle.std.proofs.Common.{◌≡◌, ℕ, zero, suc, Bool, true, false, if◌then◌else◌, List, [], ◌∷◌, ◌++◌, Option, Some, None, ◌+◌, ◌<◌, ◌≤◌, ◌==◌}
+use Rattle.std.proofs.Common.{length, map, take, slice_index_or, decimal, codes, refl, sym, ap, ◌∙◌, subst}
 use Rattle.std.proofs.Common.{append_assoc, length-append, zero-add}
 use Rattle.std.specs.List.{enumerate_from}
 use Rattle.std.specs.Str.Lines.{lines}
-use Rattle.std.proofs.lemmas.List.{map-append}
+use Rattle.std.proofs.lemmas.List.{get_or-map, map-append}
 use Rattle.ariadne_base.specs.Escapes.{opened, closed}
 use Rattle.ariadne_base.specs.Locations.{upto}
 use Rattle.ariadne_picture.specs.declared.cell.Paint.TheVariants.{Note}
 use Rattle.ariadne_picture.specs.declared.switches.Switches.{Switches}
 use Rattle.ariadne_picture.specs.Canvas.{color_of}
-use Rattle.ariadne_picture.specs.Pieces.{Piece, Section, Texts, aside_line, aside_pieces, aside_prefix, gutter_pieces, margin_paint, margin_pieces}
-use Rattle.ariadne_picture.specs.Pieces.{margin_text, painted_text, plain_text, rest_pieces, row_pieces, spaces}
-use Rattle.ariadne_picture.specs.Rows.{Aside, Row, aside_rows, bare, blank, piece}
+use Rattle.ariadne_picture.specs.Pieces.{Piece, Section, Texts, aside_line, aside_name, aside_pieces, aside_prefix, aside_texts, gutter_pieces}
+use Rattle.ariadne_picture.specs.Pieces.{margin_paint, margin_pieces, margin_text, painted_text, plain_text, rest_pieces, row_pieces, spaces}
+use Rattle.ariadne_picture.specs.Rows.{Aside, Row, aside_rows, asides, bare, blank, piece}
 use Rattle.ariadne_picture.specs.Lists.{joined}
 use Rattle.ariadne_picture.proofs.Lists.Joined.{joined-append, joined-one, range_more}
 use Rattle.ariadne_cells.specs.Pages.{Adds, Draws, DrawsRow, DrawsRows, PageFields, PenFields}
@@ -19,7 +20,7 @@ use Rattle.ariadne_cells.proofs.Bytes.{painted_parts, spaces-append}
 use Rattle.ariadne_cells.proofs.Drawn.{adds_same, adds-append, draws-append, draws_one, draws_plain, draws_row_ended}
 use Rattle.ariadne_cells.proofs.Drawn.{draws_rows_more, draws_rows_none, draws_rows_one, draws_rows-append, page_kept}
 use Rattle.ariadne_rows.proofs.HeaderBytes.{spaces_two}
-use Rattle.ariadne_rows.proofs.Listing.{enumerated-more}
+use Rattle.ariadne_rows.proofs.Listing.{all-enumerated, enumerated-more}
 use Rattle.ariadne_rows.specs.Headers.{IsOnPage, aside_number, prefix_text}
 
 -- ---- the word in front of a text, and what stands in its place
@@ -30,7 +31,8 @@ pub draws_prefix : (a b c d e : PenFields) (word : List ℕ) (number : Option �
 unfolding prefix_text
 draws_prefix a b c d e word number opening told numbered closing =
     let text = word ++ aside_number number in
-    let before : Adds a d (opened (color_of a.page.palette Note) ++ text) = adds-append a b d _ text opening (adds-append b c d word _ told numbered) in
+    let before : Adds a d (opened (color_of a.page.palette Note) ++ text) =
+    adds-append a b d _ text opening (adds-append b c d word _ told numbered) in
     let behind : Adds d e (closed (color_of a.page.palette Note)) =
     subst (λ (page : PageFields). Adds d e (closed (color_of page.palette Note))) (page_kept a d _ before) closing in
     draws_one a e (painted_text Note text)
@@ -163,3 +165,43 @@ asides_more f compact x texts k h =
     let here : ℕ × List ℕ = (k, slice_index_or texts k []) in
     sym (ap (λ es. map f (joined rows es)) (enumerated-more texts k [] h) ∙ ap (map f) (joined-append rows so_far (here ∷ []))
     ∙ map-append f (joined rows so_far) (joined rows (here ∷ [])) ∙ ap (λ rs. map f (joined rows so_far) ++ map f rs) (joined-one rows here))
+
+-- they are drawn behind those of the texts before it
+pub draws_asides_more : (a b c : PenFields) (t : Texts) (g : Section) (x : Aside) (texts : List (List ℕ)) (k : ℕ) (text : List ℕ) → k < length texts
+    → text ≡ slice_index_or texts k [] → b.page ≡ a.page
+    → DrawsRows a b (map (row_pieces t a.page.number_width g) (joined (aside_rows a.page.switches.compact x) (take k (enumerate_from 0 texts))))
+    → DrawsRows b c (map (row_pieces t b.page.number_width g) (aside_rows b.page.switches.compact x (k, text)))
+    → DrawsRows a c (map (row_pieces t a.page.number_width g) (joined (aside_rows a.page.switches.compact x) (take (k + 1) (enumerate_from 0 texts))))
+draws_asides_more a b c t g x texts k text h told kept before here =
+    let f = row_pieces t a.page.number_width g in
+    let rows = aside_rows a.page.switches.compact x in
+    subst (DrawsRows a c) (asides_more f a.page.switches.compact x texts k h)
+    (draws_rows-append a b c (map f (joined rows (take k (enumerate_from 0 texts)))) (map f (rows (k, slice_index_or texts k []))) before
+    (subst (DrawsRows b c)
+    (λ i. map (row_pieces t ((kept i).number_width) g) (aside_rows ((kept i).switches.compact) x (k, told i))) here))
+
+-- of no texts nothing is drawn
+pub draws_asides_none : (a : PenFields) (f : Row → List Piece) (compact : Bool) (x : Aside) (texts : List (List ℕ))
+    → DrawsRows a a (map f (joined (aside_rows compact x) (take 0 (enumerate_from 0 texts))))
+unfolding joined
+draws_asides_none a f compact x texts = draws_rows_none a
+
+-- all texts
+pub draws_asides_all : (a b : PenFields) (f : Row → List Piece) (compact : Bool) (x : Aside) (texts : List (List ℕ)) (n : ℕ) → length texts ≤ n
+    → DrawsRows a b (map f (joined (aside_rows compact x) (take n (enumerate_from 0 texts)))) → DrawsRows a b (map f (asides compact x texts))
+unfolding asides
+draws_asides_all a b f compact x texts n h =
+    subst (λ es. DrawsRows a b (map f (joined (aside_rows compact x) es))) (all-enumerated texts n h)
+
+-- the word of a text, and its number where there are several
+pub aside_word : (t : Texts) (a : Aside) (k n : ℕ) (word : List ℕ) (number : Option ℕ) → word ≡ aside_name a → n ≡ length (aside_texts t a)
+    → aside_number number ≡ (if n == 1 then [] else codes " " ++ decimal (k + 1)) → prefix_text word number ≡ aside_prefix t a k
+unfolding prefix_text aside_prefix
+aside_word t a k n word number named count numbered =
+    let both = numbered ∙ ap (λ m. if m == 1 then [] else codes " " ++ decimal (k + 1)) count in
+    λ i. named i ++ both i
+
+-- the text of an element
+pub text_at : {X : Type 0} (f : X → List ℕ) (texts : List (List ℕ)) (xs : List X) (k : ℕ) (x : X) (text : List ℕ) → texts ≡ map f xs → k < length xs
+    → x ≡ slice_index_or xs k x → text ≡ f x → text ≡ slice_index_or texts k []
+text_at f texts xs k x text e h here told = told ∙ ap f here ∙ sym (get_or-map f xs k x [] h) ∙ ap (λ ts. slice_index_or ts k []) (sym e)

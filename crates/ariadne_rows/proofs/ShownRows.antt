@@ -2,12 +2,11 @@
 use Rattle.std.proofs.Common.{◌≡◌, ℕ, zero, suc, ◌+◌, ◌<◌, ◌≤◌, ◌==◌, eq-eqb, cond, Bool, true, false, List, [], ◌∷◌, ◌++◌, Option, Some, None, length, replicate, encode_utf8, encode_utf8_all, take, get_or, drop, ltb, slice_get, slice_index}
 use Rattle.std.proofs.Common.{lit<, refl, sym, ap, subst, ◌∙◌, arith, length-append}
 use Rattle.std.specs.Char.{is_whitespace}
-use Rattle.std.specs.List.{AllByRecursion, enumerate_from}
+use Rattle.std.specs.List.{AllByRecursion}
 use Rattle.std.specs.Str.{chars, IsUtf8}
 use Rattle.std.proofs.lemmas.Bool.{ne_eqb, cond_both, lt-ltb, le-ltb}
-use Rattle.std.proofs.lemmas.List.{append-nil, at_drop_all, at_drop_more, get_or_read, take_more, take_all}
+use Rattle.std.proofs.lemmas.List.{append-nil, at_drop_all, at_drop_more, take_more, take_all}
 use Rattle.std.proofs.lemmas.Bool.Decides.{nat_tests}
-use Rattle.std.proofs.lemmas.List.FromFn.{get_or-enumerate_from, length-enumerate_from}
 use Rattle.std.proofs.lemmas.Option.{get_or_from_slice_get, slice_get_within}
 use Rattle.std.proofs.lemmas.Str.{encode_ascii, encodes-append, encodes-chars}
 use Rattle.ariadne_base.specs.declared.color.Color.{Color}

@@ -5,11 +5,13 @@ ghost use Rattle.std.specs.Prelude.{codes, decimal, length, map, slice_index_or,
 ghost use Rattle.std.specs.Str.Lines.{lines};
 ghost use Rattle.ariadne_base.specs.Locations.{upto};
 ghost use Rattle.ariadne_cells.specs.Pages.{Adds, Draws, DrawsRow, DrawsRows};
-ghost use Rattle.ariadne_picture.specs.Pieces.{Section, Texts, aside_line, aside_name, aside_pieces};
-ghost use Rattle.ariadne_picture.specs.Pieces.{aside_prefix, aside_texts, gutter_pieces, margin_pieces};
-ghost use Rattle.ariadne_picture.specs.Pieces.{painted_text, plain_text, row_pieces, spaces};
+ghost use Rattle.ariadne_picture.specs.Pieces.{Section, Texts, aside_line, aside_name};
+ghost use Rattle.ariadne_picture.specs.Pieces.{aside_pieces, aside_prefix, aside_texts};
+ghost use Rattle.ariadne_picture.specs.Pieces.{gutter_pieces, margin_pieces, painted_text};
+ghost use Rattle.ariadne_picture.specs.Pieces.{plain_text, row_pieces, spaces};
 ghost use Rattle.ariadne_picture.specs.Ranks.{Sheet};
-ghost use Rattle.ariadne_picture.specs.Rows.{Aside, aside_rows, asides, bare, blank, help, note, piece};
+ghost use Rattle.ariadne_picture.specs.Rows.{Aside, aside_rows, asides, bare, blank, help};
+ghost use Rattle.ariadne_picture.specs.Rows.{note, piece};
 ghost use Rattle.ariadne_rows.specs.Gutters.{IsOfSheet};
 ghost use Rattle.ariadne_rows.specs.Headers.{IsOnPage, aside_number, prefix_text};
 
@@ -282,10 +284,12 @@ fn push_start(pen: &mut Pen<'_>, gutter: &Gutter<'_>) -> Result<(), AllocError>
     ensures page { OnOk result (pen.new.page ≡ pen.old.page) }
     ensures blank { let page = pen.old.page in (s : Sheet) (a : Aside) (k : ℕ) →
         IsOfSheet s gutter.now → OnOk result (Draws pen.old pen.new
-        (margin_pieces page.switches page.number_width 0 (bare 0) ++ gutter_pieces s (blank a k))) }
+        (margin_pieces page.switches page.number_width 0 (bare 0)
+        ++ gutter_pieces s (blank a k))) }
     ensures piece { let page = pen.old.page in (s : Sheet) (a : Aside) (k p : ℕ) →
         IsOfSheet s gutter.now → OnOk result (Draws pen.old pen.new
-        (margin_pieces page.switches page.number_width 0 (bare 0) ++ gutter_pieces s (piece a k p))) }
+        (margin_pieces page.switches page.number_width 0 (bare 0)
+        ++ gutter_pieces s (piece a k p))) }
 {
     pen.push_margin()?;
     gutter.push_blank(pen)

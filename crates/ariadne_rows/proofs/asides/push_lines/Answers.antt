@@ -1,11 +1,11 @@
-use Rattle.std.proofs.Common.{◌≡◌, ◌+◌, ◌<◌, ◌∙◌, [], ◌∷◌, ◌++◌, length, map, slice_index_or, refl, sym, ap, subst}
+use Rattle.std.proofs.Common.{◌≡◌, ◌+◌, ◌<◌, ◌∙◌, [], ◌∷◌, ◌++◌, length, map, slice_index_or, refl, sym, subst}
 use Rattle.std.specs.Str.Lines.{lines}
 use Rattle.std.proofs.lemmas.List.{length_push}
 use Rattle.std.proofs.lemmas.List.FromFn.{length-enumerate_from}
 use Rattle.std.proofs.lemmas.Iterator.Consumers.{YieldsList-from_enumerate, YieldsList-at, YieldsList-turn, YieldsList-end}
 use Rattle.std.proofs.lemmas.Iterator.Splits.{YieldsList-from_lines}
 use Rattle.ariadne_base.specs.Locations.{upto}
-use Rattle.ariadne_cells.specs.Pages.{DrawsRow, DrawsRows, PageFields}
+use Rattle.ariadne_cells.specs.Pages.{DrawsRow, DrawsRows}
 use Rattle.ariadne_cells.proofs.Drawn.{draws_rows_none}
 use Rattle.ariadne_picture.specs.Pieces.{aside_line, aside_texts, row_pieces}
 use Rattle.ariadne_picture.specs.Rows.{piece}
