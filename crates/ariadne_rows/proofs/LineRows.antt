@@ -1,5 +1,5 @@
 -- The rows of a line, and those in place of hidden lines: a margin, and what follows it.
-use Rattle.std.proofs.Common.{◌≡◌, ℕ, List, [], ◌∷◌, ◌++◌, Option, Some, None, Bool, true, false, if◌then◌else◌, slice_get, refl, sym, ap, ◌∙◌, subst, ◌⊎◌, inl, inr}
+use Rattle.std.proofs.Common.{◌≡◌, ℕ, List, [], ◌∷◌, ◌++◌, Option, Some, Bool, false, if◌then◌else◌, slice_get, sym, ap, ◌∙◌, subst, ◌⊎◌, inl, inr}
 use Rattle.std.proofs.lemmas.List.{append-nil}
 use Rattle.ariadne_picture.specs.declared.label_info.LineLabel.{LineLabel}
 use Rattle.ariadne_picture.specs.declared.label_info.Side.{Side}
@@ -11,8 +11,8 @@ use Rattle.ariadne_picture.specs.Pieces.{Piece, Section, Texts, area_pieces, bla
 use Rattle.ariadne_picture.specs.Pieces.{message_pieces, plain_text, rest_pieces, row_pieces, shown_pieces}
 use Rattle.ariadne_picture.specs.Ranks.{Sheet, is_margin, is_start, line_labels, margin_label, multi_line_labels}
 use Rattle.ariadne_picture.specs.Rows.{alternate, arrow, bare, gap, source}
-use Rattle.ariadne_cells.specs.Pages.{Adds, Draws, DrawsRow, PageFields, PenFields}
-use Rattle.ariadne_cells.proofs.Drawn.{draws-append, draws_blank, draws_none, draws_plain, draws_row_ended, page_kept}
+use Rattle.ariadne_cells.specs.Pages.{Adds, Draws, DrawsRow, PenFields}
+use Rattle.ariadne_cells.proofs.Drawn.{draws-append, draws_blank, draws_plain, draws_row_ended, page_kept}
 use Rattle.ariadne_rows.specs.Headers.{IsOnPage}
 
 -- ---- messages

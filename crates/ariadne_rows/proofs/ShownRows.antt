@@ -2,12 +2,11 @@
 use Rattle.std.proofs.Common.{◌≡◌, ℕ, zero, suc, ◌+◌, ◌<◌, ◌≤◌, ◌==◌, eq-eqb, cond, Bool, true, false, List, [], ◌∷◌, ◌++◌, Option, Some, None, length, replicate, encode_utf8, encode_utf8_all, take, get_or, drop, ltb, slice_get, slice_index}
 use Rattle.std.proofs.Common.{lit<, refl, sym, ap, subst, ◌∙◌, arith, length-append}
 use Rattle.std.specs.Char.{is_whitespace}
-use Rattle.std.specs.List.{AllByRecursion, enumerate_from}
+use Rattle.std.specs.List.{AllByRecursion}
 use Rattle.std.specs.Str.{chars, IsUtf8}
 use Rattle.std.proofs.lemmas.Bool.{ne_eqb, cond_both, lt-ltb, le-ltb}
-use Rattle.std.proofs.lemmas.List.{append-nil, at_drop_all, at_drop_more, get_or_read, take_more, take_all}
+use Rattle.std.proofs.lemmas.List.{append-nil, at_drop_all, at_drop_more, take_more, take_all}
 use Rattle.std.proofs.lemmas.Bool.Decides.{nat_tests}
-use Rattle.std.proofs.lemmas.List.FromFn.{get_or-enumerate_from, length-enumerate_from}
 use Rattle.std.proofs.lemmas.Option.{get_or_from_slice_get, slice_get_within}
 use Rattle.std.proofs.lemmas.Str.{encode_ascii, encodes-append, encodes-chars}
 use Rattle.ariadne_color.specs.declared.color.Color.{Color}
@@ -63,20 +62,6 @@ draws_char a b s paint k c other h =
     let columns = shown_columns s.tab_width k c in
     let one : Piece = record { text = shown_text c; paint = paint; columns = columns } in
     subst (Draws a b) (λ i. cond (sym (ne_eqb c 9 other) i) (replicate columns (blank_of paint)) (one ∷ [])) (draws_one a b one h)
-
--- ---- a turn of a loop over the shown characters
-
--- is at the next place
-pub char-turn : (cs : List ℕ) (n place c : ℕ) → n < length (enumerate_from 0 cs)
-    → ◌≡◌ {A = ℕ × ℕ} (place, c) (get_or (enumerate_from 0 cs) n (place, c))
-    → (n < length cs) × (place ≡ n) × (c ≡ slice_index cs n)
-char-turn cs n place c below item =
-    let size = length-enumerate_from 0 cs in
-    let inside : n < length cs = omega (arith, size) in
-    let both : ◌≡◌ {A = ℕ × ℕ} (place, c) (0 + n, get_or cs n c) = item ∙ get_or-enumerate_from 0 cs n (place, c) inside in
-    let number : place ≡ 0 + n = ap (λ (p : ℕ × ℕ). p.0) both in
-    let char : c ≡ get_or cs n c = ap (λ (p : ℕ × ℕ). p.1) both in
-    (inside, omega (arith, number), get_or_read cs n c inside char 0)
 
 -- ---- colours
 

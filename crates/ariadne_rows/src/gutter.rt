@@ -202,6 +202,7 @@ impl<'a> Gutter<'a> {
     /// Writes the gutter of a row below all lines: blanks alone.
     pub fn push_blank(&self, pen: &mut Pen<'_>) -> Result<(), AllocError>
         requires page { self.now.page ≡ pen.old.page }
+        ensures page { OnOk result (pen.new.page ≡ pen.old.page) }
         ensures blank { (s : Sheet) (a : Aside) (k : ℕ) → IsOfSheet s self.now →
             OnOk result (Draws pen.old pen.new (gutter_pieces s (blank a k))) }
         ensures piece { (s : Sheet) (a : Aside) (k p : ℕ) → IsOfSheet s self.now →

@@ -8,7 +8,8 @@ use Rattle.ariadne_picture.specs.declared.cell.Paint.TheVariants.{Plain}
 use Rattle.ariadne_picture.specs.Columns.{shown}
 use Rattle.ariadne_cells.proofs.Drawn.{draws_places_none}
 use Rattle.ariadne_rows.specs.ShownTexts.{place_in}
-use Rattle.ariadne_rows.proofs.ShownRows.{char-turn, draws_all, draws_place}
+use Rattle.ariadne_rows.proofs.Listing.{numbered-turn}
+use Rattle.ariadne_rows.proofs.ShownRows.{draws_all, draws_place}
 use Rattle.ariadne_rows.proofs.shown.push_plain_shown.Goals as goal
 
 -- a turn is at the next place, and at its character
@@ -22,7 +23,7 @@ turn c =
     let numbered = YieldsList-from_enumerate {s = c.enumerate-index-items.result} source c.enumerate-index-items.ensures.count in
     let whole = YieldsList-at c.into_iter-index-iterator.ensures.into_iter_gives numbered in
     let t = YieldsList-turn whole c.loop-index.yielded _ c.loop-index.yielded_by _ _ _ c.in-Some.is c.next.ensures.steps in
-    let at = char-turn (chars text) (length c.loop-index.yielded) c.in-Some.index c.in-Some.c t.0 t.1 in
+    let at = numbered-turn (chars text) (length c.loop-index.yielded) c.in-Some.index c.in-Some.c 0 t.0 t.1 in
     rw c.shown.ensures at at
 
 -- the end comes behind the last shown place
