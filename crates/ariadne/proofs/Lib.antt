@@ -15,4 +15,3 @@ pub mod LinesRows
 pub mod Locating
 pub mod Messages
 pub mod OverLines
-mod Sending

@@ -18,5 +18,4 @@ pub mod Drawn
 pub mod Judging
 pub mod Kinds
 pub mod Labels
-pub mod Sent
 pub mod Written

@@ -5,8 +5,8 @@ use Rattle.std.specs.Io.KnownBytes.{Appends, Keeps}
 use Rattle.std.specs.declared.alloc.Global.{Global}
 use Rattle.ariadne.specs.declared.write.accept.LeftOut.{LeftOut}
 use Rattle.ariadne.specs.declared.write.accept.Reason.{Reason}
-use Rattle.ariadne.specs.declared.write.send.WriteError.{WriteError}
-use Rattle.ariadne.specs.declared.write.send.WriteError.TheVariants.{Memory, Io}
+use Rattle.ariadne_send.specs.declared.send.WriteError.{WriteError}
+use Rattle.ariadne_send.specs.declared.send.WriteError.TheVariants.{Memory, Io}
 use Rattle.ariadne.specs.Judging.{AreReasons, listed}
 use Rattle.ariadne_picture.specs.declared.label_info.LabelInfo.{LabelInfo}
 use Rattle.ariadne_picture.specs.Report.{ReportFields, World}

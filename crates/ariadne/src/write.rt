@@ -9,15 +9,14 @@ pub(crate) mod accept;
 pub(crate) mod drawing;
 pub(crate) mod groups;
 pub(crate) mod lines;
-pub(crate) mod send;
 
 use crate::report::Report;
 use accept::accept;
 pub use accept::{LeftOut, Reason};
 use ariadne_base::{Cache, Span};
+pub use ariadne_send::send::WriteError;
+use ariadne_send::send::send;
 use drawing::draw;
-pub use send::WriteError;
-use send::send;
 use std::io;
 use std::io::{Stderr, Write};
 

@@ -8,8 +8,8 @@ use Rattle.std.specs.declared.alloc.Global.{Global}
 use Rattle.ariadne.specs.Written.{Written}
 use Rattle.ariadne.specs.declared.write.accept.LeftOut.{LeftOut}
 use Rattle.ariadne.specs.declared.write.accept.Reason.{Reason}
-use Rattle.ariadne.specs.declared.write.send.WriteError.{WriteError}
-use Rattle.ariadne.specs.declared.write.send.WriteError.TheVariants as write
+use Rattle.ariadne_send.specs.declared.send.WriteError.{WriteError}
+use Rattle.ariadne_send.specs.declared.send.WriteError.TheVariants as write
 use Rattle.ariadne_programs.specs.declared.fault.Fault.{Fault}
 use Rattle.ariadne_programs.specs.declared.fault.Fault.TheVariants.{Writer, Memory, Usage, Unread, NotUtf8}
 use Rattle.ariadne_programs.specs.declared.fault.Status.TheVariants.{Drawn}

@@ -1,6 +1,6 @@
 -- Why nothing was drawn, or not all of it, and the status that the program ends with.
-use Rattle.ariadne.specs.declared.write.send.WriteError.{WriteError}
-use Rattle.ariadne.specs.declared.write.send.WriteError.TheVariants as write
+use Rattle.ariadne_send.specs.declared.send.WriteError.{WriteError}
+use Rattle.ariadne_send.specs.declared.send.WriteError.TheVariants as write
 use Rattle.ariadne_programs.specs.declared.fault.Fault.{Fault}
 use Rattle.ariadne_programs.specs.declared.fault.Fault.TheVariants.{Usage, Unread, NotUtf8, Writer}
 use Rattle.ariadne_programs.specs.declared.fault.Fault.TheVariants.{Memory}

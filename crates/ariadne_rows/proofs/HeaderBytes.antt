@@ -1,5 +1,5 @@
 -- The bytes of the header of a picture and of the rows round the lines of a group: text after text.
-use Rattle.std.proofs.Common.{◌≡◌, ℕ, ◌+◌, Bool, true, false, if◌then◌else◌, List, [], ◌∷◌, ◌++◌, Option, codes, unwrap_or, sym, ap, subst, ◌∙◌, arith}
+use Rattle.std.proofs.Common.{◌≡◌, ℕ, ◌+◌, Bool, true, if◌then◌else◌, List, [], ◌∷◌, ◌++◌, codes, unwrap_or, sym, ap, subst, ◌∙◌, arith}
 use Rattle.std.proofs.Common.{append_assoc}
 use Rattle.std.proofs.lemmas.List.{replicate-append-replicate}
 use Rattle.ariadne_color.specs.Colors.{painted}
@@ -10,11 +10,11 @@ use Rattle.ariadne_picture.specs.declared.cell.Glyph.{Glyph}
 use Rattle.ariadne_picture.specs.declared.cell.Glyph.TheVariants.{Hbar, Vbar, Ltop, Rbot, Lbox, Rbox, Lcross}
 use Rattle.ariadne_picture.specs.declared.cell.Paint.TheVariants.{Kind, Margin}
 use Rattle.ariadne_picture.specs.Canvas.{Palette, color_of, header_pieces}
-use Rattle.ariadne_picture.specs.Pieces.{Piece, Section, Texts, painted_text, plain_text, stroke, spaces, repeated, glyph_text}
+use Rattle.ariadne_picture.specs.Pieces.{Section, Texts, painted_text, plain_text, stroke, spaces, repeated, glyph_text}
 use Rattle.ariadne_picture.specs.Pieces.{group_header_pieces, location_text, spacer_pieces, tail_pieces}
 use Rattle.ariadne_picture.specs.Print.{pieces_bytes}
 use Rattle.ariadne_cells.specs.Pages.{Adds, Draws, DrawsRow, PageFields, PenFields, row_bytes}
-use Rattle.ariadne_cells.proofs.Bytes.{pieces_bytes_first, pieces_bytes_one, plain_one, plain_first, painted_parts, row_bytes-is, spaces-append}
+use Rattle.ariadne_cells.proofs.Bytes.{pieces_bytes_first, pieces_bytes_one, plain_first, painted_parts, row_bytes-is}
 use Rattle.ariadne_cells.proofs.Drawn.{adds_same, adds-append, draws-append, draws_one, draws_plain, draws_row_ended, page_kept}
 use Rattle.ariadne_cells.proofs.Copies.{repeated_more}
 

@@ -1,7 +1,7 @@
 //! Sending a picture that is whole.
 
 ghost use Rattle.std.specs.Prelude.{Some, codes, ◌++◌, decimal};
-ghost use Rattle.ariadne.specs.Sent.{Sends, shown_error};
+ghost use Rattle.ariadne_send.specs.Sent.{Sends, shown_error};
 
 use std::alloc::AllocError;
 use std::error::Error;
@@ -38,7 +38,7 @@ impl Error for WriteError {}
 
 impl From<AllocError> for WriteError {
     ghost use Rattle.std.specs.Prelude.{◌≡◌};
-    ghost use Rattle.ariadne.specs.declared.write.send.WriteError.TheVariants.{Memory};
+    ghost use Rattle.ariadne_send.specs.declared.send.WriteError.TheVariants.{Memory};
 
     ghost from_gives = { λ e w. w ≡ Memory e };
 
@@ -48,7 +48,7 @@ impl From<AllocError> for WriteError {
 }
 
 /// Sends all bytes by the writer's `write`, and stops at its first fault. It takes no memory.
-pub(crate) fn send<W: Write>(out: &mut W, bytes: &[u8]) -> Result<(), WriteError>
+pub fn send<W: Write>(out: &mut W, bytes: &[u8]) -> Result<(), WriteError>
     ensures { Sends (W.contents out.old) (W.contents out.new) bytes.now result }
 {
     let mut sent = 0;

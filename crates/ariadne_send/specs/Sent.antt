@@ -2,8 +2,8 @@
 use Rattle.std.specs.Prelude.{ℕ, ◌<◌, ◌++◌, List, length, take, Option, Result, Ok, Err, codes}
 use Rattle.std.specs.Prelude.{decimal}
 use Rattle.std.specs.Io.KnownBytes.{Appends}
-use Rattle.ariadne.specs.declared.write.send.WriteError.{WriteError}
-use Rattle.ariadne.specs.declared.write.send.WriteError.TheVariants.{Memory, Io}
+use Rattle.ariadne_send.specs.declared.send.WriteError.{WriteError}
+use Rattle.ariadne_send.specs.declared.send.WriteError.TheVariants.{Memory, Io}
 
 -- what sending these bytes leaves, by its answer
 abbrev pub Sends : Option (List ℕ) → Option (List ℕ) → List ℕ → Result Unit WriteError → Type 0
