@@ -2,8 +2,8 @@
 //! `NAME N BYTES CHECKSUM NANOSECONDS`.
 //!
 //! BYTES are those of its text, or of its picture, CHECKSUM is that of the last answer, and
-//! NANOSECONDS are those of all N rounds, without what is made before them. A third word `--check`
-//! leaves the time out, so that the line is the same in every run.
+//! NANOSECONDS are those of all N rounds, without what is made before them. `--check NAME...` runs
+//! each workload once and leaves the time out, so that its lines are the same in every run.
 #![tactic(auto)]
 
 mod checksum;
@@ -16,10 +16,10 @@ use ariadne::Source;
 use jobs::Job;
 use order::{Order, Workload};
 use std::alloc::{AllocError, Global};
+use std::io::ErrorKind;
 use std::process::ExitCode;
 use std::rt::Clock;
 use std::time::Instant;
-use std::io::ErrorKind;
 use std::{env, io};
 use texts::LARGE;
 
@@ -60,11 +60,7 @@ fn measure_index(
 }
 
 /// Measures the writing of a report over one source.
-fn measure_job(
-    rt: &(impl AllocGlobal + Clock),
-    job: Job,
-    rounds: u32,
-) -> io::Result<Outcome> {
+fn measure_job(rt: &(impl AllocGlobal + Clock), job: Job, rounds: u32) -> io::Result<Outcome> {
     let report = pictures::report_of(rt.alloc(), &job)?;
     let mut source = Source::from(rt.alloc(), job.text)?;
     let mut out = Vec::new(rt.alloc());
@@ -112,19 +108,43 @@ fn measure(rt: &(impl AllocGlobal + Clock), order: &Order<'_>) -> io::Result<Out
     }
 }
 
-/// Runs what was ordered, and prints its line.
-fn run(rt: &(impl Print + AllocGlobal + Clock), order: &Order<'_>) -> io::Result<()> {
+/// Runs what was ordered, and prints its line, with the time that it took or without.
+fn run(
+    rt: &(impl Print + AllocGlobal + Clock),
+    order: &Order<'_>,
+    has_time: bool,
+) -> io::Result<()> {
     let Outcome {
         bytes,
         checksum,
         nanoseconds,
     } = measure(rt, order)?;
     let (name, rounds) = (order.name, order.rounds);
-    if order.has_time {
+    if has_time {
         println!(rt; "{name} {rounds} {bytes} {checksum:016x} {nanoseconds}")
     } else {
         println!(rt; "{name} {rounds} {bytes} {checksum:016x}")
     }
+}
+
+/// Runs what two words order, and answers whether they name a workload and how often.
+fn run_words(rt: &(impl Print + AllocGlobal + Clock), words: &[String]) -> io::Result<bool> {
+    let Some(order) = Order::from_words(words) else {
+        return Ok(false);
+    };
+    run(rt, &order, true)?;
+    Ok(true)
+}
+
+/// Runs workloads once each, and answers whether each name is that of one.
+fn check(rt: &(impl Print + AllocGlobal + Clock), names: &[String]) -> io::Result<bool> {
+    for name in names {
+        let Some(order) = Order::once(name.as_str()) else {
+            return Ok(false);
+        };
+        run(rt, &order, false)?;
+    }
+    Ok(true)
 }
 
 fn main(rt: HostRuntime) -> io::Result<ExitCode> {
@@ -132,44 +152,15 @@ fn main(rt: HostRuntime) -> io::Result<ExitCode> {
     for word in env::args(&rt)?.skip(1) {
         words.push(word)?;
     }
-    let Some(order) = Order::from_words(&words) else {
-        eprintln!(rt;
-            "usage: ariadne_bench NAME N [--check], with NAME as docs/SPEED.md has them"
-        )?;
-        return Ok(ExitCode::from(USAGE));
+    let is_taken = match words.split_first() {
+        Some((first, names)) if first.as_str() == "--check" => check(&rt, names)?,
+        _ => run_words(&rt, &words)?,
     };
-    run(&rt, &order)?;
-    Ok(ExitCode::SUCCESS)
-}
-
-#[cfg(test)]
-mod tests {
-    use super::order::Workload;
-    use super::{checksum, pictures};
-    use crate::jobs::Job;
-    use ariadne::Source;
-    use std::test::Fail;
-
-    #[test]
-    fn small_workloads_give_the_bytes_of_the_original(rt: HostRuntime) -> Result<(), Fail> {
-        let alloc = rt.alloc();
-        let cases = [
-            (Workload::Two, 223, 0x57ba_2383_89fa_c696),
-            (Workload::TwoColored, 1162, 0xb775_b5ba_44d3_88aa),
-            (Workload::Nested(1), 50_021, 0x4b78_9553_d315_93ee),
-            (Workload::NestedColored, 319_882, 0x5c83_42df_90e9_fb03),
-        ];
-        for (workload, len, sum) in cases {
-            let Some(job) = Job::of(alloc, workload)? else {
-                return Err(Fail::from("no job"));
-            };
-            let report = pictures::report_of(alloc, &job)?;
-            let mut source = Source::from(alloc, job.text)?;
-            let mut out = Vec::new(alloc);
-            pictures::draw(&report, &mut source, 2, &mut out)?;
-            assert_eq!(rt; out.len(), len);
-            assert_eq!(rt; checksum::of_bytes(&out), sum);
-        }
-        Ok(())
+    if is_taken {
+        return Ok(ExitCode::SUCCESS);
     }
+    eprintln!(rt;
+        "usage: ariadne_bench NAME N, or --check NAME..., with NAME as docs/SPEED.md has them"
+    )?;
+    Ok(ExitCode::from(USAGE))
 }

@@ -1,4 +1,4 @@
-//! What the words order: a workload, how often, and whether its time is printed.
+//! What the words order: a workload, and how often.
 
 /// A workload. A number is that of its labels with a message, of its sources, or of the copies of
 /// its lines.
@@ -84,24 +84,27 @@ pub struct Order<'w> {
     pub name: &'w str,
     pub workload: Workload,
     pub rounds: u32,
-    pub has_time: bool,
 }
 
 impl<'w> Order<'w> {
-    /// What the words order, if they do: `NAME N`, or `NAME N --check` for a line without the time.
+    /// What two words order, if they do: `NAME N`.
     pub fn from_words(words: &'w [String]) -> Option<Order<'w>> {
-        let (name, rounds, has_time) = match words {
-            [name, rounds] => (name, rounds, true),
-            [name, rounds, check] if check.as_str() == "--check" => (name, rounds, false),
-            _ => return None,
+        let [name, rounds] = words else {
+            return None;
         };
-        let workload = Workload::from_name(name.as_str())?;
         let rounds = rounds.parse::<u32>().ok().filter(|rounds| *rounds > 0)?;
         Some(Order {
-            name: name.as_str(),
-            workload,
             rounds,
-            has_time,
+            ..Order::once(name.as_str())?
+        })
+    }
+
+    /// A single run of a workload, if there is one of this name.
+    pub fn once(name: &'w str) -> Option<Order<'w>> {
+        Some(Order {
+            name,
+            workload: Workload::from_name(name)?,
+            rounds: 1,
         })
     }
 }

@@ -3,10 +3,9 @@
 use crate::jobs::{Job, Mark};
 use crate::texts::line;
 use ariadne::{
-    Cache, CharSet, Config, IndexType, Label, Report, ReportKind, SourceMap, Span, WriteError,
-    sources,
+    Cache, CharSet, Color, Config, IndexType, Label, Report, ReportKind, SourceMap, Span,
+    WriteError, sources,
 };
-use ariadne::Color;
 use std::alloc::{AllocError, Global};
 use std::io;
 use std::io::ErrorKind;
