@@ -39,7 +39,7 @@ use std::str::Chars;
 ///
 /// Offsets count from the start of the text, and line numbers from the first line, both from 0. A
 /// look-up of an offset searches the lines by halving, and takes no memory.
-#[derive(Drop)]
+#[derive(Debug, Drop)]
 pub struct Source<I: SourceText = String> {
     text: I,
     lines: Vec<Line>,

@@ -15,7 +15,7 @@ use std::hash::Hash;
 use std::marker::Model;
 
 /// Sources that were all given at the start. Of another id every fetch is refused.
-#[derive(Drop)]
+#[derive(Debug, Drop)]
 pub struct SourceMap<Id: SourceName + Hash + Clone, I: SourceText> {
     sources: HashMap<Id, Source<I>>,
     alloc: Global,

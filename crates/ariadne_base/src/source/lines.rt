@@ -10,7 +10,7 @@ use std::marker::Model;
 /// An iterator over the [`Line`]s of a source, from the first to the last.
 ///
 /// Its length is known at each step, and after the last line it answers `None` for good.
-#[derive(Drop)]
+#[derive(Debug, Drop)]
 pub struct SourceLines<'a> {
     pub(super) rest: &'a [Line],
 }
