@@ -57,6 +57,7 @@ pub(crate) fn push_lines<S: Span, I: SourceText>(
     source: &Source<I>,
 ) -> Result<(), AllocError>
     requires page { lists.old.gutter.page ≡ pen.old.page }
+    requires texts { (texts_of report.now).switches ≡ pen.old.page.switches }
     requires line { lists.old.sheet.line ≡ 0 }
     requires labels { 0 < length lists.old.sheet.labels }
     requires over { AreOverLines (listed_lines source.now) lists.old.sheet.labels }
