@@ -2,6 +2,7 @@ pub mod Accepting
 pub mod Building
 pub mod CharOffsets
 pub mod Drawing
+pub mod DrawingGroups
 pub mod DrawingHeaders
 pub mod DrawingOffsets
 pub mod Grouping
