@@ -5,6 +5,7 @@ pub mod Drawing
 pub mod DrawingGroups
 pub mod DrawingHeaders
 pub mod DrawingOffsets
+pub mod DrawingPictures
 pub mod Grouping
 pub mod GroupingSources
 pub mod GroupingWidths

@@ -1,0 +1,111 @@
+-- The groups of a picture as they are drawn one after another, and the bytes of the whole picture.
+use Rattle.std.proofs.Common.{◌≡◌, ℕ, ◌+◌, ◌-◌, ◌<◌, ◌≤◌, ◌==◌, List, [], ◌∷◌, ◌++◌, drop, length, map}
+use Rattle.std.proofs.Common.{refl, sym, ap, ◌∙◌, subst, arith, inl, inr}
+use Rattle.std.specs.List.{enumerate_from, slice_range}
+use Rattle.std.proofs.lemmas.Bool.{cases_eq, eq-eqb, ne_eqb}
+use Rattle.std.proofs.lemmas.List.{drop_all}
+use Rattle.std.proofs.Math.ListN.{length-drop}
+use Rattle.ariadne_cells.specs.Pages.{DrawsRows, PageFields, PenFields}
+use Rattle.ariadne_picture.specs.declared.label_info.LabelInfo.{LabelInfo}
+use Rattle.ariadne_picture.specs.Canvas.{same_source, section_of, texts_of}
+use Rattle.ariadne_picture.specs.Groups.{groups_of}
+use Rattle.ariadne_picture.specs.Lists.{joined}
+use Rattle.ariadne_picture.specs.Pieces.{Piece, section_rows}
+use Rattle.ariadne_picture.specs.Report.{ReportFields, World}
+use Rattle.ariadne_picture.proofs.Labels.Cutting.{groups-exist}
+use Rattle.ariadne.proofs.Drawing.{rows_both, rows_none, rows_page}
+
+-- ---- one group after another
+
+-- lists that join to none are none, where none of them is empty
+joins_none : {X : Type 0} (gs : List (List X)) (xs : List X) → joined (λ g. g) gs ≡ xs → length gs ≡ 0 → length xs ≡ 0
+unfolding joined
+joins_none [] xs e z = ap length (sym e)
+joins_none (g ∷ gs) xs e z = absurd (omega arith)
+
+module _ {S Id : Type 0} (w : World S Id) (r : ReportFields S) (width : ℕ) where
+  -- the rows of some groups of n, the first of which has the number k
+  abbrev pub rows_from : ℕ → ℕ → List (List LabelInfo) → List (List Piece)
+  rows_from n k gs = joined (λ e. section_rows (texts_of r) width (section_of w r n e)) (enumerate_from k gs)
+
+  module _ (infos : List LabelInfo) (old : PenFields) where
+    -- the groups of the labels in front of number `start` are drawn, where those of all labels are to be
+    pub record IsDrawnUpTo (start : ℕ) (new : PenFields) : Type 0 where
+      pub count : ℕ
+      pub counted : count + length (groups_of (same_source w r) (drop start infos)) ≡ length (groups_of (same_source w r) infos)
+      pub first : (start == 0) ≡ (count == 0)
+      pub goes_on : (end : PenFields)
+          → DrawsRows new end (rows_from (length (groups_of (same_source w r) infos)) count (groups_of (same_source w r) (drop start infos)))
+          → DrawsRows old end (rows_from (length (groups_of (same_source w r) infos)) 0 (groups_of (same_source w r) infos))
+
+    -- at first none is
+    pub none_drawn : IsDrawnUpTo 0 old
+    none_drawn = record { count = 0; counted = omega arith; first = refl; goes_on = λ end d. d }
+
+    -- at last all are
+    pub all_drawn : (start : ℕ) (new : PenFields) → length infos ≤ start → IsDrawnUpTo start new
+        → DrawsRows old new (rows_from (length (groups_of (same_source w r) infos)) 0 (groups_of (same_source w r) infos))
+    unfolding groups_of joined
+    all_drawn start new past so_far =
+        let n = length (groups_of (same_source w r) infos) in
+        let none : groups_of (same_source w r) (drop start infos) ≡ [] = ap (groups_of (same_source w r)) (drop_all start infos past) in
+        so_far.goes_on new (subst (λ gs. DrawsRows new new (rows_from n so_far.count gs)) (sym none) (rows_none new))
+
+    module _ (start end : ℕ) (new : PenFields) (after : start < end) (within : end ≤ length infos)
+        (cut : groups_of (same_source w r) (drop start infos) ≡ slice_range infos start end ∷ groups_of (same_source w r) (drop end infos))
+        (so_far : IsDrawnUpTo start new) where
+      -- one group more is counted
+      counted_more : so_far.count + 1 + length (groups_of (same_source w r) (drop end infos)) ≡ length (groups_of (same_source w r) infos)
+      counted_more = let counted = so_far.counted in let more = ap length cut in omega arith
+
+      -- it is the last where no label is left
+      ends_all : (end == length infos) ≡ (so_far.count + 1 == length (groups_of (same_source w r) infos))
+      unfolding groups_of
+      ends_all =
+          let n = length (groups_of (same_source w r) infos) in
+          let rest = groups_of (same_source w r) (drop end infos) in
+          let counted : so_far.count + 1 + length rest ≡ n = counted_more in
+          elim (cases_eq end (length infos)) [
+            | inl same ↦
+                let none : length rest ≡ 0 = ap (λ xs. length (groups_of (same_source w r) xs)) (drop_all end infos (omega arith)) in
+                let all : so_far.count + 1 ≡ n = omega arith in
+                eq-eqb end (length infos) same ∙ sym (eq-eqb (so_far.count + 1) n all)
+            | inr other ↦
+                let some : so_far.count + 1 ≡ n → ⊥ =
+                λ all.
+                    let none : length rest ≡ 0 = omega arith in
+                    let left = joins_none rest (drop end infos) (groups-exist (same_source w r) (drop end infos)).joins none in
+                    let size = length-drop end infos in
+                    let same : end ≡ length infos = omega arith in
+                    other same in
+                ne_eqb end (length infos) other ∙ sym (ne_eqb (so_far.count + 1) n some)
+          ]
+
+      module _ (next : PenFields) (labels : List LabelInfo) (same : labels ≡ slice_range infos start end)
+          (drawn : (n k : ℕ) → (start == 0) ≡ (k == 0) → (end == length infos) ≡ (k + 1 == n)
+          → DrawsRows new next (section_rows (texts_of r) new.page.number_width (section_of w r n (k, labels)))) where
+        -- its rows leave the page
+        pub one_page : next.page ≡ new.page
+        one_page = rows_page new next _ (drawn (length (groups_of (same_source w r) infos)) so_far.count so_far.first ends_all)
+
+        -- its rows behind those so far
+        pub one_drawn : new.page.number_width ≡ width → IsDrawnUpTo end next
+        unfolding joined
+        one_drawn wide =
+            let n = length (groups_of (same_source w r) infos) in
+            let group = slice_range infos start end in
+            let rest = groups_of (same_source w r) (drop end infos) in
+            let k = so_far.count in
+            let rows = section_rows (texts_of r) width (section_of w r n (k, group)) in
+            let above : DrawsRows new next rows =
+            subst (λ x. DrawsRows new next (section_rows (texts_of r) x (section_of w r n (k, group)))) wide
+            (subst (λ ls. DrawsRows new next (section_rows (texts_of r) new.page.number_width (section_of w r n (k, ls)))) same
+            (drawn n k so_far.first ends_all)) in
+            record {
+              count = k + 1;
+              counted = counted_more;
+              first = ne_eqb end 0 (λ z. omega arith) ∙ sym (ne_eqb (k + 1) 0 (λ z. omega arith));
+              goes_on = λ last below.
+                  so_far.goes_on last (subst (λ gs. DrawsRows new last (rows_from n k gs)) (sym cut)
+                  (rows_both new next last rows (rows_from n (k + 1) rest) above below));
+            }
