@@ -1,19 +1,27 @@
 -- The groups of a picture as they are drawn one after another, and the bytes of the whole picture.
-use Rattle.std.proofs.Common.{◌≡◌, ℕ, ◌+◌, ◌-◌, ◌<◌, ◌≤◌, ◌==◌, List, [], ◌∷◌, ◌++◌, drop, length, map}
+use Rattle.std.proofs.Common.{◌≡◌, ℕ, ◌+◌, ◌-◌, ◌<◌, ◌≤◌, ◌==◌, List, [], ◌∷◌, ◌++◌, Option, drop, length, map, take}
 use Rattle.std.proofs.Common.{refl, sym, ap, ◌∙◌, subst, arith, inl, inr}
+use Rattle.std.specs.Prelude.{codes, int_lt}
 use Rattle.std.specs.List.{enumerate_from, slice_range}
 use Rattle.std.proofs.lemmas.Bool.{cases_eq, eq-eqb, ne_eqb}
 use Rattle.std.proofs.lemmas.List.{drop_all}
 use Rattle.std.proofs.Math.ListN.{length-drop}
-use Rattle.ariadne_cells.specs.Pages.{DrawsRows, PageFields, PenFields}
+use Rattle.ariadne_cells.specs.Pages.{DrawsRow, DrawsRows, PageFields, PenFields, row_bytes, rows_bytes}
 use Rattle.ariadne_picture.specs.declared.label_info.LabelInfo.{LabelInfo}
+use Rattle.ariadne_picture.specs.Canvas.{Palette, canvas, cell_of, code_text, groups, header_pieces, kind_name, number_width, outline, palette_of}
 use Rattle.ariadne_picture.specs.Canvas.{same_source, section_of, texts_of}
-use Rattle.ariadne_picture.specs.Groups.{groups_of}
-use Rattle.ariadne_picture.specs.Lists.{joined}
+use Rattle.ariadne_picture.specs.Groups.{groups_of, ordered}
+use Rattle.ariadne_picture.specs.Lists.{in_order, joined}
 use Rattle.ariadne_picture.specs.Pieces.{Piece, section_rows}
+use Rattle.ariadne_picture.specs.Print.{pieces_bytes, printed}
+use Rattle.ariadne_picture.specs.Print.{row_bytes as printed_row}
 use Rattle.ariadne_picture.specs.Report.{ReportFields, World}
+use Rattle.ariadne_picture.proofs.Lists.Joined.{joined-map}
 use Rattle.ariadne_picture.proofs.Labels.Cutting.{groups-exist}
-use Rattle.ariadne.proofs.Drawing.{rows_both, rows_none, rows_page}
+use Rattle.ariadne_picture.proofs.Lists.ListFacts.{all-in_order}
+use Rattle.ariadne_rows.proofs.Listing.{put-back}
+use Rattle.ariadne.specs.Drawn.{AreDrawn, IsDrawn}
+use Rattle.ariadne.proofs.Drawing.{rows_both, rows_none, rows_one, rows_page}
 
 -- ---- one group after another
 
@@ -109,3 +117,67 @@ module _ {S Id : Type 0} (w : World S Id) (r : ReportFields S) (width : ℕ) whe
                   so_far.goes_on last (subst (λ gs. DrawsRows new last (rows_from n k gs)) (sym cut)
                   (rows_both new next last rows (rows_from n (k + 1) rest) above below));
             }
+
+-- ---- the labels in order
+
+-- a list of labels that was put in order in place
+pub sorted_is : (old lent new shown : List LabelInfo) (n : ℕ) → n ≡ length old → lent ≡ old → new ≡ in_order (λ a b. int_lt a.order b.order) lent
+    → shown ≡ take n (new ++ drop (length new) old) → shown ≡ ordered old
+unfolding ordered
+sorted_is old lent new shown n long same put e = e ∙ put-back (λ a b. int_lt a.order b.order) old lent new n long same put
+
+-- labels that are drawn are so in any order
+pub sorted_drawn : {S Id : Type 0} (w : World S Id) (r : ReportFields S) (infos sorted : List LabelInfo) → sorted ≡ ordered infos → AreDrawn w r infos
+    → AreDrawn w r sorted
+unfolding ordered
+sorted_drawn w r infos sorted e drawn =
+    subst (AreDrawn w r) (sym e) (all-in_order (IsDrawn w r) (λ (a b : LabelInfo). int_lt a.order b.order) infos drawn)
+
+-- ---- the header
+
+-- the code and the word of a report's kind
+pub kind_text_is : {S : Type 0} (r : ReportFields S) (code : Option (List ℕ)) (name : List ℕ) → code ≡ r.code → name ≡ kind_name r.kind
+    → (texts_of r).kind_text ≡ code_text code ++ name ++ codes ":"
+unfolding texts_of
+kind_text_is r code name e f = λ i. code_text (sym e i) ++ sym f i ++ codes ":"
+
+-- its message
+pub message_is : {S : Type 0} (r : ReportFields S) → (texts_of r).message ≡ r.message
+unfolding texts_of
+message_is r = refl
+
+-- ---- the whole picture
+
+-- the bytes of some rows are those that are printed of their cells
+bytes_are : (p : Palette) (rows : List (List Piece)) → rows_bytes p rows ≡ printed (map (map (cell_of p)) rows)
+unfolding rows_bytes row_bytes printed_row printed pieces_bytes
+bytes_are p rows = sym (joined-map printed_row (map (cell_of p)) rows)
+
+-- in a report over labels, which stand in order in the list `sorted`
+module _ {S Id : Type 0} (w : World S Id) (r : ReportFields S) (infos sorted : List LabelInfo) (same : sorted ≡ ordered infos) where
+  -- the rows of its outline
+  outline_is : (width : ℕ) → width ≡ number_width w r (groups_of (same_source w r) sorted)
+      → outline w r infos
+      ≡ header_pieces (texts_of r) ∷ rows_from w r width (length (groups_of (same_source w r) sorted)) 0 (groups_of (same_source w r) sorted)
+  unfolding outline groups
+  outline_is width e =
+      (λ i. header_pieces (texts_of r)
+      ∷ rows_from w r (number_width w r (groups_of (same_source w r) (sym same i))) (length (groups_of (same_source w r) (sym same i))) 0
+      (groups_of (same_source w r) (sym same i)))
+      ∙ ap (λ n. header_pieces (texts_of r)
+      ∷ rows_from w r n (length (groups_of (same_source w r) sorted)) 0 (groups_of (same_source w r) sorted)) (sym e)
+
+  -- a pen at the start of a page writes the header, and then the groups: it has written the picture
+  pub whole_picture : (page : PageFields) (start behind end : PenFields) → start ≡ record { page = page; bytes = [] }
+      → page.palette ≡ palette_of r → page.number_width ≡ number_width w r (groups_of (same_source w r) sorted)
+      → DrawsRow start behind (header_pieces (texts_of r))
+      → DrawsRows behind end (rows_from w r page.number_width (length (groups_of (same_source w r) sorted)) 0 (groups_of (same_source w r) sorted))
+      → end.bytes ≡ printed (canvas w r infos)
+  unfolding canvas
+  whole_picture page start behind end fresh palette width header below =
+      let rest = rows_from w r page.number_width (length (groups_of (same_source w r) sorted)) 0 (groups_of (same_source w r) sorted) in
+      let first = header_pieces (texts_of r) in
+      let all : DrawsRows start end (first ∷ rest) = rows_both start behind end (first ∷ []) rest (rows_one start behind first header) below in
+      ap (λ (q : PenFields). q.bytes) all ∙ ap (λ (q : PenFields). q.bytes ++ rows_bytes q.page.palette (first ∷ rest)) fresh
+      ∙ ap (λ p. rows_bytes p (first ∷ rest)) palette ∙ bytes_are (palette_of r) (first ∷ rest)
+      ∙ ap (λ rows. printed (map (map (cell_of (palette_of r))) rows)) (sym (outline_is page.number_width width))
