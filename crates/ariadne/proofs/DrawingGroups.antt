@@ -3,7 +3,6 @@ use Rattle.std.proofs.Common.{◌≡◌, ℕ, ◌+◌, ◌<◌, ◌≤◌, min, 
 use Rattle.std.proofs.Common.{refl, sym, ap, ◌∙◌, subst, arith, inl, inr, append_assoc, Bor}
 use Rattle.std.specs.Prelude.{chars, codes, if◌then◌else◌, nat_lt, option_and_then, slice_get, unwrap_or}
 use Rattle.std.specs.Option.{option_copied}
-use Rattle.std.specs.List.{AllByRecursion}
 use Rattle.std.proofs.lemmas.Bool.{cases_Bool, or_parts, ltb-false}
 use Rattle.std.proofs.lemmas.List.{map-append}
 use Rattle.std.proofs.lemmas.Option.{slice_get-get_or}
@@ -11,9 +10,7 @@ use Rattle.ariadne_base.specs.Lines.{lines_of}
 use Rattle.ariadne_base.specs.Listing.{Listing, listed_lines}
 use Rattle.ariadne_cells.specs.Pages.{DrawsRows, PageFields, PenFields}
 use Rattle.ariadne_picture.specs.declared.label_info.LabelInfo.{LabelInfo}
-use Rattle.ariadne_picture.specs.declared.switches.Switches.{Switches}
-use Rattle.ariadne_picture.specs.declared.verdict.Verdict.{Verdict}
-use Rattle.ariadne_picture.specs.declared.verdict.Verdict.TheVariants.{Accepted, PastSource, CutsCharacter}
+use Rattle.ariadne_picture.specs.declared.verdict.Verdict.TheVariants.{Accepted}
 use Rattle.ariadne_picture.specs.Accept.{info_of, offset_in_chars, text_len, verdict, within}
 use Rattle.ariadne_picture.specs.Canvas.{group_id, group_name, group_source, header_offset, section_of, sheet_of, texts_of}
 use Rattle.ariadne_picture.specs.Groups.{group_lines}

@@ -1,10 +1,10 @@
 -- The location that a group header names, as it is looked up.
-use Rattle.std.proofs.Common.{◌≡◌, ℕ, suc, ◌+◌, ◌<◌, ◌≤◌, Bool, true, false, List, [], ◌∷◌, ◌++◌, length, Option, Some, None, refl, sym, ap, ◌∙◌, arith, subst}
+use Rattle.std.proofs.Common.{◌≡◌, ℕ, ◌+◌, ◌<◌, ◌≤◌, Bool, true, false, List, ◌++◌, length, Option, Some, None, refl, sym, ap, ◌∙◌, arith}
 use Rattle.std.specs.Prelude.{chars, nat_le, if◌then◌else◌, slice_get, option_map, codes, decimal}
-use Rattle.std.proofs.Common.{inl, inr, take, zero}
-use Rattle.std.proofs.lemmas.Bool.{cases_Bool, cases_lt, cond_both, cond-true, cond-false, leb-true}
+use Rattle.std.proofs.Common.{inl, inr}
+use Rattle.std.proofs.lemmas.Bool.{cases_Bool, cond_both, leb-true}
 use Rattle.ariadne_picture.proofs.Labels.DrawnLabels.{offset-order}
-use Rattle.ariadne_base.specs.Listing.{Listing, listed_lines}
+use Rattle.ariadne_base.specs.Listing.{Listing}
 use Rattle.ariadne_base.specs.Locations.{line_at, column_at}
 use Rattle.ariadne_picture.specs.declared.label_info.LabelInfo.{LabelInfo}
 use Rattle.ariadne_base.specs.Table.{LineExtent, location_of}

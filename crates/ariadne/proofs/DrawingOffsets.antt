@@ -1,22 +1,15 @@
 -- An offset of a text is at most as great as the text.
-use Rattle.std.proofs.Common.{◌≡◌, ℕ, suc, ◌+◌, ◌≤◌, Bool, true, false, List, [], ◌∷◌, ◌++◌, Option, Some, None, map, length, take, drop, find, refl}
-use Rattle.std.proofs.Common.{sym, ap, ◌∙◌, subst, arith, ◌==◌, inl, inr, slice_get, unwrap_or, option_and_then, option_map, chars}
-use Rattle.std.specs.List.{enumerate_from}
+use Rattle.std.proofs.Common.{◌≡◌, ℕ, suc, ◌≤◌, Bool, true, List, [], ◌∷◌, ◌++◌, Some, length, take, drop, find}
+use Rattle.std.proofs.Common.{sym, ap, ◌∙◌, subst, arith, ◌==◌, inl, inr}
 use Rattle.std.proofs.Math.Utf8.{encodes}
-use Rattle.std.proofs.lemmas.Bool.{cases_Bool, eqb-true, le-leb, false≢true}
+use Rattle.std.proofs.lemmas.Bool.{cases_Bool, eqb-true}
 use Rattle.std.proofs.lemmas.List.{length-append, take-append-drop}
 use Rattle.std.proofs.lemmas.Str.{encodes-append}
-use Rattle.ariadne_base.specs.Listing.{Listing}
 use Rattle.ariadne_base.specs.Locations.{byte_len, char_offset, upto}
 use Rattle.ariadne_picture.specs.declared.switches.IndexType.{IndexType}
 use Rattle.ariadne_picture.specs.declared.switches.IndexType.TheVariants.{Byte, Char}
-use Rattle.ariadne_picture.specs.declared.label_info.LabelInfo.{LabelInfo}
-use Rattle.ariadne_picture.specs.Report.{LabelFields, ReportFields, World, HaveOneSource}
 use Rattle.ariadne_picture.specs.Accept.{text_len, offset_in_chars}
-use Rattle.ariadne_picture.specs.Canvas.{kind_color, cell_of, canvas, is_same_id, group_id, group_source, header_offset, groups}
-use Rattle.ariadne_picture.specs.Variants.{CharSpan, char_world, own_start, char_label, char_report, OwnStartIsBoundary}
-use Rattle.ariadne_picture.proofs.Lists.ListFacts.{all-weaker, none≢some}
-use Rattle.ariadne_picture.proofs.Variants.Outlines.{header_start, ReadTheSame, same-own, same-group_source, same-outline}
+use Rattle.ariadne_picture.proofs.Lists.ListFacts.{none≢some}
 
 -- what is found passes the test
 found-passes : {X : Type 0} (test : X → Bool) (xs : List X) (x : X) → find test xs ≡ Some x → test x ≡ true

@@ -1,5 +1,5 @@
 -- The groups of a picture as they are drawn one after another, and the bytes of the whole picture.
-use Rattle.std.proofs.Common.{◌≡◌, ℕ, ◌+◌, ◌-◌, ◌<◌, ◌≤◌, ◌==◌, List, [], ◌∷◌, ◌++◌, Option, drop, length, map, take}
+use Rattle.std.proofs.Common.{◌≡◌, ℕ, ◌+◌, ◌<◌, ◌≤◌, ◌==◌, List, [], ◌∷◌, ◌++◌, Option, drop, length, map, take}
 use Rattle.std.proofs.Common.{refl, sym, ap, ◌∙◌, subst, arith, inl, inr}
 use Rattle.std.specs.Prelude.{codes, int_lt}
 use Rattle.std.specs.List.{enumerate_from, slice_range}
@@ -81,11 +81,11 @@ module _ {S Id : Type 0} (w : World S Id) (r : ReportFields S) (width : ℕ) whe
             | inr other ↦
                 let some : so_far.count + 1 ≡ n → ⊥ =
                 λ all.
-                    let none : length rest ≡ 0 = omega arith in
-                    let left = joins_none rest (drop end infos) (groups-exist (same_source w r) (drop end infos)).joins none in
-                    let size = length-drop end infos in
-                    let same : end ≡ length infos = omega arith in
-                    other same in
+                let none : length rest ≡ 0 = omega arith in
+                let left = joins_none rest (drop end infos) (groups-exist (same_source w r) (drop end infos)).joins none in
+                let size = length-drop end infos in
+                let same : end ≡ length infos = omega arith in
+                other same in
                 ne_eqb end (length infos) other ∙ sym (ne_eqb (so_far.count + 1) n some)
           ]
 

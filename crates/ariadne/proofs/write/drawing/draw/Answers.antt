@@ -1,5 +1,5 @@
 -- The labels in order are those that are drawn; the header and the groups below it are the picture.
-use Rattle.std.proofs.Common.{◌≡◌, ◌∙◌, ap, sym, subst}
+use Rattle.std.proofs.Common.{◌≡◌, ◌∙◌, ap, sym}
 use Rattle.std.specs.Option.{option_copied}
 use Rattle.ariadne_cells.specs.Pages.{PageFields, PenFields}
 use Rattle.ariadne_picture.specs.Canvas.{kind_name, number_width, same_source, texts_of}

@@ -1,15 +1,11 @@
 -- The helps and the notes of the last group, and the tail.
-use Rattle.std.proofs.Common.{◌≡◌, ◌++◌, List, [], map, sym, ◌∙◌, ap}
+use Rattle.std.proofs.Common.{◌++◌, [], map, sym, ◌∙◌}
 use Rattle.std.specs.Prelude.{if◌then◌else◌}
 use Rattle.std.proofs.lemmas.Result.{on_ok_weaker}
-use Rattle.ariadne_cells.specs.Pages.{DrawsRows, PageFields}
+use Rattle.ariadne_cells.specs.Pages.{DrawsRows}
 use Rattle.ariadne_picture.specs.Canvas.{texts_of}
-use Rattle.ariadne_picture.specs.declared.switches.Switches.{Switches}
-use Rattle.ariadne_picture.specs.Pieces.{Section, row_pieces}
-use Rattle.ariadne_picture.specs.Report.{ReportFields}
+use Rattle.ariadne_picture.specs.Pieces.{row_pieces}
 use Rattle.ariadne_picture.specs.Rows.{asides, help, note}
-use Rattle.ariadne_rows.specs.Gutters.{IsOfSheet}
-use Rattle.ariadne_rows.specs.Headers.{IsOnPage}
 use Rattle.ariadne.proofs.Drawing.{both_asides, foot_long, foot_short, helps_is, no_asides, notes_is, on_page, rows_page}
 use Rattle.ariadne.proofs.write.drawing.push_foot.Goals as goal
 use Rattle.ariadne.proofs.write.drawing.push_foot.Goals.{then-is_last+in_ok-push_helps+in_ok-push_notes, else-is_last}

@@ -1,5 +1,5 @@
 -- The source, the name and the gutter are those of the group; above, between and below stand its rows.
-use Rattle.std.proofs.Common.{◌≡◌, ◌∙◌, ◌==◌, ap, map, refl, sym, subst}
+use Rattle.std.proofs.Common.{◌≡◌, ◌∙◌, ap, refl, sym, subst}
 use Rattle.std.specs.Prelude.{OnOk}
 use Rattle.std.specs.Option.{option_copied}
 use Rattle.std.proofs.lemmas.Result.{on_ok_weaker}
