@@ -86,7 +86,8 @@ module _ (t : Texts) (g : Section) where
   unfolding row_pieces
   head_short old new p sw d ep es h =
       let q : p ≡ old.page = ep ∙ ap (λ (x : PenFields). x.page) d in
-      let k : old.page.switches.compact ≡ true = ap (λ (x : PageFields). x.switches.compact) (sym q) ∙ ap (λ (s : Switches). s.compact) (sym es) ∙ h in
+      let k : old.page.switches.compact ≡ true =
+      ap (λ (x : PageFields). x.switches.compact) (sym q) ∙ ap (λ (s : Switches). s.compact) (sym es) ∙ h in
       subst (λ b. DrawsRows old new (map (row_pieces t old.page.number_width g) (group_header ∷ (if b then [] else spacer ∷ [])))) (sym k)
       (rows_one old new (group_header_pieces g old.page.number_width) d)
 
@@ -99,22 +100,26 @@ module _ (t : Texts) (g : Section) where
   head_long old mid new p sw d ep es h gs e =
       let m : mid.page ≡ old.page = ap (λ (x : PenFields). x.page) d in
       let q : p ≡ old.page = ep ∙ m in
-      let k : old.page.switches.compact ≡ false = ap (λ (x : PageFields). x.switches.compact) (sym q) ∙ ap (λ (s : Switches). s.compact) (sym es) ∙ h in
+      let k : old.page.switches.compact ≡ false =
+      ap (λ (x : PageFields). x.switches.compact) (sym q) ∙ ap (λ (s : Switches). s.compact) (sym es) ∙ h in
       let same : spacer_pieces mid.page.switches.char_set mid.page.number_width ≡ spacer_pieces g.sheet.switches.char_set old.page.number_width =
       ap (λ (x : PageFields). spacer_pieces x.switches.char_set x.number_width) m
       ∙ ap (λ (s : Switches). spacer_pieces s.char_set old.page.number_width) (sym gs) in
       let below : DrawsRow mid new (spacer_pieces g.sheet.switches.char_set old.page.number_width) = subst (DrawsRow mid new) same e in
       subst (λ b. DrawsRows old new (map (row_pieces t old.page.number_width g) (group_header ∷ (if b then [] else spacer ∷ [])))) (sym k)
       (rows_both old mid new (group_header_pieces g old.page.number_width ∷ []) (spacer_pieces g.sheet.switches.char_set old.page.number_width ∷ [])
-      (rows_one old mid (group_header_pieces g old.page.number_width) d) (rows_one mid new (spacer_pieces g.sheet.switches.char_set old.page.number_width) below))
+      (rows_one old mid (group_header_pieces g old.page.number_width) d)
+      (rows_one mid new (spacer_pieces g.sheet.switches.char_set old.page.number_width) below))
 
   -- the tail behind some rows, in a compact picture
-  pub foot_short : (old new : PenFields) (rows : List Row) (p : PageFields) (sw : Switches) → DrawsRows old new (map (row_pieces t old.page.number_width g) rows)
+  pub foot_short : (old new : PenFields) (rows : List Row) (p : PageFields) (sw : Switches)
+      → DrawsRows old new (map (row_pieces t old.page.number_width g) rows)
       → p ≡ new.page → sw ≡ p.switches → sw.compact ≡ true
       → DrawsRows old new (map (row_pieces t old.page.number_width g) (rows ++ (if old.page.switches.compact then [] else tail ∷ [])))
   foot_short old new rows p sw d ep es h =
       let q : p ≡ old.page = ep ∙ ap (λ (x : PenFields). x.page) d in
-      let k : old.page.switches.compact ≡ true = ap (λ (x : PageFields). x.switches.compact) (sym q) ∙ ap (λ (s : Switches). s.compact) (sym es) ∙ h in
+      let k : old.page.switches.compact ≡ true =
+      ap (λ (x : PageFields). x.switches.compact) (sym q) ∙ ap (λ (s : Switches). s.compact) (sym es) ∙ h in
       let f = row_pieces t old.page.number_width g in
       subst (λ b. DrawsRows old new (map f (rows ++ (if b then [] else tail ∷ [])))) (sym k)
       (subst (λ (rs : List Row). DrawsRows old new (map f rs)) (sym (append-nil rows)) d)
@@ -128,8 +133,10 @@ module _ (t : Texts) (g : Section) where
   foot_long old mid new rows p sw last d ep es h gs el e =
       let m : mid.page ≡ old.page = ap (λ (x : PenFields). x.page) d in
       let q : p ≡ old.page = ep ∙ m in
-      let k : old.page.switches.compact ≡ false = ap (λ (x : PageFields). x.switches.compact) (sym q) ∙ ap (λ (s : Switches). s.compact) (sym es) ∙ h in
-      let same : tail_pieces mid.page.switches.char_set mid.page.number_width last ≡ tail_pieces g.sheet.switches.char_set old.page.number_width g.is_last =
+      let k : old.page.switches.compact ≡ false =
+      ap (λ (x : PageFields). x.switches.compact) (sym q) ∙ ap (λ (s : Switches). s.compact) (sym es) ∙ h in
+      let same : tail_pieces mid.page.switches.char_set mid.page.number_width last
+      ≡ tail_pieces g.sheet.switches.char_set old.page.number_width g.is_last =
       ap (λ (x : PageFields). tail_pieces x.switches.char_set x.number_width last) m
       ∙ (λ i. tail_pieces (sym gs i).char_set old.page.number_width (sym el i)) in
       let below : DrawsRow mid new (tail_pieces g.sheet.switches.char_set old.page.number_width g.is_last) = subst (DrawsRow mid new) same e in

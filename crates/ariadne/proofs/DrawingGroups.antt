@@ -57,6 +57,11 @@ module _ {S : Type 0} (config : ConfigFields) (source : Listing) (k : ℕ) (labe
             (offset_in_chars config.index_type (chars source.text) (min end size)) refl (rw inside at e)
       ]
 
+-- the texts of a report have its switches
+pub texts_switches : {S : Type 0} (r : ReportFields S) → (texts_of r).switches ≡ switches_of r.config
+unfolding texts_of
+texts_switches r = refl
+
 -- a text, or another in place of none
 pub copied_or : (o : Option (Bor (List ℕ))) (b : Bor (List ℕ)) → (unwrap_or o b).now ≡ unwrap_or (option_copied o) b.now
 copied_or None b = refl
@@ -108,79 +113,66 @@ module _ {S Id : Type 0} (w : World S Id) (r : ReportFields S) where
 
   -- ---- a group within the picture
 
-  module _ (labels : List LabelInfo) (first last : Bool) where
-    -- the group of these labels, the first, the last, both or neither
-    pub section_at : Section
-    section_at = record (section_of w r 0 (0, labels)) { is_first = first; is_last = last }
+  module _ (n k : ℕ) (labels : List LabelInfo) where
+    -- it is the first where it has number 0
+    pub section_first : (section_of w r n (k, labels)).is_first ≡ (k == 0)
+    unfolding section_of
+    section_first = refl
 
-    -- the group with number k of n is that
-    pub section_is : (n k : ℕ) → first ≡ (k == 0) → last ≡ (k + 1 == n) → section_at ≡ section_of w r n (k, labels)
-    unfolding section_at section_of
-    section_is n k e d = λ i. record (section_of w r n (k, labels)) { is_first = e i; is_last = d i }
-
-    -- its first and its last are these
-    pub at_first : section_at.is_first ≡ first
-    unfolding section_at
-    at_first = refl
-
-    -- whether it is the last
-    pub at_last : section_at.is_last ≡ last
-    unfolding section_at
-    at_last = refl
+    -- it is the last where the next would have the number of all groups
+    pub section_last : (section_of w r n (k, labels)).is_last ≡ (k + 1 == n)
+    unfolding section_of
+    section_last = refl
 
     -- what it is called
-    pub at_name : (id : Id) → group_id w r labels ≡ Some id → (o : Option (Bor (List ℕ))) → option_copied o ≡ w.name_of id
+    pub section_name : (id : Id) → group_id w r labels ≡ Some id → (o : Option (Bor (List ℕ))) → option_copied o ≡ w.name_of id
         → (unknown : Bor (List ℕ)) → unknown.now ≡ codes "<unknown>" → (name : Bor (List ℕ)) → name ≡ unwrap_or o unknown
-        → section_at.name ≡ name.now
-    unfolding section_at section_of group_name
-    at_name id named o e unknown none name is =
+        → (section_of w r n (k, labels)).name ≡ name.now
+    unfolding section_of group_name
+    section_name id named o e unknown none name is =
         ap (λ i. unwrap_or (option_and_then w.name_of i) (codes "<unknown>")) named ∙ (λ i. unwrap_or (sym e i) (sym none i))
         ∙ sym (ap (λ (b : Bor (List ℕ)). b.now) is ∙ copied_or o unknown)
 
     -- the location that its header names
-    pub at_location : (source : Listing) → group_source w r labels ≡ source → (numbers : List ℕ)
+    pub section_location : (source : Listing) → group_source w r labels ≡ source → (numbers : List ℕ)
         → location_text (listed_lines source) source.display_offset (header_offset w r labels) ≡ numbers
-        → location_text section_at.sheet.lines section_at.display_offset section_at.header_offset ≡ numbers
-    unfolding section_at section_of sheet_of
-    at_location source over numbers e =
+        → location_text (section_of w r n (k, labels)).sheet.lines (section_of w r n (k, labels)).display_offset
+        (section_of w r n (k, labels)).header_offset ≡ numbers
+    unfolding section_of sheet_of
+    section_location source over numbers e =
         ap (λ (s : Listing). location_text (listed_lines s) s.display_offset (header_offset w r labels)) over ∙ e
 
     -- its switches are those of the report
-    pub at_switches : section_at.sheet.switches ≡ switches_of r.config
-    unfolding section_at section_of sheet_of
-    at_switches = refl
+    pub section_switches : (section_of w r n (k, labels)).sheet.switches ≡ switches_of r.config
+    unfolding section_of sheet_of
+    section_switches = refl
 
     -- its labels
-    pub at_labels : section_at.sheet.labels ≡ labels
-    unfolding section_at section_of sheet_of
-    at_labels = refl
-
-    -- the texts of the report have the same switches
-    pub texts_switches : (texts_of r).switches ≡ switches_of r.config
-    unfolding texts_of
-    texts_switches = refl
+    pub section_labels : (section_of w r n (k, labels)).sheet.labels ≡ labels
+    unfolding section_of sheet_of
+    section_labels = refl
 
     -- it stands on a page of the report's switches
-    pub at_page : (page : PageFields) → page.switches ≡ switches_of r.config → IsOnPage (texts_of r) section_at page
-    at_page page e = record { texts = texts_switches ∙ sym e; sheet = at_switches ∙ sym e }
+    pub section_page : (page : PageFields) → page.switches ≡ switches_of r.config → IsOnPage (texts_of r) (section_of w r n (k, labels)) page
+    section_page page e = record { texts = texts_switches r ∙ sym e; sheet = section_switches ∙ sym e }
 
     -- its lines are those of its source
-    pub at_source : (page : PageFields) → page.switches ≡ switches_of r.config → (source : Listing) → group_source w r labels ≡ source
-        → IsDrawnGroup (texts_of r) section_at page.switches source labels
-    unfolding section_at section_of sheet_of
-    at_source page e source over = record {
-      texts = texts_switches ∙ sym e;
-      sheet = λ i. record { switches = sym e i; lines = listed_lines (over i); labels = labels };
-      display_offset = ap (λ (s : Listing). s.display_offset) over;
+    pub section_source : (page : PageFields) → page.switches ≡ switches_of r.config → (source : Listing) → source ≡ group_source w r labels
+        → IsDrawnGroup (texts_of r) (section_of w r n (k, labels)) page.switches source labels
+    unfolding section_of sheet_of
+    section_source page e source over = record {
+      texts = texts_switches r ∙ sym e;
+      sheet = λ i. record { switches = sym e i; lines = listed_lines (sym over i); labels = labels };
+      display_offset = ap (λ (s : Listing). s.display_offset) (sym over);
     }
 
     -- a gutter of its gutter labels is its own
-    pub at_gutter : (gutter : GutterFields) → gutter.page.switches ≡ switches_of r.config → (shown : List LabelInfo)
+    pub section_gutter : (gutter : GutterFields) → gutter.page.switches ≡ switches_of r.config → (shown : List LabelInfo)
         → ((s : Sheet) → s.labels ≡ labels → shown ≡ gutter_labels s) → gutter.positions ≡ map (λ (a : LabelInfo). a.position) shown
-        → IsOfSheet section_at.sheet gutter
-    at_gutter gutter e shown is at = record {
-      switches = e ∙ sym at_switches;
-      positions = at ∙ ap (map (λ (a : LabelInfo). a.position)) (is section_at.sheet at_labels);
+        → IsOfSheet (section_of w r n (k, labels)).sheet gutter
+    section_gutter gutter e shown is at = record {
+      switches = e ∙ sym section_switches;
+      positions = at ∙ ap (map (λ (a : LabelInfo). a.position)) (is (section_of w r n (k, labels)).sheet section_labels);
     }
 
 -- ---- its rows
@@ -205,7 +197,8 @@ module _ (t : Texts) (g : Section) where
   parts_split compact labels last = simp append_assoc
 
   -- the rows above the lines, the lines and the rows below them, one after another
-  pub whole_group : (old one two new : PenFields) (labels : List LabelInfo) (last : Bool) → g.sheet.switches ≡ old.page.switches → g.sheet.labels ≡ labels
+  pub whole_group : (old one two new : PenFields) (labels : List LabelInfo) (last : Bool) → g.sheet.switches ≡ old.page.switches
+      → g.sheet.labels ≡ labels
       → g.is_last ≡ last
       → DrawsRows old one (map (row_pieces t old.page.number_width g) (group_header ∷ (if old.page.switches.compact then [] else spacer ∷ [])))
       → DrawsRows one two (map (row_pieces t one.page.number_width g) (joined (line_rows g.sheet) (group_lines labels)))

@@ -128,15 +128,42 @@ fn push_group<S: Span, C: Cache<S::SourceId>>(
         (section_rows (texts_of r) pen.old.page.number_width
         (section_of w r n (k, lists.old.sheet.labels)))) }
 {
-    let info = lists.sheet.labels()[0];
+    let source = push_group_head(pen, &lists.sheet, report, cache, is_first)?;
+    lists.gutter.begin(lists.sheet.gutter_labels())?;
+    push_lines(pen, lists, report, source)?;
+    push_foot(pen, &lists.gutter, report, is_last)
+}
+
+/// Writes the rows above the lines of a group, and gives the source of the lines.
+fn push_group_head<'a, S: Span, C: Cache<S::SourceId>>(
+    pen: &mut Pen<'_>,
+    sheet: &GroupSheet<'_>,
+    report: &Report<'_, S>,
+    cache: &'a C,
+    is_first: bool,
+) -> Result<&'a Source<C::Storage>, AllocError>
+    requires switches { pen.old.page.switches ≡ switches_of report.now.config }
+    requires labels { 0 < length sheet.now.labels }
+    requires drawn { let w = world S.source_of S.start_of S.end_of S.SourceId.eq
+        (C.names cache.now) (C.contents cache.now) in AreDrawn w report.now sheet.now.labels }
+    ensures source { let w = world S.source_of S.start_of S.end_of S.SourceId.eq
+        (C.names cache.now) (C.contents cache.now) in
+        IfOk result (λ source. source.now ≡ group_source w report.now sheet.now.labels) }
+    ensures page { OnOk result (pen.new.page ≡ pen.old.page) }
+    ensures drawn { let w = world S.source_of S.start_of S.end_of S.SourceId.eq
+        (C.names cache.now) (C.contents cache.now) in let r = report.now in
+        let page = pen.old.page in (n k : ℕ) → is_first ≡ (k == 0) →
+        OnOk result (DrawsRows pen.old pen.new (map (row_pieces (texts_of r) page.number_width
+        (section_of w r n (k, sheet.now.labels)))
+        (group_header ∷ (if page.switches.compact then [] else spacer ∷ [])))) }
+{
+    let info = sheet.labels()[0];
     let id = report.labels()[info.position].span().source();
     let source = C::get(cache, id).unwrap();
     let name = C::display(cache, id).unwrap_or("<unknown>");
     let location = header_location(report, id, source, &info);
     push_head(pen, is_first, name, location)?;
-    lists.gutter.begin(lists.sheet.gutter_labels())?;
-    push_lines(pen, lists, report, source)?;
-    push_foot(pen, &lists.gutter, report, is_last)
+    Ok(source)
 }
 
 /// Writes the rows above the lines of a group: its header, and a row below it if not compact.

@@ -22,7 +22,8 @@ pub returns-in_err-offset : goal.returns-in_err-offset
 returns-in_err-offset g c = λ names contents group named over first.
     let w = world g.S.Span.source_of g.S.Span.start_of g.S.Span.end_of g.S.SourceId.PartialEq.eq names contents in
     let r = c.args.report.now in
-    let same = sym (c.eq.ensures ∙ ap (g.S.SourceId.PartialEq.eq c.args.id.now) (c.source.ensures ∙ ap g.S.Span.source_of c.span.ensures)) ∙ c.if-eq.true in
+    let same = sym (c.eq.ensures ∙ ap (g.S.SourceId.PartialEq.eq c.args.id.now) (c.source.ensures ∙ ap g.S.Span.source_of c.span.ensures))
+    ∙ c.if-eq.true in
     let index = c.index_type.ensures ∙ ap (λ (k : ConfigFields). k.index_type) c.config.ensures in
     let start = c.start.ensures ∙ ap g.S.Span.start_of c.span-then-eq.ensures in
     let text = chars c.args.source.now.text in
@@ -41,7 +42,8 @@ returns-in_err-line g c = λ names contents group named over first.
     ] in
     let none : header_offset w r group ≡ None = elim c.if-eq.branch [
       | then-eq+in_ok-offset b ↦
-          let same = sym (c.eq.ensures ∙ ap (g.S.SourceId.PartialEq.eq c.args.id.now) (c.source.ensures ∙ ap g.S.Span.source_of c.span.ensures)) ∙ b.if-eq.true in
+          let same = sym (c.eq.ensures ∙ ap (g.S.SourceId.PartialEq.eq c.args.id.now) (c.source.ensures ∙ ap g.S.Span.source_of c.span.ensures))
+          ∙ b.if-eq.true in
           let index = b.index_type.ensures ∙ ap (λ (k : ConfigFields). k.index_type) b.config.ensures in
           let start = b.start.ensures ∙ ap g.S.Span.start_of b.span-then-eq.ensures in
           let found = b.in_ok-offset.ensures ∙ (λ i. offset_in_chars (index i) text (start i)) in
@@ -59,15 +61,18 @@ returns g c = λ names contents group named over first.
     let few : c.if-eq.offset ≤ length text = c.in_ok-line.ensures.found.0 refl in
     let some : header_offset w r group ≡ Some c.if-eq.offset = elim c.if-eq.branch [
       | then-eq+in_ok-offset b ↦
-          let same = sym (c.eq.ensures ∙ ap (g.S.SourceId.PartialEq.eq c.args.id.now) (c.source.ensures ∙ ap g.S.Span.source_of c.span.ensures)) ∙ b.if-eq.true in
+          let same = sym (c.eq.ensures ∙ ap (g.S.SourceId.PartialEq.eq c.args.id.now) (c.source.ensures ∙ ap g.S.Span.source_of c.span.ensures))
+          ∙ b.if-eq.true in
           let index = b.index_type.ensures ∙ ap (λ (k : ConfigFields). k.index_type) b.config.ensures in
           let start = b.start.ensures ∙ ap g.S.Span.start_of b.span-then-eq.ensures in
           let found = b.in_ok-offset.ensures ∙ (λ i. offset_in_chars (index i) text (start i)) in
-          let is : offset_in_chars r.config.index_type text (g.S.Span.start_of r.span) ≡ Some c.if-eq.offset = sym found ∙ ap Some (sym b.offset-is) in
+          let is : offset_in_chars r.config.index_type text (g.S.Span.start_of r.span) ≡ Some c.if-eq.offset =
+          sym found ∙ ap Some (sym b.offset-is) in
           own_some w r group c.args.id.now c.args.source.now named over c.if-eq.offset same is
           (le-leb _ _ (start-within r.config.index_type text (g.S.Span.start_of r.span) c.if-eq.offset (record { found = is; within = few })))
       | else-eq b ↦
-          let same = sym (c.eq.ensures ∙ ap (g.S.SourceId.PartialEq.eq c.args.id.now) (c.source.ensures ∙ ap g.S.Span.source_of c.span.ensures)) ∙ b.if-eq.false in
+          let same = sym (c.eq.ensures ∙ ap (g.S.SourceId.PartialEq.eq c.args.id.now) (c.source.ensures ∙ ap g.S.Span.source_of c.span.ensures))
+          ∙ b.if-eq.false in
           other_offset w r group c.args.id.now c.args.source.now named over c.args.info.now first same ∙ ap Some (sym b.offset-is)
     ] in
     some_location _ _ c.if-eq.offset c.in_ok-line.line c.in_ok-line.column _ some (location_line _ _ _ _ _ c.in_ok-line.ensures.location)

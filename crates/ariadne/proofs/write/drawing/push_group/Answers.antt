@@ -1,135 +1,43 @@
--- The source, the name and the gutter are those of the group; above, between and below stand its rows.
-use Rattle.std.proofs.Common.{◌≡◌, ◌∙◌, ap, refl, sym, subst}
-use Rattle.std.specs.Prelude.{OnOk}
-use Rattle.std.specs.Option.{option_copied}
+-- The lines and the gutter are those of the group; above, between and below stand its rows.
+use Rattle.std.proofs.Common.{◌≡◌, ◌∙◌, ap, sym, subst}
 use Rattle.std.proofs.lemmas.Result.{on_ok_weaker}
 use Rattle.ariadne_base.specs.Listing.{Listing, listed_lines}
-use Rattle.ariadne_cells.specs.Pages.{DrawsRows, PageFields}
-use Rattle.ariadne_picture.specs.Canvas.{texts_of}
-use Rattle.ariadne_picture.specs.Pieces.{Section, section_rows}
+use Rattle.ariadne_cells.specs.Pages.{PageFields}
+use Rattle.ariadne_picture.specs.Canvas.{section_of, texts_of}
 use Rattle.ariadne_rows.specs.Gutters.{GutterFields}
-use Rattle.ariadne_rows.specs.Headers.{location_numbers}
 use Rattle.ariadne.specs.Drawn.{AreOverLines, world}
 use Rattle.ariadne.proofs.Drawing.{rows_page}
-use Rattle.ariadne.proofs.DrawingGroups.{at_first, at_gutter, at_labels, at_last, at_location, at_name, at_page, at_source, at_switches, first_is}
-use Rattle.ariadne.proofs.DrawingGroups.{section_at, section_is, texts_switches, whole_group}
+use Rattle.ariadne.proofs.DrawingGroups.{section_gutter, section_labels, section_last, section_page, section_source, section_switches, texts_switches}
+use Rattle.ariadne.proofs.DrawingGroups.{whole_group}
 use Rattle.ariadne.proofs.write.drawing.push_group.Goals as goal
-
--- the first label starts within its source
-pub header_location-location-requires : goal.header_location-location-requires
-header_location-location-requires g c =
-    let w = world g.S.Span.source_of g.S.Span.start_of g.S.Span.end_of g.S.SourceId.PartialEq.eq (g.C.Cache.names c.args.cache.now)
-    (g.C.Cache.contents c.args.cache.now) in
-    let r = c.args.report.now in
-    let labels = c.args.lists.now.sheet.labels in
-    let id = c.source-id.ensures ∙ ap g.S.Span.source_of c.span.ensures.span in
-    let f =
-    first_is w r labels c.labels.result.now _ c.labels.ensures c.requires.labels c.requires.drawn c.labels-2.result.now c.index-labels-info.result
-    c.labels-2.ensures c.index-labels-info.is c.source-id.result.now id (option_copied c.get.result) c.get.ensures c.unwrap-source.result.now
-    (ap option_copied c.unwrap-source.ensures) in
-    record { within = f.starts }
-
--- the rows above the lines leave the page
-pub push_lines-requires-clause-page : goal.push_lines-requires-clause-page
-push_lines-requires-clause-page g c =
-    let w = world g.S.Span.source_of g.S.Span.start_of g.S.Span.end_of g.S.SourceId.PartialEq.eq (g.C.Cache.names c.args.cache.now)
-    (g.C.Cache.contents c.args.cache.now) in
-    let r = c.args.report.now in
-    let labels = c.args.lists.now.sheet.labels in
-    let id = c.source-id.ensures ∙ ap g.S.Span.source_of c.span.ensures.span in
-    let f =
-    first_is w r labels c.labels.result.now _ c.labels.ensures c.requires.labels c.requires.drawn c.labels-2.result.now c.index-labels-info.result
-    c.labels-2.ensures c.index-labels-info.is c.source-id.result.now id (option_copied c.get.result) c.get.ensures c.unwrap-source.result.now
-    (ap option_copied c.unwrap-source.ensures) in
-    let s = section_at w r labels c.args.is_first c.args.is_last in
-    let name =
-    at_name w r labels c.args.is_first c.args.is_last c.source-id.result.now f.named c.display.result c.display.ensures _ refl c.unwrap_or-name.result
-    c.unwrap_or-name.ensures in
-    let location =
-    at_location w r labels c.args.is_first c.args.is_last c.unwrap-source.result.now f.over (location_numbers c.header_location-location.result)
-    (c.header_location-location.ensures (g.C.Cache.names c.args.cache.now) (g.C.Cache.contents c.args.cache.now) labels f.named f.over f.first) in
-    let switches = c.requires.switches in
-    let sheet = at_switches w r labels c.args.is_first c.args.is_last ∙ sym switches in
-    let above = c.in_ok-push_head.ensures (texts_of r) s sheet (at_first w r labels c.args.is_first c.args.is_last) name location in
-    let page : c.push_head.new.pen.page ≡ c.args.pen.now.page = rows_page c.args.pen.now c.push_head.new.pen _ above in
-    let begun = c.in_ok-begin.ensures in
-    let begun_page : c.begin.new.self.page ≡ c.args.lists.now.gutter.page = ap (λ (x : GutterFields). x.page) begun in
-    begun_page ∙ c.requires.page ∙ sym page
 
 -- the texts have the switches of the page
 pub push_lines-requires-clause-texts : goal.push_lines-requires-clause-texts
 push_lines-requires-clause-texts g c =
-    let w = world g.S.Span.source_of g.S.Span.start_of g.S.Span.end_of g.S.SourceId.PartialEq.eq (g.C.Cache.names c.args.cache.now)
-    (g.C.Cache.contents c.args.cache.now) in
-    let r = c.args.report.now in
-    let labels = c.args.lists.now.sheet.labels in
-    let id = c.source-id.ensures ∙ ap g.S.Span.source_of c.span.ensures.span in
-    let f =
-    first_is w r labels c.labels.result.now _ c.labels.ensures c.requires.labels c.requires.drawn c.labels-2.result.now c.index-labels-info.result
-    c.labels-2.ensures c.index-labels-info.is c.source-id.result.now id (option_copied c.get.result) c.get.ensures c.unwrap-source.result.now
-    (ap option_copied c.unwrap-source.ensures) in
-    let s = section_at w r labels c.args.is_first c.args.is_last in
-    let name =
-    at_name w r labels c.args.is_first c.args.is_last c.source-id.result.now f.named c.display.result c.display.ensures _ refl c.unwrap_or-name.result
-    c.unwrap_or-name.ensures in
-    let location =
-    at_location w r labels c.args.is_first c.args.is_last c.unwrap-source.result.now f.over (location_numbers c.header_location-location.result)
-    (c.header_location-location.ensures (g.C.Cache.names c.args.cache.now) (g.C.Cache.contents c.args.cache.now) labels f.named f.over f.first) in
-    let switches = c.requires.switches in
-    let sheet = at_switches w r labels c.args.is_first c.args.is_last ∙ sym switches in
-    let above = c.in_ok-push_head.ensures (texts_of r) s sheet (at_first w r labels c.args.is_first c.args.is_last) name location in
-    let page : c.push_head.new.pen.page ≡ c.args.pen.now.page = rows_page c.args.pen.now c.push_head.new.pen _ above in
-    let begun = c.in_ok-begin.ensures in
-    let begun_page : c.begin.new.self.page ≡ c.args.lists.now.gutter.page = ap (λ (x : GutterFields). x.page) begun in
-    texts_switches w r labels c.args.is_first c.args.is_last ∙ sym switches ∙ ap (λ (p : PageFields). p.switches) (sym page)
+    texts_switches c.args.report.now ∙ sym c.requires.switches ∙ ap (λ (p : PageFields). p.switches) (sym c.in_ok-source.ensures.page)
 
--- the labels lie in the lines of the source that is found
+-- the labels lie in the lines of the source
 pub push_lines-requires-clause-over : goal.push_lines-requires-clause-over
 push_lines-requires-clause-over g c =
-    let w = world g.S.Span.source_of g.S.Span.start_of g.S.Span.end_of g.S.SourceId.PartialEq.eq (g.C.Cache.names c.args.cache.now)
-    (g.C.Cache.contents c.args.cache.now) in
-    let r = c.args.report.now in
-    let labels = c.args.lists.now.sheet.labels in
-    let id = c.source-id.ensures ∙ ap g.S.Span.source_of c.span.ensures.span in
-    let f =
-    first_is w r labels c.labels.result.now _ c.labels.ensures c.requires.labels c.requires.drawn c.labels-2.result.now c.index-labels-info.result
-    c.labels-2.ensures c.index-labels-info.is c.source-id.result.now id (option_copied c.get.result) c.get.ensures c.unwrap-source.result.now
-    (ap option_copied c.unwrap-source.ensures) in
-    subst (λ (s : Listing). AreOverLines (listed_lines s) labels) f.over c.requires.over
+    subst (λ (s : Listing). AreOverLines (listed_lines s) c.args.lists.now.sheet.labels) (sym c.in_ok-source.ensures.source) c.requires.over
 
--- the lines leave it too
+-- the lines leave the page too
 pub push_foot-requires-clause-page : goal.push_foot-requires-clause-page
 push_foot-requires-clause-page g c =
     let w = world g.S.Span.source_of g.S.Span.start_of g.S.Span.end_of g.S.SourceId.PartialEq.eq (g.C.Cache.names c.args.cache.now)
     (g.C.Cache.contents c.args.cache.now) in
     let r = c.args.report.now in
     let labels = c.args.lists.now.sheet.labels in
-    let id = c.source-id.ensures ∙ ap g.S.Span.source_of c.span.ensures.span in
-    let f =
-    first_is w r labels c.labels.result.now _ c.labels.ensures c.requires.labels c.requires.drawn c.labels-2.result.now c.index-labels-info.result
-    c.labels-2.ensures c.index-labels-info.is c.source-id.result.now id (option_copied c.get.result) c.get.ensures c.unwrap-source.result.now
-    (ap option_copied c.unwrap-source.ensures) in
-    let s = section_at w r labels c.args.is_first c.args.is_last in
-    let name =
-    at_name w r labels c.args.is_first c.args.is_last c.source-id.result.now f.named c.display.result c.display.ensures _ refl c.unwrap_or-name.result
-    c.unwrap_or-name.ensures in
-    let location =
-    at_location w r labels c.args.is_first c.args.is_last c.unwrap-source.result.now f.over (location_numbers c.header_location-location.result)
-    (c.header_location-location.ensures (g.C.Cache.names c.args.cache.now) (g.C.Cache.contents c.args.cache.now) labels f.named f.over f.first) in
     let switches = c.requires.switches in
-    let sheet = at_switches w r labels c.args.is_first c.args.is_last ∙ sym switches in
-    let above = c.in_ok-push_head.ensures (texts_of r) s sheet (at_first w r labels c.args.is_first c.args.is_last) name location in
-    let page : c.push_head.new.pen.page ≡ c.args.pen.now.page = rows_page c.args.pen.now c.push_head.new.pen _ above in
-    let begun = c.in_ok-begin.ensures in
-    let begun_page : c.begin.new.self.page ≡ c.args.lists.now.gutter.page = ap (λ (x : GutterFields). x.page) begun in
+    let page = c.in_ok-source.ensures.page in
     let same = ap (λ (p : PageFields). p.switches) page ∙ switches in
-    let lines =
-    c.in_ok-push_lines.ensures.drawn s (at_source w r labels c.args.is_first c.args.is_last c.push_head.new.pen.page same c.unwrap-source.result.now f.over) in
-    let behind : c.push_lines.new.pen.page ≡ c.push_head.new.pen.page = rows_page c.push_head.new.pen c.push_lines.new.pen _ lines in
-    let gutter_page : c.push_lines.new.lists.gutter.page ≡ c.begin.new.self.page = c.in_ok-push_lines.ensures.page in
-    let both : c.push_lines.new.lists.gutter.page ≡ c.push_lines.new.pen.page =
-    gutter_page ∙ begun_page ∙ c.requires.page ∙ sym page ∙ sym behind in
-    both
+    let s = section_of w r 0 (0, labels) in
+    let drawn = section_source w r 0 0 labels c.push_group_head.new.pen.page same c.in_ok-source.source.now c.in_ok-source.ensures.source in
+    let lines = c.in_ok-push_lines.ensures.drawn s drawn in
+    let behind : c.push_lines.new.pen.page ≡ c.push_group_head.new.pen.page = rows_page c.push_group_head.new.pen c.push_lines.new.pen _ lines in
+    let gutter : c.push_lines.new.lists.gutter.page ≡ c.args.lists.now.gutter.page =
+    c.in_ok-push_lines.ensures.page ∙ ap (λ (x : GutterFields). x.page) c.in_ok-begin.ensures in
+    gutter ∙ c.requires.page ∙ sym page ∙ sym behind
 
 -- there is such a group
 pub push_foot-requires-clause-group : goal.push_foot-requires-clause-group
@@ -138,76 +46,45 @@ push_foot-requires-clause-group g c =
     (g.C.Cache.contents c.args.cache.now) in
     let r = c.args.report.now in
     let labels = c.args.lists.now.sheet.labels in
-    let id = c.source-id.ensures ∙ ap g.S.Span.source_of c.span.ensures.span in
-    let f =
-    first_is w r labels c.labels.result.now _ c.labels.ensures c.requires.labels c.requires.drawn c.labels-2.result.now c.index-labels-info.result
-    c.labels-2.ensures c.index-labels-info.is c.source-id.result.now id (option_copied c.get.result) c.get.ensures c.unwrap-source.result.now
-    (ap option_copied c.unwrap-source.ensures) in
-    let s = section_at w r labels c.args.is_first c.args.is_last in
-    let name =
-    at_name w r labels c.args.is_first c.args.is_last c.source-id.result.now f.named c.display.result c.display.ensures _ refl c.unwrap_or-name.result
-    c.unwrap_or-name.ensures in
-    let location =
-    at_location w r labels c.args.is_first c.args.is_last c.unwrap-source.result.now f.over (location_numbers c.header_location-location.result)
-    (c.header_location-location.ensures (g.C.Cache.names c.args.cache.now) (g.C.Cache.contents c.args.cache.now) labels f.named f.over f.first) in
     let switches = c.requires.switches in
-    let sheet = at_switches w r labels c.args.is_first c.args.is_last ∙ sym switches in
-    let above = c.in_ok-push_head.ensures (texts_of r) s sheet (at_first w r labels c.args.is_first c.args.is_last) name location in
-    let page : c.push_head.new.pen.page ≡ c.args.pen.now.page = rows_page c.args.pen.now c.push_head.new.pen _ above in
-    let begun = c.in_ok-begin.ensures in
-    let begun_page : c.begin.new.self.page ≡ c.args.lists.now.gutter.page = ap (λ (x : GutterFields). x.page) begun in
+    let page = c.in_ok-source.ensures.page in
     let same = ap (λ (p : PageFields). p.switches) page ∙ switches in
-    let lines =
-    c.in_ok-push_lines.ensures.drawn s (at_source w r labels c.args.is_first c.args.is_last c.push_head.new.pen.page same c.unwrap-source.result.now f.over) in
-    let behind : c.push_lines.new.pen.page ≡ c.push_head.new.pen.page = rows_page c.push_head.new.pen c.push_lines.new.pen _ lines in
-    let gutter_page : c.push_lines.new.lists.gutter.page ≡ c.begin.new.self.page = c.in_ok-push_lines.ensures.page in
-    let both : c.push_lines.new.lists.gutter.page ≡ c.push_lines.new.pen.page =
-    gutter_page ∙ begun_page ∙ c.requires.page ∙ sym page ∙ sym behind in
-    let on_page = at_page w r labels c.args.is_first c.args.is_last c.push_lines.new.pen.page (ap (λ (p : PageFields). p.switches) behind ∙ same) in
+    let s = section_of w r 0 (0, labels) in
+    let drawn = section_source w r 0 0 labels c.push_group_head.new.pen.page same c.in_ok-source.source.now c.in_ok-source.ensures.source in
+    let lines = c.in_ok-push_lines.ensures.drawn s drawn in
+    let behind : c.push_lines.new.pen.page ≡ c.push_group_head.new.pen.page = rows_page c.push_group_head.new.pen c.push_lines.new.pen _ lines in
+    let gutter : c.push_lines.new.lists.gutter.page ≡ c.args.lists.now.gutter.page =
+    c.in_ok-push_lines.ensures.page ∙ ap (λ (x : GutterFields). x.page) c.in_ok-begin.ensures in
+    let on_page = section_page w r 0 0 labels c.push_lines.new.pen.page (ap (λ (p : PageFields). p.switches) behind ∙ same) in
     let of_sheet =
-    at_gutter w r labels c.args.is_first c.args.is_last c.push_lines.new.lists.gutter (ap (λ (p : PageFields). p.switches) (both ∙ behind) ∙ same)
-    c.gutter_labels.result.now c.gutter_labels.ensures (c.in_ok-push_lines.ensures.positions ∙ ap (λ (x : GutterFields). x.positions) begun) in
+    section_gutter w r 0 0 labels c.push_lines.new.lists.gutter (ap (λ (p : PageFields). p.switches) (gutter ∙ c.requires.page) ∙ switches)
+    c.gutter_labels.result.now c.gutter_labels.ensures
+    (c.in_ok-push_lines.ensures.positions ∙ ap (λ (x : GutterFields). x.positions) c.in_ok-begin.ensures) in
     (s, on_page, of_sheet)
 
 -- the rows stand one after another
 pub returns-clause-drawn : goal.returns-clause-drawn
-returns-clause-drawn g c = λ n k first last.
+returns-clause-drawn g c = λ n k is_first is_last.
     let w = world g.S.Span.source_of g.S.Span.start_of g.S.Span.end_of g.S.SourceId.PartialEq.eq (g.C.Cache.names c.args.cache.now)
     (g.C.Cache.contents c.args.cache.now) in
     let r = c.args.report.now in
     let labels = c.args.lists.now.sheet.labels in
-    let id = c.source-id.ensures ∙ ap g.S.Span.source_of c.span.ensures.span in
-    let f =
-    first_is w r labels c.labels.result.now _ c.labels.ensures c.requires.labels c.requires.drawn c.labels-2.result.now c.index-labels-info.result
-    c.labels-2.ensures c.index-labels-info.is c.source-id.result.now id (option_copied c.get.result) c.get.ensures c.unwrap-source.result.now
-    (ap option_copied c.unwrap-source.ensures) in
-    let s = section_at w r labels c.args.is_first c.args.is_last in
-    let name =
-    at_name w r labels c.args.is_first c.args.is_last c.source-id.result.now f.named c.display.result c.display.ensures _ refl c.unwrap_or-name.result
-    c.unwrap_or-name.ensures in
-    let location =
-    at_location w r labels c.args.is_first c.args.is_last c.unwrap-source.result.now f.over (location_numbers c.header_location-location.result)
-    (c.header_location-location.ensures (g.C.Cache.names c.args.cache.now) (g.C.Cache.contents c.args.cache.now) labels f.named f.over f.first) in
     let switches = c.requires.switches in
-    let sheet = at_switches w r labels c.args.is_first c.args.is_last ∙ sym switches in
-    let above = c.in_ok-push_head.ensures (texts_of r) s sheet (at_first w r labels c.args.is_first c.args.is_last) name location in
-    let page : c.push_head.new.pen.page ≡ c.args.pen.now.page = rows_page c.args.pen.now c.push_head.new.pen _ above in
-    let begun = c.in_ok-begin.ensures in
-    let begun_page : c.begin.new.self.page ≡ c.args.lists.now.gutter.page = ap (λ (x : GutterFields). x.page) begun in
+    let page = c.in_ok-source.ensures.page in
     let same = ap (λ (p : PageFields). p.switches) page ∙ switches in
-    let lines =
-    c.in_ok-push_lines.ensures.drawn s (at_source w r labels c.args.is_first c.args.is_last c.push_head.new.pen.page same c.unwrap-source.result.now f.over) in
-    let behind : c.push_lines.new.pen.page ≡ c.push_head.new.pen.page = rows_page c.push_head.new.pen c.push_lines.new.pen _ lines in
-    let gutter_page : c.push_lines.new.lists.gutter.page ≡ c.begin.new.self.page = c.in_ok-push_lines.ensures.page in
-    let both : c.push_lines.new.lists.gutter.page ≡ c.push_lines.new.pen.page =
-    gutter_page ∙ begun_page ∙ c.requires.page ∙ sym page ∙ sym behind in
-    let on_page = at_page w r labels c.args.is_first c.args.is_last c.push_lines.new.pen.page (ap (λ (p : PageFields). p.switches) behind ∙ same) in
+    let s = section_of w r n (k, labels) in
+    let drawn = section_source w r n k labels c.push_group_head.new.pen.page same c.in_ok-source.source.now c.in_ok-source.ensures.source in
+    let lines = c.in_ok-push_lines.ensures.drawn s drawn in
+    let behind : c.push_lines.new.pen.page ≡ c.push_group_head.new.pen.page = rows_page c.push_group_head.new.pen c.push_lines.new.pen _ lines in
+    let gutter : c.push_lines.new.lists.gutter.page ≡ c.args.lists.now.gutter.page =
+    c.in_ok-push_lines.ensures.page ∙ ap (λ (x : GutterFields). x.page) c.in_ok-begin.ensures in
+    let on_page = section_page w r n k labels c.push_lines.new.pen.page (ap (λ (p : PageFields). p.switches) behind ∙ same) in
     let of_sheet =
-    at_gutter w r labels c.args.is_first c.args.is_last c.push_lines.new.lists.gutter (ap (λ (p : PageFields). p.switches) (both ∙ behind) ∙ same)
-    c.gutter_labels.result.now c.gutter_labels.ensures (c.in_ok-push_lines.ensures.positions ∙ ap (λ (x : GutterFields). x.positions) begun) in
-    subst (λ (x : Section). OnOk c.push_foot.result (DrawsRows c.args.pen.now c.push_foot.new.pen (section_rows (texts_of r) c.args.pen.now.page.number_width x)))
-    (section_is w r labels c.args.is_first c.args.is_last n k first last)
-    (on_ok_weaker c.push_foot.result
-    (whole_group (texts_of r) s c.args.pen.now c.push_head.new.pen c.push_lines.new.pen c.push_foot.new.pen labels c.args.is_last sheet
-    (at_labels w r labels c.args.is_first c.args.is_last) (at_last w r labels c.args.is_first c.args.is_last) above lines)
-    (c.push_foot.ensures s on_page of_sheet (at_last w r labels c.args.is_first c.args.is_last)))
+    section_gutter w r n k labels c.push_lines.new.lists.gutter (ap (λ (p : PageFields). p.switches) (gutter ∙ c.requires.page) ∙ switches)
+    c.gutter_labels.result.now c.gutter_labels.ensures
+    (c.in_ok-push_lines.ensures.positions ∙ ap (λ (x : GutterFields). x.positions) c.in_ok-begin.ensures) in
+    let last = section_last w r n k labels ∙ sym is_last in
+    on_ok_weaker c.push_foot.result
+    (whole_group (texts_of r) s c.args.pen.now c.push_group_head.new.pen c.push_lines.new.pen c.push_foot.new.pen labels c.args.is_last
+    (section_switches w r n k labels ∙ sym switches) (section_labels w r n k labels) last (c.in_ok-source.ensures.drawn n k is_first) lines)
+    (c.push_foot.ensures s on_page of_sheet last)

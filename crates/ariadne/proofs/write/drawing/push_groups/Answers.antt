@@ -48,7 +48,8 @@ loop-start-preserved g c =
     let drawn = c.in_ok-push_group.ensures.drawn in
     record {
       within = within;
-      page = one_page w r width infos old start end new after within cut so_far next c.fill.new.self.labels labels drawn ∙ c.loop-start.invariant.page;
+      page = one_page w r width infos old start end new after within cut so_far next c.fill.new.self.labels labels drawn
+          ∙ c.loop-start.invariant.page;
       gutter = c.in_ok-push_group.ensures.page ∙ c.loop-start.invariant.gutter;
       drawn = one_drawn w r width infos old start end new after within cut so_far next c.fill.new.self.labels labels drawn wide;
     }

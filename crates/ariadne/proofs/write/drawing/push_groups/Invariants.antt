@@ -6,7 +6,8 @@ use Rattle.ariadne.proofs.write.drawing.push_groups.Given as goal
 
 abbrev pub invariant-loop-start : goal.invariant-loop-start
 invariant-loop-start g l =
-    let w = world g.S.Span.source_of g.S.Span.start_of g.S.Span.end_of g.S.SourceId.PartialEq.eq (g.C.Cache.names l.cache) (g.C.Cache.contents l.cache) in
+    let w = world g.S.Span.source_of g.S.Span.start_of g.S.Span.end_of g.S.SourceId.PartialEq.eq (g.C.Cache.names l.cache)
+    (g.C.Cache.contents l.cache) in
     record {
       within : l.start ≤ length l.infos;
       page : l.pen.page ≡ l.page;
