@@ -2,7 +2,8 @@
 use Rattle.std.proofs.Common.{◌≡◌, ℕ, Bool, true, false, List, [], ◌∷◌, ◌++◌, map, refl, sym, ap, ◌∙◌, subst, append_assoc}
 use Rattle.std.specs.Prelude.{if◌then◌else◌}
 use Rattle.std.proofs.lemmas.List.{append-nil, map-append}
-use Rattle.ariadne_cells.specs.Pages.{DrawsRow, DrawsRows, PageFields, PenFields, row_bytes, rows_bytes}
+use Rattle.ariadne_cells.specs.Pages.{DrawsRow, DrawsRows, PageFields, PenFields}
+use Rattle.ariadne_picture.specs.Print.{row_bytes, rows_bytes}
 use Rattle.ariadne_picture.specs.declared.switches.Switches.{Switches}
 use Rattle.ariadne_picture.specs.Lists.{joined}
 use Rattle.ariadne_picture.specs.Pieces.{Piece, Section, Texts, group_header_pieces, row_pieces, spacer_pieces, tail_pieces}

@@ -6,15 +6,14 @@ use Rattle.std.specs.List.{enumerate_from, slice_range}
 use Rattle.std.proofs.lemmas.Bool.{cases_eq, eq-eqb, ne_eqb}
 use Rattle.std.proofs.lemmas.List.{drop_all}
 use Rattle.std.proofs.Math.ListN.{length-drop}
-use Rattle.ariadne_cells.specs.Pages.{DrawsRow, DrawsRows, PageFields, PenFields, row_bytes, rows_bytes}
+use Rattle.ariadne_cells.specs.Pages.{DrawsRow, DrawsRows, PageFields, PenFields}
+use Rattle.ariadne_picture.specs.Print.{row_bytes, rows_bytes, pieces_bytes, printed, row_bytes as printed_row}
 use Rattle.ariadne_picture.specs.declared.label_info.LabelInfo.{LabelInfo}
 use Rattle.ariadne_picture.specs.Canvas.{Palette, canvas, cell_of, code_text, groups, header_pieces, kind_name, number_width, outline, palette_of}
 use Rattle.ariadne_picture.specs.Canvas.{same_source, section_of, texts_of}
 use Rattle.ariadne_picture.specs.Groups.{groups_of, ordered}
 use Rattle.ariadne_picture.specs.Lists.{in_order, joined}
 use Rattle.ariadne_picture.specs.Pieces.{Piece, section_rows}
-use Rattle.ariadne_picture.specs.Print.{pieces_bytes, printed}
-use Rattle.ariadne_picture.specs.Print.{row_bytes as printed_row}
 use Rattle.ariadne_picture.specs.Report.{ReportFields, World}
 use Rattle.ariadne_picture.proofs.Lists.Joined.{joined-map}
 use Rattle.ariadne_picture.proofs.Labels.Cutting.{groups-exist}

@@ -4,7 +4,8 @@ use Rattle.std.specs.Prelude.{slice_get, slice_set, OnOk, Result, Ok, Err}
 use Rattle.std.specs.List.{AllByRecursion, enumerate_from}
 use Rattle.std.proofs.lemmas.List.{append-nil, map-append}
 use Rattle.std.proofs.lemmas.Option.{slice_get-get_or, slice_get_within, get_or_from_slice_get}
-use Rattle.ariadne_cells.specs.Pages.{PageFields, PenFields, Adds, DrawsRow, DrawsRows, row_bytes, rows_bytes}
+use Rattle.ariadne_cells.specs.Pages.{PageFields, PenFields, Adds, DrawsRow, DrawsRows}
+use Rattle.ariadne_picture.specs.Print.{row_bytes, rows_bytes}
 use Rattle.ariadne_cells.specs.Tables.{IsTable, AreVerticals}
 use Rattle.ariadne_cells.specs.declared.table.LineTable.{LineTable}
 use Rattle.ariadne_cells.specs.declared.verticals.Vertical.{Vertical}

@@ -17,9 +17,8 @@ use Rattle.ariadne_picture.specs.Cells.{glyph_code}
 use Rattle.ariadne_picture.specs.Lists.{joined}
 use Rattle.ariadne_picture.specs.Pieces.{Piece, blank_piece, glyph_text, ink_pieces, plain_text, repeated, spaces, stroke}
 use Rattle.ariadne_picture.specs.Canvas.{Palette, color_of, paint_color, cell_of}
-use Rattle.ariadne_picture.specs.Print.{cell_bytes, pieces_bytes}
+use Rattle.ariadne_picture.specs.Print.{cell_bytes, pieces_bytes, row_bytes, rows_bytes}
 use Rattle.ariadne_picture.proofs.Lists.Joined.{joined-append, joined-one, joined-upto_more}
-use Rattle.ariadne_cells.specs.Pages.{row_bytes, rows_bytes}
 use Rattle.ariadne_cells.proofs.Copies.{repeated_none, repeated_more, repeated_blank}
 
 -- ---- pieces

@@ -9,9 +9,9 @@ use Rattle.ariadne_picture.specs.declared.cell.Paint.TheVariants.{Plain}
 use Rattle.ariadne_picture.specs.Canvas.{color_of}
 use Rattle.ariadne_picture.specs.Lists.{joined}
 use Rattle.ariadne_picture.specs.Pieces.{Piece, blank_piece, plain_text, spaces, stroke}
-use Rattle.ariadne_picture.specs.Print.{pieces_bytes}
+use Rattle.ariadne_picture.specs.Print.{pieces_bytes, row_bytes, rows_bytes}
 use Rattle.ariadne_picture.proofs.Lists.Joined.{joined-upto_more}
-use Rattle.ariadne_cells.specs.Pages.{Adds, Draws, DrawsRow, DrawsRows, PageFields, PenFields, row_bytes, rows_bytes}
+use Rattle.ariadne_cells.specs.Pages.{Adds, Draws, DrawsRow, DrawsRows, PageFields, PenFields}
 use Rattle.ariadne_cells.proofs.Bytes.{blank_one, blank_run, pieces_bytes_none, pieces_bytes_one, pieces_bytes-append, plain_one, row_bytes-append, row_bytes-is}
 use Rattle.ariadne_cells.proofs.Bytes.{rows_bytes_none, rows_bytes_one, rows_bytes-append}
 

@@ -1,10 +1,9 @@
 -- What all rows of a picture share, and the pen that writes them: its text only grows.
 use Rattle.std.specs.Prelude.{ℕ, ◌≡◌, List, [], ◌∷◌, ◌++◌}
 use Rattle.ariadne_picture.specs.declared.switches.Switches.{Switches}
-use Rattle.ariadne_picture.specs.Lists.{joined}
 use Rattle.ariadne_picture.specs.Pieces.{Piece}
 use Rattle.ariadne_picture.specs.Canvas.{Palette}
-use Rattle.ariadne_picture.specs.Print.{pieces_bytes}
+use Rattle.ariadne_picture.specs.Print.{pieces_bytes, row_bytes, rows_bytes}
 
 -- the colours and the switches of a picture, and how many columns its line numbers take
 pub record PageFields : Type 0 where
@@ -16,14 +15,6 @@ pub record PageFields : Type 0 where
 pub record PenFields : Type 0 where
   pub page : PageFields
   pub bytes : List ℕ
-
--- the bytes of a row of these pieces: it ends in a line feed
-unfoldable pub row_bytes : Palette → List Piece → List ℕ
-row_bytes palette pieces = pieces_bytes palette pieces ++ 10 ∷ []
-
--- those of some rows
-unfoldable pub rows_bytes : Palette → List (List Piece) → List ℕ
-rows_bytes palette rows = joined (row_bytes palette) rows
 
 -- ---- what a call has written: all else of the pen is as it was
 

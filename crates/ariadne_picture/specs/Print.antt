@@ -12,17 +12,27 @@ use Rattle.ariadne_picture.specs.Canvas.{Cell, Palette, cell_of}
 unfoldable pub cell_bytes : Cell → List ℕ
 cell_bytes c = painted c.color c.text
 
--- a row, and a line feed
-unfoldable pub row_bytes : List Cell → List ℕ
-row_bytes cells = joined cell_bytes cells ++ 10 ∷ []
+-- a row of cells, and a line feed
+unfoldable pub line_bytes : List Cell → List ℕ
+line_bytes cells = joined cell_bytes cells ++ 10 ∷ []
 
 -- all rows
 unfoldable pub printed : List (List Cell) → List ℕ
-printed canvas = joined row_bytes canvas
+printed canvas = joined line_bytes canvas
+
+-- ---- rows of pieces, in the colours of a palette
 
 -- the bytes of a part of a row
 unfoldable pub pieces_bytes : Palette → List Piece → List ℕ
 pieces_bytes palette pieces = joined cell_bytes (map (cell_of palette) pieces)
+
+-- those of a row, which ends in a line feed
+unfoldable pub row_bytes : Palette → List Piece → List ℕ
+row_bytes palette pieces = pieces_bytes palette pieces ++ 10 ∷ []
+
+-- those of some rows: what is printed of a picture is made of them
+unfoldable pub rows_bytes : Palette → List (List Piece) → List ℕ
+rows_bytes palette rows = joined (row_bytes palette) rows
 
 -- ---- erasure
 

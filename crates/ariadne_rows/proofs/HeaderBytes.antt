@@ -12,8 +12,8 @@ use Rattle.ariadne_picture.specs.declared.cell.Paint.TheVariants.{Kind, Margin}
 use Rattle.ariadne_picture.specs.Canvas.{Palette, color_of, header_pieces}
 use Rattle.ariadne_picture.specs.Pieces.{Section, Texts, painted_text, plain_text, stroke, spaces, repeated, glyph_text}
 use Rattle.ariadne_picture.specs.Pieces.{group_header_pieces, location_text, spacer_pieces, tail_pieces}
-use Rattle.ariadne_picture.specs.Print.{pieces_bytes}
-use Rattle.ariadne_cells.specs.Pages.{Adds, Draws, DrawsRow, PageFields, PenFields, row_bytes}
+use Rattle.ariadne_picture.specs.Print.{pieces_bytes, row_bytes}
+use Rattle.ariadne_cells.specs.Pages.{Adds, Draws, DrawsRow, PageFields, PenFields}
 use Rattle.ariadne_cells.proofs.Bytes.{pieces_bytes_first, pieces_bytes_one, plain_first, painted_parts, row_bytes-is}
 use Rattle.ariadne_cells.proofs.Drawn.{adds_same, adds-append, draws-append, draws_one, draws_plain, draws_row_ended, page_kept}
 use Rattle.ariadne_cells.proofs.Copies.{repeated_more}

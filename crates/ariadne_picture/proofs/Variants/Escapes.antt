@@ -13,7 +13,7 @@ use Rattle.ariadne_color.specs.declared.color.Color.TheVariants.{Primary, Fixed,
 use Rattle.ariadne_color.specs.Colors.{foreground, parameters, painted}
 use Rattle.ariadne_picture.specs.Lists.{joined}
 use Rattle.ariadne_picture.specs.Canvas.{Cell}
-use Rattle.ariadne_picture.specs.Print.{cell_bytes, row_bytes, printed, erased, is_parameter, sequence_len, unescaped_after, unescaped}
+use Rattle.ariadne_picture.specs.Print.{cell_bytes, line_bytes, printed, erased, is_parameter, sequence_len, unescaped_after, unescaped}
 use Rattle.ariadne_picture.specs.Variants.{HasNoEscape}
 use Rattle.ariadne_picture.proofs.Lists.ListFacts.{all-weaker}
 
@@ -161,8 +161,8 @@ abbrev HaveNoEscape : List Cell → Type 0
 HaveNoEscape row = AllByRecursion (λ (c : Cell). HasNoEscape c.text) row
 
 -- a row leaves that of its cells without their colours, since each cell leaves its text
-leaves-row : (row : List Cell) → HaveNoEscape row → Leaves (row_bytes row) (row_bytes (map plain_cell row))
-unfolding row_bytes cell_bytes
+leaves-row : (row : List Cell) → HaveNoEscape row → Leaves (line_bytes row) (line_bytes (map plain_cell row))
+unfolding line_bytes cell_bytes
 leaves-row row h =
     let each = all-weaker (λ c. HasNoEscape c.text) (λ c. Leaves (cell_bytes c) c.text) row (λ c. leaves-painted c.color c.text) h in
     let cells = leaves-mapped cell_bytes plain_cell row each in
@@ -173,5 +173,5 @@ pub unescaped-printed : (rows : List (List Cell)) → AllByRecursion (λ row. Al
     → unescaped (printed rows) ≡ printed (erased rows)
 unfolding printed
 unescaped-printed rows h =
-    let each = all-weaker HaveNoEscape (λ row. Leaves (row_bytes row) (row_bytes (map plain_cell row))) rows leaves-row h in
-    leaves-all (joined row_bytes rows) (joined row_bytes (erased rows)) (leaves-mapped row_bytes (map plain_cell) rows each)
+    let each = all-weaker HaveNoEscape (λ row. Leaves (line_bytes row) (line_bytes (map plain_cell row))) rows leaves-row h in
+    leaves-all (joined line_bytes rows) (joined line_bytes (erased rows)) (leaves-mapped line_bytes (map plain_cell) rows each)

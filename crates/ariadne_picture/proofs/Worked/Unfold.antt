@@ -21,7 +21,7 @@ use Rattle.ariadne_picture.specs.Pieces.{location_text, group_header_pieces, spa
 use Rattle.ariadne_picture.specs.Pieces.{aside_name, aside_prefix, aside_line, aside_pieces, rest_pieces, row_pieces, section_rows}
 use Rattle.ariadne_picture.specs.Canvas.{header_pieces, paint_color, color_of, label_id, is_same_id, same_source, texts_of, group_id, group_source}
 use Rattle.ariadne_picture.specs.Canvas.{group_name, header_offset, sheet_of, section_of, groups, number_width, outline, sections, canvas}
-use Rattle.ariadne_picture.specs.Print.{cell_bytes, row_bytes, printed, pieces_bytes, is_parameter, sequence_len, unescaped_after, unescaped}
+use Rattle.ariadne_picture.specs.Print.{cell_bytes, line_bytes, printed, pieces_bytes, is_parameter, sequence_len, unescaped_after, unescaped}
 use Rattle.ariadne_picture.specs.Placing.{is_glyph, is_level, unindented, ends_in, row_at, cell_at, shown_lines, column_cell, text_cell, place_cell}
 use Rattle.ariadne_picture.specs.Placing.{has_cell, block_rows, holds_at_places, is_traced_at, is_level_right_of, shown_texts, shown_widths}
 use Rattle.ariadne_picture.specs.Placing.{is_source_row, is_block_row, is_in_group, is_in_block, are_rising, messages_of, is_line_placed}
@@ -43,7 +43,7 @@ unfolding digits is_separator begins_with_line_feed ends_line in_front full_line
     margin_text margin_paint margin_pieces column_size gutter_len gutter_pieces location_text group_header_pieces spacer_pieces repeated tail_pieces
     message_pieces aside_texts aside_name aside_prefix aside_line aside_pieces rest_pieces row_pieces section_rows header_pieces paint_color color_of
     label_id is_same_id same_source texts_of group_id group_source group_name header_offset sheet_of section_of groups number_width outline sections
-    canvas cell_bytes row_bytes printed pieces_bytes is_parameter sequence_len unescaped_after unescaped is_glyph is_level unindented ends_in row_at
+    canvas cell_bytes line_bytes printed pieces_bytes is_parameter sequence_len unescaped_after unescaped is_glyph is_level unindented ends_in row_at
     cell_at shown_lines column_cell text_cell place_cell has_cell block_rows holds_at_places is_traced_at is_level_right_of shown_texts shown_widths
     is_source_row is_block_row is_in_group is_in_block are_rising messages_of is_line_placed is_gutter_label_placed is_group_placed are_distinct
     is_placing is_message_row are_block_ends has_message_rows is_inline_traced is_underlined has_inline_traces is_end_traced is_start_traced
