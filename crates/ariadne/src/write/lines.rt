@@ -1,8 +1,8 @@
 //! The rows of the lines of a group, from its first line to its last.
 
 ghost use Rattle.std.specs.Prelude.{◌≡◌, ◌<◌, ◌≤◌, ◌+◌, ℕ, OnOk, false, length, map, replicate};
-ghost use Rattle.std.specs.Prelude.{IfSome, Some, ◌^◌, slice_get, slice_range, true};
-ghost use Rattle.std.specs.List.{AllByRecursion, enumerate_from};
+ghost use Rattle.std.specs.Prelude.{IfSome, Some, ◌^◌, ◌-◌, option_map, slice_get, slice_range, true};
+ghost use Rattle.std.specs.List.{AllByRecursion, enumerate_from, range_with_len};
 ghost use Rattle.ariadne.specs.Drawn.{AreOverLines, IsAtLine, IsAtSome, IsBelowLine, IsBelowSome};
 ghost use Rattle.ariadne.specs.Drawn.{IsDrawnGroup, IsLaidOut, begins_run};
 ghost use Rattle.ariadne_cells.specs.Pages.{DrawsRow, DrawsRows};
@@ -73,24 +73,18 @@ pub(crate) fn push_lines<S: Span, I: SourceText>(
         OnOk result (DrawsRows pen.old pen.new
         (map (row_pieces t page.number_width g) (joined (line_rows g.sheet) (group_lines labels)))) }
 {
-    let first = first_line(lists.sheet.labels());
-    let last = last_line(lists.sheet.labels());
-    let mut line = first;
+    let _display_offset = source.display_line_offset();
+    let mut line = first_line(lists.sheet.labels());
+    let behind = last_line(lists.sheet.labels()) + 1;
     let mut event = 0;
-    while line <= last {
-        let next = event_line(&lists.sheet, event).unwrap_or(last + 1);
-        if line < next {
-            push_hidden(pen, &mut lists.sheet, &lists.gutter, source, line)?;
-        }
-        if next > last {
-            break;
-        }
+    while let Some(next) = event_line(&lists.sheet, event) {
+        push_hidden_lines(pen, &mut lists.sheet, &lists.gutter, source, line, next)?;
         let end = lists.sheet.line_end(event);
         push_line(pen, lists, report, source, next, event, end)?;
         line = next + 1;
         event = end;
     }
-    Ok(())
+    push_hidden_lines(pen, &mut lists.sheet, &lists.gutter, source, line, behind)
 }
 
 /// The first line of a group.
@@ -116,8 +110,44 @@ pub(crate) fn last_line(group: &[LabelInfo]) -> usize
 }
 
 /// The line of an event of a group, where there are so many events.
-fn event_line(sheet: &GroupSheet<'_>, event: usize) -> Option<usize> {
+fn event_line(sheet: &GroupSheet<'_>, event: usize) -> Option<usize>
+    ensures { (s : Sheet) → s.labels ≡ sheet.now.labels →
+        result ≡ option_map (λ e. e.line) (slice_get (events_of s) event) }
+{
     sheet.events().get(event).map(|event| event.line)
+}
+
+/// Writes the row in place of the hidden lines from a line to before another, if there is one.
+///
+/// On `Err` there was no memory for it, and the group has no labels.
+fn push_hidden_lines<I: SourceText>(
+    pen: &mut Pen<'_>,
+    sheet: &mut GroupSheet<'_>,
+    gutter: &Gutter<'_>,
+    source: &Source<I>,
+    line: usize,
+    next: usize,
+) -> Result<(), AllocError>
+    requires page { gutter.now.page ≡ pen.old.page }
+    requires onward { sheet.old.line ≤ line }
+    requires up { line ≤ next }
+    requires within { next ≤ length (listed_lines source.now) }
+    ensures labels { OnOk result (sheet.new.labels ≡ sheet.old.labels) }
+    ensures onward { OnOk result (sheet.new.line ≤ next) }
+    ensures drawn { let page = pen.old.page in (t : Texts) (g : Section) →
+        IsDrawnGroup t g page.switches source.now sheet.old.labels →
+        AreOverLines (listed_lines source.now) sheet.old.labels →
+        0 < length sheet.old.labels →
+        IsBeside g.sheet line gutter.now → begins_run g.sheet line ≡ true →
+        ((j : ℕ) → line ≤ j → j < next → is_hidden g.sheet j ≡ true) →
+        OnOk result (DrawsRows pen.old pen.new (map (row_pieces t page.number_width g)
+        (joined (line_rows g.sheet) (range_with_len line (next - line))))) }
+{
+    if line < next {
+        push_hidden(pen, sheet, gutter, source, line)
+    } else {
+        Ok(())
+    }
 }
 
 /// Writes the row in place of the hidden lines from a line on, if there is one.
@@ -196,12 +226,14 @@ fn push_line<S: Span, I: SourceText>(
         labels,
         table,
     } = lists;
+    let _text = source.text();
+    let display_offset = source.display_line_offset();
     let margin = sheet.rank(from, to, labels)?;
     let extent = source.line(line).unwrap();
     let text = source.get_line_text(extent).unwrap();
     let layout = LineLayout::new(margin, labels, extent.offset(), extent.len(), text);
     find_paints(pen, sheet, table, &layout, line)?;
-    let number = line + 1 + source.display_line_offset();
+    let number = line + 1 + display_offset;
     push_source_row(pen, gutter, &layout, &table.paints, number)?;
     start_margin(gutter, margin)?;
     push_rows_below(pen, gutter, table, &layout, report)
