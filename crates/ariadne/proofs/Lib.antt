@@ -15,6 +15,8 @@ pub mod LinesHidden
 pub mod LinesPaints
 pub mod LinesQuiet
 pub mod LinesRows
+pub mod LinesShown
+pub mod LinesWalk
 pub mod Locating
 pub mod Messages
 pub mod OverLines

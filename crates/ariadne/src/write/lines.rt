@@ -137,7 +137,7 @@ fn push_hidden_lines<I: SourceText>(
     ensures drawn { let page = pen.old.page in (t : Texts) (g : Section) →
         IsDrawnGroup t g page.switches source.now sheet.old.labels →
         AreOverLines (listed_lines source.now) sheet.old.labels →
-        0 < length sheet.old.labels →
+        0 < length sheet.old.labels → group_start_line g.sheet.labels ≤ line →
         IsBeside g.sheet line gutter.now → begins_run g.sheet line ≡ true →
         ((j : ℕ) → line ≤ j → j < next → is_hidden g.sheet j ≡ true) →
         OnOk result (DrawsRows pen.old pen.new (map (row_pieces t page.number_width g)
