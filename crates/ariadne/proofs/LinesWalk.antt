@@ -1,5 +1,5 @@
 -- The lines of a group as they are gone through: those before an event are hidden, that of the event is shown, and its rows follow theirs.
-use Rattle.std.proofs.Common.{◌≡◌, ◌∙◌, ℕ, zero, suc, ◌+◌, ◌-◌, ◌<◌, ◌≤◌, Bool, true, false, not, ◌&&◌, List, [], ◌∷◌, ◌++◌, length, map, max, nat_lt, replicate, refl, sym, ap, subst, arith, Some, None}
+use Rattle.std.proofs.Common.{◌≡◌, ◌∙◌, ℕ, zero, suc, ◌+◌, ◌-◌, ◌<◌, ◌≤◌, Bool, true, false, not, ◌&&◌, ◌==◌, List, [], ◌∷◌, ◌++◌, length, map, filter, max, nat_lt, replicate, refl, sym, ap, subst, arith, Some, None}
 use Rattle.std.specs.Prelude.{Option, option_map, slice_get, slice_range}
 use Rattle.std.specs.List.{AllByRecursion, range_with_len}
 use Rattle.std.proofs.lemmas.Bool.{le-ltb, lt-ltb, and_right, not_from_false}
@@ -13,7 +13,7 @@ use Rattle.ariadne_picture.specs.Bars.{EndsNoEarlier}
 use Rattle.ariadne_picture.specs.Groups.{greatest, group_end_line, group_lines, group_start_line}
 use Rattle.ariadne_picture.specs.Lists.{joined}
 use Rattle.ariadne_picture.specs.Pieces.{Section, Texts, row_pieces}
-use Rattle.ariadne_picture.specs.Ranks.{Sheet, gutter_labels, is_hidden}
+use Rattle.ariadne_picture.specs.Ranks.{Sheet, gutter_labels, is_hidden, multi_line_labels}
 use Rattle.ariadne_picture.specs.Rows.{Row, line_rows}
 use Rattle.ariadne_picture.proofs.Lists.Joined.{joined-append, joined-one}
 use Rattle.ariadne_picture.proofs.Lists.ListFacts.{all-at, all-weaker, none≢some}
@@ -24,6 +24,7 @@ use Rattle.ariadne_rows.specs.Sheets.{IsLineEnd, events_at, events_of}
 use Rattle.ariadne_rows.proofs.Events.{above, event-lines, event-shown, label-lines, line-end, line-events, next-line, no_event-hidden, none-above, none-between, still-above}
 use Rattle.ariadne_rows.proofs.GutterSteps.{first-line, hidden-run}
 use Rattle.ariadne.specs.Drawn.{AreOverLines, IsDrawnGroup, IsOverLines, begins_run}
+use Rattle.ariadne.proofs.LinesHidden.{over-rise}
 use Rattle.ariadne.proofs.LinesRows.{rows-append}
 use Rattle.ariadne.proofs.LinesShown.{first-label}
 
@@ -64,6 +65,11 @@ first-before_last s some rise =
     let low = h.0.0 in
     let high = h.0.1 in
     omega arith
+
+-- the labels of a group end no earlier than they start
+pub group-rise : (lines : List (List ℕ)) (labels : List LabelInfo) → AreOverLines lines labels → (s : Sheet) → s.labels ≡ labels
+    → AllByRecursion EndsNoEarlier s.labels
+group-rise lines labels over s own = subst (AllByRecursion EndsNoEarlier) (sym own) (over-rise lines labels over)
 
 -- ---- how far the lines are gone through
 
@@ -171,6 +177,18 @@ module _ (s : Sheet) (rise : AllByRecursion EndsNoEarlier s.labels) where
   walk-end l k g o w read is j low =
       let none = event-none (slice_get (events_of s) k) (sym read ∙ is) in
       no_event-hidden s j (none-between s l j k w.events low (λ x at. absurd (none≢some x (sym none ∙ at))))
+
+-- ---- what does not hang on the switches of a sheet
+
+-- its events
+pub events-page : (s : Sheet) (w : Switches) → events_of (record s { switches = w }) ≡ events_of s
+unfolding events_of gutter_labels multi_line_labels
+events-page s w = refl
+
+-- those of a line
+pub events_at-page : (s : Sheet) (w : Switches) (l : ℕ) → events_at (record s { switches = w }) l ≡ events_at s l
+unfolding events_at
+events_at-page s w l = ap (filter (λ (e : Event). e.line == l)) (events-page s w)
 
 -- ---- rows of lines one after another
 
