@@ -12,6 +12,7 @@ pub mod GroupingWidths
 pub mod Judging
 pub mod LinesBounds
 pub mod LinesHidden
+pub mod LinesLayout
 pub mod LinesPaints
 pub mod LinesQuiet
 pub mod LinesRows

@@ -15,8 +15,8 @@ use Rattle.ariadne_picture.specs.Columns.{Layout, layout_of}
 use Rattle.ariadne_picture.specs.Lists.{joined}
 use Rattle.ariadne_picture.specs.Pieces.{Piece, Section, Texts, row_pieces}
 use Rattle.ariadne_picture.specs.Canvas.{Palette}
-use Rattle.ariadne_picture.specs.Ranks.{Sheet, line_labels, margin_label, is_inline}
-use Rattle.ariadne_picture.specs.Rows.{Row, label_rows, arrow, alternate}
+use Rattle.ariadne_picture.specs.Ranks.{Sheet, is_hidden, line_labels, margin_label, is_inline}
+use Rattle.ariadne_picture.specs.Rows.{Row, label_rows, arrow, alternate, line_rows, source}
 use Rattle.ariadne_picture.proofs.Lists.Joined.{joined-append, joined-one}
 use Rattle.ariadne_rows.specs.Gutters.{GutterFields, IsBelow, HasBarsOf}
 use Rattle.ariadne_rows.specs.Headers.{IsOnPage}
@@ -185,3 +185,9 @@ rows-of t g w a b xs ys e d = subst (λ rows. DrawsRows a b (map (row_pieces t w
 -- the page stays behind a row
 pub row-page : (a b : PenFields) (x : List Piece) → DrawsRow a b x → b.page ≡ a.page
 row-page a b x d = ap (λ (q : PenFields). q.page) d
+
+-- a line that is shown has its source row and the rows of its labels
+pub line-shown : (s : Sheet) (l : ℕ) → is_hidden s l ≡ false
+    → source l ∷ joined (label_rows s.switches.compact l) (enumerate_from 0 (line_labels s l)) ≡ line_rows s l
+unfolding line_rows
+line-shown s l e = sym (rw e refl)

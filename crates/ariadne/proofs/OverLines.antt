@@ -65,7 +65,7 @@ module _ {S : Type 0} (config : ConfigFields) (source : Listing) (k : ℕ) (labe
 -- ---- where it lies
 
 -- the two sums of a list are one
-total_is : {X : Type 0} (f : X → ℕ) (xs : List X) → total f xs ≡ sum_by f xs
+pub total_is : {X : Type 0} (f : X → ℕ) (xs : List X) → total f xs ≡ sum_by f xs
 unfolding total
 total_is f [] = refl
 total_is f (x ∷ xs) = ap (λ n. f x + n) (total_is f xs) ∙ sym (sum_by-cons f x xs)
