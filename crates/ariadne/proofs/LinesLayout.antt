@@ -27,7 +27,7 @@ use Rattle.ariadne_picture.proofs.Labels.LineLabels.{IsEndAt, ends-are}
 use Rattle.ariadne_picture.proofs.Lists.Elements.{both-true}
 use Rattle.ariadne_picture.proofs.Lists.ListFacts.{all-append, all-at, all-filter, all-in_order, all-map, all-weaker}
 use Rattle.ariadne_picture.proofs.Rows.RowsThere.{all-gutter-labels}
-use Rattle.ariadne_rows.specs.Gutters.{GutterFields, IsBeside}
+use Rattle.ariadne_rows.specs.Gutters.{GutterFields, IsBeside, is_beside}
 use Rattle.ariadne_rows.specs.Sheets.{events_at, events_of, labels_of}
 use Rattle.ariadne_rows.proofs.Events.{labels-at}
 use Rattle.ariadne_rows.proofs.GutterSteps.{margin-column-within}
@@ -158,5 +158,5 @@ beside-same s t l g e w b =
         switches = b.sheet.switches ∙ sym w;
         positions = b.sheet.positions ∙ ap (map (λ (a : LabelInfo). a.position)) same;
       };
-      bars = b.bars ∙ ap (map (Rattle.ariadne_rows.specs.Gutters.is_beside l)) same;
+      bars = b.bars ∙ ap (map (is_beside l)) same;
     }

@@ -5,7 +5,7 @@ use Rattle.std.specs.List.{enumerate_from}
 use Rattle.std.specs.Option.{IsSome}
 use Rattle.std.specs.Str.{IsUtf8}
 use Rattle.ariadne_base.specs.Listing.{listed_lines}
-use Rattle.ariadne_base.specs.Locations.{line_text}
+use Rattle.ariadne_base.specs.Locations.{line_offset, line_text}
 use Rattle.ariadne_base.specs.Table.{LineExtent, line_extent}
 use Rattle.ariadne_base.proofs.LocationLemmas.{offset_is}
 use Rattle.ariadne_cells.specs.Pages.{DrawsRow, DrawsRows, PageFields}
@@ -87,7 +87,7 @@ layout-there g c s own lines =
     layout-is s l c.new-layout.result c.in_ok-margin.margin c.deref.result.now c.offset.result (chars c.unwrap-text.result.now) c.new-layout.ensures
     (c.in_ok-margin.ensures.margin s l own here) (c.deref.ensures.value ∙ c.in_ok-margin.ensures.labels s l own here)
     (c.offset.ensures ∙ ap (λ (e : LineExtent). e.offset) (extent-is g b) ∙ offset_is (listed_lines c.args.source.now) l
-    ∙ ap (λ ls. Rattle.ariadne_base.specs.Locations.line_offset length ls l) (sym lines))
+    ∙ ap (λ ls. line_offset length ls l) (sym lines))
     (chars-are g b ∙ ap (λ ls. line_text ls l) (sym lines))
 
 -- a sheet of the group
@@ -158,7 +158,7 @@ source-page g c layout =
     let t = texts_of c.args.report.now in
     let page = c.args.pen.now.page in
     let some = some-group t page.switches c.args.source.now c.args.lists.now.sheet.labels c.requires.texts in
-    row-page c.args.pen.now c.push_source_row.new.pen (row_pieces t page.number_width some.0 (source c.args.line)) 
+    row-page c.args.pen.now c.push_source_row.new.pen (row_pieces t page.number_width some.0 (source c.args.line))
     (source-drawn g c some.0 some.1 (layout some.0 some.1))
 
 -- ---- the rows below
