@@ -7,7 +7,7 @@ use Rattle.std.proofs.lemmas.Bool.{cases_eq, eq-eqb, ne_eqb}
 use Rattle.std.proofs.lemmas.List.{drop_all}
 use Rattle.std.proofs.Math.ListN.{length-drop}
 use Rattle.ariadne_cells.specs.Pages.{DrawsRow, DrawsRows, PageFields, PenFields}
-use Rattle.ariadne_picture.specs.Print.{row_bytes, rows_bytes, pieces_bytes, printed, row_bytes as printed_row}
+use Rattle.ariadne_picture.specs.Print.{line_bytes, pieces_bytes, printed, row_bytes, rows_bytes}
 use Rattle.ariadne_picture.specs.declared.label_info.LabelInfo.{LabelInfo}
 use Rattle.ariadne_picture.specs.Canvas.{Palette, canvas, cell_of, code_text, groups, header_pieces, kind_name, number_width, outline, palette_of}
 use Rattle.ariadne_picture.specs.Canvas.{same_source, section_of, texts_of}
@@ -149,8 +149,8 @@ message_is r = refl
 
 -- the bytes of some rows are those that are printed of their cells
 bytes_are : (p : Palette) (rows : List (List Piece)) → rows_bytes p rows ≡ printed (map (map (cell_of p)) rows)
-unfolding rows_bytes row_bytes printed_row printed pieces_bytes
-bytes_are p rows = sym (joined-map printed_row (map (cell_of p)) rows)
+unfolding rows_bytes row_bytes line_bytes printed pieces_bytes
+bytes_are p rows = sym (joined-map line_bytes (map (cell_of p)) rows)
 
 -- in a report over labels, which stand in order in the list `sorted`
 module _ {S Id : Type 0} (w : World S Id) (r : ReportFields S) (infos sorted : List LabelInfo) (same : sorted ≡ ordered infos) where

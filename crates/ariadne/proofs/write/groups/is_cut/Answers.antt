@@ -1,5 +1,5 @@
 -- The ids of both labels are those of their spans.
-use Rattle.std.proofs.Common.{◌≡◌, ap, ◌∙◌}
+use Rattle.std.proofs.Common.{ap, ◌∙◌}
 use Rattle.ariadne.specs.Drawn.{world}
 use Rattle.ariadne.proofs.GroupingSources.{cut_by_ids, cut_by_lines, label_there}
 use Rattle.ariadne.proofs.write.groups.is_cut.Goals as goal

@@ -1,10 +1,10 @@
 -- The number of a group's last line, in the source of its first label.
-use Rattle.std.proofs.Common.{◌≡◌, ◌∙◌, ◌+◌, ◌<◌, ◌≤◌, ℕ, ap, arith, max, length, drop, sym, rules, get_or, false}
+use Rattle.std.proofs.Common.{◌≡◌, ◌∙◌, ◌+◌, ◌<◌, ap, arith, max, length, get_or, false}
 use Rattle.std.specs.Prelude.{decimal, slice_range, pos}
 use Rattle.std.specs.Option.{option_copied}
 use Rattle.std.proofs.lemmas.List.{drop_all}
 use Rattle.ariadne.specs.Drawn.{world, IsDrawn}
-use Rattle.ariadne_base.specs.Listing.{Listing, listed_lines}
+use Rattle.ariadne_base.specs.Listing.{listed_lines}
 use Rattle.ariadne_picture.specs.Canvas.{number_width, same_source}
 use Rattle.ariadne_picture.specs.Groups.{groups_of, group_end_line}
 use Rattle.ariadne_picture.specs.declared.label_info.LabelInfo.{LabelInfo}

@@ -1,4 +1,4 @@
-use Rattle.std.proofs.Common.{◌≡◌, ◌∙◌, ap, arith, refl}
+use Rattle.std.proofs.Common.{arith}
 use Rattle.ariadne.proofs.LinesBounds.{least-start, least-more, least-done}
 use Rattle.ariadne.proofs.write.lines.first_line.Goals as goal
 

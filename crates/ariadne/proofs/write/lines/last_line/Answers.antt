@@ -1,4 +1,4 @@
-use Rattle.std.proofs.Common.{◌≡◌, ◌∙◌, ap, arith, refl}
+use Rattle.std.proofs.Common.{arith}
 use Rattle.ariadne.proofs.LinesBounds.{greatest-start, greatest-more, greatest-done}
 use Rattle.ariadne.proofs.write.lines.last_line.Goals as goal
 

@@ -1,7 +1,5 @@
-use Rattle.std.proofs.Common.{◌≡◌, ◌∙◌, ◌+◌, sym, ap, false, true}
-use Rattle.ariadne_picture.specs.Ranks.{is_inline}
+use Rattle.std.proofs.Common.{◌∙◌, sym, ap}
 use Rattle.ariadne_rows.proofs.GutterSteps.{below-next_inline, below-next}
-use Rattle.ariadne_rows.specs.Gutters.{GutterFields}
 use Rattle.ariadne.proofs.LinesRows.{on-ok}
 use Rattle.ariadne.proofs.write.lines.pass_bar.Goals as goal
 

@@ -1,4 +1,4 @@
-use Rattle.std.proofs.Common.{◌≡◌, ◌∙◌, sym, ap}
+use Rattle.std.proofs.Common.{◌∙◌, sym, ap}
 use Rattle.ariadne_picture.specs.Ranks.{is_margin}
 use Rattle.ariadne_picture.specs.Canvas.{texts_of}
 use Rattle.ariadne.proofs.LinesRows.{table-there, bars-arrow, label-there, margin-of}

@@ -1,16 +1,10 @@
-use Rattle.std.proofs.Common.{◌≡◌, ◌∙◌, sym, ap, subst, refl, true, false, [], ◌∷◌, length, Some}
+use Rattle.std.proofs.Common.{◌≡◌, ◌∙◌, sym, ap, subst, refl, true, false, [], ◌∷◌}
 use Rattle.std.specs.Option.{IsSome}
 use Rattle.ariadne_base.specs.Listing.{listed_lines}
-use Rattle.ariadne_base.specs.Locations.{line_offset, line_text}
-use Rattle.ariadne_base.specs.Table.{LineExtent, line_extent}
-use Rattle.ariadne_base.proofs.LocationLemmas.{offset_is}
-use Rattle.ariadne_cells.specs.Pages.{PageFields, DrawsRow}
+use Rattle.ariadne_cells.specs.Pages.{PageFields}
 use Rattle.ariadne_picture.specs.declared.switches.Switches.{Switches}
 use Rattle.ariadne_picture.specs.Pieces.{row_pieces}
-use Rattle.ariadne_picture.specs.Ranks.{Sheet}
 use Rattle.ariadne_picture.specs.Rows.{bare, gap, is_inside, line_rows}
-use Rattle.ariadne_rows.specs.Headers.{IsOnPage}
-use Rattle.ariadne_rows.specs.Sheets.{GroupFields}
 use Rattle.ariadne_rows.proofs.GutterSteps.{beside-gap}
 use Rattle.ariadne.specs.Drawn.{AreOverLines}
 use Rattle.ariadne.proofs.LinesHidden.{drawn-page, drawn-lines, drawn-labels, drawn-switches, drawn-over, inside-told, line-read, over-rise, hidden-none, line-there, run-gap, run-none, run-bare}

@@ -1,9 +1,7 @@
 -- The row in place of hidden lines is that of the first of them.
-use Rattle.std.proofs.Common.{◌≡◌, ◌∙◌, ◌-◌, ◌<◌, ◌≤◌, [], sym, ap, subst, arith, length, chars, refl, true}
+use Rattle.std.proofs.Common.{◌-◌, ◌<◌, ◌≤◌, [], sym, subst, arith, length, chars}
 use Rattle.ariadne_base.specs.Listing.{listed_lines}
-use Rattle.ariadne_base.specs.Locations.{line_text}
 use Rattle.ariadne_picture.specs.Lists.{joined}
-use Rattle.ariadne_picture.specs.Ranks.{Sheet}
 use Rattle.ariadne_picture.specs.Rows.{line_rows}
 use Rattle.std.specs.List.{range_with_len}
 use Rattle.ariadne.proofs.LinesHidden.{drawn-labels, drawn-lines, drawn-over}

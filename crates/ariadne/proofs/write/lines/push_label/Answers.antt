@@ -1,4 +1,3 @@
-use Rattle.std.proofs.Common.{◌≡◌, ◌∙◌, sym, ap}
 use Rattle.ariadne_picture.specs.Canvas.{texts_of}
 use Rattle.ariadne.proofs.LinesRows.{on-ok, column-at, drawn-at, line-label-at, table-next}
 use Rattle.ariadne.proofs.write.lines.push_label.Goals as goal

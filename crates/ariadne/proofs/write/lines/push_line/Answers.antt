@@ -1,6 +1,6 @@
 -- A line is drawn from its extent, its text and its labels: its source row, then the rows below it.
-use Rattle.std.proofs.Common.{◌≡◌, ◌∙◌, ◌+◌, ◌<◌, ◌^◌, List, [], ◌∷◌, length, map, refl, sym, ap, subst, arith, true, Some}
-use Rattle.std.specs.Prelude.{chars, encode_utf8_all}
+use Rattle.std.proofs.Common.{◌≡◌, ◌∙◌, ◌+◌, ◌<◌, ◌^◌, List, [], ◌∷◌, length, map, refl, sym, ap, subst, arith}
+use Rattle.std.specs.Prelude.{chars}
 use Rattle.std.specs.List.{enumerate_from}
 use Rattle.std.specs.Option.{IsSome}
 use Rattle.std.specs.Str.{IsUtf8}
@@ -11,7 +11,7 @@ use Rattle.ariadne_base.proofs.LocationLemmas.{offset_is}
 use Rattle.ariadne_cells.specs.Pages.{DrawsRow, DrawsRows, PageFields}
 use Rattle.ariadne_cells.specs.Tables.{ArePaints, tab_columns}
 use Rattle.ariadne_picture.specs.Canvas.{texts_of}
-use Rattle.ariadne_picture.specs.Columns.{arrow_len, layout_of}
+use Rattle.ariadne_picture.specs.Columns.{layout_of}
 use Rattle.ariadne_picture.specs.Groups.{printed_number}
 use Rattle.ariadne_picture.specs.Lists.{joined}
 use Rattle.ariadne_picture.specs.Pieces.{Section, row_pieces}

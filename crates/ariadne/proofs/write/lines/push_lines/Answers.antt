@@ -1,5 +1,5 @@
 -- The lines of a group are written one after another: hidden lines, then the line of the next event, and hidden lines at the end.
-use Rattle.std.proofs.Common.{◌≡◌, ◌∙◌, suc, ◌+◌, ◌-◌, ◌<◌, ◌≤◌, [], ◌++◌, length, map, refl, sym, ap, subst, arith, true, false}
+use Rattle.std.proofs.Common.{◌≡◌, ◌∙◌, suc, ◌+◌, ◌-◌, ◌<◌, ◌≤◌, [], ◌++◌, length, map, refl, sym, ap, subst, arith}
 use Rattle.std.specs.Prelude.{slice_range}
 use Rattle.std.specs.List.{range_with_len}
 use Rattle.ariadne.specs.Drawn.{AreOverLines, IsDrawnGroup}
@@ -11,7 +11,6 @@ use Rattle.ariadne_picture.specs.Lists.{joined}
 use Rattle.ariadne_picture.specs.Pieces.{Section, row_pieces}
 use Rattle.ariadne_picture.specs.Ranks.{Sheet}
 use Rattle.ariadne_picture.specs.Rows.{line_rows}
-use Rattle.ariadne_rows.specs.Sheets.{events_of}
 use Rattle.ariadne.proofs.LinesHidden.{drawn-labels, drawn-switches}
 use Rattle.ariadne.proofs.LinesRows.{on-ok, rows-none, rows-of, rows-page}
 use Rattle.ariadne.proofs.LinesWalk.{IsStep, IsWalked, events-page, events_at-page, group-rise, last-within, names-append, run-empty, run-one, runs-join}

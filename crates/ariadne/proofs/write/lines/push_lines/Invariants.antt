@@ -1,5 +1,5 @@
 -- The lines so far are written: the next event is the first that is not above the line.
-use Rattle.std.proofs.Common.{◌≡◌, ◌+◌, ◌-◌, ◌≤◌, ℕ, map}
+use Rattle.std.proofs.Common.{◌≡◌, ◌+◌, ◌-◌, ◌≤◌, map}
 use Rattle.std.specs.List.{range_with_len}
 use Rattle.ariadne.specs.Drawn.{IsDrawnGroup}
 use Rattle.ariadne_cells.specs.Pages.{DrawsRows}

@@ -1,12 +1,10 @@
-use Rattle.std.proofs.Common.{◌≡◌, ◌∙◌, ◌≤◌, false, length, sym, ap, subst, arith, []}
+use Rattle.std.proofs.Common.{◌≡◌, ◌∙◌, false, length, sym, ap, arith, []}
 use Rattle.std.specs.List.{enumerate_from, list_any}
 use Rattle.ariadne_picture.specs.declared.label_info.LineLabel.{LineLabel}
 use Rattle.ariadne_picture.specs.Canvas.{texts_of}
-use Rattle.ariadne_picture.specs.Columns.{Layout, layout_of}
 use Rattle.ariadne_picture.specs.Lists.{joined}
 use Rattle.ariadne_picture.specs.Ranks.{line_labels}
 use Rattle.ariadne_picture.specs.Rows.{label_rows}
-use Rattle.ariadne_rows.specs.Gutters.{IsBelow}
 use Rattle.ariadne.proofs.LinesRows.{rows-none, rows-of}
 use Rattle.ariadne.proofs.LinesQuiet.{layout-labels, quiet-rows, quiet-bars}
 use Rattle.ariadne.proofs.write.lines.push_rows_below.Goals as goal

@@ -1,6 +1,5 @@
-use Rattle.std.proofs.Common.{◌≡◌, ◌∙◌, sym, ap, inl, inr, true, false, Some}
+use Rattle.std.proofs.Common.{◌∙◌, sym, inl, inr}
 use Rattle.ariadne_picture.proofs.Rows.BarCases.{start-side, side-starts}
-use Rattle.ariadne_picture.specs.declared.label_info.Side.TheVariants.{Starts}
 use Rattle.ariadne_rows.proofs.GutterSteps.{beside-below, beside-below_start, margin-ends}
 use Rattle.std.proofs.lemmas.Bool.{true≢false}
 use Rattle.ariadne.proofs.LinesRows.{on-ok}
