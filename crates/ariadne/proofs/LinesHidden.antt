@@ -1,5 +1,6 @@
 -- The row in place of hidden lines, and the labels that may hold a character of a line.
-use Rattle.std.proofs.Common.{◌≡◌, ◌∙◌, ℕ, ◌+◌, ◌-◌, ◌<◌, ◌≤◌, Bool, true, false, not, ◌&&◌, List, [], ◌∷◌, length, nat_le, nat_lt, refl, sym, ap, subst, arith, Some, None}
+use Rattle.std.proofs.Common.{◌≡◌, ◌∙◌, ℕ, ◌-◌, ◌<◌, Bool, true, false, ◌&&◌, List, [], ◌∷◌, length, nat_le, nat_lt, refl, sym, ap, subst, arith}
+use Rattle.std.proofs.Common.{Some, None}
 use Rattle.std.specs.Prelude.{slice_get, is_some, Option, if◌then◌else◌}
 use Rattle.std.specs.List.{AllByRecursion}
 use Rattle.std.proofs.lemmas.Bool.{le-leb, and_from, not-true, true≢false}
@@ -13,7 +14,7 @@ use Rattle.ariadne_picture.specs.declared.label_info.LineLabel.{LineLabel}
 use Rattle.ariadne_picture.specs.Groups.{group_start_line}
 use Rattle.ariadne_picture.specs.Bars.{EndsNoEarlier}
 use Rattle.ariadne_picture.specs.Ranks.{Sheet, is_hidden, margin_label}
-use Rattle.ariadne_picture.specs.Rows.{Row, gap, bare, line_rows, is_inside}
+use Rattle.ariadne_picture.specs.Rows.{gap, bare, line_rows, is_inside}
 use Rattle.ariadne_picture.specs.Strokes.{holds}
 use Rattle.ariadne_picture.proofs.Lists.ListFacts.{all-weaker}
 use Rattle.ariadne_picture.proofs.Rows.BarCases.{hidden-margin}

@@ -1,6 +1,7 @@
 -- What a line of a group is drawn from: its characters, its labels, and how many places its rows have.
-use Rattle.std.proofs.Common.{◌≡◌, ◌∙◌, ℕ, zero, suc, ◌+◌, ◌-◌, ◌<◌, ◌≤◌, ◌^◌, max, Bool, true, false, not, ◌&&◌, ◌==◌, List, [], ◌∷◌, ◌++◌, length, map, filter, refl, sym, ap, subst, arith, Some, None}
-use Rattle.std.specs.Prelude.{Option, IfSome, if◌then◌else◌, chars, encode_utf8_all, flat_map, slice_get, slice_range}
+use Rattle.std.proofs.Common.{◌≡◌, ◌∙◌, ℕ, zero, suc, ◌+◌, ◌<◌, ◌≤◌, ◌^◌, Bool, true, not, ◌&&◌, ◌==◌, List, [], ◌∷◌, ◌++◌, length, map, filter}
+use Rattle.std.proofs.Common.{refl, sym, ap, subst, arith, Some, None}
+use Rattle.std.specs.Prelude.{Option, IfSome, if◌then◌else◌, chars, encode_utf8_all, flat_map, slice_range}
 use Rattle.std.specs.List.{AllByRecursion, list_any}
 use Rattle.std.specs.Option.{IsSome, IsSomeAnd}
 use Rattle.std.specs.Str.{IsUtf8}
@@ -9,11 +10,9 @@ use Rattle.std.proofs.lemmas.Bool.{and_parts, cond_both}
 use Rattle.std.proofs.lemmas.List.Sums.{get_or-le-sum_by}
 use Rattle.std.proofs.lemmas.Str.{chars-encodes, encodes-chars, length-le-encodes, scalars-chars}
 use Rattle.ariadne_base.specs.Lines.{lines_of}
-use Rattle.ariadne_base.specs.Listing.{Listing, listed_lines}
 use Rattle.ariadne_base.specs.Locations.{line_offset, line_text}
-use Rattle.ariadne_base.specs.Table.{LineExtent, line_extent}
+use Rattle.ariadne_base.specs.Table.{line_extent}
 use Rattle.ariadne_base.proofs.LineLaws.{lines_joined, lines_length}
-use Rattle.ariadne_base.proofs.LocationLemmas.{offset_is}
 use Rattle.ariadne_picture.specs.declared.label_info.LabelInfo.{LabelInfo}
 use Rattle.ariadne_picture.specs.declared.label_info.LineLabel.{LineLabel}
 use Rattle.ariadne_picture.specs.declared.label_info.Side.TheVariants.{Inline}
@@ -21,7 +20,8 @@ use Rattle.ariadne_picture.specs.declared.switches.Switches.{Switches}
 use Rattle.ariadne_picture.specs.Columns.{Layout, arrow_len, layout_of, places_to_end}
 use Rattle.ariadne_picture.specs.Groups.{greatest}
 use Rattle.ariadne_picture.specs.Lists.{total}
-use Rattle.ariadne_picture.specs.Ranks.{Sheet, ends_at, gutter_labels, inline_labels, is_before, is_inline, is_margin, is_on_one_line, is_start, line_labels, margin_label}
+use Rattle.ariadne_picture.specs.Ranks.{Sheet, ends_at, gutter_labels, inline_labels, is_before, is_inline, is_margin, is_on_one_line, is_start}
+use Rattle.ariadne_picture.specs.Ranks.{line_labels, margin_label}
 use Rattle.ariadne_picture.specs.Ranks.{multi_line_labels}
 use Rattle.ariadne_picture.proofs.Labels.LineLabels.{IsEndAt, ends-are}
 use Rattle.ariadne_picture.proofs.Lists.Elements.{both-true}
@@ -95,7 +95,8 @@ line-label-infos P s l h =
     all-in_order Q is_before (filter t (ends_at s l) ++ map make ins)
     (all-append Q (filter t (ends_at s l)) (map make ins)
     (all-filter Q t (ends_at s l)
-    (all-weaker (IsEndAt s l) Q (ends_at s l) (λ x e. all-at P (gutter_labels s) x.gutter_column x.info e.owned (all-gutter-labels P s h)) (ends-are s l)))
+    (all-weaker (IsEndAt s l) Q (ends_at s l) (λ x e. all-at P (gutter_labels s) x.gutter_column x.info e.owned (all-gutter-labels P s h))
+    (ends-are s l)))
     (all-map Q make ins (all-filter P (λ a. is_on_one_line a && (a.start_line == l)) s.labels h)))
 
 -- ---- how many places its rows have
@@ -107,7 +108,8 @@ places-within y b [] h = omega arith
 places-within y b (x ∷ xs) h = let here = h.0 in let rest = places-within y b xs h.1 in omega arith
 
 -- so the rows have few places more than the source has characters
-arrow-within : (switches : Switches) (y : Layout) (b : ℕ) → length y.text ≤ b → AllByRecursion (λ x. x.info.end ≤ b) y.labels → arrow_len switches y ≤ b + 2
+arrow-within : (switches : Switches) (y : Layout) (b : ℕ) → length y.text ≤ b → AllByRecursion (λ x. x.info.end ≤ b) y.labels
+    → arrow_len switches y ≤ b + 2
 unfolding arrow_len
 arrow-within switches y b short h =
     let last = places-within y b y.labels h in

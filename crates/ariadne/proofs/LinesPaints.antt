@@ -1,6 +1,7 @@
 -- The labels that may colour the characters of a line: those that touch it, by rising numbers.
-use Rattle.std.proofs.Common.{◌≡◌, ◌∙◌, ℕ, zero, suc, ◌+◌, ◌<◌, ◌≤◌, Bool, true, false, ◌==◌, ◌&&◌, cond, List, [], ◌∷◌, length, map, filter, refl, sym, ap, subst, arith, Some}
-use Rattle.std.specs.Prelude.{slice_get, slice_index}
+use Rattle.std.proofs.Common.{◌≡◌, ◌∙◌, ℕ, suc, ◌+◌, ◌<◌, ◌≤◌, Bool, false, ◌==◌, ◌&&◌, List, [], ◌∷◌, length, map, filter, refl, sym, ap, subst}
+use Rattle.std.proofs.Common.{arith, Some}
+use Rattle.std.specs.Prelude.{slice_get}
 use Rattle.std.specs.List.{All, AllByRecursion, enumerate_from, list_any}
 use Rattle.std.specs.List.Sorted.{IsStrictlyIncreasing}
 use Rattle.std.specs.Char.{is_whitespace}
@@ -54,7 +55,8 @@ touching-within s l =
 touching-rise : (s : Sheet) (l : ℕ) → IsStrictlyIncreasing (touching s l)
 unfolding touching
 touching-rise s l = λ k less.
-    increasing-pairs (λ i j. i < j) (touching s l) (kept-rise (λ (e : ℕ × LabelInfo). touches l e.1) 0 (multi_line_labels s)).1 k (k + 1) 0 (omega arith) less
+    increasing-pairs (λ i j. i < j) (touching s l) (kept-rise (λ (e : ℕ × LabelInfo). touches l e.1) 0 (multi_line_labels s)).1 k (k + 1) 0
+    (omega arith) less
 
 module _ (labels : List LabelInfo) (l : ℕ) (y : Layout) (h : IsLaidOut labels l y) (group : GroupFields) (multi : List LabelInfo) (numbers : List ℕ)
     (at : group ≡ record { labels = labels; line = l }) (m : (s : Sheet) → s.labels ≡ group.labels → multi ≡ multi_line_labels s)

@@ -1,28 +1,26 @@
 -- The rows of a line's labels, as they are written one after another.
-use Rattle.std.proofs.Common.{◌≡◌, ◌∙◌, ℕ, zero, suc, ◌+◌, ◌<◌, ◌≤◌, Bool, true, false, List, [], ◌∷◌, ◌++◌, length, map, get_or, take, refl, sym, ap, subst, arith, append_assoc, Some}
-use Rattle.std.specs.Prelude.{slice_get, slice_set, OnOk, Result, Ok, Err}
-use Rattle.std.specs.List.{AllByRecursion, enumerate_from}
+use Rattle.std.proofs.Common.{◌≡◌, ◌∙◌, ℕ, zero, suc, ◌+◌, ◌<◌, Bool, true, false, List, [], ◌∷◌, ◌++◌, length, map, get_or, take, refl, sym, ap}
+use Rattle.std.proofs.Common.{subst, arith, append_assoc, Some}
+use Rattle.std.specs.Prelude.{slice_get, OnOk, Result, Ok, Err}
+use Rattle.std.specs.List.{enumerate_from}
 use Rattle.std.proofs.lemmas.List.{append-nil, map-append}
 use Rattle.std.proofs.lemmas.Option.{slice_get-get_or, slice_get_within, get_or_from_slice_get}
-use Rattle.ariadne_cells.specs.Pages.{PageFields, PenFields, Adds, DrawsRow, DrawsRows}
+use Rattle.ariadne_cells.specs.Pages.{PageFields, PenFields, DrawsRow, DrawsRows}
 use Rattle.ariadne_picture.specs.Print.{row_bytes, rows_bytes}
 use Rattle.ariadne_cells.specs.Tables.{IsTable, AreVerticals}
 use Rattle.ariadne_cells.specs.declared.table.LineTable.{LineTable}
 use Rattle.ariadne_cells.specs.declared.verticals.Vertical.{Vertical}
 use Rattle.ariadne_picture.specs.declared.label_info.LineLabel.{LineLabel}
-use Rattle.ariadne_picture.specs.Bars.{EndsNoEarlier}
 use Rattle.ariadne_picture.specs.Columns.{Layout, layout_of}
 use Rattle.ariadne_picture.specs.Lists.{joined}
 use Rattle.ariadne_picture.specs.Pieces.{Piece, Section, Texts, row_pieces}
-use Rattle.ariadne_picture.specs.Canvas.{Palette}
 use Rattle.ariadne_picture.specs.Ranks.{Sheet, is_hidden, line_labels, margin_label, is_inline}
 use Rattle.ariadne_picture.specs.Rows.{Row, label_rows, arrow, alternate, line_rows, source}
 use Rattle.ariadne_picture.proofs.Lists.Joined.{joined-append, joined-one}
 use Rattle.ariadne_rows.specs.Gutters.{GutterFields, IsBelow, HasBarsOf}
-use Rattle.ariadne_rows.specs.Headers.{IsOnPage}
 use Rattle.ariadne_rows.proofs.Listing.{joined-more}
 use Rattle.ariadne_rows.proofs.GutterSteps.{below-alternate, below-arrow, column-within}
-use Rattle.ariadne.specs.Drawn.{IsBelowLine, IsBelowSome}
+use Rattle.ariadne.specs.Drawn.{IsBelowLine}
 
 -- ---- what holds after a call that had memory
 
@@ -106,7 +104,8 @@ module _ (t : Texts) (g : Section) (page : PageFields) (l r : ℕ) (y : Layout) 
   column-there x e out = column-within g.sheet l r x gutter h.bars (label-there x e) out
 
 -- a table goes on to the next rank with its verticals
-pub table-next : (t : Texts) (g : Section) (page : PageFields) (l r : ℕ) (y : Layout) (old gutter : GutterFields) (table : LineTable) (v : List Vertical)
+pub table-next : (t : Texts) (g : Section) (page : PageFields) (l r : ℕ) (y : Layout) (old gutter : GutterFields) (table : LineTable)
+    (v : List Vertical)
     → IsBelowLine t g page l r y old table → AreVerticals y (r + 1) v → IsBelow g.sheet l (r + 1) gutter
     → IsBelowLine t g page l (r + 1) y gutter (record table { verticals = v })
 table-next t g page l r y old gutter table v h seen b = record {
@@ -170,7 +169,8 @@ labels-more t g w l r compact a b c xs x there d e =
     let same : get_or xs r x ≡ x = get_or_from_slice_get xs r x x there in
     let more : so_far ++ f (r, get_or xs r x) ≡ joined f (take (r + 1) (enumerate_from 0 xs)) =
     joined-more f [] so_far xs r x (slice_get_within xs r x there) refl in
-    let both : map (row_pieces t w g) so_far ++ map (row_pieces t w g) (f (r, x)) ≡ map (row_pieces t w g) (joined f (take (r + 1) (enumerate_from 0 xs))) =
+    let both : map (row_pieces t w g) so_far ++ map (row_pieces t w g) (f (r, x)) ≡ map (row_pieces t w g)
+    (joined f (take (r + 1) (enumerate_from 0 xs))) =
     sym (map-append (row_pieces t w g) so_far (f (r, x)))
     ∙ ap (map (row_pieces t w g)) (ap (λ z. so_far ++ f (r, z)) (sym same) ∙ more) in
     subst (DrawsRows a c) both (rows-append a b c (map (row_pieces t w g) so_far) (map (row_pieces t w g) (f (r, x))) d e)

@@ -1,7 +1,6 @@
 -- A hidden line of a group has characters: the only line without any is that of an empty text, and a label of its group stands there.
-use Rattle.std.proofs.Common.{◌≡◌, ◌∙◌, ℕ, zero, suc, ◌+◌, ◌<◌, ◌≤◌, Bool, true, false, not, ◌&&◌, ◌==◌, List, [], ◌∷◌, ◌++◌, length, map, filter, get_or, refl, sym, ap, subst, arith, Some, None}
+use Rattle.std.proofs.Common.{◌≡◌, ◌∙◌, ℕ, zero, suc, ◌<◌, Bool, true, ◌&&◌, ◌==◌, List, [], ◌∷◌, ◌++◌, length, filter, refl, sym, ap, arith, Some}
 use Rattle.std.specs.Prelude.{slice_get}
-use Rattle.std.specs.List.{AllByRecursion}
 use Rattle.std.proofs.lemmas.Bool.{eq-eqb}
 use Rattle.std.proofs.lemmas.List.{length-append}
 use Rattle.ariadne_base.specs.Lines.{AreFullLines, AreLinesOf, BeginsIn, EndsIn, empty_line, full_lines, is_separator, lines_of}
@@ -84,6 +83,7 @@ lines-some t ls s l empty_line e over some less hidden = absurd (one-line-shown 
 lines-some t ls s l (full_lines a e) own over some less hidden = full-some ls a l less
 
 -- a hidden line of a group has characters
-pub hidden-some : (t : List ℕ) (s : Sheet) (l : ℕ) → s.lines ≡ lines_of t → AreOverLines s.lines s.labels → 0 < length s.labels → l < length (lines_of t)
+pub hidden-some : (t : List ℕ) (s : Sheet) (l : ℕ) → s.lines ≡ lines_of t → AreOverLines s.lines s.labels → 0 < length s.labels
+    → l < length (lines_of t)
     → is_hidden s l ≡ true → 0 < length (line_text (lines_of t) l)
 hidden-some t s l own over some less hidden = lines-some t (lines_of t) s l (are_lines t) own over some less hidden

@@ -1,16 +1,17 @@
 -- The lines of a group as they are gone through: those before an event are hidden, that of the event is shown, and its rows follow theirs.
-use Rattle.std.proofs.Common.{◌≡◌, ◌∙◌, ℕ, zero, suc, ◌+◌, ◌-◌, ◌<◌, ◌≤◌, Bool, true, false, not, ◌&&◌, ◌==◌, List, [], ◌∷◌, ◌++◌, length, map, filter, max, nat_lt, replicate, refl, sym, ap, subst, arith, Some, None}
+use Rattle.std.proofs.Common.{◌≡◌, ◌∙◌, ℕ, zero, suc, ◌+◌, ◌-◌, ◌<◌, ◌≤◌, true, false, ◌&&◌, ◌==◌, List, [], ◌∷◌, ◌++◌, length, map, filter}
+use Rattle.std.proofs.Common.{nat_lt, replicate, refl, sym, ap, subst, arith, Some, None}
 use Rattle.std.specs.Prelude.{Option, option_map, slice_get, slice_range}
 use Rattle.std.specs.List.{AllByRecursion, range_with_len}
 use Rattle.std.proofs.lemmas.Bool.{le-ltb, lt-ltb, and_right, not_from_false}
 use Rattle.std.proofs.lemmas.List.{append-nil, map-append}
 use Rattle.std.proofs.lemmas.Option.{slice_get_within}
 use Rattle.ariadne_base.specs.Listing.{Listing, listed_lines}
-use Rattle.ariadne_cells.specs.Pages.{PageFields, PenFields, DrawsRows}
+use Rattle.ariadne_cells.specs.Pages.{PenFields, DrawsRows}
 use Rattle.ariadne_picture.specs.declared.label_info.LabelInfo.{LabelInfo}
 use Rattle.ariadne_picture.specs.declared.switches.Switches.{Switches}
 use Rattle.ariadne_picture.specs.Bars.{EndsNoEarlier}
-use Rattle.ariadne_picture.specs.Groups.{greatest, group_end_line, group_lines, group_start_line}
+use Rattle.ariadne_picture.specs.Groups.{greatest, group_end_line, group_start_line}
 use Rattle.ariadne_picture.specs.Lists.{joined}
 use Rattle.ariadne_picture.specs.Pieces.{Section, Texts, row_pieces}
 use Rattle.ariadne_picture.specs.Ranks.{Sheet, gutter_labels, is_hidden, multi_line_labels}
@@ -21,7 +22,8 @@ use Rattle.ariadne_picture.proofs.Rows.LineBlock.{range-append}
 use Rattle.ariadne_rows.specs.declared.sheet.Event.{Event}
 use Rattle.ariadne_rows.specs.Gutters.{GutterFields, IsBeside, IsOfSheet}
 use Rattle.ariadne_rows.specs.Sheets.{IsLineEnd, events_at, events_of}
-use Rattle.ariadne_rows.proofs.Events.{above, event-lines, event-shown, label-lines, line-end, line-events, next-line, no_event-hidden, none-above, none-between, still-above}
+use Rattle.ariadne_rows.proofs.Events.{above, event-lines, event-shown, label-lines, line-end, line-events, next-line, no_event-hidden}
+use Rattle.ariadne_rows.proofs.Events.{none-above, none-between, still-above}
 use Rattle.ariadne_rows.proofs.GutterSteps.{first-line, hidden-run}
 use Rattle.ariadne.specs.Drawn.{AreOverLines, IsDrawnGroup, IsOverLines, begins_run}
 use Rattle.ariadne.proofs.LinesHidden.{over-rise}
@@ -49,7 +51,8 @@ greatest-below n [] h a = h
 greatest-below n (x ∷ xs) h a = let here = a.0 in let rest = greatest-below n xs h a.1 in omega arith
 
 -- the last line of a group is one of its source
-pub last-within : (lines : List (List ℕ)) (labels : List LabelInfo) → 0 < length labels → AreOverLines lines labels → group_end_line labels < length lines
+pub last-within : (lines : List (List ℕ)) (labels : List LabelInfo) → 0 < length labels → AreOverLines lines labels
+    → group_end_line labels < length lines
 unfolding group_end_line
 last-within lines labels some over =
     let first = first-label labels some in
@@ -58,7 +61,8 @@ last-within lines labels some over =
     (all-weaker (IsOverLines lines) (λ a. a.end_line < length lines) labels (λ a h. h.within) over)
 
 -- the first line of a group is not below its last
-pub first-before_last : (s : Sheet) → 0 < length s.labels → AllByRecursion EndsNoEarlier s.labels → group_start_line s.labels ≤ group_end_line s.labels
+pub first-before_last : (s : Sheet) → 0 < length s.labels → AllByRecursion EndsNoEarlier s.labels
+    → group_start_line s.labels ≤ group_end_line s.labels
 first-before_last s some rise =
     let first = first-label s.labels some in
     let h = all-at _ s.labels 0 first.0 first.1 (label-lines s rise) in
@@ -228,7 +232,8 @@ pub run-hidden : (s : Sheet) (l m : ℕ) → group_start_line s.labels ≤ l →
 run-hidden s l m low less hidden =
     let rest : joined (line_rows s) (range_with_len (l + 1) (m - (l + 1))) ≡ [] =
     later-none s l m low hidden (m - (l + 1)) (l + 1) (omega arith) (omega arith) in
-    sym (append-nil (line_rows s l)) ∙ (λ i. run-one (line_rows s) l i ++ sym rest i) ∙ runs-join (line_rows s) l (l + 1) m (omega arith) (omega arith)
+    sym (append-nil (line_rows s l)) ∙ (λ i. run-one (line_rows s) l i ++ sym rest i) ∙ runs-join (line_rows s) l (l + 1) m (omega arith)
+    (omega arith)
 
 -- rows by name, one list behind another
 pub names-append : (t : Texts) (g : Section) (w : ℕ) (a b c : PenFields) (xs ys zs : List Row) → xs ++ ys ≡ zs

@@ -1,7 +1,8 @@
 //! The rows of the lines of a group, from its first line to its last.
 
 ghost use Rattle.std.specs.Prelude.{◌≡◌, ◌<◌, ◌≤◌, ◌+◌, ℕ, OnOk, false, length, map, replicate};
-ghost use Rattle.std.specs.Prelude.{IfSome, Some, ◌^◌, ◌-◌, option_map, slice_get, slice_range, true};
+ghost use Rattle.std.specs.Prelude.{IfSome, Some, ◌^◌, ◌-◌, option_map, slice_get};
+ghost use Rattle.std.specs.Prelude.{slice_range, true};
 ghost use Rattle.std.specs.List.{AllByRecursion, enumerate_from, range_with_len};
 ghost use Rattle.ariadne.specs.Drawn.{AreOverLines, IsAtLine, IsAtSome, IsBelowLine, IsBelowSome};
 ghost use Rattle.ariadne.specs.Drawn.{IsDrawnGroup, IsLaidOut, begins_run};
@@ -71,8 +72,10 @@ pub(crate) fn push_lines<S: Span, I: SourceText>(
         let t = texts_of report.now in (g : Section) →
         IsDrawnGroup t g page.switches source.now labels →
         OnOk result (DrawsRows pen.old pen.new
-        (map (row_pieces t page.number_width g) (joined (line_rows g.sheet) (group_lines labels)))) }
+        (map (row_pieces t page.number_width g)
+        (joined (line_rows g.sheet) (group_lines labels)))) }
 {
+    // With it the number of each line fits.
     let _display_offset = source.display_line_offset();
     let mut line = first_line(lists.sheet.labels());
     let behind = last_line(lists.sheet.labels()) + 1;

@@ -5,13 +5,15 @@ use Rattle.ariadne.proofs.write.lines.find_paints.Goals as goal
 -- each number is that of a label
 pub fill_paints-requires-clause-within : goal.fill_paints-requires-clause-within
 fill_paints-requires-clause-within c =
-    numbers-within c.args.sheet.now.labels c.args.line c.args.layout.now c.requires.there c.go_to.new.self c.multi_line.result.now c.touching.result.now
+    numbers-within c.args.sheet.now.labels c.args.line c.args.layout.now c.requires.there c.go_to.new.self c.multi_line.result.now
+    c.touching.result.now
     c.in_ok-go_to.ensures.ok c.multi_line.ensures c.touching.ensures
 
 -- they rise
 pub fill_paints-requires-clause-rising : goal.fill_paints-requires-clause-rising
 fill_paints-requires-clause-rising c =
-    numbers-strict c.args.sheet.now.labels c.args.line c.args.layout.now c.requires.there c.go_to.new.self c.multi_line.result.now c.touching.result.now
+    numbers-strict c.args.sheet.now.labels c.args.line c.args.layout.now c.requires.there c.go_to.new.self c.multi_line.result.now
+    c.touching.result.now
     c.in_ok-go_to.ensures.ok c.multi_line.ensures c.touching.ensures
 
 -- the others hold no shown character

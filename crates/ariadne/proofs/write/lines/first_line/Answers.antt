@@ -10,7 +10,8 @@ loop-info-init c = record { bound = omega arith; least = least-start _ _ c.last_
 pub loop-info-preserved : goal.loop-info-preserved
 loop-info-preserved c = record {
   bound = omega arith;
-  least = least-more _ c.args.group.now c.loop-info.info-index _ c.loop-info.first c.min-first.result _ (omega arith) c.min-first.ensures c.loop-info.invariant.least;
+  least = least-more _ c.args.group.now c.loop-info.info-index _ c.loop-info.first c.min-first.result _ (omega arith) c.min-first.ensures
+      c.loop-info.invariant.least;
 }
 
 -- no label is to come

@@ -8,7 +8,8 @@ loop-info-init c = greatest-start c.args.group.now
 
 -- one label less
 pub loop-info-preserved : goal.loop-info-preserved
-loop-info-preserved c = greatest-more c.args.group.now c.loop-info.info-index _ c.loop-info.last c.max-last.result _ (omega arith) c.max-last.ensures c.loop-info.invariant
+loop-info-preserved c = greatest-more c.args.group.now c.loop-info.info-index _ c.loop-info.last c.max-last.result _ (omega arith) c.max-last.ensures
+    c.loop-info.invariant
 
 -- no label is to come
 pub returns : goal.returns

@@ -7,7 +7,8 @@ use Rattle.ariadne_picture.specs.Pieces.{row_pieces}
 use Rattle.ariadne_picture.specs.Rows.{bare, gap, is_inside, line_rows}
 use Rattle.ariadne_rows.proofs.GutterSteps.{beside-gap}
 use Rattle.ariadne.specs.Drawn.{AreOverLines}
-use Rattle.ariadne.proofs.LinesHidden.{drawn-page, drawn-lines, drawn-labels, drawn-switches, drawn-over, inside-told, line-read, over-rise, hidden-none, line-there, run-gap, run-none, run-bare}
+use Rattle.ariadne.proofs.LinesHidden.{drawn-page, drawn-lines, drawn-labels, drawn-switches, drawn-over, inside-told, line-read, over-rise}
+use Rattle.ariadne.proofs.LinesHidden.{hidden-none, line-there, run-gap, run-none, run-bare}
 use Rattle.ariadne.proofs.LinesRows.{on-ok, rows-none, rows-one, rows-of}
 use Rattle.ariadne.proofs.write.lines.push_hidden.Goals as goal
 
@@ -74,6 +75,7 @@ returns-clause-drawn g c = λ t s h over some beside hidden run.
     ap (λ (z : Switches). z.compact) (drawn-switches t s page source labels h) ∙ ap (λ (p : PageFields). p.switches.compact) (sym c.page.ensures)
     ∙ ap (λ (w : Switches). w.compact) (sym c.switches.ensures.switches) ∙ c.if-switches.false in
     on-ok c.push_bare_row.result (λ d.
-    rows-of t s page.number_width c.args.pen.now c.push_bare_row.new.pen (bare l ∷ []) (line_rows s.sheet l) (run-bare s.sheet l hidden run outside full)
+    rows-of t s page.number_width c.args.pen.now c.push_bare_row.new.pen (bare l ∷ []) (line_rows s.sheet l)
+    (run-bare s.sheet l hidden run outside full)
     (rows-one c.args.pen.now c.push_bare_row.new.pen (row_pieces t page.number_width s (bare l)) d))
     (c.push_bare_row.ensures t s l (drawn-page t s page source labels h))

@@ -8,7 +8,8 @@ pass_bar-requires g c =
     let h = c.requires.there in
     record {
       column = λ out.
-          column-at (texts_of c.args.report.now) h.group c.args.pen.now.page h.line c.args.rank c.args.layout.now c.args.gutter.now c.args.table.now h.is
+          column-at (texts_of c.args.report.now) h.group c.args.pen.now.page h.line c.args.rank c.args.layout.now c.args.gutter.now c.args.table.now
+          h.is
           c.labels-labels.result.now _ c.labels-labels.ensures c.requires.rank out;
     }
 

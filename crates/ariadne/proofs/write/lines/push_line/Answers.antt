@@ -23,7 +23,8 @@ use Rattle.ariadne_rows.specs.Gutters.{IsBelow}
 use Rattle.ariadne_rows.specs.Headers.{IsOnPage}
 use Rattle.ariadne_rows.proofs.GutterSteps.{below-beside, beside-source}
 use Rattle.ariadne.specs.Drawn.{IsAtLine, IsDrawnGroup}
-use Rattle.ariadne.proofs.LinesHidden.{drawn-labels, drawn-lines, drawn-over, drawn-page, drawn-switches, holders-touch, line-read, line-there, over-rise}
+use Rattle.ariadne.proofs.LinesHidden.{drawn-labels, drawn-lines, drawn-over, drawn-page, drawn-switches, holders-touch, line-read, line-there}
+use Rattle.ariadne.proofs.LinesHidden.{over-rise}
 use Rattle.ariadne.proofs.LinesLayout.{beside-same, labels-there, layout-is, len-is, line-chars, margin-column, of-some, places-fit, some-and}
 use Rattle.ariadne.proofs.LinesQuiet.{layout-labels}
 use Rattle.ariadne.proofs.LinesRows.{line-shown, on-ok, row-page, rows-one}
@@ -51,7 +52,8 @@ unwrap-text-requires g c =
 -- the extent is that of the line
 extent-is : (g : Over) (c : After-len g) → c.unwrap-extent.result ≡ line_extent (listed_lines c.args.source.now) c.args.line
 extent-is g c =
-    line-read c.line.result (listed_lines c.args.source.now) c.args.line c.unwrap-extent.result c.line.ensures c.unwrap-extent.ensures c.requires.within
+    line-read c.line.result (listed_lines c.args.source.now) c.args.line c.unwrap-extent.result c.line.ensures c.unwrap-extent.ensures
+    c.requires.within
 
 -- the text is UTF-8
 is-utf8 : (g : Over) (c : After-len g) → IsUtf8 c.args.source.now.text
@@ -187,7 +189,8 @@ push_rows_below-requires-clause-places_fit g c =
     let same = ap length c.text-text.ensures in
     let text = c.args.source.now.text in
     let small : length text < 2 ^ 63 = omega arith in
-    places-fit c.push_source_row.new.pen.page.switches s c.args.line c.new-layout.result text (is-utf8 g d) small refl c.requires.over c.requires.within
+    places-fit c.push_source_row.new.pen.page.switches s c.args.line c.new-layout.result text (is-utf8 g d) small refl c.requires.over
+    c.requires.within
     (layout-there g b s refl refl)
 
 -- the line is as they begin
@@ -209,13 +212,15 @@ at-line g c kept s h layout =
       on_page = subst (λ p. IsOnPage t s p) (sym kept) (drawn-page t s page listing labels h);
       rise = rise;
       layout = layout;
-      bars = c.in_ok-start_margin.ensures.below s.sheet l rise (c.requires.beside s.sheet own same) (sym (c.in_ok-margin.ensures.margin s.sheet l own here));
+      bars = c.in_ok-start_margin.ensures.below s.sheet l rise (c.requires.beside s.sheet own same)
+          (sym (c.in_ok-margin.ensures.margin s.sheet l own here));
     }
 
 -- so it is for some group
 pub push_rows_below-requires-clause-there : goal.push_rows_below-requires-clause-there
 push_rows_below-requires-clause-there g c =
-    let some = some-group (texts_of c.args.report.now) c.args.pen.now.page.switches c.args.source.now c.args.lists.now.sheet.labels c.requires.texts in
+    let some = some-group (texts_of c.args.report.now) c.args.pen.now.page.switches c.args.source.now c.args.lists.now.sheet.labels c.requires.texts
+    in
     let layout = group-layout g (goal.at.push_rows_below-requires-clause-there g c).After-layout-1 in
     let kept = source-page g (goal.at.push_rows_below-requires-clause-there g c).In_ok-push_source_row layout in
     record {
@@ -238,7 +243,8 @@ returns-clause-beside g c = λ s own same.
     let layout = group-layout g (goal.at.returns-clause-beside g c).After-layout-1 in
     let kept = source-page g (goal.at.returns-clause-beside g c).In_ok-push_source_row layout in
     let at = at-line g (goal.at.returns-clause-beside g c).In_ok-start_margin kept some.0 some.1 (layout some.0 some.1) in
-    let n : length c.new-layout.result.labels ≡ length (line_labels some.0.sheet l) = ap length (layout-labels some.0.sheet l c.new-layout.result at.layout) in
+    let n : length c.new-layout.result.labels ≡ length (line_labels some.0.sheet l) = ap length
+    (layout-labels some.0.sheet l c.new-layout.result at.layout) in
     on-ok c.push_rows_below.result
     (λ below. beside-same s some.0.sheet (l + 1) c.push_rows_below.new.gutter (own ∙ sym (drawn-labels t some.0 page listing labels some.1))
     (same ∙ sym (drawn-switches t some.0 page listing labels some.1))

@@ -13,7 +13,8 @@ use Rattle.ariadne_picture.specs.Ranks.{Sheet}
 use Rattle.ariadne_picture.specs.Rows.{line_rows}
 use Rattle.ariadne.proofs.LinesHidden.{drawn-labels, drawn-switches}
 use Rattle.ariadne.proofs.LinesRows.{on-ok, rows-none, rows-of, rows-page}
-use Rattle.ariadne.proofs.LinesWalk.{IsStep, IsWalked, events-page, events_at-page, group-rise, last-within, names-append, run-empty, run-one, runs-join}
+use Rattle.ariadne.proofs.LinesWalk.{IsStep, IsWalked, events-page, events_at-page, group-rise, last-within, names-append, run-empty, run-one}
+use Rattle.ariadne.proofs.LinesWalk.{runs-join}
 use Rattle.ariadne.proofs.LinesWalk.{some-group, step, walk-end, walk-start}
 use Rattle.ariadne.proofs.write.lines.push_lines.Given.{Over}
 use Rattle.ariadne.proofs.write.lines.push_lines.Goals.{In-Some, In_ok-push_hidden_lines, In_ok-push_line}
@@ -25,7 +26,8 @@ use Rattle.ariadne.proofs.write.lines.push_lines.Goals as goal
 pub overflow_add-behind : goal.overflow_add-behind
 overflow_add-behind g c =
     let last = last-within (listed_lines c.args.source.now) c.args.lists.now.sheet.labels c.requires.labels c.requires.over in
-    let is : c.last_line-behind.result ≡ group_end_line c.args.lists.now.sheet.labels = c.last_line-behind.ensures ∙ ap group_end_line c.labels-2.ensures in
+    let is : c.last_line-behind.result ≡ group_end_line c.args.lists.now.sheet.labels = c.last_line-behind.ensures ∙ ap group_end_line
+    c.labels-2.ensures in
     let fits = c.display_line_offset-display_offset.ensures.fits in
     omega (arith, last, is, fits)
 
@@ -211,7 +213,8 @@ line-drawn g c s h =
     let source = c.args.source.now in
     let labels = c.args.lists.now.sheet.labels in
     let b = (goal.at.overflow_add-line g c).In_ok-push_hidden_lines in
-    let st = step-at g (goal.at.overflow_add-line g c).In-Some s.sheet (drawn-labels t s page source labels h) (drawn-switches t s page source labels h) in
+    let st = step-at g (goal.at.overflow_add-line g c).In-Some s.sheet (drawn-labels t s page source labels h)
+    (drawn-switches t s page source labels h) in
     let there : IsDrawnGroup t s c.push_hidden_lines.new.pen.page.switches source c.push_hidden_lines.new.sheet.labels =
     subst (λ ls. IsDrawnGroup t s c.push_hidden_lines.new.pen.page.switches source ls) (sym (hidden-labels g b))
     (subst (λ (p : PageFields). IsDrawnGroup t s p.switches source labels) (sym (hidden-page g b)) h) in
@@ -280,7 +283,8 @@ push_hidden_lines-requires-2-clause-up g c =
 pub push_hidden_lines-requires-2-clause-within : goal.push_hidden_lines-requires-2-clause-within
 push_hidden_lines-requires-2-clause-within g c =
     let last = last-within (listed_lines c.args.source.now) c.args.lists.now.sheet.labels c.requires.labels c.requires.over in
-    let is : c.last_line-behind.result ≡ group_end_line c.args.lists.now.sheet.labels = c.last_line-behind.ensures ∙ ap group_end_line c.labels-2.ensures in
+    let is : c.last_line-behind.result ≡ group_end_line c.args.lists.now.sheet.labels = c.last_line-behind.ensures ∙ ap group_end_line
+    c.labels-2.ensures in
     omega (arith, last, is)
 
 -- then the rows of all lines are written

@@ -16,7 +16,8 @@ returns-then-not-has_rows-clause-drawn g c = λ s l h.
     let labels = c.args.layout.now.labels in
     let quiet : list_any (λ (x : LineLabel). x.info.has_message) labels ≡ false = sym c.has_rows.ensures ∙ c.if-not-has_rows.true in
     rows-of (texts_of c.args.report.now) s page.number_width c.args.pen.now c.args.pen.now []
-    (joined (label_rows page.switches.compact l) (enumerate_from 0 labels)) (quiet-rows page.switches.compact l 0 labels quiet) (rows-none c.args.pen.now)
+    (joined (label_rows page.switches.compact l) (enumerate_from 0 labels)) (quiet-rows page.switches.compact l 0 labels quiet)
+    (rows-none c.args.pen.now)
 
 -- and the bars stay
 pub returns-then-not-has_rows-clause-below : goal.returns-then-not-has_rows-clause-below

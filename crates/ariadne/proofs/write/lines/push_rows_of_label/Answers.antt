@@ -5,14 +5,16 @@ use Rattle.ariadne_picture.specs.Canvas.{texts_of}
 use Rattle.ariadne_picture.specs.Pieces.{row_pieces}
 use Rattle.ariadne_picture.specs.Rows.{alternate, arrow, label_rows}
 use Rattle.ariadne.specs.Drawn.{IsBelowLine}
-use Rattle.ariadne.proofs.LinesRows.{on-ok, rows-none, rows-one, rows-append, row-page, label-none, label-one, label-two, table-there, bars-alternate, rows-of}
+use Rattle.ariadne.proofs.LinesRows.{on-ok, rows-none, rows-one, rows-append, row-page, label-none, label-one, label-two, table-there}
+use Rattle.ariadne.proofs.LinesRows.{bars-alternate, rows-of}
 use Rattle.ariadne.proofs.write.lines.push_rows_of_label.Goals as goal
 
 -- without a message there is no row
 pub returns-then-not-label : goal.returns-then-not-label
 returns-then-not-label g c = λ s l h e.
     let page = c.args.pen.now.page in
-    rows-of (texts_of c.args.report.now) s page.number_width c.args.pen.now c.args.pen.now [] (label_rows page.switches.compact l (c.args.rank, c.args.label.now))
+    rows-of (texts_of c.args.report.now) s page.number_width c.args.pen.now c.args.pen.now []
+    (label_rows page.switches.compact l (c.args.rank, c.args.label.now))
     (sym (label-none page.switches.compact l c.args.rank c.args.label.now c.if-not-label.true)) (rows-none c.args.pen.now)
 
 -- in the compact form the arrow row is the only one
@@ -25,7 +27,8 @@ returns-then-switches g c = λ s l h e.
     ap (λ (p : PageFields). p.switches.compact) (sym c.page.ensures) ∙ ap (λ (w : Switches). w.compact) (sym c.switches.ensures.switches)
     ∙ c.if-switches.true in
     on-ok c.push_arrow_to_message.result (λ d.
-    rows-of t s page.number_width c.args.pen.now c.push_arrow_to_message.new.pen (arrow l c.args.rank ∷ []) (label_rows page.switches.compact l (c.args.rank, x))
+    rows-of t s page.number_width c.args.pen.now c.push_arrow_to_message.new.pen (arrow l c.args.rank ∷ [])
+    (label_rows page.switches.compact l (c.args.rank, x))
     (sym (ap (λ k. label_rows k l (c.args.rank, x)) compact ∙ label-one l c.args.rank x c.if-not-label.false))
     (rows-one c.args.pen.now c.push_arrow_to_message.new.pen (row_pieces t page.number_width s (arrow l c.args.rank)) d))
     (c.push_arrow_to_message.ensures s l h e)
@@ -45,7 +48,10 @@ push_arrow_to_message-requires-2 g c =
     c.in_ok-push_alternate_row.ensures t s l h.on_page full
     (table-there t s page l c.args.rank c.args.layout.now c.args.gutter.now c.args.table.now h)
     (bars-alternate t s page l c.args.rank c.args.layout.now c.args.gutter.now c.args.table.now h) in
-    record { page = c.requires.page ∙ sym (row-page c.args.pen.now c.push_alternate_row.new.pen (row_pieces t page.number_width s (alternate l c.args.rank)) d) }
+    record {
+      page = c.requires.page ∙ sym (row-page c.args.pen.now c.push_alternate_row.new.pen
+          (row_pieces t page.number_width s (alternate l c.args.rank)) d);
+    }
 
 -- else it stands below the alternate row
 pub returns : goal.returns
@@ -63,7 +69,8 @@ returns g c = λ s l h e.
     ap (λ (p : PageFields). p.switches.compact) (sym c.page.ensures) ∙ ap (λ (w : Switches). w.compact) (sym c.switches.ensures.switches)
     ∙ c.if-switches.false in
     let d : DrawsRow a b (row_pieces t page.number_width s (alternate l r)) =
-    c.in_ok-push_alternate_row.ensures t s l h.on_page full (table-there t s page l r y gutter table h) (bars-alternate t s page l r y gutter table h) in
+    c.in_ok-push_alternate_row.ensures t s l h.on_page full (table-there t s page l r y gutter table h)
+    (bars-alternate t s page l r y gutter table h) in
     let same : b.page ≡ page = row-page a b (row_pieces t page.number_width s (alternate l r)) d in
     let there : IsBelowLine t s b.page l r y gutter table = subst (λ p. IsBelowLine t s p l r y gutter table) (sym same) h in
     on-ok c.push_arrow_to_message-2.result (λ f.
