@@ -1,5 +1,5 @@
 -- What the proofs of the calls that build a report share.
-use Rattle.std.proofs.Common.{arith, ℕ, ◌-◌, ◌^◌, ◌≡◌, ◌++◌, [], List, Bool, false, length, replicate, Result, Ok, Err, OnErr, ap, ◌∙◌}
+use Rattle.std.proofs.Common.{arith, ℕ, ◌-◌, ◌^◌, ◌≡◌, ◌++◌, [], List, false, length, replicate, Result, Ok, Err, OnErr, ap, ◌∙◌}
 use Rattle.std.specs.Fmt.{padded_integral, format_spec, char_count}
 use Rattle.std.proofs.lemmas.List.{append-nil}
 

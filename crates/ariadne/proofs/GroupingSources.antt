@@ -1,10 +1,9 @@
 -- The labels of a group are over one source, and lie in its lines.
-use Rattle.std.proofs.Common.{◌≡◌, ℕ, zero, suc, ◌+◌, ◌<◌, ◌≤◌, ◌||◌, Bool, true, false, max, List, [], ◌∷◌, Option, Some, None, refl, sym, ap, ◌∙◌, length, map, get_or, arith, subst}
+use Rattle.std.proofs.Common.{◌≡◌, ℕ, suc, ◌+◌, ◌<◌, ◌||◌, Bool, true, false, max, List, [], ◌∷◌, Option, Some, refl, sym, ap, ◌∙◌, length, get_or, arith, subst}
 use Rattle.std.specs.Cmp.{IsEquivalence}
 use Rattle.std.specs.HashMap.Eq.{lookup_congr}
 use Rattle.std.specs.Prelude.{slice_get, option_and_then, option_map, unwrap_or, nat_lt, not}
 use Rattle.std.specs.List.{AllByRecursion}
-use Rattle.std.proofs.lemmas.Bool.{or_parts}
 use Rattle.std.specs.List.{slice_range}
 use Rattle.std.proofs.Common.{◌-◌, drop, take}
 use Rattle.std.specs.Prelude.{chars, decimal}
@@ -18,8 +17,8 @@ use Rattle.ariadne_picture.specs.Canvas.{label_id, is_same_id, same_source, grou
 use Rattle.ariadne_picture.specs.Groups.{is_cut, group_end_line, greatest, HasNoCut, AreCut, groups_of, number_len, printed_number}
 use Rattle.ariadne_picture.specs.Report.{HaveOneSource, LabelFields, ReportFields, World}
 use Rattle.ariadne_picture.proofs.Lists.ListFacts.{all-weaker}
-use Rattle.ariadne.specs.Drawn.{AreDrawn, AreThere, AreOverLines, IsDrawn, IsOverLines, world}
-use Rattle.ariadne.proofs.Grouping.{NoCuts, all_at, all_range, cut_first, range_first}
+use Rattle.ariadne.specs.Drawn.{AreDrawn, AreThere, AreOverLines, IsDrawn, IsOverLines}
+use Rattle.ariadne.proofs.Grouping.{NoCuts, all_range, cut_first, range_first}
 use Rattle.ariadne.proofs.OverLines.{over-lines}
 
 -- equal ids find one source
