@@ -10,7 +10,10 @@ pub mod report;
 mod tests_laws;
 pub mod write;
 
-pub use ariadne_base::{Cache, FetchError, FileCache, FileError, FnCache, Line, Source, SourceLines, SourceMap, SourceName, SourceText, Span, UnknownSource, sources};
+pub use ariadne_base::{
+    Cache, FetchError, FileCache, FileError, FnCache, Line, Source, SourceLines, SourceMap,
+    SourceName, SourceText, Span, UnknownSource, sources,
+};
 pub use ariadne_color::{Background, Color, ColorGenerator, Fmt, Foreground};
 pub use ariadne_picture::laws;
 pub use builder::ReportBuilder;

@@ -1,5 +1,7 @@
 //! The reports of the workloads, and their writing.
 
+ghost use Rattle.std.specs.Prelude.{◌≤◌};
+
 use crate::jobs::{Job, Mark};
 use crate::texts::line;
 use ariadne::{
@@ -15,7 +17,9 @@ use std::ops::Range;
 const FIRST_COLOR: u8 = 17;
 
 /// The span of a mark.
-fn span_of(mark: &Mark) -> Range<usize> {
+fn span_of(mark: &Mark) -> Range<usize>
+    ensures { result.start ≤ result.end }
+{
     mark.start..mark.end.max(mark.start)
 }
 

@@ -39,9 +39,11 @@ pub fn find_underlines(
     if !switches.underlines {
         return Ok(());
     }
+    let labels = layout.labels();
+    list.reserve_exact(labels.len().saturating_mul(2).saturating_add(1).min(len))?;
     let mut place = 0;
     while place < len {
-        let choice = Choice::new(layout.offset(), place, len - place).with_inline(layout.labels());
+        let choice = Choice::new(layout.offset(), place, len - place).with_inline(labels);
         place += choice.len();
         list.push(Stretch {
             end: place,

@@ -16,9 +16,9 @@ ghost use Rattle.ariadne_rows.specs.Gutters.{HasBarsOf, IsOfSheet, bar_ink, bar_
 ghost use Rattle.ariadne_rows.specs.Gutters.{column_bytes, columns, columns_bytes};
 ghost use Rattle.ariadne_rows.specs.Gutters.{margin_row_ink, turn_row_ink};
 
-use ariadne_color::color::push_painted_char;
 use ariadne_cells::page::Page;
 use ariadne_cells::pen::Pen;
+use ariadne_color::color::push_painted_char;
 use ariadne_picture::cell::{Glyph, Ink, Paint};
 use ariadne_picture::label_info::{LabelInfo, LineLabel, Side};
 use ariadne_picture::switches::Switches;

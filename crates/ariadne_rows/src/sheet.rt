@@ -24,7 +24,7 @@ pub struct Event {
     /// The line, from 0.
     pub line: usize,
     /// The number of the gutter label, or that of the label in its group.
-    pub index: usize,
+    pub index: u32,
     /// Which of the three it is.
     pub side: Side,
 }
@@ -216,24 +216,30 @@ impl<'a> GroupSheet<'a> {
             result ≡ event_label s event.now.side event.now.index }
     {
         match event.side {
-            Side::Inline => self.group.get(event.index).map(|info| LineLabel {
+            Side::Inline => self.group.get(event.index as usize).map(|info| LineLabel {
                 info: *info,
                 side: Side::Inline,
                 gutter_column: 0,
                 place: info.attach,
             }),
-            Side::Starts => self.gutter_labels().get(event.index).map(|info| LineLabel {
-                info: *info,
-                side: Side::Starts,
-                gutter_column: event.index,
-                place: info.start_place,
-            }),
-            Side::Ends => self.gutter_labels().get(event.index).map(|info| LineLabel {
-                info: *info,
-                side: Side::Ends,
-                gutter_column: event.index,
-                place: info.end_place,
-            }),
+            Side::Starts => self
+                .gutter_labels()
+                .get(event.index as usize)
+                .map(|info| LineLabel {
+                    info: *info,
+                    side: Side::Starts,
+                    gutter_column: event.index as usize,
+                    place: info.start_place,
+                }),
+            Side::Ends => self
+                .gutter_labels()
+                .get(event.index as usize)
+                .map(|info| LineLabel {
+                    info: *info,
+                    side: Side::Ends,
+                    gutter_column: event.index as usize,
+                    place: info.end_place,
+                }),
         }
     }
 }

@@ -15,7 +15,7 @@ returns-then-not-switches c = λ k below.
 pub loop-place-init : goal.loop-place-init
 loop-place-init c = record {
   within = omega arith;
-  shows = subst (ShowsBelow (underline_position c.args.switches.now c.args.layout.now) 0) (sym c.clear.ensures.items) (shows_none _);
+  shows = subst (ShowsBelow (underline_position c.args.switches.now c.args.layout.now) 0) (sym (c.reserve_exact.ensures.items ∙ c.clear.ensures.items)) (shows_none _);
 }
 
 -- a turn chooses among the labels that lie within the line
@@ -25,8 +25,8 @@ chosen : (c : After-len-place)
 chosen c =
     let place = c.loop-place.place in
     let rest = c.args.len - place in
-    same_choice (inline_infos c.labels.result.now) (inline_infos c.args.layout.now.labels) (c.offset.result + place)
-    (c.args.layout.now.offset + place) rest c.with_inline-choice.result (ap inline_infos c.labels.ensures) (ap (λ o. o + place) c.offset.ensures)
+    same_choice (inline_infos c.labels-labels.result.now) (inline_infos c.args.layout.now.labels) (c.offset.result + place)
+    (c.args.layout.now.offset + place) rest c.with_inline-choice.result (ap inline_infos c.labels-labels.ensures) (ap (λ o. o + place) c.offset.ensures)
     (c.with_inline-choice.ensures [] (c.offset.result + place) rest c.new.ensures)
 
 -- it stays within the line
