@@ -1,18 +1,7 @@
 -- What the calls that build a report say: codes, colours that are equal, and what an iterator gave.
-use Rattle.std.specs.Prelude.{ℕ, ◌-◌, ◌++◌, Bool, List, length, replicate, Option, Some, chars}
+use Rattle.std.specs.Prelude.{ℕ, ◌-◌, ◌++◌, List, length, replicate, Option, Some, chars}
 use Rattle.std.specs.Prelude.{decimal}
 use Rattle.std.specs.Iterator.{Drains, YieldsThen}
-use Rattle.ariadne_color.specs.declared.color.Color.{Color}
-use Rattle.ariadne_color.specs.contracts.color.ColorPartialEq.TheImpl as equality
-use Rattle.ariadne_color.specs.contracts.color.ColorHash.TheImpl as hashing
-
--- two colours are the same
-abbrev pub color_eq : Color → Color → Bool
-color_eq = equality.ghosts.eq
-
--- what a colour feeds a hasher
-abbrev pub color_writes : Color → List (List ℕ)
-color_writes = hashing.ghosts.hash_input
 
 -- a code that is given as a number: its digits, with zeros in front where they are less than two
 abbrev pub numeric_code : ℕ → List ℕ

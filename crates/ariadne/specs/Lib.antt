@@ -16,6 +16,4 @@ pub use Rattle.ariadne_picture.specs.Variants
 pub mod Building
 pub mod Drawn
 pub mod Judging
-pub mod Kinds
-pub mod Labels
 pub mod Written

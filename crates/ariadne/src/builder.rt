@@ -7,11 +7,11 @@ ghost use Rattle.std.specs.Iterator.{IsFiniteIterable};
 ghost use Rattle.ariadne_picture.specs.Report.{LabelFields};
 ghost use Rattle.ariadne.specs.Building.{numeric_code, filled_code, GivesAll, GivesMore};
 
-use crate::config::Config;
-use crate::kind::ReportKind;
-use crate::label::Label;
 use crate::report::Report;
 use ariadne_base::Span;
+use ariadne_labels::config::Config;
+use ariadne_labels::kind::ReportKind;
+use ariadne_labels::label::Label;
 use std::alloc::{AllocError, Global};
 use std::marker::Model;
 use std::ops::Range;
@@ -35,7 +35,7 @@ impl<'a, S: Span> Model for ReportBuilder<'a, S> {
 
 impl<'a, S: Span> ReportBuilder<'a, S> {
     ghost use Rattle.ariadne_picture.specs.Report.{new_report};
-    ghost use Rattle.ariadne.specs.Kinds.{kind_of};
+    ghost use Rattle.ariadne_labels.specs.Kinds.{kind_of};
 
     pub(crate) fn new(alloc: Global, kind: ReportKind<'a>, span: S) -> ReportBuilder<'a, S>
         ensures { result ≡ new_report (kind_of kind.entry) span }

@@ -2,9 +2,6 @@
 #![tactic(auto)]
 
 pub mod builder;
-pub mod config;
-pub mod kind;
-pub mod label;
 pub mod report;
 #[cfg(test)]
 mod tests_laws;
@@ -15,10 +12,10 @@ pub use ariadne_base::{
     SourceName, SourceText, Span, UnknownSource, sources,
 };
 pub use ariadne_color::{Background, Color, ColorGenerator, Fmt, Foreground};
+pub use ariadne_labels::config::{CharSet, Config, IndexType, LabelAttach};
+pub use ariadne_labels::kind::ReportKind;
+pub use ariadne_labels::label::Label;
 pub use ariadne_picture::laws;
 pub use builder::ReportBuilder;
-pub use config::{CharSet, Config, IndexType, LabelAttach};
-pub use kind::ReportKind;
-pub use label::Label;
 pub use report::Report;
 pub use write::{LeftOut, Reason, WriteError};

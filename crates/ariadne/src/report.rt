@@ -4,11 +4,11 @@ ghost use Rattle.std.specs.Prelude.{◌≡◌, IfOk, map, string_bytes};
 ghost use Rattle.std.specs.Option.{option_copied};
 
 use crate::builder::ReportBuilder;
-use crate::config::Config;
-use crate::kind::ReportKind;
-use crate::label::Label;
 use ariadne_base::Span;
 use ariadne_cells::palette::Palette;
+use ariadne_labels::config::Config;
+use ariadne_labels::kind::ReportKind;
+use ariadne_labels::label::Label;
 use std::alloc::{AllocError, Global};
 use std::marker::Model;
 use std::ops::Range;
@@ -30,7 +30,7 @@ pub struct Report<'a, S: Span = Range<usize>> {
 impl<'a, S: Span> Model for Report<'a, S> {
     ghost use Rattle.std.specs.Prelude.{map, option_map, string_bytes};
     ghost use Rattle.ariadne_picture.specs.Report.{ReportFields};
-    ghost use Rattle.ariadne.specs.Kinds.{kind_of};
+    ghost use Rattle.ariadne_labels.specs.Kinds.{kind_of};
 
     ghost Value = { ReportFields S };
 
@@ -49,7 +49,7 @@ impl<'a, S: Span> Model for Report<'a, S> {
 impl<'a, S: Span> Report<'a, S> {
     ghost use Rattle.ariadne_picture.specs.Report.{new_report};
     ghost use Rattle.ariadne_picture.specs.Canvas.{palette_of, texts_of};
-    ghost use Rattle.ariadne.specs.Kinds.{kind_of};
+    ghost use Rattle.ariadne_labels.specs.Kinds.{kind_of};
 
     /// Begins a report of this kind.
     ///

@@ -11,10 +11,10 @@ ghost use Rattle.ariadne_picture.specs.Accept.{info_of, offset_in_chars as in_ch
 ghost use Rattle.ariadne_picture.specs.Accept.{text_len as counted_len, verdict};
 ghost use Rattle.ariadne_picture.specs.Report.{AreForward};
 
-use crate::config::{Config, IndexType, LabelAttach};
-use crate::label::Label;
 use crate::report::Report;
 use ariadne_base::{Cache, FetchError, Line, Source, SourceText, Span};
+use ariadne_labels::config::{Config, IndexType, LabelAttach};
+use ariadne_labels::label::Label;
 use ariadne_picture::label_info::LabelInfo;
 use ariadne_picture::verdict::Verdict;
 use std::alloc::AllocError;

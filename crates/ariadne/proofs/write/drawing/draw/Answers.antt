@@ -6,7 +6,7 @@ use Rattle.ariadne_picture.specs.Canvas.{kind_name, number_width, same_source, t
 use Rattle.ariadne_picture.specs.Groups.{groups_of}
 use Rattle.ariadne_picture.specs.Report.{ReportFields}
 use Rattle.ariadne.specs.Drawn.{world}
-use Rattle.ariadne.specs.Kinds.{shown_kind}
+use Rattle.ariadne_labels.specs.Kinds.{shown_kind}
 use Rattle.ariadne.proofs.DrawingPictures.{kind_text_is, message_is, sorted_drawn, sorted_is, whole_picture}
 use Rattle.ariadne.proofs.write.drawing.draw.Goals as goal
 

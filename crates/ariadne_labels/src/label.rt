@@ -3,7 +3,7 @@
 ghost use Rattle.std.specs.Prelude.{◌≡◌, ◌≤◌, true, Some, IfOk};
 ghost use Rattle.std.specs.Option.{option_copied};
 ghost use Rattle.std.specs.Cmp.{partial_equiv_from_equiv};
-ghost use Rattle.ariadne.specs.Labels.{label_eq, label_equiv, label_writes, label_alike};
+ghost use Rattle.ariadne_labels.specs.Labels.{label_eq, label_equiv, label_writes, label_alike};
 
 use ariadne_base::Span;
 use ariadne_color::Color;
@@ -96,7 +96,7 @@ impl<S: Span> Label<S> {
     }
 
     /// What it points at.
-    pub(crate) fn span(&self) -> &S
+    pub fn span(&self) -> &S
         ensures span { result.now ≡ self.now.span }
         ensures forward { S.start_of self.now.span ≤ S.end_of self.now.span }
     {
@@ -104,28 +104,28 @@ impl<S: Span> Label<S> {
     }
 
     /// What it says.
-    pub(crate) fn message(&self) -> Option<&str>
+    pub fn message(&self) -> Option<&str>
         ensures { option_copied result ≡ self.now.message }
     {
         self.message.as_deref()
     }
 
     /// Its own colour.
-    pub(crate) fn color(&self) -> Option<Color>
+    pub fn color(&self) -> Option<Color>
         ensures { result ≡ self.now.color }
     {
         self.color
     }
 
     /// What it is ordered by among the report's labels.
-    pub(crate) fn order(&self) -> i32
+    pub fn order(&self) -> i32
         ensures { result ≡ self.now.order }
     {
         self.order
     }
 
     /// What it is preferred by where spans overlap.
-    pub(crate) fn priority(&self) -> i32
+    pub fn priority(&self) -> i32
         ensures { result ≡ self.now.priority }
     {
         self.priority

@@ -1,7 +1,7 @@
 -- What a kind is, in the fields of a report, and what is printed of it.
 use Rattle.std.specs.Prelude.{ℕ, List}
-use Rattle.ariadne.specs.declared.kind.ReportKind.{ReportKind}
-use Rattle.ariadne.specs.declared.kind.ReportKind.TheVariants.{Error, Warning, Advice, Custom}
+use Rattle.ariadne_labels.specs.declared.kind.ReportKind.{ReportKind}
+use Rattle.ariadne_labels.specs.declared.kind.ReportKind.TheVariants.{Error, Warning, Advice, Custom}
 use Rattle.ariadne_picture.specs.Report.{Kind, error, warning, advice, custom}
 use Rattle.ariadne_picture.specs.Canvas.{kind_name}
 

@@ -12,7 +12,17 @@ use Rattle.std.proofs.Common.{rules, refl, ap, sym, true≢false}
 use Rattle.ariadne_color.specs.contracts.color.ColorEq.TheImpl.Laws as equality
 use Rattle.ariadne_color.specs.contracts.color.ColorHash.TheImpl.Laws as hashes
 use Rattle.ariadne_picture.specs.Report.{LabelFields}
-use Rattle.ariadne.specs.Building.{color_eq, color_writes}
+use Rattle.ariadne_color.specs.declared.color.Color.{Color}
+use Rattle.ariadne_color.specs.contracts.color.ColorPartialEq.TheImpl as comparing
+use Rattle.ariadne_color.specs.contracts.color.ColorHash.TheImpl as feeding
+
+-- two colours are the same
+abbrev pub color_eq : Color → Color → Bool
+color_eq = comparing.ghosts.eq
+
+-- what a colour feeds a hasher
+abbrev pub color_writes : Color → List (List ℕ)
+color_writes = feeding.ghosts.hash_input
 
 -- the labels have all the same, where `same` compares their spans
 abbrev pub label_eq : {S : Type 0} → (S → S → Bool) → LabelFields S → LabelFields S → Bool

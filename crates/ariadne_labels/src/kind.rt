@@ -2,7 +2,7 @@
 
 ghost use Rattle.std.specs.Prelude.{◌≡◌, Some};
 ghost use Rattle.ariadne_picture.specs.Canvas.{kind_color};
-ghost use Rattle.ariadne.specs.Kinds.{kind_of, shown_kind};
+ghost use Rattle.ariadne_labels.specs.Kinds.{kind_of, shown_kind};
 
 use ariadne_color::Color;
 use std::fmt;
@@ -22,7 +22,7 @@ pub enum ReportKind<'a> {
 
 impl<'a> ReportKind<'a> {
     /// What the header calls it.
-    pub(crate) fn name(self) -> &'a str
+    pub fn name(self) -> &'a str
         ensures { result.now ≡ shown_kind self.entry }
     {
         match self {
@@ -34,7 +34,7 @@ impl<'a> ReportKind<'a> {
     }
 
     /// The colour that the header shows it in.
-    pub(crate) fn color(self) -> Color
+    pub fn color(self) -> Color
         ensures { result ≡ kind_color (kind_of self.entry) }
     {
         match self {

@@ -162,7 +162,7 @@ impl Config {
     }
 
     /// What the layout reads of it.
-    pub(crate) fn switches(&self) -> Switches
+    pub fn switches(&self) -> Switches
         ensures switches { result ≡ switches_of self.now }
         ensures tabs { 1 ≤ self.now.tab_width }
     {
@@ -177,21 +177,21 @@ impl Config {
     }
 
     /// Where arrows of labels within one line are attached.
-    pub(crate) fn label_attach(&self) -> LabelAttach
+    pub fn label_attach(&self) -> LabelAttach
         ensures { result ≡ self.now.label_attach }
     {
         self.label_attach
     }
 
     /// What offsets count.
-    pub(crate) fn index_type(&self) -> IndexType
+    pub fn index_type(&self) -> IndexType
         ensures { result ≡ self.now.index_type }
     {
         self.index_type
     }
 
     /// Whether there are colours.
-    pub(crate) fn is_colored(&self) -> bool
+    pub fn is_colored(&self) -> bool
         ensures { result ≡ self.now.color }
     {
         self.color

@@ -1,0 +1,7 @@
+//! Labels, kinds of reports and configurations. `ariadne` gives out the types; what else is public here,
+//! as what a label's calls answer about it, serves the crates above, and is no part of its surface.
+#![tactic(auto)]
+
+pub mod config;
+pub mod kind;
+pub mod label;
