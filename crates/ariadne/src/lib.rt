@@ -2,7 +2,11 @@
 #![tactic(auto)]
 
 pub mod builder;
+#[cfg(test)]
+mod refusing;
 pub mod report;
+#[cfg(test)]
+mod tests_labels;
 #[cfg(test)]
 mod tests_laws;
 pub mod write;

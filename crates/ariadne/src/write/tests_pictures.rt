@@ -1,11 +1,13 @@
-//! Pictures in ASCII and in box drawing characters, without colours.
+//! Labels within one line, in ASCII and in box drawing characters, without colours.
 
-use super::tests::{assert_bytes, assert_picture, joined, labelled, plain, plain_error, written};
+use super::tests::{
+    Why, assert_bytes, assert_left_out, assert_picture, assert_rows, labelled, plain, plain_error,
+    plain_error_at, source_of, written,
+};
 use crate::config::{CharSet, Config};
 use crate::kind::ReportKind;
+use crate::label::Label;
 use crate::report::Report;
-use crate::write::Reason;
-use crate::write::tests::source_of;
 use ariadne_base::Color;
 use std::test::Fail;
 
@@ -45,9 +47,8 @@ fn labels_added_from_the_right_are_drawn_from_the_left(rt: HostRuntime) -> Resul
 
 #[test]
 fn a_line_below_the_first_alone_has_rows(rt: HostRuntime) -> Result<(), Fail> {
-    let builder = Report::build(rt.alloc(), ReportKind::Error, 15..21).with_config(plain());
     let labels = [(6, 11, "This is an apple"), (15, 21, "This is an orange")];
-    let report = labelled(&rt, builder, &labels)?;
+    let report = labelled(&rt, plain_error_at(rt.alloc(), 15..21), &labels)?;
     assert_picture(
         &rt,
         &report,
@@ -137,7 +138,7 @@ fn an_end_one_past_is_drawn_and_labels_past_the_source_are_listed(
     rt: HostRuntime,
 ) -> Result<(), Fail> {
     let report = labelled(&rt, plain_error(rt.alloc()), &[(0, 3, "x"), (0, 4, "z")])?;
-    let (picture, left_out) = written(&rt, &report, "ab")?;
+    let (picture, left_out) = written(&rt, &report, &mut source_of(rt.alloc(), "ab")?)?;
     let rows = [
         "Error: ",
         "   ,-[ <unknown>:1:1 ]",
@@ -147,11 +148,9 @@ fn an_end_one_past_is_drawn_and_labels_past_the_source_are_listed(
         "   |  `-- x",
         "---'",
     ];
-    assert_eq!(rt; picture.as_str(), joined(rt.alloc(), &rows)?.as_str());
+    assert_rows(&rt, picture.as_str(), &rows)?;
     assert_eq!(rt; picture.len(), 71);
-    assert_eq!(rt; left_out.len(), 1);
-    assert_eq!(rt; left_out[0].label, 1);
-    assert!(rt; matches!(left_out[0].reason, Reason::PastSource));
+    assert_left_out(&rt, &left_out, &[(1, Why::PastSource)]);
     Ok(())
 }
 
@@ -165,13 +164,14 @@ fn where_all_labels_are_past_the_source_the_header_stands_alone(
         (usize::MAX, usize::MAX, "far"),
     ];
     let report = labelled(&rt, plain_error(rt.alloc()), &labels)?;
-    let (picture, left_out) = written(&rt, &report, "ab")?;
+    let (picture, left_out) = written(&rt, &report, &mut source_of(rt.alloc(), "ab")?)?;
     assert_eq!(rt; picture.as_str(), "Error: \n");
-    assert_eq!(rt; left_out.len(), 3);
-    for (position, left) in left_out.iter().enumerate() {
-        assert_eq!(rt; left.label, position);
-        assert!(rt; matches!(left.reason, Reason::PastSource));
-    }
+    let wanted = [
+        (0, Why::PastSource),
+        (1, Why::PastSource),
+        (2, Why::PastSource),
+    ];
+    assert_left_out(&rt, &left_out, &wanted);
     Ok(())
 }
 
@@ -192,18 +192,53 @@ fn without_labels_the_header_names_kind_and_message(rt: HostRuntime) -> Result<(
 }
 
 #[test]
-fn the_last_message_and_configuration_count(rt: HostRuntime) -> Result<(), Fail> {
-    let builder = Report::build(rt.alloc(), ReportKind::Error, 0..0);
-    let builder = builder.with_config(Config::default()).with_config(plain());
-    let report = builder.with_message("first")?.with_message("m")?.finish();
-    assert_bytes(&rt, &report, "", &["Error: m"])?;
-    assert!(rt; Config::default() == Config::new());
+fn a_code_stands_in_brackets_in_front_of_the_kind(rt: HostRuntime) -> Result<(), Fail> {
+    let alloc = rt.alloc();
+    for (code, want) in [
+        (0, "[00] Error: m"),
+        (3, "[03] Error: m"),
+        (42, "[42] Error: m"),
+        (u64::MAX, "[18446744073709551615] Error: m"),
+    ] {
+        let report = plain_error(alloc).with_code(code)?.with_message("m")?;
+        assert_bytes(&rt, &report.finish(), "", &[want])?;
+    }
+    for (code, want) in [
+        ("", "[  ] Error: m"),
+        ("E", "[E ] Error: m"),
+        ("\u{6f22}", "[\u{6f22} ] Error: m"), // characters count, whatever columns they take
+        ("E0308", "[E0308] Error: m"),
+    ] {
+        let report = plain_error(alloc).with_code(7)?.with_code_text(code)?;
+        assert_bytes(&rt, &report.with_message("m")?.finish(), "", &[want])?;
+    }
     Ok(())
 }
 
 #[test]
+fn a_label_without_message_shows_its_line(rt: HostRuntime) -> Result<(), Fail> {
+    let said = Label::new(3..5).with_message(rt.alloc(), "n")?;
+    let report = plain_error(rt.alloc()).with_labels([Label::new(0..2), said])?;
+    assert_picture(
+        &rt,
+        &report.finish(),
+        "ab cd",
+        &[
+            "Error:",
+            "   ,-[ <unknown>:1:1 ]",
+            "   |",
+            " 1 | ab cd",
+            // No underline stands on a line whose first label says nothing.
+            "   |     |",
+            "   |     `-- n",
+            "---'",
+        ],
+    )
+}
+
+#[test]
 fn box_drawing_characters(rt: HostRuntime) -> Result<(), Fail> {
-    let config = plain().with_char_set(CharSet::Unicode);
+    let config = Config::new().with_color(false);
     let builder = plain_error(rt.alloc()).with_config(config);
     let report = labelled(&rt, builder, &[(0, 2, "x")])?;
     assert_picture(
@@ -233,8 +268,7 @@ fn the_place_is_unknown_where_the_report_starts_past_the_source(
         (usize::MAX, "   ,-[ <unknown>:?:? ]"),
     ];
     for (start, head) in cases {
-        let builder = Report::build(rt.alloc(), ReportKind::Error, start..start);
-        let report = labelled(&rt, builder.with_config(plain()), &[(0, 2, "x")])?;
+        let report = labelled(&rt, plain_error_at(rt.alloc(), start..start), &[(0, 2, "x")])?;
         let rows = [
             "Error:",
             head,
@@ -269,12 +303,20 @@ fn an_empty_source_has_a_line_to_point_at(rt: HostRuntime) -> Result<(), Fail> {
 }
 
 #[test]
-fn the_same_picture_is_printed(rt: HostRuntime) -> Result<(), Fail> {
-    let mut source = source_of(rt.alloc(), "ab")?;
-    let report = labelled(&rt, plain_error(rt.alloc()), &[(0, 2, "x"), (0, 9, "z")])?;
-    assert!(rt; report.drawable(&source));
-    let left_out = report.print(&mut source, &rt)?;
-    assert_eq!(rt; left_out.len(), 1);
-    assert_eq!(rt; left_out[0].label, 1);
-    Ok(())
+fn a_message_goes_out_as_it_is(rt: HostRuntime) -> Result<(), Fail> {
+    let report = labelled(&rt, plain_error(rt.alloc()), &[(0, 1, "two\nlines\t")])?;
+    assert_bytes(
+        &rt,
+        &report,
+        "a",
+        &[
+            "Error: ",
+            "   ,-[ <unknown>:1:1 ]",
+            "   |",
+            " 1 | a",
+            "   | |  ",
+            "   | `-- two\nlines\t",
+            "---'",
+        ],
+    )
 }

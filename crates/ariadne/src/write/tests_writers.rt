@@ -2,11 +2,11 @@
 
 ghost use Rattle.std.specs.Prelude.{Some};
 
-use super::tests::{joined, labelled, plain_error, source_of};
+use super::tests::{Why, assert_left_out, joined, labelled, plain_error, source_of};
 use super::tests_pictures::{APPLE_LABELS, APPLES};
 use crate::report::Report;
 use crate::write::WriteError;
-use std::alloc::Global;
+use std::alloc::{AllocError, Global};
 use std::io;
 use std::io::{ErrorKind, Write};
 use std::process::Abort;
@@ -71,7 +71,6 @@ fn stopped_at(
 ) -> Result<Option<(usize, ErrorKind)>, Fail> {
     let report = apples(rt)?;
     let mut source = source_of(rt.alloc(), "apple == orange;")?;
-    assert!(rt; report.drawable(&source));
     match report.write(&mut source, out) {
         Ok(left_out) => {
             assert!(rt; left_out.is_empty());
@@ -129,5 +128,46 @@ fn an_interruption_is_a_fault(rt: HostRuntime) -> Result<(), Fail> {
     let want = Some((0, ErrorKind::Interrupted));
     assert_eq!(rt; stopped_at(&rt, &mut out)?, want);
     assert!(rt; out.held.is_empty());
+    Ok(())
+}
+
+#[test]
+fn for_standard_output_the_same_is_written(rt: HostRuntime) -> Result<(), Fail> {
+    let picture = joined(rt.alloc(), &APPLES)?;
+    let mut source = source_of(rt.alloc(), "apple == orange;")?;
+    let mut out = Narrow::new(rt.alloc(), 7, LEN, None);
+    let left_out = apples(&rt)?.write_for_stdout(&mut source, &mut out)?;
+    assert!(rt; left_out.is_empty());
+    assert_eq!(rt; out.held.as_slice(), picture.as_bytes());
+    let mut out = Narrow::new(rt.alloc(), 1, 7, Some(ErrorKind::BrokenPipe));
+    let answer = apples(&rt)?.write_for_stdout(&mut source, &mut out);
+    assert!(rt; matches!(answer, Err(WriteError::Io { sent: 7, .. })));
+    assert_eq!(rt; out.held.as_slice(), b"Error: ".as_slice());
+    Ok(())
+}
+
+#[test]
+fn the_same_picture_is_printed(rt: HostRuntime) -> Result<(), Fail> {
+    let mut source = source_of(rt.alloc(), "ab")?;
+    let report = labelled(&rt, plain_error(rt.alloc()), &[(0, 2, "x"), (0, 9, "z")])?;
+    let left_out = report.print(&mut source, &rt)?;
+    assert_left_out(&rt, &left_out, &[(1, Why::PastSource)]);
+    let left_out = report.eprint(&mut source, rt.stderr())?;
+    assert_left_out(&rt, &left_out, &[(1, Why::PastSource)]);
+    Ok(())
+}
+
+#[test]
+fn errors_say_how_many_bytes_were_sent(rt: HostRuntime) -> Result<(), Fail> {
+    let error = WriteError::from(AllocError);
+    assert_eq!(rt; error.to_string(rt.alloc())?.as_str(), "no memory");
+    for (sent, want) in [
+        (0, "write failed after 0 bytes"),
+        (222, "write failed after 222 bytes"),
+    ] {
+        let fault = io::Error::from(ErrorKind::Interrupted);
+        let error = WriteError::Io { sent, fault };
+        assert_eq!(rt; error.to_string(rt.alloc())?.as_str(), want);
+    }
     Ok(())
 }

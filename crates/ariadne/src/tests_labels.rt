@@ -1,0 +1,54 @@
+//! Labels are equal by all that they hold, and equal ones have one hash.
+
+use crate::label::Label;
+use ariadne_base::Color;
+use std::alloc::{AllocError, Global};
+use std::hash::{DefaultHasher, Hash, Hasher};
+use std::test::Fail;
+
+/// A label with all that a label may have.
+fn full(alloc: Global) -> Result<Label, AllocError> {
+    let label = Label::new(1..3).with_message(alloc, "m")?;
+    let label = label.with_color(Color::Rgb(1, 2, 3));
+    Ok(label.with_order(-4).with_priority(5))
+}
+
+/// The hash of a label.
+fn hash_of(label: &Label) -> u64 {
+    let mut state = DefaultHasher::new();
+    label.hash(&mut state);
+    state.finish()
+}
+
+#[test]
+fn a_copy_equals_its_label(rt: HostRuntime) -> Result<(), Fail> {
+    let alloc = rt.alloc();
+    for label in [full(alloc)?, Label::new(0..0)] {
+        let copy = label.clone()?;
+        assert!(rt; copy == label);
+        assert_eq!(rt; hash_of(&copy), hash_of(&label));
+    }
+    Ok(())
+}
+
+#[test]
+fn each_field_makes_a_label_another(rt: HostRuntime) -> Result<(), Fail> {
+    let alloc = rt.alloc();
+    let others = [
+        Label::new(1..3),
+        Label::new(1..4).with_message(alloc, "m")?,
+        full(alloc)?.with_message(alloc, "")?,
+        full(alloc)?.with_color(Color::Rgb(1, 2, 4)),
+        full(alloc)?.with_order(-3),
+        full(alloc)?.with_priority(4),
+    ];
+    let label = full(alloc)?;
+    assert!(rt; label == full(alloc)?);
+    for other in others {
+        assert!(rt; other != label);
+    }
+    assert!(rt; Label::new(("a", 0..1)) == Label::new(("a", 0..1)));
+    assert!(rt; Label::new(("a", 0..1)) != Label::new(("b", 0..1)));
+    assert!(rt; Label::new(0..=1) != Label::new(0..=2));
+    Ok(())
+}

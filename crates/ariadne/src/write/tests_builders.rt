@@ -1,0 +1,104 @@
+//! Calls of the builder, each by the picture that it makes.
+
+use super::tests::{assert_bytes, assert_picture, plain_error};
+use crate::kind::ReportKind;
+use crate::label::Label;
+use ariadne_base::Color;
+use std::test::Fail;
+
+/// The picture of two labels added in turn.
+const TWO: [&str; 9] = [
+    "Error: m",
+    "   ,-[ <unknown>:1:1 ]",
+    "   |",
+    " 1 | ab",
+    "   | ||",
+    "   | `--- p",
+    "   |  |",
+    "   |  `-- q",
+    "---'",
+];
+
+#[test]
+fn labels_are_added_behind_those_that_are_there(rt: HostRuntime) -> Result<(), Fail> {
+    let alloc = rt.alloc();
+    let p = || Label::new(0..1).with_message(alloc, "p");
+    let q = || Label::new(1..2).with_message(alloc, "q");
+    let report = plain_error(alloc).with_message("m")?.with_label(p()?)?;
+    assert_picture(&rt, &report.with_label(q()?)?.finish(), "ab", &TWO)?;
+    let report = plain_error(alloc).with_message("m")?.with_label(p()?)?;
+    assert_picture(&rt, &report.with_labels([q()?])?.finish(), "ab", &TWO)?;
+    let mut report = plain_error(alloc).with_message("m")?;
+    report.add_label(p()?)?;
+    report.add_label(q()?)?;
+    assert_picture(&rt, &report.finish(), "ab", &TWO)?;
+    let mut report = plain_error(alloc).with_message("m")?;
+    report.add_labels([p()?, q()?])?;
+    report.add_labels([])?;
+    assert_picture(&rt, &report.finish(), "ab", &TWO)
+}
+
+#[test]
+fn the_last_message_counts(rt: HostRuntime) -> Result<(), Fail> {
+    let report = plain_error(rt.alloc()).with_message("first")?;
+    let mut report = report.with_message("second")?;
+    assert_bytes(&rt, &report.finish(), "", &["Error: second"])?;
+    report = plain_error(rt.alloc()).with_message("first")?;
+    report.set_message("third")?;
+    assert_bytes(&rt, &report.finish(), "", &["Error: third"])?;
+    let mut report = plain_error(rt.alloc());
+    report.set_message("")?;
+    assert_bytes(&rt, &report.finish(), "", &["Error: "])
+}
+
+#[test]
+fn a_label_says_its_last_message(rt: HostRuntime) -> Result<(), Fail> {
+    let alloc = rt.alloc();
+    let label = Label::new(0..1).with_message(alloc, "first")?;
+    let label = label.with_message(alloc, "second")?;
+    let report = plain_error(alloc).with_label(label)?.finish();
+    let rows = [
+        "Error:",
+        "   ,-[ <unknown>:1:1 ]",
+        "   |",
+        " 1 | a",
+        "   | |",
+        "   | `-- second",
+        "---'",
+    ];
+    assert_picture(&rt, &report, "a", &rows)
+}
+
+#[test]
+fn an_empty_message_is_one(rt: HostRuntime) -> Result<(), Fail> {
+    let label = Label::new(0..1).with_message(rt.alloc(), "")?;
+    let report = plain_error(rt.alloc()).with_label(label)?.finish();
+    let rows = [
+        "Error: ",
+        "   ,-[ <unknown>:1:1 ]",
+        "   |",
+        " 1 | a",
+        "   | |  ",
+        "   | `-- ",
+        "---'",
+    ];
+    assert_bytes(&rt, &report, "a", &rows)
+}
+
+#[test]
+fn kinds_are_shown_by_their_names(rt: HostRuntime) -> Result<(), Fail> {
+    let cases = [
+        (ReportKind::Error, "Error"),
+        (ReportKind::Warning, "Warning"),
+        (ReportKind::Advice, "Advice"),
+        (ReportKind::Custom("Hint", Color::Blue), "Hint"),
+        (ReportKind::Custom("", Color::Primary), ""),
+    ];
+    for (kind, want) in cases {
+        assert_eq!(rt; kind.to_string(rt.alloc())?.as_str(), want);
+        assert!(rt; kind == kind);
+    }
+    assert!(rt; ReportKind::Custom("Hint", Color::Blue) != ReportKind::Custom("Hint", Color::Red));
+    assert!(rt; ReportKind::Custom("Error", Color::Red) != ReportKind::Error);
+    Ok(())
+}

@@ -1,0 +1,309 @@
+//! Reports over caches of each kind: what is drawn, what is left out, and what is asked for.
+
+ghost use Rattle.std.specs.Prelude.{◌≡◌, true, Some, None, cond};
+ghost use Rattle.std.specs.Str.{bytes_eq};
+ghost use Rattle.std.specs.Cmp.Lexicographic.{bytes_decides};
+ghost use Rattle.std.proofs.Common.{ap};
+
+use super::tests::{
+    Piece, Why, assert_left_out, assert_picture_over, assert_trimmed, labelled, labelled_in,
+    plain_error, plain_error_at, written,
+};
+use crate::label::Label;
+use crate::report::Report;
+use crate::write::Reason;
+use ariadne_base::{Cache, FetchError, FnCache, Source, SourceMap, UnknownSource, sources};
+use std::alloc::AllocError;
+use std::cell::Cell;
+use std::collections::HashMap;
+use std::process::Abort;
+use std::rc::RcStr;
+use std::test::Fail;
+
+/// The picture of two labels in the source `ab` of `x`.
+const TWO: [&str; 9] = [
+    "Error:",
+    "   ,-[ x:1:1 ]",
+    "   |",
+    " 1 | ab",
+    "   | ||",
+    "   | `--- p",
+    "   |  |",
+    "   |  `-- q",
+    "---'",
+];
+
+/// The picture of the second label alone.
+const SECOND: [&str; 7] = [
+    "Error:",
+    "   ,-[ x:1:1 ]",
+    "   |",
+    " 1 | ab",
+    "   |  |",
+    "   |  `-- q",
+    "---'",
+];
+
+/// The report with the two labels on `x`.
+fn two_labels(rt: &(impl Abort + AllocGlobal)) -> Result<Report<'static, Piece>, AllocError> {
+    let builder = plain_error_at(rt.alloc(), ("x", 0..0));
+    labelled_in(rt, builder, &[("x", 0, 1, "p"), ("x", 1, 2, "q")])
+}
+
+#[test]
+fn a_function_is_called_once_for_all_labels_and_reports(rt: HostRuntime) -> Result<(), Fail> {
+    let calls = Cell::new(0u8);
+    let mut cache: FnCache<&str, _, &str> = FnCache::new(
+        rt.alloc(),
+        |_id: &&str| -> Result<&str, ()> {
+            calls.set(calls.get().wrapping_add(1));
+            Ok("ab")
+        },
+    );
+    let report = two_labels(&rt)?;
+    for _ in 0..2 {
+        assert_picture_over(&rt, &report, &mut cache, &[], &TWO)?;
+        assert_eq!(rt; calls.get(), 1);
+    }
+    Ok(())
+}
+
+#[test]
+fn a_function_that_failed_is_called_for_the_next_label(rt: HostRuntime) -> Result<(), Fail> {
+    let calls = Cell::new(0u8);
+    let mut cache: FnCache<&str, _, &str> = FnCache::new(
+        rt.alloc(),
+        |_id: &&str| -> Result<&str, u8> {
+            calls.set(calls.get().wrapping_add(1));
+            if calls.get() == 1 { Err(7) } else { Ok("ab") }
+        },
+    );
+    let report = two_labels(&rt)?;
+    let (picture, left_out) = written(&rt, &report, &mut cache)?;
+    assert_trimmed(&rt, picture.as_str(), &SECOND)?;
+    assert_left_out(&rt, &left_out, &[(0, Why::Unfetched)]);
+    assert!(rt; matches!(left_out[0].reason, Reason::Unfetched(7)));
+    assert_eq!(rt; calls.get(), 2);
+    // By now the source is held.
+    assert_picture_over(&rt, &report, &mut cache, &[], &TWO)?;
+    assert_eq!(rt; calls.get(), 2);
+    Ok(())
+}
+
+#[test]
+fn of_a_function_that_fails_always_nothing_is_drawn(rt: HostRuntime) -> Result<(), Fail> {
+    let calls = Cell::new(0u8);
+    let mut cache: FnCache<&str, _, &str> = FnCache::new(
+        rt.alloc(),
+        |_id: &&str| -> Result<&str, u8> {
+            calls.set(calls.get().wrapping_add(1));
+            Err(calls.get())
+        },
+    );
+    let (picture, left_out) = written(&rt, &two_labels(&rt)?, &mut cache)?;
+    assert_eq!(rt; picture.as_str(), "Error: \n");
+    assert_left_out(&rt, &left_out, &[(0, Why::Unfetched), (1, Why::Unfetched)]);
+    assert!(rt; matches!(left_out[0].reason, Reason::Unfetched(1)));
+    assert!(rt; matches!(left_out[1].reason, Reason::Unfetched(2)));
+    assert_eq!(rt; calls.get(), 2);
+    assert!(rt; cache.get(&"x").is_none());
+    Ok(())
+}
+
+#[test]
+fn the_sources_of_labels_are_fetched_and_that_of_the_report_is_not(
+    rt: HostRuntime,
+) -> Result<(), Fail> {
+    let calls = Cell::new(0u8);
+    let mut cache: FnCache<&str, _, &str> = FnCache::new(
+        rt.alloc(),
+        |id: &&str| -> Result<&str, u8> {
+            calls.set(calls.get().wrapping_add(1));
+            if *id == "z" { Err(7) } else { Ok("ab") }
+        },
+    );
+    let builder = plain_error_at(rt.alloc(), ("r", 0..0));
+    let report = labelled_in(&rt, builder, &[("z", 0, 1, "l"), ("x", 0, 1, "m")])?;
+    let rows = [
+        "Error:",
+        "   ,-[ x:1:1 ]",
+        "   |",
+        " 1 | ab",
+        "   | |",
+        "   | `-- m",
+        "---'",
+    ];
+    assert_picture_over(&rt, &report, &mut cache, &[(0, Why::Unfetched)], &rows)?;
+    assert_eq!(rt; calls.get(), 2);
+    assert!(rt; cache.get(&"x").is_some());
+    assert!(rt; cache.get(&"z").is_none());
+    assert!(rt; cache.get(&"r").is_none());
+    Ok(())
+}
+
+#[test]
+fn given_sources_are_drawn_without_a_call(rt: HostRuntime) -> Result<(), Fail> {
+    let alloc = rt.alloc();
+    let cache: FnCache<&str, _, &str> =
+        FnCache::new(alloc, |_id: &&str| -> Result<&str, u8> { Err(7) });
+    let mut given = HashMap::new(alloc);
+    given.insert("x", Source::from(alloc, "ab")?)?;
+    let mut cache = cache.with_sources(given)?;
+    assert_picture_over(&rt, &two_labels(&rt)?, &mut cache, &[], &TWO)
+}
+
+#[test]
+fn the_last_text_of_an_id_is_drawn(rt: HostRuntime) -> Result<(), Fail> {
+    let mut map = sources(rt.alloc(), [("a", "x"), ("a", "y")])?;
+    let builder = plain_error_at(rt.alloc(), ("a", 0..0));
+    let report = labelled_in(&rt, builder, &[("a", 0, 1, "m")])?;
+    let rows = [
+        "Error:",
+        "   ,-[ a:1:1 ]",
+        "   |",
+        " 1 | y",
+        "   | |",
+        "   | `-- m",
+        "---'",
+    ];
+    assert_picture_over(&rt, &report, &mut map, &[], &rows)
+}
+
+#[test]
+fn a_report_is_drawn_alike_over_each_cache_of_its_source(rt: HostRuntime) -> Result<(), Fail> {
+    let alloc = rt.alloc();
+    let report = two_labels(&rt)?;
+    let mut map = sources(alloc, [("x", "ab")])?;
+    assert_picture_over(&rt, &report, &mut map, &[], &TWO)?;
+    assert_picture_over(&rt, &report, &mut (&mut map), &[], &TWO)?;
+    assert_picture_over(&rt, &report, &mut Box::new(alloc, map)?, &[], &TWO)?;
+    let source = Source::from(alloc, "ab")?;
+    assert_picture_over(&rt, &report, &mut ("x", &source), &[], &TWO)?;
+    assert_picture_over(&rt, &report, &mut ("x", source), &[], &TWO)
+}
+
+#[test]
+fn a_source_without_a_name_is_unknown(rt: HostRuntime) -> Result<(), Fail> {
+    let alloc = rt.alloc();
+    let report = labelled(&rt, plain_error(alloc), &[(0, 1, "p"), (1, 2, "q")])?;
+    let mut rows = TWO;
+    rows[1] = "   ,-[ <unknown>:1:1 ]";
+    let mut shared = Source::from(alloc, RcStr::from_str(alloc, "ab")?)?;
+    assert_picture_over(&rt, &report, &mut shared, &[], &rows)?;
+    let mut source = Source::from(alloc, "ab")?;
+    assert_picture_over(&rt, &report, &mut (&source), &[], &rows)?;
+    assert_picture_over(&rt, &report, &mut source, &[], &rows)
+}
+
+#[test]
+fn ids_may_be_strings(rt: HostRuntime) -> Result<(), Fail> {
+    let alloc = rt.alloc();
+    let label = Label::new(("x".to_string(alloc)?, 0..2)).with_message(alloc, "m")?;
+    let start = ("x".to_string(alloc)?, 1..1);
+    let report = plain_error_at(alloc, start).with_label(label)?.finish();
+    let rows = [
+        "Error:",
+        "   ,-[ x:1:2 ]",
+        "   |",
+        " 1 | ab",
+        "   | ^|",
+        "   |  `-- m",
+        "---'",
+    ];
+    let mut map = sources(alloc, [("x".to_string(alloc)?, "ab".to_string(alloc)?)])?;
+    assert_picture_over(&rt, &report, &mut map, &[], &rows)
+}
+
+#[test]
+fn an_inclusive_span_holds_its_last_offset(rt: HostRuntime) -> Result<(), Fail> {
+    let alloc = rt.alloc();
+    let mut map = sources(alloc, [("x", "ab")])?;
+    let last = Label::new(("x", 1..=1)).with_message(alloc, "q")?;
+    let report = plain_error_at(alloc, ("x", 0..=0)).with_label(last)?;
+    assert_picture_over(&rt, &report.finish(), &mut map, &[], &SECOND)?;
+    let far = Label::new(("x", 0..=usize::MAX)).with_message(alloc, "q")?;
+    let report = plain_error_at(alloc, ("x", 0..=0)).with_label(far)?;
+    let left_out = [(0, Why::PastSource)];
+    assert_picture_over(&rt, &report.finish(), &mut map, &left_out, &["Error:"])?;
+    let mut source = Source::from(alloc, "ab")?;
+    let last = Label::new(1..=1).with_message(alloc, "q")?;
+    let report = plain_error_at(alloc, 0..=0).with_label(last)?;
+    let mut rows = SECOND;
+    rows[1] = "   ,-[ <unknown>:1:1 ]";
+    assert_picture_over(&rt, &report.finish(), &mut source, &[], &rows)
+}
+
+#[test]
+fn a_name_goes_out_as_it_is(rt: HostRuntime) -> Result<(), Fail> {
+    let mut map = sources(rt.alloc(), [("a\x1b[1m\nb", "ab")])?;
+    let builder = plain_error_at(rt.alloc(), ("x", 0..0));
+    let report = labelled_in(&rt, builder, &[("a\x1b[1m\nb", 1, 2, "q")])?;
+    let mut rows = SECOND;
+    rows[1] = "   ,-[ a\x1b[1m\nb:1:2 ]";
+    assert_picture_over(&rt, &report, &mut map, &[], &rows)
+}
+
+/// A map of sources that shows no name for one of its ids.
+#[derive(Drop)]
+struct Discreet {
+    map: SourceMap<&'static str, &'static str>,
+    hidden: &'static str,
+}
+
+impl Cache<&'static str> for Discreet {
+    type Storage = &'static str;
+
+    type Error = UnknownSource;
+
+    ghost contents = { λ c. c.map };
+
+    ghost names = { λ c id. cond (bytes_eq id.now c.hidden.now) None (Some id.now) };
+
+    ghost fails = { λ id e. e ≡ id.now };
+
+    ghost names_respect_eq = { λ c p q h. ap (λ n. cond (bytes_eq n c.hidden.now) None (Some n))
+        ((bytes_decides p.now q.now).0 h) };
+
+    fn ensure(&mut self, id: &&'static str) -> Result<(), FetchError<UnknownSource>> {
+        self.map.ensure(id)
+    }
+
+    fn get(&self, id: &&'static str) -> Option<&Source<&'static str>> {
+        self.map.get(id)
+    }
+
+    fn display<'a>(&'a self, id: &'a &'static str) -> Option<&'a str> {
+        if *id == self.hidden { None } else { Some(*id) }
+    }
+}
+
+#[test]
+fn a_cache_of_the_callers_own_may_show_no_name(rt: HostRuntime) -> Result<(), Fail> {
+    let alloc = rt.alloc();
+    let map = sources(alloc, [("x", "ab"), ("y", "c")])?;
+    let mut cache = Discreet { map, hidden: "x" };
+    let builder = plain_error_at(alloc, ("x", 0..0));
+    let labels = [("x", 1, 2, "q"), ("y", 0, 1, "m"), ("z", 0, 1, "l")];
+    let report = labelled_in(&rt, builder, &labels)?;
+    assert_picture_over(
+        &rt,
+        &report,
+        &mut cache,
+        &[(2, Why::Unfetched)],
+        &[
+            "Error:",
+            "   ,-[ <unknown>:1:1 ]",
+            "   |",
+            " 1 | ab",
+            "   |  |",
+            "   |  `-- q",
+            "   |",
+            "   |-[ y:1:1 ]",
+            "   |",
+            " 1 | c",
+            "   | |",
+            "   | `-- m",
+            "---'",
+        ],
+    )
+}
