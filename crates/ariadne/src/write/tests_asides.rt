@@ -38,13 +38,7 @@ fn an_empty_help_has_no_line(rt: HostRuntime) -> Result<(), Fail> {
     let label = Label::new(0..0).with_message(rt.alloc(), "m")?;
     let builder = plain_error(rt.alloc()).with_label(label)?;
     let report = builder.with_help("")?.with_help("h")?.finish();
-    let asides = [
-        "   | |",
-        "   | `- m",
-        "   |",
-        "   |",
-        "   | Help 2: h",
-    ];
+    let asides = ["   | |", "   | `- m", "   |", "   |", "   | Help 2: h"];
     assert_asides(&rt, &report, &asides)
 }
 

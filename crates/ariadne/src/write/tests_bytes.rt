@@ -65,7 +65,15 @@ fn the_place_of_a_byte_inside_a_character_is_unknown(rt: HostRuntime) -> Result<
         (3, "   ,-[ <unknown>:?:? ]"),
     ] {
         let report = in_bytes(&rt, start, &[(0, 2, "m")])?;
-        let rows = ["Error:", head, "   |", " 1 | é", "   | |", "   | `-- m", "---'"];
+        let rows = [
+            "Error:",
+            head,
+            "   |",
+            " 1 | é",
+            "   | |",
+            "   | `-- m",
+            "---'",
+        ];
         assert_in_bytes(&rt, &report, "é", &[], &rows)?;
     }
     Ok(())
@@ -124,8 +132,11 @@ fn every_span_of_bytes_is_answered(rt: HostRuntime) -> Result<(), Fail> {
     let mut source = source_of(rt.alloc(), text)?;
     for start in 0..=text.len() {
         for end in start..=text.len() {
-            let (_, left_out) =
-                written(&rt, &in_bytes(&rt, 0, &[(start, end, "Label")])?, &mut source)?;
+            let (_, left_out) = written(
+                &rt,
+                &in_bytes(&rt, 0, &[(start, end, "Label")])?,
+                &mut source,
+            )?;
             assert!(rt; left_out.is_empty(), "of {start}..{end}");
         }
     }

@@ -144,8 +144,9 @@ fn the_sources_of_labels_are_fetched_and_that_of_the_report_is_not(
 #[test]
 fn given_sources_are_drawn_without_a_call(rt: HostRuntime) -> Result<(), Fail> {
     let alloc = rt.alloc();
-    let cache: FnCache<&str, _, &str> =
-        FnCache::new(alloc, |_id: &&str| -> Result<&str, u8> { Err(7) });
+    let cache: FnCache<&str, _, &str> = FnCache::new(alloc, |_id: &&str| -> Result<&str, u8> {
+        Err(7)
+    });
     let mut given = HashMap::new(alloc);
     given.insert("x", Source::from(alloc, "ab")?)?;
     let mut cache = cache.with_sources(given)?;

@@ -14,7 +14,8 @@ use std::test::Fail;
 const HEADER: &str = "\x1b[31mError:\x1b[0m ";
 
 /// The header of a group whose place is the first character.
-const PLACE: &str = "   \x1b[38;5;246m,\x1b[0m\x1b[38;5;246m-\x1b[0m\x1b[38;5;246m[\x1b[0m <unknown>:1:1 \x1b[38;5;246m]\x1b[0m";
+const PLACE: &str =
+    "   \x1b[38;5;246m,\x1b[0m\x1b[38;5;246m-\x1b[0m\x1b[38;5;246m[\x1b[0m <unknown>:1:1 \x1b[38;5;246m]\x1b[0m";
 
 /// The row below it.
 const SPACER: &str = "   \x1b[38;5;246m|\x1b[0m";
@@ -115,7 +116,11 @@ fn without_colors_a_label_has_none(rt: HostRuntime) -> Result<(), Fail> {
 fn frame_and_margins_are_painted_and_labels_without_a_color_are_plain(
     rt: HostRuntime,
 ) -> Result<(), Fail> {
-    let report = labelled(&rt, plain_error(rt.alloc()).with_config(colored()), &[(0, 1, "m")])?;
+    let report = labelled(
+        &rt,
+        plain_error(rt.alloc()).with_config(colored()),
+        &[(0, 1, "m")],
+    )?;
     assert_lines(
         &rt,
         &report,
@@ -130,7 +135,11 @@ fn frame_and_margins_are_painted_and_labels_without_a_color_are_plain(
 
 #[test]
 fn characters_inside_no_label_are_painted_each_alone(rt: HostRuntime) -> Result<(), Fail> {
-    let report = labelled(&rt, plain_error(rt.alloc()).with_config(colored()), &[(1, 2, "m")])?;
+    let report = labelled(
+        &rt,
+        plain_error(rt.alloc()).with_config(colored()),
+        &[(1, 2, "m")],
+    )?;
     assert_lines(
         &rt,
         &report,
@@ -167,12 +176,13 @@ fn the_shortest_label_of_the_highest_priority_paints(rt: HostRuntime) -> Result<
 // Where spans are equally long and of one priority, the candidates' order decides.
 
 #[test]
-fn the_label_of_the_margin_paints_before_those_over_lines(
-    rt: HostRuntime,
-) -> Result<(), Fail> {
+fn the_label_of_the_margin_paints_before_those_over_lines(rt: HostRuntime) -> Result<(), Fail> {
     let later = Label::new(0..3).with_order(1);
     let later = later.with_message(rt.alloc(), "m")?;
-    let report = painted(rt.alloc(), [later, Label::new(1..4).with_color(Color::Blue)])?;
+    let report = painted(
+        rt.alloc(),
+        [later, Label::new(1..4).with_color(Color::Blue)],
+    )?;
     assert_lines(
         &rt,
         &report,
@@ -202,11 +212,11 @@ fn labels_over_lines_paint_before_those_within_a_line(rt: HostRuntime) -> Result
 }
 
 #[test]
-fn behind_a_crossed_wide_character_the_crossing_label_paints(
-    rt: HostRuntime,
-) -> Result<(), Fail> {
+fn behind_a_crossed_wide_character_the_crossing_label_paints(rt: HostRuntime) -> Result<(), Fail> {
     let empty = Label::new(0..0).with_message(rt.alloc(), "m")?;
-    let both = Label::new(0..2).with_color(Color::Fixed(200)).with_order(-1);
+    let both = Label::new(0..2)
+        .with_color(Color::Fixed(200))
+        .with_order(-1);
     let report = painted(rt.alloc(), [empty, both.with_message(rt.alloc(), "m")?])?;
     assert_lines(
         &rt,
@@ -223,9 +233,7 @@ fn behind_a_crossed_wide_character_the_crossing_label_paints(
 }
 
 #[test]
-fn an_underlined_vertical_is_painted_whole_for_its_own_label(
-    rt: HostRuntime,
-) -> Result<(), Fail> {
+fn an_underlined_vertical_is_painted_whole_for_its_own_label(rt: HostRuntime) -> Result<(), Fail> {
     let empty = Label::new(0..0).with_message(rt.alloc(), "m")?;
     let report = painted(rt.alloc(), [empty, Label::new(0..1).with_color(Color::Red)])?;
     assert_lines(
@@ -259,7 +267,10 @@ fn the_place_of_a_byte_may_be_the_end_behind_a_last_terminator(
 
 #[test]
 fn a_character_without_a_width_takes_one_column(rt: HostRuntime) -> Result<(), Fail> {
-    let report = painted(rt.alloc(), [Label::new(1..2).with_message(rt.alloc(), "m")?])?;
+    let report = painted(
+        rt.alloc(),
+        [Label::new(1..2).with_message(rt.alloc(), "m")?],
+    )?;
     assert_lines(
         &rt,
         &report,

@@ -155,7 +155,10 @@ fn tabs_reach_to_stops_of_the_width_given(rt: HostRuntime) -> Result<(), Fail> {
     let cases = [
         (1, [" 1 |  x", "   |  |", "   |  `-- t"]),
         (4, [" 1 |     x", "   |     |", "   |     `-- t"]),
-        (8, [" 1 |         x", "   |         |", "   |         `-- t"]),
+        (
+            8,
+            [" 1 |         x", "   |         |", "   |         `-- t"],
+        ),
     ];
     for (width, lines) in cases {
         let report = configured(&rt, plain().with_tab_width(width), &[(1, 2, "t")])?;
@@ -169,8 +172,20 @@ fn a_tab_behind_a_character_reaches_to_the_same_stop(rt: HostRuntime) -> Result<
     // Stops are counted in characters, whatever columns they take.
     let cases = [
         ("ab\tx", 3, " 1 | ab  x", "   |     |", "   |     `-- t"),
-        ("\t\tx", 2, " 1 |        x", "   |        |", "   |        `-- t"),
-        ("\u{6f22}\tx", 2, " 1 | \u{6f22}   x", "   |      |", "   |      `-- t"),
+        (
+            "\t\tx",
+            2,
+            " 1 |        x",
+            "   |        |",
+            "   |        `-- t",
+        ),
+        (
+            "\u{6f22}\tx",
+            2,
+            " 1 | \u{6f22}   x",
+            "   |      |",
+            "   |      `-- t",
+        ),
     ];
     for (text, start, source, vertical, arrow) in cases {
         let report = labelled(&rt, plain_error(rt.alloc()), &[(start, 4, "t")])?;

@@ -80,8 +80,12 @@ fn a_second_label_above_the_first_opens_a_group(rt: HostRuntime) -> Result<(), F
 #[test]
 fn labels_are_drawn_by_their_order(rt: HostRuntime) -> Result<(), Fail> {
     let alloc = rt.alloc();
-    let last = Label::new(0..1).with_order(i32::MAX).with_message(alloc, "last")?;
-    let first = Label::new(2..3).with_order(i32::MIN).with_message(alloc, "first")?;
+    let last = Label::new(0..1)
+        .with_order(i32::MAX)
+        .with_message(alloc, "last")?;
+    let first = Label::new(2..3)
+        .with_order(i32::MIN)
+        .with_message(alloc, "first")?;
     let report = plain_error(alloc).with_labels([last, first])?;
     assert_picture(
         &rt,
@@ -109,7 +113,9 @@ fn each_source_has_groups_of_its_own(rt: HostRuntime) -> Result<(), Fail> {
         ordered(alloc, ("a", 0..6), 2, "2")?,
         ordered(alloc, ("a", 7..12), 3, "3")?,
     ];
-    let report = plain_error_at(alloc, ("", 0..0)).with_labels(labels)?.finish();
+    let report = plain_error_at(alloc, ("", 0..0))
+        .with_labels(labels)?
+        .finish();
     assert_picture_over(&rt, &report, &mut two_sources(alloc)?, &[], &THREE_IN_ORDER)
 }
 
@@ -122,7 +128,9 @@ fn a_label_in_a_source_that_is_not_there_is_listed_alone(rt: HostRuntime) -> Res
         ordered(alloc, ("a", 0..6), 2, "2")?,
         ordered(alloc, ("a", 7..12), 3, "3")?,
     ];
-    let report = plain_error_at(alloc, ("", 0..0)).with_labels(labels)?.finish();
+    let report = plain_error_at(alloc, ("", 0..0))
+        .with_labels(labels)?
+        .finish();
     let (picture, left_out) = written(&rt, &report, &mut two_sources(alloc)?)?;
     assert_trimmed(&rt, picture.as_str(), &THREE_IN_ORDER)?;
     assert_left_out(&rt, &left_out, &[(1, Why::Unfetched)]);

@@ -43,9 +43,7 @@ fn an_expression_over_lines_and_two_labels_inside_it(rt: HostRuntime) -> Result<
 }
 
 #[test]
-fn the_longest_label_has_the_outermost_column(
-    rt: HostRuntime,
-) -> Result<(), Fail> {
+fn the_longest_label_has_the_outermost_column(rt: HostRuntime) -> Result<(), Fail> {
     let report = labelled(&rt, plain_error(rt.alloc()), &MID_AND_ALL)?;
     assert_picture(
         &rt,
@@ -147,7 +145,11 @@ fn horizontals_hide_the_verticals_that_they_cross(rt: HostRuntime) -> Result<(),
 
 #[test]
 fn hidden_lines_inside_a_label_give_one_row(rt: HostRuntime) -> Result<(), Fail> {
-    let report = labelled(&rt, plain_error(rt.alloc()), &[(0, 15, "illegal comparison")])?;
+    let report = labelled(
+        &rt,
+        plain_error(rt.alloc()),
+        &[(0, 15, "illegal comparison")],
+    )?;
     assert_bytes(
         &rt,
         &report,
@@ -173,13 +175,7 @@ fn a_label_without_message_over_lines_has_no_gutter(rt: HostRuntime) -> Result<(
         &rt,
         &report.finish(),
         "a\nb\nc",
-        &[
-            "Error:",
-            "   ,-[ <unknown>:1:1 ]",
-            "   |",
-            "   :",
-            "---'",
-        ],
+        &["Error:", "   ,-[ <unknown>:1:1 ]", "   |", "   :", "---'"],
     )
 }
 
@@ -241,9 +237,7 @@ fn hidden_lines_outside_all_labels_give_a_bare_row(rt: HostRuntime) -> Result<()
 }
 
 #[test]
-fn an_empty_label_at_the_start_of_a_line_is_drawn_there_once(
-    rt: HostRuntime,
-) -> Result<(), Fail> {
+fn an_empty_label_at_the_start_of_a_line_is_drawn_there_once(rt: HostRuntime) -> Result<(), Fail> {
     let report = labelled(&rt, plain_error(rt.alloc()), &[(0, 1, "x"), (2, 2, "y")])?;
     assert_picture(
         &rt,

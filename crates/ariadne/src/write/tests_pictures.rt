@@ -268,7 +268,11 @@ fn the_place_is_unknown_where_the_report_starts_past_the_source(
         (usize::MAX, "   ,-[ <unknown>:?:? ]"),
     ];
     for (start, head) in cases {
-        let report = labelled(&rt, plain_error_at(rt.alloc(), start..start), &[(0, 2, "x")])?;
+        let report = labelled(
+            &rt,
+            plain_error_at(rt.alloc(), start..start),
+            &[(0, 2, "x")],
+        )?;
         let rows = [
             "Error:",
             head,

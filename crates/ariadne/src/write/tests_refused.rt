@@ -1,8 +1,8 @@
 //! Reports when memory is refused: each request in turn, until a call meets no refusal.
 
 use super::tests::{
-    Why, assert_left_out, assert_picture, assert_trimmed, joined, labelled, labelled_in, plain_error,
-    plain_error_at, source_of, written,
+    Why, assert_left_out, assert_picture, assert_trimmed, joined, labelled, labelled_in,
+    plain_error, plain_error_at, source_of, written,
 };
 use super::tests_pictures::{APPLE_LABELS, APPLES};
 use crate::builder::ReportBuilder;
@@ -104,7 +104,11 @@ fn a_refused_call_by_value_is_an_error(rt: HostRuntime) -> Result<(), Fail> {
             refuse(alloc, nth);
             let builder = take(step, builder);
             let is_refused = was_refused(alloc);
-            assert_eq!(rt; builder.is_err(), is_refused, "of {step:?} at request {nth}");
+            assert_eq!(rt;
+                builder.is_err(),
+                is_refused,
+                "of {step:?} at request {nth}"
+            );
             if !is_refused {
                 break;
             }
@@ -320,7 +324,9 @@ const RICH: [&str; 21] = [
 #[test]
 fn a_refused_picture_over_a_cache_sends_nothing(rt: HostRuntime) -> Result<(), Fail> {
     let alloc = rt.alloc();
-    let builder = plain_error_at(alloc, ("x", 0..0)).with_message("m")?.with_help("h")?;
+    let builder = plain_error_at(alloc, ("x", 0..0))
+        .with_message("m")?
+        .with_help("h")?;
     let labels = [
         ("x", 1, 4, "mid"),
         ("x", 0, 8, "all"),

@@ -78,9 +78,27 @@ fn two_labels_without_messages(rt: HostRuntime) -> Result<(), Fail> {
 fn characters_of_many_bytes(rt: HostRuntime) -> Result<(), Fail> {
     // Offsets in characters and in bytes, and a place in bytes behind characters of two bytes.
     let cases = [
-        (0, IndexType::Char, (0, 5), (9, 15), "   ,-[ <unknown>:1:1 ]"),
-        (0, IndexType::Byte, (0, 7), (11, 20), "   ,-[ <unknown>:1:1 ]"),
-        (11, IndexType::Byte, (0, 7), (11, 20), "   ,-[ <unknown>:1:10 ]"),
+        (
+            0,
+            IndexType::Char,
+            (0, 5),
+            (9, 15),
+            "   ,-[ <unknown>:1:1 ]",
+        ),
+        (
+            0,
+            IndexType::Byte,
+            (0, 7),
+            (11, 20),
+            "   ,-[ <unknown>:1:1 ]",
+        ),
+        (
+            11,
+            IndexType::Byte,
+            (0, 7),
+            (11, 20),
+            "   ,-[ <unknown>:1:10 ]",
+        ),
     ];
     for (start, index_type, apple, orange, head) in cases {
         let builder = plain_error_at(rt.alloc(), start..start)
@@ -166,7 +184,11 @@ fn an_empty_input_with_help_and_note(rt: HostRuntime) -> Result<(), Fail> {
 
 #[test]
 fn a_label_over_lines(rt: HostRuntime) -> Result<(), Fail> {
-    let report = labelled(&rt, plain_error(rt.alloc()), &[(0, 15, "illegal comparison")])?;
+    let report = labelled(
+        &rt,
+        plain_error(rt.alloc()),
+        &[(0, 15, "illegal comparison")],
+    )?;
     let rows = [
         "Error:",
         "   ,-[ <unknown>:1:1 ]",
@@ -270,7 +292,12 @@ fn assert_strange(
         "   |",
     ])?;
     rows.extend_from_slice(asides)?;
-    assert_compared(rt, builder, &[(0, 15, "This is a strange comparison")], &rows)
+    assert_compared(
+        rt,
+        builder,
+        &[(0, 15, "This is a strange comparison")],
+        &rows,
+    )
 }
 
 #[test]
@@ -312,9 +339,15 @@ fn labels_ordered_over_two_sources(rt: HostRuntime) -> Result<(), Fail> {
         ("b", 7..12, 5, "5"),
     ] {
         assert!(rt; span.start <= span.end);
-        labels.push(Label::new((id, span)).with_order(order).with_message(alloc, message)?)?;
+        labels.push(
+            Label::new((id, span))
+                .with_order(order)
+                .with_message(alloc, message)?,
+        )?;
     }
-    let report = plain_error_at(alloc, ("", 0..0)).with_labels(labels)?.finish();
+    let report = plain_error_at(alloc, ("", 0..0))
+        .with_labels(labels)?
+        .finish();
     let mut cache = sources(
         alloc,
         [("a", "second\nthird"), ("b", "fourth\nfifth\nfirst")],
