@@ -1,0 +1,134 @@
+//! A stored case: a report, what it is drawn over, and what is sent of it.
+
+use serde::Deserialize;
+
+/// A stored case.
+#[derive(Drop, Deserialize)]
+pub struct Case {
+    pub name: String,
+    pub kind: Kind,
+    pub code: Option<String>,
+    pub message: Option<String>,
+    /// The report's own, as that of a label.
+    pub span: (Option<String>, usize, usize),
+    pub labels: Vec<Mark>,
+    pub helps: Vec<String>,
+    pub notes: Vec<String>,
+    pub config: Switches,
+    pub cache: CacheKind,
+    pub sources: Vec<Text>,
+    /// The ids that a custom cache shows no name for.
+    pub hidden: Vec<String>,
+    /// The positions of the labels that are left out, from 0, each with its reason.
+    pub left_out: Vec<(usize, Why)>,
+    /// What is sent.
+    pub picture: String,
+}
+
+/// The kind of a report: its name, or three parts, of which the last two are the name and the
+/// colour of a kind of the caller's own.
+#[derive(Drop, Deserialize)]
+#[serde(untagged)]
+pub enum Kind {
+    Named(KindName),
+    Custom(String, String, Hue),
+}
+
+/// The kinds that have a name.
+#[derive(Clone, Copy, Drop, Deserialize)]
+pub enum KindName {
+    Error,
+    Warning,
+    Advice,
+}
+
+/// A colour: its name, or `Fixed` or `Rgb` with its numbers.
+#[derive(Drop, Deserialize)]
+#[serde(untagged)]
+pub enum Hue {
+    Named(ColorName),
+    Fixed(String, u8),
+    Rgb(String, u8, u8, u8),
+}
+
+/// The colours that have a name and stand in cases.
+#[derive(Clone, Copy, Drop, Deserialize)]
+pub enum ColorName {
+    Primary,
+    Red,
+    Blue,
+    BrightGreen,
+}
+
+/// A label. Where `id` is nothing its source is the only one.
+#[derive(Drop, Deserialize)]
+pub struct Mark {
+    pub id: Option<String>,
+    pub start: usize,
+    pub end: usize,
+    pub message: Option<String>,
+    pub color: Option<Hue>,
+    pub order: i32,
+    pub priority: i32,
+}
+
+/// The switches of a configuration.
+#[derive(Clone, Copy, Drop, Deserialize)]
+pub struct Switches {
+    pub cross_gap: bool,
+    pub label_attach: Attach,
+    pub compact: bool,
+    pub underlines: bool,
+    pub multiline_arrows: bool,
+    pub color: bool,
+    pub tab_width: usize,
+    pub char_set: Characters,
+    pub index_type: Offsets,
+}
+
+/// Where arrows are attached.
+#[derive(Clone, Copy, Drop, Deserialize)]
+pub enum Attach {
+    Start,
+    Middle,
+    End,
+}
+
+/// What strokes are drawn with.
+#[derive(Clone, Copy, Drop, Deserialize)]
+pub enum Characters {
+    Unicode,
+    Ascii,
+}
+
+/// What offsets count.
+#[derive(Clone, Copy, Drop, Deserialize)]
+pub enum Offsets {
+    Byte,
+    Char,
+}
+
+/// What the sources are held by.
+#[derive(Clone, Copy, Drop, Deserialize)]
+#[serde(rename_all = "lowercase")]
+pub enum CacheKind {
+    Source,
+    Sources,
+    Custom,
+}
+
+/// A source: its id, its text, and its display offset.
+#[derive(Drop, Deserialize)]
+pub struct Text {
+    pub id: Option<String>,
+    pub text: String,
+    pub offset: usize,
+}
+
+/// Why a label is left out.
+#[derive(Clone, Copy, Drop, PartialEq, Eq, Deserialize)]
+pub enum Why {
+    Unfetched,
+    PastSource,
+    CutsCharacter,
+}
