@@ -47,8 +47,8 @@ fn each_field_makes_a_label_another(rt: HostRuntime) -> Result<(), Fail> {
     for other in others {
         assert!(rt; other != label);
     }
-    assert!(rt; Label::new(("a", 0..1)) == Label::new(("a", 0..1)));
-    assert!(rt; Label::new(("a", 0..1)) != Label::new(("b", 0..1)));
+    assert!(rt; Label::new((7u8, 0..1)) == Label::new((7u8, 0..1)));
+    assert!(rt; Label::new((7u8, 0..1)) != Label::new((8u8, 0..1)));
     assert!(rt; Label::new(0..=1) != Label::new(0..=2));
     Ok(())
 }

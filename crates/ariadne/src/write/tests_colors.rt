@@ -1,12 +1,13 @@
 //! Pictures with colours, and which label a character is painted for.
 
 use super::tests::{assert_bytes, colored, labelled, plain, plain_error};
+use crate::builder::ReportBuilder;
 use crate::config::{Config, IndexType};
 use crate::kind::ReportKind;
 use crate::label::Label;
 use crate::report::Report;
 use ariadne_base::Color;
-use std::alloc::{AllocError, Global};
+use std::alloc::Global;
 use std::process::Abort;
 use std::test::Fail;
 
@@ -23,13 +24,9 @@ const SPACER: &str = "   \x1b[38;5;246m|\x1b[0m";
 /// The tail.
 const TAIL: &str = "\x1b[38;5;246m---'\x1b[0m";
 
-/// An error with these labels, in ASCII and with colours.
-fn painted<const N: usize>(
-    alloc: Global,
-    labels: [Label; N],
-) -> Result<Report<'static>, AllocError> {
-    let builder = plain_error(alloc).with_config(colored());
-    Ok(builder.with_labels(labels)?.finish())
+/// An error in the making, in ASCII and with colours.
+fn painted(alloc: Global) -> ReportBuilder<'static> {
+    plain_error(alloc).with_config(colored())
 }
 
 /// Asserts the bytes of a group of lines that the report's own start names, between spacer and
@@ -80,7 +77,9 @@ fn without_colors_a_kind_of_the_callers_own_has_none(rt: HostRuntime) -> Result<
 #[test]
 fn a_label_is_painted_in_its_color(rt: HostRuntime) -> Result<(), Fail> {
     let label = Label::new(0..1).with_color(Color::Blue);
-    let report = painted(rt.alloc(), [label.with_message(rt.alloc(), "m")?])?;
+    let report = painted(rt.alloc())
+        .with_labels([label.with_message(rt.alloc(), "m")?])?
+        .finish();
     assert_lines(
         &rt,
         &report,
@@ -164,7 +163,9 @@ fn the_shortest_label_of_the_highest_priority_paints(rt: HostRuntime) -> Result<
     for (priority, b) in cases {
         let outer = Label::new(0..3).with_color(Color::Red);
         let inner = Label::new(1..2).with_color(Color::Blue);
-        let report = painted(rt.alloc(), [outer.with_priority(priority), inner])?;
+        let report = painted(rt.alloc())
+            .with_labels([outer.with_priority(priority), inner])?
+            .finish();
         let row = format!(in rt.alloc();
             " \x1b[38;5;246m1 |\x1b[0m \x1b[31ma\x1b[0m{b}\x1b[31mc\x1b[0m\x1b[38;5;249md\x1b[0m"
         )?;
@@ -179,10 +180,9 @@ fn the_shortest_label_of_the_highest_priority_paints(rt: HostRuntime) -> Result<
 fn the_label_of_the_margin_paints_before_those_over_lines(rt: HostRuntime) -> Result<(), Fail> {
     let later = Label::new(0..3).with_order(1);
     let later = later.with_message(rt.alloc(), "m")?;
-    let report = painted(
-        rt.alloc(),
-        [later, Label::new(1..4).with_color(Color::Blue)],
-    )?;
+    let report = painted(rt.alloc())
+        .with_labels([later, Label::new(1..4).with_color(Color::Blue)])?
+        .finish();
     assert_lines(
         &rt,
         &report,
@@ -199,7 +199,9 @@ fn the_label_of_the_margin_paints_before_those_over_lines(rt: HostRuntime) -> Re
 #[test]
 fn labels_over_lines_paint_before_those_within_a_line(rt: HostRuntime) -> Result<(), Fail> {
     let above = Label::new(0..2).with_color(Color::BrightGreen);
-    let report = painted(rt.alloc(), [Label::new(1..3), above])?;
+    let report = painted(rt.alloc())
+        .with_labels([Label::new(1..3), above])?
+        .finish();
     assert_lines(
         &rt,
         &report,
@@ -217,7 +219,9 @@ fn behind_a_crossed_wide_character_the_crossing_label_paints(rt: HostRuntime) ->
     let both = Label::new(0..2)
         .with_color(Color::Fixed(200))
         .with_order(-1);
-    let report = painted(rt.alloc(), [empty, both.with_message(rt.alloc(), "m")?])?;
+    let report = painted(rt.alloc())
+        .with_labels([empty, both.with_message(rt.alloc(), "m")?])?
+        .finish();
     assert_lines(
         &rt,
         &report,
@@ -235,7 +239,9 @@ fn behind_a_crossed_wide_character_the_crossing_label_paints(rt: HostRuntime) ->
 #[test]
 fn an_underlined_vertical_is_painted_whole_for_its_own_label(rt: HostRuntime) -> Result<(), Fail> {
     let empty = Label::new(0..0).with_message(rt.alloc(), "m")?;
-    let report = painted(rt.alloc(), [empty, Label::new(0..1).with_color(Color::Red)])?;
+    let report = painted(rt.alloc())
+        .with_labels([empty, Label::new(0..1).with_color(Color::Red)])?
+        .finish();
     assert_lines(
         &rt,
         &report,
@@ -267,10 +273,9 @@ fn the_place_of_a_byte_may_be_the_end_behind_a_last_terminator(
 
 #[test]
 fn a_character_without_a_width_takes_one_column(rt: HostRuntime) -> Result<(), Fail> {
-    let report = painted(
-        rt.alloc(),
-        [Label::new(1..2).with_message(rt.alloc(), "m")?],
-    )?;
+    let report = painted(rt.alloc())
+        .with_labels([Label::new(1..2).with_message(rt.alloc(), "m")?])?
+        .finish();
     assert_lines(
         &rt,
         &report,

@@ -6,6 +6,7 @@ use super::tests::{
     Piece, Why, assert_left_out, assert_picture, assert_picture_over, assert_trimmed,
     assert_unknown, labelled, labelled_in, plain_error, plain_error_at, source_of, written,
 };
+use crate::builder::ReportBuilder;
 use crate::label::Label;
 use ariadne_base::{Source, SourceMap, sources};
 use std::alloc::{AllocError, Global};
@@ -19,17 +20,18 @@ fn two_sources(alloc: Global) -> Result<SourceMap<&'static str, &'static str>, A
     )
 }
 
-/// A label on a piece of a source, with an order.
+/// The report with a label more on a piece of a source, with an order.
 fn ordered(
     alloc: Global,
+    builder: ReportBuilder<'static, Piece>,
     piece: Piece,
     order: i32,
     message: &str,
-) -> Result<Label<Piece>, AllocError>
+) -> Result<ReportBuilder<'static, Piece>, AllocError>
     requires { piece.1.start ≤ piece.1.end }
 {
     let label = Label::new(piece).with_order(order);
-    label.with_message(alloc, message)
+    builder.with_label(label.with_message(alloc, message)?)
 }
 
 /// The rows of three labels in the order that they were given.
@@ -108,29 +110,21 @@ fn labels_are_drawn_by_their_order(rt: HostRuntime) -> Result<(), Fail> {
 #[test]
 fn each_source_has_groups_of_its_own(rt: HostRuntime) -> Result<(), Fail> {
     let alloc = rt.alloc();
-    let labels = [
-        ordered(alloc, ("b", 13..18), 1, "1")?,
-        ordered(alloc, ("a", 0..6), 2, "2")?,
-        ordered(alloc, ("a", 7..12), 3, "3")?,
-    ];
-    let report = plain_error_at(alloc, ("", 0..0))
-        .with_labels(labels)?
-        .finish();
+    let report = plain_error_at(alloc, ("", 0..0));
+    let report = ordered(alloc, report, ("b", 13..18), 1, "1")?;
+    let report = ordered(alloc, report, ("a", 0..6), 2, "2")?;
+    let report = ordered(alloc, report, ("a", 7..12), 3, "3")?.finish();
     assert_picture_over(&rt, &report, &mut two_sources(alloc)?, &[], &THREE_IN_ORDER)
 }
 
 #[test]
 fn a_label_in_a_source_that_is_not_there_is_listed_alone(rt: HostRuntime) -> Result<(), Fail> {
     let alloc = rt.alloc();
-    let labels = [
-        ordered(alloc, ("b", 13..18), 1, "1")?,
-        ordered(alloc, ("zz", 0..1), 2, "q")?,
-        ordered(alloc, ("a", 0..6), 2, "2")?,
-        ordered(alloc, ("a", 7..12), 3, "3")?,
-    ];
-    let report = plain_error_at(alloc, ("", 0..0))
-        .with_labels(labels)?
-        .finish();
+    let report = plain_error_at(alloc, ("", 0..0));
+    let report = ordered(alloc, report, ("b", 13..18), 1, "1")?;
+    let report = ordered(alloc, report, ("zz", 0..1), 2, "q")?;
+    let report = ordered(alloc, report, ("a", 0..6), 2, "2")?;
+    let report = ordered(alloc, report, ("a", 7..12), 3, "3")?.finish();
     let (picture, left_out) = written(&rt, &report, &mut two_sources(alloc)?)?;
     assert_trimmed(&rt, picture.as_str(), &THREE_IN_ORDER)?;
     assert_left_out(&rt, &left_out, &[(1, Why::Unfetched)]);
