@@ -1,9 +1,9 @@
 //! What the tests of pictures share.
 
 use crate::builder::ReportBuilder;
-use crate::config::{CharSet, Config};
-use crate::kind::ReportKind;
-use crate::label::Label;
+use ariadne_labels::config::{CharSet, Config};
+use ariadne_labels::kind::ReportKind;
+use ariadne_labels::label::Label;
 use crate::report::Report;
 use crate::write::{LeftOut, Reason};
 use ariadne_base::{Cache, Source, Span, UnknownSource};

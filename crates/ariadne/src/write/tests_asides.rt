@@ -2,7 +2,7 @@
 
 use super::tests::{assert_bytes, assert_picture, labelled, plain, plain_error};
 use crate::builder::ReportBuilder;
-use crate::label::Label;
+use ariadne_labels::label::Label;
 use crate::report::Report;
 use std::process::Abort;
 use std::test::Fail;

@@ -4,7 +4,7 @@ use super::tests::{
     Why, assert_left_out, assert_trimmed, labelled, plain, plain_error, plain_error_at, source_of,
     written,
 };
-use crate::config::IndexType;
+use ariadne_labels::config::IndexType;
 use crate::report::Report;
 use crate::write::Reason;
 use std::alloc::AllocError;

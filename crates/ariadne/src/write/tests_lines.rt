@@ -1,7 +1,7 @@
 //! Labels over several lines, and labels on several lines.
 
 use super::tests::{assert_bytes, assert_picture, labelled, plain, plain_error, plain_error_at};
-use crate::label::Label;
+use ariadne_labels::label::Label;
 use std::test::Fail;
 
 /// A text of three lines.

@@ -6,7 +6,7 @@ use super::tests::{
 };
 use super::tests_pictures::{APPLE_LABELS, APPLES};
 use crate::builder::ReportBuilder;
-use crate::label::Label;
+use ariadne_labels::label::Label;
 use crate::refusing::{refuse, was_refused};
 use crate::write::WriteError;
 use ariadne_base::FnCache;

@@ -5,8 +5,8 @@ use super::tests::{
 };
 use super::tests_pictures::APPLE_LABELS;
 use crate::builder::ReportBuilder;
-use crate::config::IndexType;
-use crate::label::Label;
+use ariadne_labels::config::IndexType;
+use ariadne_labels::label::Label;
 use ariadne_base::sources;
 use std::process::Abort;
 use std::test::Fail;
