@@ -1,12 +1,12 @@
 //! What the tests of pictures share.
 
 use crate::builder::ReportBuilder;
-use ariadne_labels::config::{CharSet, Config};
-use ariadne_labels::kind::ReportKind;
-use ariadne_labels::label::Label;
 use crate::report::Report;
 use crate::write::{LeftOut, Reason};
 use ariadne_base::{Cache, Source, Span, UnknownSource};
+use ariadne_labels::config::{CharSet, Config};
+use ariadne_labels::kind::ReportKind;
+use ariadne_labels::label::Label;
 use std::alloc::{AllocError, Global};
 use std::ops::Range;
 use std::process::Abort;

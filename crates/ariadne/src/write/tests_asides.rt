@@ -2,8 +2,8 @@
 
 use super::tests::{assert_bytes, assert_picture, labelled, plain, plain_error};
 use crate::builder::ReportBuilder;
-use ariadne_labels::label::Label;
 use crate::report::Report;
+use ariadne_labels::label::Label;
 use std::process::Abort;
 use std::test::Fail;
 

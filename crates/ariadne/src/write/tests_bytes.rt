@@ -4,9 +4,9 @@ use super::tests::{
     Why, assert_left_out, assert_trimmed, labelled, plain, plain_error, plain_error_at, source_of,
     written,
 };
-use ariadne_labels::config::IndexType;
 use crate::report::Report;
 use crate::write::Reason;
+use ariadne_labels::config::IndexType;
 use std::alloc::AllocError;
 use std::process::Abort;
 use std::test::Fail;

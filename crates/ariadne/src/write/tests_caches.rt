@@ -9,10 +9,10 @@ use super::tests::{
     Piece, Why, assert_left_out, assert_picture_over, assert_trimmed, labelled, labelled_in,
     plain_error, plain_error_at, written,
 };
-use ariadne_labels::label::Label;
 use crate::report::Report;
 use crate::write::{LeftOut, Reason};
 use ariadne_base::{Cache, FetchError, FnCache, Source, SourceMap, UnknownSource, sources};
+use ariadne_labels::label::Label;
 use std::alloc::AllocError;
 use std::cell::Cell;
 use std::collections::HashMap;

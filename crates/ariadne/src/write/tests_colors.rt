@@ -2,11 +2,11 @@
 
 use super::tests::{assert_bytes, colored, labelled, plain, plain_error};
 use crate::builder::ReportBuilder;
+use crate::report::Report;
+use ariadne_color::Color;
 use ariadne_labels::config::{Config, IndexType};
 use ariadne_labels::kind::ReportKind;
 use ariadne_labels::label::Label;
-use crate::report::Report;
-use ariadne_color::Color;
 use std::alloc::Global;
 use std::process::Abort;
 use std::test::Fail;

@@ -2,8 +2,8 @@
 
 use super::tests::{assert_bytes, assert_picture, labelled, plain, plain_error};
 use super::tests_pictures::{APPLE_LABELS, APPLES};
-use ariadne_labels::config::{CharSet, Config, IndexType, LabelAttach};
 use crate::report::Report;
+use ariadne_labels::config::{CharSet, Config, IndexType, LabelAttach};
 use std::process::Abort;
 use std::test::Fail;
 

@@ -7,8 +7,8 @@ use super::tests::{
     assert_unknown, labelled, labelled_in, plain_error, plain_error_at, source_of, written,
 };
 use crate::builder::ReportBuilder;
-use ariadne_labels::label::Label;
 use ariadne_base::{Source, SourceMap, sources};
+use ariadne_labels::label::Label;
 use std::alloc::{AllocError, Global};
 use std::test::Fail;
 

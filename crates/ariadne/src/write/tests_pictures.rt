@@ -4,11 +4,11 @@ use super::tests::{
     Why, assert_bytes, assert_left_out, assert_picture, assert_rows, labelled, plain, plain_error,
     plain_error_at, source_of, written,
 };
+use crate::report::Report;
+use ariadne_color::Color;
 use ariadne_labels::config::{CharSet, Config};
 use ariadne_labels::kind::ReportKind;
 use ariadne_labels::label::Label;
-use crate::report::Report;
-use ariadne_color::Color;
 use std::test::Fail;
 
 /// The rows of two labels on a line, blanks at their ends kept.

@@ -6,10 +6,10 @@ use super::tests::{
 };
 use super::tests_pictures::{APPLE_LABELS, APPLES};
 use crate::builder::ReportBuilder;
-use ariadne_labels::label::Label;
 use crate::refusing::{refuse, was_refused};
 use crate::write::WriteError;
 use ariadne_base::FnCache;
+use ariadne_labels::label::Label;
 use std::alloc::{AllocError, Global};
 use std::test::Fail;
 

@@ -5,9 +5,9 @@ use super::tests::{
 };
 use super::tests_pictures::APPLE_LABELS;
 use crate::builder::ReportBuilder;
+use ariadne_base::sources;
 use ariadne_labels::config::IndexType;
 use ariadne_labels::label::Label;
-use ariadne_base::sources;
 use std::process::Abort;
 use std::test::Fail;
 
