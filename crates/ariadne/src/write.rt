@@ -1,4 +1,22 @@
-//! Drawing a report: its labels are judged, laid out in groups and rows, drawn, and sent.
+//! Drawing a report: its labels are judged (`accept`), cut into groups (`groups`), whose lines are
+//! drawn one after another (`lines`) between the header and the tail (`drawing`), and sent.
+//!
+//! ```text
+//! Error: Incompatible types                       header
+//!    ,-[ <unknown>:1:1 ]                          group header
+//!    |                                            spacer row
+//!  1 | ,-> def five = match () in {               source row: margin, gutter, shown text
+//!    : :                                          gap row, in place of hidden lines
+//!  3 | |       () => "5",
+//!    | |             ^|^                          alternate row: underlines and verticals
+//!    | |              `--- This is of type Str    arrow row: an arrow and its message
+//!  4 | |-> }
+//!    | |
+//!    | `------- The branches differ
+//!    |
+//!    |     Help: give both one type               help row
+//! ---'                                            tail
+//! ```
 
 ghost use Rattle.std.specs.Prelude.{◌≡◌, None};
 ghost use Rattle.ariadne.specs.Drawn.{world};

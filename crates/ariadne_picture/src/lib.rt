@@ -23,8 +23,7 @@
 //!
 //! For the headline alone `Report`, `Accept`, `Placing`, `Variants` and `Headline` serve. `Bars`
 //! says once more, case by case, where gutter bars stand; it serves the laws in [`laws`]. What
-//! serves only the proofs of code stands beside the code: `InlineLayout`, `Headers` and `Preferred`
-//! in `ariadne_lines`, `OneLine` in `ariadne`. All of these can be skipped.
+//! serves only the proofs of code stands in `specs/` of the crates above, and can be skipped.
 #![tactic(auto)]
 
 pub mod cell;
