@@ -16,7 +16,7 @@ use std::test::Fail;
 /// More than any call here makes.
 const MOST_REQUESTS: usize = 1000;
 
-/// What a label is given where it is made.
+/// The picture of one label.
 const LABEL_ROWS: [&str; 7] = [
     "Error:",
     "   ,-[ <unknown>:1:1 ]",
@@ -204,8 +204,8 @@ fn a_refused_added_label_changes_nothing(rt: HostRuntime) -> Result<(), Fail> {
     Err(Fail::from("every request was refused"))
 }
 
-/// The text of each of three helps or notes.
-const TEXTS: [&str; 3] = ["i", "j", "k"];
+/// The texts of three helps or notes. No other part of a picture holds one of them.
+const TEXTS: [&str; 3] = ["first", "second", "third"];
 
 #[test]
 fn of_refused_helps_and_notes_those_before_stay(rt: HostRuntime) -> Result<(), Fail> {
