@@ -1,22 +1,7 @@
-//! `ariadne-draw`: draws a report over the text on its standard input.
+//! `ariadne-draw`: draws a report over the text on its standard input, or over a file.
 #![tactic(auto)]
 
-mod asked;
-mod drawing;
-mod fault;
-#[cfg(test)]
-mod tests;
-#[cfg(test)]
-mod tests_pictures;
-#[cfg(test)]
-mod tests_refused;
-#[cfg(test)]
-mod tests_streams;
-mod words;
-
-pub use drawing::draw;
-pub use fault::Status;
-use fault::{Fault, tell_fault};
+use ariadne_draw::{Fault, draw, tell_fault};
 use std::env;
 use std::process::ExitCode;
 use std::rt::Env;

@@ -1,0 +1,8 @@
+-- The words.
+mod Fronts
+mod Numbers
+mod Options
+mod Threes
+-- The report.
+mod Writing
+mod Ending

@@ -1,0 +1,29 @@
+-- Why nothing was drawn, or not all of it, and the status that the program ends with.
+use Rattle.ariadne_send.specs.declared.send.WriteError.{WriteError}
+use Rattle.ariadne_send.specs.declared.send.WriteError.TheVariants as write
+use Rattle.ariadne_draw.specs.declared.fault.Fault.{Fault}
+use Rattle.ariadne_draw.specs.declared.fault.Fault.TheVariants.{Usage, Unread, NotUtf8, Writer}
+use Rattle.ariadne_draw.specs.declared.fault.Fault.TheVariants.{Memory}
+use Rattle.ariadne_draw.specs.declared.fault.Status.{Status}
+use Rattle.ariadne_draw.specs.declared.fault.Status.TheVariants.{BadInput, Failed}
+
+-- the fault that an error is
+abbrev pub fault_of : WriteError → Fault
+fault_of (write.Memory refused) = Memory refused
+fault_of (write.Io sent fault) = Writer sent
+
+-- the status that a fault ends with
+abbrev pub status_of : Fault → Status
+status_of Usage = BadInput
+status_of Unread = BadInput
+status_of NotUtf8 = BadInput
+status_of (Writer sent) = Failed
+status_of (Memory refused) = Failed
+
+-- a fault from before the first byte is written
+abbrev pub IsBeforeWriting : Fault → Type 0
+IsBeforeWriting Usage = Unit {0}
+IsBeforeWriting Unread = Unit {0}
+IsBeforeWriting NotUtf8 = Unit {0}
+IsBeforeWriting (Writer sent) = ⊥
+IsBeforeWriting (Memory refused) = Unit {0}

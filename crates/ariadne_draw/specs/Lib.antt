@@ -1,0 +1,4 @@
+pub mod Words
+pub mod Asked
+pub mod Faults
+pub mod Drawn

@@ -1,0 +1,41 @@
+//! What the words of the command line ask for.
+
+ghost use Rattle.std.specs.Prelude.{◌≤◌};
+
+/// What the options ask for.
+#[derive(Clone, Copy, Drop)]
+pub struct AskedOptions<'a> {
+    /// `--ascii`: the strokes are ASCII, and not box drawing characters.
+    pub is_ascii: bool,
+    /// `--plain`: there are no colours.
+    pub is_plain: bool,
+    /// `--compact`: the picture has fewer rows and columns.
+    pub is_compact: bool,
+    /// `--bytes`: offsets count bytes, and not characters.
+    pub is_bytes: bool,
+    /// The path behind the last `--file`; where there is none, standard input is drawn over.
+    pub path: Option<&'a str>,
+}
+
+/// A label that the words ask for.
+#[derive(Drop)]
+pub struct AskedLabel<'a> {
+    /// Its first offset in the source, from 0.
+    pub start: usize,
+    /// The offset where it ends, exclusive.
+    pub end: usize,
+    /// Its message.
+    pub text: &'a str,
+    ghost forward: { start ≤ end },
+}
+
+/// What the words ask for.
+#[derive(Drop)]
+pub struct Asked<'a> {
+    /// What the options ask for.
+    pub options: AskedOptions<'a>,
+    /// The report's message.
+    pub message: &'a str,
+    /// The report's labels, in the order of the words.
+    pub labels: Vec<AskedLabel<'a>>,
+}

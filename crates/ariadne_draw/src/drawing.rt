@@ -1,0 +1,187 @@
+//! The program over the streams that it is handed: words in, a report and a status out.
+
+ghost use Rattle.std.specs.Prelude.{◌≡◌, false, IfErr, IfOk, IfSome, List, map};
+ghost use Rattle.std.specs.Prelude.{string_bytes};
+ghost use Rattle.std.specs.Str.{IsUtf8};
+ghost use Rattle.ariadne_base.specs.Cache.{Grows, KeepsOtherIds};
+ghost use Rattle.ariadne_draw.specs.Asked.{asking, options_asking};
+ghost use Rattle.ariadne_draw.specs.Drawn.{config_of, own_span, reads_input, report_of, sources};
+ghost use Rattle.ariadne_draw.specs.Drawn.{Ended, Leaves, Wrote};
+ghost use Rattle.ariadne_draw.specs.Faults.{IsBeforeWriting};
+ghost use Rattle.ariadne_draw.specs.Words.{asking_of};
+
+use super::asked::{Asked, AskedOptions};
+use super::fault::{Fault, Status, tell_fault};
+use super::words::read_words;
+use ariadne::{
+    Cache, CharSet, ColorGenerator, Config, FileCache, IndexType, Label, LeftOut, Reason, Report,
+    ReportKind, Source,
+};
+use std::alloc::{AllocError, Global};
+use std::io::{Read, Write};
+use std::ops::Range;
+use std::rt::Files;
+
+/// Draws the report that `words` ask for over the text of `input`, or over the file in `files` that
+/// they name, and answers how the program ends.
+///
+/// The words are those of the command line without the program's name. They are judged first, then
+/// the input is read, if no file is named, then the report is written to `out`, then `faults` gets
+/// a line for each label that was left out, or the one line that says why nothing could be drawn. A
+/// failure of `faults` is passed over. What `out` got is told by the status.
+pub fn draw<R: Files, I: Read, W: Write, F: Write>(
+    files: &R,
+    alloc: Global,
+    words: &[String],
+    input: &mut I,
+    out: &mut W,
+    faults: &mut F,
+) -> Status
+    ensures ended { Ended (asking_of (map string_bytes words.now)) (I.remaining input.old)
+        (W.contents out.old) (W.contents out.new) result }
+    ensures unread { reads_input (asking_of (map string_bytes words.now)) ≡ false
+        → input.new ≡ input.old }
+{
+    let asked = match read_words(alloc, words) {
+        Ok(asked) => asked,
+        Err(fault) => return tell_fault(faults, &fault),
+    };
+    if let Some(path) = asked.options.path {
+        let mut cache = FileCache::new(files, alloc);
+        return draw_over(alloc, &asked, path, &mut cache, out, faults);
+    }
+    match read_source(alloc, input) {
+        Ok(mut source) => draw_over(alloc, &asked, (), &mut source, out, faults),
+        Err(fault) => tell_fault(faults, &fault),
+    }
+}
+
+/// The text of a reader, to its end, as a source.
+fn read_source<I: Read>(alloc: Global, input: &mut I) -> Result<Source<String>, Fault>
+    ensures read { IfOk result (λ source. IfSome (I.remaining input.old)
+        (λ bytes. source.text ≡ bytes)) }
+    ensures text { IfOk result (λ source. IsUtf8 source.text) }
+    ensures lines { IfOk result (λ source. source.display_offset ≡ 0) }
+    ensures refused { IfErr result IsBeforeWriting }
+{
+    let mut bytes = Vec::new(alloc);
+    if let Err(error) = input.read_to_end(&mut bytes) {
+        return Err(Fault::of_error(&error, Fault::Unread));
+    }
+    match String::from_utf8(bytes) {
+        Ok(text) => Ok(Source::from(alloc, text)?),
+        Err(_) => Err(Fault::NotUtf8),
+    }
+}
+
+/// Draws the report that is asked for over the source with this id in a cache, tells what could not
+/// be drawn, and answers how the program ends.
+fn draw_over<Id: Eq + Copy, C: Cache<Id>, W: Write, F: Write>(
+    alloc: Global,
+    asked: &Asked<'_>,
+    id: Id,
+    cache: &mut C,
+    out: &mut W,
+    faults: &mut F,
+) -> Status
+    requires { C.can_fetch cache.old }
+    ensures kept { Grows Id.eq (C.contents cache.old) (C.contents cache.new) }
+    ensures others { KeepsOtherIds Id.eq id (C.contents cache.old) (C.contents cache.new) }
+    ensures left { Leaves C.fails (sources Id.eq (C.names cache.old) (C.contents cache.old))
+        (sources Id.eq (C.names cache.new) (C.contents cache.new)) (report_of id (asking asked.now))
+        (W.contents out.old) (W.contents out.new) result }
+{
+    match write_report(alloc, asked, id, cache, out) {
+        Ok(left_out) if left_out.is_empty() => Status::Drawn,
+        Ok(left_out) => {
+            tell_left_out(faults, left_out.as_slice());
+            Status::LeftOut
+        }
+        Err(fault) => tell_fault(faults, &fault),
+    }
+}
+
+/// Writes the report that is asked for over the source with this id in a cache, and answers the
+/// labels that were left out of it.
+fn write_report<Id: Eq + Copy, C: Cache<Id>, W: Write>(
+    alloc: Global,
+    asked: &Asked<'_>,
+    id: Id,
+    cache: &mut C,
+    out: &mut W,
+) -> Result<Vec<LeftOut<C::Error>>, Fault>
+    requires { C.can_fetch cache.old }
+    ensures kept { Grows Id.eq (C.contents cache.old) (C.contents cache.new) }
+    ensures others { KeepsOtherIds Id.eq id (C.contents cache.old) (C.contents cache.new) }
+    ensures wrote { Wrote C.fails (sources Id.eq (C.names cache.old) (C.contents cache.old))
+        (sources Id.eq (C.names cache.new) (C.contents cache.new)) (report_of id (asking asked.now))
+        (W.contents out.old) (W.contents out.new) result }
+{
+    let report = asked_report(alloc, asked, id)?;
+    Ok(report.write(cache, out)?)
+}
+
+/// The report that is asked for, over the source with this id.
+fn asked_report<Id: Eq + Copy>(
+    alloc: Global,
+    asked: &Asked<'_>,
+    id: Id,
+) -> Result<Report<'static, (Id, Range<usize>)>, AllocError>
+    ensures { IfOk result (λ report. report ≡ report_of id (asking asked.now)) }
+{
+    let mut builder = Report::build(alloc, ReportKind::Error, asked_span(asked, id))
+        .with_config(asked_config(&asked.options))
+        .with_message(asked.message)?;
+    let mut colors = ColorGenerator::new();
+    for label in &asked.labels {
+        let drawn = Label::new((id, label.start..label.end))
+            .with_message(alloc, label.text)?
+            .with_color(colors.next());
+        builder = builder.with_label(drawn)?;
+    }
+    Ok(builder.finish())
+}
+
+/// What the report that is asked for points at, in the source with this id.
+fn asked_span<Id: Copy>(asked: &Asked<'_>, id: Id) -> (Id, Range<usize>)
+    ensures { result ≡ own_span id (asking asked.now).labels }
+{
+    match asked.labels.first() {
+        Some(label) => (id, label.start..label.end),
+        None => (id, 0..0),
+    }
+}
+
+/// The configuration that the options ask for.
+fn asked_config(options: &AskedOptions<'_>) -> Config
+    ensures { result ≡ config_of (options_asking options.now) }
+{
+    let char_set = if options.is_ascii {
+        CharSet::Ascii
+    } else {
+        CharSet::Unicode
+    };
+    let index_type = if options.is_bytes {
+        IndexType::Byte
+    } else {
+        IndexType::Char
+    };
+    Config::new()
+        .with_char_set(char_set)
+        .with_color(!options.is_plain)
+        .with_compact(options.is_compact)
+        .with_index_type(index_type)
+}
+
+/// Writes a line to `faults` for each label that was left out, by its number from 1.
+fn tell_left_out<E, F: Write>(faults: &mut F, left_out: &[LeftOut<E>]) {
+    for it in left_out {
+        let number = it.label.saturating_add(1);
+        let reason = match it.reason {
+            Reason::Unfetched(_) => "unfetched",
+            Reason::PastSource => "past source",
+            Reason::CutsCharacter => "cuts a character",
+        };
+        let _ = writeln!(faults, "label {number}: {reason}");
+    }
+}

@@ -1,0 +1,20 @@
+//! `ariadne-draw` as a call: words and streams in, a report and a status out.
+#![tactic(auto)]
+
+mod asked;
+mod drawing;
+mod fault;
+#[cfg(test)]
+mod tests;
+#[cfg(test)]
+mod tests_files;
+#[cfg(test)]
+mod tests_pictures;
+#[cfg(test)]
+mod tests_refused;
+#[cfg(test)]
+mod tests_streams;
+mod words;
+
+pub use drawing::draw;
+pub use fault::{Fault, Status, tell_fault};

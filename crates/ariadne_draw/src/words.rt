@@ -1,0 +1,146 @@
+//! Reading the words of the command line.
+
+ghost use Rattle.std.specs.Prelude.{◌≡◌, ◌≤◌, ℕ, List, Option, Some, None, IfSome, MatchOption};
+ghost use Rattle.std.specs.Prelude.{map, option_map, string_bytes};
+ghost use Rattle.ariadne_draw.specs.Words.{asking_behind, asking_of, front_of as front};
+ghost use Rattle.ariadne_draw.specs.Words.{label_of, labels_of, number_of};
+ghost use Rattle.ariadne_draw.specs.Asked.{asking, label_asking, options_asking, ReadsLabels};
+ghost use Rattle.ariadne_draw.specs.Asked.{ReadsWords};
+
+use super::asked::{Asked, AskedLabel, AskedOptions};
+use super::fault::Fault;
+use std::alloc::Global;
+
+/// What a word is, where an option may stand.
+pub enum Front {
+    /// `--ascii`
+    Ascii,
+    /// `--plain`
+    Plain,
+    /// `--compact`
+    Compact,
+    /// `--bytes`
+    Bytes,
+    /// `--file`, which the path stands behind
+    File,
+    /// `--`, which the message stands behind
+    Dashes,
+    /// Any other word that begins with `--`.
+    Unknown,
+    /// The message.
+    Message,
+}
+
+/// Reads the words that the program was called with, without its own name.
+///
+/// Options come first, in any order, and each may be repeated; the last `--file` counts. The first
+/// word that doesn't begin with `--` is the message. Where a word `--` stands before it, the
+/// message is the word behind that, whatever it begins with. Three words for each label follow.
+/// Words of any other form are `Fault::Usage`.
+pub fn read_words<'a>(alloc: Global, words: &'a [String]) -> Result<Asked<'a>, Fault>
+    ensures { ReadsWords (asking_of (map string_bytes words.now)) result }
+{
+    let Some((options, rest)) = read_options(words) else {
+        return Err(Fault::Usage);
+    };
+    let Some((message, rest)) = rest.split_first() else {
+        return Err(Fault::Usage);
+    };
+    let labels = read_labels(alloc, rest)?;
+    Ok(Asked {
+        options,
+        message: message.as_str(),
+        labels,
+    })
+}
+
+/// What the options ask for, and the words from the message on.
+fn read_options<'a>(words: &'a [String]) -> Option<(AskedOptions<'a>, &'a [String])>
+    ensures { MatchOption result (asking_of (map string_bytes words.now) ≡ None)
+        (λ found. asking_of (map string_bytes words.now)
+        ≡ asking_behind (options_asking found.0) (map string_bytes found.1.now)) }
+{
+    let mut options = AskedOptions {
+        is_ascii: false,
+        is_plain: false,
+        is_compact: false,
+        is_bytes: false,
+        path: None,
+    };
+    let mut rest = words;
+    while let Some((word, others)) = rest.split_first() {
+        match front_of(word.as_str()) {
+            Front::Ascii => options.is_ascii = true,
+            Front::Plain => options.is_plain = true,
+            Front::Compact => options.is_compact = true,
+            Front::Bytes => options.is_bytes = true,
+            Front::File => {
+                let (path, behind) = others.split_first()?;
+                options.path = Some(path.as_str());
+                rest = behind;
+                continue;
+            }
+            Front::Dashes => return Some((options, others)),
+            Front::Unknown => return None,
+            Front::Message => return Some((options, rest)),
+        }
+        rest = others;
+    }
+    None
+}
+
+/// What a word is, where an option may stand.
+fn front_of(word: &str) -> Front
+    ensures { result ≡ front word.now }
+{
+    match word {
+        "--ascii" => Front::Ascii,
+        "--plain" => Front::Plain,
+        "--compact" => Front::Compact,
+        "--bytes" => Front::Bytes,
+        "--file" => Front::File,
+        "--" => Front::Dashes,
+        word if word.starts_with("--") => Front::Unknown,
+        _ => Front::Message,
+    }
+}
+
+/// The labels that words name in threes.
+fn read_labels<'a>(alloc: Global, words: &'a [String]) -> Result<Vec<AskedLabel<'a>>, Fault>
+    ensures { ReadsLabels (labels_of (map string_bytes words.now)) result }
+{
+    let mut labels = Vec::new(alloc);
+    for three in words.chunks(3) {
+        let [start, end, text] = three else {
+            return Err(Fault::Usage);
+        };
+        let Some(label) = read_label(start.as_str(), end.as_str(), text.as_str()) else {
+            return Err(Fault::Usage);
+        };
+        labels.push(label)?;
+    }
+    Ok(labels)
+}
+
+/// The label that three words name, if two of them are numbers and the first isn't the greater.
+fn read_label<'a>(start: &str, end: &str, text: &'a str) -> Option<AskedLabel<'a>>
+    ensures { option_map label_asking result ≡ label_of start.now end.now text.now }
+{
+    let start = number(start)?;
+    let end = number(end)?;
+    if start > end {
+        return None;
+    }
+    Some(AskedLabel { start, end, text })
+}
+
+/// The number that a word of decimal digits writes, if it fits `usize`.
+fn number(word: &str) -> Option<usize>
+    ensures { result ≡ number_of word.now }
+{
+    // (`parse` takes a plus before the digits)
+    if word.starts_with('+') {
+        return None;
+    }
+    word.parse().ok()
+}
