@@ -2,13 +2,7 @@
 #![tactic(auto)]
 
 pub mod builder;
-#[cfg(test)]
-mod refusing;
 pub mod report;
-#[cfg(test)]
-mod tests_labels;
-#[cfg(test)]
-mod tests_laws;
 pub mod write;
 
 pub use ariadne_base::{

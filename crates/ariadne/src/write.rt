@@ -142,30 +142,3 @@ impl<'a, S: Span> Report<'a, S> {
         self.write(cache, &mut stderr)
     }
 }
-
-#[cfg(test)]
-mod tests;
-#[cfg(test)]
-mod tests_asides;
-#[cfg(test)]
-mod tests_builders;
-#[cfg(test)]
-mod tests_bytes;
-#[cfg(test)]
-mod tests_caches;
-#[cfg(test)]
-mod tests_colors;
-#[cfg(test)]
-mod tests_configs;
-#[cfg(test)]
-mod tests_groups;
-#[cfg(test)]
-mod tests_lines;
-#[cfg(test)]
-mod tests_pictures;
-#[cfg(test)]
-mod tests_refused;
-#[cfg(test)]
-mod tests_snapshots;
-#[cfg(test)]
-mod tests_writers;

@@ -5,14 +5,14 @@ ghost use Rattle.std.specs.Str.{bytes_eq};
 ghost use Rattle.std.specs.Cmp.Lexicographic.{bytes_decides};
 ghost use Rattle.std.proofs.Common.{ap};
 
-use super::tests::{
+use crate::helpers::{
     Piece, Why, assert_left_out, assert_picture_over, assert_trimmed, labelled, labelled_in,
     plain_error, plain_error_at, written,
 };
-use crate::report::Report;
-use crate::write::{LeftOut, Reason};
-use ariadne_base::{Cache, FetchError, FnCache, Source, SourceMap, UnknownSource, sources};
-use ariadne_labels::label::Label;
+use ariadne::{
+    Cache, FetchError, FnCache, Label, LeftOut, Reason, Report, Source, SourceMap, UnknownSource,
+    sources,
+};
 use std::alloc::AllocError;
 use std::cell::Cell;
 use std::collections::HashMap;

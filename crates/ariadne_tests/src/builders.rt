@@ -1,9 +1,7 @@
 //! Calls of the builder, each by the picture that it makes.
 
-use super::tests::{assert_bytes, assert_picture, plain_error};
-use ariadne_color::Color;
-use ariadne_labels::kind::ReportKind;
-use ariadne_labels::label::Label;
+use crate::helpers::{assert_bytes, assert_picture, plain_error};
+use ariadne::{Color, Label, ReportKind};
 use std::test::Fail;
 
 /// The picture of two labels added in turn.

@@ -2,10 +2,9 @@
 
 ghost use Rattle.std.specs.Prelude.{Some};
 
-use super::tests::{Why, assert_left_out, joined, labelled, plain_error, source_of};
-use super::tests_pictures::{APPLE_LABELS, APPLES};
-use crate::report::Report;
-use crate::write::WriteError;
+use crate::helpers::{Why, assert_left_out, joined, labelled, plain_error, source_of};
+use crate::pictures::{APPLE_LABELS, APPLES};
+use ariadne::{Report, WriteError};
 use std::alloc::{AllocError, Global};
 use std::io;
 use std::io::{ErrorKind, Write};

@@ -1,7 +1,7 @@
 //! Labels over several lines, and labels on several lines.
 
-use super::tests::{assert_bytes, assert_picture, labelled, plain, plain_error, plain_error_at};
-use ariadne_labels::label::Label;
+use crate::helpers::{assert_bytes, assert_picture, labelled, plain, plain_error, plain_error_at};
+use ariadne::Label;
 use std::test::Fail;
 
 /// A text of three lines.

@@ -1,6 +1,6 @@
 //! The laws can be called, at types too that have no order of their own.
 
-use ariadne_picture::laws::{
+use ariadne::laws::{
     bars_stand_case_by_case, best_is_the_first_unbeaten, bytes_draw_as_characters,
     cells_hold_no_escapes, colors_move_nothing, ends_of_gutter_labels_are_traced,
     every_picture_can_be_read, groups_are_the_only_cutting, gutter_bars_are_whole,

@@ -1,9 +1,7 @@
 //! Helps and notes.
 
-use super::tests::{assert_bytes, assert_picture, labelled, plain, plain_error};
-use crate::builder::ReportBuilder;
-use crate::report::Report;
-use ariadne_labels::label::Label;
+use crate::helpers::{assert_bytes, assert_picture, labelled, plain, plain_error};
+use ariadne::{Label, Report, ReportBuilder};
 use std::process::Abort;
 use std::test::Fail;
 

@@ -1,13 +1,10 @@
 //! The pictures that the original crate keeps of its own reports.
 
-use super::tests::{
+use crate::helpers::{
     assert_picture, assert_picture_over, labelled, plain, plain_error, plain_error_at,
 };
-use super::tests_pictures::APPLE_LABELS;
-use crate::builder::ReportBuilder;
-use ariadne_base::sources;
-use ariadne_labels::config::IndexType;
-use ariadne_labels::label::Label;
+use crate::pictures::APPLE_LABELS;
+use ariadne::{IndexType, Label, ReportBuilder, sources};
 use std::process::Abort;
 use std::test::Fail;
 

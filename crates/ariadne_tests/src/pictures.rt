@@ -1,18 +1,14 @@
 //! Labels within one line, in ASCII and in box drawing characters, without colours.
 
-use super::tests::{
+use crate::helpers::{
     Why, assert_bytes, assert_left_out, assert_picture, assert_rows, labelled, plain, plain_error,
     plain_error_at, source_of, written,
 };
-use crate::report::Report;
-use ariadne_color::Color;
-use ariadne_labels::config::{CharSet, Config};
-use ariadne_labels::kind::ReportKind;
-use ariadne_labels::label::Label;
+use ariadne::{CharSet, Color, Config, Label, Report, ReportKind};
 use std::test::Fail;
 
 /// The rows of two labels on a line, blanks at their ends kept.
-pub(super) const APPLES: [&str; 9] = [
+pub(crate) const APPLES: [&str; 9] = [
     "Error: can't compare apples with oranges",
     "   ,-[ <unknown>:1:1 ]",
     "   |",
@@ -25,7 +21,7 @@ pub(super) const APPLES: [&str; 9] = [
 ];
 
 /// The two labels.
-pub(super) const APPLE_LABELS: [(usize, usize, &str); 2] = [
+pub(crate) const APPLE_LABELS: [(usize, usize, &str); 2] = [
     (0, 5, "This is an apple"),
     (9, 15, "This is an orange"),
 ];

@@ -1,12 +1,10 @@
 //! Offsets in bytes.
 
-use super::tests::{
+use crate::helpers::{
     Why, assert_left_out, assert_trimmed, labelled, plain, plain_error, plain_error_at, source_of,
     written,
 };
-use crate::report::Report;
-use crate::write::Reason;
-use ariadne_labels::config::IndexType;
+use ariadne::{IndexType, Reason, Report};
 use std::alloc::AllocError;
 use std::process::Abort;
 use std::test::Fail;

@@ -1,7 +1,6 @@
 //! Labels are equal by all that they hold, and equal ones have one hash.
 
-use ariadne_color::Color;
-use ariadne_labels::label::Label;
+use ariadne::{Color, Label};
 use std::alloc::{AllocError, Global};
 use std::hash::{DefaultHasher, Hash, Hasher};
 use std::test::Fail;

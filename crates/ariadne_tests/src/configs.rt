@@ -1,9 +1,8 @@
 //! The switches of a configuration, each by what it changes.
 
-use super::tests::{assert_bytes, assert_picture, labelled, plain, plain_error};
-use super::tests_pictures::{APPLE_LABELS, APPLES};
-use crate::report::Report;
-use ariadne_labels::config::{CharSet, Config, IndexType, LabelAttach};
+use crate::helpers::{assert_bytes, assert_picture, labelled, plain, plain_error};
+use crate::pictures::{APPLE_LABELS, APPLES};
+use ariadne::{CharSet, Config, IndexType, LabelAttach, Report};
 use std::process::Abort;
 use std::test::Fail;
 

@@ -1,57 +1,54 @@
 //! What the tests of pictures share.
 
-use crate::builder::ReportBuilder;
-use crate::report::Report;
-use crate::write::{LeftOut, Reason};
-use ariadne_base::{Cache, Source, Span, UnknownSource};
-use ariadne_labels::config::{CharSet, Config};
-use ariadne_labels::kind::ReportKind;
-use ariadne_labels::label::Label;
+use ariadne::{
+    Cache, CharSet, Config, Label, LeftOut, Reason, Report, ReportBuilder, ReportKind, Source,
+    Span, UnknownSource,
+};
 use std::alloc::{AllocError, Global};
 use std::ops::Range;
 use std::process::Abort;
 use std::test::Fail;
 
 /// A piece of the source of an id.
-pub(super) type Piece = (&'static str, Range<usize>);
+pub(crate) type Piece = (&'static str, Range<usize>);
 
 /// Why a label is left out, without what its cache said.
 #[derive(Clone, Copy, Debug, PartialEq, Eq)]
-pub(super) enum Why {
+pub(crate) enum Why {
     Unfetched,
     PastSource,
     CutsCharacter,
 }
 
 /// ASCII strokes, and no colours.
-pub(super) fn plain() -> Config {
+pub(crate) fn plain() -> Config {
     Config::new()
         .with_char_set(CharSet::Ascii)
         .with_color(false)
 }
 
 /// ASCII strokes, and colours.
-pub(super) fn colored() -> Config {
+pub(crate) fn colored() -> Config {
     Config::new().with_char_set(CharSet::Ascii)
 }
 
 /// A source of a text.
-pub(super) fn source_of(alloc: Global, text: &str) -> Result<Source<String>, AllocError> {
+pub(crate) fn source_of(alloc: Global, text: &str) -> Result<Source<String>, AllocError> {
     Source::from(alloc, String::from_str(alloc, text)?)
 }
 
 /// An error without a message yet, in ASCII and without colours, at a place.
-pub(super) fn plain_error_at<S: Span>(alloc: Global, span: S) -> ReportBuilder<'static, S> {
+pub(crate) fn plain_error_at<S: Span>(alloc: Global, span: S) -> ReportBuilder<'static, S> {
     Report::build(alloc, ReportKind::Error, span).with_config(plain())
 }
 
 /// Such an error at the first character.
-pub(super) fn plain_error(alloc: Global) -> ReportBuilder<'static> {
+pub(crate) fn plain_error(alloc: Global) -> ReportBuilder<'static> {
     plain_error_at(alloc, 0..0)
 }
 
 /// A report with these labels: the start and the end of each, and what it says.
-pub(super) fn labelled<'a>(
+pub(crate) fn labelled<'a>(
     rt: &(impl Abort + AllocGlobal),
     builder: ReportBuilder<'a>,
     labels: &[(usize, usize, &str)],
@@ -66,7 +63,7 @@ pub(super) fn labelled<'a>(
 }
 
 /// The same, of labels in the sources of these ids.
-pub(super) fn labelled_in<'a>(
+pub(crate) fn labelled_in<'a>(
     rt: &(impl Abort + AllocGlobal),
     builder: ReportBuilder<'a, Piece>,
     labels: &[(&'static str, usize, usize, &str)],
@@ -81,7 +78,7 @@ pub(super) fn labelled_in<'a>(
 }
 
 /// The picture that a report writes over a cache, and the labels that it leaves out.
-pub(super) fn written<S: Span, C: Cache<S::SourceId>>(
+pub(crate) fn written<S: Span, C: Cache<S::SourceId>>(
     rt: &impl AllocGlobal,
     report: &Report<'_, S>,
     cache: &mut C,
@@ -95,7 +92,7 @@ pub(super) fn written<S: Span, C: Cache<S::SourceId>>(
 }
 
 /// Rows, each with a line feed behind it.
-pub(super) fn joined(alloc: Global, rows: &[&str]) -> Result<String, AllocError> {
+pub(crate) fn joined(alloc: Global, rows: &[&str]) -> Result<String, AllocError> {
     let mut text = String::new(alloc);
     for row in rows {
         text.push_str(row)?;
@@ -115,7 +112,7 @@ fn trimmed(alloc: Global, picture: &str) -> Result<String, AllocError> {
 }
 
 /// Asserts that a picture has these rows, and each of them whole.
-pub(super) fn assert_rows(
+pub(crate) fn assert_rows(
     rt: &(impl Abort + AllocGlobal),
     picture: &str,
     rows: &[&str],
@@ -126,7 +123,7 @@ pub(super) fn assert_rows(
 }
 
 /// Asserts that a picture has these rows, but for the blanks at their ends.
-pub(super) fn assert_trimmed(
+pub(crate) fn assert_trimmed(
     rt: &(impl Abort + AllocGlobal),
     picture: &str,
     rows: &[&str],
@@ -137,7 +134,7 @@ pub(super) fn assert_trimmed(
 }
 
 /// Asserts which labels are left out, and why.
-pub(super) fn assert_left_out<E>(
+pub(crate) fn assert_left_out<E>(
     rt: &impl Abort,
     left_out: &[LeftOut<E>],
     wanted: &[(usize, Why)],
@@ -155,7 +152,7 @@ pub(super) fn assert_left_out<E>(
 
 /// Asserts that all these labels are left out since their sources can't be had, and what is said
 /// of each.
-pub(super) fn assert_unknown(
+pub(crate) fn assert_unknown(
     rt: &(impl Abort + AllocGlobal),
     left_out: &[LeftOut<UnknownSource>],
     wanted: &[&str],
@@ -173,7 +170,7 @@ pub(super) fn assert_unknown(
 
 /// Asserts that over a text a report leaves no label out, and that its picture has these rows, and
 /// each of them whole.
-pub(super) fn assert_bytes(
+pub(crate) fn assert_bytes(
     rt: &(impl Abort + AllocGlobal),
     report: &Report<'_>,
     text: &str,
@@ -187,7 +184,7 @@ pub(super) fn assert_bytes(
 
 /// Asserts that over a text a report leaves no label out, and that its picture has these rows, but
 /// for the blanks at their ends.
-pub(super) fn assert_picture(
+pub(crate) fn assert_picture(
     rt: &(impl Abort + AllocGlobal),
     report: &Report<'_>,
     text: &str,
@@ -201,7 +198,7 @@ pub(super) fn assert_picture(
 
 /// Asserts that over a cache a report leaves out exactly these labels, and that its picture has
 /// these rows, but for the blanks at their ends.
-pub(super) fn assert_picture_over<S: Span, C: Cache<S::SourceId>>(
+pub(crate) fn assert_picture_over<S: Span, C: Cache<S::SourceId>>(
     rt: &(impl Abort + AllocGlobal),
     report: &Report<'_, S>,
     cache: &mut C,

@@ -2,13 +2,11 @@
 
 ghost use Rattle.std.specs.Prelude.{◌≤◌};
 
-use super::tests::{
+use crate::helpers::{
     Piece, Why, assert_left_out, assert_picture, assert_picture_over, assert_trimmed,
     assert_unknown, labelled, labelled_in, plain_error, plain_error_at, source_of, written,
 };
-use crate::builder::ReportBuilder;
-use ariadne_base::{Source, SourceMap, sources};
-use ariadne_labels::label::Label;
+use ariadne::{Label, ReportBuilder, Source, SourceMap, sources};
 use std::alloc::{AllocError, Global};
 use std::test::Fail;
 

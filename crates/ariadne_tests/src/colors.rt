@@ -1,12 +1,7 @@
 //! Pictures with colours, and which label a character is painted for.
 
-use super::tests::{assert_bytes, colored, labelled, plain, plain_error};
-use crate::builder::ReportBuilder;
-use crate::report::Report;
-use ariadne_color::Color;
-use ariadne_labels::config::{Config, IndexType};
-use ariadne_labels::kind::ReportKind;
-use ariadne_labels::label::Label;
+use crate::helpers::{assert_bytes, colored, labelled, plain, plain_error};
+use ariadne::{Color, Config, IndexType, Label, Report, ReportBuilder, ReportKind};
 use std::alloc::Global;
 use std::process::Abort;
 use std::test::Fail;

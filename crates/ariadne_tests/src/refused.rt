@@ -1,15 +1,12 @@
 //! Reports when memory is refused: each request in turn, until a call meets no refusal.
 
-use super::tests::{
+use crate::helpers::{
     Why, assert_left_out, assert_picture, assert_trimmed, joined, labelled, labelled_in,
     plain_error, plain_error_at, source_of, written,
 };
-use super::tests_pictures::{APPLE_LABELS, APPLES};
-use crate::builder::ReportBuilder;
+use crate::pictures::{APPLE_LABELS, APPLES};
 use crate::refusing::{refuse, was_refused};
-use crate::write::WriteError;
-use ariadne_base::FnCache;
-use ariadne_labels::label::Label;
+use ariadne::{FnCache, Label, ReportBuilder, WriteError};
 use std::alloc::{AllocError, Global};
 use std::test::Fail;
 
