@@ -1,0 +1,3 @@
+-- Brackets.
+mod Stacks
+mod Offences
