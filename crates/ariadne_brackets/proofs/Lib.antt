@@ -1,3 +1,6 @@
 -- Brackets.
 mod Stacks
 mod Offences
+mod Bounds
+-- The files.
+mod Passing

@@ -1,6 +1,11 @@
 //! A linter of brackets.
 #![tactic(auto)]
 
-pub mod offence;
+mod checked;
+mod fault;
+mod linting;
+mod offence;
 
+pub use fault::{Fault, Status, tell_fault};
+pub use linting::lint;
 pub use offence::{Offence, first_offence};
