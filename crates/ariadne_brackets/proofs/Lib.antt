@@ -4,3 +4,6 @@ mod Offences
 mod Bounds
 -- The files.
 mod Passing
+-- The report.
+mod Reporting
+mod Writing
