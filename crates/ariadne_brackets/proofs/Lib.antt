@@ -7,3 +7,4 @@ mod Passing
 -- The report.
 mod Reporting
 mod Writing
+mod Ending

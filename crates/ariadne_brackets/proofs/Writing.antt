@@ -61,9 +61,10 @@ module _ (contents : Contents) where
       (record { source = source; is_held = there; starts = omega arith; ends = omega arith }, tt)
   inside_offence path source (Mismatched o p) there is =
       let below = offence_within (chars source.text) (Mismatched o p) is in
-      let before = is.before in
-      (record { source = source; is_held = there; starts = omega arith; ends = omega arith },
-      (record { source = source; is_held = there; starts = omega arith; ends = omega arith }, tt))
+      let before = is.before in (
+        record { source = source; is_held = there; starts = omega arith; ends = omega arith },
+        (record { source = source; is_held = there; starts = omega arith; ends = omega arith }, tt),
+      )
   inside_offence path source (Unclosed o) there is =
       let below = offence_within (chars source.text) (Unclosed o) is in
       (record { source = source; is_held = there; starts = omega arith; ends = omega arith }, tt)

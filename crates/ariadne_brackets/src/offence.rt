@@ -43,7 +43,11 @@ pub fn first_offence(alloc: Global, text: &str) -> Result<Option<Offence>, Alloc
             }
         }
     }
-    Ok(opened.pop().map(|bracket| Offence::Unclosed(bracket.offset)))
+    Ok(
+        opened
+            .pop()
+            .map(|bracket| Offence::Unclosed(bracket.offset)),
+    )
 }
 
 /// The bracket that closes an opening one.

@@ -15,17 +15,17 @@ loop-word-preserved g c =
     let among : c.is_among.result ≡ list_any (λ d. same_path path d.path) files = rw c.deref.ensures.value at c.is_among.ensures in
     elim c.if-not-is_among.branch [
       | then-not-is_among+in_ok-check_file+in_ok-push w ↦
-        let unseen : list_any (λ d. same_path path d.path) files ≡ false = sym among ∙ w.if-not-is_among.true in
-        let new = w.in_ok-check_file.ensures in
-        let more = w.in_ok-push.ensures.items in
-        record {
-          paths = rw (w.checked-is, more) (paths_next files path _ _ _ new.path unseen so_far);
-          outcomes = rw (w.cache-is, w.checked-is, more) (outcomes_next _ _ path new.others files _ unseen c.loop-word.invariant.outcomes (rw new.path new.outcome));
-        }
+          let unseen : list_any (λ d. same_path path d.path) files ≡ false = sym among ∙ w.if-not-is_among.true in
+          let new = w.in_ok-check_file.ensures in
+          let more = w.in_ok-push.ensures.items in
+          record {
+            paths = rw (w.checked-is, more) (paths_next files path _ _ _ new.path unseen so_far);
+            outcomes = rw (w.cache-is, w.checked-is, more) (outcomes_next _ _ path new.others files _ unseen c.loop-word.invariant.outcomes (rw new.path new.outcome));
+          }
       | else-not-is_among w ↦
-        let seen : list_any (λ d. same_path path d.path) files ≡ true = sym among ∙ w.if-not-is_among.false in
-        record {
-          paths = rw w.checked-is (paths_again files path _ _ seen so_far);
-          outcomes = rw (w.cache-is, w.checked-is) c.loop-word.invariant.outcomes;
-        }
+          let seen : list_any (λ d. same_path path d.path) files ≡ true = sym among ∙ w.if-not-is_among.false in
+          record {
+            paths = rw w.checked-is (paths_again files path _ _ seen so_far);
+            outcomes = rw (w.cache-is, w.checked-is) c.loop-word.invariant.outcomes;
+          }
     ]

@@ -1,0 +1,25 @@
+-- How a run ends.
+use Rattle.std.proofs.Common.{◌≡◌, refl, sym, ◌∙◌, inl, inr}
+use Rattle.std.specs.Prelude.{ℕ, Bool, true, false, List, [], ◌∷◌, ◌≢◌, Option, Result, Ok, Err, if◌then◌else◌}
+use Rattle.std.specs.List.{list_all, list_any}
+use Rattle.std.specs.Result.{IsErrAnd}
+use Rattle.ariadne_brackets.specs.Faults.{status_of_fault}
+use Rattle.ariadne_brackets.specs.Linted.{AreChecked, Ended, EndedOver, IsWhole, status_of}
+use Rattle.ariadne_brackets.specs.Linting.{AreOutcomes, RanOver, Wrote}
+use Rattle.ariadne_brackets.specs.Outcomes.{offends, was_read}
+use Rattle.ariadne_brackets.specs.declared.checked.Checked.{Checked}
+use Rattle.ariadne_brackets.specs.declared.fault.Fault.{Fault}
+use Rattle.ariadne_brackets.specs.declared.fault.Fault.TheVariants.{Usage, Writer, Memory}
+use Rattle.ariadne_brackets.specs.declared.fault.Status.{Status}
+use Rattle.ariadne_brackets.specs.declared.fault.Status.TheVariants as status
+use Rattle.ariadne_brackets.proofs.Writing.{Contents}
+
+-- a run that the writing of the report ended
+pub ran_part : (words : List (List ℕ)) (old contents : Contents) (checked lent : List Checked) (before after : Option (List ℕ)) (fault : Fault)
+    (result : Result Status Fault) → lent ≡ checked → AreChecked words old checked → AreOutcomes contents lent
+    → Wrote contents lent before after (Err fault) → IsErrAnd result (λ f. f ≡ fault) → RanOver words before after result
+ran_part words old contents checked lent before after fault (Ok done) same are outcomes wrote told = elim told [ ]
+ran_part words old contents checked lent before after Usage (Err f) same are outcomes wrote told = elim wrote [ ]
+ran_part words old contents checked lent before after (Memory refused) (Err f) same are outcomes wrote told = rw told wrote
+ran_part words old contents checked lent before after (Writer sent) (Err f) same are outcomes wrote told =
+    rw told (record { contents = contents; checked = lent; are_checked = record { paths = rw same are.paths; outcomes = outcomes }; cut = wrote })

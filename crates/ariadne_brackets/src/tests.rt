@@ -1,0 +1,257 @@
+//! `first_offence` over texts, and `lint` over files of the system.
+
+use super::fault::Status;
+use super::linting::lint;
+use super::offence::{Offence, first_offence};
+use super::tests_streams::Taker;
+use std::alloc::{AllocError, Global};
+use std::io::ErrorKind;
+use std::rt::Files;
+use std::test::Fail;
+use std::{env, fs};
+
+pub const USAGE: &str = "usage: ariadne-brackets PATH...\n";
+
+/// What stands in the two files of the picture.
+pub const FIRST: &str = "(]";
+
+pub const SECOND: &str = "f(x\n]\n";
+
+/// What a run answered, and what its writers took.
+#[derive(Drop)]
+pub struct Outcome {
+    pub status: Status,
+    pub out: String,
+    pub faults: String,
+}
+
+/// Words of the command line.
+pub fn texts(alloc: Global, words: &[&str]) -> Result<Vec<String>, AllocError> {
+    let mut texts = Vec::new(alloc);
+    for word in words {
+        texts.push(String::from_str(alloc, word)?)?;
+    }
+    Ok(texts)
+}
+
+/// Runs the linter with an output.
+pub fn run_into<R: Files>(
+    files: &R,
+    alloc: Global,
+    words: &[&str],
+    out: Taker,
+) -> Result<Outcome, Fail> {
+    let words = texts(alloc, words)?;
+    let mut out = out;
+    let mut faults = Taker::new(alloc)?;
+    let status = lint(files, alloc, words.as_slice(), &mut out, &mut faults);
+    Ok(Outcome {
+        status,
+        out: String::from_utf8(out.held)?,
+        faults: String::from_utf8(faults.held)?,
+    })
+}
+
+/// Runs the linter with an output that takes all.
+pub fn run<R: Files>(files: &R, alloc: Global, words: &[&str]) -> Result<Outcome, Fail> {
+    run_into(files, alloc, words, Taker::new(alloc)?)
+}
+
+/// The picture of both files.
+pub fn both(alloc: Global, first: &str, second: &str) -> Result<String, AllocError> {
+    let first_rows =
+        "   |\n 1 | (]\n   | ||  \n   | `--- opened here\n   |  |  \n   |  `-- closed by another bracket here\n   |\n";
+    let second_rows =
+        "   |\n 1 | ,-> f(x\n   | |    |  \n   | |    `-- opened here\n 2 | |-> ]\n   | |       \n   | `------- closed by another bracket here\n---'\n";
+    format!(in alloc;
+        "Error: unbalanced brackets\n   ,-[ {first}:1:1 ]\n{first_rows}   |-[ {second}:1:2 ]\n{second_rows}"
+    )
+}
+
+#[test]
+fn the_first_offence_is_found(rt: HostRuntime) -> Result<(), Fail> {
+    let cases = [
+        ("", None),
+        ("a(b)[]", None),
+        ("\"(\" é )", None),
+        (")(", Some(Offence::Unopened(0))),
+        ("é)", Some(Offence::Unopened(1))),
+        ("([)]", Some(Offence::Mismatched(1, 2))),
+        ("([", Some(Offence::Unclosed(1))),
+        ("(()", Some(Offence::Unclosed(0))),
+        ("{[()]}{", Some(Offence::Unclosed(6))),
+        ("{}]{)", Some(Offence::Unopened(2))),
+    ];
+    for (text, offence) in cases {
+        assert_eq!(rt; first_offence(rt.alloc(), text)?, offence, "in {text}");
+    }
+    Ok(())
+}
+
+#[test]
+fn two_files_are_drawn_in_one_picture(rt: HostRuntime) -> Result<(), Fail> {
+    let alloc = rt.alloc();
+    let folder = env::temp_dir(&rt)?;
+    let first = folder.join(alloc, "ariadne_brackets_a.txt")?;
+    let second = folder.join(alloc, "ariadne_brackets_b.txt")?;
+    fs::write(&rt, first.as_path(), FIRST)?;
+    fs::write(&rt, second.as_path(), SECOND)?;
+    let picture = both(alloc, first.as_str(), second.as_str())?;
+    let cases: [&[&str]; 3] = [
+        &[first.as_str(), second.as_str()],
+        &[first.as_str(), second.as_str(), first.as_str()],
+        &[first.as_str(), first.as_str(), second.as_str()],
+    ];
+    for words in cases {
+        let outcome = run(&rt, alloc, words)?;
+        assert_eq!(rt; outcome.out.as_str(), picture.as_str(), "at {words:?}");
+        assert_eq!(rt; outcome.status, Status::Offences, "at {words:?}");
+        assert_eq!(rt; outcome.faults.as_str(), "", "at {words:?}");
+    }
+    Ok(())
+}
+
+#[test]
+fn each_offence_has_its_labels(rt: HostRuntime) -> Result<(), Fail> {
+    let alloc = rt.alloc();
+    let path = env::temp_dir(&rt)?.join(alloc, "ariadne_brackets_one.txt")?;
+    let name = path.as_str();
+    let cases = [
+        (")(", "1:1", ")(\n   | |  \n   | `-- never opened\n"),
+        ("([", "1:2", "([\n   |  |  \n   |  `-- never closed\n"),
+        ("(()", "1:1", "(()\n   | |  \n   | `-- never closed\n"),
+        (
+            "([)]",
+            "1:2",
+            "([)]\n   |  ||  \n   |  `--- opened here\n   |   |  \n   |   `-- closed by another bracket here\n",
+        ),
+    ];
+    for (text, place, rows) in cases {
+        fs::write(&rt, path.as_path(), text)?;
+        let outcome = run(&rt, alloc, &[name])?;
+        let head = "Error: unbalanced brackets\n   ,-[ ";
+        let want = format!(in alloc; "{head}{name}:{place} ]\n   |\n 1 | {rows}---'\n")?;
+        assert_eq!(rt; outcome.out.as_str(), want.as_str(), "in {text}");
+        assert_eq!(rt; outcome.status, Status::Offences, "in {text}");
+        assert_eq!(rt; outcome.faults.as_str(), "", "in {text}");
+    }
+    Ok(())
+}
+
+#[test]
+fn balanced_files_are_not_told_of(rt: HostRuntime) -> Result<(), Fail> {
+    let alloc = rt.alloc();
+    let path = env::temp_dir(&rt)?.join(alloc, "ariadne_brackets_clean.txt")?;
+    let mut long = String::new(alloc);
+    for _ in 0..500 {
+        long.push_str("({[\n")?;
+    }
+    for _ in 0..500 {
+        long.push_str("]})\n")?;
+    }
+    for text in ["", "a(b)[]\n", long.as_str()] {
+        fs::write(&rt, path.as_path(), text)?;
+        let outcome = run(&rt, alloc, &[path.as_str()])?;
+        assert_eq!(rt; outcome.out.as_str(), "");
+        assert_eq!(rt; outcome.status, Status::Clean);
+        assert_eq!(rt; outcome.faults.as_str(), "");
+    }
+    long.push_str("}")?;
+    fs::write(&rt, path.as_path(), long.as_str())?;
+    let outcome = run(&rt, alloc, &[path.as_str()])?;
+    let rows = "      |\n 1001 | }\n      | |  \n      | `-- never opened\n------'\n";
+    let name = path.as_str();
+    let head = "Error: unbalanced brackets\n      ,-[ ";
+    let want = format!(in alloc; "{head}{name}:1001:1 ]\n{rows}")?;
+    assert_eq!(rt; outcome.out.as_str(), want.as_str());
+    assert_eq!(rt; outcome.status, Status::Offences);
+    Ok(())
+}
+
+#[test]
+fn files_that_can_not_be_read_are_told(rt: HostRuntime) -> Result<(), Fail> {
+    let alloc = rt.alloc();
+    let folder = env::temp_dir(&rt)?;
+    let missing = folder.join(alloc, "ariadne_brackets_missing.txt")?;
+    let bytes = folder.join(alloc, "ariadne_brackets_bytes.txt")?;
+    let open = folder.join(alloc, "ariadne_brackets_open.txt")?;
+    let clean = folder.join(alloc, "ariadne_brackets_shut.txt")?;
+    fs::write(&rt, bytes.as_path(), b"(\xff")?;
+    fs::write(&rt, open.as_path(), "x(")?;
+    fs::write(&rt, clean.as_path(), "()")?;
+    let (m, b, o, c) = (
+        missing.as_str(),
+        bytes.as_str(),
+        open.as_str(),
+        clean.as_str(),
+    );
+    let f = folder.as_str();
+    let told = format!(in alloc; "{m}: can't be read\n{b}: not UTF-8\n{f}: can't be read\n")?;
+    let head = "Error: unbalanced brackets\n   ,-[ ";
+    let rows = "   |\n 1 | x(\n   |  |  \n   |  `-- never closed\n---'\n";
+    let picture = format!(in alloc; "{head}{o}:1:2 ]\n{rows}")?;
+    let cases: [(&[&str], &str); 2] = [
+        (&[m, o, b, c, f, m, b], picture.as_str()),
+        (&[m, c, b, f], ""),
+    ];
+    for (words, want) in cases {
+        let outcome = run(&rt, alloc, words)?;
+        assert_eq!(rt; outcome.out.as_str(), want, "at {words:?}");
+        assert_eq!(rt; outcome.status, Status::BadInput, "at {words:?}");
+        assert_eq!(rt; outcome.faults.as_str(), told.as_str(), "at {words:?}");
+    }
+    Ok(())
+}
+
+#[test]
+fn no_words_give_the_usage_line(rt: HostRuntime) -> Result<(), Fail> {
+    let outcome = run(&rt, rt.alloc(), &[])?;
+    assert_eq!(rt; outcome.out.as_str(), "");
+    assert_eq!(rt; outcome.status, Status::BadInput);
+    assert_eq!(rt; outcome.faults.as_str(), USAGE);
+    Ok(())
+}
+
+#[test]
+fn a_writer_that_fails_is_told_with_what_it_took(rt: HostRuntime) -> Result<(), Fail> {
+    let alloc = rt.alloc();
+    let folder = env::temp_dir(&rt)?;
+    let first = folder.join(alloc, "ariadne_brackets_c.txt")?;
+    let second = folder.join(alloc, "ariadne_brackets_d.txt")?;
+    fs::write(&rt, first.as_path(), FIRST)?;
+    fs::write(&rt, second.as_path(), SECOND)?;
+    let whole = both(alloc, first.as_str(), second.as_str())?;
+    for calls_left in 0..whole.len() {
+        for fault in [Some(ErrorKind::BrokenPipe), None] {
+            let out = Taker {
+                held: Vec::new(alloc),
+                room: 1,
+                calls_left,
+                fault,
+            };
+            let outcome = run_into(&rt, alloc, &[first.as_str(), second.as_str(), "/"], out)?;
+            let told = format!(in alloc;
+                "/: can't be read\nwrite failed after {calls_left} bytes\n"
+            )?;
+            assert_eq!(rt; outcome.status, Status::Failed, "at {calls_left}");
+            assert_eq!(rt; outcome.out.as_bytes(), &whole.as_bytes()[..calls_left]);
+            assert_eq!(rt; outcome.faults.as_str(), told.as_str());
+        }
+    }
+    Ok(())
+}
+
+#[test]
+fn a_failing_standard_error_is_passed_over(rt: HostRuntime) -> Result<(), Fail> {
+    let alloc = rt.alloc();
+    let cases: [&[&str]; 2] = [&[], &["/"]];
+    for words in cases {
+        let words = texts(alloc, words)?;
+        let mut out = Taker::new(alloc)?;
+        let mut faults = Taker::new(alloc)?;
+        faults.calls_left = 0;
+        let status = lint(&rt, alloc, words.as_slice(), &mut out, &mut faults);
+        assert_eq!(rt; status, Status::BadInput);
+    }
+    Ok(())
+}
