@@ -1,10 +1,31 @@
-//! A linter of brackets.
+//! A linter of brackets, over the public calls and contracts of `ariadne` alone.
+//!
+//! It is also a pattern for a tool of your own, which finds something in files and draws it:
+//!
+//! - `offence` is what is the linter's own: it finds something in a text, by offsets that count
+//!   characters. It knows nothing of files or pictures. Put your own search in its place.
+//! - `checked` keeps what was found of each file, with the path as its id.
+//! - `linting` is what to copy. `check_file` reads a file through `FileCache`, by `ensure` and then
+//!   `get`; `offences_report` makes labels and a report by the builder; `write_report` writes it over
+//!   the same cache. So each file that a label points into is held when `write` begins, nothing is
+//!   read twice, and no label is left out: that is proved by the contract of `write`.
+//! - `fault` has the texts and the statuses of the program, whose `main` does nothing but call `lint`.
+//!
+//! The contracts follow the same way: `specs/Brackets` says what an offence is, `specs/Outcomes` what
+//! is known of a file, and `specs/Linted` which report the files make and what a run has printed, by
+//! its status.
 #![tactic(auto)]
 
 mod checked;
 mod fault;
 mod linting;
 mod offence;
+#[cfg(test)]
+mod tests;
+#[cfg(test)]
+mod tests_refused;
+#[cfg(test)]
+mod tests_streams;
 
 pub use fault::{Fault, Status, tell_fault};
 pub use linting::lint;
