@@ -1,11 +1,11 @@
 -- Where an offence lies.
 use Rattle.std.proofs.Common.{◌≡◌, refl, ap, arith}
-use Rattle.std.specs.Prelude.{ℕ, ◌+◌, ◌<◌, ◌≤◌, List, length, slice_get, Option, Some, None, chars}
+use Rattle.std.specs.Prelude.{ℕ, ◌<◌, ◌≤◌, List, length, slice_get, Option, Some, None, chars}
 use Rattle.std.specs.Option.{IsSome, IsSomeAnd}
 use Rattle.std.specs.Str.{IsUtf8}
 use Rattle.std.proofs.lemmas.Option.{slice_get_within}
 use Rattle.std.proofs.lemmas.Str.{encodes-chars, length-le-encodes}
-use Rattle.ariadne_brackets.specs.Brackets.{IsFirstOffence, OpensAt, closing_of}
+use Rattle.ariadne_brackets.specs.Brackets.{IsFirstOffence, closing_of}
 use Rattle.ariadne_brackets.specs.Outcomes.{first_offset, last_offset}
 use Rattle.ariadne_brackets.specs.declared.offence.Offence.{Offence}
 use Rattle.ariadne_brackets.specs.declared.offence.Offence.TheVariants.{Unopened, Mismatched, Unclosed}

@@ -1,17 +1,13 @@
 -- How a run ends.
-use Rattle.std.proofs.Common.{◌≡◌, refl, sym, ◌∙◌, inl, inr}
-use Rattle.std.specs.Prelude.{ℕ, Bool, true, false, List, [], ◌∷◌, ◌≢◌, Option, Result, Ok, Err, if◌then◌else◌}
-use Rattle.std.specs.List.{list_all, list_any}
+use Rattle.std.proofs.Common.{◌≡◌}
+use Rattle.std.specs.Prelude.{ℕ, List, Option, Result, Ok, Err}
 use Rattle.std.specs.Result.{IsErrAnd}
-use Rattle.ariadne_brackets.specs.Faults.{status_of_fault}
-use Rattle.ariadne_brackets.specs.Linted.{AreChecked, Ended, EndedOver, IsWhole, status_of}
+use Rattle.ariadne_brackets.specs.Linted.{AreChecked}
 use Rattle.ariadne_brackets.specs.Linting.{AreOutcomes, RanOver, Wrote}
-use Rattle.ariadne_brackets.specs.Outcomes.{offends, was_read}
 use Rattle.ariadne_brackets.specs.declared.checked.Checked.{Checked}
 use Rattle.ariadne_brackets.specs.declared.fault.Fault.{Fault}
 use Rattle.ariadne_brackets.specs.declared.fault.Fault.TheVariants.{Usage, Writer, Memory}
 use Rattle.ariadne_brackets.specs.declared.fault.Status.{Status}
-use Rattle.ariadne_brackets.specs.declared.fault.Status.TheVariants as status
 use Rattle.ariadne_brackets.proofs.Writing.{Contents}
 
 -- a run that the writing of the report ended

@@ -1,7 +1,7 @@
 -- All labels of the report are drawn: the source of each is held, and each lies inside it.
-use Rattle.std.proofs.Common.{◌≡◌, refl, sym, ap, ◌∙◌, arith, tests}
-use Rattle.std.specs.Prelude.{ℕ, ◌+◌, ◌<◌, ◌≤◌, ⊤, Bool, true, false, ◌||◌, nat_lt, List, [], ◌∷◌, ◌++◌, length, codes, chars, suc, min}
-use Rattle.std.specs.Prelude.{Option, Some, None, IsSome, IsSomeAnd}
+use Rattle.std.proofs.Common.{◌≡◌, refl, sym, ap, arith, tests}
+use Rattle.std.specs.Prelude.{ℕ, ◌+◌, ◌≤◌, ⊤, Bool, true, false, ◌||◌, nat_lt, List, [], ◌∷◌, ◌++◌, length, codes, chars, suc, min}
+use Rattle.std.specs.Prelude.{Option, Some, None, IsSome}
 use Rattle.std.specs.Borrow.{Bor}
 use Rattle.std.specs.Cmp.Lexicographic.{bytes_decides}
 use Rattle.std.specs.List.{AllByRecursion, flat_map, list_any}
@@ -16,7 +16,7 @@ use Rattle.ariadne_picture.specs.Report.{ConfigFields, LabelFields, ReportFields
 use Rattle.ariadne_picture.specs.declared.switches.IndexType.TheVariants.{Char}
 use Rattle.ariadne_picture.specs.declared.label_info.LabelInfo.{LabelInfo}
 use Rattle.ariadne_picture.specs.declared.verdict.Verdict.TheVariants.{Accepted, CutsCharacter as cuts, PastSource as past}
-use Rattle.ariadne.specs.Judging.{AreJudged, AreReasons, GrowsFor, IsJudged, listed}
+use Rattle.ariadne.specs.Judging.{AreJudged, GrowsFor, IsJudged, listed}
 use Rattle.ariadne.specs.Written.{IsCutOff, IsWritten}
 use Rattle.ariadne.specs.declared.write.accept.LeftOut.{LeftOut}
 use Rattle.ariadne.specs.declared.write.accept.Reason.{Reason}

@@ -1,5 +1,5 @@
 -- An offence lies within its text, of which no offset is past what a number holds.
-use Rattle.std.proofs.Common.{◌≤◌, ◌<◌, length, chars, arith}
+use Rattle.std.proofs.Common.{◌≤◌, length, chars, arith}
 use Rattle.ariadne_brackets.proofs.Bounds.{length-chars, offence_forward, offence_within}
 use Rattle.ariadne_brackets.proofs.linting.check_text.Goals as goal
 

@@ -1,9 +1,8 @@
 -- At the end it has all labels.
-use Rattle.std.proofs.Common.{◌≡◌, refl, ◌∙◌, ap, sym, arith, codes, Some, drop, []}
+use Rattle.std.proofs.Common.{◌≡◌, refl, ◌∙◌, ap, sym, arith, drop, []}
 use Rattle.std.proofs.lemmas.List.{append-nil, drop_all}
 use Rattle.std.specs.List.{flat_map}
-use Rattle.ariadne_picture.specs.Report.{ReportFields, error, new_report}
-use Rattle.ariadne_brackets.specs.Linted.{labels_of, plain_config}
+use Rattle.ariadne_brackets.specs.Linted.{labels_of}
 use Rattle.ariadne_brackets.proofs.Reporting.{report_whole}
 use Rattle.ariadne_brackets.proofs.linting.offences_report.Goals as goal
 
