@@ -43,11 +43,7 @@ pub fn first_offence(alloc: Global, text: &str) -> Result<Option<Offence>, Alloc
             }
         }
     }
-    Ok(
-        opened
-            .pop()
-            .map(|bracket| Offence::Unclosed(bracket.offset)),
-    )
+    Ok(opened.pop().map(|it| Offence::Unclosed(it.offset)))
 }
 
 /// The bracket that closes an opening one.

@@ -6,6 +6,7 @@ use super::offence::{Offence, first_offence};
 use super::tests_streams::Taker;
 use std::alloc::{AllocError, Global};
 use std::io::ErrorKind;
+use std::process::Abort;
 use std::rt::Files;
 use std::test::Fail;
 use std::{env, fs};
@@ -57,6 +58,22 @@ pub fn run<R: Files>(files: &R, alloc: Global, words: &[&str]) -> Result<Outcome
     run_into(files, alloc, words, Taker::new(alloc)?)
 }
 
+/// Runs the linter, and asserts what comes of it.
+fn assert_run<R: Files + Abort>(
+    rt: &R,
+    alloc: Global,
+    words: &[&str],
+    out: &str,
+    status: Status,
+    faults: &str,
+) -> Result<(), Fail> {
+    let outcome = run(rt, alloc, words)?;
+    assert_eq!(rt; outcome.out.as_str(), out, "at {words:?}");
+    assert_eq!(rt; outcome.status, status, "at {words:?}");
+    assert_eq!(rt; outcome.faults.as_str(), faults, "at {words:?}");
+    Ok(())
+}
+
 /// The picture of both files.
 pub fn both(alloc: Global, first: &str, second: &str) -> Result<String, AllocError> {
     let first_rows =
@@ -97,17 +114,13 @@ fn two_files_are_drawn_in_one_picture(rt: HostRuntime) -> Result<(), Fail> {
     fs::write(&rt, first.as_path(), FIRST)?;
     fs::write(&rt, second.as_path(), SECOND)?;
     let picture = both(alloc, first.as_str(), second.as_str())?;
-    let cases: [&[&str]; 3] = [
-        &[first.as_str(), second.as_str()],
-        &[first.as_str(), second.as_str(), first.as_str()],
-        &[first.as_str(), first.as_str(), second.as_str()],
-    ];
-    for words in cases {
-        let outcome = run(&rt, alloc, words)?;
-        assert_eq!(rt; outcome.out.as_str(), picture.as_str(), "at {words:?}");
-        assert_eq!(rt; outcome.status, Status::Offences, "at {words:?}");
-        assert_eq!(rt; outcome.faults.as_str(), "", "at {words:?}");
-    }
+    let (out, done) = (picture.as_str(), Status::Offences);
+    let words = [first.as_str(), second.as_str()];
+    assert_run(&rt, alloc, &words, out, done, "")?;
+    let words = [first.as_str(), second.as_str(), first.as_str()];
+    assert_run(&rt, alloc, &words, out, done, "")?;
+    let words = [first.as_str(), first.as_str(), second.as_str()];
+    assert_run(&rt, alloc, &words, out, done, "")?;
     Ok(())
 }
 
@@ -179,27 +192,39 @@ fn files_that_can_not_be_read_are_told(rt: HostRuntime) -> Result<(), Fail> {
     fs::write(&rt, bytes.as_path(), b"(\xff")?;
     fs::write(&rt, open.as_path(), "x(")?;
     fs::write(&rt, clean.as_path(), "()")?;
-    let (m, b, o, c) = (
-        missing.as_str(),
-        bytes.as_str(),
-        open.as_str(),
-        clean.as_str(),
-    );
+    let m = missing.as_str();
+    let b = bytes.as_str();
     let f = folder.as_str();
     let told = format!(in alloc; "{m}: can't be read\n{b}: not UTF-8\n{f}: can't be read\n")?;
+    let o = open.as_str();
     let head = "Error: unbalanced brackets\n   ,-[ ";
     let rows = "   |\n 1 | x(\n   |  |  \n   |  `-- never closed\n---'\n";
     let picture = format!(in alloc; "{head}{o}:1:2 ]\n{rows}")?;
-    let cases: [(&[&str], &str); 2] = [
-        (&[m, o, b, c, f, m, b], picture.as_str()),
-        (&[m, c, b, f], ""),
+    let faults = told.as_str();
+    let words = [
+        missing.as_str(),
+        open.as_str(),
+        bytes.as_str(),
+        clean.as_str(),
+        folder.as_str(),
+        missing.as_str(),
+        bytes.as_str(),
     ];
-    for (words, want) in cases {
-        let outcome = run(&rt, alloc, words)?;
-        assert_eq!(rt; outcome.out.as_str(), want, "at {words:?}");
-        assert_eq!(rt; outcome.status, Status::BadInput, "at {words:?}");
-        assert_eq!(rt; outcome.faults.as_str(), told.as_str(), "at {words:?}");
-    }
+    assert_run(
+        &rt,
+        alloc,
+        &words,
+        picture.as_str(),
+        Status::BadInput,
+        faults,
+    )?;
+    let words = [
+        missing.as_str(),
+        clean.as_str(),
+        bytes.as_str(),
+        folder.as_str(),
+    ];
+    assert_run(&rt, alloc, &words, "", Status::BadInput, faults)?;
     Ok(())
 }
 
