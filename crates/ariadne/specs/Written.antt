@@ -24,6 +24,16 @@ module _ {S Id E : Type 0} (fails : Id → E → Type 0) (old w : World S Id) (r
   abbrev pub picture : List (Option (Reason E)) → List ℕ
   picture reasons = printed (canvas w r (drawn reasons))
 
+  -- the bytes are the picture of the labels that have no reason, the others are listed, and on every
+  -- writer that gets these bytes every message can be found
+  pub record IsPicture (bytes : List ℕ) (list : List (LeftOut E)) : Type 0 where
+    pub reasons : List (Option (Reason E))
+    pub are_reasons : AreReasons fails old w r.config r.labels reasons
+    pub left_out : list ≡ listed 0 reasons
+    pub drawn : bytes ≡ picture reasons
+    pub traced : (before after : Option (List ℕ)) → Appends before after (picture reasons)
+        → Headline w r (drawn_labels w r.config 0 r.labels reasons) before after
+
   -- all was written: the reasons are listed, the picture of the other labels was sent, and on it
   -- every message can be found
   pub record IsWritten (list : List (LeftOut E)) (before after : Option (List ℕ)) : Type 0 where

@@ -14,6 +14,7 @@ pub use ariadne_labels::config::{CharSet, Config, IndexType, LabelAttach};
 pub use ariadne_labels::kind::ReportKind;
 pub use ariadne_labels::label::Label;
 pub use ariadne_picture::laws;
+pub use ariadne_send::sink::Sink;
 pub use builder::ReportBuilder;
 pub use report::Report;
 pub use write::{LeftOut, Reason, WriteError};

@@ -18,10 +18,11 @@
 //! ---'                                            tail
 //! ```
 
-ghost use Rattle.std.specs.Prelude.{◌≡◌, None};
+ghost use Rattle.std.specs.Prelude.{◌≡◌, IfOk, None, string_bytes};
 ghost use Rattle.ariadne.specs.Drawn.{world};
 ghost use Rattle.ariadne.specs.Judging.{GrowsFor};
-ghost use Rattle.ariadne.specs.Written.{Written};
+ghost use Rattle.ariadne.specs.Written.{IsPicture, Written};
+ghost use Rattle.ariadne_send.specs.Sent.{TellsFailure};
 
 pub(crate) mod accept;
 pub(crate) mod drawing;
@@ -33,10 +34,19 @@ use accept::accept;
 pub use accept::{LeftOut, Reason};
 use ariadne_base::{Cache, Span};
 pub use ariadne_send::send::WriteError;
-use ariadne_send::send::send;
+use ariadne_send::send::{send, send_to};
+use ariadne_send::sink::Sink;
 use drawing::draw;
+use std::alloc::AllocError;
 use std::io;
 use std::io::{Stderr, Write};
+
+/// What is drawn of a report, and the labels that are left out.
+#[derive(Drop)]
+struct Picture<E> {
+    text: String,
+    left_out: Vec<LeftOut<E>>,
+}
 
 impl<'a, S: Span> Report<'a, S> {
     /// Draws the report over the sources of a cache and sends the picture to `out`.
@@ -70,10 +80,35 @@ impl<'a, S: Span> Report<'a, S> {
             (C.names cache.new) (C.contents cache.new) in
             Written C.fails old w self.now (W.contents out.old) (W.contents out.new) result }
     {
-        let judged = accept(self, cache)?;
-        let text = draw(self, cache, judged.infos)?;
-        send(out, text.as_bytes())?;
-        Ok(judged.left_out)
+        let picture = self.picture(cache)?;
+        send(out, picture.text.as_bytes())?;
+        Ok(picture.left_out)
+    }
+
+    /// Draws the report over the sources of a cache and sends the picture to a sink, as `write` does
+    /// to a writer.
+    ///
+    /// After `Io` the sink has failed; after every other answer it has failed only if it had before.
+    pub fn write_to<C: Cache<S::SourceId>, K: Sink>(
+        &self,
+        cache: &mut C,
+        out: &mut K,
+    ) -> Result<Vec<LeftOut<C::Error>>, WriteError>
+        requires { C.can_fetch cache.old }
+        ensures again { C.can_fetch cache.new }
+        ensures naming { (q : S.SourceId) → C.names cache.new q ≡ C.names cache.old q }
+        ensures grows { GrowsFor S.source_of S.SourceId.eq self.now.labels
+            (C.contents cache.old) (C.contents cache.new) }
+        ensures failed { TellsFailure (K.has_failed out.old) (K.has_failed out.new) result }
+        ensures written { let old = world S.source_of S.start_of S.end_of S.SourceId.eq
+            (C.names cache.old) (C.contents cache.old) in
+            let w = world S.source_of S.start_of S.end_of S.SourceId.eq
+            (C.names cache.new) (C.contents cache.new) in
+            Written C.fails old w self.now (K.contents out.old) (K.contents out.new) result }
+    {
+        let picture = self.picture(cache)?;
+        send_to(out, picture.text.as_bytes())?;
+        Ok(picture.left_out)
     }
 
     /// Draws the report over the sources of a cache and sends the picture to `out`, which is to be
@@ -140,5 +175,29 @@ impl<'a, S: Span> Report<'a, S> {
             Written C.fails old w self.now None None result }
     {
         self.write(cache, &mut stderr)
+    }
+
+    /// Draws the report over the sources of a cache.
+    ///
+    /// On `Err` there was no memory, of the cache or for the picture.
+    fn picture<C: Cache<S::SourceId>>(&self, cache: &mut C) -> Result<Picture<C::Error>, AllocError>
+        requires { C.can_fetch cache.old }
+        ensures again { C.can_fetch cache.new }
+        ensures naming { (q : S.SourceId) → C.names cache.new q ≡ C.names cache.old q }
+        ensures grows { GrowsFor S.source_of S.SourceId.eq self.now.labels
+            (C.contents cache.old) (C.contents cache.new) }
+        ensures drawn { let old = world S.source_of S.start_of S.end_of S.SourceId.eq
+            (C.names cache.old) (C.contents cache.old) in
+            let w = world S.source_of S.start_of S.end_of S.SourceId.eq
+            (C.names cache.new) (C.contents cache.new) in
+            IfOk result (λ p. IsPicture C.fails old w self.now (string_bytes p.text)
+            p.left_out.items) }
+    {
+        let judged = accept(self, cache)?;
+        let text = draw(self, cache, judged.infos)?;
+        Ok(Picture {
+            text,
+            left_out: judged.left_out,
+        })
     }
 }

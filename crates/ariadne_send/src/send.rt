@@ -1,8 +1,9 @@
 //! Sending a picture that is whole.
 
 ghost use Rattle.std.specs.Prelude.{Some, codes, ◌++◌, decimal};
-ghost use Rattle.ariadne_send.specs.Sent.{Sends, shown_error};
+ghost use Rattle.ariadne_send.specs.Sent.{GoesOn, Sends, TellsFailure, shown_error};
 
+use crate::sink::Sink;
 use std::alloc::AllocError;
 use std::error::Error;
 use std::io::{ErrorKind, Write};
@@ -53,14 +54,34 @@ pub fn send<W: Write>(out: &mut W, bytes: &[u8]) -> Result<(), WriteError>
 {
     let mut sent = 0;
     while sent < bytes.len() {
-        match out.write(&bytes[sent..]) {
-            Ok(0) => {
-                let fault = io::Error::from(ErrorKind::WriteZero);
-                return Err(WriteError::Io { sent, fault });
-            }
-            Ok(taken) => sent += taken,
-            Err(fault) => return Err(WriteError::Io { sent, fault }),
-        }
+        sent += taken(sent, out.write(&bytes[sent..]))?;
     }
     Ok(())
+}
+
+/// Sends all bytes by the sink's `take`, and stops at its first fault. It takes no memory.
+pub fn send_to<K: Sink>(out: &mut K, bytes: &[u8]) -> Result<(), WriteError>
+    ensures sends { Sends (K.contents out.old) (K.contents out.new) bytes.now result }
+    ensures failed { TellsFailure (K.has_failed out.old) (K.has_failed out.new) result }
+{
+    let mut sent = 0;
+    while sent < bytes.len() {
+        sent += taken(sent, out.take(&bytes[sent..]))?;
+    }
+    Ok(())
+}
+
+/// How many bytes were taken of a piece that is not empty, when `sent` bytes were sent before it. A
+/// fault, or nothing taken, is why no more is sent.
+fn taken(sent: usize, told: io::Result<usize>) -> Result<usize, WriteError>
+    ensures { GoesOn sent told result }
+{
+    match told {
+        Ok(0) => {
+            let fault = io::Error::from(ErrorKind::WriteZero);
+            Err(WriteError::Io { sent, fault })
+        }
+        Ok(taken) => Ok(taken),
+        Err(fault) => Err(WriteError::Io { sent, fault }),
+    }
 }

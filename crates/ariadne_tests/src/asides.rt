@@ -1,13 +1,185 @@
 //! Helps and notes.
 
-use crate::helpers::{assert_bytes, assert_picture, labelled, plain, plain_error};
+use crate::helpers::{
+    Aside, BARE, Case, SILENT, Switch, assert_cases, assert_picture, plain_error,
+};
 use ariadne::{Label, Report, ReportBuilder};
+use std::alloc::AllocError;
 use std::process::Abort;
 use std::test::Fail;
 
-/// A report in the making with a label in an empty source, which shows its line and no more.
-fn pointing(rt: &impl AllocGlobal) -> Result<ReportBuilder<'static>, Fail> {
-    Ok(plain_error(rt.alloc()).with_label(Label::new(0..0))?)
+/// Most point at an empty source, which shows its line and no more.
+const CASES: &[Case] = &[
+    Case {
+        name: "a report without labels shows no helps and notes",
+        message: Some("can't compare apples with oranges"),
+        asides: &[Aside::Help("h"), Aside::Note("n")],
+        rows: &["Error: can't compare apples with oranges"],
+        is_whole: true,
+        ..BARE
+    },
+    Case {
+        name: "an empty help has no line",
+        labels: &[(0, 0, "m")],
+        asides: &[Aside::Help(""), Aside::Help("h")],
+        rows: &[
+            "Error:",
+            "   ,-[ <unknown>:1:1 ]",
+            "   |",
+            " 1 |",
+            "   | |",
+            "   | `- m",
+            "   |",
+            "   |",
+            "   | Help 2: h",
+            "---'",
+        ],
+        ..BARE
+    },
+    Case {
+        name: "helps stand before notes whatever their order",
+        marks: &[SILENT],
+        asides: &[Aside::Note("n"), Aside::Help("h")],
+        rows: &[
+            "Error:",
+            "   ,-[ <unknown>:1:1 ]",
+            "   |",
+            " 1 |",
+            "   |",
+            "   | Help: h",
+            "   |",
+            "   | Note: n",
+            "---'",
+        ],
+        ..BARE
+    },
+    Case {
+        name: "a note is cut at its line feeds, and a CR in front of one is dropped",
+        marks: &[SILENT],
+        asides: &[Aside::Note("a\r\nb")],
+        rows: &[
+            "Error:",
+            "   ,-[ <unknown>:1:1 ]",
+            "   |",
+            " 1 |",
+            "   |",
+            "   | Note: a",
+            "   |       b",
+            "---'",
+        ],
+        ..BARE
+    },
+    Case {
+        name: "a note is cut at its line feeds, and a last one opens no further line",
+        marks: &[SILENT],
+        asides: &[Aside::Note("a\nb\n")],
+        rows: &[
+            "Error:",
+            "   ,-[ <unknown>:1:1 ]",
+            "   |",
+            " 1 |",
+            "   |",
+            "   | Note: a",
+            "   |       b",
+            "---'",
+        ],
+        ..BARE
+    },
+    Case {
+        name: "a note is cut at its line feeds, also in front of a last one",
+        marks: &[SILENT],
+        asides: &[Aside::Note("a\n\n")],
+        rows: &[
+            "Error:",
+            "   ,-[ <unknown>:1:1 ]",
+            "   |",
+            " 1 |",
+            "   |",
+            "   | Note: a",
+            "   |",
+            "---'",
+        ],
+        ..BARE
+    },
+    Case {
+        name: "a note is cut at its line feeds, and a bare CR is kept",
+        marks: &[SILENT],
+        asides: &[Aside::Note("a\rb\nc")],
+        rows: &[
+            "Error:",
+            "   ,-[ <unknown>:1:1 ]",
+            "   |",
+            " 1 |",
+            "   |",
+            "   | Note: a\rb",
+            "   |       c",
+            "---'",
+        ],
+        ..BARE
+    },
+    Case {
+        name: "lines below the first stand under its text",
+        marks: &[SILENT],
+        asides: &[Aside::Help("p"), Aside::Help("q\nr")],
+        rows: &[
+            "Error:",
+            "   ,-[ <unknown>:1:1 ]",
+            "   |",
+            " 1 |",
+            "   |",
+            "   | Help 1: p",
+            "   |",
+            "   | Help 2: q",
+            "   |         r",
+            "---'",
+        ],
+        ..BARE
+    },
+    Case {
+        name: "under gutters helps and notes are moved in",
+        text: "a\nb",
+        labels: &[(0, 3, "x")],
+        asides: &[Aside::Help("h"), Aside::Note("n\nm")],
+        rows: &[
+            "Error:",
+            "   ,-[ <unknown>:1:1 ]",
+            "   |",
+            " 1 | ,-> a",
+            " 2 | |-> b",
+            "   | |",
+            "   | `------ x",
+            "   |",
+            "   |     Help: h",
+            "   |",
+            "   |     Note: n",
+            "   |           m",
+            "---'",
+        ],
+        ..BARE
+    },
+    Case {
+        name: "compact pictures have no rows between helps and notes",
+        text: "a\nb",
+        config: &[Switch::Compact],
+        labels: &[(0, 3, "x")],
+        asides: &[Aside::Help("h"), Aside::Note("n")],
+        rows: &[
+            "Error: ",
+            "   ,-[ <unknown>:1:1 ]",
+            " 1 |,>a",
+            " 2 ||>b",
+            "   |`--- x",
+            "   |  Help: h",
+            "   |  Note: n",
+        ],
+        is_whole: true,
+        ..BARE
+    },
+];
+
+#[test]
+fn helps_and_notes_stand_below_the_lines(rt: HostRuntime) -> Result<(), Fail> {
+    assert_cases(&rt, CASES)
 }
 
 /// Asserts what stands between the only line and the tail.
@@ -23,68 +195,29 @@ fn assert_asides(
     assert_picture(rt, report, "", &rows)
 }
 
-#[test]
-fn a_report_without_labels_shows_no_helps_and_notes(rt: HostRuntime) -> Result<(), Fail> {
-    let builder = plain_error(rt.alloc()).with_message("can't compare apples with oranges")?;
-    let report = builder.with_help("h")?.with_note("n")?.finish();
-    let rows = ["Error: can't compare apples with oranges"];
-    assert_bytes(&rt, &report, "", &rows)
-}
-
-#[test]
-fn an_empty_help_has_no_line(rt: HostRuntime) -> Result<(), Fail> {
-    let label = Label::new(0..0).with_message(rt.alloc(), "m")?;
-    let builder = plain_error(rt.alloc()).with_label(label)?;
-    let report = builder.with_help("")?.with_help("h")?.finish();
-    let asides = ["   | |", "   | `- m", "   |", "   |", "   | Help 2: h"];
-    assert_asides(&rt, &report, &asides)
-}
-
-#[test]
-fn helps_stand_before_notes_whatever_their_order(rt: HostRuntime) -> Result<(), Fail> {
-    let report = pointing(&rt)?.with_note("n")?.with_help("h")?.finish();
-    let asides = ["   |", "   | Help: h", "   |", "   | Note: n"];
-    assert_asides(&rt, &report, &asides)
-}
-
-#[test]
-fn a_note_is_cut_at_its_line_feeds(rt: HostRuntime) -> Result<(), Fail> {
-    let cases = [
-        ("a\r\nb", ["   | Note: a", "   |       b"]),
-        ("a\nb\n", ["   | Note: a", "   |       b"]), // a last one opens no further line
-        ("a\n\n", ["   | Note: a", "   |"]),
-        ("a\rb\nc", ["   | Note: a\rb", "   |       c"]), // a bare CR is kept
-    ];
-    for (note, [first, second]) in cases {
-        let report = pointing(&rt)?.with_note(note)?.finish();
-        assert_asides(&rt, &report, &["   |", first, second])?;
+/// A report in the making, at the line of an empty source, whose note `a` was set to `b`, or whose
+/// help.
+fn set(rt: &impl AllocGlobal, is_help: bool) -> Result<ReportBuilder<'static>, AllocError> {
+    let builder = plain_error(rt.alloc()).with_label(Label::new(0..0))?;
+    if is_help {
+        let mut builder = builder.with_help("a")?;
+        builder.set_help("b")?;
+        Ok(builder)
+    } else {
+        let mut builder = builder.with_note("a")?;
+        builder.set_note("b")?;
+        Ok(builder)
     }
-    Ok(())
 }
 
 #[test]
-fn lines_below_the_first_stand_under_its_text(rt: HostRuntime) -> Result<(), Fail> {
-    let report = pointing(&rt)?.with_help("p")?.with_help("q\nr")?.finish();
-    let asides = [
-        "   |",
-        "   | Help 1: p",
-        "   |",
-        "   | Help 2: q",
-        "   |         r",
-    ];
-    assert_asides(&rt, &report, &asides)
-}
-
-#[test]
-fn a_set_note_stands_alone_and_added_ones_behind_it(rt: HostRuntime) -> Result<(), Fail> {
-    let mut builder = pointing(&rt)?.with_note("a")?;
-    builder.set_note("b")?;
-    assert_asides(&rt, &builder.finish(), &["   |", "   | Note: b"])?;
-    let mut builder = pointing(&rt)?.with_note("a")?;
-    builder.set_note("b")?;
+fn a_set_help_or_note_stands_alone_and_added_ones_behind_it(rt: HostRuntime) -> Result<(), Fail> {
+    assert_asides(&rt, &set(&rt, false)?.finish(), &["   |", "   | Note: b"])?;
+    assert_asides(&rt, &set(&rt, true)?.finish(), &["   |", "   | Help: b"])?;
+    let mut builder = set(&rt, false)?;
     builder.with_notes(["c", "d"])?;
     builder.add_note("e")?;
-    let asides = [
+    let notes = [
         "   |",
         "   | Note 1: b",
         "   |",
@@ -94,19 +227,11 @@ fn a_set_note_stands_alone_and_added_ones_behind_it(rt: HostRuntime) -> Result<(
         "   |",
         "   | Note 4: e",
     ];
-    assert_asides(&rt, &builder.finish(), &asides)
-}
-
-#[test]
-fn a_set_help_stands_alone_and_added_ones_behind_it(rt: HostRuntime) -> Result<(), Fail> {
-    let mut builder = pointing(&rt)?.with_help("a")?;
-    builder.set_help("b")?;
-    assert_asides(&rt, &builder.finish(), &["   |", "   | Help: b"])?;
-    let mut builder = pointing(&rt)?.with_help("a")?;
-    builder.set_help("b")?;
+    assert_asides(&rt, &builder.finish(), &notes)?;
+    let mut builder = set(&rt, true)?;
     builder.with_helps(["c", "d"])?;
     builder.add_help("e")?;
-    let asides = [
+    let helps = [
         "   |",
         "   | Help 1: b",
         "   |",
@@ -116,49 +241,5 @@ fn a_set_help_stands_alone_and_added_ones_behind_it(rt: HostRuntime) -> Result<(
         "   |",
         "   | Help 4: e",
     ];
-    assert_asides(&rt, &builder.finish(), &asides)
-}
-
-#[test]
-fn under_gutters_helps_and_notes_are_moved_in(rt: HostRuntime) -> Result<(), Fail> {
-    let mut builder = plain_error(rt.alloc()).with_help("h")?;
-    builder.add_note("n\nm")?;
-    let report = labelled(&rt, builder, &[(0, 3, "x")])?;
-    assert_picture(
-        &rt,
-        &report,
-        "a\nb",
-        &[
-            "Error:",
-            "   ,-[ <unknown>:1:1 ]",
-            "   |",
-            " 1 | ,-> a",
-            " 2 | |-> b",
-            "   | |",
-            "   | `------ x",
-            "   |",
-            "   |     Help: h",
-            "   |",
-            "   |     Note: n",
-            "   |           m",
-            "---'",
-        ],
-    )
-}
-
-#[test]
-fn compact_pictures_have_no_rows_between_helps_and_notes(rt: HostRuntime) -> Result<(), Fail> {
-    let config = plain().with_compact(true);
-    let builder = plain_error(rt.alloc()).with_config(config).with_help("h")?;
-    let report = labelled(&rt, builder.with_note("n")?, &[(0, 3, "x")])?;
-    let rows = [
-        "Error: ",
-        "   ,-[ <unknown>:1:1 ]",
-        " 1 |,>a",
-        " 2 ||>b",
-        "   |`--- x",
-        "   |  Help: h",
-        "   |  Note: n",
-    ];
-    assert_bytes(&rt, &report, "a\nb", &rows)
+    assert_asides(&rt, &builder.finish(), &helps)
 }

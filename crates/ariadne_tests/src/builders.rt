@@ -37,7 +37,7 @@ fn labels_are_added_behind_those_that_are_there(rt: HostRuntime) -> Result<(), F
 }
 
 #[test]
-fn the_last_message_counts(rt: HostRuntime) -> Result<(), Fail> {
+fn the_last_message_of_a_report_or_a_label_counts(rt: HostRuntime) -> Result<(), Fail> {
     let report = plain_error(rt.alloc()).with_message("first")?;
     let mut report = report.with_message("second")?;
     assert_bytes(&rt, &report.finish(), "", &["Error: second"])?;
@@ -46,15 +46,10 @@ fn the_last_message_counts(rt: HostRuntime) -> Result<(), Fail> {
     assert_bytes(&rt, &report.finish(), "", &["Error: third"])?;
     let mut report = plain_error(rt.alloc());
     report.set_message("")?;
-    assert_bytes(&rt, &report.finish(), "", &["Error: "])
-}
-
-#[test]
-fn a_label_says_its_last_message(rt: HostRuntime) -> Result<(), Fail> {
-    let alloc = rt.alloc();
-    let label = Label::new(0..1).with_message(alloc, "first")?;
-    let label = label.with_message(alloc, "second")?;
-    let report = plain_error(alloc).with_label(label)?.finish();
+    assert_bytes(&rt, &report.finish(), "", &["Error: "])?;
+    let label = Label::new(0..1).with_message(rt.alloc(), "first")?;
+    let label = label.with_message(rt.alloc(), "second")?;
+    let report = plain_error(rt.alloc()).with_label(label)?.finish();
     let rows = [
         "Error:",
         "   ,-[ <unknown>:1:1 ]",
@@ -65,22 +60,6 @@ fn a_label_says_its_last_message(rt: HostRuntime) -> Result<(), Fail> {
         "---'",
     ];
     assert_picture(&rt, &report, "a", &rows)
-}
-
-#[test]
-fn an_empty_message_is_one(rt: HostRuntime) -> Result<(), Fail> {
-    let label = Label::new(0..1).with_message(rt.alloc(), "")?;
-    let report = plain_error(rt.alloc()).with_label(label)?.finish();
-    let rows = [
-        "Error: ",
-        "   ,-[ <unknown>:1:1 ]",
-        "   |",
-        " 1 | a",
-        "   | |  ",
-        "   | `-- ",
-        "---'",
-    ];
-    assert_bytes(&rt, &report, "a", &rows)
 }
 
 #[test]

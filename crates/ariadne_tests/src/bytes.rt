@@ -1,127 +1,169 @@
 //! Offsets in bytes.
 
 use crate::helpers::{
-    Why, assert_left_out, assert_trimmed, labelled, plain, plain_error, plain_error_at, source_of,
-    written,
+    BARE, Case, Switch, Why, assert_cases, labelled, plain, plain_error, source_of, written,
 };
-use ariadne::{IndexType, Reason, Report};
-use std::alloc::AllocError;
+use ariadne::{IndexType, Reason};
 use std::process::Abort;
 use std::test::Fail;
 
-/// A report that starts at a byte, with these labels in bytes.
-fn in_bytes(
-    rt: &(impl Abort + AllocGlobal),
-    start: usize,
-    labels: &[(usize, usize, &str)],
-) -> Result<Report<'static>, AllocError> {
-    let config = plain().with_index_type(IndexType::Byte);
-    let builder = plain_error_at(rt.alloc(), start..start).with_config(config);
-    labelled(rt, builder, labels)
-}
-
-/// Asserts what is drawn of labels in bytes, and which are left out.
-fn assert_in_bytes(
-    rt: &(impl Abort + AllocGlobal),
-    report: &Report<'_>,
-    text: &str,
-    wanted: &[(usize, Why)],
-    rows: &[&str],
-) -> Result<(), Fail> {
-    let (picture, left_out) = written(rt, report, &mut source_of(rt.alloc(), text)?)?;
-    assert_left_out(rt, &left_out, wanted);
-    assert_trimmed(rt, picture.as_str(), rows)
-}
-
-#[test]
-fn an_empty_label_stands_behind_the_last_line(rt: HostRuntime) -> Result<(), Fail> {
-    let report = in_bytes(&rt, 9, &[(9, 9, "Unexpected end of file")])?;
-    let rows = [
-        "Error:",
-        "   ,-[ <unknown>:1:10 ]",
-        "   |",
-        " 1 | apple ==",
-        "   |          |",
-        "   |          `- Unexpected end of file",
-        "---'",
-    ];
-    assert_in_bytes(&rt, &report, "apple ==\n", &[], &rows)
-}
-
-#[test]
-fn a_label_that_cuts_a_character_is_left_out(rt: HostRuntime) -> Result<(), Fail> {
-    let report = in_bytes(&rt, 0, &[(1, 2, "m")])?;
-    assert_in_bytes(&rt, &report, "é", &[(0, Why::CutsCharacter)], &["Error:"])
-}
-
-#[test]
-fn the_place_of_a_byte_inside_a_character_is_unknown(rt: HostRuntime) -> Result<(), Fail> {
-    for (start, head) in [
-        (0, "   ,-[ <unknown>:1:1 ]"),
-        (1, "   ,-[ <unknown>:?:? ]"),
-        (2, "   ,-[ <unknown>:1:2 ]"), // the end is a place of the source
-        (3, "   ,-[ <unknown>:?:? ]"),
-    ] {
-        let report = in_bytes(&rt, start, &[(0, 2, "m")])?;
-        let rows = [
+/// Most have offsets in bytes.
+const CASES: &[Case] = &[
+    Case {
+        name: "an empty label stands behind the last line",
+        text: "apple ==\n",
+        span: (9, 9),
+        config: &[Switch::Bytes],
+        labels: &[(9, 9, "Unexpected end of file")],
+        rows: &[
             "Error:",
-            head,
+            "   ,-[ <unknown>:1:10 ]",
+            "   |",
+            " 1 | apple ==",
+            "   |          |",
+            "   |          `- Unexpected end of file",
+            "---'",
+        ],
+        ..BARE
+    },
+    Case {
+        name: "a label that cuts a character is left out",
+        text: "é",
+        config: &[Switch::Bytes],
+        labels: &[(1, 2, "m")],
+        left_out: &[(0, Why::CutsCharacter)],
+        rows: &["Error:"],
+        ..BARE
+    },
+    Case {
+        name: "the place of the first byte of a character is that of the character",
+        text: "é",
+        span: (0, 0),
+        config: &[Switch::Bytes],
+        labels: &[(0, 2, "m")],
+        rows: &[
+            "Error:",
+            "   ,-[ <unknown>:1:1 ]",
             "   |",
             " 1 | é",
             "   | |",
             "   | `-- m",
             "---'",
-        ];
-        assert_in_bytes(&rt, &report, "é", &[], &rows)?;
-    }
-    Ok(())
-}
+        ],
+        ..BARE
+    },
+    Case {
+        name: "the place of a byte inside a character is unknown",
+        text: "é",
+        span: (1, 1),
+        config: &[Switch::Bytes],
+        labels: &[(0, 2, "m")],
+        rows: &[
+            "Error:",
+            "   ,-[ <unknown>:?:? ]",
+            "   |",
+            " 1 | é",
+            "   | |",
+            "   | `-- m",
+            "---'",
+        ],
+        ..BARE
+    },
+    Case {
+        name: "the end in bytes is a place of the source",
+        text: "é",
+        span: (2, 2),
+        config: &[Switch::Bytes],
+        labels: &[(0, 2, "m")],
+        rows: &[
+            "Error:",
+            "   ,-[ <unknown>:1:2 ]",
+            "   |",
+            " 1 | é",
+            "   | |",
+            "   | `-- m",
+            "---'",
+        ],
+        ..BARE
+    },
+    Case {
+        name: "the place of a byte past the end is unknown",
+        text: "é",
+        span: (3, 3),
+        config: &[Switch::Bytes],
+        labels: &[(0, 2, "m")],
+        rows: &[
+            "Error:",
+            "   ,-[ <unknown>:?:? ]",
+            "   |",
+            " 1 | é",
+            "   | |",
+            "   | `-- m",
+            "---'",
+        ],
+        ..BARE
+    },
+    Case {
+        name: "the first reason of a label is told",
+        text: "é",
+        config: &[Switch::Bytes],
+        labels: &[
+            (0, 3, "drawn to the end"),
+            (1, 3, "starts inside"),
+            (1, 4, "ends past"),
+            (3, 3, "starts past"),
+        ],
+        left_out: &[
+            (1, Why::CutsCharacter),
+            (2, Why::PastSource), // it cuts the character too
+            (3, Why::PastSource),
+        ],
+        rows: &[
+            "Error:",
+            "   ,-[ <unknown>:1:1 ]",
+            "   |",
+            " 1 | é",
+            "   | |",
+            "   | `-- drawn to the end",
+            "---'",
+        ],
+        ..BARE
+    },
+    Case {
+        name: "bytes draw as their characters",
+        text: "äpplë == örängë;",
+        span: (11, 11),
+        config: &[Switch::Bytes],
+        labels: &[(0, 7, "This is an äpplë"), (11, 20, "This is an örängë")],
+        rows: &FRUIT,
+        ..BARE
+    },
+    Case {
+        name: "characters draw as their bytes",
+        text: "äpplë == örängë;",
+        span: (9, 9),
+        labels: &[(0, 5, "This is an äpplë"), (9, 15, "This is an örängë")],
+        rows: &FRUIT,
+        ..BARE
+    },
+];
+
+/// The rows of two labels over characters of two bytes.
+const FRUIT: [&str; 9] = [
+    "Error:",
+    "   ,-[ <unknown>:1:10 ]",
+    "   |",
+    " 1 | äpplë == örängë;",
+    "   | ^^|^^    ^^^|^^",
+    "   |   `-------------- This is an äpplë",
+    "   |             |",
+    "   |             `---- This is an örängë",
+    "---'",
+];
 
 #[test]
-fn the_first_reason_of_a_label_is_told(rt: HostRuntime) -> Result<(), Fail> {
-    let labels = [
-        (0, 3, "drawn to the end"),
-        (1, 3, "starts inside"),
-        (1, 4, "ends past"),
-        (3, 3, "starts past"),
-    ];
-    let report = in_bytes(&rt, 0, &labels)?;
-    let wanted = [
-        (1, Why::CutsCharacter),
-        (2, Why::PastSource), // it cuts the character too
-        (3, Why::PastSource),
-    ];
-    let rows = [
-        "Error:",
-        "   ,-[ <unknown>:1:1 ]",
-        "   |",
-        " 1 | é",
-        "   | |",
-        "   | `-- drawn to the end",
-        "---'",
-    ];
-    assert_in_bytes(&rt, &report, "é", &wanted, &rows)
-}
-
-#[test]
-fn bytes_draw_as_their_characters(rt: HostRuntime) -> Result<(), Fail> {
-    let rows = [
-        "Error:",
-        "   ,-[ <unknown>:1:10 ]",
-        "   |",
-        " 1 | äpplë == örängë;",
-        "   | ^^|^^    ^^^|^^",
-        "   |   `-------------- This is an äpplë",
-        "   |             |",
-        "   |             `---- This is an örängë",
-        "---'",
-    ];
-    let text = "äpplë == örängë;";
-    let labels = [(0, 7, "This is an äpplë"), (11, 20, "This is an örängë")];
-    assert_in_bytes(&rt, &in_bytes(&rt, 11, &labels)?, text, &[], &rows)?;
-    let labels = [(0, 5, "This is an äpplë"), (9, 15, "This is an örängë")];
-    let report = labelled(&rt, plain_error_at(rt.alloc(), 9..9), &labels)?;
-    assert_in_bytes(&rt, &report, text, &[], &rows)
+fn offsets_may_count_bytes(rt: HostRuntime) -> Result<(), Fail> {
+    assert_cases(&rt, CASES)
 }
 
 #[test]
@@ -130,11 +172,10 @@ fn every_span_of_bytes_is_answered(rt: HostRuntime) -> Result<(), Fail> {
     let mut source = source_of(rt.alloc(), text)?;
     for start in 0..=text.len() {
         for end in start..=text.len() {
-            let (_, left_out) = written(
-                &rt,
-                &in_bytes(&rt, 0, &[(start, end, "Label")])?,
-                &mut source,
-            )?;
+            let config = plain().with_index_type(IndexType::Byte);
+            let builder = plain_error(rt.alloc()).with_config(config);
+            let report = labelled(&rt, builder, &[(start, end, "Label")])?;
+            let (_, left_out) = written(&rt, &report, &mut source)?;
             assert!(rt; left_out.is_empty(), "of {start}..{end}");
         }
     }

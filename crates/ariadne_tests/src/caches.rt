@@ -6,8 +6,8 @@ ghost use Rattle.std.specs.Cmp.Lexicographic.{bytes_decides};
 ghost use Rattle.std.proofs.Common.{ap};
 
 use crate::helpers::{
-    Piece, Why, assert_left_out, assert_picture_over, assert_trimmed, labelled, labelled_in,
-    plain_error, plain_error_at, written,
+    Piece, Why, assert_left_out, assert_missing, assert_picture_over, assert_shown, assert_unknown,
+    labelled, labelled_in, plain_error, plain_error_at, written,
 };
 use ariadne::{
     Cache, FetchError, FnCache, Label, LeftOut, Reason, Report, Source, SourceMap, UnknownSource,
@@ -50,75 +50,140 @@ fn two_labels(rt: &(impl Abort + AllocGlobal)) -> Result<Report<'static, Piece>,
     labelled_in(rt, builder, &[("x", 0, 1, "p"), ("x", 1, 2, "q")])
 }
 
-/// Asserts that all these labels are left out since their sources can't be had, and which number
-/// is told of each.
-fn assert_told(rt: &impl Abort, left_out: &[LeftOut<u8>], wanted: &[u8]) {
-    assert_eq!(rt; left_out.len(), wanted.len());
+/// Asserts that all these labels are left out by what is named since their sources can't be had, and
+/// which number is told of each.
+fn assert_told(rt: &impl Abort, name: &str, left_out: &[LeftOut<u8>], wanted: &[u8]) {
+    assert_eq!(rt; left_out.len(), wanted.len(), "of {name}");
     for (left, want) in left_out.iter().zip(wanted) {
         let is_told = match left.reason {
             Reason::Unfetched(told) => told == *want,
             _ => false,
         };
-        assert!(rt; is_told);
+        assert!(rt; is_told, "of {name}");
     }
 }
 
-#[test]
-fn a_function_is_called_once_for_all_labels_and_reports(rt: HostRuntime) -> Result<(), Fail> {
-    let calls = Cell::new(0u8);
-    let mut cache: FnCache<&str, _, &str> = FnCache::new(
-        rt.alloc(),
-        |_id: &&str| -> Result<&str, ()> {
-            calls.set(calls.get().wrapping_add(1));
-            Ok("ab")
-        },
-    );
-    let report = two_labels(&rt)?;
-    for _ in 0..2 {
-        assert_picture_over(&rt, &report, &mut cache, &[], &TWO)?;
-        assert_eq!(rt; calls.get(), 1);
-    }
-    Ok(())
+/// What comes of writing the two labels once more.
+#[derive(Clone, Copy)]
+struct Round {
+    rows: &'static [&'static str],
+    is_whole: bool,
+    left_out: &'static [(usize, Why)],
+    /// What is told of each label that is left out.
+    told: &'static [u8],
+    /// How often the function was called by now.
+    calls: u8,
 }
 
-#[test]
-fn a_function_that_failed_is_called_for_the_next_label(rt: HostRuntime) -> Result<(), Fail> {
+/// A function whose first calls fail, and what comes of it.
+#[derive(Clone, Copy)]
+struct Faulty {
+    name: &'static str,
+    /// How many of its first calls fail.
+    faults: u8,
+    /// The first of them tells the number behind this one, and so on.
+    told: u8,
+    rounds: &'static [Round],
+    /// Whether the cache holds the source at the end.
+    is_held: bool,
+}
+
+/// Functions that are asked for the text of `x`.
+const FAULTY: &[Faulty] = &[
+    Faulty {
+        name: "a function is called once for all labels and reports",
+        faults: 0,
+        told: 0,
+        rounds: &[
+            Round {
+                rows: &TWO,
+                is_whole: false,
+                left_out: &[],
+                told: &[],
+                calls: 1,
+            },
+            Round {
+                rows: &TWO,
+                is_whole: false,
+                left_out: &[],
+                told: &[],
+                calls: 1,
+            },
+        ],
+        is_held: true,
+    },
+    Faulty {
+        name: "a function that failed is called for the next label",
+        faults: 1,
+        told: 6,
+        rounds: &[
+            Round {
+                rows: &SECOND,
+                is_whole: false,
+                left_out: &[(0, Why::Unfetched)],
+                told: &[7],
+                calls: 2,
+            },
+            // By now the source is held.
+            Round {
+                rows: &TWO,
+                is_whole: false,
+                left_out: &[],
+                told: &[],
+                calls: 2,
+            },
+        ],
+        is_held: true,
+    },
+    Faulty {
+        name: "of a function that fails always nothing is drawn",
+        faults: u8::MAX,
+        told: 0,
+        rounds: &[Round {
+            rows: &["Error: "],
+            is_whole: true,
+            left_out: &[(0, Why::Unfetched), (1, Why::Unfetched)],
+            told: &[1, 2],
+            calls: 2,
+        }],
+        is_held: false,
+    },
+];
+
+/// Asserts what comes of a function.
+fn assert_called(rt: &(impl Abort + AllocGlobal), faulty: &Faulty) -> Result<(), Fail> {
+    let name = faulty.name;
+    let faults = faulty.faults;
+    let told = faulty.told;
     let calls = Cell::new(0u8);
     let mut cache: FnCache<&str, _, &str> = FnCache::new(
         rt.alloc(),
         |_id: &&str| -> Result<&str, u8> {
             calls.set(calls.get().wrapping_add(1));
-            if calls.get() == 1 { Err(7) } else { Ok("ab") }
+            if calls.get() <= faults {
+                Err(calls.get().wrapping_add(told))
+            } else {
+                Ok("ab")
+            }
         },
     );
-    let report = two_labels(&rt)?;
-    let (picture, left_out) = written(&rt, &report, &mut cache)?;
-    assert_trimmed(&rt, picture.as_str(), &SECOND)?;
-    assert_left_out(&rt, &left_out, &[(0, Why::Unfetched)]);
-    assert_told(&rt, &left_out, &[7]);
-    assert_eq!(rt; calls.get(), 2);
-    // By now the source is held.
-    assert_picture_over(&rt, &report, &mut cache, &[], &TWO)?;
-    assert_eq!(rt; calls.get(), 2);
+    let report = two_labels(rt)?;
+    for round in faulty.rounds {
+        let (picture, left_out) = written(rt, &report, &mut cache)?;
+        assert_shown(rt, name, picture.as_str(), round.rows, round.is_whole)?;
+        assert_missing(rt, name, &left_out, round.left_out);
+        assert_told(rt, name, &left_out, round.told);
+        assert_eq!(rt; calls.get(), round.calls, "of {name}");
+    }
+    assert_eq!(rt; cache.get(&"x").is_some(), faulty.is_held, "of {name}");
     Ok(())
 }
 
 #[test]
-fn of_a_function_that_fails_always_nothing_is_drawn(rt: HostRuntime) -> Result<(), Fail> {
-    let calls = Cell::new(0u8);
-    let mut cache: FnCache<&str, _, &str> = FnCache::new(
-        rt.alloc(),
-        |_id: &&str| -> Result<&str, u8> {
-            calls.set(calls.get().wrapping_add(1));
-            Err(calls.get())
-        },
-    );
-    let (picture, left_out) = written(&rt, &two_labels(&rt)?, &mut cache)?;
-    assert_eq!(rt; picture.as_str(), "Error: \n");
-    assert_left_out(&rt, &left_out, &[(0, Why::Unfetched), (1, Why::Unfetched)]);
-    assert_told(&rt, &left_out, &[1, 2]);
-    assert_eq!(rt; calls.get(), 2);
-    assert!(rt; cache.get(&"x").is_none());
+fn a_function_is_called_until_it_answers(rt: HostRuntime) -> Result<(), Fail> {
+    for faulty in FAULTY {
+        assert_called(&rt, faulty)?;
+    }
     Ok(())
 }
 
@@ -154,35 +219,6 @@ fn the_sources_of_labels_are_fetched_and_that_of_the_report_is_not(
 }
 
 #[test]
-fn given_sources_are_drawn_without_a_call(rt: HostRuntime) -> Result<(), Fail> {
-    let alloc = rt.alloc();
-    let cache: FnCache<&str, _, &str> = FnCache::new(alloc, |_id: &&str| -> Result<&str, u8> {
-        Err(7)
-    });
-    let mut given = HashMap::new(alloc);
-    given.insert("x", Source::from(alloc, "ab")?)?;
-    let mut cache = cache.with_sources(given)?;
-    assert_picture_over(&rt, &two_labels(&rt)?, &mut cache, &[], &TWO)
-}
-
-#[test]
-fn the_last_text_of_an_id_is_drawn(rt: HostRuntime) -> Result<(), Fail> {
-    let mut map = sources(rt.alloc(), [("a", "x"), ("a", "y")])?;
-    let builder = plain_error_at(rt.alloc(), ("a", 0..0));
-    let report = labelled_in(&rt, builder, &[("a", 0, 1, "m")])?;
-    let rows = [
-        "Error:",
-        "   ,-[ a:1:1 ]",
-        "   |",
-        " 1 | y",
-        "   | |",
-        "   | `-- m",
-        "---'",
-    ];
-    assert_picture_over(&rt, &report, &mut map, &[], &rows)
-}
-
-#[test]
 fn a_report_is_drawn_alike_over_each_cache_of_its_source(rt: HostRuntime) -> Result<(), Fail> {
     let alloc = rt.alloc();
     let report = two_labels(&rt)?;
@@ -192,7 +228,15 @@ fn a_report_is_drawn_alike_over_each_cache_of_its_source(rt: HostRuntime) -> Res
     assert_picture_over(&rt, &report, &mut Box::new(alloc, map)?, &[], &TWO)?;
     let source = Source::from(alloc, "ab")?;
     assert_picture_over(&rt, &report, &mut ("x", &source), &[], &TWO)?;
-    assert_picture_over(&rt, &report, &mut ("x", source), &[], &TWO)
+    assert_picture_over(&rt, &report, &mut ("x", source), &[], &TWO)?;
+    // Sources that were given are drawn without a call.
+    let cache: FnCache<&str, _, &str> = FnCache::new(alloc, |_id: &&str| -> Result<&str, ()> {
+        Err(())
+    });
+    let mut given = HashMap::new(alloc);
+    given.insert("x", Source::from(alloc, "ab")?)?;
+    let mut cache = cache.with_sources(given)?;
+    assert_picture_over(&rt, &report, &mut cache, &[], &TWO)
 }
 
 #[test]
@@ -247,13 +291,20 @@ fn an_inclusive_span_holds_its_last_offset(rt: HostRuntime) -> Result<(), Fail> 
 }
 
 #[test]
-fn a_name_goes_out_as_it_is(rt: HostRuntime) -> Result<(), Fail> {
-    let mut map = sources(rt.alloc(), [("a\x1b[1m\nb", "ab")])?;
-    let builder = plain_error_at(rt.alloc(), ("x", 0..0));
-    let report = labelled_in(&rt, builder, &[("a\x1b[1m\nb", 1, 2, "q")])?;
-    let mut rows = SECOND;
-    rows[1] = "   ,-[ a\x1b[1m\nb:1:2 ]";
-    assert_picture_over(&rt, &report, &mut map, &[], &rows)
+fn a_pair_has_no_source_of_another_id(rt: HostRuntime) -> Result<(), Fail> {
+    let alloc = rt.alloc();
+    let builder = plain_error_at(alloc, ("a", 0..0));
+    let report = labelled_in(&rt, builder, &[("b", 0, 1, "m")])?;
+    let mut pair = ("a", Source::from(alloc, "ab")?);
+    let (picture, left_out) = written(&rt, &report, &mut pair)?;
+    assert_eq!(rt; picture.as_str(), "Error: \n");
+    assert_left_out(&rt, &left_out, &[(0, Why::Unfetched)]);
+    assert_unknown(
+        &rt,
+        "the report",
+        &left_out,
+        &["Failed to fetch source 'b'"],
+    )
 }
 
 /// A map of sources that shows no name for one of its ids.

@@ -1,10 +1,18 @@
 //! Pictures with colours, and which label a character is painted for.
 
-use crate::helpers::{assert_bytes, colored, labelled, plain, plain_error};
-use ariadne::{Color, Config, IndexType, Label, Report, ReportBuilder, ReportKind};
-use std::alloc::Global;
-use std::process::Abort;
+use crate::helpers::{Aside, BARE, Case, Mark, SILENT, Switch, assert_cases};
+use ariadne::{Color, ReportKind};
 use std::test::Fail;
+
+/// An error with colours, whose rows are whole.
+const COLORED: Case = Case {
+    config: &[Switch::Colors],
+    is_whole: true,
+    ..BARE
+};
+
+/// A label over the first character.
+const FIRST: Mark = Mark { end: 1, ..SILENT };
 
 /// The header of an error without a message.
 const HEADER: &str = "\x1b[31mError:\x1b[0m ";
@@ -19,280 +27,362 @@ const SPACER: &str = "   \x1b[38;5;246m|\x1b[0m";
 /// The tail.
 const TAIL: &str = "\x1b[38;5;246m---'\x1b[0m";
 
-/// An error in the making, in ASCII and with colours.
-fn painted(alloc: Global) -> ReportBuilder<'static> {
-    plain_error(alloc).with_config(colored())
-}
+/// An empty label at the first character, which says `m`.
+const EMPTY: Mark = Mark {
+    message: Some("m"),
+    ..SILENT
+};
 
-/// Asserts the bytes of a group of lines that the report's own start names, between spacer and
-/// tail.
-fn assert_lines(
-    rt: &(impl Abort + AllocGlobal),
-    report: &Report<'_>,
-    text: &str,
-    lines: &[&str],
-) -> Result<(), Fail> {
-    let mut rows = Vec::new(rt.alloc());
-    rows.extend_from_slice(&[HEADER, PLACE, SPACER])?;
-    rows.extend_from_slice(lines)?;
-    rows.push(TAIL)?;
-    assert_bytes(rt, report, text, &rows)
-}
+/// A blue label over the second character.
+const INNER: Mark = Mark {
+    start: 1,
+    end: 2,
+    color: Some(Color::Blue),
+    ..SILENT
+};
 
-#[test]
-fn a_kind_is_painted_with_its_colon(rt: HostRuntime) -> Result<(), Fail> {
-    let cases = [
-        (ReportKind::Error, "\x1b[31mError:\x1b[0m m"),
-        (ReportKind::Warning, "\x1b[33mWarning:\x1b[0m m"),
-        (ReportKind::Advice, "\x1b[38;5;147mAdvice:\x1b[0m m"),
-        (
-            ReportKind::Custom("Hint", Color::Blue),
-            "\x1b[34mHint:\x1b[0m m",
-        ),
-    ];
-    for (kind, want) in cases {
-        let builder = Report::build(rt.alloc(), kind, 0..0);
-        let report = builder.with_message("m")?.finish();
-        assert_bytes(&rt, &report, "", &[want])?;
-    }
-    let builder = Report::build(rt.alloc(), ReportKind::Error, 0..0).with_code(3)?;
-    let report = builder.with_message("m")?.finish();
-    assert_bytes(&rt, &report, "", &["\x1b[31m[03] Error:\x1b[0m m"])
-}
-
-#[test]
-fn without_colors_a_kind_of_the_callers_own_has_none(rt: HostRuntime) -> Result<(), Fail> {
-    let kind = ReportKind::Custom("Hint", Color::Blue);
-    let config = Config::new().with_color(false);
-    let builder = Report::build(rt.alloc(), kind, 0..0).with_config(config);
-    let report = builder.with_message("m")?.finish();
-    assert_bytes(&rt, &report, "", &["Hint: m"])
-}
-
-#[test]
-fn a_label_is_painted_in_its_color(rt: HostRuntime) -> Result<(), Fail> {
-    let label = Label::new(0..1).with_color(Color::Blue);
-    let report = painted(rt.alloc())
-        .with_labels([label.with_message(rt.alloc(), "m")?])?
-        .finish();
-    assert_lines(
-        &rt,
-        &report,
-        "a",
-        &[
+/// The three rows that most begin with, the lines, and the tail.
+const CASES: &[Case] = &[
+    Case {
+        name: "an error is painted with its colon",
+        config: &[Switch::Colors, Switch::Boxes],
+        message: Some("m"),
+        rows: &["\x1b[31mError:\x1b[0m m"],
+        ..COLORED
+    },
+    Case {
+        name: "a warning is painted with its colon",
+        kind: ReportKind::Warning,
+        config: &[Switch::Colors, Switch::Boxes],
+        message: Some("m"),
+        rows: &["\x1b[33mWarning:\x1b[0m m"],
+        ..COLORED
+    },
+    Case {
+        name: "an advice is painted with its colon",
+        kind: ReportKind::Advice,
+        config: &[Switch::Colors, Switch::Boxes],
+        message: Some("m"),
+        rows: &["\x1b[38;5;147mAdvice:\x1b[0m m"],
+        ..COLORED
+    },
+    Case {
+        name: "a kind of the caller's own is painted with its colon",
+        kind: ReportKind::Custom("Hint", Color::Blue),
+        config: &[Switch::Colors, Switch::Boxes],
+        message: Some("m"),
+        rows: &["\x1b[34mHint:\x1b[0m m"],
+        ..COLORED
+    },
+    Case {
+        name: "a code is painted with its kind",
+        config: &[Switch::Colors, Switch::Boxes],
+        code: Some(3),
+        message: Some("m"),
+        rows: &["\x1b[31m[03] Error:\x1b[0m m"],
+        ..COLORED
+    },
+    Case {
+        name: "without colors a kind of the caller's own has none",
+        kind: ReportKind::Custom("Hint", Color::Blue),
+        config: &[Switch::Boxes],
+        message: Some("m"),
+        rows: &["Hint: m"],
+        ..COLORED
+    },
+    Case {
+        name: "a label is painted in its color",
+        text: "a",
+        marks: &[Mark {
+            color: Some(Color::Blue),
+            message: Some("m"),
+            ..FIRST
+        }],
+        rows: &[
+            HEADER,
+            PLACE,
+            SPACER,
             " \x1b[38;5;246m1 |\x1b[0m \x1b[34ma\x1b[0m",
             " \x1b[38;5;240m  |\x1b[0m \x1b[34m|\x1b[0m  ",
             " \x1b[38;5;240m  |\x1b[0m \x1b[34m`\x1b[0m\x1b[34m-\x1b[0m\x1b[34m-\x1b[0m m",
+            TAIL,
         ],
-    )
-}
-
-#[test]
-fn without_colors_a_label_has_none(rt: HostRuntime) -> Result<(), Fail> {
-    let label = Label::new(0..1).with_color(Color::Blue);
-    let label = label.with_message(rt.alloc(), "m")?;
-    // The configuration may come behind the label.
-    let builder = Report::build(rt.alloc(), ReportKind::Error, 0..0).with_label(label)?;
-    let report = builder.with_config(plain()).finish();
-    let rows = [
-        "Error: ",
-        "   ,-[ <unknown>:1:1 ]",
-        "   |",
-        " 1 | a",
-        "   | |  ",
-        "   | `-- m",
-        "---'",
-    ];
-    assert_bytes(&rt, &report, "a", &rows)
-}
-
-#[test]
-fn frame_and_margins_are_painted_and_labels_without_a_color_are_plain(
-    rt: HostRuntime,
-) -> Result<(), Fail> {
-    let report = labelled(
-        &rt,
-        plain_error(rt.alloc()).with_config(colored()),
-        &[(0, 1, "m")],
-    )?;
-    assert_lines(
-        &rt,
-        &report,
-        "a",
-        &[
+        ..COLORED
+    },
+    Case {
+        name: "frame and margins are painted and labels without a color are plain",
+        text: "a",
+        labels: &[(0, 1, "m")],
+        rows: &[
+            HEADER,
+            PLACE,
+            SPACER,
             " \x1b[38;5;246m1 |\x1b[0m a",
             " \x1b[38;5;240m  |\x1b[0m |  ",
             " \x1b[38;5;240m  |\x1b[0m `-- m",
+            TAIL,
         ],
-    )
-}
-
-#[test]
-fn characters_inside_no_label_are_painted_each_alone(rt: HostRuntime) -> Result<(), Fail> {
-    let report = labelled(
-        &rt,
-        plain_error(rt.alloc()).with_config(colored()),
-        &[(1, 2, "m")],
-    )?;
-    assert_lines(
-        &rt,
-        &report,
-        "abcd",
-        &[
+        ..COLORED
+    },
+    Case {
+        name: "characters inside no label are painted each alone",
+        text: "abcd",
+        labels: &[(1, 2, "m")],
+        rows: &[
+            HEADER,
+            PLACE,
+            SPACER,
             " \x1b[38;5;246m1 |\x1b[0m \x1b[38;5;249ma\x1b[0mb\x1b[38;5;249mc\x1b[0m\x1b[38;5;249md\x1b[0m",
             " \x1b[38;5;240m  |\x1b[0m  |  ",
             " \x1b[38;5;240m  |\x1b[0m  `-- m",
+            TAIL,
         ],
-    )
-}
-
-#[test]
-fn the_shortest_label_of_the_highest_priority_paints(rt: HostRuntime) -> Result<(), Fail> {
-    let cases = [
-        (0, "\x1b[34mb\x1b[0m"),
-        (1, "\x1b[31mb\x1b[0m"),
-        (-1, "\x1b[34mb\x1b[0m"),
-        (i32::MAX, "\x1b[31mb\x1b[0m"),
-        (i32::MIN, "\x1b[34mb\x1b[0m"),
-    ];
-    for (priority, b) in cases {
-        let outer = Label::new(0..3).with_color(Color::Red);
-        let inner = Label::new(1..2).with_color(Color::Blue);
-        let report = painted(rt.alloc())
-            .with_labels([outer.with_priority(priority), inner])?
-            .finish();
-        let row = format!(in rt.alloc();
-            " \x1b[38;5;246m1 |\x1b[0m \x1b[31ma\x1b[0m{b}\x1b[31mc\x1b[0m\x1b[38;5;249md\x1b[0m"
-        )?;
-        assert_lines(&rt, &report, "abcd", &[row.as_str()])?;
-    }
-    Ok(())
-}
-
-// Where spans are equally long and of one priority, the candidates' order decides.
-
-#[test]
-fn the_label_of_the_margin_paints_before_those_over_lines(rt: HostRuntime) -> Result<(), Fail> {
-    let later = Label::new(0..3).with_order(1);
-    let later = later.with_message(rt.alloc(), "m")?;
-    let report = painted(rt.alloc())
-        .with_labels([later, Label::new(1..4).with_color(Color::Blue)])?
-        .finish();
-    assert_lines(
-        &rt,
-        &report,
-        "a\naa",
-        &[
+        ..COLORED
+    },
+    Case {
+        name: "of labels of one priority the shortest paints",
+        text: "abcd",
+        marks: &[
+            Mark {
+                end: 3,
+                color: Some(Color::Red),
+                ..SILENT
+            },
+            INNER,
+        ],
+        rows: &[
+            HEADER,
+            PLACE,
+            SPACER,
+            " \x1b[38;5;246m1 |\x1b[0m \x1b[31ma\x1b[0m\x1b[34mb\x1b[0m\x1b[31mc\x1b[0m\x1b[38;5;249md\x1b[0m",
+            TAIL,
+        ],
+        ..COLORED
+    },
+    Case {
+        name: "the label of the highest priority paints",
+        text: "abcd",
+        marks: &[
+            Mark {
+                end: 3,
+                color: Some(Color::Red),
+                priority: 1,
+                ..SILENT
+            },
+            INNER,
+        ],
+        rows: &[
+            HEADER,
+            PLACE,
+            SPACER,
+            " \x1b[38;5;246m1 |\x1b[0m \x1b[31ma\x1b[0m\x1b[31mb\x1b[0m\x1b[31mc\x1b[0m\x1b[38;5;249md\x1b[0m",
+            TAIL,
+        ],
+        ..COLORED
+    },
+    Case {
+        name: "a label of a lower priority does not paint",
+        text: "abcd",
+        marks: &[
+            Mark {
+                end: 3,
+                color: Some(Color::Red),
+                priority: -1,
+                ..SILENT
+            },
+            INNER,
+        ],
+        rows: &[
+            HEADER,
+            PLACE,
+            SPACER,
+            " \x1b[38;5;246m1 |\x1b[0m \x1b[31ma\x1b[0m\x1b[34mb\x1b[0m\x1b[31mc\x1b[0m\x1b[38;5;249md\x1b[0m",
+            TAIL,
+        ],
+        ..COLORED
+    },
+    Case {
+        name: "the greatest priority paints",
+        text: "abcd",
+        marks: &[
+            Mark {
+                end: 3,
+                color: Some(Color::Red),
+                priority: i32::MAX,
+                ..SILENT
+            },
+            INNER,
+        ],
+        rows: &[
+            HEADER,
+            PLACE,
+            SPACER,
+            " \x1b[38;5;246m1 |\x1b[0m \x1b[31ma\x1b[0m\x1b[31mb\x1b[0m\x1b[31mc\x1b[0m\x1b[38;5;249md\x1b[0m",
+            TAIL,
+        ],
+        ..COLORED
+    },
+    Case {
+        name: "the least priority does not paint",
+        text: "abcd",
+        marks: &[
+            Mark {
+                end: 3,
+                color: Some(Color::Red),
+                priority: i32::MIN,
+                ..SILENT
+            },
+            INNER,
+        ],
+        rows: &[
+            HEADER,
+            PLACE,
+            SPACER,
+            " \x1b[38;5;246m1 |\x1b[0m \x1b[31ma\x1b[0m\x1b[34mb\x1b[0m\x1b[31mc\x1b[0m\x1b[38;5;249md\x1b[0m",
+            TAIL,
+        ],
+        ..COLORED
+    },
+    // Where spans are equally long and of one priority, the candidates' order decides.
+    Case {
+        name: "the label of the margin paints before those over lines",
+        text: "a\naa",
+        marks: &[
+            Mark {
+                end: 3,
+                order: 1,
+                message: Some("m"),
+                ..SILENT
+            },
+            Mark {
+                start: 1,
+                end: 4,
+                color: Some(Color::Blue),
+                ..SILENT
+            },
+        ],
+        rows: &[
+            HEADER,
+            PLACE,
+            SPACER,
             " \x1b[38;5;246m1 |\x1b[0m ,-> a",
             " \x1b[38;5;246m2 |\x1b[0m |-> a\x1b[34ma\x1b[0m",
             " \x1b[38;5;240m  |\x1b[0m |       ",
             " \x1b[38;5;240m  |\x1b[0m `------- m",
+            TAIL,
         ],
-    )
-}
-
-#[test]
-fn labels_over_lines_paint_before_those_within_a_line(rt: HostRuntime) -> Result<(), Fail> {
-    let above = Label::new(0..2).with_color(Color::BrightGreen);
-    let report = painted(rt.alloc())
-        .with_labels([Label::new(1..3), above])?
-        .finish();
-    assert_lines(
-        &rt,
-        &report,
-        "\naa",
-        &[
+        ..COLORED
+    },
+    Case {
+        name: "labels over lines paint before those within a line",
+        text: "\naa",
+        marks: &[
+            Mark {
+                start: 1,
+                end: 3,
+                ..SILENT
+            },
+            Mark {
+                end: 2,
+                color: Some(Color::BrightGreen),
+                ..SILENT
+            },
+        ],
+        rows: &[
+            HEADER,
+            PLACE,
+            SPACER,
             " \x1b[38;5;240m  :\x1b[0m ",
             " \x1b[38;5;246m2 |\x1b[0m \x1b[92ma\x1b[0ma",
+            TAIL,
         ],
-    )
-}
-
-#[test]
-fn behind_a_crossed_wide_character_the_crossing_label_paints(rt: HostRuntime) -> Result<(), Fail> {
-    let empty = Label::new(0..0).with_message(rt.alloc(), "m")?;
-    let both = Label::new(0..2)
-        .with_color(Color::Fixed(200))
-        .with_order(-1);
-    let report = painted(rt.alloc())
-        .with_labels([empty, both.with_message(rt.alloc(), "m")?])?
-        .finish();
-    assert_lines(
-        &rt,
-        &report,
-        "\u{6f22}\u{1f600}",
-        &[
+        ..COLORED
+    },
+    Case {
+        name: "behind a crossed wide character the crossing label paints",
+        text: "\u{6f22}\u{1f600}",
+        marks: &[
+            EMPTY,
+            Mark {
+                end: 2,
+                color: Some(Color::Fixed(200)),
+                order: -1,
+                message: Some("m"),
+                ..SILENT
+            },
+        ],
+        rows: &[
+            HEADER,
+            PLACE,
+            SPACER,
             " \x1b[38;5;246m1 |\x1b[0m \x1b[38;5;200m\u{6f22}\x1b[0m\x1b[38;5;200m\u{1f600}\x1b[0m",
             " \x1b[38;5;240m  |\x1b[0m |^\x1b[38;5;200m|\x1b[0m\x1b[38;5;200m^\x1b[0m  ",
             " \x1b[38;5;240m  |\x1b[0m |\x1b[38;5;200m \x1b[0m\x1b[38;5;200m`\x1b[0m\x1b[38;5;200m-\x1b[0m\x1b[38;5;200m-\x1b[0m\x1b[38;5;200m-\x1b[0m m",
             " \x1b[38;5;240m  |\x1b[0m |     ",
             " \x1b[38;5;240m  |\x1b[0m `----- m",
+            TAIL,
         ],
-    )
-}
-
-#[test]
-fn an_underlined_vertical_is_painted_whole_for_its_own_label(rt: HostRuntime) -> Result<(), Fail> {
-    let empty = Label::new(0..0).with_message(rt.alloc(), "m")?;
-    let report = painted(rt.alloc())
-        .with_labels([empty, Label::new(0..1).with_color(Color::Red)])?
-        .finish();
-    assert_lines(
-        &rt,
-        &report,
-        "\tb",
-        &[
+        ..COLORED
+    },
+    Case {
+        name: "an underlined vertical is painted whole for its own label",
+        text: "\tb",
+        marks: &[
+            EMPTY,
+            Mark {
+                color: Some(Color::Red),
+                ..FIRST
+            },
+        ],
+        rows: &[
+            HEADER,
+            PLACE,
+            SPACER,
             " \x1b[38;5;246m1 |\x1b[0m \x1b[31m \x1b[0m\x1b[31m \x1b[0m\x1b[31m \x1b[0m\x1b[31m \x1b[0m\x1b[38;5;249mb\x1b[0m",
             " \x1b[38;5;240m  |\x1b[0m |^^^  ",
             " \x1b[38;5;240m  |\x1b[0m `----- m",
+            TAIL,
         ],
-    )
-}
-
-#[test]
-fn the_place_of_a_byte_may_be_the_end_behind_a_last_terminator(
-    rt: HostRuntime,
-) -> Result<(), Fail> {
-    let config = colored().with_index_type(IndexType::Byte);
-    let builder = Report::build(rt.alloc(), ReportKind::Error, 8..8).with_config(config);
-    let report = builder.with_label(Label::new(0..0))?.finish();
-    let rows = [
-        HEADER,
-        "   \x1b[38;5;246m,\x1b[0m\x1b[38;5;246m-\x1b[0m\x1b[38;5;246m[\x1b[0m <unknown>:2:4 \x1b[38;5;246m]\x1b[0m",
-        SPACER,
-        " \x1b[38;5;246m1 |\x1b[0m \x1b[38;5;249ma\x1b[0m\x1b[38;5;249ma\x1b[0m\x1b[38;5;249ma\x1b[0m",
-        TAIL,
-    ];
-    assert_bytes(&rt, &report, "aaa\naa\u{85}", &rows)
-}
-
-#[test]
-fn a_character_without_a_width_takes_one_column(rt: HostRuntime) -> Result<(), Fail> {
-    let report = painted(rt.alloc())
-        .with_labels([Label::new(1..2).with_message(rt.alloc(), "m")?])?
-        .finish();
-    assert_lines(
-        &rt,
-        &report,
-        "\u{1}x",
-        &[
+        ..COLORED
+    },
+    Case {
+        name: "the place of a byte may be the end behind a last terminator",
+        text: "aaa\naa\u{85}",
+        span: (8, 8),
+        config: &[Switch::Colors, Switch::Bytes],
+        marks: &[SILENT],
+        rows: &[
+            HEADER,
+            "   \x1b[38;5;246m,\x1b[0m\x1b[38;5;246m-\x1b[0m\x1b[38;5;246m[\x1b[0m <unknown>:2:4 \x1b[38;5;246m]\x1b[0m",
+            SPACER,
+            " \x1b[38;5;246m1 |\x1b[0m \x1b[38;5;249ma\x1b[0m\x1b[38;5;249ma\x1b[0m\x1b[38;5;249ma\x1b[0m",
+            TAIL,
+        ],
+        ..COLORED
+    },
+    Case {
+        name: "a character without a width takes one column",
+        text: "\u{1}x",
+        labels: &[(1, 2, "m")],
+        rows: &[
+            HEADER,
+            PLACE,
+            SPACER,
             " \x1b[38;5;246m1 |\x1b[0m \x1b[38;5;249m\u{1}\x1b[0mx",
             " \x1b[38;5;240m  |\x1b[0m  |  ",
             " \x1b[38;5;240m  |\x1b[0m  `-- m",
+            TAIL,
         ],
-    )
-}
-
-#[test]
-fn helps_and_notes_are_painted_with_their_numbers(rt: HostRuntime) -> Result<(), Fail> {
-    let builder = plain_error(rt.alloc()).with_config(colored());
-    let mut builder = builder.with_label(Label::new(0..0))?.with_help("h")?;
-    builder.with_notes(["p", "q\nr"])?;
-    assert_lines(
-        &rt,
-        &builder.finish(),
-        "",
-        &[
+        ..COLORED
+    },
+    Case {
+        name: "helps and notes are painted with their numbers",
+        marks: &[SILENT],
+        asides: &[Aside::Help("h"), Aside::Note("p"), Aside::Note("q\nr")],
+        rows: &[
+            HEADER,
+            PLACE,
+            SPACER,
             " \x1b[38;5;246m1 |\x1b[0m ",
             " \x1b[38;5;240m  |\x1b[0m ",
             " \x1b[38;5;240m  |\x1b[0m \x1b[38;5;115mHelp\x1b[0m: h",
@@ -301,6 +391,13 @@ fn helps_and_notes_are_painted_with_their_numbers(rt: HostRuntime) -> Result<(),
             " \x1b[38;5;240m  |\x1b[0m ",
             " \x1b[38;5;240m  |\x1b[0m \x1b[38;5;115mNote 2\x1b[0m: q",
             " \x1b[38;5;240m  |\x1b[0m         r",
+            TAIL,
         ],
-    )
+        ..COLORED
+    },
+];
+
+#[test]
+fn pictures_are_painted(rt: HostRuntime) -> Result<(), Fail> {
+    assert_cases(&rt, CASES)
 }

@@ -1,29 +1,24 @@
 //! Labels over several lines, and labels on several lines.
 
-use crate::helpers::{assert_bytes, assert_picture, labelled, plain, plain_error, plain_error_at};
-use ariadne::Label;
+use crate::helpers::{BARE, Case, Mark, SILENT, Switch, assert_cases};
 use std::test::Fail;
 
 /// A text of three lines.
 const THREE: &str = "aa\nbb\ncc";
 
-/// Labels of which one holds the other.
-const MID_AND_ALL: [(usize, usize, &str); 2] = [(1, 4, "mid"), (0, 8, "all")];
-
-#[test]
-fn an_expression_over_lines_and_two_labels_inside_it(rt: HostRuntime) -> Result<(), Fail> {
-    let builder = plain_error_at(rt.alloc(), 32..33).with_message("Incompatible types")?;
-    let labels = [
-        (32, 33, "This is of type Nat"),
-        (42, 45, "This is of type Str"),
-        (11, 48, "The values are outputs of this match expression"),
-    ];
-    let report = labelled(&rt, builder, &labels)?;
-    assert_picture(
-        &rt,
-        &report,
-        "def five = match () in {\n\t() => 5,\n\t() => \"5\",\n}\n\ndef six =\n    five\n    + 1\n",
-        &[
+/// What is drawn of each text.
+const CASES: &[Case] = &[
+    Case {
+        name: "an expression over lines and two labels inside it",
+        text: "def five = match () in {\n\t() => 5,\n\t() => \"5\",\n}\n\ndef six =\n    five\n    + 1\n",
+        span: (32, 33),
+        message: Some("Incompatible types"),
+        labels: &[
+            (32, 33, "This is of type Nat"),
+            (42, 45, "This is of type Str"),
+            (11, 48, "The values are outputs of this match expression"),
+        ],
+        rows: &[
             "Error: Incompatible types",
             "   ,-[ <unknown>:2:8 ]",
             "   |",
@@ -39,17 +34,13 @@ fn an_expression_over_lines_and_two_labels_inside_it(rt: HostRuntime) -> Result<
             "   | `------- The values are outputs of this match expression",
             "---'",
         ],
-    )
-}
-
-#[test]
-fn the_longest_label_has_the_outermost_column(rt: HostRuntime) -> Result<(), Fail> {
-    let report = labelled(&rt, plain_error(rt.alloc()), &MID_AND_ALL)?;
-    assert_picture(
-        &rt,
-        &report,
-        THREE,
-        &[
+        ..BARE
+    },
+    Case {
+        name: "the longest label has the outermost column",
+        text: THREE,
+        labels: &[(1, 4, "mid"), (0, 8, "all")],
+        rows: &[
             "Error:",
             "   ,-[ <unknown>:1:1 ]",
             "   |",
@@ -64,18 +55,13 @@ fn the_longest_label_has_the_outermost_column(rt: HostRuntime) -> Result<(), Fai
             "   | `--------- all",
             "---'",
         ],
-    )
-}
-
-#[test]
-fn a_label_that_ends_above_the_one_before_it_opens_a_group(rt: HostRuntime) -> Result<(), Fail> {
-    let labels = [MID_AND_ALL[1], MID_AND_ALL[0]];
-    let report = labelled(&rt, plain_error(rt.alloc()), &labels)?;
-    assert_picture(
-        &rt,
-        &report,
-        THREE,
-        &[
+        ..BARE
+    },
+    Case {
+        name: "a label that ends above the one before it opens a group",
+        text: THREE,
+        labels: &[(0, 8, "all"), (1, 4, "mid")],
+        rows: &[
             "Error:",
             "   ,-[ <unknown>:1:1 ]",
             "   |",
@@ -93,17 +79,13 @@ fn a_label_that_ends_above_the_one_before_it_opens_a_group(rt: HostRuntime) -> R
             "   | `-------- mid",
             "---'",
         ],
-    )
-}
-
-#[test]
-fn a_bar_begins_where_its_label_begins(rt: HostRuntime) -> Result<(), Fail> {
-    let report = labelled(&rt, plain_error(rt.alloc()), &[(0, 1, "x"), (2, 5, "y")])?;
-    assert_picture(
-        &rt,
-        &report,
-        "a\nb\nc",
-        &[
+        ..BARE
+    },
+    Case {
+        name: "a bar begins where its label begins",
+        text: "a\nb\nc",
+        labels: &[(0, 1, "x"), (2, 5, "y")],
+        rows: &[
             "Error:",
             "   ,-[ <unknown>:1:1 ]",
             "   |",
@@ -116,17 +98,13 @@ fn a_bar_begins_where_its_label_begins(rt: HostRuntime) -> Result<(), Fail> {
             "   | `------ y",
             "---'",
         ],
-    )
-}
-
-#[test]
-fn horizontals_hide_the_verticals_that_they_cross(rt: HostRuntime) -> Result<(), Fail> {
-    let report = labelled(&rt, plain_error(rt.alloc()), &[(0, 4, "A"), (1, 5, "B")])?;
-    assert_picture(
-        &rt,
-        &report,
-        "ab\ncd",
-        &[
+        ..BARE
+    },
+    Case {
+        name: "horizontals hide the verticals that they cross",
+        text: "ab\ncd",
+        labels: &[(0, 4, "A"), (1, 5, "B")],
+        rows: &[
             "Error:",
             "   ,-[ <unknown>:1:1 ]",
             "   |",
@@ -140,21 +118,13 @@ fn horizontals_hide_the_verticals_that_they_cross(rt: HostRuntime) -> Result<(),
             "   |   `----^-- B",
             "---'",
         ],
-    )
-}
-
-#[test]
-fn hidden_lines_inside_a_label_give_one_row(rt: HostRuntime) -> Result<(), Fail> {
-    let report = labelled(
-        &rt,
-        plain_error(rt.alloc()),
-        &[(0, 15, "illegal comparison")],
-    )?;
-    assert_bytes(
-        &rt,
-        &report,
-        "apple\n==\norange",
-        &[
+        ..BARE
+    },
+    Case {
+        name: "hidden lines inside a label give one row",
+        text: "apple\n==\norange",
+        labels: &[(0, 15, "illegal comparison")],
+        rows: &[
             "Error: ",
             "   ,-[ <unknown>:1:1 ]",
             "   |",
@@ -165,29 +135,29 @@ fn hidden_lines_inside_a_label_give_one_row(rt: HostRuntime) -> Result<(), Fail>
             "   | `----------- illegal comparison",
             "---'",
         ],
-    )
-}
-
-#[test]
-fn a_label_without_message_over_lines_has_no_gutter(rt: HostRuntime) -> Result<(), Fail> {
-    let report = plain_error(rt.alloc()).with_label(Label::new(0..5))?;
-    assert_picture(
-        &rt,
-        &report.finish(),
-        "a\nb\nc",
-        &["Error:", "   ,-[ <unknown>:1:1 ]", "   |", "   :", "---'"],
-    )
-}
-
-#[test]
-fn each_run_of_hidden_lines_gives_a_row(rt: HostRuntime) -> Result<(), Fail> {
-    let said = Label::new(2..3).with_message(rt.alloc(), "m")?;
-    let report = plain_error(rt.alloc()).with_labels([said, Label::new(0..5)])?;
-    assert_picture(
-        &rt,
-        &report.finish(),
-        "a\nb\nc",
-        &[
+        is_whole: true,
+        ..BARE
+    },
+    Case {
+        name: "a label without message over lines has no gutter",
+        text: "a\nb\nc",
+        marks: &[Mark { end: 5, ..SILENT }],
+        rows: &["Error:", "   ,-[ <unknown>:1:1 ]", "   |", "   :", "---'"],
+        ..BARE
+    },
+    Case {
+        name: "each run of hidden lines gives a row",
+        text: "a\nb\nc",
+        marks: &[
+            Mark {
+                start: 2,
+                end: 3,
+                message: Some("m"),
+                ..SILENT
+            },
+            Mark { end: 5, ..SILENT },
+        ],
+        rows: &[
             "Error:",
             "   ,-[ <unknown>:1:1 ]",
             "   |",
@@ -198,18 +168,13 @@ fn each_run_of_hidden_lines_gives_a_row(rt: HostRuntime) -> Result<(), Fail> {
             "   :",
             "---'",
         ],
-    )
-}
-
-#[test]
-fn hidden_lines_outside_all_labels_give_a_bare_row(rt: HostRuntime) -> Result<(), Fail> {
-    let labels = [(0, 1, "x"), (4, 5, "y")];
-    let report = labelled(&rt, plain_error(rt.alloc()), &labels)?;
-    assert_picture(
-        &rt,
-        &report,
-        "a\nb\nc",
-        &[
+        ..BARE
+    },
+    Case {
+        name: "hidden lines outside all labels give a bare row",
+        text: "a\nb\nc",
+        labels: &[(0, 1, "x"), (4, 5, "y")],
+        rows: &[
             "Error:",
             "   ,-[ <unknown>:1:1 ]",
             "   |",
@@ -222,28 +187,28 @@ fn hidden_lines_outside_all_labels_give_a_bare_row(rt: HostRuntime) -> Result<()
             "   | `-- y",
             "---'",
         ],
-    )?;
-    let compact = plain_error(rt.alloc()).with_config(plain().with_compact(true));
-    let report = labelled(&rt, compact, &labels)?;
-    let rows = [
-        "Error:",
-        "   ,-[ <unknown>:1:1 ]",
-        " 1 |a",
-        "   |`- x",
-        " 3 |c",
-        "   |`- y",
-    ];
-    assert_picture(&rt, &report, "a\nb\nc", &rows)
-}
-
-#[test]
-fn an_empty_label_at_the_start_of_a_line_is_drawn_there_once(rt: HostRuntime) -> Result<(), Fail> {
-    let report = labelled(&rt, plain_error(rt.alloc()), &[(0, 1, "x"), (2, 2, "y")])?;
-    assert_picture(
-        &rt,
-        &report,
-        "a\nb",
-        &[
+        ..BARE
+    },
+    Case {
+        name: "hidden lines outside all labels give no row in a compact picture",
+        text: "a\nb\nc",
+        config: &[Switch::Compact],
+        labels: &[(0, 1, "x"), (4, 5, "y")],
+        rows: &[
+            "Error:",
+            "   ,-[ <unknown>:1:1 ]",
+            " 1 |a",
+            "   |`- x",
+            " 3 |c",
+            "   |`- y",
+        ],
+        ..BARE
+    },
+    Case {
+        name: "an empty label at the start of a line is drawn there once",
+        text: "a\nb",
+        labels: &[(0, 1, "x"), (2, 2, "y")],
+        rows: &[
             "Error:",
             "   ,-[ <unknown>:1:1 ]",
             "   |",
@@ -255,22 +220,18 @@ fn an_empty_label_at_the_start_of_a_line_is_drawn_there_once(rt: HostRuntime) ->
             "   | `- y",
             "---'",
         ],
-    )
-}
-
-#[test]
-fn a_bracket_that_is_closed_by_another_on_the_next_line(rt: HostRuntime) -> Result<(), Fail> {
-    let labels = [
-        (1, 2, "opened here"),
-        (1, 5, "closed by another bracket here"),
-    ];
-    let builder = plain_error_at(rt.alloc(), 1..2).with_message("unbalanced brackets")?;
-    let report = labelled(&rt, builder, &labels)?;
-    assert_picture(
-        &rt,
-        &report,
-        "f(x\n]\n",
-        &[
+        ..BARE
+    },
+    Case {
+        name: "a bracket that is closed by another on the next line",
+        text: "f(x\n]\n",
+        span: (1, 2),
+        message: Some("unbalanced brackets"),
+        labels: &[
+            (1, 2, "opened here"),
+            (1, 5, "closed by another bracket here"),
+        ],
+        rows: &[
             "Error: unbalanced brackets",
             "   ,-[ <unknown>:1:2 ]",
             "   |",
@@ -282,5 +243,11 @@ fn a_bracket_that_is_closed_by_another_on_the_next_line(rt: HostRuntime) -> Resu
             "   | `------- closed by another bracket here",
             "---'",
         ],
-    )
+        ..BARE
+    },
+];
+
+#[test]
+fn labels_stand_on_and_over_lines(rt: HostRuntime) -> Result<(), Fail> {
+    assert_cases(&rt, CASES)
 }

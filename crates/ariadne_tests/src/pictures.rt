@@ -1,10 +1,7 @@
 //! Labels within one line, in ASCII and in box drawing characters, without colours.
 
-use crate::helpers::{
-    Why, assert_bytes, assert_left_out, assert_picture, assert_rows, labelled, plain, plain_error,
-    plain_error_at, source_of, written,
-};
-use ariadne::{CharSet, Color, Config, Label, Report, ReportKind};
+use crate::helpers::{BARE, Case, Mark, SILENT, Switch, Why, assert_cases};
+use ariadne::{Color, ReportKind};
 use std::test::Fail;
 
 /// The rows of two labels on a line, blanks at their ends kept.
@@ -26,30 +23,32 @@ pub(crate) const APPLE_LABELS: [(usize, usize, &str); 2] = [
     (9, 15, "This is an orange"),
 ];
 
-#[test]
-fn two_labels_on_a_line(rt: HostRuntime) -> Result<(), Fail> {
-    let builder = plain_error(rt.alloc()).with_message("can't compare apples with oranges")?;
-    let report = labelled(&rt, builder, &APPLE_LABELS)?;
-    assert_bytes(&rt, &report, "apple == orange;", &APPLES)
-}
-
-#[test]
-fn labels_added_from_the_right_are_drawn_from_the_left(rt: HostRuntime) -> Result<(), Fail> {
-    let builder = plain_error(rt.alloc()).with_message("can't compare apples with oranges")?;
-    let labels = [APPLE_LABELS[1], APPLE_LABELS[0]];
-    let report = labelled(&rt, builder, &labels)?;
-    assert_bytes(&rt, &report, "apple == orange;", &APPLES)
-}
-
-#[test]
-fn a_line_below_the_first_alone_has_rows(rt: HostRuntime) -> Result<(), Fail> {
-    let labels = [(6, 11, "This is an apple"), (15, 21, "This is an orange")];
-    let report = labelled(&rt, plain_error_at(rt.alloc(), 15..21), &labels)?;
-    assert_picture(
-        &rt,
-        &report,
-        "above\napple == orange;\nbelow\n",
-        &[
+/// What is drawn within a line, and of none.
+const CASES: &[Case] = &[
+    Case {
+        name: "two labels on a line",
+        text: "apple == orange;",
+        message: Some("can't compare apples with oranges"),
+        labels: &APPLE_LABELS,
+        rows: &APPLES,
+        is_whole: true,
+        ..BARE
+    },
+    Case {
+        name: "labels added from the right are drawn from the left",
+        text: "apple == orange;",
+        message: Some("can't compare apples with oranges"),
+        labels: &[(9, 15, "This is an orange"), (0, 5, "This is an apple")],
+        rows: &APPLES,
+        is_whole: true,
+        ..BARE
+    },
+    Case {
+        name: "a line below the first alone has rows",
+        text: "above\napple == orange;\nbelow\n",
+        span: (15, 21),
+        labels: &[(6, 11, "This is an apple"), (15, 21, "This is an orange")],
+        rows: &[
             "Error:",
             "   ,-[ <unknown>:2:10 ]",
             "   |",
@@ -60,19 +59,13 @@ fn a_line_below_the_first_alone_has_rows(rt: HostRuntime) -> Result<(), Fail> {
             "   |             `---- This is an orange",
             "---'",
         ],
-    )
-}
-
-#[test]
-fn a_tab_reaches_to_its_stop_and_wide_characters_have_two_columns(
-    rt: HostRuntime,
-) -> Result<(), Fail> {
-    let report = labelled(&rt, plain_error(rt.alloc()), &[(2, 3, "w")])?;
-    assert_picture(
-        &rt,
-        &report,
-        "\t\u{6f22}x",
-        &[
+        ..BARE
+    },
+    Case {
+        name: "a tab reaches to its stop and wide characters have two columns",
+        text: "\t\u{6f22}x",
+        labels: &[(2, 3, "w")],
+        rows: &[
             "Error:",
             "   ,-[ <unknown>:1:1 ]",
             "   |",
@@ -81,17 +74,13 @@ fn a_tab_reaches_to_its_stop_and_wide_characters_have_two_columns(
             "   |       `-- w",
             "---'",
         ],
-    )
-}
-
-#[test]
-fn a_combining_character_has_no_column_and_no_corner(rt: HostRuntime) -> Result<(), Fail> {
-    let report = labelled(&rt, plain_error(rt.alloc()), &[(1, 2, "m")])?;
-    assert_picture(
-        &rt,
-        &report,
-        "e\u{301}x",
-        &[
+        ..BARE
+    },
+    Case {
+        name: "a combining character has no column and no corner",
+        text: "e\u{301}x",
+        labels: &[(1, 2, "m")],
+        rows: &[
             "Error:",
             "   ,-[ <unknown>:1:1 ]",
             "   |",
@@ -100,22 +89,17 @@ fn a_combining_character_has_no_column_and_no_corner(rt: HostRuntime) -> Result<
             "   |  -- m",
             "---'",
         ],
-    )
-}
-
-#[test]
-fn labels_that_overlap(rt: HostRuntime) -> Result<(), Fail> {
-    let builder = plain_error(rt.alloc()).with_message("unbalanced brackets")?;
-    let labels = [
-        (0, 1, "opened here"),
-        (0, 2, "closed by another bracket here"),
-    ];
-    let report = labelled(&rt, builder, &labels)?;
-    assert_picture(
-        &rt,
-        &report,
-        "(]",
-        &[
+        ..BARE
+    },
+    Case {
+        name: "labels that overlap",
+        text: "(]",
+        message: Some("unbalanced brackets"),
+        labels: &[
+            (0, 1, "opened here"),
+            (0, 2, "closed by another bracket here"),
+        ],
+        rows: &[
             "Error: unbalanced brackets",
             "   ,-[ <unknown>:1:1 ]",
             "   |",
@@ -126,100 +110,163 @@ fn labels_that_overlap(rt: HostRuntime) -> Result<(), Fail> {
             "   |  `-- closed by another bracket here",
             "---'",
         ],
-    )
-}
-
-#[test]
-fn an_end_one_past_is_drawn_and_labels_past_the_source_are_listed(
-    rt: HostRuntime,
-) -> Result<(), Fail> {
-    let report = labelled(&rt, plain_error(rt.alloc()), &[(0, 3, "x"), (0, 4, "z")])?;
-    let (picture, left_out) = written(&rt, &report, &mut source_of(rt.alloc(), "ab")?)?;
-    let rows = [
-        "Error: ",
-        "   ,-[ <unknown>:1:1 ]",
-        "   |",
-        " 1 | ab",
-        "   | ^|  ",
-        "   |  `-- x",
-        "---'",
-    ];
-    assert_rows(&rt, picture.as_str(), &rows)?;
-    assert_eq!(rt; picture.len(), 71);
-    assert_left_out(&rt, &left_out, &[(1, Why::PastSource)]);
-    Ok(())
-}
-
-#[test]
-fn where_all_labels_are_past_the_source_the_header_stands_alone(
-    rt: HostRuntime,
-) -> Result<(), Fail> {
-    let labels = [
-        (3, 3, "starts past"),
-        (0, 4, "ends past"),
-        (usize::MAX, usize::MAX, "far"),
-    ];
-    let report = labelled(&rt, plain_error(rt.alloc()), &labels)?;
-    let (picture, left_out) = written(&rt, &report, &mut source_of(rt.alloc(), "ab")?)?;
-    assert_eq!(rt; picture.as_str(), "Error: \n");
-    let wanted = [
-        (0, Why::PastSource),
-        (1, Why::PastSource),
-        (2, Why::PastSource),
-    ];
-    assert_left_out(&rt, &left_out, &wanted);
-    Ok(())
-}
-
-#[test]
-fn without_labels_the_header_names_kind_and_message(rt: HostRuntime) -> Result<(), Fail> {
-    let cases = [
-        (ReportKind::Error, "Error: m"),
-        (ReportKind::Warning, "Warning: m"),
-        (ReportKind::Advice, "Advice: m"),
-        (ReportKind::Custom("Hint", Color::Blue), "Hint: m"),
-    ];
-    for (kind, want) in cases {
-        let builder = Report::build(rt.alloc(), kind, 0..0).with_config(plain());
-        let report = builder.with_message("m")?.finish();
-        assert_bytes(&rt, &report, "", &[want])?;
-    }
-    assert_bytes(&rt, &plain_error(rt.alloc()).finish(), "ab", &["Error: "])
-}
-
-#[test]
-fn a_code_stands_in_brackets_in_front_of_the_kind(rt: HostRuntime) -> Result<(), Fail> {
-    let alloc = rt.alloc();
-    for (code, want) in [
-        (0, "[00] Error: m"),
-        (3, "[03] Error: m"),
-        (42, "[42] Error: m"),
-        (u64::MAX, "[18446744073709551615] Error: m"),
-    ] {
-        let report = plain_error(alloc).with_code(code)?.with_message("m")?;
-        assert_bytes(&rt, &report.finish(), "", &[want])?;
-    }
-    for (code, want) in [
-        ("", "[  ] Error: m"),
-        ("E", "[E ] Error: m"),
-        ("\u{6f22}", "[\u{6f22} ] Error: m"), // characters count, whatever columns they take
-        ("E0308", "[E0308] Error: m"),
-    ] {
-        let report = plain_error(alloc).with_code(7)?.with_code_text(code)?;
-        assert_bytes(&rt, &report.with_message("m")?.finish(), "", &[want])?;
-    }
-    Ok(())
-}
-
-#[test]
-fn a_label_without_message_shows_its_line(rt: HostRuntime) -> Result<(), Fail> {
-    let said = Label::new(3..5).with_message(rt.alloc(), "n")?;
-    let report = plain_error(rt.alloc()).with_labels([Label::new(0..2), said])?;
-    assert_picture(
-        &rt,
-        &report.finish(),
-        "ab cd",
-        &[
+        ..BARE
+    },
+    Case {
+        // The picture has 71 bytes.
+        name: "an end one past is drawn and labels past the source are listed",
+        text: "ab",
+        labels: &[(0, 3, "x"), (0, 4, "z")],
+        left_out: &[(1, Why::PastSource)],
+        rows: &[
+            "Error: ",
+            "   ,-[ <unknown>:1:1 ]",
+            "   |",
+            " 1 | ab",
+            "   | ^|  ",
+            "   |  `-- x",
+            "---'",
+        ],
+        is_whole: true,
+        ..BARE
+    },
+    Case {
+        name: "where all labels are past the source the header stands alone",
+        text: "ab",
+        labels: &[
+            (3, 3, "starts past"),
+            (0, 4, "ends past"),
+            (usize::MAX, usize::MAX, "far"),
+        ],
+        left_out: &[
+            (0, Why::PastSource),
+            (1, Why::PastSource),
+            (2, Why::PastSource),
+        ],
+        rows: &["Error: "],
+        is_whole: true,
+        ..BARE
+    },
+    Case {
+        name: "without labels the header names an error and the message",
+        message: Some("m"),
+        rows: &["Error: m"],
+        is_whole: true,
+        ..BARE
+    },
+    Case {
+        name: "without labels the header names a warning and the message",
+        kind: ReportKind::Warning,
+        message: Some("m"),
+        rows: &["Warning: m"],
+        is_whole: true,
+        ..BARE
+    },
+    Case {
+        name: "without labels the header names an advice and the message",
+        kind: ReportKind::Advice,
+        message: Some("m"),
+        rows: &["Advice: m"],
+        is_whole: true,
+        ..BARE
+    },
+    Case {
+        name: "without labels the header names a kind of the caller's own and the message",
+        kind: ReportKind::Custom("Hint", Color::Blue),
+        message: Some("m"),
+        rows: &["Hint: m"],
+        is_whole: true,
+        ..BARE
+    },
+    Case {
+        name: "without labels and message the header names the kind",
+        text: "ab",
+        rows: &["Error: "],
+        is_whole: true,
+        ..BARE
+    },
+    Case {
+        name: "a code of 0 stands in brackets in front of the kind",
+        code: Some(0),
+        message: Some("m"),
+        rows: &["[00] Error: m"],
+        is_whole: true,
+        ..BARE
+    },
+    Case {
+        name: "a code of one digit stands in brackets in front of the kind",
+        code: Some(3),
+        message: Some("m"),
+        rows: &["[03] Error: m"],
+        is_whole: true,
+        ..BARE
+    },
+    Case {
+        name: "a code of two digits stands in brackets in front of the kind",
+        code: Some(42),
+        message: Some("m"),
+        rows: &["[42] Error: m"],
+        is_whole: true,
+        ..BARE
+    },
+    Case {
+        name: "a code of twenty digits stands in brackets in front of the kind",
+        code: Some(u64::MAX),
+        message: Some("m"),
+        rows: &["[18446744073709551615] Error: m"],
+        is_whole: true,
+        ..BARE
+    },
+    Case {
+        name: "a code of no character stands in brackets in front of the kind",
+        code: Some(7),
+        code_text: Some(""),
+        message: Some("m"),
+        rows: &["[  ] Error: m"],
+        is_whole: true,
+        ..BARE
+    },
+    Case {
+        name: "a code of one character stands in brackets in front of the kind",
+        code: Some(7),
+        code_text: Some("E"),
+        message: Some("m"),
+        rows: &["[E ] Error: m"],
+        is_whole: true,
+        ..BARE
+    },
+    Case {
+        // Characters count, whatever columns they take.
+        name: "a code of one wide character stands in brackets in front of the kind",
+        code: Some(7),
+        code_text: Some("\u{6f22}"),
+        message: Some("m"),
+        rows: &["[\u{6f22} ] Error: m"],
+        is_whole: true,
+        ..BARE
+    },
+    Case {
+        name: "a code of five characters stands in brackets in front of the kind",
+        code: Some(7),
+        code_text: Some("E0308"),
+        message: Some("m"),
+        rows: &["[E0308] Error: m"],
+        is_whole: true,
+        ..BARE
+    },
+    Case {
+        name: "a label without message shows its line",
+        text: "ab cd",
+        marks: &[
+            Mark { end: 2, ..SILENT },
+            Mark {
+                start: 3,
+                end: 5,
+                message: Some("n"),
+                ..SILENT
+            },
+        ],
+        rows: &[
             "Error:",
             "   ,-[ <unknown>:1:1 ]",
             "   |",
@@ -229,19 +276,30 @@ fn a_label_without_message_shows_its_line(rt: HostRuntime) -> Result<(), Fail> {
             "   |     `-- n",
             "---'",
         ],
-    )
-}
-
-#[test]
-fn box_drawing_characters(rt: HostRuntime) -> Result<(), Fail> {
-    let config = Config::new().with_color(false);
-    let builder = plain_error(rt.alloc()).with_config(config);
-    let report = labelled(&rt, builder, &[(0, 2, "x")])?;
-    assert_picture(
-        &rt,
-        &report,
-        "ab",
-        &[
+        ..BARE
+    },
+    Case {
+        name: "an empty message is one",
+        text: "a",
+        labels: &[(0, 1, "")],
+        rows: &[
+            "Error: ",
+            "   ,-[ <unknown>:1:1 ]",
+            "   |",
+            " 1 | a",
+            "   | |  ",
+            "   | `-- ",
+            "---'",
+        ],
+        is_whole: true,
+        ..BARE
+    },
+    Case {
+        name: "box drawing characters",
+        text: "ab",
+        config: &[Switch::Boxes],
+        labels: &[(0, 2, "x")],
+        rows: &[
             "Error:",
             "   ╭─[ <unknown>:1:1 ]",
             "   │",
@@ -250,47 +308,78 @@ fn box_drawing_characters(rt: HostRuntime) -> Result<(), Fail> {
             "   │  ╰── x",
             "───╯",
         ],
-    )
-}
-
-#[test]
-fn the_place_is_unknown_where_the_report_starts_past_the_source(
-    rt: HostRuntime,
-) -> Result<(), Fail> {
-    let cases = [
-        (1, "   ,-[ <unknown>:1:2 ]"),
-        (2, "   ,-[ <unknown>:1:3 ]"), // the end is a place of the source
-        (3, "   ,-[ <unknown>:?:? ]"),
-        (usize::MAX, "   ,-[ <unknown>:?:? ]"),
-    ];
-    for (start, head) in cases {
-        let report = labelled(
-            &rt,
-            plain_error_at(rt.alloc(), start..start),
-            &[(0, 2, "x")],
-        )?;
-        let rows = [
+        ..BARE
+    },
+    Case {
+        name: "the report may start inside the source",
+        text: "ab",
+        span: (1, 1),
+        labels: &[(0, 2, "x")],
+        rows: &[
             "Error:",
-            head,
+            "   ,-[ <unknown>:1:2 ]",
             "   |",
             " 1 | ab",
             "   | ^|",
             "   |  `-- x",
             "---'",
-        ];
-        assert_picture(&rt, &report, "ab", &rows)?;
-    }
-    Ok(())
-}
-
-#[test]
-fn an_empty_source_has_a_line_to_point_at(rt: HostRuntime) -> Result<(), Fail> {
-    let report = labelled(&rt, plain_error(rt.alloc()), &[(0, 0, "m")])?;
-    assert_picture(
-        &rt,
-        &report,
-        "",
-        &[
+        ],
+        ..BARE
+    },
+    Case {
+        // The end is a place of the source.
+        name: "the report may start at the end of the source",
+        text: "ab",
+        span: (2, 2),
+        labels: &[(0, 2, "x")],
+        rows: &[
+            "Error:",
+            "   ,-[ <unknown>:1:3 ]",
+            "   |",
+            " 1 | ab",
+            "   | ^|",
+            "   |  `-- x",
+            "---'",
+        ],
+        ..BARE
+    },
+    Case {
+        name: "the place is unknown where the report starts past the source",
+        text: "ab",
+        span: (3, 3),
+        labels: &[(0, 2, "x")],
+        rows: &[
+            "Error:",
+            "   ,-[ <unknown>:?:? ]",
+            "   |",
+            " 1 | ab",
+            "   | ^|",
+            "   |  `-- x",
+            "---'",
+        ],
+        ..BARE
+    },
+    Case {
+        name: "the place is unknown where the report starts far past the source",
+        text: "ab",
+        span: (usize::MAX, usize::MAX),
+        labels: &[(0, 2, "x")],
+        rows: &[
+            "Error:",
+            "   ,-[ <unknown>:?:? ]",
+            "   |",
+            " 1 | ab",
+            "   | ^|",
+            "   |  `-- x",
+            "---'",
+        ],
+        ..BARE
+    },
+    Case {
+        name: "an empty source has a line to point at",
+        text: "",
+        labels: &[(0, 0, "m")],
+        rows: &[
             "Error:",
             "   ,-[ <unknown>:1:1 ]",
             "   |",
@@ -299,17 +388,13 @@ fn an_empty_source_has_a_line_to_point_at(rt: HostRuntime) -> Result<(), Fail> {
             "   | `- m",
             "---'",
         ],
-    )
-}
-
-#[test]
-fn a_message_goes_out_as_it_is(rt: HostRuntime) -> Result<(), Fail> {
-    let report = labelled(&rt, plain_error(rt.alloc()), &[(0, 1, "two\nlines\t")])?;
-    assert_bytes(
-        &rt,
-        &report,
-        "a",
-        &[
+        ..BARE
+    },
+    Case {
+        name: "a message goes out as it is",
+        text: "a",
+        labels: &[(0, 1, "two\nlines\t")],
+        rows: &[
             "Error: ",
             "   ,-[ <unknown>:1:1 ]",
             "   |",
@@ -318,5 +403,12 @@ fn a_message_goes_out_as_it_is(rt: HostRuntime) -> Result<(), Fail> {
             "   | `-- two\nlines\t",
             "---'",
         ],
-    )
+        is_whole: true,
+        ..BARE
+    },
+];
+
+#[test]
+fn labels_stand_within_a_line(rt: HostRuntime) -> Result<(), Fail> {
+    assert_cases(&rt, CASES)
 }

@@ -1,114 +1,53 @@
 //! The pictures that the original crate keeps of its own reports.
 
 use crate::helpers::{
-    assert_picture, assert_picture_over, labelled, plain, plain_error, plain_error_at,
+    Aside, BARE, Case, Mark, SILENT, Switch, assert_cases, assert_picture, labelled, plain_error,
 };
 use crate::pictures::APPLE_LABELS;
-use ariadne::{IndexType, Label, ReportBuilder, sources};
-use std::process::Abort;
 use std::test::Fail;
 
-/// What most of the reports compare.
-const SOURCE: &str = "apple == orange;";
+/// A report that compares apples with oranges, as most do.
+const COMPARING: Case = Case {
+    text: "apple == orange;",
+    message: Some("can't compare apples with oranges"),
+    ..BARE
+};
 
-/// A report in the making that compares apples with oranges.
-fn comparing(rt: &impl AllocGlobal) -> Result<ReportBuilder<'static>, Fail> {
-    let message = "can't compare apples with oranges";
-    Ok(plain_error(rt.alloc()).with_message(message)?)
-}
-
-/// Asserts the picture of such a report over these lines.
-fn assert_compared(
-    rt: &(impl Abort + AllocGlobal),
-    builder: ReportBuilder<'_>,
-    labels: &[(usize, usize, &str)],
-    lines: &[&str],
-) -> Result<(), Fail> {
-    let report = labelled(rt, builder, labels)?;
-    let mut rows = Vec::new(rt.alloc());
-    rows.extend_from_slice(&[
-        "Error: can't compare apples with oranges",
-        "   ,-[ <unknown>:1:1 ]",
-        "   |",
-        " 1 | apple == orange;",
-    ])?;
-    rows.extend_from_slice(lines)?;
-    rows.push("---'")?;
-    assert_picture(rt, &report, SOURCE, &rows)
-}
-
-/// Asserts the picture of a report at the end of a text that has one line.
-fn assert_unexpected_end(
-    rt: &(impl Abort + AllocGlobal),
-    builder: ReportBuilder<'_>,
-    asides: &[&str],
-) -> Result<(), Fail> {
-    let builder = builder.with_message("unexpected end of file")?;
-    let report = labelled(rt, builder, &[(0, 0, "No more fruit!")])?;
-    let mut rows = Vec::new(rt.alloc());
-    rows.extend_from_slice(&[
-        "Error: unexpected end of file",
-        "   ,-[ <unknown>:1:1 ]",
-        "   |",
-        " 1 |",
-        "   | |",
-        "   | `- No more fruit!",
-    ])?;
-    rows.extend_from_slice(asides)?;
-    rows.push("---'")?;
-    assert_picture(rt, &report, "", &rows)
-}
-
-#[test]
-fn one_message(rt: HostRuntime) -> Result<(), Fail> {
-    let rows = ["Error: can't compare apples with oranges"];
-    assert_picture(&rt, &comparing(&rt)?.finish(), "", &rows)
-}
-
-#[test]
-fn two_labels_without_messages(rt: HostRuntime) -> Result<(), Fail> {
-    let builder = comparing(&rt)?.with_label(Label::new(0..5))?;
-    assert_compared(&rt, builder.with_label(Label::new(9..15))?, &[], &[])
-}
-
-#[test]
-fn characters_of_many_bytes(rt: HostRuntime) -> Result<(), Fail> {
-    // Offsets in characters and in bytes, and a place in bytes behind characters of two bytes.
-    let cases = [
-        (
-            0,
-            IndexType::Char,
-            (0, 5),
-            (9, 15),
+/// Its pictures, but for one of a long line and one over two sources.
+const CASES: &[Case] = &[
+    Case {
+        name: "one message",
+        text: "",
+        rows: &["Error: can't compare apples with oranges"],
+        ..COMPARING
+    },
+    Case {
+        name: "two labels without messages",
+        marks: &[
+            Mark { end: 5, ..SILENT },
+            Mark {
+                start: 9,
+                end: 15,
+                ..SILENT
+            },
+        ],
+        rows: &[
+            "Error: can't compare apples with oranges",
             "   ,-[ <unknown>:1:1 ]",
-        ),
-        (
-            0,
-            IndexType::Byte,
-            (0, 7),
-            (11, 20),
-            "   ,-[ <unknown>:1:1 ]",
-        ),
-        (
-            11,
-            IndexType::Byte,
-            (0, 7),
-            (11, 20),
-            "   ,-[ <unknown>:1:10 ]",
-        ),
-    ];
-    for (start, index_type, apple, orange, head) in cases {
-        let builder = plain_error_at(rt.alloc(), start..start)
-            .with_config(plain().with_index_type(index_type))
-            .with_message("can't compare äpplës with örängës")?;
-        let labels = [
-            (apple.0, apple.1, "This is an äpplë"),
-            (orange.0, orange.1, "This is an örängë"),
-        ];
-        let report = labelled(&rt, builder, &labels)?;
-        let rows = [
+            "   |",
+            " 1 | apple == orange;",
+            "---'",
+        ],
+        ..COMPARING
+    },
+    Case {
+        name: "characters of many bytes, with offsets in characters",
+        text: "äpplë == örängë;",
+        message: Some("can't compare äpplës with örängës"),
+        labels: &[(0, 5, "This is an äpplë"), (9, 15, "This is an örängë")],
+        rows: &[
             "Error: can't compare äpplës with örängës",
-            head,
+            "   ,-[ <unknown>:1:1 ]",
             "   |",
             " 1 | äpplë == örängë;",
             "   | ^^|^^    ^^^|^^",
@@ -116,10 +55,372 @@ fn characters_of_many_bytes(rt: HostRuntime) -> Result<(), Fail> {
             "   |             |",
             "   |             `---- This is an örängë",
             "---'",
-        ];
-        assert_picture(&rt, &report, "äpplë == örängë;", &rows)?;
-    }
-    Ok(())
+        ],
+        ..BARE
+    },
+    Case {
+        name: "characters of many bytes, with offsets in bytes",
+        text: "äpplë == örängë;",
+        config: &[Switch::Bytes],
+        message: Some("can't compare äpplës with örängës"),
+        labels: &[(0, 7, "This is an äpplë"), (11, 20, "This is an örängë")],
+        rows: &[
+            "Error: can't compare äpplës with örängës",
+            "   ,-[ <unknown>:1:1 ]",
+            "   |",
+            " 1 | äpplë == örängë;",
+            "   | ^^|^^    ^^^|^^",
+            "   |   `-------------- This is an äpplë",
+            "   |             |",
+            "   |             `---- This is an örängë",
+            "---'",
+        ],
+        ..BARE
+    },
+    Case {
+        name: "characters of many bytes, with a place in bytes behind characters of two bytes",
+        text: "äpplë == örängë;",
+        span: (11, 11),
+        config: &[Switch::Bytes],
+        message: Some("can't compare äpplës with örängës"),
+        labels: &[(0, 7, "This is an äpplë"), (11, 20, "This is an örängë")],
+        rows: &[
+            "Error: can't compare äpplës with örängës",
+            "   ,-[ <unknown>:1:10 ]",
+            "   |",
+            " 1 | äpplë == örängë;",
+            "   | ^^|^^    ^^^|^^",
+            "   |   `-------------- This is an äpplë",
+            "   |             |",
+            "   |             `---- This is an örängë",
+            "---'",
+        ],
+        ..BARE
+    },
+    Case {
+        name: "a label of width zero at the end of a line",
+        text: "apple ==\n",
+        config: &[Switch::Bytes],
+        message: Some("unexpected end of file"),
+        labels: &[(9, 9, "Unexpected end of file")],
+        rows: &[
+            "Error: unexpected end of file",
+            "   ,-[ <unknown>:1:1 ]",
+            "   |",
+            " 1 | apple ==",
+            "   |          |",
+            "   |          `- Unexpected end of file",
+            "---'",
+        ],
+        ..BARE
+    },
+    Case {
+        name: "an empty input",
+        message: Some("unexpected end of file"),
+        labels: &[(0, 0, "No more fruit!")],
+        rows: &[
+            "Error: unexpected end of file",
+            "   ,-[ <unknown>:1:1 ]",
+            "   |",
+            " 1 |",
+            "   | |",
+            "   | `- No more fruit!",
+            "---'",
+        ],
+        ..BARE
+    },
+    Case {
+        name: "an empty input with a help",
+        message: Some("unexpected end of file"),
+        labels: &[(0, 0, "No more fruit!")],
+        asides: &[Aside::Help("have you tried going to the farmer's market?")],
+        rows: &[
+            "Error: unexpected end of file",
+            "   ,-[ <unknown>:1:1 ]",
+            "   |",
+            " 1 |",
+            "   | |",
+            "   | `- No more fruit!",
+            "   |",
+            "   | Help: have you tried going to the farmer's market?",
+            "---'",
+        ],
+        ..BARE
+    },
+    Case {
+        name: "an empty input with a note",
+        message: Some("unexpected end of file"),
+        labels: &[(0, 0, "No more fruit!")],
+        asides: &[Aside::Note("eat your greens!")],
+        rows: &[
+            "Error: unexpected end of file",
+            "   ,-[ <unknown>:1:1 ]",
+            "   |",
+            " 1 |",
+            "   | |",
+            "   | `- No more fruit!",
+            "   |",
+            "   | Note: eat your greens!",
+            "---'",
+        ],
+        ..BARE
+    },
+    Case {
+        name: "an empty input with help and note",
+        message: Some("unexpected end of file"),
+        labels: &[(0, 0, "No more fruit!")],
+        asides: &[
+            Aside::Note("eat your greens!"),
+            Aside::Help("have you tried going to the farmer's market?"),
+        ],
+        rows: &[
+            "Error: unexpected end of file",
+            "   ,-[ <unknown>:1:1 ]",
+            "   |",
+            " 1 |",
+            "   | |",
+            "   | `- No more fruit!",
+            "   |",
+            "   | Help: have you tried going to the farmer's market?",
+            "   |",
+            "   | Note: eat your greens!",
+            "---'",
+        ],
+        ..BARE
+    },
+    Case {
+        name: "a label over lines",
+        text: "apple\n==\norange",
+        labels: &[(0, 15, "illegal comparison")],
+        rows: &[
+            "Error:",
+            "   ,-[ <unknown>:1:1 ]",
+            "   |",
+            " 1 | ,-> apple",
+            "   : :",
+            " 3 | |-> orange",
+            "   | |",
+            "   | `----------- illegal comparison",
+            "---'",
+        ],
+        ..BARE
+    },
+    Case {
+        name: "partially overlapping labels",
+        text: "https://example.com/",
+        labels: &[(0, 20, "URL"), (0, 5, "scheme")],
+        rows: &[
+            "Error:",
+            "   ,-[ <unknown>:1:1 ]",
+            "   |",
+            " 1 | https://example.com/",
+            "   | ^^|^^^^^^^|^^^^^^^^^",
+            "   |   `------------------- scheme",
+            "   |           |",
+            "   |           `----------- URL",
+            "---'",
+        ],
+        ..BARE
+    },
+    Case {
+        name: "several labels on the same span",
+        labels: &[
+            (0, 5, "This is an apple"),
+            (0, 5, "Have I mentioned that this is an apple?"),
+            (0, 5, "No really, have I mentioned that?"),
+            (9, 15, "This is an orange"),
+            (9, 15, "Have I mentioned that this is an orange?"),
+            (9, 15, "No really, have I mentioned that?"),
+        ],
+        rows: &[
+            "Error: can't compare apples with oranges",
+            "   ,-[ <unknown>:1:1 ]",
+            "   |",
+            " 1 | apple == orange;",
+            "   | ^^|^^    ^^^|^^",
+            "   |   `-------------- This is an apple",
+            "   |   |         |",
+            "   |   `-------------- Have I mentioned that this is an apple?",
+            "   |   |         |",
+            "   |   `-------------- No really, have I mentioned that?",
+            "   |             |",
+            "   |             `---- This is an orange",
+            "   |             |",
+            "   |             `---- Have I mentioned that this is an orange?",
+            "   |             |",
+            "   |             `---- No really, have I mentioned that?",
+            "---'",
+        ],
+        ..COMPARING
+    },
+    Case {
+        name: "two labels",
+        labels: &APPLE_LABELS,
+        rows: &[
+            "Error: can't compare apples with oranges",
+            "   ,-[ <unknown>:1:1 ]",
+            "   |",
+            " 1 | apple == orange;",
+            "   | ^^|^^    ^^^|^^",
+            "   |   `-------------- This is an apple",
+            "   |             |",
+            "   |             `---- This is an orange",
+            "---'",
+        ],
+        ..COMPARING
+    },
+    Case {
+        name: "two labels with a note",
+        labels: &APPLE_LABELS,
+        asides: &[Aside::Note("stop trying ... this is a fruitless endeavor")],
+        rows: &[
+            "Error: can't compare apples with oranges",
+            "   ,-[ <unknown>:1:1 ]",
+            "   |",
+            " 1 | apple == orange;",
+            "   | ^^|^^    ^^^|^^",
+            "   |   `-------------- This is an apple",
+            "   |             |",
+            "   |             `---- This is an orange",
+            "   |",
+            "   | Note: stop trying ... this is a fruitless endeavor",
+            "---'",
+        ],
+        ..COMPARING
+    },
+    Case {
+        name: "two labels with a help",
+        labels: &APPLE_LABELS,
+        asides: &[Aside::Help("have you tried peeling the orange?")],
+        rows: &[
+            "Error: can't compare apples with oranges",
+            "   ,-[ <unknown>:1:1 ]",
+            "   |",
+            " 1 | apple == orange;",
+            "   | ^^|^^    ^^^|^^",
+            "   |   `-------------- This is an apple",
+            "   |             |",
+            "   |             `---- This is an orange",
+            "   |",
+            "   | Help: have you tried peeling the orange?",
+            "---'",
+        ],
+        ..COMPARING
+    },
+    Case {
+        name: "two labels with help and note",
+        labels: &APPLE_LABELS,
+        asides: &[
+            Aside::Help("have you tried peeling the orange?"),
+            Aside::Note("stop trying ... this is a fruitless endeavor"),
+        ],
+        rows: &[
+            "Error: can't compare apples with oranges",
+            "   ,-[ <unknown>:1:1 ]",
+            "   |",
+            " 1 | apple == orange;",
+            "   | ^^|^^    ^^^|^^",
+            "   |   `-------------- This is an apple",
+            "   |             |",
+            "   |             `---- This is an orange",
+            "   |",
+            "   | Help: have you tried peeling the orange?",
+            "   |",
+            "   | Note: stop trying ... this is a fruitless endeavor",
+            "---'",
+        ],
+        ..COMPARING
+    },
+    Case {
+        name: "a note of one line",
+        labels: &[(0, 15, "This is a strange comparison")],
+        asides: &[Aside::Note("No need to try, they can't be compared.")],
+        rows: &[
+            "Error: can't compare apples with oranges",
+            "   ,-[ <unknown>:1:1 ]",
+            "   |",
+            " 1 | apple == orange;",
+            "   | ^^^^^^^|^^^^^^^",
+            "   |        `--------- This is a strange comparison",
+            "   |",
+            "   | Note: No need to try, they can't be compared.",
+            "---'",
+        ],
+        ..COMPARING
+    },
+    Case {
+        name: "two notes of one line",
+        labels: &[(0, 15, "This is a strange comparison")],
+        asides: &[
+            Aside::Note("No need to try, they can't be compared."),
+            Aside::Note("Yeah, really, please stop."),
+        ],
+        rows: &[
+            "Error: can't compare apples with oranges",
+            "   ,-[ <unknown>:1:1 ]",
+            "   |",
+            " 1 | apple == orange;",
+            "   | ^^^^^^^|^^^^^^^",
+            "   |        `--------- This is a strange comparison",
+            "   |",
+            "   | Note 1: No need to try, they can't be compared.",
+            "   |",
+            "   | Note 2: Yeah, really, please stop.",
+            "---'",
+        ],
+        ..COMPARING
+    },
+    Case {
+        name: "two notes of several lines",
+        labels: &[(0, 15, "This is a strange comparison")],
+        asides: &[
+            Aside::Note("No need to try, they can't be compared."),
+            Aside::Note("Yeah, really, please stop.\nIt has no resemblance."),
+        ],
+        rows: &[
+            "Error: can't compare apples with oranges",
+            "   ,-[ <unknown>:1:1 ]",
+            "   |",
+            " 1 | apple == orange;",
+            "   | ^^^^^^^|^^^^^^^",
+            "   |        `--------- This is a strange comparison",
+            "   |",
+            "   | Note 1: No need to try, they can't be compared.",
+            "   |",
+            "   | Note 2: Yeah, really, please stop.",
+            "   |         It has no resemblance.",
+            "---'",
+        ],
+        ..COMPARING
+    },
+    Case {
+        name: "two helps of several lines",
+        labels: &[(0, 15, "This is a strange comparison")],
+        asides: &[
+            Aside::Help("No need to try, they can't be compared."),
+            Aside::Help("Yeah, really, please stop.\nIt has no resemblance."),
+        ],
+        rows: &[
+            "Error: can't compare apples with oranges",
+            "   ,-[ <unknown>:1:1 ]",
+            "   |",
+            " 1 | apple == orange;",
+            "   | ^^^^^^^|^^^^^^^",
+            "   |        `--------- This is a strange comparison",
+            "   |",
+            "   | Help 1: No need to try, they can't be compared.",
+            "   |",
+            "   | Help 2: Yeah, really, please stop.",
+            "   |         It has no resemblance.",
+            "---'",
+        ],
+        ..COMPARING
+    },
+];
+
+#[test]
+fn the_pictures_of_the_original_crate(rt: HostRuntime) -> Result<(), Fail> {
+    assert_cases(&rt, CASES)
 }
 
 #[test]
@@ -128,7 +429,8 @@ fn a_label_at_the_end_of_a_long_line(rt: HostRuntime) -> Result<(), Fail> {
     let apples = "apple == ".repeat(alloc, 100)?;
     let blanks = " ".repeat(alloc, 901)?;
     let labels = [(901, 906, "This is an orange")];
-    let report = labelled(&rt, comparing(&rt)?, &labels)?;
+    let builder = plain_error(alloc).with_message("can't compare apples with oranges")?;
+    let report = labelled(&rt, builder, &labels)?;
     let text = format!(in alloc; "{apples}orange")?;
     let source_row = format!(in alloc; " 1 | {text}")?;
     let underlines = format!(in alloc; "   | {blanks}^^|^^")?;
@@ -143,243 +445,4 @@ fn a_label_at_the_end_of_a_long_line(rt: HostRuntime) -> Result<(), Fail> {
         "---'",
     ];
     assert_picture(&rt, &report, text.as_str(), &rows)
-}
-
-#[test]
-fn a_label_of_width_zero_at_the_end_of_a_line(rt: HostRuntime) -> Result<(), Fail> {
-    let builder = plain_error(rt.alloc())
-        .with_config(plain().with_index_type(IndexType::Byte))
-        .with_message("unexpected end of file")?;
-    let report = labelled(&rt, builder, &[(9, 9, "Unexpected end of file")])?;
-    let rows = [
-        "Error: unexpected end of file",
-        "   ,-[ <unknown>:1:1 ]",
-        "   |",
-        " 1 | apple ==",
-        "   |          |",
-        "   |          `- Unexpected end of file",
-        "---'",
-    ];
-    assert_picture(&rt, &report, "apple ==\n", &rows)
-}
-
-#[test]
-fn an_empty_input_with_help_and_note(rt: HostRuntime) -> Result<(), Fail> {
-    let alloc = rt.alloc();
-    let help = "have you tried going to the farmer's market?";
-    let help_row = "   | Help: have you tried going to the farmer's market?";
-    let note = "eat your greens!";
-    let note_row = "   | Note: eat your greens!";
-    assert_unexpected_end(&rt, plain_error(alloc), &[])?;
-    let builder = plain_error(alloc).with_help(help)?;
-    assert_unexpected_end(&rt, builder, &["   |", help_row])?;
-    let builder = plain_error(alloc).with_note(note)?;
-    assert_unexpected_end(&rt, builder, &["   |", note_row])?;
-    let builder = plain_error(alloc).with_note(note)?.with_help(help)?;
-    assert_unexpected_end(&rt, builder, &["   |", help_row, "   |", note_row])
-}
-
-#[test]
-fn a_label_over_lines(rt: HostRuntime) -> Result<(), Fail> {
-    let report = labelled(
-        &rt,
-        plain_error(rt.alloc()),
-        &[(0, 15, "illegal comparison")],
-    )?;
-    let rows = [
-        "Error:",
-        "   ,-[ <unknown>:1:1 ]",
-        "   |",
-        " 1 | ,-> apple",
-        "   : :",
-        " 3 | |-> orange",
-        "   | |",
-        "   | `----------- illegal comparison",
-        "---'",
-    ];
-    assert_picture(&rt, &report, "apple\n==\norange", &rows)
-}
-
-#[test]
-fn partially_overlapping_labels(rt: HostRuntime) -> Result<(), Fail> {
-    let labels = [(0, 20, "URL"), (0, 5, "scheme")];
-    let report = labelled(&rt, plain_error(rt.alloc()), &labels)?;
-    let rows = [
-        "Error:",
-        "   ,-[ <unknown>:1:1 ]",
-        "   |",
-        " 1 | https://example.com/",
-        "   | ^^|^^^^^^^|^^^^^^^^^",
-        "   |   `------------------- scheme",
-        "   |           |",
-        "   |           `----------- URL",
-        "---'",
-    ];
-    assert_picture(&rt, &report, "https://example.com/", &rows)
-}
-
-#[test]
-fn several_labels_on_the_same_span(rt: HostRuntime) -> Result<(), Fail> {
-    let labels = [
-        APPLE_LABELS[0],
-        (0, 5, "Have I mentioned that this is an apple?"),
-        (0, 5, "No really, have I mentioned that?"),
-        APPLE_LABELS[1],
-        (9, 15, "Have I mentioned that this is an orange?"),
-        (9, 15, "No really, have I mentioned that?"),
-    ];
-    assert_compared(
-        &rt,
-        comparing(&rt)?,
-        &labels,
-        &[
-            "   | ^^|^^    ^^^|^^",
-            "   |   `-------------- This is an apple",
-            "   |   |         |",
-            "   |   `-------------- Have I mentioned that this is an apple?",
-            "   |   |         |",
-            "   |   `-------------- No really, have I mentioned that?",
-            "   |             |",
-            "   |             `---- This is an orange",
-            "   |             |",
-            "   |             `---- Have I mentioned that this is an orange?",
-            "   |             |",
-            "   |             `---- No really, have I mentioned that?",
-        ],
-    )
-}
-
-#[test]
-fn two_labels_with_help_and_note(rt: HostRuntime) -> Result<(), Fail> {
-    let help = "have you tried peeling the orange?";
-    let help_row = "   | Help: have you tried peeling the orange?";
-    let note = "stop trying ... this is a fruitless endeavor";
-    let note_row = "   | Note: stop trying ... this is a fruitless endeavor";
-    let bare = [
-        "   | ^^|^^    ^^^|^^",
-        "   |   `-------------- This is an apple",
-        "   |             |",
-        "   |             `---- This is an orange",
-        "   |",
-    ];
-    let mut rows = Vec::new(rt.alloc());
-    assert_compared(&rt, comparing(&rt)?, &APPLE_LABELS, &bare[..4])?;
-    rows.extend_from_slice(&bare)?;
-    rows.push(note_row)?;
-    assert_compared(&rt, comparing(&rt)?.with_note(note)?, &APPLE_LABELS, &rows)?;
-    rows.clear();
-    rows.extend_from_slice(&bare)?;
-    rows.push(help_row)?;
-    assert_compared(&rt, comparing(&rt)?.with_help(help)?, &APPLE_LABELS, &rows)?;
-    rows.extend_from_slice(&["   |", note_row])?;
-    let builder = comparing(&rt)?.with_help(help)?.with_note(note)?;
-    assert_compared(&rt, builder, &APPLE_LABELS, &rows)
-}
-
-/// Asserts the picture of one label with these helps or notes below it.
-fn assert_strange(
-    rt: &(impl Abort + AllocGlobal),
-    builder: ReportBuilder<'_>,
-    asides: &[&str],
-) -> Result<(), Fail> {
-    let mut rows = Vec::new(rt.alloc());
-    rows.extend_from_slice(&[
-        "   | ^^^^^^^|^^^^^^^",
-        "   |        `--------- This is a strange comparison",
-        "   |",
-    ])?;
-    rows.extend_from_slice(asides)?;
-    assert_compared(
-        rt,
-        builder,
-        &[(0, 15, "This is a strange comparison")],
-        &rows,
-    )
-}
-
-#[test]
-fn helps_and_notes_of_several_lines(rt: HostRuntime) -> Result<(), Fail> {
-    let vain = "No need to try, they can't be compared.";
-    let stop = "Yeah, really, please stop.";
-    let unlike = "Yeah, really, please stop.\nIt has no resemblance.";
-    let alone = ["   | Note: No need to try, they can't be compared."];
-    let notes = [
-        "   | Note 1: No need to try, they can't be compared.",
-        "   |",
-        "   | Note 2: Yeah, really, please stop.",
-        "   |         It has no resemblance.",
-    ];
-    let helps = [
-        "   | Help 1: No need to try, they can't be compared.",
-        "   |",
-        "   | Help 2: Yeah, really, please stop.",
-        "   |         It has no resemblance.",
-    ];
-    assert_strange(&rt, comparing(&rt)?.with_note(vain)?, &alone)?;
-    let builder = comparing(&rt)?.with_note(vain)?.with_note(stop)?;
-    assert_strange(&rt, builder, &notes[..3])?;
-    let builder = comparing(&rt)?.with_note(vain)?.with_note(unlike)?;
-    assert_strange(&rt, builder, &notes)?;
-    let builder = comparing(&rt)?.with_help(vain)?.with_help(unlike)?;
-    assert_strange(&rt, builder, &helps)
-}
-
-#[test]
-fn labels_ordered_over_two_sources(rt: HostRuntime) -> Result<(), Fail> {
-    let alloc = rt.alloc();
-    let mut labels = Vec::new(alloc);
-    for (id, span, order, message) in [
-        ("b", 13..18, 1, "1"),
-        ("a", 0..6, 2, "2"),
-        ("a", 7..12, 3, "3"),
-        ("b", 0..6, 4, "4"),
-        ("b", 7..12, 5, "5"),
-    ] {
-        assert!(rt; span.start <= span.end);
-        labels.push(
-            Label::new((id, span))
-                .with_order(order)
-                .with_message(alloc, message)?,
-        )?;
-    }
-    let report = plain_error_at(alloc, ("", 0..0))
-        .with_labels(labels)?
-        .finish();
-    let mut cache = sources(
-        alloc,
-        [("a", "second\nthird"), ("b", "fourth\nfifth\nfirst")],
-    )?;
-    assert_picture_over(
-        &rt,
-        &report,
-        &mut cache,
-        &[],
-        &[
-            "Error:",
-            "   ,-[ b:3:1 ]",
-            "   |",
-            " 3 | first",
-            "   | ^^|^^",
-            "   |   `---- 1",
-            "   |",
-            "   |-[ a:1:1 ]",
-            "   |",
-            " 1 | second",
-            "   | ^^^|^^",
-            "   |    `---- 2",
-            " 2 | third",
-            "   | ^^|^^",
-            "   |   `---- 3",
-            "   |",
-            "   |-[ b:1:1 ]",
-            "   |",
-            " 1 | fourth",
-            "   | ^^^|^^",
-            "   |    `---- 4",
-            " 2 | fifth",
-            "   | ^^|^^",
-            "   |   `---- 5",
-            "---'",
-        ],
-    )
 }

@@ -1,10 +1,10 @@
-//! Writers that take few bytes a call, and that fail.
+//! Writers and sinks that take few bytes a call, and that fail.
 
 ghost use Rattle.std.specs.Prelude.{Some};
 
 use crate::helpers::{Why, assert_left_out, joined, labelled, plain_error, source_of};
 use crate::pictures::{APPLE_LABELS, APPLES};
-use ariadne::{Report, WriteError};
+use ariadne::{LeftOut, Report, Sink, WriteError};
 use std::alloc::{AllocError, Global};
 use std::io;
 use std::io::{ErrorKind, Write};
@@ -62,15 +62,113 @@ fn apples(rt: &(impl Abort + AllocGlobal)) -> Result<Report<'static>, Fail> {
     Ok(labelled(rt, builder, &APPLE_LABELS)?)
 }
 
-/// Writes the report to a writer. The answer is how many bytes were sent before a fault, and the
-/// fault's kind, or nothing where there was none.
-fn stopped_at(
-    rt: &(impl Abort + AllocGlobal),
-    out: &mut Narrow,
+/// A sink over such a writer.
+#[derive(Drop)]
+struct Drain {
+    narrow: Narrow,
+    met_fault: bool,
+}
+
+impl Sink for Drain {
+    ghost contents = { λ s. Some s.narrow.held.items };
+
+    ghost has_failed = { λ s. s.met_fault };
+
+    fn take(&mut self, bytes: &[u8]) -> io::Result<usize> {
+        match self.narrow.write(bytes) {
+            Ok(taken) => {
+                self.met_fault = self.met_fault || (taken == 0 && !bytes.is_empty());
+                Ok(taken)
+            }
+            Err(fault) => {
+                self.met_fault = true;
+                Err(fault)
+            }
+        }
+    }
+
+    fn failed(&self) -> bool {
+        self.met_fault
+    }
+}
+
+/// A writer, and what comes of sending it the picture.
+#[derive(Clone, Copy)]
+struct Stop {
+    name: &'static str,
+    /// How many bytes it takes a call.
+    room: usize,
+    /// How many calls it answers before its fault.
+    calls: usize,
+    /// The fault, or none where it takes nothing.
+    fault: Option<ErrorKind>,
+    /// How many bytes were sent before a fault, and the fault's kind.
+    want: Option<(usize, ErrorKind)>,
+    /// How many of the first bytes it holds.
+    held: usize,
+    /// How many calls it would still answer.
+    calls_left: usize,
+}
+
+/// Writers and sinks of few bytes a call.
+const STOPS: &[Stop] = &[
+    Stop {
+        name: "a fault that no call meets is none",
+        room: 1,
+        calls: LEN,
+        fault: Some(ErrorKind::BrokenPipe),
+        want: None,
+        held: LEN,
+        calls_left: 0,
+    },
+    Stop {
+        name: "a picture is sent in pieces",
+        room: 7,
+        calls: LEN,
+        fault: None,
+        want: None,
+        held: LEN,
+        calls_left: 191,
+    },
+    Stop {
+        name: "nothing taken is a fault",
+        room: 1,
+        calls: 2,
+        fault: None,
+        want: Some((2, ErrorKind::WriteZero)),
+        held: 2,
+        calls_left: 0,
+    },
+    Stop {
+        name: "an interruption is a fault",
+        room: 1,
+        calls: 0,
+        fault: Some(ErrorKind::Interrupted),
+        want: Some((0, ErrorKind::Interrupted)),
+        held: 0,
+        calls_left: 0,
+    },
+];
+
+/// A fault at the call of one byte behind so many ones.
+fn broken_after(calls: usize) -> Stop {
+    Stop {
+        name: "what fails holds what was sent",
+        room: 1,
+        calls,
+        fault: Some(ErrorKind::BrokenPipe),
+        want: Some((calls, ErrorKind::BrokenPipe)),
+        held: calls,
+        calls_left: 0,
+    }
+}
+
+/// How many bytes were sent before a fault, and the fault's kind, or nothing where there was none.
+fn told<E: Drop>(
+    rt: &impl Abort,
+    answer: Result<Vec<LeftOut<E>>, WriteError>,
 ) -> Result<Option<(usize, ErrorKind)>, Fail> {
-    let report = apples(rt)?;
-    let mut source = source_of(rt.alloc(), "apple == orange;")?;
-    match report.write(&mut source, out) {
+    match answer {
         Ok(left_out) => {
             assert!(rt; left_out.is_empty());
             Ok(None)
@@ -80,53 +178,65 @@ fn stopped_at(
     }
 }
 
+/// Asserts that a writer holds what it is to hold, and met so many calls.
+fn assert_held(rt: &(impl Abort + AllocGlobal), out: &Narrow, stop: &Stop) -> Result<(), Fail> {
+    let name = stop.name;
+    let picture = joined(rt.alloc(), &APPLES)?;
+    let bytes = picture.as_bytes();
+    assert_eq!(rt; bytes.len(), LEN);
+    let held = stop.held;
+    assert!(rt; held <= bytes.len());
+    assert_eq!(rt; out.held.as_slice(), &bytes[..held], "{name}, {held}");
+    assert_eq!(rt; out.calls_left, stop.calls_left, "{name}, {held}");
+    Ok(())
+}
+
+/// Asserts what comes of a writer.
+fn assert_writer(rt: &(impl Abort + AllocGlobal), stop: &Stop) -> Result<(), Fail> {
+    let name = stop.name;
+    let mut out = Narrow::new(rt.alloc(), stop.room, stop.calls, stop.fault);
+    let mut source = source_of(rt.alloc(), "apple == orange;")?;
+    let answer = apples(rt)?.write(&mut source, &mut out);
+    assert_eq!(rt; told(rt, answer)?, stop.want, "{name}");
+    assert_held(rt, &out, stop)
+}
+
+/// Asserts the same of a sink, and that it has failed where it had before or does
+/// now, and else not.
+fn assert_sink(rt: &(impl Abort + AllocGlobal), stop: &Stop, had_failed: bool) -> Result<(), Fail> {
+    let name = stop.name;
+    let mut out = Drain {
+        narrow: Narrow::new(rt.alloc(), stop.room, stop.calls, stop.fault),
+        met_fault: had_failed,
+    };
+    let mut source = source_of(rt.alloc(), "apple == orange;")?;
+    let answer = apples(rt)?.write_to(&mut source, &mut out);
+    assert_eq!(rt; told(rt, answer)?, stop.want, "{name}");
+    assert_eq!(rt; out.failed(), had_failed || stop.want.is_some(), "{name}");
+    assert_held(rt, &out.narrow, stop)
+}
+
 #[test]
 fn a_writer_that_fails_holds_what_was_sent(rt: HostRuntime) -> Result<(), Fail> {
-    let picture = joined(rt.alloc(), &APPLES)?;
-    assert_eq!(rt; picture.len(), LEN);
     for calls in 0..LEN {
-        let mut out = Narrow::new(rt.alloc(), 1, calls, Some(ErrorKind::BrokenPipe));
-        let want = Some((calls, ErrorKind::BrokenPipe));
-        assert_eq!(rt; stopped_at(&rt, &mut out)?, want);
-        assert_eq!(rt; out.held.as_slice(), &picture.as_bytes()[..calls]);
+        assert_writer(&rt, &broken_after(calls))?;
+    }
+    for stop in STOPS {
+        assert_writer(&rt, stop)?;
     }
     Ok(())
 }
 
 #[test]
-fn a_fault_that_no_call_meets_is_none(rt: HostRuntime) -> Result<(), Fail> {
-    let picture = joined(rt.alloc(), &APPLES)?;
-    let mut out = Narrow::new(rt.alloc(), 1, LEN, Some(ErrorKind::BrokenPipe));
-    assert_eq!(rt; stopped_at(&rt, &mut out)?, None);
-    assert_eq!(rt; out.held.as_slice(), picture.as_bytes());
-    assert_eq!(rt; out.calls_left, 0);
-    Ok(())
-}
-
-#[test]
-fn a_picture_is_sent_in_pieces(rt: HostRuntime) -> Result<(), Fail> {
-    let picture = joined(rt.alloc(), &APPLES)?;
-    let mut out = Narrow::new(rt.alloc(), 7, LEN, None);
-    assert_eq!(rt; stopped_at(&rt, &mut out)?, None);
-    assert_eq!(rt; out.held.as_slice(), picture.as_bytes());
-    Ok(())
-}
-
-#[test]
-fn a_writer_that_takes_nothing_is_a_fault(rt: HostRuntime) -> Result<(), Fail> {
-    let mut out = Narrow::new(rt.alloc(), 1, 2, None);
-    let want = Some((2, ErrorKind::WriteZero));
-    assert_eq!(rt; stopped_at(&rt, &mut out)?, want);
-    assert_eq!(rt; out.held.as_slice(), b"Er".as_slice());
-    Ok(())
-}
-
-#[test]
-fn an_interruption_is_a_fault(rt: HostRuntime) -> Result<(), Fail> {
-    let mut out = Narrow::new(rt.alloc(), 1, 0, Some(ErrorKind::Interrupted));
-    let want = Some((0, ErrorKind::Interrupted));
-    assert_eq!(rt; stopped_at(&rt, &mut out)?, want);
-    assert!(rt; out.held.is_empty());
+fn a_sink_that_fails_holds_what_was_sent_and_has_failed(rt: HostRuntime) -> Result<(), Fail> {
+    for calls in 0..LEN {
+        assert_sink(&rt, &broken_after(calls), false)?;
+    }
+    for stop in STOPS {
+        assert_sink(&rt, stop, false)?;
+        // One that had failed before has failed still, also where it takes all.
+        assert_sink(&rt, stop, true)?;
+    }
     Ok(())
 }
 
