@@ -196,7 +196,7 @@ impl<I: SourceText> Source<I> {
     /// to the line of its last offset, or to the last line where that offset is past the source.
     /// A start past the source counts as line 0.
     ///
-    /// There is such a line for every span, also where it is reversed or past the source.
+    /// The range has a line for every span, also where the span is reversed or past the source.
     pub fn get_line_range<S: Span>(&self, span: &S) -> Range<usize>
         ensures start { result.start ≡ first_line (listed_lines self.now) (S.start_of span.now) }
         ensures end { result.end

@@ -98,8 +98,9 @@ impl Config {
         self
     }
 
-    /// Whether the picture is drawn with fewer rows and columns: without underlines, and without
-    /// the rows round those that tell something. By default it is not.
+    /// Whether the picture is drawn with fewer rows and columns: without underlines, without the
+    /// rows between a line and its messages, and without those that only set parts of the picture
+    /// apart. By default it is not.
     pub const fn with_compact(mut self, compact: bool) -> Config
         ensures { result ≡ record self { compact = compact } }
     {

@@ -14,8 +14,8 @@ use std::ops::Range;
 
 /// A piece of a source that a report points at, and what it says of it.
 ///
-/// The offsets of its span count characters of the source from 0; its end is exclusive, and not
-/// less than its start.
+/// The offsets of its span count from 0, in characters of the source, or in bytes of its text where
+/// the report's index type says so. Its end is exclusive, and not less than its start.
 #[derive(Drop)]
 pub struct Label<S: Span = Range<usize>> {
     span: S,
@@ -87,7 +87,7 @@ impl<S: Span> Label<S> {
     }
 
     /// The label with this priority. Where spans overlap, the label of the highest priority is
-    /// seen.
+    /// seen, and of several such that of the shortest span.
     pub fn with_priority(mut self, priority: i32) -> Label<S>
         ensures { result ≡ record self { priority = priority } }
     {
@@ -103,14 +103,14 @@ impl<S: Span> Label<S> {
         &self.span
     }
 
-    /// What it says.
+    /// What it says, if it has a message.
     pub fn message(&self) -> Option<&str>
         ensures { option_copied result ≡ self.now.message }
     {
         self.message.as_deref()
     }
 
-    /// Its own colour.
+    /// Its own colour, if it has one.
     pub fn color(&self) -> Option<Color>
         ensures { result ≡ self.now.color }
     {

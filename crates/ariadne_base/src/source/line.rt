@@ -7,8 +7,8 @@ use std::ops::Range;
 
 /// A line of a [`Source`](crate::Source), its terminator included.
 ///
-/// What it answers counts characters from the start of the source, from 0. It keeps the same in
-/// bytes beside them, for the source that it came from.
+/// Its calls count characters, from 0 at the start of the source. It keeps its place in bytes too,
+/// by which its text is cut from the source that it came from.
 #[derive(Clone, Copy, Debug, PartialEq, Eq, Hash)]
 pub struct Line {
     pub(super) offset: usize,
