@@ -4,10 +4,10 @@ use Rattle.std.proofs.Common.{encode_utf8, encode_utf8_all, refl, sym, ap, ◌�
 use Rattle.std.specs.Char.{is_whitespace}
 use Rattle.std.specs.List.{AllByRecursion}
 use Rattle.std.specs.Str.{chars, all_scalars, drop_trailing_whitespace, trim_end, IsAscii, IsUtf8}
-use Rattle.std.proofs.lemmas.Bool.{cond_both, and_parts, and_from, leb-true}
+use Rattle.std.proofs.lemmas.Bool.{cond_both, and_parts, and_from, le-leb, leb-true}
 use Rattle.std.proofs.lemmas.List.{take_more, map-append, length-append}
 use Rattle.std.proofs.lemmas.List.Recursion.{max_push}
-use Rattle.std.proofs.lemmas.Str.{chars-encodes, chars-IsAscii, encodes-chars, scalars-chars, length-encode, length-le-encodes, len_utf8_bounds}
+use Rattle.std.proofs.lemmas.Str.{chars-encodes, chars-IsAscii, encodes-chars, scalars-chars, length-encode, encode_ascii, length-le-encodes, len_utf8_bounds}
 use Rattle.ariadne_picture.specs.declared.label_info.LineLabel.{LineLabel}
 use Rattle.ariadne_picture.specs.Columns.{Layout, places_to_end}
 use Rattle.ariadne_picture.specs.Groups.{greatest}
@@ -36,6 +36,27 @@ pub printable-chars : (bs : List ℕ) → fold (λ a b. a && (nat_le 32 b && nat
 printable-chars bs e =
     let each = (fold-printable true bs e).1 in
     subst (AllByRecursion (λ c. (32 ≤ c) × (c ≤ 126))) (sym (chars-IsAscii bs (ascii-printable bs each))) each
+
+-- where each byte is in that range the test passes
+fold-passes : (bs : List ℕ) → AllByRecursion (λ c. (32 ≤ c) × (c ≤ 126)) bs → fold (λ a b. a && (nat_le 32 b && nat_le b 126)) true bs ≡ true
+fold-passes [] each = refl
+fold-passes (b ∷ bs) each =
+    let here : (nat_le 32 b && nat_le b 126) ≡ true = and_from (nat_le 32 b) (nat_le b 126) (le-leb 32 b each.0.0) (le-leb b 126 each.0.1) in
+    ap (λ a. fold (λ a b. a && (nat_le 32 b && nat_le b 126)) a bs) here ∙ fold-passes bs each.1
+
+-- characters in that range are their bytes
+printable-bytes : (cs : List ℕ) → AllByRecursion (λ c. (32 ≤ c) × (c ≤ 126)) cs → encode_utf8_all cs ≡ cs
+printable-bytes [] each = refl
+printable-bytes (c ∷ cs) each =
+    let high = each.0.1 in
+    (λ i. encode_ascii c (omega (arith, high)) i ++ printable-bytes cs each.1 i)
+
+-- so where each character is, the test passes
+pub chars-printable : (bs : List ℕ) → IsUtf8 bs → AllByRecursion (λ c. (32 ≤ c) × (c ≤ 126)) (chars bs)
+    → fold (λ a b. a && (nat_le 32 b && nat_le b 126)) true bs ≡ true
+chars-printable bs u each =
+    ap (fold (λ a b. a && (nat_le 32 b && nat_le b 126)) true) (sym (encodes-chars bs u) ∙ printable-bytes (chars bs) each)
+    ∙ fold-passes (chars bs) each
 
 -- ---- the shown text
 

@@ -40,7 +40,7 @@ impl Columns {
         }
     }
 
-    /// Finds those of a line's places up to `len`.
+    /// Finds those of the first `len` places of a line, and of the place behind them.
     ///
     /// On `Err` there was no memory for them, and what is held is of no line.
     pub fn fill(
@@ -65,7 +65,7 @@ impl Columns {
         push_behind(&mut self.list, column, len)
     }
 
-    /// The column that a place begins at.
+    /// The column that a place begins at; where none is held it is the place itself.
     #[tactic(auto, unfolding(crate::specs::Tables::column_in))]
     pub fn column(&self, place: usize) -> usize
         ensures { result ≡ column_in self.now place }
@@ -122,8 +122,8 @@ fn push_behind(list: &mut Vec<usize>, column: usize, len: usize) -> Result<(), A
     Ok(())
 }
 
-/// How many columns a shown character at an index of its line has; a tab reaches to the next tab
-/// stop.
+/// How many columns a shown character at an index of its line has. A tab has as many as there are
+/// from its index to the next multiple of `tab_width`.
 #[tactic(auto, unfolding(ariadne_picture::specs::Columns::shown_columns, ariadne_picture::specs::Columns::char_columns))]
 pub fn shown_columns(tab_width: usize, index: usize, c: char) -> usize
     requires { 1 ≤ tab_width }

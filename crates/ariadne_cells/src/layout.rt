@@ -1,6 +1,6 @@
 //! What is drawn at one line of a source: its labels, and its characters.
 
-ghost use Rattle.std.specs.Prelude.{◌≡◌, ◌≤◌, ◌<◌, ◌^◌, IsTrue, chars, length, map, not};
+ghost use Rattle.std.specs.Prelude.{◌≡◌, ◌≤◌, ◌<◌, ◌^◌, ◌↔◌, IsTrue, chars, length, map, not};
 ghost use Rattle.std.specs.List.{AllByRecursion, list_any};
 ghost use Rattle.ariadne_picture.specs.Columns.{arrow_len, places_to_end, shown};
 ghost use Rattle.ariadne_picture.specs.Groups.{greatest};
@@ -29,7 +29,7 @@ pub struct LineLayout<'a> {
 }
 
 impl<'a> Model for LineLayout<'a> {
-    ghost use Rattle.std.specs.Prelude.{◌≡◌, ◌≤◌, IsTrue, chars, length};
+    ghost use Rattle.std.specs.Prelude.{◌≡◌, ◌≤◌, ◌↔◌, IsTrue, chars, length};
     ghost use Rattle.std.specs.List.{AllByRecursion};
     ghost use Rattle.std.specs.Str.{drop_trailing_whitespace};
     ghost use Rattle.ariadne_picture.specs.Columns.{Layout};
@@ -46,7 +46,7 @@ impl<'a> Model for LineLayout<'a> {
     ghost invariant = { λ a. (a.len ≡ length (chars a.text.now))
         × (chars a.shown.now ≡ drop_trailing_whitespace (chars a.text.now))
         × (a.shown_len ≡ length (chars a.shown.now))
-        × (IsTrue a.is_plain → AllByRecursion (λ c. (32 ≤ c) × (c ≤ 126)) (chars a.shown.now)) };
+        × (IsTrue a.is_plain ↔ AllByRecursion (λ c. (32 ≤ c) × (c ≤ 126)) (chars a.shown.now)) };
 }
 
 impl<'a> LineLayout<'a> {
@@ -128,7 +128,7 @@ impl<'a> LineLayout<'a> {
     /// Whether each shown character is printable ASCII, and so takes one column.
     #[tactic(auto, unfolding(ariadne_picture::specs::Columns::shown))]
     pub fn is_plain(&self) -> bool
-        ensures { IsTrue result → AllByRecursion (λ c. (32 ≤ c) × (c ≤ 126)) (shown self.now) }
+        ensures { IsTrue result ↔ AllByRecursion (λ c. (32 ≤ c) × (c ≤ 126)) (shown self.now) }
     {
         self.is_plain
     }
@@ -194,7 +194,7 @@ impl<'a> LineLayout<'a> {
 /// Whether each character of a text is printable ASCII. All bytes are read, so that many of them
 /// are tested at once.
 fn is_printable(text: &str) -> bool
-    ensures { IsTrue result → AllByRecursion (λ c. (32 ≤ c) × (c ≤ 126)) (chars text.now) }
+    ensures { IsTrue result ↔ AllByRecursion (λ c. (32 ≤ c) × (c ≤ 126)) (chars text.now) }
 {
     text.as_bytes()
         .iter()

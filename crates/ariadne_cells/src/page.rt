@@ -83,7 +83,7 @@ impl Page {
         self.number_width
     }
 
-    /// The colour of a piece.
+    /// The colour of a piece, if it has one.
     pub fn color_of(&self, paint: Paint) -> Option<Color>
         ensures { result ≡ color_of self.now.palette paint }
     {

@@ -36,7 +36,7 @@ impl Model for Palette {
 }
 
 impl Palette {
-    /// The colour of a piece.
+    /// The colour of a piece, if it has one.
     #[tactic(auto, unfolding(ariadne_picture::specs::Canvas::color_of, ariadne_picture::specs::Canvas::paint_color))]
     pub fn color_of(&self, paint: Paint) -> Option<Color>
         ensures { result ≡ color_of self.now paint }

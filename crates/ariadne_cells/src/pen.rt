@@ -80,7 +80,7 @@ impl<'a> Pen<'a> {
         self.text.len()
     }
 
-    /// Makes room for so many bytes more.
+    /// Makes room for `len` bytes more. What is written stays.
     pub fn reserve(&mut self, len: usize) -> Result<(), AllocError>
         ensures { OnOk result (self.new ≡ self.old) }
     {
@@ -203,7 +203,8 @@ impl<'a> Pen<'a> {
         )
     }
 
-    /// Writes the cells of a place or column of `width` columns.
+    /// Writes the cells of a place of the text, or of a column of the gutter, that is `width` columns
+    /// wide.
     pub fn push_ink(&mut self, ink: &Ink, width: usize) -> Result<(), AllocError>
         ensures { let set = self.old.page.switches.char_set in
             OnOk result (Draws self.old self.new (ink_pieces set ink.now width)) }

@@ -73,7 +73,7 @@ impl LineTable {
     ///
     /// `multi_line` are the multi-line labels of the line's group, and `touching` the numbers,
     /// rising, of those that may hold a shown character of the line. On `Err` there was no memory
-    /// for it, and the colours that are held are of no line.
+    /// for it, and the colours that are held are of no line. All else that is held stays.
     pub fn fill_paints(
         &mut self,
         layout: &LineLayout<'_>,
@@ -85,7 +85,8 @@ impl LineTable {
         requires touching { (i : ℕ) (a : LabelInfo) → slice_get multi_line.now i ≡ Some a
             → list_any (λ j. j == i) touching.now ≡ false
             → (k : ℕ) → k < length (shown layout.now) → holds a (layout.now.offset + k) ≡ false }
-        ensures { OnOk result (ArePaints multi_line.now layout.now self.new.paints.items) }
+        ensures paints { OnOk result (ArePaints multi_line.now layout.now self.new.paints.items) }
+        ensures others { record self.new { paints = self.old.paints } ≡ self.old }
     {
         find_paints(layout, multi_line, touching, &mut self.paints)
     }

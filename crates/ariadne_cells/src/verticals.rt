@@ -5,7 +5,6 @@ ghost use Rattle.std.specs.Prelude.{IfSome, if◌then◌else◌};
 ghost use Rattle.std.specs.List.Sorted.{IsPartitionPoint};
 ghost use Rattle.std.specs.Option.{IsSome, option_map};
 ghost use Rattle.ariadne_cells.specs.Tables.{AreVerticals, seen_vertical, vertical_of};
-ghost use Rattle.ariadne_picture.specs.Ranks.{is_margin};
 ghost use Rattle.ariadne_picture.specs.Strokes.{has_vertical, vertical_at};
 
 use crate::layout::LineLayout;
@@ -45,7 +44,7 @@ impl Model for Verticals {
 }
 
 impl Verticals {
-    /// None.
+    /// No verticals.
     pub fn new(alloc: Global) -> Verticals
         ensures { result ≡ [] }
     {
@@ -169,16 +168,5 @@ fn vertical_of(label: &LineLabel) -> Vertical
 fn has_vertical(layout: &LineLayout<'_>, label: &LineLabel, place: usize) -> bool
     ensures { result ≡ has_vertical layout.now.margin place label.now }
 {
-    label.place == place && label.info.has_message && !is_margin(layout, label)
-}
-
-/// Whether a line label is the margin label.
-#[tactic(auto, unfolding(ariadne_picture::specs::Ranks::is_margin, ariadne_picture::specs::Ranks::is_of_gutter_label))]
-fn is_margin(layout: &LineLayout<'_>, label: &LineLabel) -> bool
-    ensures { result ≡ is_margin layout.now.margin label.now }
-{
-    !label.side.is_inline()
-        && layout
-            .margin()
-            .is_some_and(|margin| margin.gutter_column == label.gutter_column)
+    label.place == place && label.info.has_message && !layout.is_margin(label)
 }

@@ -37,7 +37,7 @@ returns-then-is_plain-clause-drawn c = λ multi_line paints.
     let off = sym lit ∙ c.if-is_colored.false in
     on_ok_weaker c.push_text.result
     (λ h. draws_shown pen new pen.page.switches multi_line y (λ k. Plain) (λ k l. no_colors pen.page.palette Plain (char_paint multi_line y k) off)
-    (draws_printable pen new y c.shown.result.now (c.is_plain.ensures c.if-is_plain.true) c.shown.utf8 c.shown.ensures h))
+    (draws_printable pen new y c.shown.result.now (c.is_plain.ensures.0 c.if-is_plain.true) c.shown.utf8 c.shown.ensures h))
     c.push_text.ensures
 
 pub returns-then-is_plain-clause-tabs : goal.returns-then-is_plain-clause-tabs
@@ -47,7 +47,7 @@ returns-then-is_plain-clause-tabs c =
     let y = c.args.layout.now in
     on_ok_weaker c.push_text.result
     (λ h. tabs_written pen new pen.page.switches y (λ k. Plain)
-    (draws_printable pen new y c.shown.result.now (c.is_plain.ensures c.if-is_plain.true) c.shown.utf8 c.shown.ensures h))
+    (draws_printable pen new y c.shown.result.now (c.is_plain.ensures.0 c.if-is_plain.true) c.shown.utf8 c.shown.ensures h))
     c.push_text.ensures
 
 -- and others are written one by one

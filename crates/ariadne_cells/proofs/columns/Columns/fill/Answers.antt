@@ -12,7 +12,7 @@ pub returns-then-is_plain : goal.returns-then-is_plain
 returns-then-is_plain c =
     let s = c.args.switches.now in
     let y = c.args.layout.now in
-    subst (AreColumns s y c.args.len) (sym c.clear.ensures.items) (columns-plain s y c.args.len (c.is_plain.ensures (search rules)))
+    subst (AreColumns s y c.args.len) (sym c.clear.ensures.items) (columns-plain s y c.args.len (c.is_plain.ensures.0 (search rules)))
 
 -- the columns are few enough
 pub push_behind-requires-clause-fits : goal.push_behind-requires-clause-fits
