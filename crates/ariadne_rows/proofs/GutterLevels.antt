@@ -17,7 +17,8 @@ use Rattle.ariadne_picture.specs.Pieces.{column_size, glyph_text, stroke}
 use Rattle.ariadne_picture.specs.Print.{pieces_bytes}
 use Rattle.ariadne_rows.specs.Gutters.{GutterFields, bar_in, bar_of, bar_ink, bars_ink, column_bytes, columns_bytes, margin_row_ink, turn_row_ink}
 use Rattle.ariadne_rows.proofs.GutterBytes.{bytes-none, bytes-append, ink-bytes, ink-alike, column-some}
-use Rattle.ariadne_rows.proofs.GutterPen.{adds-same, adds-then, adds-page, columns-more}
+use Rattle.ariadne_cells.proofs.Drawn.{adds-append, adds_same, page_kept}
+use Rattle.ariadne_rows.proofs.GutterPen.{columns-more}
 use Rattle.ariadne_rows.proofs.GutterText.{joined-range_same}
 
 -- ---- runs
@@ -159,7 +160,7 @@ owes-none a b bytes h = (λ i. record b { bytes = append-nil b.bytes i }) ∙ h
 -- something is written and a run is owed
 pub owes-then : (a b c : PenFields) (bytes more run : List ℕ) → Adds a b bytes → Adds b c more → Owes a c run (bytes ++ (more ++ run))
 owes-then a b c bytes more run h k =
-    ap (λ (p : PenFields). record p { bytes = p.bytes ++ run }) (adds-then a b c bytes more h k)
+    ap (λ (p : PenFields). record p { bytes = p.bytes ++ run }) (adds-append a b c bytes more h k)
     ∙ (λ i. record a { bytes = (append_assoc a.bytes (bytes ++ more) run ∙ ap (λ t. a.bytes ++ t) (append_assoc bytes more run)) i })
 
 -- more is owed
@@ -195,7 +196,7 @@ pub turned : (g : GutterFields) (ink_at : ℕ → Ink) (own : ℕ) (a : LabelInf
     → Adds b c (painted (color_of b.page.palette (paint_of a)) (glyph_text b.page.switches.char_set glyph))
     → Owes pen c (run_bytes g.page Hbar (paint_of a) (n - 1)) (columns_bytes g.page ink_at (own + 1))
 turned g ink_at own a first glyph pen b c n page same size before here h k =
-    let pages : b.page ≡ g.page = adds-page pen b _ h ∙ page in
+    let pages : b.page ≡ g.page = page_kept pen b _ h ∙ page in
     let run = run_bytes g.page Hbar (paint_of a) in
     let front = columns-same g.page ink_at (bars_ink Vbar g) own before in
     let corner : painted (color_of b.page.palette (paint_of a)) (glyph_text b.page.switches.char_set glyph) ++ run (n - 1) ≡ column_bytes g.page (ink_at own) =
@@ -209,7 +210,7 @@ pub level-written : (page : PageFields) (paint : Paint) (pen b c : PenFields) (n
     → Owes pen b (run_bytes page Hbar paint n) bytes → Draws b c (replicate n (stroke b.page.switches.char_set Hbar paint)) → Adds pen c bytes
 level-written page paint pen b c n bytes same h k =
     let pages = owes-page pen b _ bytes h ∙ same in
-    owes-paid pen b c (run_bytes page Hbar paint n) bytes h (adds-same b c _ _ (ap (λ (q : PageFields). run_bytes q Hbar paint n) pages) k)
+    owes-paid pen b c (run_bytes page Hbar paint n) bytes h (adds_same b c _ _ (ap (λ (q : PageFields). run_bytes q Hbar paint n) pages) k)
 
 -- a column more is owed
 pub level-more : (page : PageFields) (ink_at : ℕ → Ink) (a : LabelInfo) (pen b : PenFields) (level n i : ℕ) → n ≡ column_size page.switches
@@ -244,7 +245,7 @@ pub level-over : (page : PageFields) (ink_at : ℕ → Ink) (paint : Paint) (her
 level-over page ink_at paint here pen b c i shown h k =
     let more = ap (λ x. columns_bytes page ink_at i ++ column_bytes page x) (sym shown) ∙ columns-more page ink_at i in
     owes-same pen c [] (run_bytes page Hbar paint 0) _ (columns_bytes page ink_at (i + 1)) (run-none page paint) more
-    (owes-none pen c (columns_bytes page ink_at i ++ column_bytes page here) (adds-then pen b c _ _ h k))
+    (owes-none pen c (columns_bytes page ink_at i ++ column_bytes page here) (adds-append pen b c _ _ h k))
 
 -- the first cell of a column is written, and the others are owed
 pub level-crossed : (page : PageFields) (ink_at : ℕ → Ink) (a : LabelInfo) (first : Glyph) (pen b c : PenFields) (i n : ℕ) → b.page ≡ page

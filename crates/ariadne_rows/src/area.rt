@@ -131,28 +131,6 @@ fn push_stretch(
 
 /// Writes the places from `from` to before `to`, cut at the verticals that are seen there: a run up
 /// to each of them, its own place, and a run behind the last.
-fn push_cut(
-    pen: &mut Pen<'_>,
-    table: &LineTable,
-    from: usize,
-    to: usize,
-    backdrop: &Backdrop,
-) -> Result<(), AllocError>
-    requires order { from ≤ to }
-    requires within { to ≤ table.now.len }
-    ensures { OnOk result (DrawsOver pen.old pen.new table.now backdrop.now from to) }
-{
-    let mut place = from;
-    while let Some(vertical) = table.verticals.next(place, to) {
-        push_stretch(pen, table, place, vertical.place, backdrop)?;
-        place = vertical.place + 1;
-        let width = table.columns.width(vertical.place, place);
-        pen.push_ink(&backdrop.ink(&vertical), width)?;
-    }
-    push_stretch(pen, table, place, to, backdrop)
-}
-
-/// Writes the places from `from` to before `to`, with the verticals that are seen there.
 fn push_places(
     pen: &mut Pen<'_>,
     table: &LineTable,
@@ -165,10 +143,16 @@ fn push_places(
     ensures { OnOk result (DrawsOver pen.old pen.new table.now backdrop.now from to) }
 {
     if backdrop.hides_verticals() {
-        push_stretch(pen, table, from, to, backdrop)
-    } else {
-        push_cut(pen, table, from, to, backdrop)
+        return push_stretch(pen, table, from, to, backdrop);
     }
+    let mut place = from;
+    while let Some(vertical) = table.verticals.next(place, to) {
+        push_stretch(pen, table, place, vertical.place, backdrop)?;
+        place = vertical.place + 1;
+        let width = table.columns.width(vertical.place, place);
+        pen.push_ink(&backdrop.ink(&vertical), width)?;
+    }
+    push_stretch(pen, table, place, to, backdrop)
 }
 
 /// Writes the alternate row that has the underlines, stretch by stretch. Where no label is

@@ -10,7 +10,7 @@ ghost use Rattle.ariadne_picture.specs.Pieces.{aside_pieces, aside_prefix, aside
 ghost use Rattle.ariadne_picture.specs.Pieces.{gutter_pieces, margin_pieces, painted_text};
 ghost use Rattle.ariadne_picture.specs.Pieces.{plain_text, row_pieces, spaces};
 ghost use Rattle.ariadne_picture.specs.Ranks.{Sheet};
-ghost use Rattle.ariadne_picture.specs.Rows.{Aside, aside_rows, asides, bare, blank, help};
+ghost use Rattle.ariadne_picture.specs.Rows.{Aside, asides, bare, blank, help};
 ghost use Rattle.ariadne_picture.specs.Rows.{note, piece};
 ghost use Rattle.ariadne_rows.specs.Gutters.{IsOfSheet};
 ghost use Rattle.ariadne_rows.specs.Headers.{IsOnPage, aside_number, prefix_text};
@@ -80,7 +80,8 @@ fn push_asides(
 {
     for (index, text) in texts.iter().enumerate() {
         let number = number_of(index, texts.len());
-        push_aside(pen, gutter, word, number, text.as_str())?;
+        push_above(pen, gutter)?;
+        push_lines(pen, gutter, word, number, text.as_str())?;
     }
     Ok(())
 }
@@ -93,27 +94,6 @@ fn number_of(index: usize, count: usize) -> Option<usize>
         ≡ (if count == 1 then [] else codes " " ++ decimal (index + 1)) }
 {
     if count == 1 { None } else { Some(index + 1) }
-}
-
-/// Writes the rows of one text: if not compact a blank one, and then its lines.
-fn push_aside(
-    pen: &mut Pen<'_>,
-    gutter: &Gutter<'_>,
-    word: &str,
-    number: Option<usize>,
-    text: &str,
-) -> Result<(), AllocError>
-    requires page { gutter.now.page ≡ pen.old.page }
-    ensures page { OnOk result (pen.new.page ≡ pen.old.page) }
-    ensures drawn { let page = pen.old.page in (t : Texts) (g : Section) (a : Aside) (k : ℕ) →
-        IsOnPage t g page → IsOfSheet g.sheet gutter.now →
-        prefix_text word.now number ≡ aside_prefix t a k →
-        text.now ≡ slice_index_or (aside_texts t a) k [] →
-        OnOk result (DrawsRows pen.old pen.new (map (row_pieces t page.number_width g)
-        (aside_rows page.switches.compact a (k, text.now)))) }
-{
-    push_above(pen, gutter)?;
-    push_lines(pen, gutter, word, number, text)
 }
 
 /// Writes the row above a text. A compact picture has none.

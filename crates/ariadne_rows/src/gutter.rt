@@ -14,7 +14,7 @@ ghost use Rattle.ariadne_picture.specs.Ranks.{Sheet, line_labels, margin_label};
 ghost use Rattle.ariadne_picture.specs.Rows.{Aside, alternate, arrow, blank, gap, piece, source};
 ghost use Rattle.ariadne_rows.specs.Gutters.{HasBarsOf, IsOfSheet, bar_ink, bar_of, bars_ink};
 ghost use Rattle.ariadne_rows.specs.Gutters.{column_bytes, columns, columns_bytes};
-ghost use Rattle.ariadne_rows.specs.Gutters.{margin_row_ink, turn_row_ink};
+ghost use Rattle.ariadne_rows.specs.Gutters.{margin_row_ink, start_of, turn_row_ink};
 
 use ariadne_cells::page::Page;
 use ariadne_cells::pen::Pen;
@@ -74,8 +74,9 @@ impl<'a> Gutter<'a> {
         }
     }
 
-    /// Begins the gutter of a group with these gutter labels: no bar stands. On `Err` there was no
-    /// memory for it.
+    /// Begins the gutter of a group with these gutter labels, one column for each: no bar stands.
+    ///
+    /// On `Err` there was no memory for it, and the gutter is not to be used.
     pub fn begin(&mut self, labels: &[LabelInfo]) -> Result<(), AllocError>
         ensures { OnOk result (self.new ≡ record {
           page = self.old.page;
@@ -107,14 +108,16 @@ impl<'a> Gutter<'a> {
     }
 
     /// From the next row on the bar in a column stands, or stands no more.
+    ///
+    /// On `Err` there was no memory for it, and the gutter is not to be used.
     pub fn set(&mut self, column: usize, stands: bool) -> Result<(), AllocError>
         requires column { column < length self.old.bars }
         ensures { OnOk result (self.new
             ≡ record self.old { bars = slice_set self.old.bars column stands }) }
     {
         let page = self.page;
-        let start = self.starts[column];
-        let end = self.starts[column + 1];
+        let start = self.start(column);
+        let end = self.start(column + 1);
         let bar = stands.then_some(self.positions[column]);
         self.cells.clear();
         push_column(&mut self.cells, page, bar)?;
@@ -223,6 +226,14 @@ impl<'a> Gutter<'a> {
         }
     }
 
+    /// Where a column begins in a row that has bars alone, in bytes.
+    fn start(&self, column: usize) -> usize
+        requires column { column < columns self.now }
+        ensures { result ≡ start_of self.now column }
+    {
+        self.starts[column]
+    }
+
     /// Writes a row that has bars alone.
     fn push_bars(&self, pen: &mut Pen<'_>) -> Result<(), AllocError>
         ensures { let g = self.now in
@@ -239,7 +250,7 @@ impl<'a> Gutter<'a> {
             let bytes = columns_bytes g.page (bars_ink Vbar g) column in
             OnOk result (Adds pen.old pen.new bytes) }
     {
-        pen.push_text(&self.text[..self.starts[column]])
+        pen.push_text(&self.text[..self.start(column)])
     }
 
     /// Writes the bar of a column, or blanks.
@@ -249,7 +260,7 @@ impl<'a> Gutter<'a> {
             let bytes = column_bytes g.page (bars_ink Vbar g column) in
             OnOk result (Adds pen.old pen.new bytes) }
     {
-        pen.push_text(&self.text[self.starts[column]..self.starts[column + 1]])
+        pen.push_text(&self.text[self.start(column)..self.start(column + 1)])
     }
 
     /// Writes the gutter of a source row from its margin label's column on: the horizontal goes to

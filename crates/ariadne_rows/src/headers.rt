@@ -63,8 +63,8 @@ fn push_code(pen: &mut Pen<'_>, code: Option<&str>) -> Result<(), AllocError>
     }
 }
 
-/// Writes the header of a group: the name of its source, and the numbers of a line and a column,
-/// if the location is known.
+/// Writes the header of a group: the name of its source, and the numbers of a line and a column as
+/// they are printed, if the location is known. `is_first` tells whether the group is the first.
 ///
 /// ```text
 ///        ,-[ <unknown>:1:1 ]

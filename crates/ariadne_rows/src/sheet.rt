@@ -23,7 +23,7 @@ use std::marker::Model;
 pub struct Event {
     /// The line, from 0.
     pub line: usize,
-    /// The number of the gutter label, or that of the label in its group.
+    /// The number of the gutter label, or that of the label in its group, from 0.
     pub index: u32,
     /// Which of the three it is.
     pub side: Side,
@@ -112,7 +112,8 @@ impl<'a> GroupSheet<'a> {
         &self.lists.multi_line
     }
 
-    /// Those of them with a message: gutter label number i owns gutter column i.
+    /// The labels over several lines that have a message: number i of these gutter labels owns gutter
+    /// column i.
     pub fn gutter_labels(&self) -> &[LabelInfo]
         ensures { (s : Sheet) → s.labels ≡ self.now.labels → result.now ≡ gutter_labels s }
     {
@@ -162,9 +163,9 @@ impl<'a> GroupSheet<'a> {
     }
 
     /// The margin label of the line whose events are those from `from` to before `to`; its line
-    /// labels are put into `labels`, in place of what stands there.
+    /// labels are put into `labels`, by rank, in place of what stands there.
     ///
-    /// On `Err` there was no memory for them.
+    /// On `Err` there was no memory for them, and `labels` is not to be used.
     pub fn rank(
         &self,
         from: usize,

@@ -52,27 +52,16 @@ fn push_characters(
         (tab_columns pen.old.page.switches layout.now ≤ length pen.new.bytes) }
 {
     if pen.page().is_colored() {
-        push_painted_shown(pen, layout, paints)
+        push_stretches(pen, layout, paints)
     } else if layout.is_plain() {
         pen.push_text(layout.shown())
     } else {
-        push_plain_shown(pen, layout)
+        push_stretches(pen, layout, &[])
     }
 }
 
-/// The same without colours.
-fn push_plain_shown(pen: &mut Pen<'_>, layout: &LineLayout<'_>) -> Result<(), AllocError>
-    ensures { let switches = pen.old.page.switches in
-        OnOk result (Draws pen.old pen.new (shown_in switches layout.now (λ _. Paint.Plain))) }
-{
-    for (index, c) in layout.shown().chars().enumerate() {
-        push_char(pen, Paint::Plain, index, c)?;
-    }
-    Ok(())
-}
-
-/// The same with colours, stretch by stretch.
-fn push_painted_shown(
+/// Writes the shown characters of a line one by one, each in the colour of its stretch.
+fn push_stretches(
     pen: &mut Pen<'_>,
     layout: &LineLayout<'_>,
     paints: &[Stretch],

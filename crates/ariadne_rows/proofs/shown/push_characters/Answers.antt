@@ -1,5 +1,6 @@
-use Rattle.std.proofs.Common.{◌≡◌, ◌∙◌, sym, ap}
+use Rattle.std.proofs.Common.{◌≡◌, ◌∙◌, ℕ, [], sym, ap}
 use Rattle.std.proofs.lemmas.Result.{on_ok_weaker}
+use Rattle.ariadne_picture.specs.declared.cell.Paint.{Paint}
 use Rattle.ariadne_picture.specs.declared.cell.Paint.TheVariants.{Plain}
 use Rattle.ariadne_picture.specs.Canvas.{color_of}
 use Rattle.ariadne_picture.specs.Pieces.{char_paint}
@@ -15,17 +16,17 @@ returns-then-is_colored-clause-drawn c = λ multi_line paints.
     let y = c.args.layout.now in
     let lit : c.is_colored.result ≡ pen.page.palette.is_on = c.is_colored.ensures ∙ ap (λ (p : PageFields). p.palette.is_on) c.page.ensures in
     let on = sym lit ∙ c.if-is_colored.true in
-    on_ok_weaker c.push_painted_shown.result
-    (draws_shown pen c.push_painted_shown.new.pen pen.page.switches multi_line y (λ k. position_paint (shown_at c.args.paints.now k))
+    on_ok_weaker c.push_stretches.result
+    (draws_shown pen c.push_stretches.new.pen pen.page.switches multi_line y (λ k. position_paint (shown_at c.args.paints.now k))
     (λ k l. ap (color_of pen.page.palette) (paints on k l)))
-    c.push_painted_shown.ensures
+    c.push_stretches.ensures
 
 pub returns-then-is_colored-clause-tabs : goal.returns-then-is_colored-clause-tabs
 returns-then-is_colored-clause-tabs c =
     let pen = c.args.pen.now in
-    on_ok_weaker c.push_painted_shown.result
-    (tabs_written pen c.push_painted_shown.new.pen pen.page.switches c.args.layout.now (λ k. position_paint (shown_at c.args.paints.now k)))
-    c.push_painted_shown.ensures
+    on_ok_weaker c.push_stretches.result
+    (tabs_written pen c.push_stretches.new.pen pen.page.switches c.args.layout.now (λ k. position_paint (shown_at c.args.paints.now k)))
+    c.push_stretches.ensures
 
 -- without them printable characters are their bytes
 pub returns-then-is_plain-clause-drawn : goal.returns-then-is_plain-clause-drawn
@@ -54,16 +55,17 @@ returns-then-is_plain-clause-tabs c =
 pub returns-else-is_plain-clause-drawn : goal.returns-else-is_plain-clause-drawn
 returns-else-is_plain-clause-drawn c = λ multi_line paints.
     let pen = c.args.pen.now in
-    let y = c.args.layout.now in
     let lit : c.is_colored.result ≡ pen.page.palette.is_on = c.is_colored.ensures ∙ ap (λ (p : PageFields). p.palette.is_on) c.page.ensures in
     let off = sym lit ∙ c.if-is_colored.false in
-    on_ok_weaker c.push_plain_shown.result
-    (draws_shown pen c.push_plain_shown.new.pen pen.page.switches multi_line y (λ k. Plain)
-    (λ k l. no_colors pen.page.palette Plain (char_paint multi_line y k) off))
-    c.push_plain_shown.ensures
+    let blank : ℕ → Paint = λ k. position_paint (shown_at [] k) in
+    on_ok_weaker c.push_stretches-else-is_plain.result
+    (draws_shown pen c.push_stretches-else-is_plain.new.pen pen.page.switches multi_line c.args.layout.now blank
+    (λ k l. no_colors pen.page.palette (blank k) (char_paint multi_line c.args.layout.now k) off))
+    c.push_stretches-else-is_plain.ensures
 
 pub returns-else-is_plain-clause-tabs : goal.returns-else-is_plain-clause-tabs
 returns-else-is_plain-clause-tabs c =
     let pen = c.args.pen.now in
-    on_ok_weaker c.push_plain_shown.result
-    (tabs_written pen c.push_plain_shown.new.pen pen.page.switches c.args.layout.now (λ k. Plain)) c.push_plain_shown.ensures
+    on_ok_weaker c.push_stretches-else-is_plain.result
+    (tabs_written pen c.push_stretches-else-is_plain.new.pen pen.page.switches c.args.layout.now (λ k. position_paint (shown_at [] k)))
+    c.push_stretches-else-is_plain.ensures

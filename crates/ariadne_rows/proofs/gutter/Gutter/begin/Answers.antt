@@ -6,8 +6,8 @@ use Rattle.ariadne_base.specs.Locations.{upto}
 use Rattle.ariadne_picture.specs.declared.label_info.LabelInfo.{LabelInfo}
 use Rattle.ariadne_picture.specs.Pieces.{column_size, spaces}
 use Rattle.ariadne_rows.specs.Gutters.{GutterFields, columns}
-use Rattle.ariadne_rows.proofs.GutterPen.{at-ok}
 use Rattle.ariadne_rows.proofs.GutterState.{columns-none, columns-some, ready-none, ready-free}
+use Rattle.ariadne_rows.proofs.Ranking.{on-ok}
 use Rattle.ariadne_rows.proofs.gutter.Gutter.begin.Goals as goal
 use Rattle.ariadne_rows.proofs.gutter.Gutter.begin.Goals.{then-is_empty, else-is_empty}
 
@@ -63,7 +63,7 @@ invariant_of-self-2 c =
     let text : string_bytes now.text ≡ [] = ap string_bytes kept.text ∙ c.reserve-3.ensures.bytes ∙ c.clear-3.ensures.bytes in
     let starts : now.starts.items ≡ [] = ap (λ v. v.items) kept.starts ∙ c.reserve-4.ensures.items ∙ c.clear-4.ensures.items in
     let room : string_len now.text + m * c.column_size-size.result ≤ string_capacity now.text = rw kept.text c.in_ok-reserve-3.ensures.ok in
-    let blanks = at-ok c.push_blanks.result (c.push_blanks.ensures.room room) c.push_blanks.ensures.bytes in
+    let blanks = on-ok c.push_blanks.result (c.push_blanks.ensures.room room) c.push_blanks.ensures.bytes in
     ready-free g (length labels) off (string_bytes c.push_blanks.new.out) c.push_multiples.new.out.items m c.column_size-size.result positions count size
     (blanks ∙ ap (λ t. t ++ spaces (m * c.column_size-size.result)) text)
     (c.push_multiples.ensures ∙ ap (λ t. t ++ map (λ k. k * c.column_size-size.result) (upto m)) starts)

@@ -1,15 +1,12 @@
 use Rattle.std.proofs.Common.{◌≡◌, arith}
 use Rattle.ariadne_picture.specs.declared.cell.Glyph.TheVariants.{Vbar}
 use Rattle.ariadne_rows.specs.Gutters.{bars_ink, columns_bytes}
-use Rattle.ariadne_rows.proofs.GutterState.{ready-for, columns-some, offsets-len, offset-read, text-cut, text-front}
+use Rattle.ariadne_rows.proofs.GutterState.{ready-for, columns-some, text-cut, text-front}
 use Rattle.ariadne_rows.proofs.gutter.Gutter.push_before.Goals as goal
 
--- the column has an offset
-pub index-requires : goal.index-requires
-index-requires c =
-    let g = c.args.self.now in
-    let ready = ready-for _ g _ _ c.self.view_is c.self.invariant in
-    omega (arith, offsets-len g _ _ ready, columns-some g c.args.column c.requires.column, c.self.inside.starts.ok.0)
+-- the column is there
+pub start-requires : goal.start-requires
+start-requires c = record { column = omega (arith, columns-some c.args.self.now c.args.column c.requires.column) }
 
 -- the text may be cut there
 pub range-requires-clause-end_boundary : goal.range-requires-clause-end_boundary
@@ -18,8 +15,7 @@ range-requires-clause-end_boundary c =
     let k = c.args.column in
     let ready = ready-for _ g _ _ c.self.view_is c.self.invariant in
     let some = columns-some g k c.requires.column in
-    let to = offset-read g _ _ ready k _ (omega (arith, some)) c.index.ensures in
-    rw (to, c.deref.ensures) (text-cut g _ _ ready k (omega (arith, some)))
+    rw (c.start.ensures, c.deref.ensures) (text-cut g _ _ ready k (omega (arith, some)))
 
 -- before it stand the columns before
 pub returns : goal.returns
@@ -28,7 +24,6 @@ returns c =
     let k = c.args.column in
     let ready = ready-for _ g _ _ c.self.view_is c.self.invariant in
     let some = columns-some g k c.requires.column in
-    let to = offset-read g _ _ ready k _ (omega (arith, some)) c.index.ensures in
     let there : c.range.result.now ≡ columns_bytes g.page (bars_ink Vbar g) k =
-    rw (c.range.ensures.value, to, c.deref.ensures) (text-front g _ _ ready k (omega (arith, some))) in
+    rw (c.range.ensures.value, c.start.ensures, c.deref.ensures) (text-front g _ _ ready k (omega (arith, some))) in
     rw there at c.push_text.ensures

@@ -5,7 +5,8 @@ use Rattle.ariadne_picture.specs.Pieces.{column_size, gutter_pieces}
 use Rattle.ariadne_picture.specs.Print.{pieces_bytes}
 use Rattle.ariadne_picture.specs.Rows.{gap}
 use Rattle.ariadne_rows.specs.Gutters.{GutterFields, bar_ink, bars_ink, columns, columns_bytes}
-use Rattle.ariadne_rows.proofs.GutterPen.{adds-none, adds-then, adds-same, adds-page, columns-none, columns-more, adds-column}
+use Rattle.ariadne_cells.proofs.Drawn.{adds_none, adds-append, adds_same, page_kept}
+use Rattle.ariadne_rows.proofs.GutterPen.{columns-none, columns-more, adds-column}
 use Rattle.ariadne_rows.proofs.GutterRows.{gap-bytes}
 use Rattle.ariadne_rows.proofs.GutterState.{ready-for, offsets-len}
 use Rattle.ariadne_rows.proofs.gutter.Gutter.push_gap.Goals as goal
@@ -13,7 +14,7 @@ use Rattle.ariadne_rows.proofs.gutter.Gutter.push_gap.Goals as goal
 -- no column is written yet
 pub loop-column-init : goal.loop-column-init
 loop-column-init c =
-    adds-same c.args.pen.now c.args.pen.now _ _ (columns-none c.args.self.now.page (bars_ink VbarGap c.args.self.now)) (adds-none c.args.pen.now)
+    adds_same c.args.pen.now c.args.pen.now _ _ (columns-none c.args.self.now.page (bars_ink VbarGap c.args.self.now)) (adds_none c.args.pen.now)
 
 -- a turn writes one column more
 pub loop-column-preserved : goal.loop-column-preserved
@@ -22,12 +23,12 @@ loop-column-preserved c =
     let g = c.args.self.now in
     let k = c.loop-column.column in
     let size = c.column_size-size.ensures.size ∙ ap column_size (c.switches.ensures.switches ∙ ap (λ (v : GutterFields). v.page.switches) c.self.view_is) in
-    let page = adds-page c.args.pen.now c.loop-column.pen _ c.loop-column.invariant ∙ sym c.requires.page in
+    let page = page_kept c.args.pen.now c.loop-column.pen _ c.loop-column.invariant ∙ sym c.requires.page in
     let shown = c.bar_ink.ensures ∙ ap (bar_ink VbarGap) c.bar_of.ensures in
     let here = adds-column c.loop-column.pen c.push_ink.new.self g.page c.bar_ink.result (bars_ink VbarGap g k) c.column_size-size.result page size shown
     c.in_ok-push_ink.ensures in
-    adds-same c.args.pen.now c.push_ink.new.self _ _ (columns-more g.page (bars_ink VbarGap g) k)
-    (adds-then c.args.pen.now c.loop-column.pen c.push_ink.new.self _ _ c.loop-column.invariant here)
+    adds_same c.args.pen.now c.push_ink.new.self _ _ (columns-more g.page (bars_ink VbarGap g) k)
+    (adds-append c.args.pen.now c.loop-column.pen c.push_ink.new.self _ _ c.loop-column.invariant here)
 
 -- the last turn has written all
 pub returns : goal.returns
@@ -38,4 +39,4 @@ returns c = λ s l h none.
     let there : columns_bytes g.page (bars_ink VbarGap g) c.loop-column.column ≡ pieces_bytes c.args.pen.now.page.palette (gutter_pieces s (gap l)) =
     ap (columns_bytes g.page (bars_ink VbarGap g)) last ∙ sym (gap-bytes s l g h none)
     ∙ ap (λ (page : PageFields). pieces_bytes page.palette (gutter_pieces s (gap l))) c.requires.page in
-    adds-same c.args.pen.now c.loop-column.pen _ _ there c.loop-column.invariant
+    adds_same c.args.pen.now c.loop-column.pen _ _ there c.loop-column.invariant

@@ -5,7 +5,8 @@ use Rattle.ariadne_picture.specs.Cells.{ink_of, margin_glyph, paint_of}
 use Rattle.ariadne_picture.specs.Pieces.{column_size}
 use Rattle.ariadne_rows.specs.Gutters.{GutterFields, bar_in, bars_ink, columns, columns_bytes, margin_row_ink}
 use Rattle.ariadne_rows.proofs.GutterLevels.{margin-before, margin-own, margin-bar, margin-level, margin-head, turned, level-written, level-more, level-over}
-use Rattle.ariadne_rows.proofs.GutterPen.{adds-column, adds-page, adds-same, adds-then, columns-more}
+use Rattle.ariadne_cells.proofs.Drawn.{adds-append, adds_same, page_kept}
+use Rattle.ariadne_rows.proofs.GutterPen.{adds-column, columns-more}
 use Rattle.ariadne_rows.proofs.GutterState.{bar-read, columns-some}
 use Rattle.ariadne_rows.proofs.gutter.Gutter.push_margin_row.Goals as goal
 use Rattle.ariadne_rows.proofs.gutter.Gutter.push_margin_row.Goals.{then-index+in_ok-push_run+in_ok-push_bar, else-index}
@@ -68,13 +69,13 @@ returns c =
     let len = ap (λ (v : GutterFields). length v.bars) c.self.view_is in
     let last : c.loop-column.column ≡ length g.bars = omega (arith, len, c.len-column-end.ensures, c.self.inside.bars.ok.0) in
     let all : length g.bars + 1 ≡ columns g = sym (columns-some g m.gutter_column c.requires.column) in
-    let level = adds-same pen c.push_run-2.new.self _ _ (ap (columns_bytes g.page (margin_row_ink g m)) last)
+    let level = adds_same pen c.push_run-2.new.self _ _ (ap (columns_bytes g.page (margin_row_ink g m)) last)
     (level-written g.page (paint_of m.info) pen c.loop-column.pen c.push_run-2.new.self c.loop-column.level _ (sym c.requires.page)
     c.loop-column.invariant.written c.in_ok-push_run-2.ensures) in
-    let page = adds-page pen c.push_run-2.new.self _ level ∙ sym c.requires.page in
+    let page = page_kept pen c.push_run-2.new.self _ level ∙ sym c.requires.page in
     on_ok_weaker c.push_ink.result (λ h.
-    adds-same pen c.push_ink.new.self _ _
+    adds_same pen c.push_ink.new.self _ _
     (columns-more g.page (margin_row_ink g m) (length g.bars) ∙ ap (columns_bytes g.page (margin_row_ink g m)) all)
-    (adds-then pen c.push_run-2.new.self c.push_ink.new.self _ _ level
+    (adds-append pen c.push_run-2.new.self c.push_ink.new.self _ _ level
     (adds-column c.push_run-2.new.self c.push_ink.new.self g.page (ink_of Rarrow Blank m.info) _ c.column_size-size.result page size
     (sym (margin-head g m c.requires.column)) h))) c.push_ink.ensures

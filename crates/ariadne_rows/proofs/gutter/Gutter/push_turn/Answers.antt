@@ -6,7 +6,7 @@ use Rattle.ariadne_picture.specs.Pieces.{column_size}
 use Rattle.ariadne_rows.specs.Gutters.{GutterFields, bar_in, columns, columns_bytes, turn_row_ink}
 use Rattle.ariadne_rows.proofs.GutterLevels.{run_bytes, turn-before, turn-own, turn-bar, turn-level, turn-gap, turned, level-written, level-more}
 use Rattle.ariadne_rows.proofs.GutterLevels.{level-all, level-crossed, owes-same}
-use Rattle.ariadne_rows.proofs.GutterPen.{adds-page}
+use Rattle.ariadne_cells.proofs.Drawn.{page_kept}
 use Rattle.ariadne_rows.proofs.GutterState.{bar-read, bar-past, columns-some, offsets-len, ready-for}
 use Rattle.ariadne_rows.proofs.gutter.Gutter.push_turn.Goals as goal
 use Rattle.ariadne_rows.proofs.gutter.Gutter.push_turn.Goals.{then-index+in_ok-push_run+in_ok-push_stroke-2, else-index}
@@ -91,7 +91,7 @@ loop-column-preserved c =
           let run = w.push_run-then-index.new.self in
           let level = level-written g.page (paint_of x.info) c.args.pen.now c.loop-column.pen run c.loop-column.level _ (sym c.requires.page)
           c.loop-column.invariant.written w.in_ok-push_run.ensures in
-          let page = adds-page c.args.pen.now run _ level ∙ sym c.requires.page in
+          let page = page_kept c.args.pen.now run _ level ∙ sym c.requires.page in
           record {
             written = rw (w.pen-is, w.level-is)
                 (level-crossed g.page (turn_row_ink g x) x.info Xbar c.args.pen.now run w.push_stroke-then-index.new.self k c.column_size-size.result page size

@@ -1,36 +1,24 @@
-use Rattle.std.proofs.Common.{◌≡◌, ◌+◌, ◌-◌, ◌<◌, ◌++◌, get_or, set, take, drop, length, ap, ◌∙◌, arith, string_bytes}
+use Rattle.std.proofs.Common.{◌≡◌, ◌+◌, ◌-◌, ◌<◌, ◌++◌, get_or, set, take, drop, length, sym, ap, ◌∙◌, arith, string_bytes}
 use Rattle.std.specs.Bool.{then_some}
 use Rattle.std.specs.List.{replace_range}
 use Rattle.std.proofs.lemmas.List.{append-nil, drop_all, get_or_read, take_all}
 use Rattle.ariadne_picture.specs.declared.cell.Glyph.TheVariants.{Vbar}
 use Rattle.ariadne_rows.specs.Gutters.{GutterFields, IsReady, bar_ink, bar_of, bars_ink, column_bytes, columns, start_of}
-use Rattle.ariadne_rows.proofs.GutterState.{ready-for, columns-some, offsets-len, offset-read, offset-at, text-cut, start-next, start-holds, bar-after, ready-same, ready-set}
+use Rattle.ariadne_rows.proofs.GutterState.{ready-for, columns-some, offsets-len, offset-at, text-cut, start-next, start-holds, bar-after, ready-same, ready-set}
 use Rattle.ariadne_rows.proofs.gutter.Gutter.set.Goals as goal
 
--- the column has an offset
-pub index-start-requires : goal.index-start-requires
-index-start-requires c =
-    let g = c.args.self.now in
-    let ready = ready-for _ g _ _ c.self.view_is c.self.invariant in
-    omega (arith, offsets-len g _ _ ready, columns-some g c.args.column c.requires.column, c.self.inside.starts.ok.0)
+-- the column is there
+pub start-start-requires : goal.start-start-requires
+start-start-requires c = record { column = omega (arith, columns-some c.args.self.now c.args.column c.requires.column) }
 
--- and so has the next one
-pub index-end-requires : goal.index-end-requires
-index-end-requires c =
-    let g = c.args.self.now in
-    let ready = ready-for _ g _ _ c.self.view_is c.self.invariant in
-    omega (arith, offsets-len g _ _ ready, columns-some g c.args.column c.requires.column, c.self.inside.starts.ok.0)
+-- and so is the next one
+pub start-end-requires : goal.start-end-requires
+start-end-requires c = record { column = omega (arith, columns-some c.args.self.now c.args.column c.requires.column) }
 
 -- they rise
 pub replace_range-requires-clause-start_le_end : goal.replace_range-requires-clause-start_le_end
 replace_range-requires-clause-start_le_end c =
-    let g = c.args.self.now in
-    let k = c.args.column in
-    let ready = ready-for _ g _ _ c.self.view_is c.self.invariant in
-    let some = columns-some g k c.requires.column in
-    let from = offset-read g _ _ ready k _ (omega (arith, some)) c.index-start.ensures in
-    let to = offset-read g _ _ ready (k + 1) _ (omega (arith, some)) c.index-end.ensures in
-    omega (arith, from, to, start-next g k)
+    omega (arith, c.start-start.ensures, c.start-end.ensures, start-next c.args.self.now c.args.column)
 
 -- they lie within the text
 pub replace_range-requires-clause-in_bounds : goal.replace_range-requires-clause-in_bounds
@@ -39,9 +27,8 @@ replace_range-requires-clause-in_bounds c =
     let k = c.args.column in
     let ready = ready-for _ g _ _ c.self.view_is c.self.invariant in
     let some = columns-some g k c.requires.column in
-    let to = offset-read g _ _ ready (k + 1) _ (omega (arith, some)) c.index-end.ensures in
     let cut = text-cut g _ _ ready (k + 1) (omega (arith, some)) in
-    omega (arith, to, cut.0, c.self.inside.text.bytes.ok.0)
+    omega (arith, c.start-end.ensures, cut.0, c.self.inside.text.bytes.ok.0)
 
 -- which may be cut where the column begins
 pub replace_range-requires-clause-start_boundary : goal.replace_range-requires-clause-start_boundary
@@ -50,9 +37,8 @@ replace_range-requires-clause-start_boundary c =
     let k = c.args.column in
     let ready = ready-for _ g _ _ c.self.view_is c.self.invariant in
     let some = columns-some g k c.requires.column in
-    let from = offset-read g _ _ ready k _ (omega (arith, some)) c.index-start.ensures in
     let cut = text-cut g _ _ ready k (omega (arith, some)) in
-    rw from (cut.0, λ _. cut.1)
+    rw c.start-start.ensures (cut.0, λ _. cut.1)
 
 -- and behind the column
 pub replace_range-requires-clause-end_boundary : goal.replace_range-requires-clause-end_boundary
@@ -61,20 +47,12 @@ replace_range-requires-clause-end_boundary c =
     let k = c.args.column in
     let ready = ready-for _ g _ _ c.self.view_is c.self.invariant in
     let some = columns-some g k c.requires.column in
-    let to = offset-read g _ _ ready (k + 1) _ (omega (arith, some)) c.index-end.ensures in
     let cut = text-cut g _ _ ready (k + 1) (omega (arith, some)) in
-    rw to (cut.0, λ _. cut.1)
+    rw c.start-end.ensures (cut.0, λ _. cut.1)
 
 -- the column's length is no less than nothing
 pub overflow_sub-end : goal.overflow_sub-end
-overflow_sub-end c =
-    let g = c.args.self.now in
-    let k = c.args.column in
-    let ready = ready-for _ g _ _ c.self.view_is c.self.invariant in
-    let some = columns-some g k c.requires.column in
-    let from = offset-read g _ _ ready k _ (omega (arith, some)) c.index-start.ensures in
-    let to = offset-read g _ _ ready (k + 1) _ (omega (arith, some)) c.index-end.ensures in
-    omega (arith, from, to, start-next g k)
+overflow_sub-end c = omega (arith, c.start-start.ensures, c.start-end.ensures, start-next c.args.self.now c.args.column)
 
 -- those behind it begin no earlier than it ends
 pub shift-requires-clause-behind : goal.shift-requires-clause-behind
@@ -82,12 +60,10 @@ shift-requires-clause-behind c = λ j low high.
     let g = c.args.self.now in
     let k = c.args.column in
     let ready = ready-for _ g _ _ c.self.view_is c.self.invariant in
-    let some = columns-some g k c.requires.column in
-    let to = offset-read g _ _ ready (k + 1) _ (omega (arith, some)) c.index-end.ensures in
     let items = c.deref_mut.ensures.value in
     let within : j < columns g = omega (arith, ap length items, offsets-len g _ _ ready) in
     let at = ap (λ t. get_or t j 0) items ∙ offset-at g _ _ ready j within in
-    omega (arith, to, at, start-holds g k j (omega arith))
+    omega (arith, c.start-end.ensures, at, start-holds g k j (omega arith))
 
 -- all lengths are those of texts
 pub shift-requires-clause-fits : goal.shift-requires-clause-fits
@@ -115,9 +91,8 @@ invariant_of-self-2 c =
     let new : GutterFields = record g { bars = set g.bars k on } in
     let ready : IsReady g bytes offsets = c.self.invariant in
     let inside : k < length g.bars = omega (arith, ap (λ (v : GutterFields). length v.bars) c.self.view_is, c.requires.column) in
-    let some = columns-some g k inside in
-    let from = offset-read g bytes offsets ready k _ (omega (arith, some)) c.index-start.ensures in
-    let to = offset-read g bytes offsets ready (k + 1) _ (omega (arith, some)) c.index-end.ensures in
+    let from : c.start-start.result ≡ start_of g k = c.start-start.ensures ∙ ap (λ (v : GutterFields). start_of v k) (sym c.self.view_is) in
+    let to : c.start-end.result ≡ start_of g (k + 1) = c.start-end.ensures ∙ ap (λ (v : GutterFields). start_of v (k + 1)) (sym c.self.view_is) in
     let read = get_or_read g.positions k _ (omega (arith, ready.positions)) c.index.ensures 0 in
     let bar : c.then_some-bar.result ≡ bar_of new k =
     c.then_some-bar.ensures ∙ ap (then_some on) read ∙ bar-after g k on inside in

@@ -5,7 +5,7 @@ use Rattle.ariadne_picture.specs.Lists.{joined}
 use Rattle.ariadne_cells.specs.Pages.{Draws}
 use Rattle.ariadne_cells.specs.Tables.{position_paint, shown_at}
 use Rattle.ariadne_rows.specs.ShownTexts.{place_in}
-use Rattle.ariadne_rows.proofs.shown.push_painted_shown.Given as goal
+use Rattle.ariadne_rows.proofs.shown.push_stretches.Given as goal
 
 abbrev pub invariant-loop-index : goal.invariant-loop-index
 invariant-loop-index l =

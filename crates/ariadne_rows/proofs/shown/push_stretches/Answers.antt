@@ -1,16 +1,16 @@
-use Rattle.std.proofs.Common.{◌≡◌, ◌+◌, ◌<◌, [], ◌∷◌, ◌++◌, length, slice_index, refl, ap, ◌∙◌}
+use Rattle.std.proofs.Common.{◌≡◌, ℕ, ◌+◌, ◌<◌, ◌≤◌, drop, arith, [], ◌∷◌, ◌++◌, length, slice_index, refl, ap, ◌∙◌}
 use Rattle.std.proofs.lemmas.List.{length_push}
 use Rattle.std.proofs.lemmas.List.FromFn.{length-enumerate_from}
 use Rattle.std.proofs.lemmas.Iterator.{YieldsList-from_chars}
 use Rattle.std.proofs.lemmas.Iterator.Consumers.{YieldsList-from_enumerate, YieldsList-at, YieldsList-turn, YieldsList-end}
 use Rattle.std.specs.Str.{chars}
-use Rattle.ariadne_picture.specs.declared.cell.Paint.TheVariants.{Plain}
 use Rattle.ariadne_picture.specs.Columns.{shown}
+use Rattle.ariadne_cells.specs.Tables.{position_paint, shown_at}
 use Rattle.ariadne_cells.proofs.Drawn.{draws_places_none}
 use Rattle.ariadne_rows.specs.ShownTexts.{place_in}
 use Rattle.ariadne_rows.proofs.Listing.{numbered-turn}
 use Rattle.ariadne_rows.proofs.ShownRows.{draws_all, draws_place}
-use Rattle.ariadne_rows.proofs.shown.push_plain_shown.Goals as goal
+use Rattle.ariadne_rows.proofs.shown.push_stretches.Goals as goal
 
 -- a turn is at the next place, and at its character
 turn : (c : goal.In_ok-push_char)
@@ -38,17 +38,27 @@ ended c =
     e.1 ∙ length-enumerate_from 0 (chars text) ∙ ap length c.shown.ensures
 
 pub loop-index-init : goal.loop-index-init
-loop-index-init c = draws_places_none c.args.pen.now (place_in c.args.pen.now.page.switches c.args.layout.now (λ k. Plain))
+loop-index-init c = (draws_places_none c.args.pen.now (place_in c.args.pen.now.page.switches c.args.layout.now (λ k. position_paint (shown_at c.args.paints.now k))), λ k h. refl)
 
 -- a turn writes one place more
 pub loop-index-preserved : goal.loop-index-preserved
 loop-index-preserved c =
     let n = length c.loop-index.yielded in
+    let paints = c.args.paints.now in
     let e : length (c.loop-index.yielded ++ (c.in-Some.index, c.in-Some.c) ∷ []) ≡ n + 1 = length_push _ _ in
     let t = turn c in
-    rw e (draws_place c.args.pen.now c.loop-index.pen c.push_char.new.pen c.args.layout.now (λ k. Plain) n c.in-Some.index c.in-Some.c Plain
-    c.loop-index.invariant t.1 t.2 refl c.in_ok-push_char.ensures)
+    let seen : (k : ℕ) → n ≤ k → shown_at (drop c.stretch_at-number.result paints) k ≡ shown_at paints k =
+    λ k h. c.stretch_at-number.ensures.seen k (omega (arith, t.1, h)) ∙ c.loop-index.invariant.1 k h in
+    let paint : c.stretch_paint.result ≡ position_paint (shown_at paints n) =
+    c.stretch_paint.ensures n (λ s h. let below = c.stretch_at-number.ensures.reaches s h in omega (arith, t.1, below)) ∙ ap position_paint (seen n (omega arith)) in
+    rw e (
+      draws_place c.args.pen.now c.loop-index.pen c.push_char.new.pen c.args.layout.now (λ k. position_paint (shown_at paints k)) n c.in-Some.index
+          c.in-Some.c c.stretch_paint.result c.loop-index.invariant.0 t.1 t.2 paint c.in_ok-push_char.ensures,
+      λ k h. seen k (omega (arith, h)),
+    )
 
 -- the last turn was at the last place
 pub returns : goal.returns
-returns c = draws_all c.args.pen.now c.loop-index.pen c.args.layout.now (λ k. Plain) (length c.loop-index.yielded) (ended c) c.loop-index.invariant
+returns c =
+    draws_all c.args.pen.now c.loop-index.pen c.args.layout.now (λ k. position_paint (shown_at c.args.paints.now k)) (length c.loop-index.yielded)
+    (ended c) c.loop-index.invariant.0

@@ -1,7 +1,7 @@
 -- so far the first places are written
 use Rattle.std.proofs.Common.{◌≤◌, ◌-◌}
 use Rattle.ariadne_rows.specs.Areas.{DrawsOver}
-use Rattle.ariadne_rows.proofs.area.push_cut.Given as goal
+use Rattle.ariadne_rows.proofs.area.push_places.Given as goal
 
 abbrev pub invariant-loop-vertical : goal.invariant-loop-vertical
 invariant-loop-vertical l = record {
