@@ -18,7 +18,7 @@ use Rattle.ariadne_picture.specs.Groups.{is_cut, group_end_line, greatest, HasNo
 use Rattle.ariadne_picture.specs.Report.{HaveOneSource, LabelFields, ReportFields, World}
 use Rattle.ariadne_picture.proofs.Lists.ListFacts.{all-weaker}
 use Rattle.ariadne.specs.Drawn.{AreDrawn, AreThere, AreOverLines, IsDrawn, IsOverLines}
-use Rattle.ariadne.proofs.Grouping.{NoCuts, all_range, cut_first, range_first}
+use Rattle.ariadne.proofs.Grouping.{NoCuts, all_at, all_range, cut_first, range_first}
 use Rattle.ariadne.proofs.OverLines.{over-lines}
 
 -- equal ids find one source
@@ -113,6 +113,17 @@ module _ {S Id : Type 0} (w : World S Id) (r : ReportFields S) where
       let ids : w.id_of d.label.span ≡ id = ap (λ (y : LabelFields S). w.id_of y.span) same ∙ sym is in
       let both : Some d.source ≡ Some source = sym d.is_held ∙ ap w.source_of ids ∙ sym get ∙ found in
       cc
+
+  -- the label that is drawn at `start`, whose source is the one that is found for it
+  pub found_first : (infos : List LabelInfo) (start : ℕ) (none : LabelInfo) → start < length infos → AreDrawn w r infos
+      → (labels : List (LabelFields S)) (x : LabelFields S) → labels ≡ r.labels → x ≡ get_or labels (get_or infos start none).position x
+      → (id : Id) → id ≡ w.id_of x.span → (o : Option Listing) → o ≡ w.source_of id → (source : Listing) → o ≡ Some source
+      → (d : IsDrawn w r (get_or infos start none)) × (d.source ≡ source)
+  found_first infos start none high drawn labels x same at id is o get source found =
+      let a : LabelInfo = get_or infos start none in
+      let d : IsDrawn w r a = all_at (IsDrawn w r) infos start none high drawn in
+      let there = all_at (λ (a : LabelInfo). a.position < length r.labels) infos start none high (drawn_there infos drawn) in
+      (d, found_source a d x (label_there a.position labels x same at there) id is o get source found)
 
   -- a source is there for it
   pub source_there : (a : LabelInfo) (d : IsDrawn w r a) (x : LabelFields S) → slice_get r.labels a.position ≡ Some x → (id : Id) → id ≡ w.id_of x.span

@@ -74,17 +74,21 @@ pub drawn-over : (t : Texts) (g : Section) (switches : Switches) (source : Listi
     → IsDrawnGroup t g switches source labels → AreOverLines (listed_lines source) labels → AreOverLines g.sheet.lines g.sheet.labels
 drawn-over t g switches source labels h over = subst (λ (s : Sheet). AreOverLines s.lines s.labels) (sym h.sheet) over
 
--- whether the start of a line lies inside a label, as the sheet tells
-pub inside-told : (s : Sheet) (source : Listing) (group : GroupFields) (labels : List LabelInfo) (l offset : ℕ) (extent : LineExtent) (result : Bool)
-    → s.lines ≡ listed_lines source → s.labels ≡ labels → group ≡ record { labels = labels; line = l }
-    → extent ≡ line_extent (listed_lines source) l → offset ≡ extent.offset → 0 < length (line_text (listed_lines source) l)
-    → AreOverLines s.lines s.labels
+-- whether the start of a line lies inside a label, as the sheet of a drawn group tells
+pub inside-told : (t : Texts) (g : Section) (switches : Switches) (source : Listing) (labels : List LabelInfo)
+    → IsDrawnGroup t g switches source labels → AreOverLines (listed_lines source) labels
+    → (group : GroupFields) (l offset : ℕ) (o : Option LineExtent) (extent : LineExtent) (result : Bool)
+    → group ≡ record { labels = labels; line = l }
+    → o ≡ slice_get (line_table (listed_lines source)) l → o ≡ Some extent → l < length (listed_lines source) → offset ≡ extent.offset
+    → 0 < length (line_text (listed_lines source) l)
     → ((s : Sheet) (l : ℕ) → s.labels ≡ group.labels → group.line ≡ l → offset ≡ line_offset length s.lines l → 0 < length (line_text s.lines l)
-    → HoldersTouch s l → result ≡ is_inside s l) → result ≡ is_inside s l
-inside-told s source group labels l offset extent result lines own at there o some over f =
-    f s l (own ∙ ap (λ (g : GroupFields). g.labels) (sym at)) (ap (λ (g : GroupFields). g.line) at)
-    (o ∙ ap (λ (e : LineExtent). e.offset) there ∙ offset_is (listed_lines source) l ∙ ap (λ ls. line_offset length ls l) (sym lines))
-    (subst (λ ls. 0 < length (line_text ls l)) (sym lines) some) (holders-touch s l over)
+    → HoldersTouch s l → result ≡ is_inside s l) → result ≡ is_inside g.sheet l
+inside-told t g switches source labels h over group l offset o extent result at read there within is some f =
+    let lines = ap (λ (s : Sheet). s.lines) h.sheet in
+    f g.sheet l (ap (λ (s : Sheet). s.labels) h.sheet ∙ ap (λ (g : GroupFields). g.labels) (sym at)) (ap (λ (g : GroupFields). g.line) at)
+    (is ∙ ap (λ (e : LineExtent). e.offset) (line-read o (listed_lines source) l extent read there within) ∙ offset_is (listed_lines source) l
+    ∙ ap (λ ls. line_offset length ls l) (sym lines))
+    (subst (λ ls. 0 < length (line_text ls l)) (sym lines) some) (holders-touch g.sheet l (drawn-over t g switches source labels h over))
 
 -- a hidden line has no margin label
 pub hidden-none : (s : Sheet) (l : ℕ) → is_hidden s l ≡ true → margin_label s l ≡ None

@@ -3,6 +3,7 @@
 use Rattle.std.specs.Prelude.{ℕ, ◌<◌, ◌≡◌, List, length, take, Option, Result, Ok, Err, Vec}
 use Rattle.std.specs.Io.KnownBytes.{Appends, Keeps}
 use Rattle.std.specs.declared.alloc.Global.{Global}
+use Rattle.ariadne_base.specs.Listing.{Listing}
 use Rattle.ariadne.specs.declared.write.accept.LeftOut.{LeftOut}
 use Rattle.ariadne.specs.declared.write.accept.Reason.{Reason}
 use Rattle.ariadne_send.specs.declared.send.WriteError.{WriteError}
@@ -56,3 +57,13 @@ module _ {S Id E : Type 0} (fails : Id → E → Type 0) (old w : World S Id) (r
   Written before after (Ok list) = IsWritten list.items before after
   Written before after (Err (Memory _)) = Keeps before after
   Written before after (Err (Io sent fault)) = IsCutOff sent before after
+
+-- the same over a cache that was old and is new: what is read of it are its names and its contents
+abbrev pub WrittenOver : {S Id E C : Type 0}
+    → ((Id → Option (List ℕ)) → List (Id × Listing) → World S Id)
+    → (C → Id → Option (List ℕ)) → (C → List (Id × Listing)) → (Id → E → Type 0) → C → C
+    → ReportFields S → Option (List ℕ) → Option (List ℕ)
+    → Result (Vec (LeftOut E) Global) WriteError → Type 0
+WrittenOver reads names contents fails old new r before after result =
+    Written fails (reads (names old) (contents old)) (reads (names new) (contents new)) r before
+    after result

@@ -19,7 +19,7 @@ use std::ops::Range;
 /// A report in the making, which [`Report::build`] begins.
 ///
 /// A call by value that is refused memory drops the report. A call by reference that is refused
-/// leaves it as it was.
+/// leaves it as it was; where it adds several texts or labels, those before stay added.
 #[derive(Drop)]
 pub struct ReportBuilder<'a, S: Span = Range<usize>> {
     report: Report<'a, S>,
@@ -56,8 +56,8 @@ impl<'a, S: Span> ReportBuilder<'a, S> {
     }
 
     /// The report with this number as its code, which stands in brackets in front of its kind, in
-    /// place of the code that it may have had. The code is the number's decimal digits, with zeros
-    /// in front where they are less than two.
+    /// place of the code that it may have had. The code is the number's decimal digits, with a zero
+    /// in front of a single one.
     pub fn with_code(self, code: u64) -> Result<ReportBuilder<'a, S>, AllocError>
     where
         S: Drop,

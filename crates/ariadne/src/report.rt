@@ -54,8 +54,8 @@ impl<'a, S: Span> Report<'a, S> {
     /// Begins a report of this kind.
     ///
     /// `span` is the place that the header of its picture names, where that is in a source which
-    /// is drawn. The report has no message and no labels, and the default configuration. `alloc`
-    /// serves all calls of the builder.
+    /// is drawn. The report has the default configuration, and no code, message, labels, notes or
+    /// helps yet. `alloc` serves all calls of the builder.
     pub fn build(alloc: Global, kind: ReportKind<'a>, span: S) -> ReportBuilder<'a, S>
         ensures { result ≡ new_report (kind_of kind.entry) span }
     {

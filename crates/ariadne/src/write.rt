@@ -21,7 +21,7 @@
 ghost use Rattle.std.specs.Prelude.{◌≡◌, IfOk, None, string_bytes};
 ghost use Rattle.ariadne.specs.Drawn.{world};
 ghost use Rattle.ariadne.specs.Judging.{GrowsFor};
-ghost use Rattle.ariadne.specs.Written.{IsPicture, Written};
+ghost use Rattle.ariadne.specs.Written.{IsPicture, WrittenOver};
 ghost use Rattle.ariadne_send.specs.Sent.{TellsFailure};
 
 pub(crate) mod accept;
@@ -62,7 +62,7 @@ impl<'a, S: Span> Report<'a, S> {
     /// taken exactly the first `sent` bytes of the picture, which has more. After each answer the
     /// cache holds what it held, and beyond that at most sources of labels.
     ///
-    /// After Ok every message can be found: it has a row of its own, and strokes lead from it to
+    /// After `Ok` every message can be found: it has a row of its own, and strokes lead from it to
     /// the characters that its label points at, in the columns where the source row shows them.
     pub fn write<C: Cache<S::SourceId>, W: Write>(
         &self,
@@ -74,11 +74,9 @@ impl<'a, S: Span> Report<'a, S> {
         ensures naming { (q : S.SourceId) → C.names cache.new q ≡ C.names cache.old q }
         ensures grows { GrowsFor S.source_of S.SourceId.eq self.now.labels
             (C.contents cache.old) (C.contents cache.new) }
-        ensures written { let old = world S.source_of S.start_of S.end_of S.SourceId.eq
-            (C.names cache.old) (C.contents cache.old) in
-            let w = world S.source_of S.start_of S.end_of S.SourceId.eq
-            (C.names cache.new) (C.contents cache.new) in
-            Written C.fails old w self.now (W.contents out.old) (W.contents out.new) result }
+        ensures written { WrittenOver (world S.source_of S.start_of S.end_of S.SourceId.eq)
+            C.names C.contents C.fails cache.old cache.new self.now
+            (W.contents out.old) (W.contents out.new) result }
     {
         let picture = self.picture(cache)?;
         send(out, picture.text.as_bytes())?;
@@ -100,11 +98,9 @@ impl<'a, S: Span> Report<'a, S> {
         ensures grows { GrowsFor S.source_of S.SourceId.eq self.now.labels
             (C.contents cache.old) (C.contents cache.new) }
         ensures failed { TellsFailure (K.has_failed out.old) (K.has_failed out.new) result }
-        ensures written { let old = world S.source_of S.start_of S.end_of S.SourceId.eq
-            (C.names cache.old) (C.contents cache.old) in
-            let w = world S.source_of S.start_of S.end_of S.SourceId.eq
-            (C.names cache.new) (C.contents cache.new) in
-            Written C.fails old w self.now (K.contents out.old) (K.contents out.new) result }
+        ensures written { WrittenOver (world S.source_of S.start_of S.end_of S.SourceId.eq)
+            C.names C.contents C.fails cache.old cache.new self.now
+            (K.contents out.old) (K.contents out.new) result }
     {
         let picture = self.picture(cache)?;
         send_to(out, picture.text.as_bytes())?;
@@ -124,11 +120,9 @@ impl<'a, S: Span> Report<'a, S> {
         ensures naming { (q : S.SourceId) → C.names cache.new q ≡ C.names cache.old q }
         ensures grows { GrowsFor S.source_of S.SourceId.eq self.now.labels
             (C.contents cache.old) (C.contents cache.new) }
-        ensures written { let old = world S.source_of S.start_of S.end_of S.SourceId.eq
-            (C.names cache.old) (C.contents cache.old) in
-            let w = world S.source_of S.start_of S.end_of S.SourceId.eq
-            (C.names cache.new) (C.contents cache.new) in
-            Written C.fails old w self.now (W.contents out.old) (W.contents out.new) result }
+        ensures written { WrittenOver (world S.source_of S.start_of S.end_of S.SourceId.eq)
+            C.names C.contents C.fails cache.old cache.new self.now
+            (W.contents out.old) (W.contents out.new) result }
     {
         self.write(cache, out)
     }
@@ -146,11 +140,8 @@ impl<'a, S: Span> Report<'a, S> {
         ensures naming { (q : S.SourceId) → C.names cache.new q ≡ C.names cache.old q }
         ensures grows { GrowsFor S.source_of S.SourceId.eq self.now.labels
             (C.contents cache.old) (C.contents cache.new) }
-        ensures written { let old = world S.source_of S.start_of S.end_of S.SourceId.eq
-            (C.names cache.old) (C.contents cache.old) in
-            let w = world S.source_of S.start_of S.end_of S.SourceId.eq
-            (C.names cache.new) (C.contents cache.new) in
-            Written C.fails old w self.now None None result }
+        ensures written { WrittenOver (world S.source_of S.start_of S.end_of S.SourceId.eq)
+            C.names C.contents C.fails cache.old cache.new self.now None None result }
     {
         self.write(cache, &mut io::writer(rt))
     }
@@ -168,11 +159,8 @@ impl<'a, S: Span> Report<'a, S> {
         ensures naming { (q : S.SourceId) → C.names cache.new q ≡ C.names cache.old q }
         ensures grows { GrowsFor S.source_of S.SourceId.eq self.now.labels
             (C.contents cache.old) (C.contents cache.new) }
-        ensures written { let old = world S.source_of S.start_of S.end_of S.SourceId.eq
-            (C.names cache.old) (C.contents cache.old) in
-            let w = world S.source_of S.start_of S.end_of S.SourceId.eq
-            (C.names cache.new) (C.contents cache.new) in
-            Written C.fails old w self.now None None result }
+        ensures written { WrittenOver (world S.source_of S.start_of S.end_of S.SourceId.eq)
+            C.names C.contents C.fails cache.old cache.new self.now None None result }
     {
         self.write(cache, &mut stderr)
     }

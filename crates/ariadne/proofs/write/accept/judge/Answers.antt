@@ -45,29 +45,19 @@ returns-in_default-offset_in_chars g c =
           c.if-start-size.false (omega arith) _ some _ c.min.ensures none;
     }
 
--- both ends are behind whole characters, in order
-pub label_info-requires-clause-forward : goal.label_info-requires-clause-forward
-label_info-requires-clause-forward g c =
+-- both ends are behind whole characters of the source, in order
+pub label_info-requires : goal.label_info-requires
+label_info-requires g c =
     let start : c.start-start.result ≡ g.S.Span.start_of c.args.label.now.span = rw c.span.ensures.span at c.start-start.ensures in
     let end : c.end-end.result ≡ g.S.Span.end_of c.args.label.now.span = rw c.span-2.ensures.span at c.end-end.ensures in
     let some : Some c.in-Some.start ≡ offset_in_chars c.index_type-index_type.result (chars c.args.source.now.text) c.start-start.result =
     rw c.in-Some.is at c.offset_in_chars.ensures in
     let also : Some c.in-Some-offset_in_chars.end ≡ offset_in_chars c.index_type-index_type.result (chars c.args.source.now.text) c.min.result =
     rw c.in-Some-offset_in_chars.is at c.offset_in_chars-2.ensures in
-    (ends_in_order c.args.config c.args.source.now c.args.position c.args.label.now _ _ _ _ _ _ c.index_type-index_type.ensures
-    c.text_len-size.ensures start end c.if-start-size.false (omega arith) _ some _ c.min.ensures _ also c.span.ensures.forward).0
-
--- behind characters of the source
-pub label_info-requires-clause-ends_within : goal.label_info-requires-clause-ends_within
-label_info-requires-clause-ends_within g c =
-    let start : c.start-start.result ≡ g.S.Span.start_of c.args.label.now.span = rw c.span.ensures.span at c.start-start.ensures in
-    let end : c.end-end.result ≡ g.S.Span.end_of c.args.label.now.span = rw c.span-2.ensures.span at c.end-end.ensures in
-    let some : Some c.in-Some.start ≡ offset_in_chars c.index_type-index_type.result (chars c.args.source.now.text) c.start-start.result =
-    rw c.in-Some.is at c.offset_in_chars.ensures in
-    let also : Some c.in-Some-offset_in_chars.end ≡ offset_in_chars c.index_type-index_type.result (chars c.args.source.now.text) c.min.result =
-    rw c.in-Some-offset_in_chars.is at c.offset_in_chars-2.ensures in
-    (ends_in_order c.args.config c.args.source.now c.args.position c.args.label.now _ _ _ _ _ _ c.index_type-index_type.ensures
-    c.text_len-size.ensures start end c.if-start-size.false (omega arith) _ some _ c.min.ensures _ also c.span.ensures.forward).1
+    let ends =
+    ends_in_order c.args.config c.args.source.now c.args.position c.args.label.now _ _ _ _ _ _ c.index_type-index_type.ensures
+    c.text_len-size.ensures start end c.if-start-size.false (omega arith) _ some _ c.min.ensures _ also c.span.ensures.forward in
+    record { forward = ends.0; ends_within = ends.1 }
 
 -- then the label is accepted
 pub returns : goal.returns

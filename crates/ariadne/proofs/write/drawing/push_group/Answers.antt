@@ -21,27 +21,9 @@ pub push_lines-requires-clause-over : goal.push_lines-requires-clause-over
 push_lines-requires-clause-over g c =
     subst (λ (s : Listing). AreOverLines (listed_lines s) c.args.lists.now.sheet.labels) (sym c.in_ok-source.ensures.source) c.requires.over
 
--- the lines leave the page too
-pub push_foot-requires-clause-page : goal.push_foot-requires-clause-page
-push_foot-requires-clause-page g c =
-    let w = world g.S.Span.source_of g.S.Span.start_of g.S.Span.end_of g.S.SourceId.PartialEq.eq (g.C.Cache.names c.args.cache.now)
-    (g.C.Cache.contents c.args.cache.now) in
-    let r = c.args.report.now in
-    let labels = c.args.lists.now.sheet.labels in
-    let switches = c.requires.switches in
-    let page = c.in_ok-source.ensures.page in
-    let same = ap (λ (p : PageFields). p.switches) page ∙ switches in
-    let s = section_of w r 0 (0, labels) in
-    let drawn = section_source w r 0 0 labels c.push_group_head.new.pen.page same c.in_ok-source.source.now c.in_ok-source.ensures.source in
-    let lines = c.in_ok-push_lines.ensures.drawn s drawn in
-    let behind : c.push_lines.new.pen.page ≡ c.push_group_head.new.pen.page = rows_page c.push_group_head.new.pen c.push_lines.new.pen _ lines in
-    let gutter : c.push_lines.new.lists.gutter.page ≡ c.args.lists.now.gutter.page =
-    c.in_ok-push_lines.ensures.page ∙ ap (λ (x : GutterFields). x.page) c.in_ok-begin.ensures in
-    gutter ∙ c.requires.page ∙ sym page ∙ sym behind
-
--- there is such a group
-pub push_foot-requires-clause-group : goal.push_foot-requires-clause-group
-push_foot-requires-clause-group g c =
+-- the lines leave the page too, and there is such a group
+pub push_foot-requires : goal.push_foot-requires
+push_foot-requires g c =
     let w = world g.S.Span.source_of g.S.Span.start_of g.S.Span.end_of g.S.SourceId.PartialEq.eq (g.C.Cache.names c.args.cache.now)
     (g.C.Cache.contents c.args.cache.now) in
     let r = c.args.report.now in
@@ -60,7 +42,10 @@ push_foot-requires-clause-group g c =
     section_gutter w r 0 0 labels c.push_lines.new.lists.gutter (ap (λ (p : PageFields). p.switches) (gutter ∙ c.requires.page) ∙ switches)
     c.gutter_labels.result.now c.gutter_labels.ensures
     (c.in_ok-push_lines.ensures.positions ∙ ap (λ (x : GutterFields). x.positions) c.in_ok-begin.ensures) in
-    (s, on_page, of_sheet)
+    record {
+      page = gutter ∙ c.requires.page ∙ sym page ∙ sym behind;
+      group = (s, on_page, of_sheet);
+    }
 
 -- the rows stand one after another
 pub returns-clause-drawn : goal.returns-clause-drawn

@@ -1,15 +1,14 @@
 -- The number of a group's last line, in the source of its first label.
-use Rattle.std.proofs.Common.{◌≡◌, ◌∙◌, ◌+◌, ◌<◌, ap, arith, max, length, get_or, false}
+use Rattle.std.proofs.Common.{◌≡◌, ◌∙◌, ◌+◌, ◌<◌, ap, arith, max, length, false}
 use Rattle.std.specs.Prelude.{decimal, slice_range, pos}
 use Rattle.std.specs.Option.{option_copied}
 use Rattle.std.proofs.lemmas.List.{drop_all}
-use Rattle.ariadne.specs.Drawn.{world, IsDrawn}
+use Rattle.ariadne.specs.Drawn.{world}
 use Rattle.ariadne_base.specs.Listing.{listed_lines}
 use Rattle.ariadne_picture.specs.Canvas.{number_width, same_source}
 use Rattle.ariadne_picture.specs.Groups.{groups_of, group_end_line}
 use Rattle.ariadne_picture.specs.declared.label_info.LabelInfo.{LabelInfo}
-use Rattle.ariadne.proofs.Grouping.{all_at}
-use Rattle.ariadne.proofs.GroupingSources.{drawn_there, found_source, label_there, one_source, range_number, range_width, width_none}
+use Rattle.ariadne.proofs.GroupingSources.{found_first, one_source, range_number, range_width, width_none}
 use Rattle.ariadne.proofs.GroupingWidths.{max_is}
 use Rattle.ariadne.proofs.write.groups.number_width.Goals as goal
 
@@ -38,17 +37,14 @@ overflow_add-number g c =
     let infos = c.args.infos.now in
     let start = c.loop-start.start in
     let one = one_source g.S.SourceId.PartialEq.eq g.met.S.SourceId.Eq.laws (g.C.Cache.contents c.args.cache.now) in
-    let d : IsDrawn w r (get_or infos start nothing) = all_at (IsDrawn w r) infos start nothing c.loop-start-test.true c.requires.drawn in
-    let there = all_at (λ (a : LabelInfo). a.position < length r.labels) infos start nothing c.loop-start-test.true (drawn_there w r infos c.requires.drawn) in
-    let x = label_there w r _ _ _ c.labels.ensures c.index-labels-infos.is there in
-    let id = c.source-id.ensures ∙ ap g.S.Span.source_of c.span.ensures.span in
-    let source : d.source ≡ c.unwrap-source.result.now =
-    found_source w r (get_or infos start nothing) d c.index-labels-infos.result x c.source-id.result.now id (option_copied c.get.result) c.get.ensures
-    c.unwrap-source.result.now (ap option_copied c.unwrap-source.ensures) in
+    let first =
+    found_first w r infos start nothing c.loop-start-test.true c.requires.drawn c.labels.result.now c.index-labels-infos.result c.labels.ensures
+    c.index-labels-infos.is c.source-id.result.now (c.source-id.ensures ∙ ap g.S.Span.source_of c.span.ensures.span) (option_copied c.get.result)
+    c.get.ensures c.unwrap-source.result.now (ap option_copied c.unwrap-source.ensures) in
     let cut = c.group_end-end.ensures.groups (g.C.Cache.names c.args.cache.now) (g.C.Cache.contents c.args.cache.now) in
     let last : group_end_line (slice_range infos start c.group_end-end.result) < length (listed_lines c.unwrap-source.result.now) =
     range_number w r one infos start c.group_end-end.result c.requires.drawn c.group_end-end.ensures.after c.loop-start-test.true _ cut
-    c.unwrap-source.result.now nothing d source in
+    c.unwrap-source.result.now nothing first.0 first.1 in
     let fits = c.display_line_offset-offset.ensures.fits in
     let offset = c.display_line_offset-offset.ensures.offset in
     let is : c.last_line.result ≡ group_end_line (slice_range infos start c.group_end-end.result) = c.last_line.ensures in
@@ -63,17 +59,14 @@ overflow_add-number-in-loop-start g c =
     let infos = c.args.infos.now in
     let start = c.loop-start.start in
     let one = one_source g.S.SourceId.PartialEq.eq g.met.S.SourceId.Eq.laws (g.C.Cache.contents c.args.cache.now) in
-    let d : IsDrawn w r (get_or infos start nothing) = all_at (IsDrawn w r) infos start nothing c.loop-start-test.true c.requires.drawn in
-    let there = all_at (λ (a : LabelInfo). a.position < length r.labels) infos start nothing c.loop-start-test.true (drawn_there w r infos c.requires.drawn) in
-    let x = label_there w r _ _ _ c.labels.ensures c.index-labels-infos.is there in
-    let id = c.source-id.ensures ∙ ap g.S.Span.source_of c.span.ensures.span in
-    let source : d.source ≡ c.unwrap-source.result.now =
-    found_source w r (get_or infos start nothing) d c.index-labels-infos.result x c.source-id.result.now id (option_copied c.get.result) c.get.ensures
-    c.unwrap-source.result.now (ap option_copied c.unwrap-source.ensures) in
+    let first =
+    found_first w r infos start nothing c.loop-start-test.true c.requires.drawn c.labels.result.now c.index-labels-infos.result c.labels.ensures
+    c.index-labels-infos.is c.source-id.result.now (c.source-id.ensures ∙ ap g.S.Span.source_of c.span.ensures.span) (option_copied c.get.result)
+    c.get.ensures c.unwrap-source.result.now (ap option_copied c.unwrap-source.ensures) in
     let cut = c.group_end-end.ensures.groups (g.C.Cache.names c.args.cache.now) (g.C.Cache.contents c.args.cache.now) in
     let last : group_end_line (slice_range infos start c.group_end-end.result) < length (listed_lines c.unwrap-source.result.now) =
     range_number w r one infos start c.group_end-end.result c.requires.drawn c.group_end-end.ensures.after c.loop-start-test.true _ cut
-    c.unwrap-source.result.now nothing d source in
+    c.unwrap-source.result.now nothing first.0 first.1 in
     let fits = c.display_line_offset-offset.ensures.fits in
     let offset = c.display_line_offset-offset.ensures.offset in
     let is : c.last_line.result ≡ group_end_line (slice_range infos start c.group_end-end.result) = c.last_line.ensures in
@@ -88,17 +81,14 @@ loop-start-preserved g c =
     let infos = c.args.infos.now in
     let start = c.loop-start.start in
     let one = one_source g.S.SourceId.PartialEq.eq g.met.S.SourceId.Eq.laws (g.C.Cache.contents c.args.cache.now) in
-    let d : IsDrawn w r (get_or infos start nothing) = all_at (IsDrawn w r) infos start nothing c.loop-start-test.true c.requires.drawn in
-    let there = all_at (λ (a : LabelInfo). a.position < length r.labels) infos start nothing c.loop-start-test.true (drawn_there w r infos c.requires.drawn) in
-    let x = label_there w r _ _ _ c.labels.ensures c.index-labels-infos.is there in
-    let id = c.source-id.ensures ∙ ap g.S.Span.source_of c.span.ensures.span in
-    let source : d.source ≡ c.unwrap-source.result.now =
-    found_source w r (get_or infos start nothing) d c.index-labels-infos.result x c.source-id.result.now id (option_copied c.get.result) c.get.ensures
-    c.unwrap-source.result.now (ap option_copied c.unwrap-source.ensures) in
+    let first =
+    found_first w r infos start nothing c.loop-start-test.true c.requires.drawn c.labels.result.now c.index-labels-infos.result c.labels.ensures
+    c.index-labels-infos.is c.source-id.result.now (c.source-id.ensures ∙ ap g.S.Span.source_of c.span.ensures.span) (option_copied c.get.result)
+    c.get.ensures c.unwrap-source.result.now (ap option_copied c.unwrap-source.ensures) in
     let cut = c.group_end-end.ensures.groups (g.C.Cache.names c.args.cache.now) (g.C.Cache.contents c.args.cache.now) in
     let last : group_end_line (slice_range infos start c.group_end-end.result) < length (listed_lines c.unwrap-source.result.now) =
     range_number w r one infos start c.group_end-end.result c.requires.drawn c.group_end-end.ensures.after c.loop-start-test.true _ cut
-    c.unwrap-source.result.now nothing d source in
+    c.unwrap-source.result.now nothing first.0 first.1 in
     let fits = c.display_line_offset-offset.ensures.fits in
     let offset = c.display_line_offset-offset.ensures.offset in
     let is : c.last_line.result ≡ group_end_line (slice_range infos start c.group_end-end.result) = c.last_line.ensures in
@@ -110,7 +100,7 @@ loop-start-preserved g c =
       within = c.group_end-end.ensures.within;
       widest =
           range_width w r one infos start c.group_end-end.result c.requires.drawn c.group_end-end.ensures.after c.loop-start-test.true _ cut
-          c.unwrap-source.result.now nothing d source (c.last_line.result + 1 + c.display_line_offset-offset.result) c.loop-start.width
+          c.unwrap-source.result.now nothing first.0 first.1 (c.last_line.result + 1 + c.display_line_offset-offset.result) c.loop-start.width
           c.max-width.result _ number wider c.loop-start.invariant.widest;
     }
 

@@ -7,7 +7,7 @@ use Rattle.ariadne_picture.specs.Pieces.{row_pieces}
 use Rattle.ariadne_picture.specs.Rows.{bare, gap, is_inside, line_rows}
 use Rattle.ariadne_rows.proofs.GutterSteps.{beside-gap}
 use Rattle.ariadne.specs.Drawn.{AreOverLines}
-use Rattle.ariadne.proofs.LinesHidden.{drawn-page, drawn-lines, drawn-labels, drawn-switches, drawn-over, inside-told, line-read, over-rise}
+use Rattle.ariadne.proofs.LinesHidden.{drawn-page, drawn-switches, drawn-over, inside-told, over-rise}
 use Rattle.ariadne.proofs.LinesHidden.{hidden-none, line-there, run-gap, run-none, run-bare}
 use Rattle.ariadne.proofs.LinesRows.{on-ok, rows-none, rows-one, rows-of}
 use Rattle.ariadne.proofs.write.lines.push_hidden.Goals as goal
@@ -24,12 +24,10 @@ returns-then-is_inside-clause-drawn g c = λ t s h over some beside hidden run.
     let page = c.args.pen.now.page in
     let source = c.args.source.now in
     let labels = c.args.sheet.now.labels in
-    let own : AreOverLines s.sheet.lines s.sheet.labels = drawn-over t s page.switches source labels h over in
     let told : c.is_inside.result ≡ is_inside s.sheet l =
-    inside-told s.sheet source c.go_to.new.self labels l c.offset.result c.unwrap-extent.result c.is_inside.result
-    (drawn-lines t s page source labels h) (drawn-labels t s page source labels h) c.in_ok-go_to.ensures.ok
-    (line-read c.line.result (listed_lines source) l c.unwrap-extent.result c.line.ensures c.unwrap-extent.ensures c.requires.within)
-    c.offset.ensures some own c.is_inside.ensures in
+    inside-told t s page.switches source labels h over c.go_to.new.self l c.offset.result c.line.result c.unwrap-extent.result c.is_inside.result
+    c.in_ok-go_to.ensures.ok c.line.ensures c.unwrap-extent.ensures c.requires.within c.offset.ensures some c.is_inside.ensures in
+    let own : AreOverLines s.sheet.lines s.sheet.labels = drawn-over t s page.switches source labels h over in
     let inside : is_inside s.sheet l ≡ true = sym told ∙ c.if-is_inside.true in
     on-ok c.push_gap_row.result (λ d.
     rows-of t s page.number_width c.args.pen.now c.push_gap_row.new.pen (gap l ∷ []) (line_rows s.sheet l) (run-gap s.sheet l hidden run inside)
@@ -44,12 +42,9 @@ returns-then-switches-clause-drawn g c = λ t s h over some beside hidden run.
     let page = c.args.pen.now.page in
     let source = c.args.source.now in
     let labels = c.args.sheet.now.labels in
-    let own : AreOverLines s.sheet.lines s.sheet.labels = drawn-over t s page.switches source labels h over in
     let told : c.is_inside.result ≡ is_inside s.sheet l =
-    inside-told s.sheet source c.go_to.new.self labels l c.offset.result c.unwrap-extent.result c.is_inside.result
-    (drawn-lines t s page source labels h) (drawn-labels t s page source labels h) c.in_ok-go_to.ensures.ok
-    (line-read c.line.result (listed_lines source) l c.unwrap-extent.result c.line.ensures c.unwrap-extent.ensures c.requires.within)
-    c.offset.ensures some own c.is_inside.ensures in
+    inside-told t s page.switches source labels h over c.go_to.new.self l c.offset.result c.line.result c.unwrap-extent.result c.is_inside.result
+    c.in_ok-go_to.ensures.ok c.line.ensures c.unwrap-extent.ensures c.requires.within c.offset.ensures some c.is_inside.ensures in
     let outside : is_inside s.sheet l ≡ false = sym told ∙ c.if-is_inside.false in
     let compact : s.sheet.switches.compact ≡ true =
     ap (λ (z : Switches). z.compact) (drawn-switches t s page source labels h) ∙ ap (λ (p : PageFields). p.switches.compact) (sym c.page.ensures)
@@ -64,12 +59,9 @@ returns-clause-drawn g c = λ t s h over some beside hidden run.
     let page = c.args.pen.now.page in
     let source = c.args.source.now in
     let labels = c.args.sheet.now.labels in
-    let own : AreOverLines s.sheet.lines s.sheet.labels = drawn-over t s page.switches source labels h over in
     let told : c.is_inside.result ≡ is_inside s.sheet l =
-    inside-told s.sheet source c.go_to.new.self labels l c.offset.result c.unwrap-extent.result c.is_inside.result
-    (drawn-lines t s page source labels h) (drawn-labels t s page source labels h) c.in_ok-go_to.ensures.ok
-    (line-read c.line.result (listed_lines source) l c.unwrap-extent.result c.line.ensures c.unwrap-extent.ensures c.requires.within)
-    c.offset.ensures some own c.is_inside.ensures in
+    inside-told t s page.switches source labels h over c.go_to.new.self l c.offset.result c.line.result c.unwrap-extent.result c.is_inside.result
+    c.in_ok-go_to.ensures.ok c.line.ensures c.unwrap-extent.ensures c.requires.within c.offset.ensures some c.is_inside.ensures in
     let outside : is_inside s.sheet l ≡ false = sym told ∙ c.if-is_inside.false in
     let full : s.sheet.switches.compact ≡ false =
     ap (λ (z : Switches). z.compact) (drawn-switches t s page source labels h) ∙ ap (λ (p : PageFields). p.switches.compact) (sym c.page.ensures)
