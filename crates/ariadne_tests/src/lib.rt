@@ -15,6 +15,8 @@ mod colors;
 #[cfg(test)]
 mod configs;
 #[cfg(test)]
+mod gallery;
+#[cfg(test)]
 mod groups;
 #[cfg(test)]
 mod helpers;
@@ -26,6 +28,8 @@ mod laws;
 mod lines;
 #[cfg(test)]
 mod pictures;
+#[cfg(test)]
+mod readme;
 #[cfg(test)]
 mod refused;
 #[cfg(test)]
