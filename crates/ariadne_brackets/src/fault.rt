@@ -1,7 +1,7 @@
 //! Why the linter stops, what it tells of that, and the status that it ends with.
 
 ghost use Rattle.std.specs.Prelude.{◌≡◌, alloc_error};
-ghost use Rattle.ariadne_brackets.specs.Faults.{status_of_fault};
+ghost use Rattle.ariadne_brackets.specs.Faults.{file_fault_of, status_of_fault};
 ghost use Rattle.ariadne_brackets.specs.declared.fault.Fault.TheVariants.{Memory};
 
 use ariadne::FileError;
@@ -87,7 +87,9 @@ pub enum FileFault {
 
 impl FileFault {
     /// What an error of the cache means.
-    pub fn of_error(error: &FileError) -> FileFault {
+    pub fn of_error(error: &FileError) -> FileFault
+        ensures { result ≡ file_fault_of error.now }
+    {
         match error {
             FileError::Read(_) => FileFault::Unread,
             FileError::NotUtf8 => FileFault::NotUtf8,
