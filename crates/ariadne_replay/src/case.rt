@@ -1,8 +1,8 @@
-//! A stored case: a report, what it is drawn over, and what is sent of it.
+//! A case: a report, what it is drawn over, and what is sent of it, or is asked for.
 
-use serde::Deserialize;
+use serde::{Deserialize, Serialize};
 
-/// A stored case.
+/// A case. Where it has no picture, its answer is asked for.
 #[derive(Drop, Deserialize)]
 pub struct Case {
     pub name: String,
@@ -19,10 +19,20 @@ pub struct Case {
     pub sources: Vec<Text>,
     /// The ids that a custom cache shows no name for.
     pub hidden: Vec<String>,
-    /// The positions of the labels that are left out, from 0, each with its reason.
+    /// As in an answer.
+    #[serde(default)]
     pub left_out: Vec<(usize, Why)>,
+    /// As in an answer.
+    pub picture: Option<String>,
+}
+
+/// What a report answers.
+#[derive(Drop, Serialize)]
+pub struct Answer {
     /// What is sent.
     pub picture: String,
+    /// The positions of the labels that are left out, from 0, each with its reason.
+    pub left_out: Vec<(usize, Why)>,
 }
 
 /// The kind of a report: its name, or three parts, of which the last two are the name and the
@@ -126,7 +136,7 @@ pub struct Text {
 }
 
 /// Why a label is left out.
-#[derive(Clone, Copy, Drop, PartialEq, Eq, Deserialize)]
+#[derive(Clone, Copy, Drop, PartialEq, Eq, Deserialize, Serialize)]
 pub enum Why {
     Unfetched,
     PastSource,

@@ -1,5 +1,11 @@
-//! Replays stored reports: reads a case from each line of standard input, writes its report, and
-//! prints a line for each that is not drawn as it is stored, and then how many there were.
+//! Replays reports: reads a case from each line of standard input, as JSON, and writes its report.
+//!
+//! A case with a picture is compared: a line names it where it is not drawn as it is stored. For a
+//! case without one its answer is printed as a line of JSON, for instance
+//!
+//!     {"picture":"Error: m\n","left_out":[[0,"PastSource"]]}
+//!
+//! The last line tells how many were compared, and how many of them differ.
 #![tactic(auto)]
 
 mod case;
@@ -7,10 +13,11 @@ mod discreet;
 mod making;
 mod replaying;
 
-use case::Case;
-use replaying::is_replayed;
+use case::{Answer, Case};
+use replaying::answer_of;
 use std::alloc::Global;
 use std::io;
+use std::io::ErrorKind;
 use std::process::ExitCode;
 
 /// The case on a line.
@@ -21,13 +28,26 @@ fn read_case(alloc: Global, line: &str) -> io::Result<Case> {
     }
 }
 
+/// An answer as a line of JSON.
+fn line_of(alloc: Global, answer: &Answer) -> io::Result<String> {
+    match serde_json::to_string(alloc, answer) {
+        Ok(line) => Ok(line),
+        Err(_) => Err(io::Error::from(ErrorKind::OutOfMemory)),
+    }
+}
+
 fn main(rt: HostRuntime) -> io::Result<ExitCode> {
     let text = io::read_to_string(rt.alloc(), rt.stdin())?;
     let (mut count, mut different) = (0u32, 0u32);
     for line in text.lines() {
         let case = read_case(rt.alloc(), line)?;
+        let answer = answer_of(rt.alloc(), &case)?;
+        let Some(picture) = &case.picture else {
+            println!(rt; "{}", line_of(rt.alloc(), &answer)?)?;
+            continue;
+        };
         count = count.saturating_add(1);
-        if !is_replayed(rt.alloc(), &case)? {
+        if answer.picture != *picture || answer.left_out != case.left_out {
             different = different.saturating_add(1);
             println!(rt; "{}: differs", case.name)?;
         }
