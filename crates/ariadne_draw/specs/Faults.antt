@@ -1,4 +1,8 @@
 -- Why nothing was drawn, or not all of it, and the status that the program ends with.
+use Rattle.std.specs.Prelude.{ℕ, List, codes}
+use Rattle.ariadne.specs.declared.write.accept.Reason.{Reason}
+use Rattle.ariadne.specs.declared.write.accept.Reason.TheVariants.{Unfetched, PastSource}
+use Rattle.ariadne.specs.declared.write.accept.Reason.TheVariants.{CutsCharacter}
 use Rattle.ariadne_send.specs.declared.send.WriteError.{WriteError}
 use Rattle.ariadne_send.specs.declared.send.WriteError.TheVariants as write
 use Rattle.ariadne_draw.specs.declared.fault.Fault.{Fault}
@@ -27,3 +31,9 @@ IsBeforeWriting Unread = Unit {0}
 IsBeforeWriting NotUtf8 = Unit {0}
 IsBeforeWriting (Writer sent) = ⊥
 IsBeforeWriting (Memory refused) = Unit {0}
+
+-- what is told of a label that was left out for this reason
+abbrev pub reason_text : {E : Type 0} → Reason E → List ℕ
+reason_text (Unfetched error) = codes "unfetched"
+reason_text PastSource = codes "past source"
+reason_text CutsCharacter = codes "cuts a character"

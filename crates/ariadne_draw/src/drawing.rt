@@ -7,7 +7,7 @@ ghost use Rattle.ariadne_base.specs.Cache.{Grows, KeepsOtherIds};
 ghost use Rattle.ariadne_draw.specs.Asked.{asking, options_asking};
 ghost use Rattle.ariadne_draw.specs.Drawn.{config_of, own_span, reads_input, report_of, sources};
 ghost use Rattle.ariadne_draw.specs.Drawn.{Ended, Leaves, Wrote};
-ghost use Rattle.ariadne_draw.specs.Faults.{IsBeforeWriting};
+ghost use Rattle.ariadne_draw.specs.Faults.{IsBeforeWriting, reason_text};
 ghost use Rattle.ariadne_draw.specs.Words.{asking_of};
 
 use super::asked::{Asked, AskedOptions};
@@ -177,11 +177,18 @@ fn asked_config(options: &AskedOptions<'_>) -> Config
 fn tell_left_out<E, F: Write>(faults: &mut F, left_out: &[LeftOut<E>]) {
     for it in left_out {
         let number = it.label.saturating_add(1);
-        let reason = match it.reason {
-            Reason::Unfetched(_) => "unfetched",
-            Reason::PastSource => "past source",
-            Reason::CutsCharacter => "cuts a character",
-        };
+        let reason = reason_text(&it.reason);
         let _ = writeln!(faults, "label {number}: {reason}");
+    }
+}
+
+/// Why a label was left out, as a line of `faults` tells it.
+fn reason_text<E>(reason: &Reason<E>) -> &'static str
+    ensures { result.now ≡ reason_text reason.now }
+{
+    match reason {
+        Reason::Unfetched(_) => "unfetched",
+        Reason::PastSource => "past source",
+        Reason::CutsCharacter => "cuts a character",
     }
 }
