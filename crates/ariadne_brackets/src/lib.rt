@@ -24,8 +24,6 @@ mod offence;
 mod tests;
 #[cfg(test)]
 mod tests_refused;
-#[cfg(test)]
-mod tests_streams;
 
 pub use fault::{Fault, Status, tell_fault};
 pub use linting::lint;

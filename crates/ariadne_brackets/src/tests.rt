@@ -3,7 +3,7 @@
 use super::fault::Status;
 use super::linting::lint;
 use super::offence::{Offence, first_offence};
-use super::tests_streams::Taker;
+use ariadne_fakes::{Taker, texts};
 use std::alloc::{AllocError, Global};
 use std::io::ErrorKind;
 use std::process::Abort;
@@ -26,15 +26,6 @@ pub struct Outcome {
     pub faults: String,
 }
 
-/// Words of the command line.
-pub fn texts(alloc: Global, words: &[&str]) -> Result<Vec<String>, AllocError> {
-    let mut texts = Vec::new(alloc);
-    for word in words {
-        texts.push(String::from_str(alloc, word)?)?;
-    }
-    Ok(texts)
-}
-
 /// Runs the linter with an output.
 pub fn run_into<R: Files>(
     files: &R,
@@ -44,7 +35,7 @@ pub fn run_into<R: Files>(
 ) -> Result<Outcome, Fail> {
     let words = texts(alloc, words)?;
     let mut out = out;
-    let mut faults = Taker::new(alloc)?;
+    let mut faults = Taker::whole(alloc)?;
     let status = lint(files, alloc, words.as_slice(), &mut out, &mut faults);
     Ok(Outcome {
         status,
@@ -55,7 +46,7 @@ pub fn run_into<R: Files>(
 
 /// Runs the linter with an output that takes all.
 pub fn run<R: Files>(files: &R, alloc: Global, words: &[&str]) -> Result<Outcome, Fail> {
-    run_into(files, alloc, words, Taker::new(alloc)?)
+    run_into(files, alloc, words, Taker::whole(alloc)?)
 }
 
 /// Runs the linter, and asserts what comes of it.
@@ -246,20 +237,13 @@ fn a_writer_that_fails_is_told_with_what_it_took(rt: HostRuntime) -> Result<(), 
     fs::write(&rt, first.as_path(), FIRST)?;
     fs::write(&rt, second.as_path(), SECOND)?;
     let whole = both(alloc, first.as_str(), second.as_str())?;
-    for calls_left in 0..whole.len() {
+    for calls in 0..whole.len() {
         for fault in [Some(ErrorKind::BrokenPipe), None] {
-            let out = Taker {
-                held: Vec::new(alloc),
-                room: 1,
-                calls_left,
-                fault,
-            };
+            let out = Taker::narrow(alloc, 1, calls, fault);
             let outcome = run_into(&rt, alloc, &[first.as_str(), second.as_str(), "/"], out)?;
-            let told = format!(in alloc;
-                "/: can't be read\nwrite failed after {calls_left} bytes\n"
-            )?;
-            assert_eq!(rt; outcome.status, Status::Failed, "at {calls_left}");
-            assert_eq!(rt; outcome.out.as_bytes(), &whole.as_bytes()[..calls_left]);
+            let told = format!(in alloc; "/: can't be read\nwrite failed after {calls} bytes\n")?;
+            assert_eq!(rt; outcome.status, Status::Failed, "at {calls}");
+            assert_eq!(rt; outcome.out.as_bytes(), &whole.as_bytes()[..calls]);
             assert_eq!(rt; outcome.faults.as_str(), told.as_str());
         }
     }
@@ -272,8 +256,8 @@ fn a_failing_standard_error_is_passed_over(rt: HostRuntime) -> Result<(), Fail> 
     let cases: [&[&str]; 2] = [&[], &["/"]];
     for words in cases {
         let words = texts(alloc, words)?;
-        let mut out = Taker::new(alloc)?;
-        let mut faults = Taker::new(alloc)?;
+        let mut out = Taker::whole(alloc)?;
+        let mut faults = Taker::whole(alloc)?;
         faults.calls_left = 0;
         let status = lint(&rt, alloc, words.as_slice(), &mut out, &mut faults);
         assert_eq!(rt; status, Status::BadInput);

@@ -12,8 +12,6 @@ mod tests_files;
 mod tests_pictures;
 #[cfg(test)]
 mod tests_refused;
-#[cfg(test)]
-mod tests_streams;
 mod words;
 
 pub use drawing::draw;

@@ -2,8 +2,8 @@
 
 use super::drawing::draw;
 use super::fault::Status;
-use super::tests_streams::{Given, Taker};
-use std::alloc::{AllocError, Global};
+use ariadne_fakes::{Given, Taker, texts};
+use std::alloc::Global;
 use std::io::ErrorKind;
 use std::process::Abort;
 use std::rt::Files;
@@ -20,27 +20,18 @@ pub struct Outcome {
     pub faults: String,
 }
 
-/// Words of the command line.
-pub fn texts(alloc: Global, words: &[&str]) -> Result<Vec<String>, AllocError> {
-    let mut texts = Vec::new(alloc);
-    for word in words {
-        texts.push(String::from_str(alloc, word)?)?;
-    }
-    Ok(texts)
-}
-
 /// Runs the program over an input and an output.
 pub fn run_over<R: Files>(
     files: &R,
     alloc: Global,
     words: &[&str],
-    input: Given,
+    input: Given<'_>,
     out: Taker,
 ) -> Result<Outcome, Fail> {
     let words = texts(alloc, words)?;
     let mut input = input;
     let mut out = out;
-    let mut faults = Taker::new(alloc)?;
+    let mut faults = Taker::whole(alloc)?;
     let status = draw(
         files,
         alloc,
@@ -61,13 +52,10 @@ pub fn run<R: Files>(
     files: &R,
     alloc: Global,
     words: &[&str],
-    text: &'static str,
+    text: &str,
 ) -> Result<Outcome, Fail> {
-    let input = Given {
-        rest: text.as_bytes(),
-        fault: None,
-    };
-    run_over(files, alloc, words, input, Taker::new(alloc)?)
+    let input = Given::whole(text.as_bytes());
+    run_over(files, alloc, words, input, Taker::whole(alloc)?)
 }
 
 /// Runs the program over a text, which it draws whole as this.
@@ -86,11 +74,12 @@ fn assert_drawn<R: Files + Abort>(
 
 #[test]
 fn a_report_without_labels_is_its_header(rt: HostRuntime) -> Result<(), Fail> {
-    let cases: [(&[&str], &str); 7] = [
+    let cases: [(&[&str], &str); 8] = [
         (&["--plain", "m"], "Error: m\n"),
         (&["--plain", "a b"], "Error: a b\n"),
         (&["--plain", "-m"], "Error: -m\n"), // one dash begins no option
         (&["--plain", "--", "--x"], "Error: --x\n"),
+        (&["--ascii", "--plain", "--", "--x"], "Error: --x\n"),
         (&["--plain", "--", "--"], "Error: --\n"),
         (&["--plain", "--", "--plain"], "Error: --plain\n"),
         (&["--plain", "--", "m"], "Error: m\n"),
@@ -164,7 +153,7 @@ fn other_words_are_answered_by_the_usage_line(rt: HostRuntime) -> Result<(), Fai
             rest: b"",
             fault: Some(ErrorKind::TimedOut),
         };
-        let outcome = run_over(&rt, alloc, words, unreadable, Taker::new(alloc)?)?;
+        let outcome = run_over(&rt, alloc, words, unreadable, Taker::whole(alloc)?)?;
         assert_eq!(rt; outcome.status, Status::BadInput, "at {words:?}");
         assert_eq!(rt; outcome.out.as_str(), "", "at {words:?}");
         assert_eq!(rt; outcome.faults.as_str(), USAGE, "at {words:?}");
@@ -198,63 +187,75 @@ fn labels_past_the_source_are_told_by_their_number(rt: HostRuntime) -> Result<()
     Ok(())
 }
 
+/// An input that can't be drawn over.
+#[derive(Clone, Copy)]
+struct Unread {
+    name: &'static str,
+    rest: &'static [u8],
+    fault: Option<ErrorKind>,
+    status: Status,
+    told: &'static str,
+}
+
+const UNREAD: &[Unread] = &[
+    Unread {
+        name: "a byte of no character",
+        rest: b"a\xff",
+        fault: None,
+        status: Status::BadInput,
+        told: "input: not UTF-8\n",
+    },
+    Unread {
+        name: "half a character at the end",
+        rest: b"ab\xc3",
+        fault: None,
+        status: Status::BadInput,
+        told: "input: not UTF-8\n",
+    },
+    Unread {
+        name: "half of a surrogate pair",
+        rest: b"\xed\xa0\x80",
+        fault: None,
+        status: Status::BadInput,
+        told: "input: not UTF-8\n",
+    },
+    Unread {
+        name: "a fault behind a text",
+        rest: b"ab",
+        fault: Some(ErrorKind::TimedOut),
+        status: Status::BadInput,
+        told: "input: can't be read\n",
+    },
+    Unread {
+        name: "a fault behind bytes that are no text",
+        rest: b"a\xff",
+        fault: Some(ErrorKind::TimedOut),
+        status: Status::BadInput,
+        told: "input: can't be read\n",
+    },
+    Unread {
+        name: "no memory for it",
+        rest: b"ab",
+        fault: Some(ErrorKind::OutOfMemory),
+        status: Status::Failed,
+        told: "no memory\n",
+    },
+];
+
 #[test]
 fn an_input_that_is_no_text_is_told(rt: HostRuntime) -> Result<(), Fail> {
     let alloc = rt.alloc();
-    let cases: [(&'static [u8], Option<ErrorKind>, Status, &str); 4] = [
-        (b"a\xff", None, Status::BadInput, "input: not UTF-8\n"),
-        (
-            b"ab",
-            Some(ErrorKind::TimedOut),
-            Status::BadInput,
-            "input: can't be read\n",
-        ),
-        (
-            b"a\xff",
-            Some(ErrorKind::TimedOut),
-            Status::BadInput,
-            "input: can't be read\n",
-        ),
-        (
-            b"ab",
-            Some(ErrorKind::OutOfMemory),
-            Status::Failed,
-            "no memory\n",
-        ),
-    ];
-    for (rest, fault, status, told) in cases {
-        let input = Given { rest, fault };
-        let words = ["--ascii", "--plain", "m", "0", "1", "x"];
-        let outcome = run_over(&rt, alloc, &words, input, Taker::new(alloc)?)?;
-        assert_eq!(rt; outcome.status, status, "at {told}");
-        assert_eq!(rt; outcome.out.as_str(), "", "at {told}");
-        assert_eq!(rt; outcome.faults.as_str(), told);
-    }
-    Ok(())
-}
-
-#[test]
-fn a_writer_that_fails_is_told_with_what_it_took(rt: HostRuntime) -> Result<(), Fail> {
-    let alloc = rt.alloc();
-    let whole = "Error: m\n";
-    for calls_left in 0..whole.len() {
-        for fault in [Some(ErrorKind::BrokenPipe), None] {
-            let input = Given {
-                rest: b"ab",
-                fault: None,
-            };
-            let out = Taker {
-                held: Vec::new(alloc),
-                room: 1,
-                calls_left,
-                fault,
-            };
-            let outcome = run_over(&rt, alloc, &["--ascii", "--plain", "m"], input, out)?;
-            let told = format!(in alloc; "write failed after {calls_left} bytes\n")?;
-            assert_eq!(rt; outcome.status, Status::Failed, "at {calls_left}");
-            assert_eq!(rt; outcome.out.as_bytes(), &whole.as_bytes()[..calls_left]);
-            assert_eq!(rt; outcome.faults.as_str(), told.as_str());
-        }
+    let words = ["--ascii", "--plain", "m", "0", "1", "x"];
+    for case in UNREAD {
+        let name = case.name;
+        let input = Given {
+            rest: case.rest,
+            fault: case.fault,
+        };
+        let outcome = run_over(&rt, alloc, &words, input, Taker::whole(alloc)?)?;
+        assert_eq!(rt; outcome.status, case.status, "{name}");
+        assert_eq!(rt; outcome.out.as_str(), "", "{name}");
+        assert_eq!(rt; outcome.faults.as_str(), case.told, "{name}");
     }
     Ok(())
 }
@@ -262,28 +263,31 @@ fn a_writer_that_fails_is_told_with_what_it_took(rt: HostRuntime) -> Result<(), 
 #[test]
 fn a_failing_standard_error_is_passed_over(rt: HostRuntime) -> Result<(), Fail> {
     let alloc = rt.alloc();
-    let cases: [(&[&str], Status); 2] = [
-        (&["--ascii", "--plain", "m", "0", "9", "x"], Status::LeftOut),
-        (&["--odd"], Status::BadInput),
+    // The words, how many calls standard output answers, and the status.
+    let cases: [(&[&str], usize, Status); 3] = [
+        (
+            &["--ascii", "--plain", "m", "0", "9", "x"],
+            1000,
+            Status::LeftOut,
+        ),
+        (&["--odd"], 1000, Status::BadInput),
+        (&["--ascii", "--plain", "m"], 0, Status::Failed),
     ];
-    for (words, status) in cases {
-        let words = texts(alloc, words)?;
-        let mut input = Given {
-            rest: b"ab",
-            fault: None,
-        };
-        let mut out = Taker::new(alloc)?;
-        let mut faults = Taker::new(alloc)?;
-        faults.calls_left = 0;
+    for (words, calls, status) in cases {
+        let given = texts(alloc, words)?;
+        let mut input = Given::whole(b"ab");
+        let mut out = Taker::narrow(alloc, 1000, calls, None);
+        let mut faults = Taker::narrow(alloc, 1000, 0, Some(ErrorKind::BrokenPipe));
         let answered = draw(
             &rt,
             alloc,
-            words.as_slice(),
+            given.as_slice(),
             &mut input,
             &mut out,
             &mut faults,
         );
-        assert_eq!(rt; answered, status);
+        assert_eq!(rt; answered, status, "at {words:?}");
+        assert!(rt; faults.held.is_empty(), "at {words:?}");
     }
     Ok(())
 }

@@ -2,7 +2,7 @@
 
 use super::fault::Status;
 use super::tests::{run, run_over};
-use super::tests_streams::{Given, Taker};
+use ariadne_fakes::{Given, Taker};
 use std::alloc::{AllocError, Global};
 use std::io::ErrorKind;
 use std::rt::Files;
@@ -300,20 +300,16 @@ fn labels_take_the_colors_of_the_generator_in_turn(rt: HostRuntime) -> Result<()
 fn a_writer_that_fails_at_each_call_holds_a_beginning(rt: HostRuntime) -> Result<(), Fail> {
     let alloc = rt.alloc();
     let whole = picture(alloc, &APPLES_PICTURE)?;
-    for calls_left in 0..whole.len() {
-        let input = Given {
-            rest: b"apple == orange;",
-            fault: None,
-        };
-        let mut out = Taker::new(alloc)?;
-        out.room = 1;
-        out.calls_left = calls_left;
-        out.fault = Some(ErrorKind::BrokenPipe);
-        let outcome = run_over(&rt, alloc, &APPLES, input, out)?;
-        let told = format!(in alloc; "write failed after {calls_left} bytes\n")?;
-        assert_eq!(rt; outcome.status, Status::Failed, "at {calls_left}");
-        assert_eq!(rt; outcome.out.as_bytes(), &whole.as_bytes()[..calls_left]);
-        assert_eq!(rt; outcome.faults.as_str(), told.as_str());
+    for calls in 0..whole.len() {
+        for fault in [Some(ErrorKind::BrokenPipe), None] {
+            let input = Given::whole(b"apple == orange;");
+            let out = Taker::narrow(alloc, 1, calls, fault);
+            let outcome = run_over(&rt, alloc, &APPLES, input, out)?;
+            let told = format!(in alloc; "write failed after {calls} bytes\n")?;
+            assert_eq!(rt; outcome.status, Status::Failed, "at {calls}");
+            assert_eq!(rt; outcome.out.as_bytes(), &whole.as_bytes()[..calls]);
+            assert_eq!(rt; outcome.faults.as_str(), told.as_str());
+        }
     }
     Ok(())
 }

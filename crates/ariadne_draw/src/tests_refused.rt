@@ -1,32 +1,9 @@
 //! The program with each of its requests for memory refused in turn.
 
-ghost use Rattle.std.specs.Prelude.{◌<◌};
-
 use super::drawing::draw;
 use super::fault::Status;
-use super::tests::texts;
-use super::tests_streams::{Given, Taker};
-use std::alloc::Global;
+use ariadne_fakes::{Given, Taker, refuse, texts, was_refused};
 use std::test::Fail;
-
-/// A request for this many bytes and n more asks `tools/refuse` to refuse the nth request from
-/// there on, none where n is 0. In a test that runs without it nothing is refused.
-const WATCHED: usize = 0x5e_ed00;
-
-/// A request for this many bytes more is refused where that nth request was.
-const LAST: usize = 0xf_ffff;
-
-/// Has the nth request from here on refused, none where n is 0.
-fn refuse(alloc: Global, nth: usize)
-    requires { nth < 1000000 }
-{
-    let _ = Vec::<u8>::with_capacity(alloc, WATCHED + nth);
-}
-
-/// Whether a request was refused since the last call of `refuse`.
-fn was_refused(alloc: Global) -> bool {
-    Vec::<u8>::with_capacity(alloc, WATCHED + LAST).is_err()
-}
 
 #[test]
 fn a_refused_request_is_told_as_no_memory(rt: HostRuntime) -> Result<(), Fail> {
@@ -36,12 +13,9 @@ fn a_refused_request_is_told_as_no_memory(rt: HostRuntime) -> Result<(), Fail> {
         &["--ascii", "--plain", "m", "0", "5", "a", "9", "15", "b"],
     )?;
     for nth in 1..1000 {
-        let mut input = Given {
-            rest: b"apple == orange;",
-            fault: None,
-        };
-        let mut out = Taker::new(alloc)?;
-        let mut faults = Taker::new(alloc)?;
+        let mut input = Given::whole(b"apple == orange;");
+        let mut out = Taker::whole(alloc)?;
+        let mut faults = Taker::whole(alloc)?;
         refuse(alloc, nth);
         let status = draw(
             &rt,
@@ -51,9 +25,7 @@ fn a_refused_request_is_told_as_no_memory(rt: HostRuntime) -> Result<(), Fail> {
             &mut out,
             &mut faults,
         );
-        let is_refused = was_refused(alloc);
-        refuse(alloc, 0);
-        if !is_refused {
+        if !was_refused(alloc) {
             assert_eq!(rt; status, Status::Drawn, "at request {nth}");
             return Ok(());
         }
