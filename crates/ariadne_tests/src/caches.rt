@@ -150,22 +150,35 @@ const FAULTY: &[Faulty] = &[
     },
 ];
 
+/// A function that counts its calls.
+#[derive(Drop)]
+struct Counted {
+    calls: Cell<u8>,
+    faulty: &'static Faulty,
+}
+
+impl Counted {
+    /// What the next call answers.
+    fn answer(&self) -> Result<&'static str, u8> {
+        self.calls.set(self.calls.get().wrapping_add(1));
+        if self.calls.get() <= self.faulty.faults {
+            Err(self.calls.get().wrapping_add(self.faulty.told))
+        } else {
+            Ok("ab")
+        }
+    }
+}
+
 /// Asserts what comes of a function.
-fn assert_called(rt: &(impl Abort + AllocGlobal), faulty: &Faulty) -> Result<(), Fail> {
+fn assert_called(rt: &(impl Abort + AllocGlobal), faulty: &'static Faulty) -> Result<(), Fail> {
     let name = faulty.name;
-    let faults = faulty.faults;
-    let told = faulty.told;
-    let calls = Cell::new(0u8);
+    let counted = Counted {
+        calls: Cell::new(0),
+        faulty,
+    };
     let mut cache: FnCache<&str, _, &str> = FnCache::new(
         rt.alloc(),
-        |_id: &&str| -> Result<&str, u8> {
-            calls.set(calls.get().wrapping_add(1));
-            if calls.get() <= faults {
-                Err(calls.get().wrapping_add(told))
-            } else {
-                Ok("ab")
-            }
-        },
+        |_id: &&str| -> Result<&str, u8> { counted.answer() },
     );
     let report = two_labels(rt)?;
     for round in faulty.rounds {
@@ -173,7 +186,7 @@ fn assert_called(rt: &(impl Abort + AllocGlobal), faulty: &Faulty) -> Result<(),
         assert_shown(rt, name, picture.as_str(), round.rows, round.is_whole)?;
         assert_missing(rt, name, &left_out, round.left_out);
         assert_told(rt, name, &left_out, round.told);
-        assert_eq!(rt; calls.get(), round.calls, "of {name}");
+        assert_eq!(rt; counted.calls.get(), round.calls, "of {name}");
     }
     assert_eq!(rt; cache.get(&"x").is_some(), faulty.is_held, "of {name}");
     Ok(())
