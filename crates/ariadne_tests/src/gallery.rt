@@ -9,8 +9,8 @@ use crate::readme::tell;
 use ariadne::{Color, LabelAttach, ReportKind};
 use std::test::Fail;
 
-/// The pictures of one source.
-const CASES: &[Case] = &[
+/// Each kind of label.
+const LABELS: &[Case] = &[
     Case {
         name: "a label within a line",
         text: "apple == orange;",
@@ -214,6 +214,10 @@ const CASES: &[Case] = &[
         ],
         ..BARE
     },
+];
+
+/// Which label stands above which, and which paints.
+const ORDERS: &[Case] = &[
     Case {
         name: "in the order of the line",
         text: "a b",
@@ -369,6 +373,10 @@ const CASES: &[Case] = &[
         ],
         ..BARE
     },
+];
+
+/// Where arrows cross and are attached, and the compact form.
+const ARROWS: &[Case] = &[
     Case {
         name: "with gaps",
         text: "ab",
@@ -533,6 +541,10 @@ const CASES: &[Case] = &[
         ],
         ..BARE
     },
+];
+
+/// The other settings.
+const SETTINGS: &[Case] = &[
     Case {
         name: "with underlines",
         text: "apple",
@@ -732,6 +744,10 @@ const CASES: &[Case] = &[
         ],
         ..BARE
     },
+];
+
+/// Headers, helps, notes and line numbers.
+const HEADERS: &[Case] = &[
     Case {
         name: "an error",
         message: Some("m"),
@@ -921,8 +937,28 @@ const SOURCES_CASES: &[SourcesCase] = &[
 ];
 
 #[test]
-fn each_picture_of_the_gallery(rt: HostRuntime) -> Result<(), Fail> {
-    assert_cases(&rt, CASES)?;
+fn each_kind_of_label_of_the_gallery(rt: HostRuntime) -> Result<(), Fail> {
+    assert_cases(&rt, LABELS)
+}
+
+#[test]
+fn each_order_of_labels_of_the_gallery(rt: HostRuntime) -> Result<(), Fail> {
+    assert_cases(&rt, ORDERS)
+}
+
+#[test]
+fn each_form_of_arrows_of_the_gallery(rt: HostRuntime) -> Result<(), Fail> {
+    assert_cases(&rt, ARROWS)
+}
+
+#[test]
+fn each_other_setting_of_the_gallery(rt: HostRuntime) -> Result<(), Fail> {
+    assert_cases(&rt, SETTINGS)
+}
+
+#[test]
+fn each_header_of_the_gallery(rt: HostRuntime) -> Result<(), Fail> {
+    assert_cases(&rt, HEADERS)?;
     assert_sources_cases(&rt, SOURCES_CASES)
 }
 
