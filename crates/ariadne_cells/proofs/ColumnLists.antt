@@ -1,10 +1,9 @@
 -- The list of the columns that the places of a line begin at: it is filled over the shown characters, and then past them.
 use Rattle.std.proofs.Common.{◌≡◌, ℕ, zero, suc, ◌+◌, ◌-◌, ◌<◌, ◌≤◌, min, List, [], ◌∷◌, ◌++◌, length, map, get_or, take, refl, sym, ap, ◌∙◌, arith}
 use Rattle.std.proofs.Common.{append_assoc, append-nil}
-use Rattle.std.specs.List.{AllByRecursion, enumerate_from, range_with_len}
+use Rattle.std.specs.List.{AllByRecursion, range_with_len}
 use Rattle.std.proofs.lemmas.List.{get_or-take, get_or_read, length-take}
 use Rattle.std.proofs.lemmas.List.FromFn.{get_or-map-range_with_len, length-map-range_with_len, map-range_with_len_more}
-use Rattle.std.proofs.lemmas.List.FromFn.{get_or-enumerate_from, length-enumerate_from}
 use Rattle.std.proofs.lemmas.Option.{unwrap_or-slice_get}
 use Rattle.ariadne_base.specs.Locations.{upto}
 use Rattle.ariadne_picture.specs.declared.switches.Switches.{Switches}
@@ -23,19 +22,13 @@ columns-plain s y len plain = λ k h. sym (column_of-plain s y k plain)
 -- ---- the shown characters
 
 -- a turn of the loop over the shown characters, of which the first len are taken
-pub shown-turn : (cs : List ℕ) (len n place c : ℕ) → n < length (enumerate_from 0 (take len cs))
-    → ◌≡◌ {A = ℕ × ℕ} (place, c) (get_or (enumerate_from 0 (take len cs)) n (place, c))
-    → (n < len) × (n < length cs) × (place ≡ n) × (c ≡ get_or cs n 0)
-shown-turn cs len n place c below item =
-    let size = length-enumerate_from 0 (take len cs) in
+pub shown-turn : (cs : List ℕ) (len n c : ℕ) → n < length (take len cs) → c ≡ get_or (take len cs) n c
+    → (n < len) × (n < length cs) × (c ≡ get_or cs n 0)
+shown-turn cs len n c below item =
     let taken = length-take len cs in
-    let inside : n < length (take len cs) = omega (arith, size) in
-    let both : ◌≡◌ {A = ℕ × ℕ} (place, c) (0 + n, get_or (take len cs) n c) = item ∙ get_or-enumerate_from 0 (take len cs) n (place, c) inside in
-    let number : place ≡ 0 + n = ap (λ (p : ℕ × ℕ). p.0) both in
-    let char : c ≡ get_or (take len cs) n c = ap (λ (p : ℕ × ℕ). p.1) both in
     let short : n < len = omega (arith, taken) in
     let long : n < length cs = omega (arith, taken) in
-    (short, long, omega (arith, number), get_or_read cs n c long (char ∙ get_or-take len cs n c short) 0)
+    (short, long, get_or_read cs n c long (item ∙ get_or-take len cs n c short) 0)
 
 -- it pushes the column of its place
 pub columns-more : (s : Switches) (y : Layout) (columns more : List ℕ) (n x : ℕ) → columns ≡ map (column_of s y) (upto n) → x ≡ column_of s y n
@@ -45,17 +38,17 @@ columns-more s y columns more n x sofar here pushed =
     pushed ∙ (λ i. sofar i ++ here i ∷ []) ∙ sym (map-range_with_len_more (column_of s y) 0 n n z)
 
 -- and then has that of the next
-pub column-step : (s : Switches) (y : Layout) (n place c x w : ℕ) → n < length (shown y) → place ≡ n → c ≡ get_or (shown y) n 0
-    → x ≡ column_of s y n → w ≡ shown_columns s.tab_width place c → x + w ≡ column_of s y (n + 1)
-column-step s y n place c x w below number char sofar size =
-    let here : shown_columns s.tab_width place c ≡ width s y n =
-    (λ i. shown_columns s.tab_width (number i) (char i)) ∙ sym (width-shown s y n below) in
+pub column-step : (s : Switches) (y : Layout) (n c x w : ℕ) → n < length (shown y) → c ≡ get_or (shown y) n 0
+    → x ≡ column_of s y n → w ≡ shown_columns s.tab_width x c → x + w ≡ column_of s y (n + 1)
+column-step s y n c x w below char sofar size =
+    let here : shown_columns s.tab_width x c ≡ width s y n =
+    (λ i. shown_columns s.tab_width (sofar i) (char i)) ∙ sym (width-shown s y n below) in
     let more = column_of-more s y n in
     omega (arith, sofar, size, here, more)
 
 -- the end of that loop
-pub shown-end : (cs : List ℕ) (len n : ℕ) → n ≡ length (enumerate_from 0 (take len cs)) → n ≡ min len (length cs)
-shown-end cs len n all = all ∙ length-enumerate_from 0 (take len cs) ∙ length-take len cs
+pub shown-end : (cs : List ℕ) (len n : ℕ) → n ≡ length (take len cs) → n ≡ min len (length cs)
+shown-end cs len n all = all ∙ length-take len cs
 
 -- ---- the places past them
 

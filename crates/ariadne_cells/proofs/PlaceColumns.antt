@@ -11,24 +11,13 @@ use Rattle.unicode_width.proofs.Rules.{width_or_zero-le}
 use Rattle.ariadne_base.specs.Locations.{upto}
 use Rattle.ariadne_picture.specs.declared.switches.Switches.{Switches}
 use Rattle.ariadne_picture.specs.Lists.{total}
-use Rattle.ariadne_picture.specs.Columns.{Layout, char_columns, shown, shown_columns, width, column_of}
-use Rattle.ariadne_picture.proofs.Lists.Joined.{range_more}
+use Rattle.ariadne_picture.specs.Columns.{Layout, char_columns, shown, shown_columns, width_from, column_of, width}
+use Rattle.ariadne_picture.proofs.Cells.LineColumns.{column_of-total, total-upto_more}
 use Rattle.ariadne_picture.proofs.Lists.Occurrences.{total-append}
 use Rattle.ariadne_picture.proofs.Rows.LineBlock.{range-append}
 use Rattle.ariadne_cells.specs.Tables.{tab_columns}
 
 -- ---- sums over the numbers below n
-
--- of one number
-total-one : (f : ℕ → ℕ) (n : ℕ) → total f (n ∷ []) ≡ f n
-unfolding total
-total-one f n = omega arith
-
--- one number more
-pub total-upto_more : (f : ℕ → ℕ) (n : ℕ) → total f (upto (n + 1)) ≡ total f (upto n) + f n
-total-upto_more f n =
-    let z : 0 + n ≡ n = omega arith in
-    ap (total f) (range_more 0 n) ∙ total-append f (upto n) ((0 + n) ∷ []) ∙ ap (λ t. total f (upto n) + t) (total-one f (0 + n) ∙ ap f z)
 
 -- more numbers give no less
 pub total-upto_grows : (f : ℕ → ℕ) (n d : ℕ) → total f (upto n) ≤ total f (upto (n + d))
@@ -52,41 +41,44 @@ char_columns-le c = at_most (char_width false c) (width_or_zero-le false c)
     at_most (Some n) h = h
 
 -- a shown character that is no tab has three columns at most
-pub shown_columns-le : (tab_width k c : ℕ) → (c == 9) ≡ false → shown_columns tab_width k c ≤ 3
+pub shown_columns-le : (tab_width x c : ℕ) → (c == 9) ≡ false → shown_columns tab_width x c ≤ 3
 unfolding shown_columns
-shown_columns-le tab_width k c other =
+shown_columns-le tab_width x c other =
     let printed = char_columns-le c in
     rw other (cond_both (is_whitespace c) 1 (char_columns c) (λ n. n ≤ 3) (λ _. omega arith) (λ _. printed))
 
 -- printable ASCII has one
-pub shown_columns-printable : (tab_width k c : ℕ) → 32 ≤ c → c ≤ 126 → shown_columns tab_width k c ≡ 1
+pub shown_columns-printable : (tab_width x c : ℕ) → 32 ≤ c → c ≤ 126 → shown_columns tab_width x c ≡ 1
 unfolding shown_columns char_columns char_width
-shown_columns-printable tab_width k c low high =
+shown_columns-printable tab_width x c low high =
     let other : (c == 9) ≡ false = ne_eqb c 9 (λ e. omega (arith, e)) in
     let printed : unwrap_or (char_width false c) 1 ≡ 1 = grind (arith, nat_tests) in
     rw other (cond_both (is_whitespace c) 1 (unwrap_or (char_width false c) 1) (λ n. n ≡ 1) (λ _. refl) (λ _. printed))
 
 -- a place of the shown text has the columns of its character
-pub width-shown : (s : Switches) (y : Layout) (k : ℕ) → k < length (shown y) → width s y k ≡ shown_columns s.tab_width k (get_or (shown y) k 0)
-unfolding width
-width-shown s y k below = sym (cond_below k (length (shown y)) (shown_columns s.tab_width k (get_or (shown y) k 0)) 1 below)
+pub width-shown : (s : Switches) (y : Layout) (k : ℕ) → k < length (shown y)
+    → width s y k ≡ shown_columns s.tab_width (column_of s y k) (get_or (shown y) k 0)
+unfolding width width_from
+width-shown s y k below =
+    sym (cond_below k (length (shown y)) (shown_columns s.tab_width (column_of s y k) (get_or (shown y) k 0)) 1 below)
 
 -- one past it has one column
 pub width-behind : (s : Switches) (y : Layout) (k : ℕ) → length (shown y) ≤ k → width s y k ≡ 1
-unfolding width
-width-behind s y k past = sym (cond_above k (length (shown y)) (shown_columns s.tab_width k (get_or (shown y) k 0)) 1 1 past refl)
+unfolding width width_from
+width-behind s y k past =
+    sym (cond_above k (length (shown y)) (shown_columns s.tab_width (column_of s y k) (get_or (shown y) k 0)) 1 1 past refl)
 
 -- ---- the columns that places begin at
 
 -- the first place begins at the first column
 pub column_of-first : (s : Switches) (y : Layout) → column_of s y 0 ≡ 0
-unfolding column_of total
+unfolding column_of
 column_of-first s y = refl
 
 -- a place ends where the next one begins
 pub column_of-more : (s : Switches) (y : Layout) (k : ℕ) → column_of s y (k + 1) ≡ column_of s y k + width s y k
-unfolding column_of
-column_of-more s y k = total-upto_more (width s y) k
+unfolding width column_of
+column_of-more s y k = let e : k + 1 ≡ suc k = omega arith in ap (column_of s y) e
 
 -- so the next place begins at no lower column
 pub column_of-grows : (s : Switches) (y : Layout) (k : ℕ) → column_of s y k ≤ column_of s y (k + 1)
@@ -94,11 +86,11 @@ column_of-grows s y k = let more = column_of-more s y k in omega (arith, more)
 
 -- and n places later the widths of those between are added
 pub column_of-between : (s : Switches) (y : Layout) (k n : ℕ) → column_of s y (k + n) ≡ column_of s y k + total (width s y) (range_with_len k n)
-unfolding column_of
 column_of-between s y k n =
     let z : 0 + k ≡ k = omega arith in
-    ap (total (width s y)) (range-append 0 k n) ∙ total-append (width s y) (upto k) (range_with_len (0 + k) n)
-    ∙ ap (λ m. total (width s y) (upto k) + total (width s y) (range_with_len m n)) z
+    column_of-total s y (k + n)
+    ∙ ap (total (width s y)) (range-append 0 k n) ∙ total-append (width s y) (upto k) (range_with_len (0 + k) n)
+    ∙ (λ i. sym (column_of-total s y k) i + total (width s y) (range_with_len (z i) n))
 
 -- past the shown text each place has one column
 pub column_of-behind : (s : Switches) (y : Layout) (n d : ℕ) → length (shown y) ≤ n → column_of s y (n + d) ≡ column_of s y n + d
@@ -125,7 +117,7 @@ width-le s y k =
       | inl below ↦
           let here = width-shown s y k below in
           cond_both (c == 9) (width s y k) 0 (λ t. width s y k ≤ t + 3) (λ _. omega arith)
-          (λ other. let most = shown_columns-le s.tab_width k c other in omega (arith, here, most))
+          (λ other. let most = shown_columns-le s.tab_width (column_of s y k) c other in omega (arith, here, most))
       | inr past ↦ let one = width-behind s y k past in omega (arith, one)
     ]
 
@@ -184,7 +176,7 @@ width-plain s y k plain =
     elim (cases_lt k (length (shown y))) [
       | inl below ↦
           let c = get_or-all (λ c. (32 ≤ c) × (c ≤ 126)) (shown y) k plain below in
-          width-shown s y k below ∙ shown_columns-printable s.tab_width k (get_or (shown y) k 0) c.0 c.1
+          width-shown s y k below ∙ shown_columns-printable s.tab_width (column_of s y k) (get_or (shown y) k 0) c.0 c.1
       | inr past ↦ width-behind s y k past
     ]
 

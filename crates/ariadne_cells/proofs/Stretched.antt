@@ -1,8 +1,8 @@
 -- Stretches of places that each show one label, and what they show at each place.
 use Rattle.std.proofs.Common.{◌≡◌, ℕ, ◌+◌, ◌-◌, ◌<◌, ◌≤◌, Bool, true, false, ◌&&◌, cond, List, [], ◌∷◌, ◌++◌, Option, Some, None, filter, map, option_map, option_copied}
-use Rattle.std.proofs.Common.{refl, sym, ap, ◌∙◌, subst, arith, inl, inr}
+use Rattle.std.proofs.Common.{◌==◌, refl, sym, ap, ◌∙◌, subst, arith, inl, inr}
 use Rattle.std.specs.List.{AllByRecursion, best_of}
-use Rattle.std.proofs.lemmas.Bool.{cond-true, cond-false, cases_lt, lt-ltb, le-ltb}
+use Rattle.std.proofs.lemmas.Bool.{cond-true, cond-false, cases_lt, eq-eqb, lt-ltb, le-ltb}
 use Rattle.std.proofs.lemmas.List.{append-nil, append_assoc}
 use Rattle.ariadne_cells.specs.declared.choice.Choice.{Choice}
 use Rattle.ariadne_cells.specs.declared.stretches.Stretch.{Stretch}
@@ -92,7 +92,7 @@ shows_choice f labels offset place to choice stretches more s is h choice_is ins
 
 -- the position of the label whose underline is seen at place k of the row that has underlines
 abbrev pub underline_position : Switches → Layout → ℕ → Option ℕ
-underline_position s y k = option_map position_of (underline_at s y underline_row k)
+underline_position s y k = option_map position_of (underline_at s y (underline_row y) k)
 
 -- a filter of what a function gives
 filter-map : {X Y : Type 0} (f : X → Y) (p : Y → Bool) (xs : List X) → filter p (map f xs) ≡ map f (filter (λ x. p (f x)) xs)
@@ -145,18 +145,19 @@ underline_shown s y k on =
     let inline = filter (λ (x : LineLabel). is_inline x.side) y.labels in
     let held = λ (x : LineLabel). holds x.info (y.offset + k) in
     let seen = best beats (filter (λ x. is_inline x.side && holds x.info (y.offset + k)) y.labels) in
+    let here : (underline_row y == underline_row y) ≡ true = eq-eqb (underline_row y) (underline_row y) refl in
     ap (λ t. position (best is_preferred t)) (filter-map info (λ a. holds a (y.offset + k)) inline)
     ∙ ap position (best-map info is_preferred (filter held inline))
     ∙ position-info (best beats (filter held inline))
     ∙ ap (λ t. option_map position_of (best beats t)) (filter-filter (λ x. is_inline x.side) held y.labels)
-    ∙ (λ i. option_map position_of (cond (sym on i && true) seen None))
+    ∙ (λ i. option_map position_of (cond (sym on i && sym here i) seen None))
 
 -- where they are off, none is seen
 pub underline_unseen : (s : Switches) (y : Layout) (k : ℕ) → s.underlines ≡ false → None ≡ underline_position s y k
 unfolding underline_at
 underline_unseen s y k off =
     let seen = best (λ a b. is_preferred a.info b.info) (underlines_at y k) in
-    (λ i. option_map position_of (cond (sym off i && true) seen None))
+    (λ i. option_map position_of (cond (sym off i && (underline_row y == underline_row y)) seen None))
 
 -- ---- colours
 

@@ -70,7 +70,7 @@ AreVerticals y r verticals =
 abbrev pub AreUnderlines : Switches → Layout → ℕ → List Stretch → Type 0
 AreUnderlines switches y len underlines =
     (k : ℕ) → k < len → shown_at underlines k
-    ≡ option_map position_of (underline_at switches y underline_row k)
+    ≡ option_map position_of (underline_at switches y (underline_row y) k)
 
 -- the labels that colour the shown characters, of a group with these multi-line labels
 abbrev pub ArePaints : List LabelInfo → Layout → List Stretch → Type 0
@@ -82,4 +82,5 @@ pub record IsTable (switches : Switches) (y : Layout) (r : ℕ) (table : LineTab
   pub len : table.len ≡ arrow_len switches y
   pub columns : AreColumns switches y table.len table.columns
   pub verticals : AreVerticals y r table.verticals
+  pub underline_row : table.underline_row ≡ underline_row y
   pub underlines : switches.compact ≡ false → AreUnderlines switches y table.len table.underlines.items

@@ -99,9 +99,9 @@ fn push_shown(
         IfOk result (λ column. column ≡ column_of switches.now layout.now n) }
 {
     let mut column = 0;
-    for (place, c) in layout.shown().chars().take(len).enumerate() {
+    for c in layout.shown().chars().take(len) {
         list.push(column)?;
-        column += shown_columns(switches.tab_width, place, c);
+        column += shown_columns(switches.tab_width, column, c);
     }
     Ok(column)
 }
@@ -122,16 +122,16 @@ fn push_behind(list: &mut Vec<usize>, column: usize, len: usize) -> Result<(), A
     Ok(())
 }
 
-/// How many columns a shown character at an index of its line has. A tab has as many as there are
-/// from its index to the next multiple of `tab_width`.
+/// How many columns a shown character has that begins at `column`. A tab reaches to the next
+/// multiple of `tab_width`.
 #[tactic(auto, unfolding(ariadne_picture::specs::Columns::shown_columns, ariadne_picture::specs::Columns::char_columns))]
-pub fn shown_columns(tab_width: usize, index: usize, c: char) -> usize
+pub fn shown_columns(tab_width: usize, column: usize, c: char) -> usize
     requires { 1 ≤ tab_width }
-    ensures { result ≡ shown_columns tab_width index c }
+    ensures { result ≡ shown_columns tab_width column c }
 {
     match c {
         ' '..='~' => 1,
-        '\t' => tab_width - index % tab_width,
+        '\t' => tab_width - column % tab_width,
         _ if c.is_whitespace() => 1,
         _ => c.width().unwrap_or(1),
     }

@@ -7,7 +7,7 @@ ghost use Rattle.std.specs.List.Sorted.{IsStrictlyIncreasing};
 ghost use Rattle.ariadne_cells.specs.Tables.{ArePaints, IsTable, tab_columns};
 ghost use Rattle.ariadne_picture.specs.declared.label_info.LabelInfo.{LabelInfo};
 ghost use Rattle.ariadne_picture.specs.Columns.{arrow_len, shown};
-ghost use Rattle.ariadne_picture.specs.Strokes.{holds};
+ghost use Rattle.ariadne_picture.specs.Strokes.{holds, underline_row};
 
 use crate::columns::Columns;
 use crate::layout::LineLayout;
@@ -26,7 +26,9 @@ pub struct LineTable {
     pub columns: Columns,
     /// The verticals of the line labels that are still to be written.
     pub verticals: Verticals,
-    /// The labels whose underlines are seen.
+    /// The rank of the alternate row that has the underlines.
+    pub underline_row: usize,
+    /// The labels whose underlines are seen there.
     pub underlines: Vec<Stretch>,
     /// The labels that colour the shown characters.
     pub paints: Vec<Stretch>,
@@ -38,6 +40,7 @@ impl LineTable {
         ensures len { result.len ≡ 0 }
         ensures columns { result.columns ≡ [] }
         ensures verticals { result.verticals ≡ [] }
+        ensures underline_row { result.underline_row ≡ 0 }
         ensures underlines { result.underlines.items ≡ [] }
         ensures paints { result.paints.items ≡ [] }
     {
@@ -45,6 +48,7 @@ impl LineTable {
             len: 0,
             columns: Columns::new(alloc),
             verticals: Verticals::new(alloc),
+            underline_row: 0,
             underlines: Vec::new(alloc),
             paints: Vec::new(alloc),
         }
@@ -63,6 +67,7 @@ impl LineTable {
         self.len = layout.arrow_len(switches);
         self.columns.fill(switches, layout, self.len)?;
         self.verticals.fill(layout)?;
+        self.underline_row = underline_row(layout);
         if !switches.compact {
             find_underlines(switches, layout, self.len, &mut self.underlines)?;
         }
@@ -90,4 +95,13 @@ impl LineTable {
     {
         find_paints(layout, multi_line, touching, &mut self.paints)
     }
+}
+
+/// The rank of the first line label that has a message, whose alternate row has the underlines.
+fn underline_row(layout: &LineLayout<'_>) -> usize
+    ensures { result ≡ underline_row layout.now }
+{
+    let labels = layout.labels();
+    let first = labels.iter().position(|label| label.info.has_message);
+    first.unwrap_or(labels.len())
 }

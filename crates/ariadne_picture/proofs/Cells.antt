@@ -1,5 +1,6 @@
 -- The cells of a row, by its name.
 pub mod CanvasRows
+pub mod LineColumns
 pub mod RowCells
 pub mod MarginTexts
 pub mod GutterInks

@@ -1,13 +1,13 @@
 -- The columns of a line: how wide each character of it is shown, and where it begins. Text below
 -- the line has the same places, so that a stroke under a character stands under all of its columns.
 -- Columns and places count from 0, where the text of the row begins.
-use Rattle.std.specs.Prelude.{ℕ, ◌+◌, ◌-◌, ◌%◌, false, not, ◌==◌, nat_lt, if◌then◌else◌, List}
+use Rattle.std.specs.Prelude.{ℕ, zero, suc, ◌+◌, ◌-◌, ◌%◌, false, not, ◌==◌, nat_lt, if◌then◌else◌, List}
 use Rattle.std.specs.Prelude.{length, map, Option, slice_index, chars, unwrap_or}
 use Rattle.std.specs.List.{list_any}
 use Rattle.std.specs.Char.{is_whitespace}
 use Rattle.std.specs.Str.{drop_trailing_whitespace}
 use Rattle.unicode_width.specs.Width.{char_width}
-use Rattle.ariadne_base.specs.Locations.{line_offset, line_text, upto}
+use Rattle.ariadne_base.specs.Locations.{line_offset, line_text}
 use Rattle.ariadne_picture.specs.declared.label_info.LineLabel.{LineLabel}
 use Rattle.ariadne_picture.specs.Lists.{total}
 use Rattle.ariadne_picture.specs.declared.switches.Switches.{Switches}
@@ -43,22 +43,27 @@ text_columns text = total char_columns (chars text)
 unfoldable pub shown : Layout → List ℕ
 shown y = drop_trailing_whitespace y.text
 
--- the columns of the shown character c at index k of its line; a tab reaches to the next tab stop
+-- the columns of the shown character c that begins at column x; a tab reaches to the next tab stop
 unfoldable pub shown_columns : ℕ → ℕ → ℕ → ℕ
-shown_columns tab_width k c =
-    if c == 9 then tab_width - k % tab_width
+shown_columns tab_width x c =
+    if c == 9 then tab_width - x % tab_width
     else if is_whitespace c then 1
     else char_columns c
 
--- the columns of place k of a line; past the shown text each place has one
-unfoldable pub width : Switches → Layout → ℕ → ℕ
-width switches y k =
-    if nat_lt k (length (shown y)) then shown_columns switches.tab_width k (slice_index (shown y) k)
+-- the columns of place k of a line, if it begins at column x; past the shown text each has one
+unfoldable pub width_from : Switches → Layout → ℕ → ℕ → ℕ
+width_from switches y x k =
+    if nat_lt k (length (shown y)) then shown_columns switches.tab_width x (slice_index (shown y) k)
     else 1
 
--- the column that place k begins at
+-- the column that place k begins at: behind those of the place before it
 unfoldable pub column_of : Switches → Layout → ℕ → ℕ
-column_of switches y k = total (width switches y) (upto k)
+column_of switches y zero = 0
+column_of switches y (suc k) = let x = column_of switches y k in x + width_from switches y x k
+
+-- the columns of place k
+unfoldable pub width : Switches → Layout → ℕ → ℕ
+width switches y k = width_from switches y (column_of switches y k) k
 
 -- how far behind the line's start a label ends
 unfoldable pub places_to_end : Layout → LineLabel → ℕ

@@ -24,7 +24,7 @@ use Rattle.ariadne_picture.specs.Ranks.{Sheet, is_start, multi_line_labels, gutt
 use Rattle.ariadne_picture.specs.Rows.{Aside, help, note, Row, group_header, spacer, source}
 use Rattle.ariadne_picture.specs.Rows.{alternate, arrow, gap, blank, piece, tail, rows}
 use Rattle.ariadne_picture.specs.Columns.{Layout, layout_of, text_columns, shown, shown_columns}
-use Rattle.ariadne_picture.specs.Columns.{width, arrow_len}
+use Rattle.ariadne_picture.specs.Columns.{column_of, width, arrow_len}
 use Rattle.ariadne_picture.specs.Strokes.{holds, is_preferred}
 use Rattle.ariadne_picture.specs.Cells.{glyph_code, alternate_place, arrow_place, column_ink}
 
@@ -85,17 +85,18 @@ char_paint multi_line y k =
 unfoldable pub shown_text : ℕ → List ℕ
 shown_text c = if is_whitespace c then 32 ∷ [] else encode_utf8 c
 
--- the shown character c at index k: each blank of a tab is a cell of its own
+-- the shown character c that begins at column x: each blank of a tab is a cell of its own
 unfoldable pub char_pieces : Switches → Paint → ℕ → ℕ → List Piece
-char_pieces switches paint k c =
-    let columns = shown_columns switches.tab_width k c in
+char_pieces switches paint x c =
+    let columns = shown_columns switches.tab_width x c in
     if c == 9 then replicate columns (record { text = 32 ∷ []; paint = paint; columns = 1 })
     else record { text = shown_text c; paint = paint; columns = columns } ∷ []
 
 -- the pieces of the character at place k
 unfoldable pub place_pieces : Switches → List LabelInfo → Layout → ℕ → List Piece
 place_pieces switches multi_line y k =
-    char_pieces switches (char_paint multi_line y k) k (slice_index (shown y) k)
+    char_pieces switches (char_paint multi_line y k) (column_of switches y k)
+    (slice_index (shown y) k)
 
 -- the text of a source row
 unfoldable pub shown_pieces : Switches → List LabelInfo → Layout → List Piece

@@ -76,16 +76,16 @@ unindented t = drop (prefix_len (λ c. c == 32) t) t
 unfoldable pub ends_in : List ℕ → List ℕ → Bool
 ends_in t end = is_text (drop (length t - length end) t) end
 
--- the texts of the cells of a shown character c at index k of its line: each blank of a tab has its
--- own
+-- the texts of the cells of a shown character c that begins at column x: each blank of a tab has
+-- its own
 abbrev pub char_texts : ℕ → ℕ → ℕ → List (List ℕ)
-char_texts tab_width k c =
-    if c == 9 then replicate (shown_columns tab_width k c) (32 ∷ []) else shown_text c ∷ []
+char_texts tab_width x c =
+    if c == 9 then replicate (shown_columns tab_width x c) (32 ∷ []) else shown_text c ∷ []
 
 -- the columns of these cells
 abbrev pub char_widths : ℕ → ℕ → ℕ → List ℕ
-char_widths tab_width k c =
-    let columns = shown_columns tab_width k c in
+char_widths tab_width x c =
+    let columns = shown_columns tab_width x c in
     if c == 9 then replicate columns 1 else columns ∷ []
 
 -- each number is less than all that follow it
@@ -143,12 +143,16 @@ has_cell s l k = nat_lt 0 (width s.sheet.switches (layout_of s.sheet l) k)
 -- the texts of the cells of line l
 unfoldable pub shown_texts : Section → ℕ → List (List ℕ)
 shown_texts s l =
-    joined_numbered (char_texts s.sheet.switches.tab_width) (shown (layout_of s.sheet l))
+    let y = layout_of s.sheet l in
+    joined_numbered (λ k. char_texts s.sheet.switches.tab_width (column_of s.sheet.switches y k))
+    (shown y)
 
 -- the columns of these cells
 unfoldable pub shown_widths : Section → ℕ → List ℕ
 shown_widths s l =
-    joined_numbered (char_widths s.sheet.switches.tab_width) (shown (layout_of s.sheet l))
+    let y = layout_of s.sheet l in
+    joined_numbered (λ k. char_widths s.sheet.switches.tab_width (column_of s.sheet.switches y k))
+    (shown y)
 
 module _ (canvas : List (List Cell)) (sections : List Section) (p : Placing) where
   -- row n
@@ -297,11 +301,11 @@ module _ (canvas : List (List Cell)) (sections : List Section) (p : Placing) whe
       && holds_at_places g s l n (a.attach + 1) (p.places g l) (is_level (set_of s))
       && is_traced_at g s l a.attach (rows_to g l n)
 
-  -- underlines are drawn below a line where its first label has a message
+  -- underlines are drawn below a line where one of its labels has a message
   abbrev pub has_underlines : Section → ℕ → Bool
   has_underlines s l =
       s.sheet.switches.underlines && not s.sheet.switches.compact
-      && list_any (λ x. x.info.has_message) (take 1 (layout_of s.sheet l).labels)
+      && list_any (λ x. x.info.has_message) (layout_of s.sheet l).labels
 
   -- right below the line each place in the span of a label within it is not blank
   abbrev pub is_span_underlined : ℕ → Section → ℕ → LineLabel → Bool

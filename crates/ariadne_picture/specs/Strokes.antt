@@ -46,9 +46,9 @@ is_preferred a b =
     int_lt b.priority a.priority ||
     (not (int_lt a.priority b.priority) && nat_lt (span_len a) (span_len b))
 
--- the rank of the alternate row that has the underlines
-abbrev pub underline_row : ℕ
-underline_row = 0
+-- the rank of the alternate row that has the underlines: the first that a line label has
+abbrev pub underline_row : Layout → ℕ
+underline_row y = position_or_len (λ x. x.info.has_message) y.labels
 
 -- the labels within the line whose underline reaches place k
 unfoldable pub underlines_at : Layout → ℕ → List LineLabel
@@ -57,7 +57,7 @@ underlines_at y k = filter (λ x. is_inline x.side && holds x.info (y.offset + k
 -- the underline that is seen at place k of the alternate row of rank r
 unfoldable pub underline_at : Switches → Layout → ℕ → ℕ → Option LineLabel
 underline_at switches y r k =
-    if switches.underlines && (r == underline_row)
+    if switches.underlines && (r == underline_row y)
     then best (λ a b. is_preferred a.info b.info) (underlines_at y k)
     else None
 

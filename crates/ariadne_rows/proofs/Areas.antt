@@ -1,11 +1,10 @@
 -- The places of a row below a line: a stretch with one stroke is one run, and stretches stand one behind the other.
 use Rattle.std.proofs.Common.{◌≡◌, ℕ, Option, zero, suc, ◌+◌, ◌-◌, ◌<◌, ◌≤◌, List, [], ◌∷◌, ◌++◌, replicate, Some, None, refl, sym, ap, ◌∙◌, subst, arith, append_assoc}
-use Rattle.std.proofs.Common.{zero-add, add-zero, lit<}
+use Rattle.std.proofs.Common.{add-zero, lit<}
 use Rattle.std.specs.List.{range_with_len}
 use Rattle.std.proofs.lemmas.List.{append-nil, replicate-append-replicate}
 use Rattle.std.proofs.lemmas.Str.{encode_ascii}
 use Rattle.ariadne_color.specs.Colors.{painted}
-use Rattle.ariadne_base.specs.Locations.{upto}
 use Rattle.ariadne_cells.specs.declared.table.LineTable.{LineTable}
 use Rattle.ariadne_cells.specs.declared.verticals.Vertical.{Vertical}
 use Rattle.ariadne_cells.specs.Pages.{PageFields, PenFields, Adds, Draws}
@@ -24,30 +23,21 @@ use Rattle.ariadne_picture.specs.Pieces.{Piece, area_pieces, glyph_text, ink_pie
 use Rattle.ariadne_picture.specs.Canvas.{Palette}
 use Rattle.ariadne_picture.specs.Print.{pieces_bytes}
 use Rattle.ariadne_picture.proofs.Lists.Joined.{joined-append, joined-one}
-use Rattle.ariadne_picture.proofs.Lists.Occurrences.{total-append}
 use Rattle.ariadne_picture.proofs.Rows.LineBlock.{range-append}
+use Rattle.ariadne_cells.proofs.PlaceColumns.{column_of-between}
 use Rattle.ariadne_rows.specs.declared.area.Backdrop.{Backdrop}
 use Rattle.ariadne_rows.specs.Areas.{seen_ink, places_pieces, DrawsPlaces, DrawsOver}
 use Rattle.ariadne_rows.proofs.Bytes.{pieces_bytes_first, pieces_bytes_none, pieces_bytes-append, plain_bytes}
 
 -- ---- the columns of places
 
--- the columns before place a + n are those before place a, and those of the n places from there on
-column_from : (switches : Switches) (y : Layout) (a n : ℕ)
-    → column_of switches y (a + n) ≡ column_of switches y a + total (width switches y) (range_with_len a n)
-unfolding column_of
-column_from switches y a n =
-    let w : ℕ → ℕ = width switches y in
-    ap (total w) (range-append 0 a n) ∙ total-append w (upto a) (range_with_len (0 + a) n)
-    ∙ ap (λ b. total w (upto a) + total w (range_with_len b n)) (zero-add a)
-
--- so the difference of two columns is the sum of the widths between them
+-- the difference of two columns is the sum of the widths between them
 pub columns_between : (switches : Switches) (y : Layout) (len : ℕ) (columns : List ℕ) (from to : ℕ)
     → AreColumns switches y len columns → from ≤ to → to ≤ len
     → column_in columns to - column_in columns from ≡ total (width switches y) (range_with_len from (to - from))
 columns_between switches y len columns from to h order within =
     let e : from + (to - from) ≡ to = omega arith in
-    let more = column_from switches y from (to - from) in
+    let more = column_of-between switches y from (to - from) in
     let last : column_of switches y to ≡ column_of switches y from + total (width switches y) (range_with_len from (to - from)) =
     ap (column_of switches y) (sym e) ∙ more in
     let a : column_in columns from ≡ column_of switches y from = h from (omega arith) in

@@ -3,6 +3,7 @@ pub mod ArrowRows
 pub mod AsideRows
 pub mod BarBits
 pub mod Bytes
+pub mod CountedColumns
 pub mod Events
 pub mod GutterBytes
 pub mod GutterLevels

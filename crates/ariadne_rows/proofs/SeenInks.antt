@@ -70,7 +70,7 @@ alternate_at s y r table t k =
 
 -- in the row that has the underlines, by that of the table
 pub underlined_at : (s : Switches) (y : Layout) (r : ℕ) (table : LineTable) → IsTable s y r table → s.compact ≡ false
-    → r ≡ underline_row → (k : ℕ) → k < table.len → alternate_place s y r k ≡ underlined_ink table (alternate_backdrop s r) k
+    → r ≡ underline_row y → (k : ℕ) → k < table.len → alternate_place s y r k ≡ underlined_ink table (alternate_backdrop s r) k
 unfolding underlined_ink
 underlined_at s y r table t off e k h =
     let under : option_map position_of (underline_at s y r k) ≡ shown_at table.underlines.items k =
@@ -79,13 +79,13 @@ underlined_at s y r table t off e k h =
     ∙ ap (λ o. seen_ink (underlined_or (alternate_backdrop s r) o) (seen_vertical table.verticals k)) under
 
 -- no other row has underlines
-not_underlined : (s : Switches) (y : Layout) (r k : ℕ) → (r ≡ underline_row → ⊥) → underline_at s y r k ≡ None
+not_underlined : (s : Switches) (y : Layout) (r k : ℕ) → (r ≡ underline_row y → ⊥) → underline_at s y r k ≡ None
 unfolding underline_at
 not_underlined s y r k n = ap (λ b. cond b (best (λ a b. is_preferred a.info b.info) (underlines_at y k)) None)
-    (and_right s.underlines (r == underline_row) (ne_eqb r underline_row n))
+    (and_right s.underlines (r == underline_row y) (ne_eqb r (underline_row y) n))
 
 -- so it shows verticals alone
-pub plain_at : (s : Switches) (y : Layout) (r : ℕ) (table : LineTable) → IsTable s y r table → (r ≡ underline_row → ⊥) → (k : ℕ)
+pub plain_at : (s : Switches) (y : Layout) (r : ℕ) (table : LineTable) → IsTable s y r table → (r ≡ underline_row y → ⊥) → (k : ℕ)
     → alternate_place s y r k ≡ seen_ink (alternate_backdrop s r) (seen_vertical table.verticals k)
 unfolding underlined_or
 plain_at s y r table t n k =

@@ -21,7 +21,7 @@ use Rattle.ariadne_picture.specs.declared.switches.CharSet.{CharSet}
 use Rattle.ariadne_picture.specs.declared.switches.Switches.{Switches}
 use Rattle.ariadne_picture.specs.Canvas.{Palette, color_of, paint_color}
 use Rattle.ariadne_picture.specs.Cells.{glyph_code}
-use Rattle.ariadne_picture.specs.Columns.{Layout, shown, shown_columns, width}
+use Rattle.ariadne_picture.specs.Columns.{Layout, shown, shown_columns, column_of, width}
 use Rattle.ariadne_picture.specs.Lists.{joined, total}
 use Rattle.ariadne_picture.specs.Pieces.{Piece, char_paint, char_pieces, glyph_text, place_pieces, repeated, shown_pieces, shown_text, stroke}
 use Rattle.ariadne_picture.specs.Print.{pieces_bytes}
@@ -31,7 +31,8 @@ use Rattle.ariadne_cells.specs.declared.stretches.Stretch.{Stretch}
 use Rattle.ariadne_cells.specs.Tables.{position_paint, shown_at, tab_columns}
 use Rattle.ariadne_cells.proofs.Bytes.{painted_parts, plain_bytes, pieces_bytes-append, pieces_bytes_first, pieces_bytes_none, pieces_bytes_one, run_bytes}
 use Rattle.ariadne_cells.proofs.Drawn.{adds_same, draws_one, draws_places_more, page_kept}
-use Rattle.ariadne_cells.proofs.PlaceColumns.{total-upto_more, width-shown}
+use Rattle.ariadne_picture.proofs.Cells.LineColumns.{total-upto_more}
+use Rattle.ariadne_cells.proofs.PlaceColumns.{width-shown}
 use Rattle.ariadne_rows.specs.ShownTexts.{blank_of, place_in, shown_in}
 
 -- ---- single characters
@@ -100,7 +101,7 @@ unfolding shown_in shown_pieces place_in place_pieces
 draws_shown a b s multi_line y q e h =
     let p = a.page.palette in
     adds_same a b _ _ (bytes_on p (place_in s y q) (place_pieces s multi_line y) (length (shown y))
-    (λ k l. char_bytes p s (q k) (char_paint multi_line y k) k (slice_index (shown y) k) (e k l))) h
+    (λ k l. char_bytes p s (q k) (char_paint multi_line y k) (column_of s y k) (slice_index (shown y) k) (e k l))) h
 
 -- without colours none has one
 pub no_colors : (p : Palette) (q r : Paint) → p.is_on ≡ false → color_of p q ≡ color_of p r
@@ -140,7 +141,7 @@ place_least p s y q k h = each (slice_index (shown y) k == 9)
     c = slice_index (shown y) k
 
     n : ℕ
-    n = shown_columns s.tab_width k c
+    n = shown_columns s.tab_width (column_of s y k) c
 
     each : (b : Bool) → cond b (width s y k) 0
         ≤ length (pieces_bytes p (cond b (replicate n (blank_of (q k))) (record { text = shown_text c; paint = q k; columns = n } ∷ [])))
@@ -182,14 +183,14 @@ draws_tab a b c paint n e h =
     (subst (λ (x : Piece). Draws b c (replicate n x)) (blank_stroke b.page.switches.char_set paint) h)
 
 -- one place more
-pub draws_place : (a b c : PenFields) (y : Layout) (q : ℕ → Paint) (n place x : ℕ) (paint : Paint)
-    → Draws a b (joined (place_in a.page.switches y q) (upto n)) → place ≡ n → x ≡ slice_index (shown y) n → paint ≡ q n
-    → Draws b c (char_pieces b.page.switches paint place x) → Draws a c (joined (place_in a.page.switches y q) (upto (n + 1)))
+pub draws_place : (a b c : PenFields) (y : Layout) (q : ℕ → Paint) (n column x : ℕ) (paint : Paint)
+    → Draws a b (joined (place_in a.page.switches y q) (upto n)) → column ≡ column_of a.page.switches y n → x ≡ slice_index (shown y) n
+    → paint ≡ q n → Draws b c (char_pieces b.page.switches paint column x) → Draws a c (joined (place_in a.page.switches y q) (upto (n + 1)))
 unfolding place_in
-draws_place a b c y q n place x paint before number char own here =
+draws_place a b c y q n column x paint before begins char own here =
     let kept = page_kept a b _ before in
     draws_places_more a b c (place_in a.page.switches y q) n before
-    (subst (Draws b c) (λ i. char_pieces ((kept i).switches) (own i) (number i) (char i)) here)
+    (subst (Draws b c) (λ i. char_pieces ((kept i).switches) (own i) (begins i) (char i)) here)
 
 -- all places
 pub draws_all : (a b : PenFields) (y : Layout) (q : ℕ → Paint) (n : ℕ) → n ≡ length (shown y)
@@ -200,7 +201,7 @@ draws_all a b y q n e h = subst (λ m. Draws a b (joined (place_in a.page.switch
 -- ---- a line of printable ASCII
 
 -- a printable character is shown as it is
-printable_text : (c : ℕ) → 32 ≤ c → c ≤ 126 → shown_text c ≡ encode_utf8 c
+pub printable_text : (c : ℕ) → 32 ≤ c → c ≤ 126 → shown_text c ≡ encode_utf8 c
 unfolding shown_text
 printable_text c low high =
     cond_both (is_whitespace c) (32 ∷ []) (encode_utf8 c) (λ t. t ≡ encode_utf8 c)
@@ -233,7 +234,7 @@ printable_places p s y (suc n) all h =
     let c = get_or-all (λ c. (32 ≤ c) × (c ≤ 126)) (shown y) n all (omega arith) in
     let x = get_or (shown y) n 0 in
     ap (λ j. pieces_bytes p (joined f (upto j))) e ∙ ap (pieces_bytes p) (joined-upto_more f n) ∙ pieces_bytes-append p (joined f (upto n)) (f n)
-    ∙ (λ i. printable_places p s y n all (omega arith) i ++ printable_bytes p s n x c.0 c.1 i)
+    ∙ (λ i. printable_places p s y n all (omega arith) i ++ printable_bytes p s (column_of s y n) x c.0 c.1 i)
     ∙ sym (ap encode_utf8_all (ap (λ j. take j (shown y)) e ∙ take_more (shown y) n 0 (omega arith)) ∙ encodes-append (take n (shown y)) (x ∷ []) ∙ ap (λ t. encode_utf8_all (take n (shown y)) ++ t) (append-nil (encode_utf8 x)))
 
 -- the whole text

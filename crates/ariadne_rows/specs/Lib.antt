@@ -1,4 +1,5 @@
 pub mod Areas
+pub mod Counted
 pub mod GroupLists
 pub mod Gutters
 pub mod Headers

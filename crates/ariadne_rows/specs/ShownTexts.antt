@@ -4,7 +4,7 @@ use Rattle.ariadne_base.specs.Locations.{upto}
 use Rattle.ariadne_picture.specs.declared.cell.Paint.{Paint}
 use Rattle.ariadne_picture.specs.declared.switches.Switches.{Switches}
 use Rattle.ariadne_picture.specs.Lists.{joined}
-use Rattle.ariadne_picture.specs.Columns.{Layout, shown}
+use Rattle.ariadne_picture.specs.Columns.{Layout, shown, column_of}
 use Rattle.ariadne_picture.specs.Pieces.{Piece, char_pieces}
 
 -- a blank of a tab
@@ -13,7 +13,8 @@ blank_of paint = record { text = 32 ∷ []; paint = paint; columns = 1 }
 
 -- place k, in the colour of `paint k`
 unfoldable pub place_in : Switches → Layout → (ℕ → Paint) → ℕ → List Piece
-place_in switches y paint k = char_pieces switches (paint k) k (slice_index (shown y) k)
+place_in switches y paint k =
+    char_pieces switches (paint k) (column_of switches y k) (slice_index (shown y) k)
 
 -- all places
 unfoldable pub shown_in : Switches → Layout → (ℕ → Paint) → List Piece

@@ -23,9 +23,6 @@ use ariadne_picture::label_info::{LineLabel, Side};
 use ariadne_picture::switches::Switches;
 use std::alloc::AllocError;
 
-/// The rank of the alternate row that has the underlines.
-const UNDERLINE_ROW: usize = 0;
-
 /// What stands behind the verticals in a stretch of places.
 #[derive(Clone, Copy)]
 enum Backdrop {
@@ -201,7 +198,7 @@ pub fn push_alternate_area(
         (area_pieces switches y (alternate_place switches y rank))) }
 {
     let blank = alternate_backdrop(pen.page().switches(), rank);
-    if rank == UNDERLINE_ROW {
+    if rank == table.underline_row {
         push_underlined(pen, table, &blank)
     } else {
         push_places(pen, table, 0, table.len, &blank)

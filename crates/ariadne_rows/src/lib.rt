@@ -7,6 +7,7 @@
 
 pub mod area;
 pub mod asides;
+mod counted;
 mod group_lists;
 pub mod gutter;
 pub mod headers;

@@ -1,13 +1,16 @@
 //! The text of a source row: the shown characters of its line, each in the colour of a label.
 
-ghost use Rattle.std.specs.Prelude.{◌≡◌, ◌<◌, ◌≤◌, ◌^◌, ℕ, List, Some, true, OnOk, drop, encode_utf8};
+ghost use Rattle.std.specs.Prelude.{◌≡◌, ◌+◌, ◌<◌, IfOk, ◌≤◌, ◌^◌, ℕ, List, Some, true, OnOk, drop, encode_utf8};
 ghost use Rattle.std.specs.Prelude.{length, replicate, slice_get};
 ghost use Rattle.ariadne_cells.specs.Pages.{Draws};
 ghost use Rattle.ariadne_cells.specs.Tables.{ArePaints, position_paint, shown_at, tab_columns};
 ghost use Rattle.ariadne_picture.specs.declared.label_info.LabelInfo.{LabelInfo};
+ghost use Rattle.ariadne_picture.specs.Columns.{Layout, column_of, shown};
 ghost use Rattle.ariadne_picture.specs.Pieces.{char_pieces, shown_pieces, shown_text};
+ghost use Rattle.ariadne_rows.specs.Counted.{IsCounted};
 ghost use Rattle.ariadne_rows.specs.ShownTexts.{blank_of, shown_in};
 
+use crate::counted::Counted;
 use ariadne_cells::columns::shown_columns;
 use ariadne_cells::layout::LineLayout;
 use ariadne_cells::pen::Pen;
@@ -71,9 +74,11 @@ fn push_stretches(
         (shown_in switches layout.now (λ k. position_paint (shown_at paints.now k)))) }
 {
     let mut number = 0;
-    for (index, c) in layout.shown().chars().enumerate() {
+    let text = layout.shown();
+    let mut counted = Counted::new(text);
+    for (index, c) in text.chars().enumerate() {
         number = stretch_at(paints, number, index);
-        push_char(pen, stretch_paint(paints, number), index, c)?;
+        push_char(pen, &mut counted, stretch_paint(paints, number), index, c)?;
     }
     Ok(())
 }
@@ -113,24 +118,40 @@ fn paint_of(position: Option<usize>) -> Paint
     }
 }
 
-/// Writes the shown character at an index of its line: a tab as blanks, other white space as one.
-fn push_char(pen: &mut Pen<'_>, paint: Paint, index: usize, c: char) -> Result<(), AllocError>
-    ensures { let switches = pen.old.page.switches in
-        OnOk result (Draws pen.old pen.new (char_pieces switches paint index c)) }
+/// Writes the shown character at `place`, a tab as blanks and other white space as one. Columns are
+/// counted where there is a tab. On `Err` there was no memory for it, or none holds so many columns.
+fn push_char(
+    pen: &mut Pen<'_>,
+    counted: &mut Counted<'_>,
+    paint: Paint,
+    place: usize,
+    c: char,
+) -> Result<(), AllocError>
+    requires later { counted.old.place ≤ place }
+    ensures place { OnOk result (counted.new.place ≤ place) }
+    ensures drawn { let switches = pen.old.page.switches in (y : Layout) →
+        IsCounted switches y counted.old → place < length (shown y) →
+        OnOk result (IsCounted switches y counted.new
+        × Draws pen.old pen.new (char_pieces switches paint (column_of switches y place) c)) }
 {
-    if c == '\t' {
-        let columns = shown_columns(pen.page().switches().tab_width, index, c);
-        return push_tab(pen, paint, columns);
+    if c != '\t' {
+        return pen.push_piece_char(paint, shown_char(c));
     }
-    pen.push_piece_char(paint, shown_char(c))
+    let tab_width = pen.page().switches().tab_width;
+    counted.go_to(tab_width, place)?;
+    push_tab(pen, paint, shown_columns(tab_width, counted.column, c))
 }
 
 /// A character as it is shown: white space as a blank.
-#[tactic(auto, using(crate::proofs::ShownRows::blank_code), unfolding(ariadne_picture::specs::Pieces::shown_text))]
+#[tactic(auto, using(crate::proofs::ShownRows::blank_code, crate::proofs::ShownRows::printable_text), unfolding(ariadne_picture::specs::Pieces::shown_text))]
 fn shown_char(c: char) -> char
     ensures { encode_utf8 result ≡ shown_text c }
 {
-    if c.is_whitespace() { ' ' } else { c }
+    match c {
+        ' '..='~' => c,
+        _ if c.is_whitespace() => ' ',
+        _ => c,
+    }
 }
 
 /// The most bytes that a blank takes, with the escapes of its colour.

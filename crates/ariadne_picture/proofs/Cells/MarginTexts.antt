@@ -4,7 +4,7 @@ use Rattle.std.proofs.Common.{take, drop, length, replicate, Some, refl, sym, ap
 use Rattle.std.proofs.Common.{one-add}
 use Rattle.std.specs.Prelude.{slice_get, slice_index, decimal, codes}
 use Rattle.std.specs.Fmt.{digits, digits_onto, digit_glyph}
-use Rattle.std.specs.List.{enumerate_from, prefix_len}
+use Rattle.std.specs.List.{prefix_len}
 use Rattle.std.proofs.lemmas.Bool.{cond_both, cond-true, cond-false, ne_eqb, cases_Bool}
 use Rattle.ariadne_base.specs.Locations.{upto}
 use Rattle.ariadne_picture.specs.declared.switches.CharSet.{CharSet}
@@ -13,14 +13,14 @@ use Rattle.ariadne_picture.specs.declared.switches.Switches.{Switches}
 use Rattle.ariadne_picture.specs.declared.cell.Glyph.TheVariants.{Vbar}
 use Rattle.ariadne_picture.specs.declared.cell.Paint.{Paint}
 use Rattle.ariadne_picture.specs.declared.label_info.LabelInfo.{LabelInfo}
-use Rattle.ariadne_picture.specs.Lists.{joined}
+use Rattle.ariadne_picture.specs.Lists.{joined_numbered}
 use Rattle.ariadne_picture.specs.Groups.{printed_number}
 use Rattle.ariadne_picture.specs.Rows.{Row, source, alternate, arrow}
-use Rattle.ariadne_picture.specs.Columns.{Layout, shown, shown_columns}
+use Rattle.ariadne_picture.specs.Columns.{Layout, shown, shown_columns, column_of}
 use Rattle.ariadne_picture.specs.Cells.{glyph_code}
-use Rattle.ariadne_picture.specs.Pieces.{blank_piece, Piece, Section, spaces, glyph_text, shown_text, char_pieces, place_pieces, char_paint}
+use Rattle.ariadne_picture.specs.Pieces.{blank_piece, Piece, Section, spaces, glyph_text, char_pieces, place_pieces, char_paint}
 use Rattle.ariadne_picture.specs.Pieces.{shown_pieces, margin_text, margin_paint, margin_pieces}
-use Rattle.ariadne_picture.specs.Placing.{unindented}
+use Rattle.ariadne_picture.specs.Placing.{unindented, char_texts}
 use Rattle.ariadne_picture.proofs.Lists.Joined.{joined-numbered, map-joined, joined-same}
 use Rattle.ariadne_picture.proofs.Cells.RowCells.{front_pieces}
 
@@ -118,30 +118,29 @@ arrow-margin set w display_offset l r = unindented-spaces (w + 1) (glyph_text se
 
 -- ---- the texts of a source row
 
--- the texts of a character's cells
-unfoldable pub char_texts : ℕ → ℕ × ℕ → List (List ℕ)
-char_texts tab_width e = if e.1 == 9 then replicate (shown_columns tab_width e.0 e.1) (32 ∷ []) else shown_text e.1 ∷ []
-
 map-replicate : {X Y : Type 0} (f : X → Y) (n : ℕ) (x : X) → map f (replicate n x) ≡ replicate n (f x)
 map-replicate f zero x = refl
 map-replicate f (suc n) x = ap (λ t. f x ∷ t) (map-replicate f n x)
 
-char-texts : (switches : Switches) (paint : Paint) (k c : ℕ)
-    → map (λ (q : Piece). q.text) (char_pieces switches paint k c) ≡ char_texts switches.tab_width (k, c)
-unfolding char_pieces char_texts
-char-texts switches paint k c = elim (cases_Bool (c == 9)) [
-  | inl tab ↦ rw tab (map-replicate (λ (q : Piece). q.text) (shown_columns switches.tab_width k c)
+-- the texts of a character's cells
+char-texts : (switches : Switches) (paint : Paint) (x c : ℕ)
+    → map (λ (q : Piece). q.text) (char_pieces switches paint x c) ≡ char_texts switches.tab_width x c
+unfolding char_pieces
+char-texts switches paint x c = elim (cases_Bool (c == 9)) [
+  | inl tab ↦ rw tab (map-replicate (λ (q : Piece). q.text) (shown_columns switches.tab_width x c)
       (record { text = 32 ∷ []; paint = paint; columns = 1 }))
   | inr other ↦ rw other refl
 ]
 
 -- those of all characters
 pub shown-texts : (switches : Switches) (labels : List LabelInfo) (y : Layout)
-    → map (λ (q : Piece). q.text) (shown_pieces switches labels y) ≡ joined (char_texts switches.tab_width) (enumerate_from 0 (shown y))
+    → map (λ (q : Piece). q.text) (shown_pieces switches labels y)
+    ≡ joined_numbered (λ k. char_texts switches.tab_width (column_of switches y k)) (shown y)
 unfolding shown_pieces place_pieces
 shown-texts switches labels y =
     map-joined (λ (q : Piece). q.text) (place_pieces switches labels y) (upto (length (shown y)))
     ∙ joined-same (λ (k : ℕ). map (λ (q : Piece). q.text) (place_pieces switches labels y k))
-    (λ (k : ℕ). char_texts switches.tab_width (k, slice_index (shown y) k))
-    (λ k. char-texts switches (char_paint labels y k) k (slice_index (shown y) k)) (upto (length (shown y)))
-    ∙ joined-numbered (char_texts switches.tab_width) (shown y) 0 (shown y) (λ k. let z : k ≡ 0 + k = omega arith in ap (slice_index (shown y)) z)
+    (λ (k : ℕ). char_texts switches.tab_width (column_of switches y k) (slice_index (shown y) k))
+    (λ k. char-texts switches (char_paint labels y k) (column_of switches y k) (slice_index (shown y) k)) (upto (length (shown y)))
+    ∙ joined-numbered (λ e. char_texts switches.tab_width (column_of switches y e.0) e.1) (shown y) 0 (shown y)
+    (λ k. let z : k ≡ 0 + k = omega arith in ap (slice_index (shown y)) z)

@@ -23,6 +23,7 @@ use Rattle.ariadne_picture.proofs.Lists.ListFacts.{all-joined, all-every}
 use Rattle.ariadne_picture.proofs.Rows.RowsThere.{range-at}
 use Rattle.ariadne_picture.proofs.Rows.RowNumbers.{at-back, at-part, length-joined}
 use Rattle.ariadne_picture.proofs.Rows.LineBlock.{range-append}
+use Rattle.ariadne_picture.proofs.Cells.LineColumns.{column_of-total}
 
 -- ---- the cells of one ink
 
@@ -121,14 +122,17 @@ module _ (set : CharSet) (ink_at : ℕ → Ink) (size : ℕ → ℕ) where
 -- an area has the cells of its places
 pub length-area : (switches : Switches) (y : Layout) (ink_at : ℕ → Ink)
     → length (area_pieces switches y ink_at) ≡ column_of switches y (arrow_len switches y)
-unfolding area_pieces column_of
-length-area switches y ink_at = length-inks switches.char_set ink_at (width switches y) (arrow_len switches y)
+unfolding area_pieces
+length-area switches y ink_at =
+    length-inks switches.char_set ink_at (width switches y) (arrow_len switches y) ∙ sym (column_of-total switches y (arrow_len switches y))
 
 -- the first cell of place k
 pub area-first : (switches : Switches) (y : Layout) (ink_at : ℕ → Ink) (k : ℕ) → k < arrow_len switches y → 0 < width switches y k
     → slice_get (area_pieces switches y ink_at) (column_of switches y k) ≡ Some (stroke switches.char_set (ink_at k).first (ink_at k).first_paint)
-unfolding area_pieces column_of
-area-first switches y ink_at k h some = inks-first switches.char_set ink_at (width switches y) (arrow_len switches y) k h some
+unfolding area_pieces
+area-first switches y ink_at k h some =
+    ap (slice_get (area_pieces switches y ink_at)) (column_of-total switches y k)
+    ∙ inks-first switches.char_set ink_at (width switches y) (arrow_len switches y) k h some
 
 -- each takes one column
 pub area-columns : (switches : Switches) (y : Layout) (ink_at : ℕ → Ink)

@@ -2,7 +2,7 @@
 use Rattle.std.proofs.Common.{◌≡◌, ℕ, zero, suc, ◌+◌, Bool, true, List, [], ◌∷◌, ◌++◌, map, take, length, replicate, refl, sym, ap, ◌∙◌, arith, ◌==◌}
 use Rattle.std.proofs.Common.{inl, inr}
 use Rattle.std.specs.Prelude.{slice_index}
-use Rattle.std.specs.List.{AllByRecursion, list_all, enumerate_from}
+use Rattle.std.specs.List.{AllByRecursion, list_all}
 use Rattle.std.specs.Cmp.Derive.{both_true}
 use Rattle.std.proofs.lemmas.Bool.{eq-eqb, le-leb, cases_Bool}
 use Rattle.std.proofs.lemmas.List.{length-append, length-map, map-append, take_at}
@@ -11,10 +11,10 @@ use Rattle.ariadne_picture.specs.declared.switches.Switches.{Switches}
 use Rattle.ariadne_picture.specs.declared.label_info.LabelInfo.{LabelInfo}
 use Rattle.ariadne_picture.specs.declared.cell.Ink.{Ink}
 use Rattle.ariadne_picture.specs.declared.cell.Paint.{Paint}
-use Rattle.ariadne_picture.specs.Lists.{joined, total}
+use Rattle.ariadne_picture.specs.Lists.{joined_numbered, total}
 use Rattle.ariadne_picture.specs.Ranks.{multi_line_labels}
 use Rattle.ariadne_picture.specs.Rows.{Row, source}
-use Rattle.ariadne_picture.specs.Columns.{Layout, layout_of, shown, shown_columns}
+use Rattle.ariadne_picture.specs.Columns.{Layout, layout_of, shown, shown_columns, column_of}
 use Rattle.ariadne_picture.specs.Pieces.{Piece, Section, char_paint, char_pieces, place_pieces, shown_pieces, margin_pieces, gutter_pieces}
 use Rattle.ariadne_picture.specs.Canvas.{Cell, cell_of}
 use Rattle.ariadne_picture.specs.Placing.{char_widths, text_cells, cells_of_places, shown_widths, columns_before, is_row_aligned, is_line_aligned}
@@ -44,22 +44,25 @@ map-replicate f zero x = refl
 map-replicate f (suc n) x = ap (λ t. f x ∷ t) (map-replicate f n x)
 
 -- a tab has as many cells as columns, of one column each; another character has one cell
-char-columns : (switches : Switches) (paint : Paint) (k c : ℕ)
-    → map columns (char_pieces switches paint k c) ≡ char_widths switches.tab_width k c
+char-columns : (switches : Switches) (paint : Paint) (x c : ℕ)
+    → map columns (char_pieces switches paint x c) ≡ char_widths switches.tab_width x c
 unfolding char_pieces
-char-columns switches paint k c = elim (cases_Bool (c == 9)) [
-  | inl tab ↦ rw tab (map-replicate columns (shown_columns switches.tab_width k c) _)
+char-columns switches paint x c = elim (cases_Bool (c == 9)) [
+  | inl tab ↦ rw tab (map-replicate columns (shown_columns switches.tab_width x c) _)
   | inr other ↦ rw other refl
 ]
 
 -- a source row has the cells of each character in turn
 shown-columns : (switches : Switches) (labels : List LabelInfo) (y : Layout)
-    → map columns (shown_pieces switches labels y) ≡ joined (λ e. char_widths switches.tab_width e.0 e.1) (enumerate_from 0 (shown y))
+    → map columns (shown_pieces switches labels y)
+    ≡ joined_numbered (λ k. char_widths switches.tab_width (column_of switches y k)) (shown y)
 unfolding shown_pieces place_pieces
 shown-columns switches labels y =
     map-joined columns (place_pieces switches labels y) (upto (length (shown y)))
-    ∙ joined-same _ _ (λ k. char-columns switches (char_paint labels y k) k (slice_index (shown y) k)) (upto (length (shown y)))
-    ∙ joined-numbered _ (shown y) 0 (shown y) (λ k. let z : k ≡ 0 + k = omega arith in ap (slice_index (shown y)) z)
+    ∙ joined-same _ _ (λ k. char-columns switches (char_paint labels y k) (column_of switches y k) (slice_index (shown y) k))
+    (upto (length (shown y)))
+    ∙ joined-numbered (λ e. char_widths switches.tab_width (column_of switches y e.0) e.1) (shown y) 0 (shown y)
+    (λ k. let z : k ≡ 0 + k = omega arith in ap (slice_index (shown y)) z)
 
 -- ---- the margin and the gutter
 
@@ -136,7 +139,8 @@ module _ (v : Picture) where
         ap (λ n. map cell_columns (read v text_cells s n)) (source-is v h)
         ∙ ap (map cell_columns) (text-cells v (source-text v (source-row-is v h))) ∙ map-map cell_columns (cell_of v.palette) _
         ∙ shown-columns v.texts.switches (multi_line_labels s.sheet) (layout_of s.sheet l)
-        ∙ ap (λ (switches : Switches). joined (λ e. char_widths switches.tab_width e.0 e.1) (enumerate_from 0 (shown (layout_of s.sheet l))))
+        ∙ ap (λ (switches : Switches).
+        joined_numbered (λ k. char_widths switches.tab_width (column_of switches (layout_of s.sheet l) k)) (shown (layout_of s.sheet l)))
         (sym (v.drawn.same_switches g s h.group))
 
     -- so the rows of the line stand below its characters

@@ -1,10 +1,10 @@
 -- From its message each label within one line is led to its attach character, and its span is underlined.
-use Rattle.std.proofs.Common.{◌≡◌, ℕ, ◌+◌, ◌-◌, ◌<◌, ◌≤◌, Bool, true, false, not, ◌&&◌, ◌||◌, List, [], ◌∷◌, take, Option, Some, refl, sym, ap, ◌∙◌}
+use Rattle.std.proofs.Common.{◌≡◌, ℕ, ◌+◌, ◌-◌, ◌<◌, ◌≤◌, Bool, true, false, not, ◌&&◌, ◌||◌, List, [], ◌∷◌, Option, Some, refl, sym, ap, ◌∙◌}
 use Rattle.std.proofs.Common.{arith, ◌==◌, nat_lt, inl, inr}
 use Rattle.std.specs.Prelude.{slice_get, nat_le}
-use Rattle.std.specs.List.{list_any, enumerate_from, best_of}
+use Rattle.std.specs.List.{list_any, enumerate_from, best_of, position_or_len}
 use Rattle.std.specs.Cmp.Derive.{both_true}
-use Rattle.std.proofs.lemmas.Bool.{cond-true, cases_Bool, eqb-true, ne_eqb, lt-ltb, le-leb, true≢false, not-true}
+use Rattle.std.proofs.lemmas.Bool.{cond-true, cases_Bool, eq-eqb, eqb-true, ne_eqb, lt-ltb, le-leb, true≢false, not-true}
 use Rattle.ariadne_picture.specs.declared.label_info.LabelInfo.{LabelInfo}
 use Rattle.ariadne_picture.specs.declared.label_info.LineLabel.{LineLabel}
 use Rattle.ariadne_picture.specs.declared.label_info.Side.TheVariants.{Inline}
@@ -13,7 +13,7 @@ use Rattle.ariadne_picture.specs.Lists.{best, joined}
 use Rattle.ariadne_picture.specs.Ranks.{gutter_labels, is_inline, is_on_one_line, is_margin, line_labels}
 use Rattle.ariadne_picture.specs.Rows.{alternate, label_rows}
 use Rattle.ariadne_picture.specs.Columns.{layout_of, places_to_end}
-use Rattle.ariadne_picture.specs.Strokes.{has_corner, is_crossed, holds, is_preferred, underlines_at, underline_at, vertical_at}
+use Rattle.ariadne_picture.specs.Strokes.{has_corner, is_crossed, holds, is_preferred, underlines_at, underline_at, underline_row, vertical_at}
 use Rattle.ariadne_picture.specs.Cells.{corner_glyph, alternate_ink, alternate_place}
 use Rattle.ariadne_picture.specs.Pieces.{Section}
 use Rattle.ariadne_picture.specs.Canvas.{Cell}
@@ -41,14 +41,21 @@ unfolding best
 best-some beats [] x h = absurd (none≢some x h.there)
 best-some beats (y ∷ ys) x h = (best_of beats y ys, refl)
 
--- the first row of a block is the alternate row of its first label, if that has a message
-first-alternate : (l : ℕ) (xs : List LineLabel) → list_any (λ (x : LineLabel). x.info.has_message) (take 1 xs) ≡ true
-    → slice_get (joined (label_rows false l) (enumerate_from 0 xs)) 0 ≡ Some (alternate l 0)
+-- how many line labels stand before the first that has a message
+abbrev silent : List LineLabel → ℕ
+silent xs = position_or_len (λ (x : LineLabel). x.info.has_message) xs
+
+-- the first row of a block is the alternate row of its first label that has a message
+first-alternate : (l a : ℕ) (xs : List LineLabel) → list_any (λ (x : LineLabel). x.info.has_message) xs ≡ true
+    → slice_get (joined (label_rows false l) (enumerate_from a xs)) 0 ≡ Some (alternate l (a + silent xs))
 unfolding joined label_rows
-first-alternate l [] h = absurd (true≢false (sym h))
-first-alternate l (x ∷ xs) h = elim (cases_Bool x.info.has_message) [
-  | inl m ↦ rw m refl
-  | inr n ↦ let z : false ≡ true = rw n at h in absurd (true≢false (sym z))
+first-alternate l a [] h = absurd (true≢false (sym h))
+first-alternate l a (x ∷ xs) h = elim (cases_Bool x.info.has_message) [
+  | inl m ↦ let z : a ≡ a + 0 = omega arith in rw m (ap (λ n. Some (alternate l n)) z)
+  | inr n ↦
+      let later = first-alternate l (a + 1) xs (rw n at h) in
+      let e : a + 1 + silent xs ≡ a + (1 + silent xs) = omega arith in
+      rw n (later ∙ ap (λ n. Some (alternate l n)) e)
 ]
 
 module _ (v : Picture) (placed : ArePlaced v) where
@@ -96,7 +103,7 @@ module _ (v : Picture) (placed : ArePlaced v) where
     -- where a label's span holds a place, its underline stands there, or a better one
     underline-there : (i k : ℕ) (x : LineLabel) → slice_get (layout_of s.sheet l).labels i ≡ Some x → s.sheet.switches.underlines ≡ true
         → x.side ≡ Inline → x.info.start - (layout_of s.sheet l).offset ≤ k → k < x.info.end - (layout_of s.sheet l).offset
-        → (u : LineLabel) × (underline_at s.sheet.switches (layout_of s.sheet l) 0 k ≡ Some u)
+        → (u : LineLabel) × (underline_at s.sheet.switches (layout_of s.sheet l) (underline_row (layout_of s.sheet l)) k ≡ Some u)
     unfolding underline_at underlines_at holds is_inline
     underline-there i k x e on side low high =
         let y = layout_of s.sheet l in
@@ -104,7 +111,8 @@ module _ (v : Picture) (placed : ArePlaced v) where
         both_true (le-leb x.info.start (y.offset + k) (omega arith)) (lt-ltb (y.offset + k) x.info.end (omega arith)) in
         let some = has-filter _ y.labels i x e (both_true (ap is_inline side) holds) in
         let b = best-some (λ a b. is_preferred a.info b.info) (underlines_at y k) x some in
-        (b.0, cond-true (s.sheet.switches.underlines && (0 == 0)) _ _ (rw on refl) ∙ b.1)
+        let r = underline_row y in
+        (b.0, cond-true (s.sheet.switches.underlines && (r == r)) _ _ (both_true on (eq-eqb r r refl)) ∙ b.1)
 
     -- each label within the line is underlined in the first row of the block
     span-seen : read v has_underlines s l ≡ true → (i : ℕ) (x : LineLabel) → slice_get (line_labels s.sheet l) i ≡ Some x
@@ -113,23 +121,25 @@ module _ (v : Picture) (placed : ArePlaced v) where
     span-seen on i x e k =
         let y = layout_of s.sheet l in
         let switches = s.sheet.switches in
-        let two = two-true (switches.underlines && not switches.compact) (list_any (λ (x : LineLabel). x.info.has_message) (take 1 y.labels)) on in
+        let two = two-true (switches.underlines && not switches.compact) (list_any (λ (x : LineLabel). x.info.has_message) y.labels) on in
         let one = two-true switches.underlines (not switches.compact) two.0 in
-        let row : slice_get (shown_rows s.sheet l) 0 ≡ Some (alternate l 0) =
+        let r = underline_row y in
+        let z : 0 + r ≡ r = omega arith in
+        let row : slice_get (shown_rows s.sheet l) 0 ≡ Some (alternate l r) =
         ap (λ c. slice_get (joined (label_rows c l) (enumerate_from 0 (line_labels s.sheet l))) 0) (not-true switches.compact one.1)
-        ∙ first-alternate l (line_labels s.sheet l) two.1 in
-        let is = block-row-is v h 0 (alternate l 0) row in
+        ∙ first-alternate l 0 (line_labels s.sheet l) two.1 ∙ ap (λ n. Some (alternate l n)) z in
+        let is = block-row-is v h 0 (alternate l r) row in
         let n = number-at v is in
         let src = source-at v h in
-        let same : number v g s (alternate l 0) ≡ source_row v g l + 1 = omega (arith, n, src) in
+        let same : number v g s (alternate l r) ≡ source_row v g l + 1 = omega (arith, n, src) in
         let few : places_to_end y x < places_of s l = inline-end s.sheet (placed g s h.group) l i x e k in
         let seen = λ (c : Cell). not (is_blank c) in
         rw (← same)
-        (holds-at v h (number v g s (alternate l 0)) _ (x.info.end - y.offset) seen (omega arith) (λ c low high some.
+        (holds-at v h (number v g s (alternate l r)) _ (x.info.end - y.offset) seen (omega arith) (λ c low high some.
         let u = underline-there i c x e one.0 k.side low high in
-        let ink : Option LineLabel → Ink = alternate_ink switches 0 (vertical_at y 0 c) in
+        let ink : Option LineLabel → Ink = alternate_ink switches r (vertical_at y r c) in
         rw (alternate-cell v is c (omega arith) some, u.1)
-        (shows-something v s _ (ink (Some u.0)).first_paint (underline-seen switches 0 (vertical_at y 0 c) u.0))))
+        (shows-something v s _ (ink (Some u.0)).first_paint (underline-seen switches r (vertical_at y r c) u.0))))
 
     -- so all labels of the line pass, as the others are not within it
     line-underlined : read v is_underlined g s l ≡ true

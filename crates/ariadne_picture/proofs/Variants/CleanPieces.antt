@@ -16,7 +16,7 @@ use Rattle.ariadne_picture.specs.declared.cell.Ink.{Ink}
 use Rattle.ariadne_picture.specs.Lists.{joined}
 use Rattle.ariadne_picture.specs.Ranks.{Sheet, is_start, multi_line_labels}
 use Rattle.ariadne_picture.specs.Rows.{Aside, help, note, Row, group_header, spacer, source, alternate, arrow, gap, blank, piece, tail}
-use Rattle.ariadne_picture.specs.Columns.{Layout, layout_of, shown, shown_columns, width, arrow_len}
+use Rattle.ariadne_picture.specs.Columns.{Layout, layout_of, shown, shown_columns, width, column_of, arrow_len}
 use Rattle.ariadne_picture.specs.Cells.{column_ink}
 use Rattle.ariadne_picture.specs.Pieces.{Piece, blank_piece, plain_text, stroke, glyph_text, ink_pieces, shown_text, char_pieces, char_paint}
 use Rattle.ariadne_picture.specs.Pieces.{place_pieces, shown_pieces, area_pieces, margin_text, margin_pieces, column_size, gutter_len, gutter_pieces}
@@ -76,10 +76,10 @@ clean-gutter s x = clean-inks s.switches.char_set (column_ink s x) (λ i. column
 -- ---- source rows
 
 -- a character that is shown
-clean-char : (switches : Switches) (paint : Paint) (k c : ℕ) → c ≢ 27 → AreClean (char_pieces switches paint k c)
+clean-char : (switches : Switches) (paint : Paint) (x c : ℕ) → c ≢ 27 → AreClean (char_pieces switches paint x c)
 unfolding char_pieces
-clean-char switches paint k c h =
-    let n = shown_columns switches.tab_width k c in
+clean-char switches paint x c h =
+    let n = shown_columns switches.tab_width x c in
     let blank : Piece = record { text = 32 ∷ []; paint = paint; columns = 1 } in
     cond_both (c == 9) (replicate n blank) (record { text = shown_text c; paint = paint; columns = n } ∷ []) AreClean
     (λ _. all-replicate IsCleanPiece n blank (λ e. omega arith, tt)) (λ _. (clean-shown c h, tt))
@@ -91,7 +91,7 @@ clean-line switches labels y a =
     let char : (k : ℕ) → slice_index (shown y) k ≢ 27 =
     λ k. all-or (λ c. c ≢ 27) (shown y) k 0 (λ e. omega arith) (clean-trimmed y.text a) in
     all-parts IsCleanPiece (place_pieces switches labels y)
-    (λ k. clean-char switches (char_paint labels y k) k (slice_index (shown y) k) (char k)) (upto (length (shown y)))
+    (λ k. clean-char switches (char_paint labels y k) (column_of switches y k) (slice_index (shown y) k) (char k)) (upto (length (shown y)))
 
 -- line number l of a sheet
 clean-source : (switches : Switches) (s : Sheet) (l : ℕ) → AllByRecursion IsClean s.lines

@@ -29,6 +29,55 @@ strokes_below_a_tab_of_eight_columns :
 unfolding drawn
 strokes_below_a_tab_of_eight_columns = refl
 
+-- a tab reaches to the next stop, behind a tab, a wide character, a combining one, and others
+tabs_reach_to_columns :
+    picture (one "\t\tx") (report (label 2 3 "w" ∷ [])) ≡ rows (
+    "Error: " ∷
+    "   ,-[ <unknown>:1:1 ]" ∷
+    "   |" ∷
+    " 1 |         x" ∷
+    "   |         |  " ∷
+    "   |         `-- w" ∷
+    "---'" ∷ [])
+unfolding drawn
+tabs_reach_to_columns = refl
+
+a_tab_behind_a_wide_character :
+    picture (one "漢\tx") (report (label 2 3 "w" ∷ [])) ≡ rows (
+    "Error: " ∷
+    "   ,-[ <unknown>:1:1 ]" ∷
+    "   |" ∷
+    " 1 | 漢  x" ∷
+    "   |     |  " ∷
+    "   |     `-- w" ∷
+    "---'" ∷ [])
+unfolding drawn
+a_tab_behind_a_wide_character = refl
+
+a_tab_behind_a_combining_character :
+    picture (one "é\tx") (report (label 3 4 "w" ∷ [])) ≡ rows (
+    "Error: " ∷
+    "   ,-[ <unknown>:1:1 ]" ∷
+    "   |" ∷
+    " 1 | é   x" ∷
+    "   |     |  " ∷
+    "   |     `-- w" ∷
+    "---'" ∷ [])
+unfolding drawn
+a_tab_behind_a_combining_character = refl
+
+a_tab_behind_two_characters :
+    picture (one "ab\tx") (report (label 3 4 "w" ∷ [])) ≡ rows (
+    "Error: " ∷
+    "   ,-[ <unknown>:1:1 ]" ∷
+    "   |" ∷
+    " 1 | ab  x" ∷
+    "   |     |  " ∷
+    "   |     `-- w" ∷
+    "---'" ∷ [])
+unfolding drawn
+a_tab_behind_two_characters = refl
+
 -- the tab width is of no account where no tab is
 greatest_tab_width_without_a_tab :
     picture (one "ab") (configured (record ascii_config { tab_width = 18446744073709551615 }) (label 0 2 "x" ∷ []))

@@ -57,17 +57,18 @@ labels_without_messages_have_no_strokes :
 unfolding drawn
 labels_without_messages_have_no_strokes = refl
 
-no_underline_where_the_first_label_has_no_message :
+-- underlines stand in the row of the first label that has a message
+underline_of_a_label_without_message :
     picture (one "ab cd") (report (silent_label 0 2 ∷ label 3 5 "n" ∷ [])) ≡ rows (
     "Error: " ∷
     "   ,-[ <unknown>:1:1 ]" ∷
     "   |" ∷
     " 1 | ab cd" ∷
-    "   |     |  " ∷
+    "   | ^^ ^|  " ∷
     "   |     `-- n" ∷
     "---'" ∷ [])
 unfolding drawn
-no_underline_where_the_first_label_has_no_message = refl
+underline_of_a_label_without_message = refl
 
 -- the shorter label's underline is seen where both stand
 labels_that_overlap_partly :

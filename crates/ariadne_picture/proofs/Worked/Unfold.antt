@@ -10,7 +10,8 @@ use Rattle.ariadne_picture.specs.Ranks.{is_inline, is_start, is_end, span_len, i
 use Rattle.ariadne_picture.specs.Ranks.{ends_at, is_nearer_margin, margin_label, is_of_gutter_label, is_margin, inline_labels, is_before, line_labels}
 use Rattle.ariadne_picture.specs.Ranks.{is_hidden}
 use Rattle.ariadne_picture.specs.Rows.{aside_part, row_part, row_line, row_step, before, label_rows, is_inside, line_rows, aside_rows, asides, rows}
-use Rattle.ariadne_picture.specs.Columns.{layout_of, char_columns, text_columns, shown, shown_columns, width, column_of, places_to_end, arrow_len}
+use Rattle.ariadne_picture.specs.Columns.{layout_of, char_columns, text_columns, shown, shown_columns, width_from, column_of, width, places_to_end}
+use Rattle.ariadne_picture.specs.Columns.{arrow_len}
 use Rattle.ariadne_picture.specs.Strokes.{has_vertical, vertical_at, has_corner, is_crossed, holds, is_preferred, underlines_at, underline_at}
 use Rattle.ariadne_picture.specs.Strokes.{is_at_margin, is_end_of_gutter_label, rank_at, first_row, last_row, has_tee, has_bar, bar_at}
 use Rattle.ariadne_picture.specs.Cells.{glyph_code, alternate_ink, corner_glyph, arrow_ink, alternate_place, arrow_place, gutter_label_paint}
@@ -36,8 +37,8 @@ unfolding digits is_separator begins_with_line_feed ends_line in_front full_line
     last_of ahead groups_of greatest least_below group_end_line group_start_line group_lines printed_number number_len is_inline is_start is_end
     span_len is_on_one_line multi_line_labels gutter_labels gutter_label_ends ends_at is_nearer_margin margin_label is_of_gutter_label is_margin
     inline_labels is_before line_labels is_hidden aside_part row_part row_line row_step before label_rows is_inside line_rows aside_rows asides rows
-    layout_of char_columns text_columns shown shown_columns width column_of places_to_end arrow_len has_vertical vertical_at has_corner is_crossed
-    holds is_preferred underlines_at underline_at is_at_margin is_end_of_gutter_label rank_at first_row last_row has_tee has_bar bar_at glyph_code
+    layout_of char_columns text_columns shown shown_columns width_from column_of width places_to_end arrow_len has_vertical vertical_at has_corner
+    is_crossed holds is_preferred underlines_at underline_at is_at_margin is_end_of_gutter_label rank_at first_row last_row has_tee has_bar bar_at glyph_code
     alternate_ink corner_glyph arrow_ink alternate_place arrow_place gutter_label_paint margin_glyph turn_glyph margin_ink beside_ink below_ink
     turn_ink column_ink spaces glyph_text ink_pieces painters painter_paint char_paint shown_text char_pieces place_pieces shown_pieces area_pieces
     margin_text margin_paint margin_pieces column_size gutter_len gutter_pieces location_text group_header_pieces spacer_pieces repeated tail_pieces

@@ -4,7 +4,7 @@ use Rattle.ariadne_base.specs.Locations.{upto}
 use Rattle.ariadne_picture.specs.Columns.{column_of}
 use Rattle.ariadne_cells.proofs.columns.push_shown.Given as goal
 
-abbrev pub invariant-loop-place : goal.invariant-loop-place
-invariant-loop-place l =
+abbrev pub invariant-loop-c : goal.invariant-loop-c
+invariant-loop-c l =
     (l.list.items ≡ map (column_of l.switches l.layout) (upto (length l.yielded)))
     × (l.column ≡ column_of l.switches l.layout (length l.yielded))

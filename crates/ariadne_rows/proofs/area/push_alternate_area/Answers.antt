@@ -10,8 +10,8 @@ use Rattle.ariadne_rows.proofs.SeenInks.{underlined_at, plain_at}
 use Rattle.ariadne_rows.proofs.area.push_alternate_area.Goals as goal
 
 -- the row that has the underlines
-pub returns-then-rank-eq-UNDERLINE_ROW : goal.returns-then-rank-eq-UNDERLINE_ROW
-returns-then-rank-eq-UNDERLINE_ROW c = λ y t off.
+pub returns-then-rank-table : goal.returns-then-rank-table
+returns-then-rank-table c = λ y t off.
     let s : Switches = c.args.pen.now.page.switches in
     let table = c.args.table.now in
     let old = c.args.pen.now in
@@ -23,13 +23,13 @@ returns-then-rank-eq-UNDERLINE_ROW c = λ y t off.
     on_ok_weaker c.push_underlined.result
     (λ d. draws_area old new y c.args.rank table (alternate_place s y c.args.rank) t
     (draws_same old new table (underlined_ink table (alternate_backdrop s c.args.rank)) (alternate_place s y c.args.rank) 0 table.len
-    (λ k low high. sym (underlined_at s y c.args.rank table t off c.if-rank-eq-UNDERLINE_ROW.true k high))
+    (λ k low high. sym (underlined_at s y c.args.rank table t off (c.if-rank-table.true ∙ t.underline_row) k high))
     (subst (λ (b : Backdrop). DrawsPlaces old new table (underlined_ink table b) 0 table.len) blank d)))
     c.push_underlined.ensures
 
 -- any other
-pub returns-else-rank-eq-UNDERLINE_ROW : goal.returns-else-rank-eq-UNDERLINE_ROW
-returns-else-rank-eq-UNDERLINE_ROW c = λ y t off.
+pub returns-else-rank-table : goal.returns-else-rank-table
+returns-else-rank-table c = λ y t off.
     let s : Switches = c.args.pen.now.page.switches in
     let table = c.args.table.now in
     let old = c.args.pen.now in
@@ -41,6 +41,6 @@ returns-else-rank-eq-UNDERLINE_ROW c = λ y t off.
     on_ok_weaker c.push_places.result
     (λ d. draws_area old new y c.args.rank table (alternate_place s y c.args.rank) t
     (draws_row old new table (alternate_backdrop s c.args.rank) (alternate_place s y c.args.rank) 0 table.len
-    (λ k low high. plain_at s y c.args.rank table t c.if-rank-eq-UNDERLINE_ROW.false k)
+    (λ k low high. plain_at s y c.args.rank table t (λ e. c.if-rank-table.false (e ∙ sym t.underline_row)) k)
     (subst (λ (b : Backdrop). DrawsOver old new table b 0 table.len) blank d)))
     c.push_places.ensures

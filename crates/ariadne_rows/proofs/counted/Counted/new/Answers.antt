@@ -1,0 +1,11 @@
+use Rattle.std.proofs.Common.{sym}
+use Rattle.ariadne_cells.proofs.PlaceColumns.{column_of-first}
+use Rattle.ariadne_rows.proofs.counted.Counted.new.Goals as goal
+
+-- all characters are to come
+pub returns-clause-counted : goal.returns-clause-counted
+returns-clause-counted c = λ s y e. record {
+  utf8 = rw c.chars.ensures.rest c.utf8.text;
+  rest = rw c.chars.ensures.rest e;
+  column = sym (column_of-first s y);
+}
