@@ -14,6 +14,4 @@ pub use Rattle.ariadne_picture.specs.Print
 pub use Rattle.ariadne_picture.specs.Placing
 pub use Rattle.ariadne_picture.specs.Variants
 pub mod Building
-pub mod Drawn
-pub mod Judging
 pub mod Written

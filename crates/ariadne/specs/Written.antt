@@ -4,11 +4,11 @@ use Rattle.std.specs.Prelude.{ℕ, ◌<◌, ◌≡◌, List, length, take, Optio
 use Rattle.std.specs.Io.KnownBytes.{Appends, Keeps}
 use Rattle.std.specs.declared.alloc.Global.{Global}
 use Rattle.ariadne_base.specs.Listing.{Listing}
-use Rattle.ariadne.specs.declared.write.accept.LeftOut.{LeftOut}
-use Rattle.ariadne.specs.declared.write.accept.Reason.{Reason}
+use Rattle.ariadne_accept.specs.declared.accept.LeftOut.{LeftOut}
+use Rattle.ariadne_accept.specs.declared.accept.Reason.{Reason}
 use Rattle.ariadne_send.specs.declared.send.WriteError.{WriteError}
 use Rattle.ariadne_send.specs.declared.send.WriteError.TheVariants.{Memory, Io}
-use Rattle.ariadne.specs.Judging.{AreReasons, listed}
+use Rattle.ariadne_accept.specs.Judging.{AreReasons, listed}
 use Rattle.ariadne_picture.specs.declared.label_info.LabelInfo.{LabelInfo}
 use Rattle.ariadne_picture.specs.Report.{ReportFields, World}
 use Rattle.ariadne_picture.specs.Accept.{drawn_labels}

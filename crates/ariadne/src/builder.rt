@@ -8,6 +8,7 @@ ghost use Rattle.ariadne_picture.specs.Report.{LabelFields};
 ghost use Rattle.ariadne.specs.Building.{numeric_code, filled_code, GivesAll, GivesMore};
 
 use crate::report::Report;
+use ariadne_accept::content::Content;
 use ariadne_base::Span;
 use ariadne_labels::config::Config;
 use ariadne_labels::kind::ReportKind;
@@ -22,7 +23,7 @@ use std::ops::Range;
 /// leaves it as it was; where it adds several texts or labels, those before stay added.
 #[derive(Drop)]
 pub struct ReportBuilder<'a, S: Span = Range<usize>> {
-    report: Report<'a, S>,
+    report: Content<'a, S>,
 }
 
 impl<'a, S: Span> Model for ReportBuilder<'a, S> {
@@ -41,7 +42,7 @@ impl<'a, S: Span> ReportBuilder<'a, S> {
         ensures { result ≡ new_report (kind_of kind.entry) span }
     {
         ReportBuilder {
-            report: Report {
+            report: Content {
                 kind,
                 code: None,
                 message: None,
@@ -312,7 +313,7 @@ impl<'a, S: Span> ReportBuilder<'a, S> {
         ensures { result ≡ self.entry }
     {
         let ReportBuilder { report } = self;
-        report
+        Report { content: report }
     }
 }
 

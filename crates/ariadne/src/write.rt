@@ -1,42 +1,20 @@
-//! Drawing a report: its labels are judged (`accept`), cut into groups (`groups`), whose lines are
-//! drawn one after another (`lines`) between the header and the tail (`drawing`), and sent.
-//!
-//! ```text
-//! Error: Incompatible types                       header
-//!    ,-[ <unknown>:1:1 ]                          group header
-//!    |                                            spacer row
-//!  1 | ,-> def five = match () in {               source row: margin, gutter, shown text
-//!    : :                                          gap row, in place of hidden lines
-//!  3 | |       () => "5",
-//!    | |             ^|^                          alternate row: underlines and verticals
-//!    | |              `--- This is of type Str    arrow row: an arrow and its message
-//!  4 | |-> }
-//!    | |
-//!    | `------- The branches differ
-//!    |
-//!    |     Help: give both one type               help row
-//! ---'                                            tail
-//! ```
+//! Writing a report: its labels are judged, the picture of those that are drawn is made whole, and
+//! sent.
 
 ghost use Rattle.std.specs.Prelude.{◌≡◌, IfOk, None, string_bytes};
-ghost use Rattle.ariadne.specs.Drawn.{world};
-ghost use Rattle.ariadne.specs.Judging.{GrowsFor};
+ghost use Rattle.ariadne_accept.specs.Drawn.{world};
+ghost use Rattle.ariadne_accept.specs.Judging.{GrowsFor};
 ghost use Rattle.ariadne.specs.Written.{IsPicture, WrittenOver};
 ghost use Rattle.ariadne_send.specs.Sent.{TellsFailure};
 
-pub(crate) mod accept;
-pub(crate) mod drawing;
-pub(crate) mod groups;
-pub(crate) mod lines;
-
 use crate::report::Report;
-use accept::accept;
-pub use accept::{LeftOut, Reason};
+use ariadne_accept::accept::accept;
+pub use ariadne_accept::accept::{LeftOut, Reason};
 use ariadne_base::{Cache, Span};
+use ariadne_drawing::drawing::draw;
 pub use ariadne_send::send::WriteError;
 use ariadne_send::send::{send, send_to};
 use ariadne_send::sink::Sink;
-use drawing::draw;
 use std::alloc::AllocError;
 use std::io;
 use std::io::{Stderr, Write};
@@ -181,8 +159,8 @@ impl<'a, S: Span> Report<'a, S> {
             IfOk result (λ p. IsPicture C.fails old w self.now (string_bytes p.text)
             p.left_out.items) }
     {
-        let judged = accept(self, cache)?;
-        let text = draw(self, cache, judged.infos)?;
+        let judged = accept(&self.content, cache)?;
+        let text = draw(&self.content, cache, judged.infos)?;
         Ok(Picture {
             text,
             left_out: judged.left_out,

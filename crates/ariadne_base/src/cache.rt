@@ -107,10 +107,3 @@ pub trait Cache<Id: Eq> {
     // Equal ids have equal names.
     ghost names_respect_eq: { (c : Self) (p q : Id) → Id.eq p q ≡ true → names c p ≡ names c q };
 }
-
-#[cfg(test)]
-mod tests;
-#[cfg(test)]
-mod tests_files;
-#[cfg(test)]
-mod tests_refused;

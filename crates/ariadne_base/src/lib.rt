@@ -15,6 +15,3 @@ pub use cache::{Cache, FetchError};
 pub use source::{Line, Source, SourceLines};
 pub use span::Span;
 pub use text::SourceText;
-
-#[cfg(test)]
-mod refusing;

@@ -291,6 +291,3 @@ impl<I: SourceText> Hash for Source<I> {
         (self.text(), self.display_line_offset).hash(state);
     }
 }
-
-#[cfg(test)]
-mod tests;

@@ -59,6 +59,3 @@ pub trait Span {
         self.start() <= offset && offset < self.end()
     }
 }
-
-#[cfg(test)]
-mod tests;

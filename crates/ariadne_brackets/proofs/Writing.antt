@@ -16,11 +16,11 @@ use Rattle.ariadne_picture.specs.Report.{ConfigFields, LabelFields, ReportFields
 use Rattle.ariadne_picture.specs.declared.switches.IndexType.TheVariants.{Char}
 use Rattle.ariadne_picture.specs.declared.label_info.LabelInfo.{LabelInfo}
 use Rattle.ariadne_picture.specs.declared.verdict.Verdict.TheVariants.{Accepted, CutsCharacter as cuts, PastSource as past}
-use Rattle.ariadne.specs.Judging.{AreJudged, GrowsFor, IsJudged, listed}
+use Rattle.ariadne_accept.specs.Judging.{AreJudged, GrowsFor, IsJudged, listed}
 use Rattle.ariadne.specs.Written.{IsCutOff, IsWritten}
-use Rattle.ariadne.specs.declared.write.accept.LeftOut.{LeftOut}
-use Rattle.ariadne.specs.declared.write.accept.Reason.{Reason}
-use Rattle.ariadne.specs.declared.write.accept.Reason.TheVariants.{Unfetched, PastSource, CutsCharacter}
+use Rattle.ariadne_accept.specs.declared.accept.LeftOut.{LeftOut}
+use Rattle.ariadne_accept.specs.declared.accept.Reason.{Reason}
+use Rattle.ariadne_accept.specs.declared.accept.Reason.TheVariants.{Unfetched, PastSource, CutsCharacter}
 use Rattle.ariadne_brackets.specs.Brackets.{IsFirstOffence}
 use Rattle.ariadne_brackets.specs.Linted.{IsCut, Prints, files, labels_of, labels_of_offence, labels_of_outcome, plain_config, report_of, report_with, same_path}
 use Rattle.ariadne_brackets.specs.Linting.{AreOutcomes}

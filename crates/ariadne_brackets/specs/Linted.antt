@@ -12,7 +12,7 @@ use Rattle.ariadne_base.specs.declared.cache.file.FileError.{FileError}
 use Rattle.ariadne_picture.specs.Report.{ConfigFields, LabelFields, ReportFields, World}
 use Rattle.ariadne_picture.specs.Report.{default_config, error, new_label, new_report}
 use Rattle.ariadne_picture.specs.declared.switches.CharSet.TheVariants.{Ascii}
-use Rattle.ariadne.specs.Drawn.{world}
+use Rattle.ariadne_accept.specs.Drawn.{world}
 use Rattle.ariadne.specs.Written.{IsCutOff, IsWritten}
 use Rattle.ariadne_brackets.specs.Outcomes.{IsOutcome, offends, was_read}
 use Rattle.ariadne_brackets.specs.declared.checked.Checked.{Checked}

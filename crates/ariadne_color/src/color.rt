@@ -50,6 +50,3 @@ pub enum Color {
     /// Bright white.
     BrightWhite,
 }
-
-#[cfg(test)]
-mod tests;

@@ -9,9 +9,9 @@ use Rattle.ariadne_base.specs.Cache.{held}
 use Rattle.ariadne_color.specs.Generator.{GeneratorState, stepped, usual_start}
 use Rattle.ariadne_base.specs.Listing.{Listing}
 use Rattle.ariadne_picture.specs.Report.{LabelFields, ReportFields, World}
-use Rattle.ariadne.specs.Judging.{GrowsFor}
+use Rattle.ariadne_accept.specs.Judging.{GrowsFor}
 use Rattle.ariadne.specs.Written.{Written}
-use Rattle.ariadne.specs.declared.write.accept.LeftOut.{LeftOut}
+use Rattle.ariadne_accept.specs.declared.accept.LeftOut.{LeftOut}
 use Rattle.ariadne_send.specs.declared.send.WriteError.{WriteError}
 use Rattle.ariadne_send.specs.declared.send.WriteError.TheVariants as write
 use Rattle.ariadne_draw.specs.declared.fault.Fault.{Fault}

@@ -16,9 +16,9 @@ use Rattle.ariadne_picture.specs.Report.{ConfigFields, LabelFields, ReportFields
 use Rattle.ariadne_picture.specs.Report.{default_config, error, new_label, new_report}
 use Rattle.ariadne_picture.specs.declared.switches.CharSet.TheVariants.{Ascii, Unicode}
 use Rattle.ariadne_picture.specs.declared.switches.IndexType.TheVariants.{Byte, Char}
-use Rattle.ariadne.specs.Drawn.{world}
+use Rattle.ariadne_accept.specs.Drawn.{world}
 use Rattle.ariadne.specs.Written.{IsCutOff, IsWritten}
-use Rattle.ariadne.specs.declared.write.accept.LeftOut.{LeftOut}
+use Rattle.ariadne_accept.specs.declared.accept.LeftOut.{LeftOut}
 use Rattle.ariadne_draw.specs.Words.{Asking, AskingLabel, AskingOptions}
 use Rattle.ariadne_draw.specs.declared.fault.Fault.{Fault}
 use Rattle.ariadne_draw.specs.declared.fault.Fault.TheVariants.{Usage, Unread, NotUtf8, Writer}

@@ -1,8 +1,8 @@
 -- Why nothing was drawn, or not all of it, and the status that the program ends with.
 use Rattle.std.specs.Prelude.{ℕ, List, codes}
-use Rattle.ariadne.specs.declared.write.accept.Reason.{Reason}
-use Rattle.ariadne.specs.declared.write.accept.Reason.TheVariants.{Unfetched, PastSource}
-use Rattle.ariadne.specs.declared.write.accept.Reason.TheVariants.{CutsCharacter}
+use Rattle.ariadne_accept.specs.declared.accept.Reason.{Reason}
+use Rattle.ariadne_accept.specs.declared.accept.Reason.TheVariants.{Unfetched, PastSource}
+use Rattle.ariadne_accept.specs.declared.accept.Reason.TheVariants.{CutsCharacter}
 use Rattle.ariadne_send.specs.declared.send.WriteError.{WriteError}
 use Rattle.ariadne_send.specs.declared.send.WriteError.TheVariants as write
 use Rattle.ariadne_draw.specs.declared.fault.Fault.{Fault}

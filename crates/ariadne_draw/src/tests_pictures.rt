@@ -5,7 +5,6 @@ use super::tests::{run, run_over};
 use ariadne_fakes::{Given, Taker};
 use std::alloc::{AllocError, Global};
 use std::io::ErrorKind;
-use std::rt::Files;
 use std::test::Fail;
 
 const APPLES: [&str; 9] = [
@@ -20,7 +19,7 @@ const APPLES: [&str; 9] = [
     "This is an orange",
 ];
 
-const APPLES_PICTURE: [&str; 9] = [
+const APPLES_PICTURE: &[&str] = &[
     "Error: can't compare apples with oranges",
     "   ,-[ <unknown>:1:1 ]",
     "   |",
@@ -42,39 +41,6 @@ fn picture(alloc: Global, rows: &[&str]) -> Result<String, AllocError> {
     Ok(picture)
 }
 
-#[test]
-fn two_labels_on_one_line(rt: HostRuntime) -> Result<(), Fail> {
-    let outcome = run(&rt, rt.alloc(), &APPLES, "apple == orange;")?;
-    let want = picture(rt.alloc(), &APPLES_PICTURE)?;
-    assert_eq!(rt; want.len(), 223);
-    assert_eq!(rt; outcome.out.as_str(), want.as_str());
-    assert_eq!(rt; outcome.status, Status::Drawn);
-    assert_eq!(rt; outcome.faults.as_str(), "");
-    Ok(())
-}
-
-#[test]
-fn a_label_past_the_source_is_left_out(rt: HostRuntime) -> Result<(), Fail> {
-    let words = ["--ascii", "--plain", "m", "0", "2", "x", "0", "9", "z"];
-    let outcome = run(&rt, rt.alloc(), &words, "ab")?;
-    let want = picture(
-        rt.alloc(),
-        &[
-            "Error: m",
-            "   ,-[ <unknown>:1:1 ]",
-            "   |",
-            " 1 | ab",
-            "   | ^|  ",
-            "   |  `-- x",
-            "---'",
-        ],
-    )?;
-    assert_eq!(rt; outcome.out.as_str(), want.as_str());
-    assert_eq!(rt; outcome.status, Status::LeftOut);
-    assert_eq!(rt; outcome.faults.as_str(), "label 2: past source\n");
-    Ok(())
-}
-
 /// A picture without the blanks at the ends of its rows.
 fn trimmed(alloc: Global, picture: &str) -> Result<String, AllocError> {
     let mut rows = String::new(alloc);
@@ -85,43 +51,92 @@ fn trimmed(alloc: Global, picture: &str) -> Result<String, AllocError> {
     Ok(rows)
 }
 
-/// Runs the program over a text, which it draws whole, and answers the picture without the blanks
-/// at the ends of its rows.
-fn drawn<R: Files>(
-    files: &R,
-    alloc: Global,
-    words: &[&str],
+/// A run, and what comes of it.
+#[derive(Clone, Copy)]
+struct Run {
+    name: &'static str,
+    words: &'static [&'static str],
     text: &'static str,
-) -> Result<String, Fail> {
-    let outcome = run(files, alloc, words, text)?;
-    if outcome.status != Status::Drawn || !outcome.faults.is_empty() {
-        return Err(Fail::from("a label was left out"));
-    }
-    Ok(trimmed(alloc, outcome.out.as_str())?)
+    status: Status,
+    faults: &'static str,
+    /// The rows of the picture, without blanks at their ends.
+    rows: &'static [&'static str],
 }
 
-#[test]
-fn labels_over_several_lines(rt: HostRuntime) -> Result<(), Fail> {
-    let words = [
-        "--ascii",
-        "--plain",
-        "Incompatible types",
-        "32",
-        "33",
-        "This is of type Nat",
-        "42",
-        "45",
-        "This is of type Str",
-        "11",
-        "48",
-        "The values are outputs of this match expression",
-    ];
-    let text =
-        "def five = match () in {\n\t() => 5,\n\t() => \"5\",\n}\n\ndef six =\n    five\n    + 1\n";
-    let got = drawn(&rt, rt.alloc(), &words, text)?;
-    let want = picture(
-        rt.alloc(),
-        &[
+/// A run whose picture has all labels.
+const DRAWN: Run = Run {
+    name: "",
+    words: &[],
+    text: "",
+    status: Status::Drawn,
+    faults: "",
+    rows: &[],
+};
+
+/// The picture of a label over one character of two bytes.
+const E_ACUTE: &[&str] = &[
+    "Error: m",
+    "   ,-[ <unknown>:1:1 ]",
+    "   |",
+    " 1 | \u{e9}",
+    "   | |",
+    "   | `-- x",
+    "---'",
+];
+
+const RUNS: &[Run] = &[
+    Run {
+        name: "two labels on one line",
+        words: &APPLES,
+        text: "apple == orange;",
+        rows: &[
+            "Error: can't compare apples with oranges",
+            "   ,-[ <unknown>:1:1 ]",
+            "   |",
+            " 1 | apple == orange;",
+            "   | ^^|^^    ^^^|^^",
+            "   |   `-------------- This is an apple",
+            "   |             |",
+            "   |             `---- This is an orange",
+            "---'",
+        ],
+        ..DRAWN
+    },
+    Run {
+        name: "a label past the source is left out",
+        words: &["--ascii", "--plain", "m", "0", "2", "x", "0", "9", "z"],
+        text: "ab",
+        status: Status::LeftOut,
+        faults: "label 2: past source\n",
+        rows: &[
+            "Error: m",
+            "   ,-[ <unknown>:1:1 ]",
+            "   |",
+            " 1 | ab",
+            "   | ^|",
+            "   |  `-- x",
+            "---'",
+        ],
+        ..DRAWN
+    },
+    Run {
+        name: "labels over several lines",
+        words: &[
+            "--ascii",
+            "--plain",
+            "Incompatible types",
+            "32",
+            "33",
+            "This is of type Nat",
+            "42",
+            "45",
+            "This is of type Str",
+            "11",
+            "48",
+            "The values are outputs of this match expression",
+        ],
+        text: "def five = match () in {\n\t() => 5,\n\t() => \"5\",\n}\n\ndef six =\n    five\n    + 1\n",
+        rows: &[
             "Error: Incompatible types",
             "   ,-[ <unknown>:2:8 ]",
             "   |",
@@ -137,18 +152,13 @@ fn labels_over_several_lines(rt: HostRuntime) -> Result<(), Fail> {
             "   | `------- The values are outputs of this match expression",
             "---'",
         ],
-    )?;
-    assert_eq!(rt; got.as_str(), want.as_str());
-    Ok(())
-}
-
-#[test]
-fn labels_on_different_lines(rt: HostRuntime) -> Result<(), Fail> {
-    let words = ["--ascii", "--plain", "m", "0", "1", "x", "2", "2", "y"];
-    let got = drawn(&rt, rt.alloc(), &words, "a\nb")?;
-    let want = picture(
-        rt.alloc(),
-        &[
+        ..DRAWN
+    },
+    Run {
+        name: "labels on different lines",
+        words: &["--ascii", "--plain", "m", "0", "1", "x", "2", "2", "y"],
+        text: "a\nb",
+        rows: &[
             "Error: m",
             "   ,-[ <unknown>:1:1 ]",
             "   |",
@@ -160,18 +170,13 @@ fn labels_on_different_lines(rt: HostRuntime) -> Result<(), Fail> {
             "   | `- y",
             "---'",
         ],
-    )?;
-    assert_eq!(rt; got.as_str(), want.as_str());
-    Ok(())
-}
-
-#[test]
-fn box_drawing_characters_where_none_says_ascii(rt: HostRuntime) -> Result<(), Fail> {
-    let words = ["--plain", "m", "0", "2", "x"];
-    let got = drawn(&rt, rt.alloc(), &words, "ab")?;
-    let want = picture(
-        rt.alloc(),
-        &[
+        ..DRAWN
+    },
+    Run {
+        name: "box drawing characters where none says ascii",
+        words: &["--plain", "m", "0", "2", "x"],
+        text: "ab",
+        rows: &[
             "Error: m",
             "   ╭─[ <unknown>:1:1 ]",
             "   │",
@@ -180,37 +185,31 @@ fn box_drawing_characters_where_none_says_ascii(rt: HostRuntime) -> Result<(), F
             "   │  ╰── x",
             "───╯",
         ],
-    )?;
-    assert_eq!(rt; got.as_str(), want.as_str());
-    Ok(())
-}
-
-#[test]
-fn a_compact_picture(rt: HostRuntime) -> Result<(), Fail> {
-    let alloc = rt.alloc();
-    let words = ["--ascii", "--plain", "--compact", "", "0", "2", "x"];
-    let outcome = run(&rt, alloc, &words, "ab")?;
-    let want = "Error: \n   ,-[ <unknown>:1:1 ]\n 1 |ab\n   | `- x\n";
-    assert_eq!(rt; want.len(), 48);
-    assert_eq!(rt; outcome.out.as_str(), want);
-    assert_eq!(rt; outcome.status, Status::Drawn);
-
-    let words = [
-        "--compact",
-        "--plain",
-        "--ascii",
-        "m",
-        "1",
-        "4",
-        "mid",
-        "0",
-        "8",
-        "all",
-    ];
-    let got = drawn(&rt, alloc, &words, "aa\nbb\ncc")?;
-    let want = picture(
-        alloc,
-        &[
+        ..DRAWN
+    },
+    Run {
+        name: "a compact picture",
+        words: &["--ascii", "--plain", "--compact", "", "0", "2", "x"],
+        text: "ab",
+        rows: &["Error:", "   ,-[ <unknown>:1:1 ]", " 1 |ab", "   | `- x"],
+        ..DRAWN
+    },
+    Run {
+        name: "a compact picture of labels over lines",
+        words: &[
+            "--compact",
+            "--plain",
+            "--ascii",
+            "m",
+            "1",
+            "4",
+            "mid",
+            "0",
+            "8",
+            "all",
+        ],
+        text: "aa\nbb\ncc",
+        rows: &[
             "Error: m",
             "   ,-[ <unknown>:1:2 ]",
             " 1 |,->aa",
@@ -220,38 +219,56 @@ fn a_compact_picture(rt: HostRuntime) -> Result<(), Fail> {
             " 3 ||->cc",
             "   |`----- all",
         ],
-    )?;
-    assert_eq!(rt; got.as_str(), want.as_str());
-    Ok(())
-}
+        ..DRAWN
+    },
+    Run {
+        name: "a byte offset that cuts a character",
+        words: &["--ascii", "--plain", "--bytes", "m", "1", "2", "x"],
+        text: "\u{e9}",
+        status: Status::LeftOut,
+        faults: "label 1: cuts a character\n",
+        rows: &["Error: m"],
+        ..DRAWN
+    },
+    Run {
+        name: "a byte offset one past the two bytes of the source",
+        words: &["--ascii", "--plain", "--bytes", "m", "0", "3", "x"],
+        text: "\u{e9}",
+        rows: E_ACUTE,
+        ..DRAWN
+    },
+    Run {
+        name: "the same in characters",
+        words: &["--ascii", "--plain", "m", "0", "1", "x"],
+        text: "\u{e9}",
+        rows: E_ACUTE,
+        ..DRAWN
+    },
+];
 
 #[test]
-fn offsets_in_bytes(rt: HostRuntime) -> Result<(), Fail> {
+fn the_words_tell_the_picture(rt: HostRuntime) -> Result<(), Fail> {
     let alloc = rt.alloc();
-    let words = ["--ascii", "--plain", "--bytes", "m", "1", "2", "x"];
-    let outcome = run(&rt, alloc, &words, "\u{e9}")?;
-    assert_eq!(rt; outcome.out.as_str(), "Error: m\n");
-    assert_eq!(rt; outcome.status, Status::LeftOut);
-    assert_eq!(rt; outcome.faults.as_str(), "label 1: cuts a character\n");
-
-    // The end may be one past the two bytes of the source.
-    let rows = [
-        "Error: m",
-        "   ,-[ <unknown>:1:1 ]",
-        "   |",
-        " 1 | \u{e9}",
-        "   | |",
-        "   | `-- x",
-        "---'",
-    ];
-    let words = ["--ascii", "--plain", "--bytes", "m", "0", "3", "x"];
-    let got = drawn(&rt, alloc, &words, "\u{e9}")?;
-    let want = picture(alloc, &rows)?;
-    assert_eq!(rt; got.as_str(), want.as_str());
-    let words = ["--ascii", "--plain", "m", "0", "1", "x"];
-    let got = drawn(&rt, alloc, &words, "\u{e9}")?;
-    let want = picture(alloc, &rows)?;
-    assert_eq!(rt; got.as_str(), want.as_str());
+    for case in RUNS {
+        let name = case.name;
+        let outcome = run(&rt, alloc, case.words, case.text)?;
+        let got = trimmed(alloc, outcome.out.as_str())?;
+        assert_eq!(rt; got.as_str(), picture(alloc, case.rows)?.as_str(), "{name}");
+        assert_eq!(rt; outcome.status, case.status, "{name}");
+        assert_eq!(rt; outcome.faults.as_str(), case.faults, "{name}");
+    }
+    // The first picture whole, with the blanks at the ends of its rows.
+    let outcome = run(&rt, alloc, &APPLES, "apple == orange;")?;
+    let want = picture(alloc, APPLES_PICTURE)?;
+    assert_eq!(rt; want.len(), 223);
+    assert_eq!(rt; outcome.out.as_str(), want.as_str());
+    // And a compact one, whose header ends in a blank.
+    let words = ["--ascii", "--plain", "--compact", "", "0", "2", "x"];
+    let outcome = run(&rt, alloc, &words, "ab")?;
+    assert_eq!(rt;
+        outcome.out.as_str(),
+        "Error: \n   ,-[ <unknown>:1:1 ]\n 1 |ab\n   | `- x\n"
+    );
     Ok(())
 }
 
@@ -299,7 +316,7 @@ fn labels_take_the_colors_of_the_generator_in_turn(rt: HostRuntime) -> Result<()
 #[test]
 fn a_writer_that_fails_at_each_call_holds_a_beginning(rt: HostRuntime) -> Result<(), Fail> {
     let alloc = rt.alloc();
-    let whole = picture(alloc, &APPLES_PICTURE)?;
+    let whole = picture(alloc, APPLES_PICTURE)?;
     for calls in 0..whole.len() {
         for fault in [Some(ErrorKind::BrokenPipe), None] {
             let input = Given::whole(b"apple == orange;");

@@ -62,8 +62,8 @@ impl Config {
     ghost use Rattle.ariadne_picture.specs.Report.{default_config};
 
     /// The default switches: gaps where arrows cross, arrows attached to the middle, not compact,
-    /// underlines, arrows at the ends of labels over several lines, colours, a tab every 4
-    /// characters, box drawing characters, offsets in characters.
+    /// underlines, arrows at the ends of labels over several lines, colours, a tab stop every
+    /// 4 columns, box drawing characters, offsets in characters.
     pub const fn new() -> Config
         ensures { result ≡ default_config }
     {
@@ -108,8 +108,8 @@ impl Config {
         self
     }
 
-    /// Whether labels within one line are underlined. By default they are; compact pictures have no
-    /// underlines.
+    /// Whether labels within one line are underlined, where some label of the line has a message. By
+    /// default they are; compact pictures have no underlines.
     pub const fn with_underlines(mut self, underlines: bool) -> Config
         ensures { result ≡ record self { underlines = underlines } }
     {
@@ -135,8 +135,8 @@ impl Config {
         self
     }
 
-    /// How many characters of a line stand from one tab stop to the next: at least 1, and 4 by
-    /// default. They are counted from 0 at the start of the line, whatever columns they take.
+    /// How many columns of a line stand from one tab stop to the next: at least 1, and 4 by default.
+    /// A tab reaches to the next stop, whatever wide or combining characters stand before it.
     pub const fn with_tab_width(mut self, tab_width: usize) -> Config
         requires { 1 ≤ tab_width }
         ensures { result ≡ record self { tab_width = tab_width } }

@@ -1,11 +1,11 @@
 -- What is drawn is what was accepted.
 use Rattle.std.proofs.Common.{ap, ◌∙◌}
-use Rattle.ariadne.specs.Drawn.{world}
+use Rattle.ariadne_accept.specs.Drawn.{world}
 use Rattle.ariadne_picture.specs.Canvas.{canvas}
 use Rattle.ariadne_picture.specs.Print.{printed}
 use Rattle.ariadne_picture.proofs.Reading.EveryHeadline.{every-headline}
-use Rattle.ariadne.proofs.Judging.{one_source}
-use Rattle.ariadne.proofs.OverLines.{drawn}
+use Rattle.ariadne_accept.proofs.Judging.{one_source}
+use Rattle.ariadne_drawing.proofs.OverLines.{drawn}
 use Rattle.ariadne.proofs.report.Report.picture.Goals as goal
 
 -- the accepted labels are drawn over sources that the cache holds
@@ -14,7 +14,7 @@ draw-requires g c =
     let s = g.S.Span in
     let w = world s.source_of s.start_of s.end_of g.S.SourceId.PartialEq.eq (g.C.Cache.names c.accept.new.cache) (g.C.Cache.contents c.accept.new.cache) in
     let judged = c.in_ok-judged.ensures.judged in
-    record { drawn = rw judged.3 (drawn w c.args.self.now judged.0) }
+    record { drawn = rw judged.3 (drawn w c.self.inside.content judged.0) }
 
 -- their picture is drawn, and of every picture the headline holds
 pub returns-clause-drawn : goal.returns-clause-drawn
@@ -25,12 +25,14 @@ returns-clause-drawn g c =
     let contents = g.C.Cache.contents c.accept.new.cache in
     let w = world s.source_of s.start_of s.end_of eq names contents in
     let judged = c.in_ok-judged.ensures.judged in
+    let r = c.self.inside.content in
+    rw (← c.self.view_is)
     record {
       reasons = judged.0;
       are_reasons = judged.1;
       left_out = judged.2;
-      drawn = c.in_ok-text.ensures ∙ ap (λ infos. printed (canvas w c.args.self.now infos)) judged.3;
+      drawn = c.in_ok-text.ensures ∙ ap (λ infos. printed (canvas w r infos)) judged.3;
       traced = λ before after sent.
-          every-headline w c.args.self.now judged.0 (one_source s.source_of s.start_of s.end_of eq g.met.S.SourceId.Eq.laws names contents)
+          every-headline w r judged.0 (one_source s.source_of s.start_of s.end_of eq g.met.S.SourceId.Eq.laws names contents)
           c.in_ok-judged.ensures.forward before after sent;
     }

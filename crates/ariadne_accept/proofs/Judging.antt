@@ -1,0 +1,328 @@
+-- One label more is judged: what the cache holds by then, the reasons of the labels so far, and what is drawn and what is left out of them.
+use Rattle.std.proofs.Common.{◌≡◌, ℕ, zero, suc, ◌+◌, ◌<◌, Bool, true, false, List, [], ◌∷◌, ◌++◌, Option, Some, None, length, take, get_or, refl}
+use Rattle.std.proofs.Common.{sym, ap, ◌∙◌, subst, arith, append_assoc}
+use Rattle.std.specs.Prelude.{IsSome, IsSomeAnd, Ok, Err, option_and_then, option_to_list}
+use Rattle.std.specs.List.{AllByRecursion, list_any}
+use Rattle.std.specs.Cmp.{IsEquivalence}
+use Rattle.std.specs.HashMap.Eq.{lookup_congr}
+use Rattle.std.proofs.lemmas.Grind.{common_steps}
+use Rattle.std.proofs.lemmas.List.{append-nil, take_more, length-take-le}
+use Rattle.ariadne_base.specs.Cache.{Grows, held}
+use Rattle.ariadne_base.specs.Listing.{Listing}
+use Rattle.ariadne_picture.specs.declared.label_info.LabelInfo.{LabelInfo}
+use Rattle.ariadne_picture.specs.declared.verdict.Verdict.TheVariants.{Accepted}
+use Rattle.ariadne_picture.specs.Report.{ConfigFields, LabelFields, World, HaveOneSource}
+use Rattle.ariadne_picture.specs.Accept.{accepted_info, drawn_label, drawn_labels, verdict_in}
+use Rattle.ariadne_picture.proofs.Lists.ListFacts.{all-append}
+use Rattle.ariadne_accept.specs.declared.accept.LeftOut.{LeftOut}
+use Rattle.ariadne_accept.specs.declared.accept.Reason.{Reason}
+use Rattle.ariadne_accept.specs.declared.accept.Reason.TheVariants.{Unfetched, PastSource, CutsCharacter}
+use Rattle.ariadne_accept.specs.Drawn.{world}
+use Rattle.ariadne_accept.specs.Judging.{AreJudged, AreReasons, GrowsFor, IsJudged, IsOutcome, NoneUnfetched, StayFetched, is_unfetched, listed}
+
+-- ---- lists
+
+-- no element of a beginning passes a test that none of the list does
+any_take : {A : Type 0} (p : A → Bool) (xs : List A) (i : ℕ) → list_any p xs ≡ false → list_any p (take i xs) ≡ false
+any_take p [] zero h = refl
+any_take p [] (suc i) h = refl
+any_take p (x ∷ xs) zero h = refl
+any_take p (x ∷ xs) (suc i) h = grind (arith, common_steps, any_take p xs i)
+
+-- nor does the last, or any before it
+any_push : {A : Type 0} (p : A → Bool) (xs : List A) (x : A) → list_any p (xs ++ x ∷ []) ≡ false → (list_any p xs ≡ false) × (list_any p (x ∷ []) ≡ false)
+any_push p [] x h = (refl, h)
+any_push p (y ∷ xs) x h = grind (arith, common_steps, any_push p xs x)
+
+-- one element more of a list
+taken : {A : Type 0} (xs : List A) (i : ℕ) (x : A) → i < length xs → x ≡ get_or xs i x → take (i + 1) xs ≡ take i xs ++ x ∷ []
+taken xs i x there is = take_more xs i x there ∙ ap (λ z. take i xs ++ z ∷ []) (sym is)
+
+-- what holds of all elements before one and of it holds of the beginning up to it
+pub all_more : {A : Type 0} (P : A → Type 0) (xs : List A) (i : ℕ) (x : A) → i < length xs → x ≡ get_or xs i x → AllByRecursion P (take i xs) → P x
+    → AllByRecursion P (take (i + 1) xs)
+all_more P xs i x there is so_far one =
+    subst (AllByRecursion P) (sym (taken xs i x there is)) (all-append P (take i xs) (x ∷ []) so_far (one, tt))
+
+-- ---- what is held stays
+
+-- what holds of the source that was held
+kept_some : {A : Type 0} (a b : Option A) (P : A → Type 0) → (IsSome a → b ≡ a) → IsSomeAnd a P → IsSomeAnd b P
+kept_some None b P k h = absurd h
+kept_some (Some x) b P k h = subst (λ o. IsSomeAnd o P) (sym (k refl)) h
+
+-- what is not held was not held
+was_none : {A : Type 0} (a b : Option A) → (IsSome a → b ≡ a) → b ≡ None → a ≡ None
+was_none None b k h = refl
+was_none (Some x) b k h = let e = k refl in cc
+
+-- a source of which something holds is there
+some_and : {A : Type 0} (o : Option A) (P : A → Type 0) → IsSomeAnd o P → IsSome o
+some_and None P h = absurd h
+some_and (Some x) P h = refl
+
+-- a source that is there is not missing
+not_none : {A : Type 0} (a b : Option A) → a ≡ b → IsSome a → b ≡ None → ⊥
+not_none None b e h n = absurd (let z : false ≡ true = h in cc)
+not_none (Some x) b e h n = cc
+
+-- equal ids find the same source
+pub one_source : {S Id : Type 0} (id_of : S → Id) (start_of end_of : S → ℕ) (eq : Id → Id → Bool) → IsEquivalence eq
+    → (names : Id → Option (List ℕ)) (contents : List (Id × Listing)) → HaveOneSource (world id_of start_of end_of eq names contents)
+one_source id_of start_of end_of eq laws names contents p q same = lookup_congr eq laws.congr contents p q same
+
+-- ---- growth
+
+module _ {S Id : Type 0} (id_of : S → Id) (eq : Id → Id → Bool) where
+  -- no label was asked for
+  pub grows_start : (labels : List (LabelFields S)) (a : List (Id × Listing)) → GrowsFor id_of eq (take 0 labels) a a
+  grows_start labels a = record { kept = λ q h. refl; only = λ q h. refl }
+
+  -- one label more
+  pub grows_more : (labels : List (LabelFields S)) (i : ℕ) (x : LabelFields S) (a b c : List (Id × Listing)) → i < length labels → x ≡ get_or labels i x
+      → GrowsFor id_of eq (take i labels) a b → GrowsFor id_of eq (x ∷ []) b c → GrowsFor id_of eq (take (i + 1) labels) a c
+  grows_more labels i x a b c there is f g = record {
+    kept = λ q h. g.kept q (subst IsSome (sym (f.kept q h)) h) ∙ f.kept q h;
+    only = λ q h.
+        let both = any_push (λ label. eq (id_of label.span) q) (take i labels) x
+        (subst (λ ls. list_any (λ label. eq (id_of label.span) q) ls ≡ false) (taken labels i x there is) h) in
+        g.only q both.1 ∙ f.only q both.0;
+  }
+
+  -- those of some labels are those of all
+  grows_within : (labels : List (LabelFields S)) (i : ℕ) (a b : List (Id × Listing)) → GrowsFor id_of eq (take i labels) a b
+      → GrowsFor id_of eq labels a b
+  grows_within labels i a b g =
+      record { kept = g.kept; only = λ q h. g.only q (any_take (λ label. eq (id_of label.span) q) labels i h) }
+
+  -- so it is for the labels in front of one and that one
+  pub grows_at : (labels items : List (LabelFields S)) (i : ℕ) (x : LabelFields S) (a b c : List (Id × Listing)) → items ≡ labels → i < length items
+      → x ≡ get_or items i x → GrowsFor id_of eq (take i labels) a b → GrowsFor id_of eq (x ∷ []) b c → GrowsFor id_of eq labels a c
+  grows_at labels items i x a b c same there is f g =
+      grows_within labels (i + 1) a c (grows_more labels i x a b c (rw same at there) (rw same at is) f g)
+
+-- ---- reasons
+
+-- the reasons of one label more
+listed_push : {E : Type 0} (n : ℕ) (reasons : List (Option (Reason E))) (reason : Option (Reason E))
+    → listed n (reasons ++ reason ∷ []) ≡ listed n reasons ++ listed (n + length reasons) (reason ∷ [])
+listed_push n [] reason = let z : n + 0 ≡ n = omega arith in rw z refl
+listed_push n (None ∷ reasons) reason =
+    let z : n + 1 + length reasons ≡ n + suc (length reasons) = omega arith in
+    listed_push (n + 1) reasons reason ∙ ap (λ m. listed (n + 1) reasons ++ listed m (reason ∷ [])) z
+listed_push n (Some first ∷ reasons) reason =
+    let z : n + 1 + length reasons ≡ n + suc (length reasons) = omega arith in
+    ap (λ xs. record { label = n; reason = first } ∷ xs)
+    (listed_push (n + 1) reasons reason ∙ ap (λ m. listed (n + 1) reasons ++ listed m (reason ∷ [])) z)
+
+module _ {S Id E : Type 0} (fails : Id → E → Type 0) (config : ConfigFields) where
+  module _ (before after : World S Id) where
+    -- there is a reason, or none, for each label
+    judged_length : (k : ℕ) (labels : List (LabelFields S)) (reasons : List (Option (Reason E))) → AreJudged fails before after config k labels reasons
+        → length reasons ≡ length labels
+    judged_length k [] [] h = refl
+    judged_length k [] (reason ∷ reasons) h = absurd h
+    judged_length k (label ∷ labels) [] h = absurd h
+    judged_length k (label ∷ labels) (reason ∷ reasons) h = ap suc (judged_length (suc k) labels reasons h.1)
+
+    -- one label more is judged
+    judged_push : (k : ℕ) (labels : List (LabelFields S)) (reasons : List (Option (Reason E))) (x : LabelFields S) (r : Option (Reason E))
+        → AreJudged fails before after config k labels reasons → IsJudged fails before after config (k + length labels) x r
+        → AreJudged fails before after config k (labels ++ x ∷ []) (reasons ++ r ∷ [])
+    judged_push k [] [] x r h j = let z : k + 0 ≡ k = omega arith in (subst (λ n. IsJudged fails before after config n x r) z j, tt)
+    judged_push k [] (reason ∷ reasons) x r h j = absurd h
+    judged_push k (label ∷ labels) [] x r h j = absurd h
+    judged_push k (label ∷ labels) (reason ∷ reasons) x r h j =
+        let z : k + suc (length labels) ≡ suc k + length labels = omega arith in
+        (h.0, judged_push (suc k) labels reasons x r h.1 (subst (λ n. IsJudged fails before after config n x r) z j))
+
+    -- and what is drawn of it comes last
+    drawn_push : (k : ℕ) (labels : List (LabelFields S)) (reasons : List (Option (Reason E))) (x : LabelFields S) (r : Option (Reason E)) (w : World S Id)
+        → AreJudged fails before after config k labels reasons
+        → drawn_labels w config k (labels ++ x ∷ []) (reasons ++ r ∷ []) ≡ drawn_labels w config k labels reasons
+        ++ drawn_label w config (k + length labels) x r
+    unfolding drawn_labels
+    drawn_push k [] [] x r w h = let z : k + 0 ≡ k = omega arith in rw z (append-nil (drawn_label w config k x r))
+    drawn_push k [] (reason ∷ reasons) x r w h = absurd h
+    drawn_push k (label ∷ labels) [] x r w h = absurd h
+    drawn_push k (label ∷ labels) (reason ∷ reasons) x r w h =
+        let z : suc k + length labels ≡ k + suc (length labels) = omega arith in
+        ap (λ xs. drawn_label w config k label reason ++ xs) (drawn_push (suc k) labels reasons x r w h.1)
+        ∙ sym (append_assoc (drawn_label w config k label reason) (drawn_labels w config (suc k) labels reasons)
+        (drawn_label w config (suc k + length labels) x r))
+        ∙ ap (λ n. (drawn_label w config k label reason ++ drawn_labels w config (suc k) labels reasons) ++ drawn_label w config n x r) z
+
+  -- ---- over a cache that grows
+
+  module _ (id_of : S → Id) (start_of end_of : S → ℕ) (eq : Id → Id → Bool) where
+    -- what is read of it by its names and contents
+    abbrev pub at : (Id → Option (List ℕ)) → List (Id × Listing) → World S Id
+    at = world id_of start_of end_of eq
+
+    module _ (na nb nc nd : Id → Option (List ℕ)) (a b c d : List (Id × Listing)) (early : Grows eq a b) (late : Grows eq c d) where
+      -- a reason stays one where less was held before, and more is held after
+      judged_weaker : (k : ℕ) (label : LabelFields S) (r : Option (Reason E)) → IsJudged fails (at nb b) (at nc c) config k label r
+          → IsJudged fails (at na a) (at nd d) config k label r
+      judged_weaker k label None h = kept_some _ _ _ (late (id_of label.span)) h
+      judged_weaker k label (Some (Unfetched e)) h = (was_none _ _ (early (id_of label.span)) h.0, h.1)
+      judged_weaker k label (Some PastSource) h = kept_some _ _ _ (late (id_of label.span)) h
+      judged_weaker k label (Some CutsCharacter) h = kept_some _ _ _ (late (id_of label.span)) h
+
+      -- so do those of all labels
+      judged_all : (k : ℕ) (labels : List (LabelFields S)) (reasons : List (Option (Reason E)))
+          → AreJudged fails (at nb b) (at nc c) config k labels reasons → AreJudged fails (at na a) (at nd d) config k labels reasons
+      judged_all k [] [] h = tt
+      judged_all k [] (reason ∷ reasons) h = absurd h
+      judged_all k (label ∷ labels) [] h = absurd h
+      judged_all k (label ∷ labels) (reason ∷ reasons) h = (judged_weaker k label reason h.0, judged_all (suc k) labels reasons h.1)
+
+      -- what is drawn of a judged label stays
+      drawn_same : (k : ℕ) (label : LabelFields S) (r : Option (Reason E)) → IsJudged fails (at nb b) (at nc c) config k label r
+          → drawn_label (at nc c) config k label r ≡ drawn_label (at nd d) config k label r
+      unfolding drawn_label
+      drawn_same k label None h =
+          ap (λ o. option_to_list (option_and_then (λ s. accepted_info (verdict_in (at nc c) config k label s)) o))
+          (sym (late (id_of label.span) (some_and _ _ h)))
+      drawn_same k label (Some reason) h = refl
+
+      -- and of all of them
+      drawn_all : (k : ℕ) (labels : List (LabelFields S)) (reasons : List (Option (Reason E)))
+          → AreJudged fails (at nb b) (at nc c) config k labels reasons
+          → drawn_labels (at nc c) config k labels reasons ≡ drawn_labels (at nd d) config k labels reasons
+      unfolding drawn_labels
+      drawn_all k [] [] h = refl
+      drawn_all k [] (reason ∷ reasons) h = absurd h
+      drawn_all k (label ∷ labels) [] h = absurd h
+      drawn_all k (label ∷ labels) (reason ∷ reasons) h =
+          rw (drawn_same k label reason h.0, drawn_all (suc k) labels reasons h.1) refl
+
+    module _ (laws : IsEquivalence eq) (na nb nc : Id → Option (List ℕ)) (a b c : List (Id × Listing)) (n : ℕ) (x : LabelFields S)
+        (r : Option (Reason E)) (now : IsJudged fails (at nb b) (at nc c) config n x r) where
+      -- the source of a label that was had is held
+      had : (k : ℕ) (label : LabelFields S) (reason : Option (Reason E)) → IsJudged fails (at na a) (at nb b) config k label reason
+          → is_unfetched reason ≡ false → IsSome (held eq b (id_of label.span))
+      had k label None h u = some_and _ _ h
+      had k label (Some (Unfetched e)) h u = cc
+      had k label (Some PastSource) h u = some_and _ _ h
+      had k label (Some CutsCharacter) h u = some_and _ _ h
+
+      -- so one of an equal id is had
+      fetched_now : (r : Option (Reason E)) → IsJudged fails (at nb b) (at nc c) config n x r → (label : LabelFields S)
+          → IsSome (held eq b (id_of label.span)) → eq (id_of label.span) (id_of x.span) ≡ true → is_unfetched r ≡ false
+      fetched_now None h label some same = refl
+      fetched_now (Some (Unfetched e)) h label some same =
+          absurd (not_none _ _ (one_source id_of start_of end_of eq laws nb b (id_of label.span) (id_of x.span) same) some h.0)
+      fetched_now (Some PastSource) h label some same = refl
+      fetched_now (Some CutsCharacter) h label some same = refl
+
+      -- and none of an equal id is unfetched, also where this label comes last
+      none_push : (label : LabelFields S) → IsSome (held eq b (id_of label.span)) → (labels : List (LabelFields S)) (reasons : List (Option (Reason E)))
+          → NoneUnfetched (at nb b) label labels reasons → NoneUnfetched (at nc c) label (labels ++ x ∷ []) (reasons ++ r ∷ [])
+      none_push label some [] [] h = (fetched_now r now label some, tt)
+      none_push label some [] (reason ∷ reasons) h = absurd h
+      none_push label some (other ∷ labels) [] h = absurd h
+      none_push label some (other ∷ labels) (reason ∷ reasons) h = (h.0, none_push label some labels reasons h.1)
+
+      -- so it is for each label that was had
+      stay_push : (k : ℕ) (labels : List (LabelFields S)) (reasons : List (Option (Reason E)))
+          → AreJudged fails (at na a) (at nb b) config k labels reasons
+          → StayFetched (at nb b) labels reasons → StayFetched (at nc c) (labels ++ x ∷ []) (reasons ++ r ∷ [])
+      stay_push k [] [] j h = (λ _. tt, tt)
+      stay_push k [] (reason ∷ reasons) j h = absurd j
+      stay_push k (label ∷ labels) [] j h = absurd j
+      stay_push k (label ∷ labels) (reason ∷ reasons) j h =
+          (λ u. none_push label (had k label reason j.0 u) labels reasons (h.0 u), stay_push (suc k) labels reasons j.1 h.1)
+
+-- ---- the loop over the labels
+
+-- what was judged so far
+pub record SoFar {S Id E : Type 0} (fails : Id → E → Type 0) (config : ConfigFields) (before after : World S Id) (labels : List (LabelFields S))
+    (left_out : List (LeftOut E)) (infos : List LabelInfo) : Type 0 where
+  pub reasons : List (Option (Reason E))
+  pub are_reasons : AreReasons fails before after config labels reasons
+  pub are_left_out : left_out ≡ listed 0 reasons
+  pub are_drawn : infos ≡ drawn_labels after config 0 labels reasons
+
+-- at first there are none
+pub so_far_start : {S Id E : Type 0} (fails : Id → E → Type 0) (config : ConfigFields) (before after : World S Id) (labels : List (LabelFields S))
+    → SoFar fails config before after (take 0 labels) [] []
+unfolding drawn_labels
+so_far_start fails config before after labels =
+    record { reasons = []; are_reasons = record { judged = tt; stay_fetched = tt }; are_left_out = refl; are_drawn = refl }
+
+module _ {S Id E : Type 0} (fails : Id → E → Type 0) (config : ConfigFields) (id_of : S → Id) (start_of end_of : S → ℕ) (eq : Id → Id → Bool)
+    (laws : IsEquivalence eq) (na nb nc : Id → Option (List ℕ)) (a b c : List (Id × Listing)) (labels : List (LabelFields S)) (i : ℕ) (x : LabelFields S)
+    (there : i < length labels) (is : x ≡ get_or labels i x) (early : GrowsFor id_of eq (take i labels) a b) (late : GrowsFor id_of eq (x ∷ []) b c)
+    (left_out : List (LeftOut E)) (infos : List LabelInfo) where
+  -- what is read of the cache at first
+  abbrev w0 : World S Id
+  w0 = world id_of start_of end_of eq na a
+
+  -- before this label
+  abbrev w1 : World S Id
+  w1 = world id_of start_of end_of eq nb b
+
+  -- after it
+  abbrev w2 : World S Id
+  w2 = world id_of start_of end_of eq nc c
+
+  -- one label more, with its reason or without one
+  so_far_more : (r : Option (Reason E)) → IsJudged fails w1 w2 config i x r → SoFar fails config w0 w1 (take i labels) left_out infos
+      → SoFar fails config w0 w2 (take (i + 1) labels) (left_out ++ listed i (r ∷ [])) (infos ++ drawn_label w2 config i x r)
+  so_far_more r now s =
+      let rs = s.reasons in
+      let ls = take i labels in
+      let len : length ls ≡ i = length-take-le i labels (omega arith) in
+      let size : 0 + length ls ≡ i = omega arith in
+      let judged = s.are_reasons.judged in
+      let count : 0 + length rs ≡ i = omega (arith, judged_length fails config w0 w1 0 ls rs judged) in
+      let all : AreJudged fails w0 w2 config 0 ls rs = judged_all fails config id_of start_of end_of eq na na nb nc a a b c (λ q h. refl) late.kept 0 ls rs
+      judged in
+      let one : IsJudged fails w0 w2 config (0 + length ls) x r = subst (λ n. IsJudged fails w0 w2 config n x r) (sym size)
+      (judged_weaker fails config id_of start_of end_of eq na nb nc nc a b c c early.kept (λ q h. refl) i x r now) in
+      let drawn : infos ≡ drawn_labels w2 config 0 ls rs = s.are_drawn
+      ∙ drawn_all fails config id_of start_of end_of eq na na nb nc a a b c (λ q h. refl) late.kept 0 ls rs judged in
+      subst (λ ls. SoFar fails config w0 w2 ls (left_out ++ listed i (r ∷ [])) (infos ++ drawn_label w2 config i x r)) (sym (taken labels i x there is))
+      (record {
+        reasons = rs ++ r ∷ [];
+        are_reasons = record {
+          judged = judged_push fails config w0 w2 0 ls rs x r all one;
+          stay_fetched = stay_push fails config id_of start_of end_of eq laws na nb nc a b c i x r now 0 ls rs judged s.are_reasons.stay_fetched;
+        };
+        are_left_out = ap (λ xs. xs ++ listed i (r ∷ [])) s.are_left_out ∙ ap (λ n. listed 0 rs ++ listed n (r ∷ [])) (sym count)
+            ∙ sym (listed_push 0 rs r);
+        are_drawn = ap (λ xs. xs ++ drawn_label w2 config i x r) drawn
+            ∙ ap (λ n. drawn_labels w2 config 0 ls rs ++ drawn_label w2 config n x r) (sym size) ∙ sym (drawn_push fails config w0 w2 0 ls rs x r w2 all);
+      })
+
+  -- one that is left out
+  pub so_far_left : (reason : Reason E) → IsOutcome fails w1 w2 config i x (Err reason) → SoFar fails config w0 w1 (take i labels) left_out infos
+      → SoFar fails config w0 w2 (take (i + 1) labels) (left_out ++ record { label = i; reason = reason } ∷ []) infos
+  unfolding drawn_label
+  so_far_left reason now s =
+      subst (SoFar fails config w0 w2 (take (i + 1) labels) (left_out ++ record { label = i; reason = reason } ∷ [])) (append-nil infos)
+      (so_far_more (Some reason) now s)
+
+  -- what is drawn of an accepted label
+  drawn_one : (info : LabelInfo) (o : Option Listing) → IsSomeAnd o (λ s. verdict_in w2 config i x s ≡ Accepted info)
+      → option_to_list (option_and_then (λ s. accepted_info (verdict_in w2 config i x s)) o) ≡ info ∷ []
+  unfolding accepted_info
+  drawn_one info None h = absurd h
+  drawn_one info (Some s) h = rw h refl
+
+  -- and it has no reason
+  accepted_judged : (info : LabelInfo) (o : Option Listing) → IsSomeAnd o (λ s. verdict_in w2 config i x s ≡ Accepted info)
+      → IsSomeAnd o (λ s. (a : LabelInfo) × (verdict_in w2 config i x s ≡ Accepted a))
+  accepted_judged info None h = absurd h
+  accepted_judged info (Some s) h = (info, h)
+
+  -- one that is drawn
+  pub so_far_drawn : (info : LabelInfo) → IsOutcome {E = E} fails w1 w2 config i x (Ok info) → SoFar fails config w0 w1 (take i labels) left_out infos
+      → SoFar fails config w0 w2 (take (i + 1) labels) left_out (infos ++ info ∷ [])
+  unfolding drawn_label
+  so_far_drawn info now s =
+      let source = held eq c (id_of x.span) in
+      let one : drawn_label {R = Reason E} w2 config i x None ≡ info ∷ [] = drawn_one info source now in
+      let more = so_far_more None (accepted_judged info source now) s in
+      subst (λ xs. SoFar fails config w0 w2 (take (i + 1) labels) xs (infos ++ info ∷ [])) (append-nil left_out)
+      (subst (λ xs. SoFar fails config w0 w2 (take (i + 1) labels) (left_out ++ []) (infos ++ xs)) one more)

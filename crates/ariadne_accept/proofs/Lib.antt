@@ -1,0 +1,5 @@
+pub mod Accepting
+pub mod CharOffsets
+pub mod Judging
+pub mod Locating
+pub mod Messages

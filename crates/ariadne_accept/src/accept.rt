@@ -1,0 +1,264 @@
+//! Which labels of a report are drawn, and why the others are left out.
+
+ghost use Rattle.std.specs.Prelude.{◌≡◌, ◌≤◌, ◌<◌, ◌∷◌, ℕ, List, [], Option, IfOk, chars, length};
+ghost use Rattle.ariadne_base.specs.Listing.{listed_lines};
+ghost use Rattle.ariadne_base.specs.Locations.{char_offset as chars_before, column_at, line_at};
+ghost use Rattle.ariadne_base.specs.Table.{line_extent};
+ghost use Rattle.ariadne_accept.specs.Drawn.{world};
+ghost use Rattle.ariadne_accept.specs.Judging.{AreReasons, GrowsFor, IsOutcome, listed};
+ghost use Rattle.ariadne_picture.specs.Accept.{attach_offset as attached_offset, drawn_labels};
+ghost use Rattle.ariadne_picture.specs.Accept.{info_of, offset_in_chars as in_chars};
+ghost use Rattle.ariadne_picture.specs.Accept.{text_len as counted_len, verdict};
+ghost use Rattle.ariadne_picture.specs.Report.{AreForward};
+
+use crate::content::Content;
+use ariadne_base::{Cache, FetchError, Line, Source, SourceText, Span};
+use ariadne_labels::config::{Config, IndexType, LabelAttach};
+use ariadne_labels::label::Label;
+use ariadne_picture::label_info::LabelInfo;
+use ariadne_picture::verdict::Verdict;
+use std::alloc::AllocError;
+
+/// Why a label is left out of the picture.
+#[derive(Debug, Drop)]
+pub enum Reason<E> {
+    /// Its source could not be had, for this reason of the cache.
+    Unfetched(E),
+    /// It begins past its source, or ends more than one past it.
+    PastSource,
+    /// One of its ends lies inside a character.
+    CutsCharacter,
+}
+
+/// A label that is left out of the picture.
+#[derive(Debug, Drop)]
+pub struct LeftOut<E> {
+    /// Its position among the report's labels, from 0.
+    pub label: usize,
+    /// Why it is left out.
+    pub reason: Reason<E>,
+}
+
+/// The labels of a report: those that are drawn, and those that are left out.
+#[derive(Drop)]
+pub struct Judged<E> {
+    pub infos: Vec<LabelInfo>,
+    pub left_out: Vec<LeftOut<E>>,
+}
+
+/// Fetches the source of each label of a report, in their order, and judges the label over it.
+///
+/// On `Err` there was no memory, of the cache or for the labels.
+pub fn accept<S: Span, C: Cache<S::SourceId>>(
+    report: &Content<'_, S>,
+    cache: &mut C,
+) -> Result<Judged<C::Error>, AllocError>
+    requires { C.can_fetch cache.old }
+    ensures again { C.can_fetch cache.new }
+    ensures naming { (q : S.SourceId) → C.names cache.new q ≡ C.names cache.old q }
+    ensures grows { GrowsFor S.source_of S.SourceId.eq report.now.labels
+        (C.contents cache.old) (C.contents cache.new) }
+    ensures forward { let w = world S.source_of S.start_of S.end_of S.SourceId.eq
+        (C.names cache.new) (C.contents cache.new) in
+        IfOk result (λ judged. AreForward w report.now) }
+    ensures judged { let old = world S.source_of S.start_of S.end_of S.SourceId.eq
+        (C.names cache.old) (C.contents cache.old) in
+        let w = world S.source_of S.start_of S.end_of S.SourceId.eq
+        (C.names cache.new) (C.contents cache.new) in
+        let r = report.now in
+        IfOk result (λ judged. (reasons : List (Option (Reason C.Error)))
+        × AreReasons C.fails old w r.config r.labels reasons
+        × (judged.left_out.items ≡ listed 0 reasons)
+        × (judged.infos.items ≡ drawn_labels w r.config 0 r.labels reasons)) }
+{
+    let mut infos = Vec::with_capacity(report.alloc, report.labels.len())?;
+    let mut left_out = Vec::new(report.alloc);
+    for (position, label) in report.labels.iter().enumerate() {
+        match judge_fetched(report.config, cache, position, label)? {
+            Ok(info) => infos.push(info)?,
+            Err(reason) => left_out.push(LeftOut {
+                label: position,
+                reason,
+            })?,
+        }
+    }
+    Ok(Judged { infos, left_out })
+}
+
+/// Fetches the source of the label at `position` of a report, and judges the label over it.
+///
+/// On `Err` the cache had no memory for the source.
+fn judge_fetched<S: Span, C: Cache<S::SourceId>>(
+    config: Config,
+    cache: &mut C,
+    position: usize,
+    label: &Label<S>,
+) -> Result<Result<LabelInfo, Reason<C::Error>>, AllocError>
+    requires { C.can_fetch cache.old }
+    ensures again { C.can_fetch cache.new }
+    ensures naming { (q : S.SourceId) → C.names cache.new q ≡ C.names cache.old q }
+    ensures grows { GrowsFor S.source_of S.SourceId.eq (label.now ∷ [])
+        (C.contents cache.old) (C.contents cache.new) }
+    ensures forward { S.start_of label.now.span ≤ S.end_of label.now.span }
+    ensures judged { let old = world S.source_of S.start_of S.end_of S.SourceId.eq
+        (C.names cache.old) (C.contents cache.old) in
+        let w = world S.source_of S.start_of S.end_of S.SourceId.eq
+        (C.names cache.new) (C.contents cache.new) in
+        IfOk result (IsOutcome C.fails old w config position label.now) }
+{
+    let id = label.span().source();
+    match C::ensure(cache, id) {
+        Ok(()) => {}
+        Err(FetchError::Memory(error)) => return Err(error),
+        Err(FetchError::Failed(error)) => return Ok(Err(Reason::Unfetched(error))),
+    }
+    let Some(source) = C::get(cache, id) else {
+        unreachable!();
+    };
+    match judge(config, source, position, label) {
+        Verdict::Accepted(info) => Ok(Ok(info)),
+        Verdict::PastSource => Ok(Err(Reason::PastSource)),
+        Verdict::CutsCharacter => Ok(Err(Reason::CutsCharacter)),
+    }
+}
+
+/// Judges the label at `position` of a report, whose source is held.
+///
+/// The offset one past the end of the source is taken as its end, since a parser that runs out of
+/// input points there.
+fn judge<S: Span, I: SourceText>(
+    config: Config,
+    source: &Source<I>,
+    position: usize,
+    label: &Label<S>,
+) -> Verdict
+    ensures verdict { result ≡ verdict config source.now position label.now
+        (S.start_of label.now.span) (S.end_of label.now.span) }
+{
+    let index_type = config.index_type();
+    let size = text_len(index_type, source);
+    let start = label.span().start();
+    let end = label.span().end();
+    if start > size || end.saturating_sub(size) > 1 {
+        return Verdict::PastSource;
+    }
+    let Some(start) = offset_in_chars(index_type, source, start) else {
+        return Verdict::CutsCharacter;
+    };
+    let Some(end) = offset_in_chars(index_type, source, end.min(size)) else {
+        return Verdict::CutsCharacter;
+    };
+    let attach = config.label_attach();
+    Verdict::Accepted(label_info(attach, source, position, label, start, end))
+}
+
+/// The length of a source in what offsets count.
+fn text_len<I: SourceText>(index_type: IndexType, source: &Source<I>) -> usize
+    ensures { result ≡ counted_len index_type (chars source.now.text) }
+{
+    match index_type {
+        IndexType::Byte => source.text().len(),
+        IndexType::Char => source.len(),
+    }
+}
+
+/// An offset in characters, or `None` where it lies inside a character or past the source.
+pub fn offset_in_chars<I: SourceText>(
+    index_type: IndexType,
+    source: &Source<I>,
+    offset: usize,
+) -> Option<usize>
+    ensures { result ≡ in_chars index_type (chars source.now.text) offset }
+{
+    match index_type {
+        IndexType::Byte => char_offset(source, offset),
+        IndexType::Char => Some(offset),
+    }
+}
+
+/// How many characters the bytes of a source before `byte_offset` are, or `None` where that offset
+/// lies inside a character or past the source.
+///
+/// On a line with as many bytes as characters this looks at no character, and else at those of the
+/// line before the offset.
+fn char_offset<I: SourceText>(source: &Source<I>, byte_offset: usize) -> Option<usize>
+    ensures { result ≡ chars_before (chars source.now.text) byte_offset }
+{
+    if !source.text().is_char_boundary(byte_offset) {
+        return None;
+    }
+    let (line, _, byte_column) = source.get_byte_line(byte_offset)?;
+    let text = source.get_line_text(line)?;
+    if text.len() == line.len() {
+        return Some(line.offset() + byte_column);
+    }
+    Some(line.offset() + text[..byte_column].chars().count())
+}
+
+/// A label over characters that the source has.
+fn label_info<S: Span, I: SourceText>(
+    attach: LabelAttach,
+    source: &Source<I>,
+    position: usize,
+    label: &Label<S>,
+    start: usize,
+    end: usize,
+) -> LabelInfo
+    requires forward { start ≤ end }
+    requires ends_within { end ≤ length (chars source.now.text) }
+    ensures { result ≡ info_of attach (listed_lines source.now) position label.now start end }
+{
+    let last = end.saturating_sub(1).max(start);
+    let (line, start_line, start_place) = source.get_offset_line(start).unwrap();
+    let (end_line, end_place) = later_location(source, line, start_line, last);
+    let attached = attach_offset(attach, start, end);
+    LabelInfo {
+        position,
+        start,
+        end,
+        start_line,
+        start_place,
+        end_line,
+        end_place,
+        attach: attached.saturating_sub(line.offset()),
+        order: label.order(),
+        priority: label.priority(),
+        has_message: label.message().is_some(),
+    }
+}
+
+/// The number of the line of an offset that is not before `line`, and the offset's place in it.
+/// Where that is `line` itself, whose number is `number`, nothing is searched.
+fn later_location<I: SourceText>(
+    source: &Source<I>,
+    line: Line,
+    number: usize,
+    offset: usize,
+) -> (usize, usize)
+    requires number { number < length (listed_lines source.now) }
+    requires line { line ≡ line_extent (listed_lines source.now) number }
+    requires behind { line.offset ≤ offset }
+    requires within { offset ≤ length (chars source.now.text) }
+    ensures line { result.0 ≡ line_at length (listed_lines source.now) offset }
+    ensures place { result.1 ≡ column_at length (listed_lines source.now) offset }
+{
+    let place = offset - line.offset();
+    if place < line.len() {
+        return (number, place);
+    }
+    let (_, number, place) = source.get_offset_line(offset).unwrap();
+    (number, place)
+}
+
+/// The offset that an arrow is attached to.
+#[tactic(auto, using(crate::proofs::Accepting::halfway), unfolding(ariadne_picture::specs::Accept::attach_offset))]
+fn attach_offset(attach: LabelAttach, start: usize, end: usize) -> usize
+    requires forward { start ≤ end }
+    ensures { result ≡ attached_offset attach start end }
+{
+    match attach {
+        LabelAttach::Start => start,
+        LabelAttach::Middle => start + (end - start) / 2,
+        LabelAttach::End => end.saturating_sub(1).max(start),
+    }
+}

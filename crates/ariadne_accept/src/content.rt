@@ -1,0 +1,112 @@
+//! The content of a report, as its builder makes it and as it is judged and drawn.
+
+ghost use Rattle.std.specs.Prelude.{◌≡◌, map, string_bytes};
+ghost use Rattle.std.specs.Option.{option_copied};
+
+use ariadne_base::Span;
+use ariadne_labels::config::Config;
+use ariadne_labels::kind::ReportKind;
+use ariadne_labels::label::Label;
+use std::alloc::Global;
+use std::marker::Model;
+use std::ops::Range;
+
+/// What a report says of which pieces of sources, and the allocator that it is drawn with. The
+/// builder of reports sets its fields; what draws it reads it by its calls.
+#[derive(Drop)]
+pub struct Content<'a, S: Span = Range<usize>> {
+    pub kind: ReportKind<'a>,
+    pub code: Option<String>,
+    pub message: Option<String>,
+    pub span: S,
+    pub labels: Vec<Label<S>>,
+    pub notes: Vec<String>,
+    pub helps: Vec<String>,
+    pub config: Config,
+    pub alloc: Global,
+}
+
+impl<'a, S: Span> Model for Content<'a, S> {
+    ghost use Rattle.std.specs.Prelude.{map, option_map, string_bytes};
+    ghost use Rattle.ariadne_picture.specs.Report.{ReportFields};
+    ghost use Rattle.ariadne_labels.specs.Kinds.{kind_of};
+
+    ghost Value = { ReportFields S };
+
+    ghost view = { λ a. record {
+      kind = kind_of a.kind;
+      code = option_map string_bytes a.code;
+      message = option_map string_bytes a.message;
+      span = a.span;
+      labels = a.labels.items;
+      notes = map string_bytes a.notes.items;
+      helps = map string_bytes a.helps.items;
+      config = a.config;
+    } };
+}
+
+impl<'a, S: Span> Content<'a, S> {
+    ghost use Rattle.ariadne_picture.specs.Canvas.{texts_of};
+
+    /// What stands in brackets in front of its kind.
+    pub fn code(&self) -> Option<&str>
+        ensures { option_copied result ≡ self.now.code }
+    {
+        self.code.as_deref()
+    }
+
+    /// What its header says.
+    pub fn message(&self) -> Option<&str>
+        ensures { option_copied result ≡ self.now.message }
+    {
+        self.message.as_deref()
+    }
+
+    /// What the label at `position` says, or nothing.
+    pub fn message_of(&self, position: usize) -> &str
+        ensures { result.now ≡ (texts_of self.now).message_of position }
+    {
+        if position >= self.labels.len() {
+            return "";
+        }
+        match self.labels[position].message() {
+            Some(message) => message,
+            None => "",
+        }
+    }
+
+    /// Its labels.
+    pub fn labels(&self) -> &[Label<S>]
+        ensures { result.now ≡ self.now.labels }
+    {
+        &self.labels
+    }
+
+    /// The texts of its helps.
+    pub fn helps(&self) -> &[String]
+        ensures { map string_bytes result.now ≡ self.now.helps }
+    {
+        &self.helps
+    }
+
+    /// Those of its notes.
+    pub fn notes(&self) -> &[String]
+        ensures { map string_bytes result.now ≡ self.now.notes }
+    {
+        &self.notes
+    }
+
+    /// The place that its header names.
+    pub fn span(&self) -> &S
+        ensures { result.now ≡ self.now.span }
+    {
+        &self.span
+    }
+
+    /// How it is drawn.
+    pub fn config(&self) -> Config
+        ensures { result ≡ self.now.config }
+    {
+        self.config
+    }
+}

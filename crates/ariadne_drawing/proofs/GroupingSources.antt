@@ -1,0 +1,187 @@
+-- The labels of a group are over one source, and lie in its lines.
+use Rattle.std.proofs.Common.{◌≡◌, ℕ, suc, ◌+◌, ◌<◌, ◌||◌, Bool, true, false, max, List, [], ◌∷◌, Option, Some, refl, sym, ap, ◌∙◌, length, get_or, arith, subst}
+use Rattle.std.specs.Cmp.{IsEquivalence}
+use Rattle.std.specs.HashMap.Eq.{lookup_congr}
+use Rattle.std.specs.Prelude.{slice_get, option_and_then, option_map, unwrap_or, nat_lt, not}
+use Rattle.std.specs.List.{AllByRecursion}
+use Rattle.std.specs.List.{slice_range}
+use Rattle.std.proofs.Common.{◌-◌, drop, take}
+use Rattle.std.specs.Prelude.{chars, decimal}
+use Rattle.std.proofs.lemmas.Option.{slice_get-get_or, slice_get_within}
+use Rattle.ariadne_base.proofs.LineLaws.{some_line}
+use Rattle.ariadne_picture.proofs.Labels.Cutting.{groups-exist}
+use Rattle.ariadne_base.specs.Cache.{held}
+use Rattle.ariadne_base.specs.Listing.{Listing, listed_lines}
+use Rattle.ariadne_picture.specs.declared.label_info.LabelInfo.{LabelInfo}
+use Rattle.ariadne_picture.specs.Canvas.{label_id, is_same_id, same_source, group_id, group_source, number_width}
+use Rattle.ariadne_picture.specs.Groups.{is_cut, group_end_line, greatest, HasNoCut, AreCut, groups_of, number_len, printed_number}
+use Rattle.ariadne_picture.specs.Report.{HaveOneSource, LabelFields, ReportFields, World}
+use Rattle.ariadne_picture.proofs.Lists.ListFacts.{all-weaker}
+use Rattle.ariadne_accept.specs.Drawn.{AreDrawn, AreThere, IsDrawn}
+use Rattle.ariadne_drawing.specs.Lines.{AreOverLines, IsOverLines}
+use Rattle.ariadne_drawing.proofs.Grouping.{NoCuts, all_at, all_range, cut_first, range_first}
+use Rattle.ariadne_drawing.proofs.OverLines.{over-lines}
+
+-- equal ids find one source
+pub one_source : {Id : Type 0} (eq : Id → Id → Bool) → IsEquivalence eq → (contents : List (Id × Listing)) (p q : Id) → eq p q ≡ true
+    → held eq contents p ≡ held eq contents q
+one_source eq laws contents p q t = lookup_congr eq laws.congr contents p q t
+
+-- the last line of a group is a line
+pub end_below : (n : ℕ) (group : List LabelInfo) → 0 < n → AllByRecursion (λ a. a.end_line < n) group → group_end_line group < n
+unfolding group_end_line greatest
+end_below n [] h a = h
+end_below n (x ∷ group) h a = let rest : group_end_line group < n = end_below n group h a.1 in omega (arith, a.0)
+
+-- a false test of two has two false parts
+or_false : (a b : Bool) → (not a || b) ≡ false → a ≡ true
+or_false true b h = refl
+or_false false b h = let f : true ≡ false = h in cc
+
+module _ {S Id : Type 0} (w : World S Id) (r : ReportFields S) where
+  -- the id of the label at a position
+  pub id_is : (k : ℕ) (x : LabelFields S) → slice_get r.labels k ≡ Some x → label_id w r k ≡ Some (w.id_of x.span)
+  unfolding label_id
+  id_is k x e = ap (option_map (λ label. w.id_of label.span)) e
+
+  -- a label that is there
+  pub label_there : (k : ℕ) (labels : List (LabelFields S)) (x : LabelFields S) → labels ≡ r.labels → x ≡ get_or labels k x → k < length r.labels
+      → slice_get r.labels k ≡ Some x
+  label_there k labels x same e h = slice_get-get_or r.labels k x h ∙ ap Some (ap (λ ls. get_or ls k x) (sym same) ∙ sym e)
+
+  -- when two labels are over one source
+  pub same_is : (j k : ℕ) (x y : LabelFields S) → slice_get r.labels j ≡ Some x → slice_get r.labels k ≡ Some y
+      → same_source w r j k ≡ w.is_same (w.id_of x.span) (w.id_of y.span)
+  unfolding same_source is_same_id
+  same_is j k x y e f = ap (λ i. is_same_id w r i (label_id w r k)) (id_is j x e) ∙ ap (λ i. is_same_id w r (Some (w.id_of x.span)) i) (id_is k y f)
+
+  module _ (a b : LabelInfo) (x y : LabelFields S) (p q : Id) (n : Bool) (first : slice_get r.labels a.position ≡ Some x)
+      (second : slice_get r.labels b.position ≡ Some y) (ex : p ≡ w.id_of x.span) (ey : q ≡ w.id_of y.span) (e : n ≡ not (w.is_same p q)) where
+    -- whether a cut stands between them
+    cut_is : is_cut (same_source w r) a b ≡ (n || nat_lt b.end_line a.end_line)
+    unfolding is_cut
+    cut_is =
+        let ids : w.is_same p q ≡ same_source w r a.position b.position =
+        ap (λ i. w.is_same i q) ex ∙ ap (λ i. w.is_same (w.id_of x.span) i) ey ∙ sym (same_is a.position b.position x y first second) in
+        ap (λ s. not s || nat_lt b.end_line a.end_line) (sym ids) ∙ ap (λ s. s || nat_lt b.end_line a.end_line) (sym e)
+
+    -- their ids differ
+    pub cut_by_ids : n ≡ true → n ≡ is_cut (same_source w r) a b
+    cut_by_ids h = h ∙ sym (cut_is ∙ ap (λ s. s || nat_lt b.end_line a.end_line) h)
+
+    -- they don't: the lines tell
+    pub cut_by_lines : n ≡ false → nat_lt b.end_line a.end_line ≡ is_cut (same_source w r) a b
+    cut_by_lines h = sym (cut_is ∙ ap (λ s. s || nat_lt b.end_line a.end_line) h)
+
+  -- labels that are drawn are there
+  pub drawn_there : (infos : List LabelInfo) → AreDrawn w r infos → AreThere r infos
+  drawn_there infos d = all-weaker (IsDrawn w r) (λ a. a.position < length r.labels) infos (λ a d. slice_get_within r.labels a.position d.label d.there) d
+
+  -- the source of a group is that of its first label
+  pub source_is : (a : LabelInfo) (group : List LabelInfo) (d : IsDrawn w r a) → group_source w r (a ∷ group) ≡ d.source
+  unfolding group_source group_id
+  source_is a group d =
+      let none : Listing = record { text = []; display_offset = 0 } in
+      ap (λ o. unwrap_or (option_and_then w.source_of o) none) (id_is a.position d.label d.there) ∙ ap (λ o. unwrap_or o none) d.is_held
+
+  module _ (one : HaveOneSource w) where
+    -- labels without a cut lie in the lines of the source of the first
+    over_rest : (a : LabelInfo) (group : List LabelInfo) (d : IsDrawn w r a) → AreDrawn w r group → HasNoCut (same_source w r) a group
+        → (source : Listing) → d.source ≡ source → AreOverLines (listed_lines source) (a ∷ group)
+    unfolding is_cut
+    over_rest a [] d ds h source e = (subst (λ s. IsOverLines (listed_lines s) a) e (over-lines w r a d), tt)
+    over_rest a (b ∷ group) d ds h source e =
+        let same : same_source w r a.position b.position ≡ true = or_false (same_source w r a.position b.position) (nat_lt b.end_line a.end_line) h.0 in
+        let next = ds.0 in
+        let ids : w.is_same (w.id_of d.label.span) (w.id_of next.label.span) ≡ true =
+        sym (same_is a.position b.position d.label next.label d.there next.there) ∙ same in
+        let found : Some d.source ≡ Some next.source = sym d.is_held ∙ one (w.id_of d.label.span) (w.id_of next.label.span) ids ∙ next.is_held in
+        let equal : next.source ≡ source = cc in
+        (subst (λ s. IsOverLines (listed_lines s) a) e (over-lines w r a d), over_rest b group next ds.1 h.1 source equal)
+
+    -- so do those of a group
+    pub over_group : (group : List LabelInfo) → AreDrawn w r group → NoCuts (same_source w r) group
+        → AreOverLines (listed_lines (group_source w r group)) group
+    over_group [] d h = tt
+    over_group (a ∷ group) d h = over_rest a group d.0 d.1 h (group_source w r (a ∷ group)) (sym (source_is a group d.0))
+
+  -- the source that is found for a label that is drawn
+  pub found_source : (a : LabelInfo) (d : IsDrawn w r a) (x : LabelFields S) → slice_get r.labels a.position ≡ Some x → (id : Id) → id ≡ w.id_of x.span
+      → (o : Option Listing) → o ≡ w.source_of id → (source : Listing) → o ≡ Some source → d.source ≡ source
+  found_source a d x there id is o get source found =
+      let label : Some d.label ≡ Some x = sym d.there ∙ there in
+      let same : d.label ≡ x = cc in
+      let ids : w.id_of d.label.span ≡ id = ap (λ (y : LabelFields S). w.id_of y.span) same ∙ sym is in
+      let both : Some d.source ≡ Some source = sym d.is_held ∙ ap w.source_of ids ∙ sym get ∙ found in
+      cc
+
+  -- the label that is drawn at `start`, whose source is the one that is found for it
+  pub found_first : (infos : List LabelInfo) (start : ℕ) (none : LabelInfo) → start < length infos → AreDrawn w r infos
+      → (labels : List (LabelFields S)) (x : LabelFields S) → labels ≡ r.labels → x ≡ get_or labels (get_or infos start none).position x
+      → (id : Id) → id ≡ w.id_of x.span → (o : Option Listing) → o ≡ w.source_of id → (source : Listing) → o ≡ Some source
+      → (d : IsDrawn w r (get_or infos start none)) × (d.source ≡ source)
+  found_first infos start none high drawn labels x same at id is o get source found =
+      let a : LabelInfo = get_or infos start none in
+      let d : IsDrawn w r a = all_at (IsDrawn w r) infos start none high drawn in
+      let there = all_at (λ (a : LabelInfo). a.position < length r.labels) infos start none high (drawn_there infos drawn) in
+      (d, found_source a d x (label_there a.position labels x same at there) id is o get source found)
+
+  -- a source is there for it
+  pub source_there : (a : LabelInfo) (d : IsDrawn w r a) (x : LabelFields S) → slice_get r.labels a.position ≡ Some x → (id : Id) → id ≡ w.id_of x.span
+      → (o : Option Listing) → o ≡ w.source_of id → o ≡ Some d.source
+  source_there a d x there id is o get =
+      let label : Some d.label ≡ Some x = sym d.there ∙ there in
+      let same : d.label ≡ x = cc in
+      let ids : w.id_of d.label.span ≡ id = ap (λ (y : LabelFields S). w.id_of y.span) same ∙ sym is in
+      get ∙ ap w.source_of (sym ids) ∙ d.is_held
+
+  -- how wide the numbers of groups are, by the first and the others
+  pub width_more : (g : List LabelInfo) (gs : List (List LabelInfo)) (n : ℕ) → n ≡ group_end_line g + 1 + (group_source w r g).display_offset
+      → number_width w r (g ∷ gs) ≡ max (length (decimal n)) (number_width w r gs)
+  unfolding number_width number_len printed_number
+  width_more g gs n e = ap (λ k. max (length (decimal k)) (number_width w r gs)) (sym e)
+
+  -- no group has no width
+  pub width_none : number_width w r (groups_of (same_source w r) []) ≡ 0
+  unfolding number_width groups_of
+  width_none = refl
+
+  -- a group that begins at `start` and ends before `end`
+  module _ (one : HaveOneSource w) (infos : List LabelInfo) (start end : ℕ) (drawn : AreDrawn w r infos) (after : start < end) (high : start < length infos) where
+    -- its source is that of its first label
+    pub range_source : (x : LabelInfo) (d : IsDrawn w r (get_or infos start x)) → group_source w r (slice_range infos start end) ≡ d.source
+    range_source x d =
+        ap (group_source w r) (range_first infos start end x after high) ∙ source_is (get_or infos start x) (take (end - suc start) (drop (suc start) infos)) d
+
+    module _ (gs : List (List LabelInfo)) (cut : groups_of (same_source w r) (drop start infos) ≡ slice_range infos start end ∷ gs) where
+      -- its labels lie in the lines of its source
+      pub range_over : AreOverLines (listed_lines (group_source w r (slice_range infos start end))) (slice_range infos start end)
+      range_over =
+          over_group one (slice_range infos start end) (all_range (IsDrawn w r) infos start end drawn)
+          (cut_first (same_source w r) (slice_range infos start end) gs
+          (subst (AreCut (same_source w r)) cut (groups-exist (same_source w r) (drop start infos)).cut))
+
+      -- its last line is one of them
+      pub range_end : group_end_line (slice_range infos start end) < length (listed_lines (group_source w r (slice_range infos start end)))
+      range_end =
+          let ls = listed_lines (group_source w r (slice_range infos start end)) in
+          end_below (length ls) (slice_range infos start end) (some_line (chars (group_source w r (slice_range infos start end)).text))
+          (all-weaker (IsOverLines ls) (λ a. a.end_line < length ls) (slice_range infos start end) (λ a o. o.within) range_over)
+
+      -- the number of that line
+      pub range_number : (source : Listing) (x : LabelInfo) (d : IsDrawn w r (get_or infos start x)) → d.source ≡ source
+          → group_end_line (slice_range infos start end) < length (listed_lines source)
+      range_number source x d e =
+          subst (λ s. group_end_line (slice_range infos start end) < length (listed_lines s)) (range_source x d ∙ e) range_end
+
+      -- a step of the loop for the width
+      pub range_width : (source : Listing) (x : LabelInfo) (d : IsDrawn w r (get_or infos start x)) → d.source ≡ source → (n width new all : ℕ)
+          → n ≡ group_end_line (slice_range infos start end) + 1 + source.display_offset → new ≡ max width (length (decimal n))
+          → all ≡ max width (number_width w r (groups_of (same_source w r) (drop start infos))) → all ≡ max new (number_width w r gs)
+      range_width source x d e n width new all is more so_far =
+          let o : source.display_offset ≡ (group_source w r (slice_range infos start end)).display_offset =
+          ap (λ (s : Listing). s.display_offset) (sym (range_source x d ∙ e)) in
+          let m : n ≡ group_end_line (slice_range infos start end) + 1 + (group_source w r (slice_range infos start end)).display_offset = omega arith in
+          let wide : number_width w r (groups_of (same_source w r) (drop start infos)) ≡ max (length (decimal n)) (number_width w r gs) =
+          ap (number_width w r) cut ∙ width_more (slice_range infos start end) gs n m in
+          omega arith

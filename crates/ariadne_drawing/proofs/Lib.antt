@@ -1,0 +1,17 @@
+pub mod GroupParts
+pub mod GroupRows
+pub mod Grouping
+pub mod GroupingSources
+pub mod GroupingWidths
+pub mod HeaderLocations
+pub mod LinesBounds
+pub mod LinesHidden
+pub mod LinesLayout
+pub mod LinesPaints
+pub mod LinesQuiet
+pub mod LinesRows
+pub mod LinesShown
+pub mod LinesWalk
+pub mod Offsets
+pub mod OverLines
+pub mod WholePictures

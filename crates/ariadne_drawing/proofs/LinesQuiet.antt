@@ -1,0 +1,59 @@
+-- A line none of whose labels has a message: it has no rows below, and its bars stay.
+use Rattle.std.proofs.Common.{◌≡◌, ◌∙◌, ℕ, zero, suc, ◌+◌, ◌≤◌, Bool, true, false, ◌||◌, List, [], ◌∷◌, length, refl, sym, ap, subst, arith}
+use Rattle.std.proofs.Common.{Some, inl, inr}
+use Rattle.std.specs.Prelude.{slice_get}
+use Rattle.std.specs.List.{AllByRecursion, enumerate_from, list_any}
+use Rattle.std.proofs.lemmas.Bool.{cases_Bool, true≢false}
+use Rattle.ariadne_picture.specs.declared.label_info.LineLabel.{LineLabel}
+use Rattle.ariadne_picture.specs.Bars.{EndsNoEarlier}
+use Rattle.ariadne_picture.specs.Columns.{Layout, layout_of}
+use Rattle.ariadne_picture.specs.Lists.{joined}
+use Rattle.ariadne_picture.specs.Ranks.{Sheet, is_inline, line_labels}
+use Rattle.ariadne_picture.specs.Rows.{label_rows}
+use Rattle.ariadne_rows.specs.Gutters.{GutterFields, IsBelow}
+use Rattle.ariadne_rows.proofs.GutterSteps.{below-next_inline, end-message}
+use Rattle.ariadne_drawing.proofs.LinesRows.{label-none, some-label}
+
+-- neither of two tests passed
+or-none : (a b : Bool) → (a || b) ≡ false → (a ≡ false) × (b ≡ false)
+or-none true b e = absurd (true≢false e)
+or-none false b e = (refl, e)
+
+-- a label that passes no test of any
+quiet-at : (xs : List LineLabel) (r : ℕ) (x : LineLabel) → list_any (λ x. x.info.has_message) xs ≡ false → slice_get xs r ≡ Some x
+    → x.info.has_message ≡ false
+quiet-at [] r x e there = cc
+quiet-at (y ∷ xs) zero x e there =
+    let parts = or-none y.info.has_message (list_any (λ x. x.info.has_message) xs) e in
+    let same : y ≡ x = cc in ap (λ (z : LineLabel). z.info.has_message) (sym same) ∙ parts.0
+quiet-at (y ∷ xs) (suc r) x e there =
+    let parts = or-none y.info.has_message (list_any (λ x. x.info.has_message) xs) e in quiet-at xs r x parts.1 there
+
+-- no rows
+pub quiet-rows : (compact : Bool) (l n : ℕ) (xs : List LineLabel) → list_any (λ x. x.info.has_message) xs ≡ false
+    → [] ≡ joined (label_rows compact l) (enumerate_from n xs)
+unfolding joined
+quiet-rows compact l n [] e = refl
+quiet-rows compact l n (x ∷ xs) e =
+    let parts = or-none x.info.has_message (list_any (λ x. x.info.has_message) xs) e in
+    rw (label-none compact l n x parts.0) (quiet-rows compact l (n + 1) xs parts.1)
+
+-- the bars stay
+pub quiet-bars : (s : Sheet) (l k : ℕ) (g : GutterFields) → AllByRecursion EndsNoEarlier s.labels → IsBelow s l 0 g
+    → list_any (λ x. x.info.has_message) (line_labels s l) ≡ false → k ≤ length (line_labels s l) → IsBelow s l k g
+quiet-bars s l zero g rise b e h = b
+quiet-bars s l (suc k) g rise b e h =
+    let before = quiet-bars s l k g rise b e (omega arith) in
+    let some = some-label (line_labels s l) k (omega arith) in
+    let quiet = quiet-at (line_labels s l) k some.0 e some.1 in
+    let inline : is_inline some.0.side ≡ true = elim (cases_Bool (is_inline some.0.side)) [
+      | inl t ↦ t
+      | inr f ↦ absurd (true≢false (sym (end-message s l k some.0 some.1 f) ∙ quiet))
+    ] in
+    let next : k + 1 ≡ suc k = omega arith in
+    subst (λ n. IsBelow s l n g) next (below-next_inline s l k some.0 g rise before some.1 inline)
+
+-- the labels of a layout are those of its line
+pub layout-labels : (s : Sheet) (l : ℕ) (y : Layout) → y ≡ layout_of s l → y.labels ≡ line_labels s l
+unfolding layout_of
+layout-labels s l y e = ap (λ (z : Layout). z.labels) e

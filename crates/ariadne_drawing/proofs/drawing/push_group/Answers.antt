@@ -1,0 +1,76 @@
+-- The lines and the gutter are those of the group; above, between and below stand its rows.
+use Rattle.std.proofs.Common.{◌≡◌, ◌∙◌, ap, sym, subst}
+use Rattle.std.proofs.lemmas.Result.{on_ok_weaker}
+use Rattle.ariadne_base.specs.Listing.{Listing, listed_lines}
+use Rattle.ariadne_cells.specs.Pages.{PageFields}
+use Rattle.ariadne_picture.specs.Canvas.{section_of, texts_of}
+use Rattle.ariadne_rows.specs.Gutters.{GutterFields}
+use Rattle.ariadne_accept.specs.Drawn.{world}
+use Rattle.ariadne_drawing.specs.Lines.{AreOverLines}
+use Rattle.ariadne_drawing.proofs.GroupRows.{rows_page}
+use Rattle.ariadne_drawing.proofs.GroupParts.{section_gutter, section_labels, section_last, section_page, section_source, section_switches, texts_switches}
+use Rattle.ariadne_drawing.proofs.GroupParts.{whole_group}
+use Rattle.ariadne_drawing.proofs.drawing.push_group.Goals as goal
+
+-- the texts have the switches of the page
+pub push_lines-requires-clause-texts : goal.push_lines-requires-clause-texts
+push_lines-requires-clause-texts g c =
+    texts_switches c.args.report.now ∙ sym c.requires.switches ∙ ap (λ (p : PageFields). p.switches) (sym c.in_ok-source.ensures.page)
+
+-- the labels lie in the lines of the source
+pub push_lines-requires-clause-over : goal.push_lines-requires-clause-over
+push_lines-requires-clause-over g c =
+    subst (λ (s : Listing). AreOverLines (listed_lines s) c.args.lists.now.sheet.labels) (sym c.in_ok-source.ensures.source) c.requires.over
+
+-- the lines leave the page too, and there is such a group
+pub push_foot-requires : goal.push_foot-requires
+push_foot-requires g c =
+    let w = world g.S.Span.source_of g.S.Span.start_of g.S.Span.end_of g.S.SourceId.PartialEq.eq (g.C.Cache.names c.args.cache.now)
+    (g.C.Cache.contents c.args.cache.now) in
+    let r = c.args.report.now in
+    let labels = c.args.lists.now.sheet.labels in
+    let switches = c.requires.switches in
+    let page = c.in_ok-source.ensures.page in
+    let same = ap (λ (p : PageFields). p.switches) page ∙ switches in
+    let s = section_of w r 0 (0, labels) in
+    let drawn = section_source w r 0 0 labels c.push_group_head.new.pen.page same c.in_ok-source.source.now c.in_ok-source.ensures.source in
+    let lines = c.in_ok-push_lines.ensures.drawn s drawn in
+    let behind : c.push_lines.new.pen.page ≡ c.push_group_head.new.pen.page = rows_page c.push_group_head.new.pen c.push_lines.new.pen _ lines in
+    let gutter : c.push_lines.new.lists.gutter.page ≡ c.args.lists.now.gutter.page =
+    c.in_ok-push_lines.ensures.page ∙ ap (λ (x : GutterFields). x.page) c.in_ok-begin.ensures in
+    let on_page = section_page w r 0 0 labels c.push_lines.new.pen.page (ap (λ (p : PageFields). p.switches) behind ∙ same) in
+    let of_sheet =
+    section_gutter w r 0 0 labels c.push_lines.new.lists.gutter (ap (λ (p : PageFields). p.switches) (gutter ∙ c.requires.page) ∙ switches)
+    c.gutter_labels.result.now c.gutter_labels.ensures
+    (c.in_ok-push_lines.ensures.positions ∙ ap (λ (x : GutterFields). x.positions) c.in_ok-begin.ensures) in
+    record {
+      page = gutter ∙ c.requires.page ∙ sym page ∙ sym behind;
+      group = (s, on_page, of_sheet);
+    }
+
+-- the rows stand one after another
+pub returns-clause-drawn : goal.returns-clause-drawn
+returns-clause-drawn g c = λ n k is_first is_last.
+    let w = world g.S.Span.source_of g.S.Span.start_of g.S.Span.end_of g.S.SourceId.PartialEq.eq (g.C.Cache.names c.args.cache.now)
+    (g.C.Cache.contents c.args.cache.now) in
+    let r = c.args.report.now in
+    let labels = c.args.lists.now.sheet.labels in
+    let switches = c.requires.switches in
+    let page = c.in_ok-source.ensures.page in
+    let same = ap (λ (p : PageFields). p.switches) page ∙ switches in
+    let s = section_of w r n (k, labels) in
+    let drawn = section_source w r n k labels c.push_group_head.new.pen.page same c.in_ok-source.source.now c.in_ok-source.ensures.source in
+    let lines = c.in_ok-push_lines.ensures.drawn s drawn in
+    let behind : c.push_lines.new.pen.page ≡ c.push_group_head.new.pen.page = rows_page c.push_group_head.new.pen c.push_lines.new.pen _ lines in
+    let gutter : c.push_lines.new.lists.gutter.page ≡ c.args.lists.now.gutter.page =
+    c.in_ok-push_lines.ensures.page ∙ ap (λ (x : GutterFields). x.page) c.in_ok-begin.ensures in
+    let on_page = section_page w r n k labels c.push_lines.new.pen.page (ap (λ (p : PageFields). p.switches) behind ∙ same) in
+    let of_sheet =
+    section_gutter w r n k labels c.push_lines.new.lists.gutter (ap (λ (p : PageFields). p.switches) (gutter ∙ c.requires.page) ∙ switches)
+    c.gutter_labels.result.now c.gutter_labels.ensures
+    (c.in_ok-push_lines.ensures.positions ∙ ap (λ (x : GutterFields). x.positions) c.in_ok-begin.ensures) in
+    let last = section_last w r n k labels ∙ sym is_last in
+    on_ok_weaker c.push_foot.result
+    (whole_group (texts_of r) s c.args.pen.now c.push_group_head.new.pen c.push_lines.new.pen c.push_foot.new.pen labels c.args.is_last
+    (section_switches w r n k labels ∙ sym switches) (section_labels w r n k labels) last (c.in_ok-source.ensures.drawn n k is_first) lines)
+    (c.push_foot.ensures s on_page of_sheet last)

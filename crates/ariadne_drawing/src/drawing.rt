@@ -1,0 +1,260 @@
+//! The picture of a report, as text: its header, and the rows of its groups.
+
+ghost use Rattle.std.specs.Prelude.{◌≡◌, ◌+◌, ◌<◌, ◌≤◌, ◌==◌, ◌++◌, ℕ, List, [], ◌∷◌, Option, Some};
+ghost use Rattle.std.specs.Prelude.{IfOk, OnOk, chars, if◌then◌else◌, length, map, slice_get};
+ghost use Rattle.std.specs.Prelude.{string_bytes};
+ghost use Rattle.std.specs.List.{enumerate_from};
+ghost use Rattle.ariadne_accept.specs.Drawn.{AreDrawn, world};
+ghost use Rattle.ariadne_drawing.specs.Lines.{AreOverLines};
+ghost use Rattle.ariadne_base.specs.Listing.{Listing, listed_lines};
+ghost use Rattle.ariadne_cells.specs.Pages.{DrawsRows};
+ghost use Rattle.ariadne_picture.specs.Canvas.{canvas, group_id, group_source, header_offset, palette_of};
+ghost use Rattle.ariadne_picture.specs.Canvas.{same_source, section_of, texts_of};
+ghost use Rattle.ariadne_picture.specs.Groups.{groups_of};
+ghost use Rattle.ariadne_picture.specs.Lists.{joined};
+ghost use Rattle.ariadne_picture.specs.Pieces.{Section, Texts, location_text, row_pieces};
+ghost use Rattle.ariadne_picture.specs.Pieces.{section_rows};
+ghost use Rattle.ariadne_picture.specs.Print.{printed};
+ghost use Rattle.ariadne_picture.specs.Report.{switches_of};
+ghost use Rattle.ariadne_picture.specs.Rows.{asides, group_header, help, note, spacer, tail};
+ghost use Rattle.ariadne_rows.specs.Gutters.{IsOfSheet};
+ghost use Rattle.ariadne_rows.specs.Headers.{IsOnPage, location_numbers};
+
+use crate::groups::{group_end, number_width};
+use crate::lines::{Lists, push_lines};
+use ariadne_accept::accept::offset_in_chars;
+use ariadne_accept::content::Content;
+use ariadne_base::{Cache, Source, SourceText, Span};
+use ariadne_cells::order::{ByOrder, put_in_order};
+use ariadne_cells::page::Page;
+use ariadne_cells::palette::Palette;
+use ariadne_cells::pen::Pen;
+use ariadne_cells::table::LineTable;
+use ariadne_picture::label_info::LabelInfo;
+use ariadne_rows::asides::{push_helps, push_notes};
+use ariadne_rows::gutter::Gutter;
+use ariadne_rows::headers::{push_group_header, push_header, push_spacer, push_tail};
+use ariadne_rows::sheet::GroupSheet;
+use std::alloc::AllocError;
+
+/// Draws the picture of accepted labels, whose sources the cache holds.
+///
+/// On `Err` there was no memory for it.
+pub fn draw<S: Span, C: Cache<S::SourceId>>(
+    report: &Content<'_, S>,
+    cache: &C,
+    infos: Vec<LabelInfo>,
+) -> Result<String, AllocError>
+    requires drawn { let w = world S.source_of S.start_of S.end_of S.SourceId.eq
+        (C.names cache.now) (C.contents cache.now) in AreDrawn w report.now infos.items }
+    ensures { let w = world S.source_of S.start_of S.end_of S.SourceId.eq
+        (C.names cache.now) (C.contents cache.now) in
+        IfOk result (λ text. string_bytes text ≡ printed (canvas w report.now infos.items)) }
+{
+    let mut infos = infos;
+    put_in_order(report.alloc, &ByOrder, &mut infos)?;
+    let width = number_width(report, cache, &infos);
+    let switches = report.config().switches();
+    let page = Page::new(report.alloc, palette(report)?, switches, width)?;
+    let mut pen = Pen::new(report.alloc, &page);
+    push_header(
+        &mut pen,
+        report.code(),
+        report.kind.name(),
+        report.message(),
+    )?;
+    push_groups(&mut pen, &page, report, cache, &infos)?;
+    Ok(pen.into_text())
+}
+
+/// The colours that the pieces of a report's picture may have.
+fn palette<S: Span>(report: &Content<'_, S>) -> Result<Palette, AllocError>
+    ensures { IfOk result (λ palette. palette ≡ palette_of report.now) }
+{
+    let mut labels = Vec::with_capacity(report.alloc, report.labels.len())?;
+    for label in &report.labels {
+        labels.push(label.color())?;
+    }
+    Ok(Palette {
+        is_on: report.config.is_colored(),
+        kind: report.kind.color(),
+        labels,
+    })
+}
+
+/// Writes the groups of labels in order.
+fn push_groups<'a, S: Span, C: Cache<S::SourceId>>(
+    pen: &mut Pen<'_>,
+    page: &'a Page,
+    report: &Content<'_, S>,
+    cache: &C,
+    infos: &'a [LabelInfo],
+) -> Result<(), AllocError>
+    requires page { pen.old.page ≡ page.now }
+    requires switches { page.now.switches ≡ switches_of report.now.config }
+    requires drawn { let w = world S.source_of S.start_of S.end_of S.SourceId.eq
+        (C.names cache.now) (C.contents cache.now) in AreDrawn w report.now infos.now }
+    ensures { let w = world S.source_of S.start_of S.end_of S.SourceId.eq
+        (C.names cache.now) (C.contents cache.now) in let r = report.now in
+        let gs = groups_of (same_source w r) infos.now in
+        OnOk result (DrawsRows pen.old pen.new
+        (joined (λ e. section_rows (texts_of r) page.now.number_width
+        (section_of w r (length gs) e)) (enumerate_from 0 gs))) }
+{
+    let mut lists = Lists {
+        sheet: GroupSheet::new(report.alloc),
+        gutter: Gutter::new(report.alloc, page),
+        labels: Vec::new(report.alloc),
+        table: LineTable::new(report.alloc),
+    };
+    let mut start = 0;
+    while start < infos.len() {
+        let end = group_end(report, infos, start);
+        let is_last = end == infos.len();
+        lists.sheet.fill(&infos[start..end])?;
+        push_group(pen, &mut lists, report, cache, start == 0, is_last)?;
+        start = end;
+    }
+    Ok(())
+}
+
+/// Writes the rows of a group, whose labels are those of `lists.sheet`.
+fn push_group<S: Span, C: Cache<S::SourceId>>(
+    pen: &mut Pen<'_>,
+    lists: &mut Lists<'_>,
+    report: &Content<'_, S>,
+    cache: &C,
+    is_first: bool,
+    is_last: bool,
+) -> Result<(), AllocError>
+    requires page { lists.old.gutter.page ≡ pen.old.page }
+    requires switches { pen.old.page.switches ≡ switches_of report.now.config }
+    requires line { lists.old.sheet.line ≡ 0 }
+    requires labels { 0 < length lists.old.sheet.labels }
+    requires drawn { let w = world S.source_of S.start_of S.end_of S.SourceId.eq
+        (C.names cache.now) (C.contents cache.now) in
+        AreDrawn w report.now lists.old.sheet.labels }
+    requires over { let w = world S.source_of S.start_of S.end_of S.SourceId.eq
+        (C.names cache.now) (C.contents cache.now) in let labels = lists.old.sheet.labels in
+        AreOverLines (listed_lines (group_source w report.now labels)) labels }
+    ensures page { OnOk result (lists.new.gutter.page ≡ lists.old.gutter.page) }
+    ensures drawn { let w = world S.source_of S.start_of S.end_of S.SourceId.eq
+        (C.names cache.now) (C.contents cache.now) in let r = report.now in
+        (n k : ℕ) → is_first ≡ (k == 0) → is_last ≡ (k + 1 == n) →
+        OnOk result (DrawsRows pen.old pen.new
+        (section_rows (texts_of r) pen.old.page.number_width
+        (section_of w r n (k, lists.old.sheet.labels)))) }
+{
+    let source = push_group_head(pen, &lists.sheet, report, cache, is_first)?;
+    lists.gutter.begin(lists.sheet.gutter_labels())?;
+    push_lines(pen, lists, report, source)?;
+    push_foot(pen, &lists.gutter, report, is_last)
+}
+
+/// Writes the rows above the lines of a group, and gives the source of the lines.
+fn push_group_head<'a, S: Span, C: Cache<S::SourceId>>(
+    pen: &mut Pen<'_>,
+    sheet: &GroupSheet<'_>,
+    report: &Content<'_, S>,
+    cache: &'a C,
+    is_first: bool,
+) -> Result<&'a Source<C::Storage>, AllocError>
+    requires switches { pen.old.page.switches ≡ switches_of report.now.config }
+    requires labels { 0 < length sheet.now.labels }
+    requires drawn { let w = world S.source_of S.start_of S.end_of S.SourceId.eq
+        (C.names cache.now) (C.contents cache.now) in AreDrawn w report.now sheet.now.labels }
+    ensures source { let w = world S.source_of S.start_of S.end_of S.SourceId.eq
+        (C.names cache.now) (C.contents cache.now) in
+        IfOk result (λ source. source.now ≡ group_source w report.now sheet.now.labels) }
+    ensures page { OnOk result (pen.new.page ≡ pen.old.page) }
+    ensures drawn { let w = world S.source_of S.start_of S.end_of S.SourceId.eq
+        (C.names cache.now) (C.contents cache.now) in let r = report.now in
+        let page = pen.old.page in (n k : ℕ) → is_first ≡ (k == 0) →
+        OnOk result (DrawsRows pen.old pen.new (map (row_pieces (texts_of r) page.number_width
+        (section_of w r n (k, sheet.now.labels)))
+        (group_header ∷ (if page.switches.compact then [] else spacer ∷ [])))) }
+{
+    let info = sheet.labels()[0];
+    let id = report.labels()[info.position].span().source();
+    let source = C::get(cache, id).unwrap();
+    let name = C::display(cache, id).unwrap_or("<unknown>");
+    let location = header_location(report, id, source, &info);
+    push_head(pen, is_first, name, location)?;
+    Ok(source)
+}
+
+/// Writes the rows above the lines of a group: its header, and a row below it if not compact.
+fn push_head(
+    pen: &mut Pen<'_>,
+    is_first: bool,
+    name: &str,
+    location: Option<(usize, usize)>,
+) -> Result<(), AllocError>
+    ensures { let page = pen.old.page in (t : Texts) (g : Section) →
+        g.sheet.switches ≡ page.switches → g.is_first ≡ is_first → g.name ≡ name.now →
+        location_text g.sheet.lines g.display_offset g.header_offset ≡ location_numbers location →
+        OnOk result (DrawsRows pen.old pen.new (map (row_pieces t page.number_width g)
+        (group_header ∷ (if page.switches.compact then [] else spacer ∷ [])))) }
+{
+    push_group_header(pen, is_first, name, location)?;
+    if pen.page().switches().compact {
+        return Ok(());
+    }
+    push_spacer(pen)
+}
+
+/// Writes the rows below the lines of a group: helps and notes in the last one, and a tail if not
+/// compact.
+fn push_foot<S: Span>(
+    pen: &mut Pen<'_>,
+    gutter: &Gutter<'_>,
+    report: &Content<'_, S>,
+    is_last: bool,
+) -> Result<(), AllocError>
+    requires page { gutter.now.page ≡ pen.old.page }
+    requires group { (g : Section) × IsOnPage (texts_of report.now) g pen.old.page
+        × IsOfSheet g.sheet gutter.now }
+    ensures { let page = pen.old.page in let t = texts_of report.now in
+        let compact = page.switches.compact in
+        (g : Section) → IsOnPage t g page → IsOfSheet g.sheet gutter.now → g.is_last ≡ is_last →
+        OnOk result (DrawsRows pen.old pen.new (map (row_pieces t page.number_width g)
+        ((if is_last then asides compact help t.helps ++ asides compact note t.notes else [])
+        ++ (if compact then [] else tail ∷ [])))) }
+{
+    if is_last {
+        push_helps(pen, gutter, report.helps())?;
+        push_notes(pen, gutter, report.notes())?;
+    }
+    if pen.page().switches().compact {
+        return Ok(());
+    }
+    push_tail(pen, is_last)
+}
+
+/// The numbers of the line and the column that the header of a group names: where the report's own
+/// span starts, if that is over the group's source, else where the group's first label starts.
+fn header_location<S: Span, I: SourceText>(
+    report: &Content<'_, S>,
+    id: &S::SourceId,
+    source: &Source<I>,
+    info: &LabelInfo,
+) -> Option<(usize, usize)>
+    requires within { info.now.start ≤ length (chars source.now.text) }
+    ensures { (names : S.SourceId → Option (List ℕ)) (contents : List (S.SourceId × Listing)) →
+        let w = world S.source_of S.start_of S.end_of S.SourceId.eq names contents in
+        let r = report.now in (group : List LabelInfo) →
+        group_id w r group ≡ Some id.now → group_source w r group ≡ source.now →
+        slice_get group 0 ≡ Some info.now →
+        location_text (listed_lines source.now) source.now.display_offset
+        (header_offset w r group) ≡ location_numbers result }
+{
+    let offset = if *id == *report.span().source() {
+        offset_in_chars(report.config().index_type(), source, report.span().start())?
+    } else {
+        info.start
+    };
+    let _text = source.text();
+    let display_offset = source.display_line_offset();
+    let (_, line, column) = source.get_offset_line(offset)?;
+    Some((line + 1 + display_offset, column + 1))
+}

@@ -1,0 +1,81 @@
+//! The groups of a picture: where the labels in order are cut.
+
+ghost use Rattle.std.specs.Prelude.{◌≡◌, ◌<◌, ◌≤◌, ℕ, List, ◌∷◌, Option, drop, length};
+ghost use Rattle.std.specs.Prelude.{slice_range};
+ghost use Rattle.std.specs.List.{AllByRecursion};
+ghost use Rattle.ariadne_accept.specs.Drawn.{AreDrawn, AreThere, world};
+ghost use Rattle.ariadne_base.specs.Listing.{Listing};
+ghost use Rattle.ariadne_picture.specs.Canvas.{number_width, same_source};
+ghost use Rattle.ariadne_picture.specs.Groups.{groups_of, is_cut};
+
+use crate::lines::last_line;
+use ariadne_accept::content::Content;
+use ariadne_base::{Cache, Span};
+use ariadne_cells::margin::decimal_len;
+use ariadne_picture::label_info::LabelInfo;
+
+/// The end of the group that begins at `start`: where the next cut stands.
+pub(crate) fn group_end<S: Span>(
+    report: &Content<'_, S>,
+    infos: &[LabelInfo],
+    start: usize,
+) -> usize
+    requires there { AreThere report.now infos.now }
+    requires start { start < length infos.now }
+    ensures after { start < result }
+    ensures within { result ≤ length infos.now }
+    ensures groups { (names : S.SourceId → Option (List ℕ))
+        (contents : List (S.SourceId × Listing)) →
+        let same = same_source (world S.source_of S.start_of S.end_of S.SourceId.eq names contents)
+        report.now in
+        groups_of same (drop start infos.now)
+        ≡ slice_range infos.now start result ∷ groups_of same (drop result infos.now) }
+{
+    let mut end = start + 1;
+    while end < infos.len() && !is_cut(report, &infos[end - 1], &infos[end]) {
+        end += 1;
+    }
+    end
+}
+
+/// Whether a cut stands between two neighbours: their sources differ, or the second ends on an
+/// earlier line.
+fn is_cut<S: Span>(report: &Content<'_, S>, a: &LabelInfo, b: &LabelInfo) -> bool
+    requires first { a.now.position < length report.now.labels }
+    requires second { b.now.position < length report.now.labels }
+    ensures { (names : S.SourceId → Option (List ℕ)) (contents : List (S.SourceId × Listing)) →
+        result ≡ is_cut (same_source
+        (world S.source_of S.start_of S.end_of S.SourceId.eq names contents) report.now)
+        a.now b.now }
+{
+    let labels = report.labels();
+    let first = labels[a.position].span().source();
+    let second = labels[b.position].span().source();
+    *first != *second || b.end_line < a.end_line
+}
+
+/// How many columns the greatest line number of all groups takes, of labels in order.
+pub(crate) fn number_width<S: Span, C: Cache<S::SourceId>>(
+    report: &Content<'_, S>,
+    cache: &C,
+    infos: &[LabelInfo],
+) -> usize
+    requires drawn { let w = world S.source_of S.start_of S.end_of S.SourceId.eq
+        (C.names cache.now) (C.contents cache.now) in AreDrawn w report.now infos.now }
+    ensures { let w = world S.source_of S.start_of S.end_of S.SourceId.eq
+        (C.names cache.now) (C.contents cache.now) in
+        result ≡ number_width w report.now (groups_of (same_source w report.now) infos.now) }
+{
+    let mut width = 0;
+    let mut start = 0;
+    while start < infos.len() {
+        let end = group_end(report, infos, start);
+        let id = report.labels()[infos[start].position].span().source();
+        let source = C::get(cache, id).unwrap();
+        let offset = source.display_line_offset();
+        let number = last_line(&infos[start..end]) + 1 + offset;
+        width = width.max(decimal_len(number));
+        start = end;
+    }
+    width
+}

@@ -1,0 +1,25 @@
+//! Drawing the accepted labels of a report: they are cut into groups (`groups`), whose lines are
+//! drawn one after another (`lines`) between the header and the tail (`drawing`). What is public
+//! here serves `ariadne`, and is no part of its surface.
+//!
+//! ```text
+//! Error: Incompatible types                       header
+//!    ,-[ <unknown>:1:1 ]                          group header
+//!    |                                            spacer row
+//!  1 | ,-> def five = match () in {               source row: margin, gutter, shown text
+//!    : :                                          gap row, in place of hidden lines
+//!  3 | |       () => "5",
+//!    | |             ^|^                          alternate row: underlines and verticals
+//!    | |              `--- This is of type Str    arrow row: an arrow and its message
+//!  4 | |-> }
+//!    | |
+//!    | `------- The branches differ
+//!    |
+//!    |     Help: give both one type               help row
+//! ---'                                            tail
+//! ```
+#![tactic(auto)]
+
+pub mod drawing;
+mod groups;
+mod lines;
