@@ -7,6 +7,9 @@ use serde::{Deserialize, Serialize};
 pub struct Case {
     pub name: String,
     pub kind: Kind,
+    /// A code that is a number, in front of one that is a text.
+    #[serde(default)]
+    pub number: Option<u64>,
     pub code: Option<String>,
     pub message: Option<String>,
     /// The report's own, as that of a label.
@@ -24,6 +27,9 @@ pub struct Case {
     pub left_out: Vec<(usize, Why)>,
     /// As in an answer.
     pub picture: Option<String>,
+    /// Whether that is without the blanks at the ends of its rows.
+    #[serde(default)]
+    pub is_trimmed: bool,
 }
 
 /// What a report answers.

@@ -15,7 +15,7 @@ mod replaying;
 
 use case::{Answer, Case};
 use replaying::answer_of;
-use std::alloc::Global;
+use std::alloc::{AllocError, Global};
 use std::io;
 use std::io::ErrorKind;
 use std::process::ExitCode;
@@ -36,6 +36,32 @@ fn line_of(alloc: Global, answer: &Answer) -> io::Result<String> {
     }
 }
 
+/// A picture without the blanks at the ends of its rows.
+fn trimmed(alloc: Global, picture: &str) -> Result<String, AllocError> {
+    let mut text = String::new(alloc);
+    for row in picture.split_terminator('\n') {
+        text.push_str(row.trim_end_matches(' '))?;
+        text.push('\n')?;
+    }
+    Ok(text)
+}
+
+/// Whether an answer is the stored one of its case, whose picture is this.
+fn is_stored(
+    alloc: Global,
+    case: &Case,
+    answer: &Answer,
+    picture: &str,
+) -> Result<bool, AllocError> {
+    if answer.left_out != case.left_out {
+        return Ok(false);
+    }
+    if case.is_trimmed {
+        return Ok(trimmed(alloc, answer.picture.as_str())?.as_str() == picture);
+    }
+    Ok(answer.picture.as_str() == picture)
+}
+
 fn main(rt: HostRuntime) -> io::Result<ExitCode> {
     let text = io::read_to_string(rt.alloc(), rt.stdin())?;
     let (mut count, mut different) = (0u32, 0u32);
@@ -47,7 +73,7 @@ fn main(rt: HostRuntime) -> io::Result<ExitCode> {
             continue;
         };
         count = count.saturating_add(1);
-        if answer.picture != *picture || answer.left_out != case.left_out {
+        if !is_stored(rt.alloc(), &case, &answer, picture.as_str())? {
             different = different.saturating_add(1);
             println!(rt; "{}: differs", case.name)?;
         }

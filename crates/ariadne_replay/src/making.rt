@@ -75,6 +75,9 @@ pub fn begun<'c, S: Span + Drop>(
     let mut builder = Report::build(alloc, kind_of(&case.kind), span).with_config(config_of(
         case.config,
     ));
+    if let Some(number) = case.number {
+        builder = builder.with_code(number)?;
+    }
     if let Some(code) = &case.code {
         builder = builder.with_code_text(code.as_str())?;
     }

@@ -1,7 +1,7 @@
 //! Calls of the builder, each by the picture that it makes.
 
-use crate::helpers::{assert_bytes, assert_picture, plain_error};
 use ariadne::{Color, Label, ReportKind};
+use ariadne_asserts::asserts::{assert_bytes, assert_picture, plain_error};
 use std::test::Fail;
 
 /// The picture of two labels added in turn.

@@ -2,10 +2,12 @@
 
 ghost use Rattle.std.specs.Prelude.{Some};
 
-use crate::helpers::{Why, assert_left_out, joined, labelled, plain_error, source_of};
-use crate::pictures::{APPLE_LABELS, APPLES};
 use ariadne::{LeftOut, Report, Sink, WriteError};
-use std::alloc::{AllocError, Global};
+use ariadne_asserts::asserts::{
+    APPLE_LABELS, APPLES, Why, assert_left_out, joined, labelled, plain_error, source_of,
+};
+use ariadne_fakes::Taker;
+use std::alloc::AllocError;
 use std::io;
 use std::io::{ErrorKind, Write};
 use std::process::Abort;
@@ -13,48 +15,6 @@ use std::test::Fail;
 
 /// The bytes of the picture.
 const LEN: usize = 223;
-
-/// A writer of few bytes a call, which after some calls answers a fault, or takes nothing.
-#[derive(Drop)]
-struct Narrow {
-    held: Vec<u8>,
-    room: usize,
-    calls_left: usize,
-    fault: Option<ErrorKind>,
-}
-
-impl Narrow {
-    /// A writer of at most `room` bytes a call, which fails at the call after `calls` ones.
-    fn new(alloc: Global, room: usize, calls: usize, fault: Option<ErrorKind>) -> Narrow {
-        Narrow {
-            held: Vec::new(alloc),
-            room,
-            calls_left: calls,
-            fault,
-        }
-    }
-}
-
-impl Write for Narrow {
-    ghost contents = { λ w. Some w.held.items };
-
-    fn write(&mut self, buf: &[u8]) -> io::Result<usize> {
-        if self.calls_left == 0 {
-            return match self.fault {
-                Some(kind) => Err(io::Error::from(kind)),
-                None => Ok(0),
-            };
-        }
-        self.calls_left -= 1;
-        let taken = buf.len().min(self.room);
-        self.held.extend_from_slice(&buf[..taken])?;
-        Ok(taken)
-    }
-
-    fn flush(&mut self) -> io::Result<()> {
-        Ok(())
-    }
-}
 
 /// The report that all writers get.
 fn apples(rt: &(impl Abort + AllocGlobal)) -> Result<Report<'static>, Fail> {
@@ -64,9 +24,9 @@ fn apples(rt: &(impl Abort + AllocGlobal)) -> Result<Report<'static>, Fail> {
 
 /// A sink over such a writer.
 #[derive(Drop)]
-struct Drain {
-    narrow: Narrow,
-    met_fault: bool,
+pub(crate) struct Drain {
+    pub narrow: Taker,
+    pub met_fault: bool,
 }
 
 impl Sink for Drain {
@@ -179,7 +139,7 @@ fn told<E: Drop>(
 }
 
 /// Asserts that a writer holds what it is to hold, and met so many calls.
-fn assert_held(rt: &(impl Abort + AllocGlobal), out: &Narrow, stop: &Stop) -> Result<(), Fail> {
+fn assert_held(rt: &(impl Abort + AllocGlobal), out: &Taker, stop: &Stop) -> Result<(), Fail> {
     let name = stop.name;
     let picture = joined(rt.alloc(), &APPLES)?;
     let bytes = picture.as_bytes();
@@ -194,7 +154,7 @@ fn assert_held(rt: &(impl Abort + AllocGlobal), out: &Narrow, stop: &Stop) -> Re
 /// Asserts what comes of a writer.
 fn assert_writer(rt: &(impl Abort + AllocGlobal), stop: &Stop) -> Result<(), Fail> {
     let name = stop.name;
-    let mut out = Narrow::new(rt.alloc(), stop.room, stop.calls, stop.fault);
+    let mut out = Taker::narrow(rt.alloc(), stop.room, stop.calls, stop.fault);
     let mut source = source_of(rt.alloc(), "apple == orange;")?;
     let answer = apples(rt)?.write(&mut source, &mut out);
     assert_eq!(rt; told(rt, answer)?, stop.want, "{name}");
@@ -206,7 +166,7 @@ fn assert_writer(rt: &(impl Abort + AllocGlobal), stop: &Stop) -> Result<(), Fai
 fn assert_sink(rt: &(impl Abort + AllocGlobal), stop: &Stop, had_failed: bool) -> Result<(), Fail> {
     let name = stop.name;
     let mut out = Drain {
-        narrow: Narrow::new(rt.alloc(), stop.room, stop.calls, stop.fault),
+        narrow: Taker::narrow(rt.alloc(), stop.room, stop.calls, stop.fault),
         met_fault: had_failed,
     };
     let mut source = source_of(rt.alloc(), "apple == orange;")?;
@@ -244,11 +204,11 @@ fn a_sink_that_fails_holds_what_was_sent_and_has_failed(rt: HostRuntime) -> Resu
 fn for_standard_output_the_same_is_written(rt: HostRuntime) -> Result<(), Fail> {
     let picture = joined(rt.alloc(), &APPLES)?;
     let mut source = source_of(rt.alloc(), "apple == orange;")?;
-    let mut out = Narrow::new(rt.alloc(), 7, LEN, None);
+    let mut out = Taker::narrow(rt.alloc(), 7, LEN, None);
     let left_out = apples(&rt)?.write_for_stdout(&mut source, &mut out)?;
     assert!(rt; left_out.is_empty());
     assert_eq!(rt; out.held.as_slice(), picture.as_bytes());
-    let mut out = Narrow::new(rt.alloc(), 1, 7, Some(ErrorKind::BrokenPipe));
+    let mut out = Taker::narrow(rt.alloc(), 1, 7, Some(ErrorKind::BrokenPipe));
     let answer = apples(&rt)?.write_for_stdout(&mut source, &mut out);
     assert!(rt; matches!(answer, Err(WriteError::Io { sent: 7, .. })));
     assert_eq!(rt; out.held.as_slice(), b"Error: ".as_slice());
@@ -260,9 +220,9 @@ fn the_same_picture_is_printed(rt: HostRuntime) -> Result<(), Fail> {
     let mut source = source_of(rt.alloc(), "ab")?;
     let report = labelled(&rt, plain_error(rt.alloc()), &[(0, 2, "x"), (0, 9, "z")])?;
     let left_out = report.print(&mut source, &rt)?;
-    assert_left_out(&rt, &left_out, &[(1, Why::PastSource)]);
+    assert_left_out(&left_out, &[(1, Why::PastSource)])?;
     let left_out = report.eprint(&mut source, rt.stderr())?;
-    assert_left_out(&rt, &left_out, &[(1, Why::PastSource)]);
+    assert_left_out(&left_out, &[(1, Why::PastSource)])?;
     Ok(())
 }
 

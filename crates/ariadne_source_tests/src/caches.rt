@@ -5,13 +5,13 @@ ghost use Rattle.std.specs.Str.{bytes_eq};
 ghost use Rattle.std.specs.Cmp.Lexicographic.{bytes_decides};
 ghost use Rattle.std.proofs.Common.{ap};
 
-use crate::helpers::{
+use ariadne::{
+    Cache, FetchError, FileCache, FnCache, Label, LeftOut, Reason, Report, Source, SourceMap,
+    UnknownSource, WriteError, sources,
+};
+use ariadne_asserts::asserts::{
     Piece, Why, assert_left_out, assert_missing, assert_picture_over, assert_shown, assert_unknown,
     labelled, labelled_in, plain_error, plain_error_at, written,
-};
-use ariadne::{
-    Cache, FetchError, FnCache, Label, LeftOut, Reason, Report, Source, SourceMap, UnknownSource,
-    sources,
 };
 use std::alloc::AllocError;
 use std::cell::Cell;
@@ -19,6 +19,7 @@ use std::collections::HashMap;
 use std::process::Abort;
 use std::rc::RcStr;
 use std::test::Fail;
+use std::{env, fs};
 
 /// The picture of two labels in the source `ab` of `x`.
 const TWO: [&str; 9] = [
@@ -184,7 +185,7 @@ fn assert_called(rt: &(impl Abort + AllocGlobal), faulty: &'static Faulty) -> Re
     for round in faulty.rounds {
         let (picture, left_out) = written(rt, &report, &mut cache)?;
         assert_shown(rt, name, picture.as_str(), round.rows, round.is_whole)?;
-        assert_missing(rt, name, &left_out, round.left_out);
+        assert_missing(name, &left_out, round.left_out)?;
         assert_told(rt, name, &left_out, round.told);
         assert_eq!(rt; counted.calls.get(), round.calls, "of {name}");
     }
@@ -311,7 +312,7 @@ fn a_pair_has_no_source_of_another_id(rt: HostRuntime) -> Result<(), Fail> {
     let mut pair = ("a", Source::from(alloc, "ab")?);
     let (picture, left_out) = written(&rt, &report, &mut pair)?;
     assert_eq!(rt; picture.as_str(), "Error: \n");
-    assert_left_out(&rt, &left_out, &[(0, Why::Unfetched)]);
+    assert_left_out(&left_out, &[(0, Why::Unfetched)])?;
     assert_unknown(
         &rt,
         "the report",
@@ -383,4 +384,159 @@ fn a_cache_of_the_callers_own_may_show_no_name(rt: HostRuntime) -> Result<(), Fa
             "---'",
         ],
     )
+}
+
+/// A function that fails once for each id.
+#[derive(Drop)]
+struct Hesitant {
+    has_asked_x: Cell<bool>,
+    has_asked_y: Cell<bool>,
+}
+
+impl Hesitant {
+    /// What the next call for an id answers.
+    fn answer(&self, id: &str) -> Result<&'static str, u8> {
+        let has_asked = if id == "x" {
+            &self.has_asked_x
+        } else {
+            &self.has_asked_y
+        };
+        if has_asked.get() {
+            return Ok("ab");
+        }
+        has_asked.set(true);
+        Err(7)
+    }
+}
+
+#[test]
+fn each_id_that_failed_is_asked_for_again(rt: HostRuntime) -> Result<(), Fail> {
+    let hesitant = Hesitant {
+        has_asked_x: Cell::new(false),
+        has_asked_y: Cell::new(false),
+    };
+    let mut cache: FnCache<&str, _, &str> = FnCache::new(
+        rt.alloc(),
+        |id: &&str| -> Result<&str, u8> { hesitant.answer(*id) },
+    );
+    let builder = plain_error_at(rt.alloc(), ("x", 0..0));
+    let labels = [
+        ("x", 0, 1, "p"),
+        ("y", 0, 1, "p"),
+        ("x", 1, 2, "q"),
+        ("y", 1, 2, "q"),
+    ];
+    let report = labelled_in(&rt, builder, &labels)?;
+    let rows = [
+        "Error:",
+        "   ,-[ x:1:1 ]",
+        "   |",
+        " 1 | ab",
+        "   |  |",
+        "   |  `-- q",
+        "   |",
+        "   |-[ y:1:2 ]",
+        "   |",
+        " 1 | ab",
+        "   |  |",
+        "   |  `-- q",
+        "---'",
+    ];
+    let left_out = [(0, Why::Unfetched), (1, Why::Unfetched)];
+    assert_picture_over(&rt, &report, &mut cache, &left_out, &rows)
+}
+
+/// A map of sources that answers want of memory at its second fetch of an id that it does not hold.
+#[derive(Drop)]
+struct Stingy<'s> {
+    map: SourceMap<&'s str, &'s str>,
+    has_failed: bool,
+}
+
+impl<'s> Cache<&'s str> for Stingy<'s> {
+    type Storage = &'s str;
+
+    type Error = UnknownSource;
+
+    ghost contents = { λ c. c.map };
+
+    ghost names = { λ _ id. Some id.now };
+
+    ghost fails = { λ id e. e ≡ id.now };
+
+    ghost names_respect_eq = { λ _ p q h. ap Some ((bytes_decides p.now q.now).0 h) };
+
+    fn ensure(&mut self, id: &&'s str) -> Result<(), FetchError<UnknownSource>> {
+        if self.map.get(id).is_some() {
+            return Ok(());
+        }
+        if self.has_failed {
+            return Err(FetchError::Memory(AllocError));
+        }
+        self.has_failed = true;
+        self.map.ensure(id)
+    }
+
+    fn get(&self, id: &&'s str) -> Option<&Source<&'s str>> {
+        self.map.get(id)
+    }
+
+    fn display<'a>(&'a self, id: &'a &'s str) -> Option<&'a str> {
+        Some(*id)
+    }
+}
+
+#[test]
+fn where_a_cache_wants_memory_nothing_is_sent(rt: HostRuntime) -> Result<(), Fail> {
+    let alloc = rt.alloc();
+    let mut cache = Stingy {
+        map: sources(alloc, [("x", "ab")])?,
+        has_failed: false,
+    };
+    let builder = plain_error_at(alloc, ("x", 0..0));
+    let labels = [("z", 0, 1, "l"), ("x", 1, 2, "q"), ("w", 0, 1, "l")];
+    let report = labelled_in(&rt, builder, &labels)?;
+    let mut out = Vec::new(alloc);
+    let answer = report.write(&mut cache, &mut out);
+    assert!(rt; matches!(answer, Err(WriteError::Memory(_))));
+    assert!(rt; out.is_empty());
+    // What it holds is drawn.
+    let builder = plain_error_at(alloc, ("x", 0..0));
+    let report = labelled_in(&rt, builder, &[("x", 1, 2, "q")])?;
+    assert_picture_over(&rt, &report, &mut cache, &[], &SECOND)
+}
+
+#[test]
+fn a_file_is_drawn_as_it_was_first_read(rt: HostRuntime) -> Result<(), Fail> {
+    let alloc = rt.alloc();
+    let folder = env::temp_dir(&rt)?;
+    let path = folder.join(alloc, "ariadne_tests\nfeed.txt")?;
+    let id = path.as_str();
+    let label = Label::new((id, 1..2)).with_message(alloc, "q")?;
+    let report = plain_error_at(alloc, (id, 0..0))
+        .with_label(label)?
+        .finish();
+    let header = format!(in alloc; "   ,-[ {id}:1:1 ]")?;
+    let mut rows = SECOND;
+    rows[1] = header.as_str();
+    let mut cache = FileCache::new(&rt, alloc);
+    // A file that is not there is asked for again.
+    let _ = fs::remove_file(&rt, path.as_path());
+    assert_picture_over(
+        &rt,
+        &report,
+        &mut cache,
+        &[(0, Why::Unfetched)],
+        &["Error:"],
+    )?;
+    fs::write(&rt, path.as_path(), "ab")?;
+    assert_picture_over(&rt, &report, &mut cache, &[], &rows)?;
+    fs::write(&rt, path.as_path(), "\u{feff}x")?;
+    assert_picture_over(&rt, &report, &mut cache, &[], &rows)?;
+    // Its mark is a character without a column.
+    rows[3] = " 1 | \u{feff}x";
+    rows[4] = "   | |";
+    rows[5] = "   | `-- q";
+    let mut later = FileCache::new(&rt, alloc);
+    assert_picture_over(&rt, &report, &mut later, &[], &rows)
 }

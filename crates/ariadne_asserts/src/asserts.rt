@@ -1,0 +1,246 @@
+//! Reports that tests draw, and how their pictures and lists are compared.
+
+use ariadne::{
+    Cache, CharSet, Config, Label, LeftOut, Reason, Report, ReportBuilder, ReportKind, Source,
+    Span, UnknownSource,
+};
+use std::alloc::{AllocError, Global};
+use std::ops::Range;
+use std::test::Fail;
+
+/// A piece of the source of an id.
+pub type Piece = (&'static str, Range<usize>);
+
+/// Why a label is left out, without what its cache said.
+#[derive(Clone, Copy, Debug, PartialEq, Eq)]
+pub enum Why {
+    Unfetched,
+    PastSource,
+    CutsCharacter,
+}
+
+/// The rows of two labels on a line, blanks at their ends kept.
+pub const APPLES: [&str; 9] = [
+    "Error: can't compare apples with oranges",
+    "   ,-[ <unknown>:1:1 ]",
+    "   |",
+    " 1 | apple == orange;",
+    "   | ^^|^^    ^^^|^^  ",
+    "   |   `-------------- This is an apple",
+    "   |             |    ",
+    "   |             `---- This is an orange",
+    "---'",
+];
+
+/// The two labels.
+pub const APPLE_LABELS: [(usize, usize, &str); 2] = [
+    (0, 5, "This is an apple"),
+    (9, 15, "This is an orange"),
+];
+
+/// ASCII strokes, and no colours.
+pub fn plain() -> Config {
+    Config::new()
+        .with_char_set(CharSet::Ascii)
+        .with_color(false)
+}
+
+/// A source of a text.
+pub fn source_of(alloc: Global, text: &str) -> Result<Source<String>, AllocError> {
+    Source::from(alloc, String::from_str(alloc, text)?)
+}
+
+/// An error without a message yet, in ASCII and without colours, at a place.
+pub fn plain_error_at<S: Span>(alloc: Global, span: S) -> ReportBuilder<'static, S> {
+    Report::build(alloc, ReportKind::Error, span).with_config(plain())
+}
+
+/// Such an error at the first character.
+pub fn plain_error(alloc: Global) -> ReportBuilder<'static> {
+    plain_error_at(alloc, 0..0)
+}
+
+/// A report with these labels: the start and the end of each, which is not before it, and what it
+/// says.
+pub fn labelled<'a>(
+    rt: &impl AllocGlobal,
+    builder: ReportBuilder<'a>,
+    labels: &[(usize, usize, &str)],
+) -> Result<Report<'a>, AllocError> {
+    let mut builder = builder;
+    for &(start, end, message) in labels {
+        let label = Label::new(start..end.max(start)).with_message(rt.alloc(), message)?;
+        builder = builder.with_label(label)?;
+    }
+    Ok(builder.finish())
+}
+
+/// The same as `labelled`, of labels in the sources of these ids.
+pub fn labelled_in<'a>(
+    rt: &impl AllocGlobal,
+    builder: ReportBuilder<'a, Piece>,
+    labels: &[(&'static str, usize, usize, &str)],
+) -> Result<Report<'a, Piece>, AllocError> {
+    let mut builder = builder;
+    for &(id, start, end, message) in labels {
+        let label = Label::new((id, start..end.max(start))).with_message(rt.alloc(), message)?;
+        builder = builder.with_label(label)?;
+    }
+    Ok(builder.finish())
+}
+
+/// The picture that a report writes over a cache, and the labels that it leaves out.
+pub fn written<S: Span, C: Cache<S::SourceId>>(
+    rt: &impl AllocGlobal,
+    report: &Report<'_, S>,
+    cache: &mut C,
+) -> Result<(String, Vec<LeftOut<C::Error>>), Fail>
+    requires { C.can_fetch cache.old }
+    ensures { C.can_fetch cache.new }
+{
+    let mut out = Vec::new(rt.alloc());
+    let left_out = report.write(cache, &mut out)?;
+    Ok((String::from_utf8(out)?, left_out))
+}
+
+/// Rows, each with a line feed behind it.
+pub fn joined(alloc: Global, rows: &[&str]) -> Result<String, AllocError> {
+    let mut text = String::new(alloc);
+    for row in rows {
+        text.push_str(row)?;
+        text.push('\n')?;
+    }
+    Ok(text)
+}
+
+/// A picture without the blanks at the ends of its rows.
+fn trimmed(alloc: Global, picture: &str) -> Result<String, AllocError> {
+    let mut text = String::new(alloc);
+    for row in picture.split_terminator('\n') {
+        text.push_str(row.trim_end_matches(' '))?;
+        text.push('\n')?;
+    }
+    Ok(text)
+}
+
+/// Asserts that the picture of what is named has these rows, and each of them whole, or but for the
+/// blanks at their ends.
+pub fn assert_shown(
+    rt: &impl AllocGlobal,
+    name: &str,
+    picture: &str,
+    rows: &[&str],
+    is_whole: bool,
+) -> Result<(), Fail> {
+    let expected = joined(rt.alloc(), rows)?;
+    let is_shown = if is_whole {
+        picture == expected.as_str()
+    } else {
+        let trimmed = trimmed(rt.alloc(), picture)?;
+        picture.ends_with('\n') && trimmed.as_str() == expected.as_str()
+    };
+    if is_shown {
+        return Ok(());
+    }
+    Err(Fail::new(format_args!("{name}: {picture}")))
+}
+
+/// Asserts that a picture has these rows, but for the blanks at their ends.
+pub fn assert_trimmed(rt: &impl AllocGlobal, picture: &str, rows: &[&str]) -> Result<(), Fail> {
+    assert_shown(rt, "the report", picture, rows, false)
+}
+
+/// Asserts which labels are left out of the picture of what is named, and why.
+pub fn assert_missing<E>(
+    name: &str,
+    left_out: &[LeftOut<E>],
+    wanted: &[(usize, Why)],
+) -> Result<(), Fail> {
+    if left_out.len() != wanted.len() {
+        return Err(Fail::new(format_args!("{name}: {} labels", left_out.len())));
+    }
+    for (left, want) in left_out.iter().zip(wanted) {
+        let why = match left.reason {
+            Reason::Unfetched(_) => Why::Unfetched,
+            Reason::PastSource => Why::PastSource,
+            Reason::CutsCharacter => Why::CutsCharacter,
+        };
+        if (left.label, why) != *want {
+            return Err(Fail::new(format_args!("{name}: {} {why:?}", left.label)));
+        }
+    }
+    Ok(())
+}
+
+/// Asserts which labels are left out, and why.
+pub fn assert_left_out<E>(left_out: &[LeftOut<E>], wanted: &[(usize, Why)]) -> Result<(), Fail> {
+    assert_missing("the report", left_out, wanted)
+}
+
+/// Asserts that all these labels are left out of the picture of what is named since their sources
+/// can't be had, and what is said of each.
+pub fn assert_unknown(
+    rt: &impl AllocGlobal,
+    name: &str,
+    left_out: &[LeftOut<UnknownSource>],
+    wanted: &[&str],
+) -> Result<(), Fail> {
+    if left_out.len() != wanted.len() {
+        return Err(Fail::new(format_args!("{name}: {} labels", left_out.len())));
+    }
+    for (left, want) in left_out.iter().zip(wanted) {
+        let Reason::Unfetched(error) = &left.reason else {
+            return Err(Fail::from("another reason"));
+        };
+        let text = error.to_string(rt.alloc())?;
+        if text.as_str() != *want {
+            return Err(Fail::new(format_args!("{name}: {text}")));
+        }
+    }
+    Ok(())
+}
+
+/// Asserts that over a text a report leaves no label out, and that its picture has these rows, and
+/// each of them whole.
+pub fn assert_bytes(
+    rt: &impl AllocGlobal,
+    report: &Report<'_>,
+    text: &str,
+    rows: &[&str],
+) -> Result<(), Fail> {
+    let mut source = source_of(rt.alloc(), text)?;
+    let (picture, left_out) = written(rt, report, &mut source)?;
+    assert_left_out(&left_out, &[])?;
+    assert_shown(rt, "the report", picture.as_str(), rows, true)
+}
+
+/// Asserts that over a text a report leaves no label out, and that its picture has these rows, but
+/// for the blanks at their ends.
+pub fn assert_picture(
+    rt: &impl AllocGlobal,
+    report: &Report<'_>,
+    text: &str,
+    rows: &[&str],
+) -> Result<(), Fail> {
+    let mut source = source_of(rt.alloc(), text)?;
+    let (picture, left_out) = written(rt, report, &mut source)?;
+    assert_left_out(&left_out, &[])?;
+    assert_trimmed(rt, picture.as_str(), rows)
+}
+
+/// Asserts that over a cache a report leaves out exactly these labels, and that its picture has
+/// these rows, but for the blanks at their ends.
+pub fn assert_picture_over<S: Span, C: Cache<S::SourceId>>(
+    rt: &impl AllocGlobal,
+    report: &Report<'_, S>,
+    cache: &mut C,
+    wanted: &[(usize, Why)],
+    rows: &[&str],
+) -> Result<(), Fail>
+    requires { C.can_fetch cache.old }
+    ensures { C.can_fetch cache.new }
+{
+    let (picture, left_out) = written(rt, report, cache)?;
+    assert_left_out(&left_out, wanted)?;
+    assert_trimmed(rt, picture.as_str(), rows)
+}

@@ -1,0 +1,509 @@
+//! Labels and builders when memory is refused: each request in turn, until a call meets no refusal.
+
+ghost use Rattle.std.specs.Prelude.{◌<◌};
+
+use ariadne::{Label, Report, ReportBuilder};
+use ariadne_asserts::asserts::{assert_missing, assert_shown, plain_error, source_of, written};
+use ariadne_fakes::{refuse, was_refused};
+use std::alloc::{AllocError, Global};
+use std::process::Abort;
+use std::test::Fail;
+
+/// More than any call here makes.
+pub(crate) const MOST_REQUESTS: usize = 1000;
+
+/// Asserts that a call has failed exactly where its request was refused, and answers whether it
+/// was.
+pub(crate) fn assert_refused(
+    rt: &(impl Abort + AllocGlobal),
+    name: &str,
+    nth: usize,
+    has_failed: bool,
+) -> bool {
+    let is_refused = was_refused(rt.alloc());
+    assert_eq!(rt; has_failed, is_refused, "of {name} at request {nth}");
+    is_refused
+}
+
+/// The middle rows of a picture of one label.
+const LABEL: &[&str] = &[
+    "   ,-[ <unknown>:1:1 ]",
+    "   |",
+    " 1 | ab",
+    "   | ^|",
+    "   |  `-- x",
+];
+
+/// Those of labels that say nothing.
+const SILENT: &[&str] = &["   ,-[ <unknown>:1:1 ]", "   |", " 1 | ab"];
+
+/// What is to be seen of a report over `ab`: its header, what is below it, and helps and notes.
+#[derive(Clone, Copy)]
+struct Seen {
+    header: &'static str,
+    middle: &'static [&'static str],
+    asides: &'static [&'static str],
+}
+
+/// A report with a label and no more.
+const LABELLED: Seen = Seen {
+    header: "Error:",
+    middle: LABEL,
+    asides: &[],
+};
+
+/// Asserts that over `ab` a report has these rows: its header, what is below it, and helps and
+/// notes.
+fn assert_rows(
+    rt: &(impl Abort + AllocGlobal),
+    name: &str,
+    report: &Report<'_>,
+    (header, middle, asides): (&'static str, &[&'static str], &[&'static str]),
+) -> Result<(), Fail> {
+    let mut rows = vec![in rt.alloc(); header]?;
+    rows.extend_from_slice(middle)?;
+    rows.extend_from_slice(asides)?;
+    if !middle.is_empty() {
+        rows.push("---'")?;
+    }
+    let mut source = source_of(rt.alloc(), "ab")?;
+    let (picture, left_out) = written(rt, report, &mut source)?;
+    assert_missing(name, &left_out, &[])?;
+    assert_shown(rt, name, picture.as_str(), &rows, false)
+}
+
+/// Asserts what is to be seen of a report.
+fn assert_seen(
+    rt: &(impl Abort + AllocGlobal),
+    name: &str,
+    report: &Report<'_>,
+    seen: &Seen,
+) -> Result<(), Fail> {
+    assert_rows(rt, name, report, (seen.header, seen.middle, seen.asides))
+}
+
+/// A report in the making with a label.
+fn labelled(alloc: Global) -> Result<ReportBuilder<'static>, AllocError> {
+    plain_error(alloc).with_label(Label::new(0..2).with_message(alloc, "x")?)
+}
+
+/// Refuses the nth request of giving a label a message.
+fn try_message(rt: &(impl Abort + AllocGlobal), nth: usize) -> Result<bool, Fail>
+    requires { nth < 100000 }
+{
+    let label = Label::new(0..2);
+    refuse(rt.alloc(), nth);
+    let label = label.with_message(rt.alloc(), "x");
+    let is_refused = assert_refused(rt, "with_message", nth, label.is_err());
+    if let Ok(label) = label {
+        let builder = plain_error(rt.alloc()).with_label(label)?;
+        assert_seen(rt, "with_message", &builder.finish(), &LABELLED)?;
+    }
+    Ok(is_refused)
+}
+
+/// Refuses the nth request of a copy of a label.
+fn try_copy(rt: &(impl Abort + AllocGlobal), nth: usize) -> Result<bool, Fail>
+    requires { nth < 100000 }
+{
+    let label = Label::new(0..2).with_message(rt.alloc(), "x")?;
+    refuse(rt.alloc(), nth);
+    let copy = label.clone();
+    let is_refused = assert_refused(rt, "clone", nth, copy.is_err());
+    if let Ok(copy) = copy {
+        assert!(rt; copy == label);
+    }
+    let builder = plain_error(rt.alloc()).with_label(label)?;
+    assert_seen(rt, "clone", &builder.finish(), &LABELLED)?;
+    Ok(is_refused)
+}
+
+#[test]
+fn a_refused_label_is_an_error(rt: HostRuntime) -> Result<(), Fail> {
+    for nth in 1..MOST_REQUESTS {
+        if !try_message(&rt, nth)? {
+            break;
+        }
+    }
+    for nth in 1..MOST_REQUESTS {
+        if !try_copy(&rt, nth)? {
+            return Ok(());
+        }
+    }
+    Err(Fail::from("every request was refused"))
+}
+
+/// A call of the builder by value.
+#[derive(Clone, Copy, Debug)]
+enum Step {
+    Code,
+    CodeText,
+    Message,
+    Note,
+    Help,
+    Label,
+    Labels,
+}
+
+/// What is to be seen after each such call. The labels that are added say nothing.
+const STEPS: &[(Step, Seen)] = &[
+    (
+        Step::Code,
+        Seen {
+            header: "[03] Error:",
+            ..LABELLED
+        },
+    ),
+    (
+        Step::CodeText,
+        Seen {
+            header: "[E ] Error:",
+            ..LABELLED
+        },
+    ),
+    (
+        Step::Message,
+        Seen {
+            header: "Error: new",
+            ..LABELLED
+        },
+    ),
+    (
+        Step::Note,
+        Seen {
+            asides: &["   |", "   | Note: new"],
+            ..LABELLED
+        },
+    ),
+    (
+        Step::Help,
+        Seen {
+            asides: &["   |", "   | Help: new"],
+            ..LABELLED
+        },
+    ),
+    (
+        Step::Label,
+        Seen {
+            middle: SILENT,
+            ..LABELLED
+        },
+    ),
+    (
+        Step::Labels,
+        Seen {
+            middle: SILENT,
+            ..LABELLED
+        },
+    ),
+];
+
+/// Makes a call of the builder by value.
+fn take(step: Step, builder: ReportBuilder<'_>) -> Result<ReportBuilder<'_>, AllocError> {
+    let label = || Label::new(0..2);
+    match step {
+        Step::Code => builder.with_code(3),
+        Step::CodeText => builder.with_code_text("E"),
+        Step::Message => builder.with_message("new"),
+        Step::Note => builder.with_note("new"),
+        Step::Help => builder.with_help("new"),
+        Step::Label => builder.with_label(Label::new(0..2)),
+        Step::Labels => builder.with_labels([label(), label(), label(), label(), label()]),
+    }
+}
+
+/// Refuses the nth request of a call by value, of which a refusal drops the report.
+fn try_step(
+    rt: &(impl Abort + AllocGlobal),
+    step: Step,
+    seen: &Seen,
+    nth: usize,
+) -> Result<bool, Fail>
+    requires { nth < 100000 }
+{
+    let builder = match step {
+        Step::Label | Step::Labels => plain_error(rt.alloc()),
+        _ => labelled(rt.alloc())?,
+    };
+    let name = format!(in rt.alloc(); "{step:?}")?;
+    refuse(rt.alloc(), nth);
+    let builder = take(step, builder);
+    let is_refused = assert_refused(rt, name.as_str(), nth, builder.is_err());
+    if let Ok(builder) = builder {
+        assert_seen(rt, name.as_str(), &builder.finish(), seen)?;
+    }
+    Ok(is_refused)
+}
+
+#[test]
+fn a_refused_call_by_value_is_an_error(rt: HostRuntime) -> Result<(), Fail> {
+    for (step, seen) in STEPS {
+        for nth in 1..MOST_REQUESTS {
+            if !try_step(&rt, *step, seen, nth)? {
+                break;
+            }
+        }
+    }
+    Ok(())
+}
+
+/// A call of the builder by reference.
+#[derive(Clone, Copy, Debug)]
+enum Call {
+    SetMessage,
+    SetNote,
+    AddNote,
+    SetHelp,
+    AddHelp,
+    AddLabel,
+}
+
+/// A report with a message, a label, a help and a note.
+const OLD: Seen = Seen {
+    header: "Error: old",
+    middle: LABEL,
+    asides: &["   |", "   | Help: old", "   |", "   | Note: old"],
+};
+
+/// A report that has a header alone.
+const HEADER: Seen = Seen {
+    middle: &[],
+    asides: &[],
+    ..OLD
+};
+
+/// What is to be seen before and after each such call.
+const CALLS: &[(Call, Seen, Seen)] = &[
+    (
+        Call::SetMessage,
+        OLD,
+        Seen {
+            header: "Error: new",
+            ..OLD
+        },
+    ),
+    (
+        Call::SetNote,
+        OLD,
+        Seen {
+            asides: &["   |", "   | Help: old", "   |", "   | Note: new"],
+            ..OLD
+        },
+    ),
+    (
+        Call::AddNote,
+        OLD,
+        Seen {
+            asides: &[
+                "   |",
+                "   | Help: old",
+                "   |",
+                "   | Note 1: old",
+                "   |",
+                "   | Note 2: new",
+            ],
+            ..OLD
+        },
+    ),
+    (
+        Call::SetHelp,
+        OLD,
+        Seen {
+            asides: &["   |", "   | Help: new", "   |", "   | Note: old"],
+            ..OLD
+        },
+    ),
+    (
+        Call::AddHelp,
+        OLD,
+        Seen {
+            asides: &[
+                "   |",
+                "   | Help 1: old",
+                "   |",
+                "   | Help 2: new",
+                "   |",
+                "   | Note: old",
+            ],
+            ..OLD
+        },
+    ),
+    (
+        Call::AddLabel,
+        HEADER,
+        Seen {
+            middle: SILENT,
+            ..HEADER
+        },
+    ),
+];
+
+/// Makes a call of the builder by reference.
+fn make(call: Call, builder: &mut ReportBuilder<'_>) -> Result<(), AllocError> {
+    match call {
+        Call::SetMessage => builder.set_message("new"),
+        Call::SetNote => builder.set_note("new"),
+        Call::AddNote => builder.add_note("new"),
+        Call::SetHelp => builder.set_help("new"),
+        Call::AddHelp => builder.add_help("new"),
+        Call::AddLabel => builder.add_label(Label::new(0..2)),
+    }
+}
+
+/// Refuses the nth request of a call by reference, of which a refusal changes nothing.
+fn try_call(
+    rt: &(impl Abort + AllocGlobal),
+    change: &(Call, Seen, Seen),
+    nth: usize,
+) -> Result<bool, Fail>
+    requires { nth < 100000 }
+{
+    let (call, before, after) = change;
+    let mut builder = match *call {
+        Call::AddLabel => plain_error(rt.alloc()),
+        _ => labelled(rt.alloc())?.with_help("old")?.with_note("old")?,
+    };
+    builder.set_message("old")?;
+    let name = format!(in rt.alloc(); "{call:?}")?;
+    refuse(rt.alloc(), nth);
+    let answer = make(*call, &mut builder);
+    let is_refused = assert_refused(rt, name.as_str(), nth, answer.is_err());
+    let seen = if is_refused { before } else { after };
+    assert_seen(rt, name.as_str(), &builder.finish(), seen)?;
+    Ok(is_refused)
+}
+
+#[test]
+fn a_refused_call_by_reference_changes_nothing(rt: HostRuntime) -> Result<(), Fail> {
+    for call in CALLS {
+        for nth in 1..MOST_REQUESTS {
+            if !try_call(&rt, call, nth)? {
+                break;
+            }
+        }
+    }
+    Ok(())
+}
+
+/// The texts of helps or notes.
+const TEXTS: [&str; 3] = ["first", "second", "third"];
+
+/// The rows of none of these helps, of the first, of two and of all.
+const HELPS: [&[&str]; 4] = [
+    &[],
+    &["   |", "   | Help: first"],
+    &["   |", "   | Help 1: first", "   |", "   | Help 2: second"],
+    &[
+        "   |",
+        "   | Help 1: first",
+        "   |",
+        "   | Help 2: second",
+        "   |",
+        "   | Help 3: third",
+    ],
+];
+
+/// The rows of none of these notes, of the first, of two and of all.
+const NOTES: [&[&str]; 4] = [
+    &[],
+    &["   |", "   | Note: first"],
+    &["   |", "   | Note 1: first", "   |", "   | Note 2: second"],
+    &[
+        "   |",
+        "   | Note 1: first",
+        "   |",
+        "   | Note 2: second",
+        "   |",
+        "   | Note 3: third",
+    ],
+];
+
+/// Refuses the nth request of adding helps or notes, and answers how many were added.
+fn try_texts(
+    rt: &(impl Abort + AllocGlobal),
+    rows: &[&'static [&'static str]; 4],
+    is_help: bool,
+    nth: usize,
+) -> Result<usize, Fail>
+    requires { nth < 100000 }
+{
+    let mut builder = labelled(rt.alloc())?;
+    refuse(rt.alloc(), nth);
+    let answer = if is_help {
+        builder.with_helps(TEXTS)
+    } else {
+        builder.with_notes(TEXTS)
+    };
+    let is_refused = assert_refused(rt, "texts", nth, answer.is_err());
+    let mut source = source_of(rt.alloc(), "ab")?;
+    let report = builder.finish();
+    let (picture, _) = written(rt, &report, &mut source)?;
+    let added = TEXTS.iter().filter(|text| picture.contains(**text)).count();
+    assert_eq!(rt; added < 3, is_refused, "at request {nth}");
+    let seen = Seen {
+        asides: rows[added.min(3)],
+        ..LABELLED
+    };
+    assert_seen(rt, "texts", &report, &seen)?;
+    Ok(added)
+}
+
+#[test]
+fn of_refused_helps_and_notes_those_before_stay(rt: HostRuntime) -> Result<(), Fail> {
+    for (is_help, rows) in [(true, HELPS), (false, NOTES)] {
+        let mut most = 0;
+        for nth in 1..MOST_REQUESTS {
+            let added = try_texts(&rt, &rows, is_help, nth)?;
+            assert!(rt; added >= most, "at request {nth}");
+            most = added;
+            if added == 3 {
+                break;
+            }
+        }
+        assert_eq!(rt; most, 3);
+    }
+    Ok(())
+}
+
+/// Refuses the nth request of adding labels, and answers how many were added.
+fn try_labels(rt: &(impl Abort + AllocGlobal), nth: usize) -> Result<usize, Fail>
+    requires { nth < 100000 }
+{
+    let mut labels = Vec::new(rt.alloc());
+    for _ in 0..9 {
+        labels.push(Label::new(0..1).with_message(rt.alloc(), "x")?)?;
+    }
+    let mut builder = plain_error(rt.alloc());
+    refuse(rt.alloc(), nth);
+    let answer = builder.add_labels(labels);
+    let is_refused = assert_refused(rt, "add_labels", nth, answer.is_err());
+    let mut source = source_of(rt.alloc(), "ab")?;
+    let report = builder.finish();
+    let (picture, _) = written(rt, &report, &mut source)?;
+    let rows = picture.split_terminator('\n');
+    let added = rows.filter(|row| row.ends_with("`-- x")).count();
+    assert_eq!(rt; added < 9, is_refused, "at request {nth}");
+    let mut middle = Vec::new(rt.alloc());
+    if added > 0 {
+        middle.extend_from_slice(SILENT)?;
+    }
+    for _ in 0..added {
+        middle.extend_from_slice(&["   | |", "   | `-- x"])?;
+    }
+    assert_rows(rt, "add_labels", &report, ("Error:", &middle, &[]))?;
+    Ok(added)
+}
+
+#[test]
+fn of_refused_labels_those_before_stay(rt: HostRuntime) -> Result<(), Fail> {
+    let mut most = 0;
+    for nth in 1..MOST_REQUESTS {
+        let added = try_labels(&rt, nth)?;
+        assert!(rt; nth == 1 || added > most, "at request {nth}");
+        most = added;
+        if added == 9 {
+            return Ok(());
+        }
+    }
+    Err(Fail::from("every request was refused"))
+}

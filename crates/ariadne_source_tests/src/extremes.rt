@@ -1,0 +1,140 @@
+//! The greatest numbers, and reports of many labels, long lines and long messages.
+
+use ariadne::{Config, Label, Report, ReportBuilder, ReportKind, WriteError};
+use ariadne_asserts::asserts::{
+    Why, assert_left_out, assert_trimmed, plain, plain_error, source_of, written,
+};
+use std::alloc::{AllocError, Global};
+use std::process::Abort;
+use std::test::Fail;
+
+#[test]
+fn a_span_up_to_the_greatest_offset_is_past_its_source(rt: HostRuntime) -> Result<(), Fail> {
+    let mut source = source_of(rt.alloc(), "ab")?;
+    let builder = Report::build(rt.alloc(), ReportKind::Error, 0..=usize::MAX);
+    let builder = builder.with_config(plain());
+    let report = builder.with_label(Label::new(0..=usize::MAX))?.finish();
+    let (picture, left_out) = written(&rt, &report, &mut source)?;
+    assert_left_out(&left_out, &[(0, Why::PastSource)])?;
+    assert_eq!(rt; picture.as_str(), "Error: \n");
+    Ok(())
+}
+
+#[test]
+fn the_greatest_tab_is_want_of_memory(rt: HostRuntime) -> Result<(), Fail> {
+    let alloc = rt.alloc();
+    for config in [plain(), plain().with_compact(true), Config::new()] {
+        let label = Label::new(1..2).with_message(alloc, "m")?;
+        let builder = plain_error(alloc).with_config(config.with_tab_width(usize::MAX));
+        let report = builder.with_label(label)?.finish();
+        let mut source = source_of(alloc, "\tx")?;
+        let mut out = Vec::new(alloc);
+        let answer = report.write(&mut source, &mut out);
+        assert!(rt; matches!(answer, Err(WriteError::Memory(_))));
+        assert!(rt; out.is_empty());
+    }
+    Ok(())
+}
+
+/// A text of one character, so many times.
+fn filled(alloc: Global, filler: char, count: usize) -> Result<String, AllocError> {
+    let mut text = String::new(alloc);
+    for _ in 0..count {
+        text.push(filler)?;
+    }
+    Ok(text)
+}
+
+/// The report with one label more.
+fn labelled_at<'a>(
+    rt: &(impl Abort + AllocGlobal),
+    builder: ReportBuilder<'a>,
+    (start, end): (usize, usize),
+    message: &str,
+) -> Result<ReportBuilder<'a>, AllocError> {
+    assert!(rt; start <= end);
+    builder.with_label(Label::new(start..end).with_message(rt.alloc(), message)?)
+}
+
+/// Asserts that over a text a report leaves no label out, and that its picture has these rows below
+/// the three of every report, and above the tail.
+fn assert_drawn(
+    rt: &(impl Abort + AllocGlobal),
+    builder: ReportBuilder<'_>,
+    text: &str,
+    drawn: &[&str],
+) -> Result<(), Fail> {
+    let mut rows = vec![in rt.alloc(); "Error:", "   ,-[ <unknown>:1:1 ]", "   |"]?;
+    rows.extend_from_slice(drawn)?;
+    rows.push("---'")?;
+    let mut source = source_of(rt.alloc(), text)?;
+    let (picture, left_out) = written(rt, &builder.finish(), &mut source)?;
+    assert_left_out(&left_out, &[])?;
+    assert_trimmed(rt, picture.as_str(), &rows)
+}
+
+#[test]
+fn ten_thousand_labels_on_a_character_are_drawn(rt: HostRuntime) -> Result<(), Fail> {
+    let mut builder = plain_error(rt.alloc());
+    let mut rows = vec![in rt.alloc(); " 1 | x"]?;
+    for _ in 0..10_000 {
+        builder = labelled_at(&rt, builder, (0, 1), "m")?;
+        rows.push("   | |")?;
+        rows.push("   | `-- m")?;
+    }
+    assert_drawn(&rt, builder, "x", &rows)
+}
+
+#[test]
+fn a_thousand_nested_labels_are_drawn(rt: HostRuntime) -> Result<(), Fail> {
+    let alloc = rt.alloc();
+    let mut builder = labelled_at(&rt, plain_error(alloc), (1000, 1001), "inmost")?;
+    for margin in 0..1000usize {
+        let (start, end) = (margin, 2001usize.saturating_sub(margin));
+        assert!(rt; start <= end);
+        builder = builder.with_label(Label::new(start..end))?;
+    }
+    let text = filled(alloc, 'x', 2001)?;
+    let line = filled(alloc, '^', 1000)?;
+    let blanks = filled(alloc, ' ', 1000)?;
+    let strokes = filled(alloc, '-', 1002)?;
+    let rows = [
+        format!(in alloc; " 1 | {text}")?,
+        format!(in alloc; "   | {line}|{line}")?,
+        format!(in alloc; "   | {blanks}`{strokes} inmost")?,
+    ];
+    assert_drawn(
+        &rt,
+        builder,
+        text.as_str(),
+        &rows.each_ref().map(|row| row.as_str()),
+    )
+}
+
+#[test]
+fn a_line_of_a_million_characters_is_drawn(rt: HostRuntime) -> Result<(), Fail> {
+    let alloc = rt.alloc();
+    let builder = labelled_at(&rt, plain_error(alloc), (999_999, 1_000_000), "m")?;
+    let text = filled(alloc, 'x', 1_000_000)?;
+    let blanks = filled(alloc, ' ', 999_999)?;
+    let rows = [
+        format!(in alloc; " 1 | {text}")?,
+        format!(in alloc; "   | {blanks}|")?,
+        format!(in alloc; "   | {blanks}`-- m")?,
+    ];
+    assert_drawn(
+        &rt,
+        builder,
+        text.as_str(),
+        &rows.each_ref().map(|row| row.as_str()),
+    )
+}
+
+#[test]
+fn a_message_of_a_million_bytes_is_drawn(rt: HostRuntime) -> Result<(), Fail> {
+    let alloc = rt.alloc();
+    let message = filled(alloc, 'm', 1_000_000)?;
+    let builder = labelled_at(&rt, plain_error(alloc), (0, 1), message.as_str())?;
+    let row = format!(in alloc; "   | `-- {message}")?;
+    assert_drawn(&rt, builder, "x", &[" 1 | x", "   | |", row.as_str()])
+}

@@ -1,0 +1,183 @@
+//! What each cache holds, answers and shows, by its own calls.
+
+use ariadne::{Cache, FetchError, FileCache, FileError, FnCache, Source, UnknownSource, sources};
+use std::alloc::{AllocError, Global};
+use std::cell::Cell;
+use std::collections::HashMap;
+use std::test::Fail;
+use std::{env, fs};
+
+/// Whether a fetch answers a source of this text.
+fn fetches<Id: Eq, C: Cache<Id>>(cache: &mut C, id: &Id, text: &str) -> bool
+    requires { C.can_fetch cache.old }
+    ensures { C.can_fetch cache.new }
+{
+    if C::ensure(cache, id).is_err() {
+        return false;
+    }
+    match C::get(cache, id) {
+        Some(source) => source.text() == text,
+        None => false,
+    }
+}
+
+/// Whether a fetch answers that there is no source of this name.
+fn lacks<Id: Eq, C: Cache<Id, Error = UnknownSource>>(cache: &mut C, id: &Id, name: &str) -> bool
+    requires { C.can_fetch cache.old }
+    ensures { C.can_fetch cache.new }
+{
+    match C::ensure(cache, id) {
+        Err(FetchError::Failed(error)) => error.name() == name,
+        _ => false,
+    }
+}
+
+/// Whether a fetch answers that a file has no text, in these words.
+fn has_no_text<Id: Eq, C: Cache<Id, Error = FileError>>(
+    alloc: Global,
+    cache: &mut C,
+    id: &Id,
+    words: &str,
+) -> Result<bool, AllocError>
+    requires { C.can_fetch cache.old }
+    ensures { C.can_fetch cache.new }
+{
+    match C::ensure(cache, id) {
+        Err(FetchError::Failed(error)) => Ok(error.to_string(alloc)?.as_str() == words),
+        _ => Ok(false),
+    }
+}
+
+#[test]
+fn a_source_is_a_cache_without_names_and_a_pair_holds_its_own_id_alone(
+    rt: HostRuntime,
+) -> Result<(), Fail> {
+    let alloc = rt.alloc();
+    let mut source = Source::from(alloc, "ab")?;
+    assert!(rt; fetches(&mut source, &(), "ab"));
+    assert!(rt; source.display(&()).is_none());
+    let mut lent = &source;
+    assert!(rt; fetches(&mut lent, &(), "ab"));
+    assert!(rt; lent.display(&()).is_none());
+
+    let mut lent = ("a", &source);
+    assert!(rt; fetches(&mut lent, &"a", "ab"));
+    assert!(rt; lacks(&mut lent, &"b", "b"));
+    assert_eq!(rt; lent.display(&"b"), Some("b"));
+    let mut pair = ("a".to_string(alloc)?, source);
+    let other = "b".to_string(alloc)?;
+    assert!(rt; fetches(&mut pair, &"a".to_string(alloc)?, "ab"));
+    assert!(rt; lacks(&mut pair, &other, "b"));
+    assert_eq!(rt; pair.display(&other), Some("b"));
+
+    // The last pair of an id counts.
+    let mut map = sources(alloc, [("a", "x"), ("b", "z"), ("a", "y")])?;
+    assert!(rt; fetches(&mut map, &"a", "y"));
+    assert!(rt; fetches(&mut map, &"b", "z"));
+    assert!(rt; lacks(&mut map, &"zz", "zz"));
+    assert_eq!(rt; map.display(&"zz"), Some("zz"));
+    Ok(())
+}
+
+#[test]
+fn a_cache_is_reached_by_reference_and_in_a_box(rt: HostRuntime) -> Result<(), Fail> {
+    let alloc = rt.alloc();
+    let mut pair = ("a", Source::from(alloc, "ab")?);
+    let mut lent = &mut pair;
+    assert!(rt; fetches(&mut lent, &"a", "ab"));
+    assert!(rt; lacks(&mut lent, &"b", "b"));
+    let mut boxed = Box::new(alloc, pair)?;
+    assert!(rt; fetches(&mut boxed, &"a", "ab"));
+    assert_eq!(rt; boxed.display(&"b"), Some("b"));
+    let Err(FetchError::Failed(error)) = boxed.ensure(&"b") else {
+        return Err(Fail::from("no error of the cache's own"));
+    };
+    assert_eq!(rt;
+        error.to_string(alloc)?.as_str(),
+        "Failed to fetch source 'b'"
+    );
+    Ok(())
+}
+
+/// A function that fails for `z` and answers every other id.
+fn got_but_z(id: &&str) -> Result<&'static str, u8> {
+    if *id == "z" { Err(7) } else { Ok("got") }
+}
+
+#[test]
+fn a_function_is_asked_until_it_answers_and_what_is_given_replaces_what_is_held(
+    rt: HostRuntime,
+) -> Result<(), Fail> {
+    let alloc = rt.alloc();
+    let calls = Cell::new(0u8);
+    let mut cache: FnCache<&str, _, &str> = FnCache::new(alloc, |_id: &&str| -> Result<&str, u8> {
+        calls.set(calls.get().wrapping_add(1));
+        if calls.get() == 1 { Err(7) } else { Ok("ab") }
+    });
+    assert!(rt; matches!(cache.ensure(&"x"), Err(FetchError::Failed(7))));
+    assert!(rt; cache.get(&"x").is_none());
+    for _ in 0..3 {
+        assert!(rt; fetches(&mut cache, &"x", "ab"));
+        assert_eq!(rt; calls.get(), 2);
+    }
+    assert_eq!(rt; cache.display(&"x"), Some("x"));
+
+    let mut cache: FnCache<&str, _, &str> = FnCache::new(alloc, got_but_z);
+    for _ in 0..2 {
+        assert!(rt; matches!(cache.fetch(&"z"), Err(FetchError::Failed(7))));
+        let text = cache.fetch(&"a").map_or("", |source| source.text());
+        assert_eq!(rt; text, "got");
+    }
+    assert!(rt; cache.get(&"z").is_none());
+    assert!(rt; fetches(&mut cache, &"b", "got"));
+    let mut given = HashMap::new(alloc);
+    given.insert("a", Source::from(alloc, "given")?)?;
+    given.insert("c", Source::from(alloc, "given")?)?;
+    let mut cache = cache.with_sources(given)?;
+    assert!(rt; fetches(&mut cache, &"a", "given"));
+    assert!(rt; fetches(&mut cache, &"b", "got"));
+    assert!(rt; fetches(&mut cache, &"c", "given"));
+    assert!(rt; fetches(&mut cache, &"d", "got"));
+    Ok(())
+}
+
+#[test]
+fn files_are_read_once_by_either_kind_of_path(rt: HostRuntime) -> Result<(), Fail> {
+    let alloc = rt.alloc();
+    let path = env::temp_dir(&rt)?.join(alloc, "ariadne_tests_file.txt")?;
+    fs::write(&rt, path.as_path(), "\u{feff}a\r\n")?;
+    let mut cache = FileCache::new(&rt, alloc);
+    let text = path.as_str();
+    let owned = text.to_string(alloc)?;
+    assert!(rt; fetches(&mut cache, &text, "\u{feff}a\r\n"));
+    assert_eq!(rt; cache.display(&text), Some(text));
+
+    // What is held stays, under the same path as a `String` too.
+    fs::write(&rt, path.as_path(), "cd")?;
+    assert!(rt; fetches(&mut cache, &owned, "\u{feff}a\r\n"));
+    assert_eq!(rt; cache.display(&owned), Some(text));
+
+    let mut later = FileCache::new(&rt, alloc);
+    assert!(rt; fetches(&mut later, &owned, "cd"));
+    assert!(rt; fetches(&mut later, &text, "cd"));
+    Ok(())
+}
+
+#[test]
+fn what_is_no_text_of_a_file_is_an_error(rt: HostRuntime) -> Result<(), Fail> {
+    let alloc = rt.alloc();
+    let folder = env::temp_dir(&rt)?;
+    let path = folder.join(alloc, "ariadne_tests_bytes.txt")?;
+    let missing = folder.join(alloc, "ariadne_tests_missing.txt")?;
+    fs::write(&rt, path.as_path(), b"a\xff")?;
+    let mut cache = FileCache::new(&rt, alloc);
+    let (bytes, unread) = ("file isn't UTF-8", "file can't be read");
+    assert!(rt; has_no_text(alloc, &mut cache, &path.as_str(), bytes)?);
+    assert!(rt; has_no_text(alloc, &mut cache, &folder.as_str(), unread)?);
+    assert!(rt; has_no_text(alloc, &mut cache, &missing.as_str(), unread)?);
+    assert!(rt; cache.get(&path.as_str()).is_none());
+    // A later fetch reads the file again.
+    fs::write(&rt, path.as_path(), "ab")?;
+    assert!(rt; fetches(&mut cache, &path.as_str(), "ab"));
+    Ok(())
+}

@@ -1,0 +1,196 @@
+//! What a painted value prints, and the colours of the generator.
+
+ghost use Rattle.std.specs.Prelude.{◌≡◌, ◌++◌, IfOk, decimal, encode_utf8, string_bytes};
+ghost use Rattle.ariadne_color.specs.Colors.{background, foreground, painted_in};
+
+use ariadne::{Color, ColorGenerator, Fmt};
+use ariadne_color::color::{numbers_rise_evenly, push_painted, push_painted_char};
+use std::alloc::{AllocError, Global};
+use std::fmt::Display;
+use std::test::Fail;
+
+const RED: Option<Color> = Some(Color::Red);
+
+/// The bytes of a painted character are known where it is printed.
+fn painted_char(alloc: Global, c: char, color: Option<Color>) -> Result<String, AllocError>
+    ensures { IfOk result (λ text. string_bytes text ≡ painted_in foreground color
+        (encode_utf8 c)) }
+{
+    c.fg(color).to_string(alloc)
+}
+
+/// So are those of a painted text.
+fn painted_text(alloc: Global, s: &str, color: Option<Color>) -> Result<String, AllocError>
+    ensures { IfOk result (λ text. string_bytes text ≡ painted_in background color s.now) }
+{
+    format!(in alloc; "{}", s.bg(color))
+}
+
+/// So are those of a painted number, between other texts.
+fn painted_number(alloc: Global, n: u32, color: Option<Color>) -> Result<String, AllocError>
+    ensures { IfOk result (λ text. string_bytes text
+        ≡ painted_in foreground color (decimal n) ++ painted_in background color (decimal n)) }
+{
+    format!(in alloc; "{}{}", n.fg(color), n.bg(color))
+}
+
+/// A value is printed twice where it can be copied.
+fn printed_twice<T: Display + Copy>(alloc: Global, value: T) -> Result<String, AllocError> {
+    let painted = value.fg(RED);
+    let again = painted;
+    format!(in alloc; "{painted}{again}")
+}
+
+/// The usual generator after a call: its numbers are known where it is called.
+fn usual_after_one() -> ColorGenerator
+    ensures { result ≡ record { red = 54262; green = 4666; blue = 55606; brightness = 500 } }
+{
+    let mut colors = ColorGenerator::new();
+    colors.next();
+    colors
+}
+
+/// The same after two calls.
+fn usual_after_two() -> ColorGenerator
+    ensures { result ≡ record { red = 12988; green = 59868; blue = 10676; brightness = 500 } }
+{
+    let mut colors = usual_after_one();
+    colors.next();
+    colors
+}
+
+/// The same after three calls.
+fn usual_after_three() -> ColorGenerator
+    ensures { result ≡ record { red = 37250; green = 49534; blue = 31282; brightness = 500 } }
+{
+    let mut colors = usual_after_two();
+    colors.next();
+    colors
+}
+
+/// The greatest numbers after a call.
+fn greatest_after_one() -> ColorGenerator
+    ensures { result ≡ record { red = 24261; green = 55201; blue = 20605; brightness = 0 } }
+{
+    let mut colors = ColorGenerator::from_state([65535, 65535, 65535], 0);
+    colors.next();
+    colors
+}
+
+#[test]
+fn every_color_in_front_and_behind(rt: HostRuntime) -> Result<(), Fail> {
+    let cases = [
+        (Color::Primary, "39", "49"),
+        (Color::Fixed(0), "38;5;0", "48;5;0"),
+        (Color::Fixed(99), "38;5;99", "48;5;99"),
+        (Color::Fixed(255), "38;5;255", "48;5;255"),
+        (Color::Rgb(1, 20, 255), "38;2;1;20;255", "48;2;1;20;255"),
+        (Color::Black, "30", "40"),
+        (Color::Red, "31", "41"),
+        (Color::Green, "32", "42"),
+        (Color::Yellow, "33", "43"),
+        (Color::Blue, "34", "44"),
+        (Color::Magenta, "35", "45"),
+        (Color::Cyan, "36", "46"),
+        (Color::White, "37", "47"),
+        (Color::BrightBlack, "90", "100"),
+        (Color::BrightRed, "91", "101"),
+        (Color::BrightGreen, "92", "102"),
+        (Color::BrightYellow, "93", "103"),
+        (Color::BrightBlue, "94", "104"),
+        (Color::BrightMagenta, "95", "105"),
+        (Color::BrightCyan, "96", "106"),
+        (Color::BrightWhite, "97", "107"),
+    ];
+    for (color, front, behind) in cases {
+        let want = format!(in rt.alloc(); "\x1b[{front}mé\x1b[0m")?;
+        assert_eq!(rt;
+            painted_char(rt.alloc(), 'é', Some(color))?,
+            want,
+            "{color:?} in front"
+        );
+        let mut out = String::new(rt.alloc());
+        push_painted_char(&mut out, Some(color), 'é')?;
+        assert_eq!(rt; out, want, "{color:?} in front of a character");
+        let mut out = String::new(rt.alloc());
+        push_painted(&mut out, Some(color), "é")?;
+        assert_eq!(rt; out, want, "{color:?} in front of a text");
+        let want = format!(in rt.alloc(); "\x1b[{behind}mé\x1b[0m")?;
+        assert_eq!(rt;
+            painted_text(rt.alloc(), "é", Some(color))?,
+            want,
+            "{color:?} behind"
+        );
+    }
+    Ok(())
+}
+
+#[test]
+fn values_of_any_kind_are_painted_and_without_color_stand_alone(
+    rt: HostRuntime,
+) -> Result<(), Fail> {
+    let alloc = rt.alloc();
+    assert_eq!(rt;
+        format!(in alloc; "{}{}", "x".fg(None), 7.bg(None))?.as_str(),
+        "x7"
+    );
+    let mut out = String::from_str(alloc, "a")?;
+    push_painted(&mut out, None, "b")?;
+    push_painted_char(&mut out, None, 'c')?;
+    assert_eq!(rt; out.as_str(), "abc");
+
+    // Options of the format are ignored.
+    assert_eq!(rt; format!(in alloc; "{:5}|", "x".fg(None))?.as_str(), "x|");
+    assert_eq!(rt; format!(in alloc; "{:>5}|", "x".bg(None))?.as_str(), "x|");
+    assert_eq!(rt;
+        format!(in alloc; "{:05}", 7.fg(RED))?.as_str(),
+        "\x1b[31m7\x1b[0m"
+    );
+    assert_eq!(rt;
+        format!(in alloc; "{:.1}", "xyz".bg(RED))?.as_str(),
+        "\x1b[41mxyz\x1b[0m"
+    );
+
+    // Numbers and empty texts are painted.
+    let seven = format!(in alloc; "{}", 7.bg(Some(Color::Rgb(1, 2, 3))))?;
+    assert_eq!(rt; seven.as_str(), "\x1b[48;2;1;2;3m7\x1b[0m");
+    let nothing = "".fg(Some(Color::Primary)).to_string(alloc)?;
+    assert_eq!(rt; nothing.as_str(), "\x1b[39m\x1b[0m");
+    let mut out = String::new(alloc);
+    push_painted(&mut out, Some(Color::Red), "")?;
+    assert_eq!(rt; out.as_str(), "\x1b[31m\x1b[0m");
+    assert_eq!(rt;
+        painted_number(alloc, 42, RED)?.as_str(),
+        "\x1b[31m42\x1b[0m\x1b[41m42\x1b[0m"
+    );
+    assert_eq!(rt;
+        printed_twice(alloc, 'x')?.as_str(),
+        "\x1b[31mx\x1b[0m\x1b[31mx\x1b[0m"
+    );
+    Ok(())
+}
+
+#[test]
+fn colors_of_a_generator(rt: HostRuntime) {
+    let mut usual = ColorGenerator::new();
+    let mut default = ColorGenerator::default();
+    for number in [201, 155, 187] {
+        assert_eq!(rt; usual.next(), Color::Fixed(number));
+        assert_eq!(rt; default.next(), Color::Fixed(number));
+    }
+    assert_eq!(rt; usual_after_one().next(), Color::Fixed(155));
+    assert_eq!(rt; usual_after_two().next(), Color::Fixed(187));
+    assert_eq!(rt; usual_after_three().next(), default.next());
+
+    // Full brightness is always white.
+    let mut bright = ColorGenerator::from_state([0, 0, 0], 2000);
+    for turn in 0..20 {
+        assert_eq!(rt; bright.next(), Color::Fixed(231), "at turn {turn}");
+    }
+
+    // Numbers begin again at 65536.
+    let mut greatest = ColorGenerator::from_state([65535, 65535, 65535], 0);
+    assert_eq!(rt; greatest.next(), Color::Fixed(109));
+    assert_eq!(rt; greatest_after_one().next(), greatest.next());
+    numbers_rise_evenly();
+}

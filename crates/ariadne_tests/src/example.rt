@@ -1,0 +1,35 @@
+//! The example of README.md draws the picture of README.md. `tools/check-gallery` compares the page
+//! with this file.
+
+use crate::readme::tell;
+use ariadne_asserts::asserts::assert_trimmed;
+use std::test::Fail;
+
+/// The picture of README.md.
+const README: [&str; 14] = [
+    "Error: Incompatible types",
+    "   ,-[ <unknown>:2:8 ]",
+    "   |",
+    " 1 | ,-> def five = match () in {",
+    " 2 | |       () => 5,",
+    "   | |             |",
+    "   | |             `-- This is of type Nat",
+    " 3 | |       () => \"5\",",
+    "   | |             ^|^",
+    "   | |              `--- This is of type Str",
+    " 4 | |-> }",
+    "   | |",
+    "   | `------- The values are outputs of this match expression",
+    "---'",
+];
+
+#[test]
+fn the_example_of_the_readme(rt: HostRuntime) -> Result<(), Fail> {
+    let text =
+        "def five = match () in {\n\t() => 5,\n\t() => \"5\",\n}\n\ndef six =\n    five\n    + 1\n";
+    let mut out = Vec::new(rt.alloc());
+    let mut faults: Vec<u8> = Vec::new(rt.alloc());
+    tell(rt.alloc(), text, &mut out, &mut faults)?;
+    assert!(rt; faults.is_empty());
+    assert_trimmed(&rt, String::from_utf8(out)?.as_str(), &README)
+}
