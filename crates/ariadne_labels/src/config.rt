@@ -82,6 +82,15 @@ impl Config {
 
     /// Whether a horizontal that crosses a vertical hides it; else it is drawn as a crossing. By
     /// default it does.
+    ///
+    /// ```text
+    /// with_cross_gap(true)      with_cross_gap(false)
+    ///  1 | ab                    1 | ab
+    ///    | ||                      | ||
+    ///    | `--- p                  | `+-- p
+    ///    |  |                      |  |
+    ///    |  `-- q                  |  `-- q
+    /// ```
     pub const fn with_cross_gap(mut self, cross_gap: bool) -> Config
         ensures { result ≡ record self { cross_gap = cross_gap } }
     {
@@ -91,6 +100,13 @@ impl Config {
 
     /// Where the arrow of a label within one line is attached: at its first character, its middle
     /// one or its last one. By default it is the middle.
+    ///
+    /// ```text
+    /// LabelAttach::Start      LabelAttach::Middle      LabelAttach::End
+    ///  1 | abc                 1 | abc                  1 | abc
+    ///    | |^^                   | ^|^                    | ^^|
+    ///    | `---- x               |  `--- x                |   `-- x
+    /// ```
     pub const fn with_label_attach(mut self, label_attach: LabelAttach) -> Config
         ensures { result ≡ record self { label_attach = label_attach } }
     {
@@ -101,6 +117,13 @@ impl Config {
     /// Whether the picture is drawn with fewer rows and columns: without underlines, without the
     /// rows between a line and its messages, and without those that only set parts of the picture
     /// apart. By default it is not.
+    ///
+    /// ```text
+    /// with_compact(false)      with_compact(true)
+    ///  1 | ab                   1 |ab
+    ///    | ^|                     | `- x
+    ///    |  `-- x
+    /// ```
     pub const fn with_compact(mut self, compact: bool) -> Config
         ensures { result ≡ record self { compact = compact } }
     {
@@ -110,6 +133,13 @@ impl Config {
 
     /// Whether labels within one line are underlined, where some label of the line has a message. By
     /// default they are; compact pictures have no underlines.
+    ///
+    /// ```text
+    /// with_underlines(true)      with_underlines(false)
+    ///  1 | apple                  1 | apple
+    ///    | ^^|^^                    |   |
+    ///    |   `---- fruit            |   `---- fruit
+    /// ```
     pub const fn with_underlines(mut self, underlines: bool) -> Config
         ensures { result ≡ record self { underlines = underlines } }
     {
@@ -119,6 +149,19 @@ impl Config {
 
     /// Whether the ends of labels over several lines are shown by arrow heads below their line. By
     /// default they are.
+    ///
+    /// ```text
+    /// with_multiline_arrows(true)      with_multiline_arrows(false)
+    ///  1 | ,---> aa                     1 | ,---> aa
+    ///    | |      ^                       | |      |
+    ///    | | ,----'                       | | ,----'
+    ///  2 | | |-> bb                     2 | | |-> bb
+    ///    | | |                            | | |
+    ///    | | `-------- mid                | | `-------- mid
+    ///  3 | |---> cc                     3 | |---> cc
+    ///    | |                              | |
+    ///    | `--------- all                 | `--------- all
+    /// ```
     pub const fn with_multiline_arrows(mut self, multiline_arrows: bool) -> Config
         ensures { result ≡ record self { multiline_arrows = multiline_arrows } }
     {
@@ -137,6 +180,13 @@ impl Config {
 
     /// How many columns of a line stand from one tab stop to the next: at least 1, and 4 by default.
     /// A tab reaches to the next stop, whatever wide or combining characters stand before it.
+    ///
+    /// ```text
+    /// with_tab_width(4)      with_tab_width(8)
+    ///  1 |     x              1 |         x
+    ///    |     |                |         |
+    ///    |     `-- t            |         `-- t
+    /// ```
     pub const fn with_tab_width(mut self, tab_width: usize) -> Config
         requires { 1 ≤ tab_width }
         ensures { result ≡ record self { tab_width = tab_width } }
@@ -146,6 +196,17 @@ impl Config {
     }
 
     /// The characters that strokes are drawn with, by default those for boxes of Unicode.
+    ///
+    /// ```text
+    /// CharSet::Unicode                          CharSet::Ascii
+    ///  1 │ ╭─▶ apple                             1 | ,-> apple
+    ///    ┆ ┆                                       : :
+    ///  3 │ ├─▶ orange                            3 | |-> orange
+    ///    │ │   ───┬──                              | |   ^^^|^^
+    ///    │ │      ╰──── This is an orange          | |      `---- This is an orange
+    ///    │ │                                       | |
+    ///    │ ╰─────────── illegal comparison         | `----------- illegal comparison
+    /// ```
     pub const fn with_char_set(mut self, char_set: CharSet) -> Config
         ensures { result ≡ record self { char_set = char_set } }
     {
@@ -154,7 +215,8 @@ impl Config {
     }
 
     /// What the offsets of spans count from 0: characters of a source, or bytes of its text in
-    /// UTF-8. By default they are characters.
+    /// UTF-8. By default they are characters. In `äpplë == örängë;` the last word is 9..15 by
+    /// characters and 11..20 by bytes, and its picture is the same.
     pub const fn with_index_type(mut self, index_type: IndexType) -> Config
         ensures { result ≡ record self { index_type = index_type } }
     {
