@@ -27,4 +27,4 @@ pub record AreParts (labels : List LabelInfo) (offset len : ℕ) (parts : List P
 unfoldable pub better_one : Option LabelInfo → Option LabelInfo → Option LabelInfo
 better_one None b = b
 better_one (Some a) None = Some a
-better_one (Some a) (Some b) = if is_preferred b a then Some b else Some a
+better_one (Some a) (Some b) = Some (if is_preferred b a then b else a)

@@ -36,8 +36,8 @@ pub fn painters<'a>(
 ) -> Result<Vec<&'a LabelInfo>, AllocError>
     requires { All (λ i. i < length multi_line.now) touching.now }
     ensures { let margin = infos_of (option_to_list (option_copied margin.entry)) in
-        let others = numbered multi_line.now touching.now ++ infos_of labels.now in
-        IfOk result (λ v. labels_at v.items ≡ margin ++ others) }
+        let touching = numbered multi_line.now touching.now in
+        IfOk result (λ v. labels_at v.items ≡ margin ++ touching ++ infos_of labels.now) }
 {
     let count = touching.len().saturating_add(labels.len());
     let mut list = Vec::with_capacity(alloc, count.saturating_add(1))?;

@@ -93,9 +93,8 @@ fn better_one<'a>(
 ) -> Option<&'a LabelInfo>
     ensures { option_copied result ≡ better_one (option_copied first.entry) (option_copied second.entry) }
 {
-    match (first, second) {
-        (Some(a), Some(b)) if b.is_preferred_to(a) => second,
-        (Some(_), _) => first,
-        (None, _) => second,
-    }
+    let (Some(a), Some(b)) = (first, second) else {
+        return first.or(second);
+    };
+    if b.is_preferred_to(a) { second } else { first }
 }

@@ -1,0 +1,23 @@
+use Rattle.std.proofs.Common.{◌+◌, ◌++◌, ◌<◌, ◌∙◌, ap, arith, option_to_list, subst, sym}
+use Rattle.std.proofs.lemmas.Result.{on_ok_weaker}
+use Rattle.ariadne_cells.specs.Choices.{infos_of, labels_at, numbered, shown_position}
+use Rattle.ariadne_cells.specs.Tables.{position_paint}
+use Rattle.ariadne_cells.proofs.Stretched.{paint_shown}
+use Rattle.ariadne_cells.proofs.Touching.{painters_kept}
+use Rattle.ariadne_cells.proofs.stretches.find_paints.Goals as goal
+
+-- they are those of the labels that may hold a shown character
+pub returns : goal.returns
+returns c =
+    let y = c.args.layout.now in
+    let multi_line = c.args.multi_line.now in
+    let touching = c.args.touching.now in
+    let margin = c.as_ref.ensures.value ∙ c.margin-margin.ensures in
+    let same = ap labels_at c.deref.ensures.value ∙ c.in_ok-labels.ensures
+    ∙ (λ i. infos_of (option_to_list (margin i)) ++ numbered multi_line touching ++ infos_of (c.labels.ensures i)) in
+    on_ok_weaker c.fill.result
+    (λ h k below.
+    ap position_paint (h k (omega (arith, c.shown_len.ensures)) ∙ (λ i. shown_position (same i) (c.offset.ensures i + k))
+    ∙ painters_kept multi_line touching y k c.requires.within c.requires.rising c.requires.touching below)
+    ∙ paint_shown multi_line y k)
+    c.fill.ensures

@@ -1,0 +1,21 @@
+use Rattle.std.proofs.Common.{◌+◌, ◌∙◌, ap, sym}
+use Rattle.std.proofs.lemmas.Result.{on_ok_weaker}
+use Rattle.ariadne_cells.specs.Choices.{inline_infos, labels_at, shown_position}
+use Rattle.ariadne_cells.specs.Tables.{shown_at}
+use Rattle.ariadne_cells.proofs.Stretched.{underline_shown, underline_unseen}
+use Rattle.ariadne_cells.proofs.stretches.find_underlines.Goals as goal
+
+-- no underlines are wanted
+pub returns-then-not-switches : goal.returns-then-not-switches
+unfolding shown_at
+returns-then-not-switches c = λ k below.
+    ap (λ t. shown_at t k) c.clear.ensures.items ∙ underline_unseen c.args.switches.now c.args.layout.now k c.if-not-switches.true
+
+-- they are those of the labels that lie within the line
+pub returns : goal.returns
+returns c =
+    let same = ap labels_at c.deref.ensures.value ∙ c.in_ok-labels.ensures ∙ ap inline_infos c.labels.ensures in
+    on_ok_weaker c.fill.result
+    (λ h k below. h k below ∙ (λ i. shown_position (same i) (c.offset.ensures i + k))
+    ∙ underline_shown c.args.switches.now c.args.layout.now k c.if-not-switches.false)
+    c.fill.ensures
