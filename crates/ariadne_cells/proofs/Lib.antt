@@ -8,6 +8,8 @@ pub mod LabelVerticals
 pub mod Layouts
 pub mod Margins
 pub mod OneOrder
+pub mod PartsOfLabels
 pub mod PlaceColumns
+pub mod References
 pub mod Stretched
 pub mod Touching

@@ -1,12 +1,14 @@
 -- Stretches of places that each show one label, and what they show at each place.
-use Rattle.std.proofs.Common.{◌≡◌, ℕ, ◌+◌, ◌-◌, ◌<◌, ◌≤◌, Bool, true, false, ◌&&◌, cond, List, [], ◌∷◌, ◌++◌, Option, Some, None, filter, map, option_map, option_copied}
+use Rattle.std.proofs.Common.{◌≡◌, ℕ, ◌+◌, ◌-◌, ◌<◌, ◌≤◌, Bool, true, false, ◌&&◌, cond, List, [], ◌∷◌, ◌++◌, Option, Some, None, filter, map, nat_lt, option_map, option_copied}
 use Rattle.std.proofs.Common.{◌==◌, refl, sym, ap, ◌∙◌, subst, arith, inl, inr}
 use Rattle.std.specs.List.{AllByRecursion, best_of}
 use Rattle.std.proofs.lemmas.Bool.{cond-true, cond-false, cases_lt, eq-eqb, lt-ltb, le-ltb}
 use Rattle.std.proofs.lemmas.List.{append-nil, append_assoc}
 use Rattle.ariadne_cells.specs.declared.choice.Choice.{Choice}
 use Rattle.ariadne_cells.specs.declared.stretches.Stretch.{Stretch}
-use Rattle.ariadne_cells.specs.Choices.{IsChoice, infos_of, inline_infos}
+use Rattle.ariadne_cells.specs.declared.parts.Part.{Part}
+use Rattle.ariadne_cells.specs.Choices.{IsChoice, infos_of, inline_infos, shown_position}
+use Rattle.ariadne_cells.specs.Parts.{seen_at}
 use Rattle.ariadne_cells.specs.Tables.{shown_at, position_of, position_paint}
 use Rattle.ariadne_picture.specs.declared.label_info.LabelInfo.{LabelInfo}
 use Rattle.ariadne_picture.specs.declared.label_info.LineLabel.{LineLabel}
@@ -50,16 +52,6 @@ shows_all f n stretches k h lt = ap (λ t. shown_at t k) (sym (append-nil stretc
 
 -- ---- what is shown of some labels at an offset
 
--- the position of the preferred one of those that hold it
-abbrev pub shown_position : List LabelInfo → ℕ → Option ℕ
-shown_position labels o = option_map (λ (a : LabelInfo). a.position) (best is_preferred (filter (λ a. holds a o) labels))
-
--- the same choice among labels that are equal, at an offset that is
-pub same_choice : (labels others : List LabelInfo) (offset start len : ℕ) (choice : Choice) → labels ≡ others → offset ≡ start
-    → IsChoice labels offset len choice → IsChoice others start len choice
-same_choice labels others offset start len choice same_labels same_offset h =
-    subst (λ t. IsChoice t start len choice) same_labels (subst (λ o. IsChoice labels o len choice) same_offset h)
-
 -- tests that agree at each element of a list keep the same of them
 filter-same : {X : Type 0} (p q : X → Bool) (xs : List X) → AllByRecursion (λ x. p x ≡ q x) xs → filter p xs ≡ filter q xs
 filter-same p q [] h = refl
@@ -68,25 +60,41 @@ filter-same p q (x ∷ xs) h = λ i. cond (h.0 i) (x ∷ filter-same p q xs h.1 
 -- through the stretch of a choice it is the one of the choice
 position_shown : (labels : List LabelInfo) (offset len : ℕ) (choice : Choice) (k : ℕ) → IsChoice labels offset len choice → k < choice.len
     → option_map (λ (a : LabelInfo). a.position) (option_copied choice.best) ≡ shown_position labels (offset + k)
+unfolding shown_position
 position_shown labels offset len choice k h below =
     let position = option_map (λ (a : LabelInfo). a.position) in
     ap position h.shows
     ∙ ap (λ t. position (best is_preferred t)) (sym (filter-same (λ a. holds a (offset + k)) (λ a. holds a offset) labels (h.stays k below)))
 
--- so it shows what f gives from a place on, where that is what the choice is made of
-pub shows_choice : (f : ℕ → Option ℕ) (labels : List LabelInfo) (offset place to : ℕ) (choice : Choice) (stretches more : List Stretch)
-    (s : Stretch) → ((k : ℕ) → k < to → shown_position labels (offset + k) ≡ f k) → ShowsBelow f place stretches
-    → IsChoice labels (offset + place) (to - place) choice → place < to → s.end ≡ place + choice.len
-    → s.position ≡ option_map (λ (a : LabelInfo). a.position) (option_copied choice.best)
-    → more ≡ stretches ++ s ∷ [] → ShowsBelow f s.end more
-shows_choice f labels offset place to choice stretches more s is h choice_is inside end position pushed =
-    let within = choice_is.within in
+-- so a stretch for it shows what they show
+pub shows_choice : (labels : List LabelInfo) (offset place to : ℕ) (choice : Choice) (stretches more : List Stretch) (s : Stretch)
+    → ShowsBelow (λ k. shown_position labels (offset + k)) place stretches → IsChoice labels (offset + place) (to - place) choice → place < to
+    → s.end ≡ place + choice.len → s.position ≡ option_map (λ (a : LabelInfo). a.position) (option_copied choice.best)
+    → more ≡ stretches ++ s ∷ [] → ShowsBelow (λ k. shown_position labels (offset + k)) s.end more
+shows_choice labels offset place to choice stretches more s h choice_is inside end position pushed =
+    let f = λ (k : ℕ). shown_position labels (offset + k) in
     subst (ShowsBelow f s.end) (sym pushed)
     (shows_more f place stretches s h (omega arith)
     (λ k from below.
     let same : (offset + place) + (k - place) ≡ offset + k = omega arith in
-    position ∙ position_shown labels (offset + place) (to - place) choice (k - place) choice_is (omega arith)
-    ∙ ap (shown_position labels) same ∙ is k (omega arith)))
+    position ∙ position_shown labels (offset + place) (to - place) choice (k - place) choice_is (omega arith) ∙ ap (shown_position labels) same))
+
+-- ---- stretches of parts
+
+-- the stretch of a part
+abbrev pub stretch_of : Part → Stretch
+stretch_of p = record { end = p.end; position = option_map (λ (a : LabelInfo). a.position) (option_copied p.label) }
+
+-- they show the labels of the parts
+pub stretches_shown : (parts : List Part) (k : ℕ) → shown_at (map stretch_of parts) k ≡ option_map (λ (a : LabelInfo). a.position) (seen_at parts k)
+unfolding shown_at seen_at
+stretches_shown [] k = refl
+stretches_shown (p ∷ parts) k =
+    elim (nat_lt k p.end) as (λ v. cond v (option_map (λ (a : LabelInfo). a.position) (option_copied p.label)) (shown_at (map stretch_of parts) k)
+    ≡ option_map (λ (a : LabelInfo). a.position) (cond v (option_copied p.label) (seen_at parts k))) [
+      | true ↦ refl
+      | false ↦ stretches_shown parts k
+    ]
 
 -- ---- underlines
 
@@ -137,7 +145,7 @@ position-info (Some x) = refl
 -- where underlines are on, the one that is seen is chosen among the labels that lie within the line
 pub underline_shown : (s : Switches) (y : Layout) (k : ℕ) → s.underlines ≡ true
     → shown_position (inline_infos y.labels) (y.offset + k) ≡ underline_position s y k
-unfolding inline_infos infos_of underline_at underlines_at
+unfolding shown_position inline_infos infos_of underline_at underlines_at
 underline_shown s y k on =
     let info = λ (x : LineLabel). x.info in
     let position = option_map (λ (a : LabelInfo). a.position) in
@@ -174,5 +182,5 @@ paint-position (Some a) = refl
 -- a character has the colour of the label that is chosen among those that may colour it
 pub paint_shown : (multi_line : List LabelInfo) (y : Layout) (k : ℕ)
     → position_paint (painter_position multi_line y k) ≡ char_paint multi_line y k
-unfolding char_paint
+unfolding shown_position char_paint
 paint_shown multi_line y k = paint-position (best is_preferred (filter (λ a. holds a (y.offset + k)) (painters multi_line y)))

@@ -6,14 +6,14 @@ use Rattle.std.specs.List.Sorted.{IsStrictlyIncreasing}
 use Rattle.std.proofs.lemmas.Bool.{cond-false, cases_order, ne_eqb}
 use Rattle.std.proofs.lemmas.List.Elements.{filter-append}
 use Rattle.std.proofs.lemmas.List.Kept.{AllPairs-from_increasing}
-use Rattle.ariadne_cells.specs.Choices.{infos_of, numbered}
+use Rattle.ariadne_cells.specs.Choices.{infos_of, numbered, shown_position}
 use Rattle.ariadne_picture.specs.declared.label_info.LabelInfo.{LabelInfo}
 use Rattle.ariadne_picture.specs.declared.label_info.LineLabel.{LineLabel}
 use Rattle.ariadne_picture.specs.Columns.{Layout, shown}
 use Rattle.ariadne_picture.specs.Lists.{best}
 use Rattle.ariadne_picture.specs.Pieces.{painters}
 use Rattle.ariadne_picture.specs.Strokes.{holds, is_preferred}
-use Rattle.ariadne_cells.proofs.Stretched.{shown_position, painter_position}
+use Rattle.ariadne_cells.proofs.Stretched.{painter_position}
 
 -- the numbers rise from n on
 abbrev Rises : ℕ → List ℕ → Type 0
@@ -94,7 +94,7 @@ pub painters_kept : (multi_line : List LabelInfo) (touching : List ℕ) (y : Lay
     → k < length (shown y)
     → shown_position (painters_here multi_line touching y) (y.offset + k)
     ≡ painter_position multi_line y k
-unfolding painters infos_of
+unfolding shown_position painters infos_of
 painters_kept multi_line touching y k within rising out below =
     let held = λ (a : LabelInfo). holds a (y.offset + k) in
     let margin = map (λ (x : LineLabel). x.info) (option_to_list y.margin) in

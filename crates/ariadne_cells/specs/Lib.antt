@@ -1,4 +1,5 @@
 pub mod Choices
 pub mod Falling
 pub mod Pages
+pub mod Parts
 pub mod Tables

@@ -2,6 +2,7 @@
 //! serves the crates that draw, and is no part of the surface of `ariadne`.
 #![tactic(auto)]
 
+mod candidates;
 mod choice;
 pub mod columns;
 pub mod layout;
@@ -10,6 +11,7 @@ mod opening;
 pub mod order;
 pub mod page;
 pub mod palette;
+mod parts;
 pub mod pen;
 mod runs;
 pub mod stretches;

@@ -1,18 +1,27 @@
 //! Stretches of the places of a line, through each of which the same label is shown.
 
-ghost use Rattle.std.specs.Prelude.{◌≡◌, ℕ, ◌+◌, ◌<◌, ◌==◌, false, OnOk, length, slice_get, Some};
+ghost use Rattle.std.specs.Prelude.{◌≡◌, ℕ, ◌+◌, ◌<◌, ◌==◌, false, OnOk, [], length, slice_get, Some};
+ghost use Rattle.std.specs.Prelude.{option_map};
 ghost use Rattle.std.specs.List.{All, list_any};
 ghost use Rattle.std.specs.List.Sorted.{IsStrictlyIncreasing};
-ghost use Rattle.ariadne_cells.specs.Tables.{ArePaints, AreUnderlines};
+ghost use Rattle.ariadne_cells.specs.Choices.{labels_at, shown_position};
+ghost use Rattle.ariadne_cells.specs.Parts.{seen_at};
+ghost use Rattle.ariadne_cells.specs.Tables.{ArePaints, AreUnderlines, shown_at};
 ghost use Rattle.ariadne_picture.specs.declared.label_info.LabelInfo.{LabelInfo};
 ghost use Rattle.ariadne_picture.specs.Columns.{shown};
 ghost use Rattle.ariadne_picture.specs.Strokes.{holds};
 
+use crate::candidates::{inline_labels, painters};
 use crate::choice::Choice;
 use crate::layout::LineLayout;
+use crate::parts::{Part, find_parts};
 use ariadne_picture::label_info::LabelInfo;
 use ariadne_picture::switches::Switches;
 use std::alloc::AllocError;
+
+/// Up to so many labels are all looked at for each stretch, which takes no memory; the parts of more
+/// are found first.
+const FEW: usize = 256;
 
 /// The places from the end of the stretch before it, or from 0, to its own end.
 #[derive(Clone, Copy, Debug, PartialEq, Eq)]
@@ -35,22 +44,12 @@ pub fn find_underlines(
 ) -> Result<(), AllocError>
     ensures { OnOk result (AreUnderlines switches.now layout.now len list.new.items) }
 {
-    list.clear();
     if !switches.underlines {
+        list.clear();
         return Ok(());
     }
-    let labels = layout.labels();
-    list.reserve_exact(labels.len().saturating_mul(2).saturating_add(1).min(len))?;
-    let mut place = 0;
-    while place < len {
-        let choice = Choice::new(layout.offset(), place, len - place).with_inline(labels);
-        place += choice.len();
-        list.push(Stretch {
-            end: place,
-            position: choice.position(),
-        })?;
-    }
-    Ok(())
+    let labels = inline_labels(*list.allocator(), layout.labels())?;
+    fill(list, &labels, layout.offset(), len)
 }
 
 /// Finds the stretches of the shown characters of a line that each have the colour of one label, or
@@ -72,15 +71,66 @@ pub fn find_paints(
         → (k : ℕ) → k < length (shown layout.now) → holds a (layout.now.offset + k) ≡ false }
     ensures { OnOk result (ArePaints multi_line.now layout.now list.new.items) }
 {
-    list.clear();
     let margin = layout.margin();
-    let len = layout.shown_len();
+    let alloc = *list.allocator();
+    let labels = painters(alloc, margin.as_ref(), multi_line, touching, layout.labels())?;
+    fill(list, &labels, layout.offset(), layout.shown_len())
+}
+
+/// Takes the stretches of the places below `len` that each show one of some labels, or none.
+///
+/// `offset` counts the characters of the source before the line. On `Err` there was no memory for
+/// them, and what is held is of no line.
+fn fill(
+    list: &mut Vec<Stretch>,
+    labels: &[&LabelInfo],
+    offset: usize,
+    len: usize,
+) -> Result<(), AllocError>
+    ensures { let shows = shown_position (labels_at labels.now) in OnOk result
+        ((k : ℕ) → k < len → shown_at list.new.items k ≡ shows (offset + k)) }
+{
+    list.clear();
+    if labels.len() > FEW {
+        let parts = find_parts(*list.allocator(), labels, offset, len)?;
+        push_parts(list, &parts)
+    } else {
+        push_chosen(list, labels, offset, len)
+    }
+}
+
+/// Appends a stretch for each part. On `Err` there was no memory for them.
+fn push_parts(list: &mut Vec<Stretch>, parts: &[Part<'_>]) -> Result<(), AllocError>
+    requires { list.old.items ≡ [] }
+    ensures { OnOk result
+        ((k : ℕ) → shown_at list.new.items k ≡ option_map (λ a. a.position) (seen_at parts.now k)) }
+{
+    list.reserve_exact(parts.len())?;
+    for part in parts {
+        list.push(Stretch {
+            end: part.end,
+            position: part.label.map(|label| label.position),
+        })?;
+    }
+    Ok(())
+}
+
+/// Appends the stretches of the places below `len`, looking at all labels for each. On `Err` there
+/// was no memory for them.
+fn push_chosen(
+    list: &mut Vec<Stretch>,
+    labels: &[&LabelInfo],
+    offset: usize,
+    len: usize,
+) -> Result<(), AllocError>
+    requires { list.old.items ≡ [] }
+    ensures { let shows = shown_position (labels_at labels.now) in OnOk result
+        ((k : ℕ) → k < len → shown_at list.new.items k ≡ shows (offset + k)) }
+{
+    list.reserve_exact(labels.len().saturating_mul(2).saturating_add(1).min(len))?;
     let mut place = 0;
     while place < len {
-        let choice = Choice::new(layout.offset(), place, len - place)
-            .with_margin(margin.as_ref())
-            .with_numbered(multi_line, touching)
-            .with_labels(layout.labels());
+        let choice = Choice::new(offset, place, len - place).among(labels);
         place += choice.len();
         list.push(Stretch {
             end: place,
