@@ -4,6 +4,7 @@
 mod asked;
 mod drawing;
 mod fault;
+mod pages;
 #[cfg(test)]
 mod tests;
 #[cfg(test)]
@@ -16,3 +17,5 @@ mod words;
 
 pub use drawing::draw;
 pub use fault::{Fault, Status, tell_fault};
+pub use pages::{HELP, VERSION};
+pub use words::without_colors;
