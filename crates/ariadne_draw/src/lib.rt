@@ -10,6 +10,8 @@ mod tests;
 #[cfg(test)]
 mod tests_files;
 #[cfg(test)]
+mod tests_pages;
+#[cfg(test)]
 mod tests_pictures;
 #[cfg(test)]
 mod tests_refused;
