@@ -9,7 +9,8 @@ pub const HELP: &str = "\
 usage: ariadne-draw [--ascii] [--plain] [--compact] [--bytes] [--file PATH] MESSAGE [START END TEXT]...
 
 Draws an error with this message over the text of standard input. Each label is three words: it
-stands from offset START to END, exclusive, and says TEXT. Offsets count from 0.
+stands from offset START to END, exclusive, and says TEXT. Offsets count characters, from 0. Options
+come first, in any order, and the last --file counts.
 
   --ascii      strokes are ASCII, and not box drawing characters
   --plain      there are no colours; NO_COLOR, where it is set and not empty, counts as this option
@@ -18,7 +19,7 @@ stands from offset START to END, exclusive, and says TEXT. Offsets count from 0.
   --file PATH  the report is drawn over this file, and standard input is not read
   --           the word behind it is MESSAGE, whatever it begins with
   --help       writes this text, where it is the only word
-  --version    writes name, version and the line of the kit, where it is the only word
+  --version    writes name, version and the kit that proved it, where it is the only word
 
 Two labels on one line:
 
@@ -51,9 +52,10 @@ A label over three lines, in box drawing characters:
 Status:
 
   0  the report was drawn with all its labels, or the text that was asked for was written
-  1  labels were left out: standard error says of each by its number, from 1, why
-  2  nothing was written: the words ask for no report, or standard input is no text in UTF-8
+  1  the report was drawn without some labels: standard error says which, by number from 1, and why
+  2  nothing was drawn: the words ask for no report, or standard input can't be read or is not UTF-8
   3  writing failed on the way, or there was no memory and nothing was written
+  4  nothing was run: bin/ariadne-draw could not build the program
 ";
 
 /// What `--version` writes: name and version, and the line of the kit that the program is proved with.
