@@ -111,3 +111,7 @@ no_options =
 -- the report that words ask for, if they do
 abbrev pub asking_of : List (List ℕ) → Option Asking
 asking_of words = asking_after false no_options words
+
+-- the same report without colours
+abbrev pub colorless : Asking → Asking
+colorless asking = record asking { options = record asking.options { plain = true } }

@@ -1,6 +1,6 @@
 //! The program over the streams that it is handed: words in, a report and a status out.
 
-ghost use Rattle.std.specs.Prelude.{◌≡◌, false, IfErr, IfOk, IfSome, List, map};
+ghost use Rattle.std.specs.Prelude.{◌≡◌, false, IfErr, IfNone, IfOk, IfSome, List, map};
 ghost use Rattle.std.specs.Prelude.{string_bytes};
 ghost use Rattle.std.specs.Str.{IsUtf8};
 ghost use Rattle.ariadne_base.specs.Cache.{Grows, KeepsOtherIds};
@@ -8,15 +8,18 @@ ghost use Rattle.ariadne_draw.specs.Asked.{asking, options_asking};
 ghost use Rattle.ariadne_draw.specs.Drawn.{config_of, own_span, reads_input, report_of, sources};
 ghost use Rattle.ariadne_draw.specs.Drawn.{Ended, Leaves, Wrote};
 ghost use Rattle.ariadne_draw.specs.Faults.{IsBeforeWriting, reason_text};
+ghost use Rattle.ariadne_draw.specs.Pages.{IsShown, page_asked, page_text};
 ghost use Rattle.ariadne_draw.specs.Words.{asking_of};
 
 use super::asked::{Asked, AskedOptions};
 use super::fault::{Fault, Status, tell_fault};
+use super::pages::{Page, asked_page};
 use super::words::read_words;
 use ariadne::{
     Cache, CharSet, ColorGenerator, Config, FileCache, IndexType, Label, LeftOut, Reason, Report,
     ReportKind, Source,
 };
+use ariadne_send::send::send;
 use std::alloc::{AllocError, Global};
 use std::io::{Read, Write};
 use std::ops::Range;
@@ -29,7 +32,42 @@ use std::rt::Files;
 /// the input is read, if no file is named, then the report is written to `out`, then `faults` gets
 /// a line for each label that was left out, or the one line that says why nothing could be drawn. A
 /// failure of `faults` is passed over. What `out` got is told by the status.
+///
+/// Where the only word is `--help` or `--version` nothing is drawn or read: `out` gets that text.
 pub fn draw<R: Files, I: Read, W: Write, F: Write>(
+    files: &R,
+    alloc: Global,
+    words: &[String],
+    input: &mut I,
+    out: &mut W,
+    faults: &mut F,
+) -> Status
+    ensures page { IfSome (page_asked (map string_bytes words.now)) (λ page.
+        IsShown (page_text page) (W.contents out.old) (W.contents out.new) result) }
+    ensures ended { IfNone (page_asked (map string_bytes words.now))
+        (Ended (asking_of (map string_bytes words.now)) (I.remaining input.old)
+        (W.contents out.old) (W.contents out.new) result) }
+    ensures unread { reads_input (asking_of (map string_bytes words.now)) ≡ false
+        → input.new ≡ input.old }
+{
+    match asked_page(words) {
+        Some(page) => show(page, out, faults),
+        None => draw_report(files, alloc, words, input, out, faults),
+    }
+}
+
+/// Writes a page to `out`, tells why it could not be written whole, and answers how the program ends.
+fn show<W: Write, F: Write>(page: Page, out: &mut W, faults: &mut F) -> Status
+    ensures { IsShown (page_text page) (W.contents out.old) (W.contents out.new) result }
+{
+    match send(out, page.text().as_bytes()) {
+        Ok(()) => Status::Drawn,
+        Err(error) => tell_fault(faults, &Fault::from(error)),
+    }
+}
+
+/// Draws the report that `words` ask for, whatever page they may name.
+fn draw_report<R: Files, I: Read, W: Write, F: Write>(
     files: &R,
     alloc: Global,
     words: &[String],

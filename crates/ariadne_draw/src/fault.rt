@@ -14,7 +14,7 @@ use thiserror::Error;
 /// How the program ends. The numbers are its exit statuses.
 #[derive(Clone, Copy, Debug, PartialEq, Eq)]
 pub enum Status {
-    /// The report was written, with all its labels.
+    /// The report was written, with all its labels, or the text that was asked for in its place.
     Drawn = 0,
     /// The report was written without some of its labels, which standard error names.
     LeftOut = 1,

@@ -4,10 +4,13 @@
 mod asked;
 mod drawing;
 mod fault;
+mod pages;
 #[cfg(test)]
 mod tests;
 #[cfg(test)]
 mod tests_files;
+#[cfg(test)]
+mod tests_pages;
 #[cfg(test)]
 mod tests_pictures;
 #[cfg(test)]
@@ -16,3 +19,5 @@ mod words;
 
 pub use drawing::draw;
 pub use fault::{Fault, Status, tell_fault};
+pub use pages::{HELP, VERSION};
+pub use words::without_colors;

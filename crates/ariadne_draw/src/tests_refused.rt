@@ -2,6 +2,7 @@
 
 use super::drawing::draw;
 use super::fault::Status;
+use super::words::without_colors;
 use ariadne_fakes::{Given, Taker, refuse, texts, was_refused};
 use std::test::Fail;
 
@@ -36,6 +37,22 @@ fn a_refused_request_is_told_as_no_memory(rt: HostRuntime) -> Result<(), Fail> {
             b"no memory\n".as_slice(),
             "at request {nth}"
         );
+    }
+    Err(Fail::from("a request was refused each time"))
+}
+
+#[test]
+fn a_refused_word_is_an_error(rt: HostRuntime) -> Result<(), Fail> {
+    let alloc = rt.alloc();
+    for nth in 1..1000 {
+        let words = texts(alloc, &["--ascii", "m"])?;
+        refuse(alloc, nth);
+        let plain = without_colors(alloc, words);
+        if !was_refused(alloc) {
+            assert_eq!(rt; plain?.len(), 3, "at request {nth}");
+            return Ok(());
+        }
+        assert!(rt; plain.is_err(), "at request {nth}");
     }
     Err(Fail::from("a request was refused each time"))
 }

@@ -1,15 +1,18 @@
 //! Reading the words of the command line.
 
-ghost use Rattle.std.specs.Prelude.{◌≡◌, ◌≤◌, ℕ, List, Option, Some, None, IfSome, MatchOption};
+ghost use Rattle.std.specs.Prelude.{◌≡◌, ◌≤◌, ℕ, List, Option, Some, None};
+ghost use Rattle.std.specs.Prelude.{IfOk, IfSome, MatchOption};
 ghost use Rattle.std.specs.Prelude.{map, option_map, string_bytes};
-ghost use Rattle.ariadne_draw.specs.Words.{asking_behind, asking_of, front_of as front};
+ghost use Rattle.ariadne_draw.specs.Pages.{page_asked};
+ghost use Rattle.ariadne_draw.specs.Words.{asking_behind, asking_of, colorless, front_of as front};
 ghost use Rattle.ariadne_draw.specs.Words.{label_of, labels_of, number_of};
 ghost use Rattle.ariadne_draw.specs.Asked.{asking, label_asking, options_asking, ReadsLabels};
 ghost use Rattle.ariadne_draw.specs.Asked.{ReadsWords};
 
 use super::asked::{Asked, AskedLabel, AskedOptions};
 use super::fault::Fault;
-use std::alloc::Global;
+use super::pages::asked_page;
+use std::alloc::{AllocError, Global};
 
 /// What a word is, where an option may stand.
 pub enum Front {
@@ -143,4 +146,22 @@ fn number(word: &str) -> Option<usize>
         return None;
     }
     word.parse().ok()
+}
+
+/// Words that ask for the same without colours: `--plain` stands before those that are handed in.
+///
+/// Where these ask for a page they stay as they are, since its word has to be the only one. On `Err`
+/// there was no memory, and the words are dropped.
+pub fn without_colors(alloc: Global, words: Vec<String>) -> Result<Vec<String>, AllocError>
+    ensures report { IfOk result (λ plain. asking_of (map string_bytes plain.items)
+        ≡ option_map colorless (asking_of (map string_bytes words.items))) }
+    ensures page { IfOk result (λ plain. page_asked (map string_bytes plain.items)
+        ≡ page_asked (map string_bytes words.items)) }
+{
+    if asked_page(words.as_slice()).is_some() {
+        return Ok(words);
+    }
+    let mut plain = words;
+    plain.insert(0, String::from_str(alloc, "--plain")?)?;
+    Ok(plain)
 }

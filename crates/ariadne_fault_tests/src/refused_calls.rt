@@ -65,6 +65,7 @@ pub(crate) const CALLS: &[(&str, &[&str])] = &[
         "a_refused_request_of_first_offence_is_its_error",
         &["first_offence"],
     ),
+    ("a_refused_word_is_an_error", &["without_colors"]),
     (
         "a_refused_picture_sends_nothing_and_the_next_is_whole",
         &[

@@ -1,16 +1,34 @@
 //! `ariadne-draw`: draws a report over the text on its standard input, or over a file.
 #![tactic(auto)]
 
-use ariadne_draw::{Fault, draw, tell_fault};
+use ariadne_draw::{Fault, draw, tell_fault, without_colors};
+use std::alloc::AllocError;
 use std::env;
+use std::env::VarError;
 use std::process::ExitCode;
 use std::rt::Env;
 
-/// The words that the program was called with, without its own name.
+/// The words that the program was called with, without its own name; and without colours, where the
+/// environment wants none.
 fn given_words<R: Env + AllocGlobal>(rt: &R) -> Result<Vec<String>, Fault> {
-    match env::args(rt) {
-        Ok(args) => Ok(args.skip(1).collect(rt.alloc())?),
-        Err(error) => Err(Fault::of_error(&error, Fault::Usage)),
+    let words = match env::args(rt) {
+        Ok(args) => args.skip(1).collect(rt.alloc())?,
+        Err(error) => return Err(Fault::of_error(&error, Fault::Usage)),
+    };
+    if is_colorless(rt)? {
+        return Ok(without_colors(rt.alloc(), words)?);
+    }
+    Ok(words)
+}
+
+/// Whether the variable `NO_COLOR` is set, to any value that is not empty.
+fn is_colorless<R: Env + AllocGlobal>(rt: &R) -> Result<bool, AllocError> {
+    match env::var(rt, "NO_COLOR") {
+        Ok(value) => Ok(!value.as_str().is_empty()),
+        Err(VarError::NotPresent) => Ok(false),
+        // Bytes that are no text are a value too.
+        Err(VarError::NotUnicode) => Ok(true),
+        Err(VarError::OutOfMemory) => Err(AllocError),
     }
 }
 

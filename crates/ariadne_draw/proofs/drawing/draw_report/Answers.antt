@@ -3,7 +3,7 @@ use Rattle.std.proofs.Common.{ap}
 use Rattle.std.specs.Option.{option_copied}
 use Rattle.ariadne_base.specs.Files.{by_text}
 use Rattle.ariadne_draw.proofs.Ending.{ended_by_words, ended_over_file, ended_over_input}
-use Rattle.ariadne_draw.proofs.drawing.draw.Goals as goal
+use Rattle.ariadne_draw.proofs.drawing.draw_report.Goals as goal
 
 pub returns-in-Err-clause-ended : goal.returns-in-Err-clause-ended
 returns-in-Err-clause-ended g c = rw c.tell_fault.ensures (ended_by_words _ _ _ c.in-Err.fault c.in-Err.ensures)

@@ -1,0 +1,101 @@
+//! The texts that the program has ready: its help and its version.
+
+ghost use Rattle.std.specs.Prelude.{◌≡◌, map, string_bytes};
+ghost use Rattle.ariadne_draw.specs.Pages.{page_asked, page_text};
+
+/// What `--help` writes. Its two pictures are those that the program draws for the words above them,
+/// without the blanks at the ends of rows.
+pub const HELP: &str = "\
+usage: ariadne-draw [--ascii] [--plain] [--compact] [--bytes] [--file PATH] MESSAGE [START END TEXT]...
+
+Draws an error with this message over the text of standard input. Each label is three words: it
+stands from offset START to END, exclusive, and says TEXT. Offsets count characters, from 0. Options
+come first, in any order, and the last --file counts.
+
+  --ascii      strokes are ASCII, and not box drawing characters
+  --plain      there are no colours; NO_COLOR, where it is set and not empty, counts as this option
+  --compact    the picture has fewer rows and columns
+  --bytes      offsets count bytes, and not characters
+  --file PATH  the report is drawn over this file, and standard input is not read
+  --           the word behind it is MESSAGE, whatever it begins with
+  --help       writes this text, where it is the only word
+  --version    writes name, version and the kit that proved it, where it is the only word
+
+Two labels on one line:
+
+  printf 'apple == orange;' | ariadne-draw --ascii --plain 'not the same' 0 5 apple 9 15 orange
+
+  Error: not the same
+     ,-[ <unknown>:1:1 ]
+     |
+   1 | apple == orange;
+     | ^^|^^    ^^^|^^
+     |   `-------------- apple
+     |             |
+     |             `---- orange
+  ---'
+
+A label over three lines, in box drawing characters:
+
+  printf 'apple\\n==\\norange' | ariadne-draw --plain 'not the same' 0 15 'illegal comparison'
+
+  Error: not the same
+     ╭─[ <unknown>:1:1 ]
+     │
+   1 │ ╭─▶ apple
+     ┆ ┆
+   3 │ ├─▶ orange
+     │ │
+     │ ╰─────────── illegal comparison
+  ───╯
+
+Status:
+
+  0  the report was drawn with all its labels, or the text that was asked for was written
+  1  the report was drawn without some labels: standard error says which, by number from 1, and why
+  2  nothing was drawn: the words ask for no report, or standard input can't be read or is not UTF-8
+  3  writing failed on the way, or there was no memory and nothing was written
+  4  nothing was run: bin/ariadne-draw could not build the program
+";
+
+/// What `--version` writes: name and version, and the line of the kit that the program is proved with.
+pub const VERSION: &str = "\
+ariadne-draw 0.6.0
+rattle-kit-13b logic dac8208d650f15bf
+";
+
+/// A text that the program has ready.
+#[derive(Clone, Copy, Drop)]
+pub enum Page {
+    /// `--help`
+    Help,
+    /// `--version`
+    Version,
+}
+
+impl Page {
+    /// What is written of it.
+    #[tactic(auto, unfolding(crate::specs::Pages::page_text))]
+    pub fn text(self) -> &'static str
+        ensures { result.now ≡ page_text self }
+    {
+        match self {
+            Page::Help => HELP,
+            Page::Version => VERSION,
+        }
+    }
+}
+
+/// The page that the words ask for: its own word, where that is the only one.
+pub fn asked_page(words: &[String]) -> Option<Page>
+    ensures { result ≡ page_asked (map string_bytes words.now) }
+{
+    let [word] = words else {
+        return None;
+    };
+    match word.as_str() {
+        "--help" => Some(Page::Help),
+        "--version" => Some(Page::Version),
+        _ => None,
+    }
+}
