@@ -2,7 +2,9 @@
 //! `ariadne` alone. The head of each file says what it shows and what to copy.
 //!
 //! - `simple`: a report with a label, a code and a help.
+//! - `files`: labels in several files.
 //! - `lexer`: offsets in bytes.
+//! - `caches`: a cache of your own.
 //! - `errors`: an enum of errors that become reports.
 //! - `arithmetic`: a parser that runs out of input.
 //! - `pictures`: how tests compare pictures.
@@ -12,7 +14,11 @@
 #[cfg(test)]
 mod arithmetic;
 #[cfg(test)]
+mod caches;
+#[cfg(test)]
 mod errors;
+#[cfg(test)]
+mod files;
 #[cfg(test)]
 mod lexer;
 #[cfg(test)]
