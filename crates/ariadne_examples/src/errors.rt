@@ -1,0 +1,87 @@
+//! An enum of errors, with texts by `thiserror`, each of which becomes a report. Copy `Refusal`:
+//! its text is the report's message, and its fields say where the label stands. The test `start <=
+//! end` is what `Label::new` asks for; `lexer` shows an invariant in its place.
+
+use crate::pictures::{assert_rows, picture_of, plain};
+use ariadne::{Label, Report, ReportKind, Source};
+use std::alloc::{AllocError, Global};
+use std::test::Fail;
+use thiserror::Error;
+
+const LIMIT: u32 = 255;
+
+/// Why a text is no number. Offsets count characters from 0.
+#[derive(Debug, Drop, Error)]
+enum Refusal {
+    #[error("no number")]
+    Empty,
+    #[error("`{found}` is no digit")]
+    NoDigit { found: char, offset: usize },
+    #[error("more than {limit}", limit = LIMIT)]
+    TooLarge { digits: usize },
+}
+
+/// The number that a text is, at most `LIMIT`.
+fn number(text: &str) -> Result<u32, Refusal> {
+    let mut number = 0u32;
+    for (offset, found) in text.chars().enumerate() {
+        let Some(digit) = found.to_digit(10) else {
+            return Err(Refusal::NoDigit { found, offset });
+        };
+        number = number.saturating_mul(10).saturating_add(digit);
+    }
+    match text.chars().count() {
+        0 => Err(Refusal::Empty),
+        digits if number > LIMIT => Err(Refusal::TooLarge { digits }),
+        _ => Ok(number),
+    }
+}
+
+impl Refusal {
+    /// Its code, the start and the end of its place, and what is said of that.
+    fn parts(&self) -> (u64, usize, usize, &'static str) {
+        match self {
+            Refusal::Empty => (1, 0, 0, "a digit is missing"),
+            Refusal::NoDigit { offset, .. } => (2, *offset, offset.saturating_add(1), "no digit"),
+            Refusal::TooLarge { digits } => (3, 0, *digits, "too large"),
+        }
+    }
+
+    fn report(&self, alloc: Global) -> Result<Report<'static>, AllocError> {
+        let (code, start, end, hint) = self.parts();
+        let mut builder = Report::build(alloc, ReportKind::Error, start..start)
+            .with_config(plain())
+            .with_code(code)?
+            .with_message(self.to_string(alloc)?.as_str())?;
+        if start <= end {
+            builder.add_label(Label::new(start..end).with_message(alloc, hint)?)?;
+        }
+        Ok(builder.finish())
+    }
+}
+
+#[test]
+fn each_refusal_is_a_report(rt: HostRuntime) -> Result<(), Fail> {
+    let alloc = rt.alloc();
+    assert_eq!(rt; number("255").ok(), Some(255));
+    for (text, header) in [
+        ("", "[01] Error: no number\n"),
+        ("300", "[03] Error: more than 255\n"),
+    ] {
+        let report = number(text).expect_err(&rt, "a refusal").report(alloc)?;
+        let picture = picture_of(&rt, &report, &mut Source::from(alloc, text)?)?;
+        assert!(rt; picture.as_str().starts_with(header), "of {text:?}");
+    }
+    let report = number("12a4").expect_err(&rt, "a refusal").report(alloc)?;
+    let picture = picture_of(&rt, &report, &mut Source::from(alloc, "12a4")?)?;
+    let rows = [
+        "[02] Error: `a` is no digit",
+        "   ,-[ <unknown>:1:3 ]",
+        "   |",
+        " 1 | 12a4",
+        "   |   |",
+        "   |   `-- no digit",
+        "---'",
+    ];
+    assert_rows(&rt, picture.as_str(), &rows)
+}

@@ -1,0 +1,98 @@
+//! Offsets in bytes: a lexer over `char_indices`, which stops at an unknown character. Copy
+//! `with_index_type(IndexType::Byte)`, and `Place`: its invariant says that it starts at most at
+//! its end, which is what `Label::new` asks for. `errors` shows a test in its place.
+
+ghost use Rattle.std.specs.Prelude.{◌≤◌};
+
+use crate::pictures::{assert_rows, picture_of, plain};
+use ariadne::{IndexType, Label, Report, ReportKind, Source};
+use std::alloc::{AllocError, Global};
+use std::test::Fail;
+
+/// A piece of a text, by its bytes from 0. Its end is exclusive.
+#[derive(Clone, Copy)]
+struct Place {
+    start: usize,
+    end: usize,
+    ghost forward: { start ≤ end },
+}
+
+/// What a character is part of.
+#[derive(Clone, Copy, PartialEq, Eq)]
+enum Kind {
+    Blank,
+    Name,
+    Number,
+    Sign,
+}
+
+fn kind_of(c: char) -> Option<Kind> {
+    match c {
+        ' ' => Some(Kind::Blank),
+        '0'..='9' => Some(Kind::Number),
+        '=' | '+' | '*' => Some(Kind::Sign),
+        _ if c.is_alphabetic() => Some(Kind::Name),
+        _ => None,
+    }
+}
+
+/// A run of characters of one kind, and where it stands.
+type Token = (Kind, Place);
+
+/// Reads a text, and answers where its first unknown character stands. The tokens before it that are
+/// no blanks are added to `tokens`.
+fn lex(tokens: &mut Vec<Token>, text: &str) -> Result<Option<Place>, AllocError> {
+    let mut kind = Kind::Blank;
+    let mut start = 0;
+    for (at, c) in text.char_indices() {
+        let next = kind_of(c);
+        if next != Some(kind) {
+            push(tokens, kind, start, at)?;
+            start = at;
+        }
+        let Some(next) = next else {
+            let end = at.saturating_add(c.len_utf8());
+            return Ok(Some(Place { start: at, end }));
+        };
+        kind = next;
+    }
+    push(tokens, kind, start, text.len())?;
+    Ok(None)
+}
+
+fn push(tokens: &mut Vec<Token>, kind: Kind, start: usize, end: usize) -> Result<(), AllocError> {
+    if kind != Kind::Blank && start < end {
+        tokens.push((kind, Place { start, end }))?;
+    }
+    Ok(())
+}
+
+/// The report of an unknown character.
+fn unknown(alloc: Global, place: Place) -> Result<Report<'static>, AllocError> {
+    let label = Label::new(place.start..place.end).with_message(alloc, "no token has it")?;
+    let report = Report::build(alloc, ReportKind::Error, place.start..place.end)
+        .with_config(plain().with_index_type(IndexType::Byte))
+        .with_message("unknown character")?
+        .with_label(label)?;
+    Ok(report.finish())
+}
+
+#[test]
+fn an_unknown_character_behind_others_of_two_bytes(rt: HostRuntime) -> Result<(), Fail> {
+    let mut tokens = Vec::new(rt.alloc());
+    let text = "äpplë = 3 € 4";
+    let place = lex(&mut tokens, text)?.expect(&rt, "an unknown character");
+    assert_eq!(rt; (tokens.len(), place.start, place.end), (3, 12, 15));
+    let report = unknown(rt.alloc(), place)?;
+    let mut source = Source::from(rt.alloc(), text)?;
+    let rows = [
+        "Error: unknown character",
+        "   ,-[ <unknown>:1:11 ]",
+        "   |",
+        " 1 | äpplë = 3 € 4",
+        "   |           |",
+        "   |           `-- no token has it",
+        "---'",
+    ];
+    assert_rows(&rt, picture_of(&rt, &report, &mut source)?.as_str(), &rows)
+}

@@ -1,0 +1,29 @@
+//! Examples to copy, each whole in a file of its own, over the public calls and contracts of
+//! `ariadne` alone. The head of each file says what it shows and what to copy.
+//!
+//! - `simple`: a report with a label, a code and a help.
+//! - `files`: labels in several files.
+//! - `lexer`: offsets in bytes.
+//! - `caches`: a cache of your own.
+//! - `errors`: an enum of errors that become reports.
+//! - `arithmetic`: a parser that runs out of input.
+//! - `pictures`: how tests compare pictures.
+//! - `sinks`: a buffer of your own that takes the picture.
+#![tactic(auto)]
+
+#[cfg(test)]
+mod arithmetic;
+#[cfg(test)]
+mod caches;
+#[cfg(test)]
+mod errors;
+#[cfg(test)]
+mod files;
+#[cfg(test)]
+mod lexer;
+#[cfg(test)]
+mod pictures;
+#[cfg(test)]
+mod simple;
+#[cfg(test)]
+mod sinks;

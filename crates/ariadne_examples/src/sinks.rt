@@ -1,0 +1,89 @@
+//! A buffer of your own that takes the picture, here one of few bytes. Copy the `impl Sink`: `take`
+//! takes what it has room for and tells how much; `failed` tells whether a call met a fault, or
+//! took nothing. The ghost members `contents` and `has_failed` are what `write_to` speaks of.
+
+ghost use Rattle.std.specs.Prelude.{Some};
+
+use crate::pictures::{assert_rows, plain};
+use ariadne::{Label, Report, ReportKind, Sink, Source, WriteError};
+use std::alloc::{AllocError, Global};
+use std::io;
+use std::test::Fail;
+
+/// A board with room for some bytes.
+#[derive(Drop)]
+struct Board {
+    bytes: Vec<u8>,
+    room: usize,
+    met_fault: bool,
+}
+
+impl Board {
+    fn new(alloc: Global, room: usize) -> Board {
+        Board {
+            bytes: Vec::new(alloc),
+            room,
+            met_fault: false,
+        }
+    }
+}
+
+impl Sink for Board {
+    ghost contents = { λ board. Some board.bytes.items };
+
+    ghost has_failed = { λ board. board.met_fault };
+
+    fn take(&mut self, bytes: &[u8]) -> io::Result<usize> {
+        let taken = bytes.len().min(self.room);
+        match self.bytes.extend_from_slice(&bytes[..taken]) {
+            Ok(()) => {
+                self.room -= taken;
+                self.met_fault = self.met_fault || (taken == 0 && !bytes.is_empty());
+                Ok(taken)
+            }
+            Err(refused) => {
+                self.met_fault = true;
+                Err(refused.into())
+            }
+        }
+    }
+
+    fn failed(&self) -> bool {
+        self.met_fault
+    }
+}
+
+fn report(alloc: Global) -> Result<Report<'static>, AllocError> {
+    let label = Label::new(0..4).with_message(alloc, "not sold here")?;
+    let report = Report::build(alloc, ReportKind::Error, 0..4)
+        .with_config(plain())
+        .with_message("unknown fruit")?
+        .with_label(label)?;
+    Ok(report.finish())
+}
+
+#[test]
+fn a_board_holds_the_picture_or_its_first_bytes(rt: HostRuntime) -> Result<(), Fail> {
+    let alloc = rt.alloc();
+    let report = report(alloc)?;
+    let mut source = Source::from(alloc, "pear")?;
+    let mut large = Board::new(alloc, 500);
+    report.write_to(&mut source, &mut large)?;
+    assert!(rt; !large.failed());
+    let rows = [
+        "Error: unknown fruit",
+        "   ,-[ <unknown>:1:1 ]",
+        "   |",
+        " 1 | pear",
+        "   | ^^|^",
+        "   |   `--- not sold here",
+        "---'",
+    ];
+    assert_rows(&rt, String::from_utf8(large.bytes)?.as_str(), &rows)?;
+    let mut small = Board::new(alloc, 14);
+    let answer = report.write_to(&mut source, &mut small);
+    assert!(rt; matches!(answer, Err(WriteError::Io { sent: 14, .. })));
+    assert!(rt; small.failed());
+    assert_eq!(rt; small.bytes.as_slice(), b"Error: unknown".as_slice());
+    Ok(())
+}
