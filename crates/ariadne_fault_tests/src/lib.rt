@@ -6,6 +6,8 @@ mod refused;
 #[cfg(test)]
 mod refused_calls;
 #[cfg(test)]
+mod refused_lines;
+#[cfg(test)]
 mod refused_pictures;
 #[cfg(test)]
 mod refused_sources;

@@ -99,6 +99,8 @@ pub(crate) const CALLS: &[(&str, &[&str])] = &[
             "Pen::push_margin",
             "Pen::push_gap_margin",
             "Pen::push_line_margin",
+            "inline_labels",
+            "painters",
             "find_underlines",
             "find_paints",
             "Verticals::fill",
@@ -133,6 +135,10 @@ pub(crate) const CALLS: &[(&str, &[&str])] = &[
             "GroupLists::fill",
             "GroupLists::go_to",
         ],
+    ),
+    (
+        "a_refused_line_of_many_labels_sends_nothing",
+        &["find_parts"],
     ),
 ];
 
