@@ -9,11 +9,10 @@ use ariadne::{Label, Report, ReportKind, Source};
 use std::alloc::{AllocError, Global};
 use std::test::Fail;
 
-/// Where a sum stops, by offsets that count characters from 0.
+/// Where a sum stops, and which bracket is open there. Offsets count characters from 0.
 #[derive(Clone, Copy)]
 struct Fault {
     at: usize,
-    /// The bracket that is not closed there, if there is one.
     opened: Option<usize>,
 }
 
@@ -57,41 +56,42 @@ fn factor(text: &[char], at: usize) -> Result<(u64, usize), Fault>
         let opened = Some(at);
         return Err(Fault { at: end, opened });
     }
-    if at < text.len()
-        && let Some(digit) = text[at].to_digit(10)
-    {
-        return Ok((u64::from(digit), at + 1));
+    match text.get(at).and_then(|c| c.to_digit(10)) {
+        Some(digit) => Ok((u64::from(digit), at + 1)),
+        None => Err(Fault { at, opened: None }),
     }
-    Err(Fault { at, opened: None })
 }
 
-fn report(alloc: Global, fault: Fault) -> Result<Report<'static>, AllocError> {
-    let Fault { at, opened } = fault;
-    let end = Label::new(at..at.saturating_add(1)).with_message(alloc, "here the sum stops")?;
-    let mut builder = Report::build(alloc, ReportKind::Error, at..at).with_config(plain());
-    builder.add_label(end)?;
+/// The report of a fault, with a label where a bracket was opened.
+fn report(alloc: Global, Fault { at, opened }: Fault) -> Result<Report<'static>, AllocError> {
+    let mut builder = Report::build(alloc, ReportKind::Error, at..at)
+        .with_config(plain())
+        .with_message("expected a digit or `(`")?
+        .with_label(Label::new(at..at.saturating_add(1)).with_message(alloc, "sum stops here")?)?;
     if let Some(at) = opened {
-        let bracket = Label::new(at..at.saturating_add(1));
-        builder.add_label(bracket.with_message(alloc, "opened here")?)?;
+        let bracket = Label::new(at..at.saturating_add(1)).with_message(alloc, "opened here")?;
+        builder.set_message("unclosed bracket")?;
+        builder.add_label(bracket)?;
     }
     Ok(builder.finish())
 }
 
 #[test]
 fn a_bracket_is_not_closed(rt: HostRuntime) -> Result<(), Fail> {
-    let text = "2*(3+4";
-    let characters: Vec<char> = text.chars().collect(rt.alloc())?;
-    let fault = sum(&characters, 0).expect_err(&rt, "a bracket that is open");
-    let mut source = Source::from(rt.alloc(), text)?;
+    let closed: Vec<char> = "2*(3+4)".chars().collect(rt.alloc())?;
+    assert_eq!(rt; sum(&closed, 0).ok(), Some((14, 7)));
+    let open: Vec<char> = "2*(3+4".chars().collect(rt.alloc())?;
+    let fault = sum(&open, 0).expect_err(&rt, "a bracket that is open");
+    let mut source = Source::from(rt.alloc(), "2*(3+4")?;
     let rows = [
-        "Error:",
+        "Error: unclosed bracket",
         "   ,-[ <unknown>:1:7 ]",
         "   |",
         " 1 | 2*(3+4",
         "   |   |   |",
         "   |   `----- opened here",
         "   |       |",
-        "   |       `- here the sum stops",
+        "   |       `- sum stops here",
         "---'",
     ];
     let picture = picture_of(&rt, &report(rt.alloc(), fault)?, &mut source)?;

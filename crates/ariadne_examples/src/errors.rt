@@ -8,6 +8,7 @@ use std::alloc::{AllocError, Global};
 use std::test::Fail;
 use thiserror::Error;
 
+/// The greatest number.
 const LIMIT: u32 = 255;
 
 /// Why a text is no number. Offsets count characters from 0.
@@ -47,6 +48,7 @@ impl Refusal {
         }
     }
 
+    /// The report of it, with its text as message.
     fn report(&self, alloc: Global) -> Result<Report<'static>, AllocError> {
         let (code, start, end, hint) = self.parts();
         let mut builder = Report::build(alloc, ReportKind::Error, start..start)

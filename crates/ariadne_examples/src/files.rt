@@ -69,6 +69,7 @@ fn labels_in_two_files(rt: HostRuntime) -> Result<(), Fail> {
     fs::remove_file(&rt, fruit.as_path())?;
     let mut out = Vec::new(alloc);
     let left_out = draw(&rt, alloc, pie.as_str(), fruit.as_str(), &mut out)?;
+    fs::remove_file(&rt, pie.as_path())?;
     assert_eq!(rt; left_out.len(), 1);
     for left in &left_out {
         assert_eq!(rt; left.label, 1);

@@ -26,6 +26,7 @@ enum Kind {
     Sign,
 }
 
+/// What a character is part of, or none where no token has it.
 fn kind_of(c: char) -> Option<Kind> {
     match c {
         ' ' => Some(Kind::Blank),
@@ -39,8 +40,7 @@ fn kind_of(c: char) -> Option<Kind> {
 /// A run of characters of one kind, and where it stands.
 type Token = (Kind, Place);
 
-/// Reads a text, and answers where its first unknown character stands. The tokens before it that are
-/// no blanks are added to `tokens`.
+/// Adds the tokens of a text to `tokens`, and answers where an unknown character ends them.
 fn lex(tokens: &mut Vec<Token>, text: &str) -> Result<Option<Place>, AllocError> {
     let mut kind = Kind::Blank;
     let mut start = 0;
@@ -60,6 +60,7 @@ fn lex(tokens: &mut Vec<Token>, text: &str) -> Result<Option<Place>, AllocError>
     Ok(None)
 }
 
+/// Adds a token, unless it is of blanks or empty.
 fn push(tokens: &mut Vec<Token>, kind: Kind, start: usize, end: usize) -> Result<(), AllocError> {
     if kind != Kind::Blank && start < end {
         tokens.push((kind, Place { start, end }))?;
@@ -84,7 +85,6 @@ fn an_unknown_character_behind_others_of_two_bytes(rt: HostRuntime) -> Result<()
     let place = lex(&mut tokens, text)?.expect(&rt, "an unknown character");
     assert_eq!(rt; (tokens.len(), place.start, place.end), (3, 12, 15));
     let report = unknown(rt.alloc(), place)?;
-    let mut source = Source::from(rt.alloc(), text)?;
     let rows = [
         "Error: unknown character",
         "   ,-[ <unknown>:1:11 ]",
@@ -94,5 +94,6 @@ fn an_unknown_character_behind_others_of_two_bytes(rt: HostRuntime) -> Result<()
         "   |           `-- no token has it",
         "---'",
     ];
-    assert_rows(&rt, picture_of(&rt, &report, &mut source)?.as_str(), &rows)
+    let picture = picture_of(&rt, &report, &mut Source::from(rt.alloc(), text)?)?;
+    assert_rows(&rt, picture.as_str(), &rows)
 }

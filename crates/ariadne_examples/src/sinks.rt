@@ -19,6 +19,7 @@ struct Board {
 }
 
 impl Board {
+    /// A board with nothing on it, and room for so many bytes.
     fn new(alloc: Global, room: usize) -> Board {
         Board {
             bytes: Vec::new(alloc),
@@ -53,6 +54,7 @@ impl Sink for Board {
     }
 }
 
+/// The report that the boards get.
 fn report(alloc: Global) -> Result<Report<'static>, AllocError> {
     let label = Label::new(0..4).with_message(alloc, "not sold here")?;
     let report = Report::build(alloc, ReportKind::Error, 0..4)
