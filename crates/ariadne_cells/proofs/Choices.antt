@@ -1,19 +1,15 @@
 -- What one more label changes of what is shown from an offset on.
-use Rattle.std.proofs.Common.{◌≡◌, ℕ, ◌+◌, ◌-◌, ◌^◌, ◌<◌, ◌≤◌, Bool, true, false, cond, List, [], ◌∷◌, ◌++◌, Option, Some, None, filter, option_copied, min, Bor, length, take, get_or, map, slice_get}
+use Rattle.std.proofs.Common.{◌≡◌, ℕ, ◌+◌, ◌-◌, ◌^◌, ◌<◌, ◌≤◌, Bool, true, false, cond, List, [], ◌∷◌, ◌++◌, Option, Some, None, filter, option_copied, min, Bor, length, take, get_or}
 use Rattle.std.proofs.Common.{refl, sym, ap, ◌∙◌, subst, arith}
-use Rattle.std.specs.List.{filter_map, cons_option}
 use Rattle.std.proofs.lemmas.Bool.{cond-true, cond-false}
 use Rattle.std.proofs.lemmas.Bool.Decides.{nat_tests}
-use Rattle.std.proofs.lemmas.List.{append-nil, append_assoc, map_more, map-append, take_more}
-use Rattle.std.proofs.lemmas.List.Elements.{filter-append, filter_more, filter_map-append}
+use Rattle.std.proofs.lemmas.List.{append-nil, append_assoc, map_more}
+use Rattle.std.proofs.lemmas.List.Elements.{filter-append}
 use Rattle.std.proofs.lemmas.List.Sums.{fold_push}
-use Rattle.std.proofs.lemmas.Option.{slice_get-get_or}
 use Rattle.ariadne_cells.specs.declared.choice.Choice.{Choice}
 use Rattle.ariadne_cells.specs.Choices.{IsChoice, Considers, labels_at}
 use Rattle.ariadne_picture.specs.declared.label_info.LabelInfo.{LabelInfo}
-use Rattle.ariadne_picture.specs.declared.label_info.LineLabel.{LineLabel}
 use Rattle.ariadne_picture.specs.Lists.{best}
-use Rattle.ariadne_picture.specs.Ranks.{is_inline}
 use Rattle.ariadne_picture.specs.Strokes.{holds, is_preferred}
 use Rattle.ariadne_picture.proofs.Lists.ListFacts.{all-append}
 

@@ -1,5 +1,5 @@
 -- What two lists of labels show, one behind the other, is the better one of what each shows; and the parts of a line tell it.
-use Rattle.std.proofs.Common.{◌≡◌, ℕ, length, get_or, drop, add-one, ◌+◌, ◌-◌, ◌<◌, ◌≤◌, ◌⊎◌, Bool, true, false, cond, List, [], ◌∷◌, ◌++◌, Option, Some, None, filter, option_copied, option_map, Bor, min, max, inl, inr}
+use Rattle.std.proofs.Common.{◌≡◌, ℕ, length, get_or, drop, add-one, ◌+◌, ◌-◌, ◌<◌, ◌≤◌, ◌⊎◌, Bool, true, false, cond, List, [], ◌∷◌, ◌++◌, Option, Some, None, filter, option_copied, Bor, min, max, inl, inr}
 use Rattle.std.proofs.Common.{refl, sym, ap, ◌∙◌, subst, arith}
 use Rattle.std.specs.Cmp.{IsStrictWeakOrder}
 use Rattle.std.specs.Option.{option_or}
@@ -189,10 +189,10 @@ merging-more first second parts more place len i j d e p below-first below-secon
     let from-second = left-reaches second place len j e below-second g in (
       omega arith,
       subst (SeenBelow (both-at first second) p.end) (sym is) (seen-more (both-at first second) place parts p h (omega arith)
-      (λ k from below. label
-      ∙ (λ m. better_one
-      (sym (rest-here first (drop (i + 1) first) place len k (get_or first i d) (left-is first place len i d below-first f) from (omega arith)) m)
-      (sym (rest-here second (drop (j + 1) second) place len k (get_or second j e) (left-is second place len j e below-second g) from (omega arith)) m)))),
+          (λ k from below. label
+          ∙ (λ m. better_one
+          (sym (rest-here first (drop (i + 1) first) place len k (get_or first i d) (left-is first place len i d below-first f) from (omega arith)) m)
+          (sym (rest-here second (drop (j + 1) second) place len k (get_or second j e) (left-is second place len j e below-second g) from (omega arith)) m)))),
     )
 
 -- where nothing of one list is left, all places are merged

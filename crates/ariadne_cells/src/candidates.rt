@@ -66,10 +66,7 @@ fn push_numbered<'a>(
 }
 
 /// Appends the labels of a line. On `Err` there was no memory for them.
-fn push_labels<'a>(
-    list: &mut Vec<&'a LabelInfo>,
-    labels: &'a [LineLabel],
-) -> Result<(), AllocError>
+fn push_labels<'a>(list: &mut Vec<&'a LabelInfo>, labels: &'a [LineLabel]) -> Result<(), AllocError>
     ensures { OnOk result
         (labels_at list.new.items ≡ labels_at list.old.items ++ infos_of labels.now) }
 {

@@ -18,6 +18,15 @@ pub struct Part<'a> {
     pub label: Option<&'a LabelInfo>,
 }
 
+impl<'a> Part<'a> {
+    /// The part up to a place that shows a label, or none.
+    fn new(end: usize, label: Option<&'a LabelInfo>) -> Part<'a>
+        ensures { result ≡ record { end = end; label = label.entry } }
+    {
+        Part { end, label }
+    }
+}
+
 /// Finds the parts of the places below `len` that each show one of some labels, or none.
 ///
 /// `offset` counts the characters of the source before the line.
@@ -30,7 +39,7 @@ pub fn find_parts<'a>(
     ensures { IfOk result (λ v. AreParts (labels_at labels.now) offset len v.items) }
 {
     match labels {
-        [] => Ok(vec![in alloc; Part { end: len, label: None }]?),
+        [] => Ok(vec![in alloc; Part::new(len, None)]?),
         [label] => find_parts_of_one(alloc, label, offset, len),
         _ => {
             let (first, second) = labels.split_at(labels.len() / 2);
@@ -52,9 +61,9 @@ fn find_parts_of_one<'a>(
 {
     let start = label.start.saturating_sub(offset).min(len);
     let end = label.end.saturating_sub(offset).clamp(start, len);
-    let before = Part { end: start, label: None };
-    let inside = Part { end, label: Some(label) };
-    let behind = Part { end: len, label: None };
+    let before = Part::new(start, None);
+    let inside = Part::new(end, Some(label));
+    let behind = Part::new(len, None);
     Ok(vec![in alloc; before, inside, behind]?)
 }
 
@@ -73,8 +82,7 @@ fn merge<'a>(
     while i < first.len() && j < second.len() {
         let (a, b) = (first[i], second[j]);
         let end = a.end.min(b.end);
-        let label = better_one(a.label, b.label);
-        parts.push(Part { end, label })?;
+        parts.push(Part::new(end, better_one(a.label, b.label)))?;
         if a.end == end {
             i += 1;
         }
@@ -91,7 +99,8 @@ fn better_one<'a>(
     first: Option<&'a LabelInfo>,
     second: Option<&'a LabelInfo>,
 ) -> Option<&'a LabelInfo>
-    ensures { option_copied result ≡ better_one (option_copied first.entry) (option_copied second.entry) }
+    ensures { option_copied result
+        ≡ better_one (option_copied first.entry) (option_copied second.entry) }
 {
     let (Some(a), Some(b)) = (first, second) else {
         return first.or(second);

@@ -73,7 +73,13 @@ pub fn find_paints(
 {
     let margin = layout.margin();
     let alloc = *list.allocator();
-    let labels = painters(alloc, margin.as_ref(), multi_line, touching, layout.labels())?;
+    let labels = painters(
+        alloc,
+        margin.as_ref(),
+        multi_line,
+        touching,
+        layout.labels(),
+    )?;
     fill(list, &labels, layout.offset(), layout.shown_len())
 }
 

@@ -1,5 +1,5 @@
-use Rattle.std.proofs.Common.{◌≡◌, ◌++◌, take}
-use Rattle.ariadne_cells.specs.Choices.{labels_at, infos_of, inline_infos, numbered}
+use Rattle.std.proofs.Common.{◌≡◌, take}
+use Rattle.ariadne_cells.specs.Choices.{labels_at, inline_infos}
 use Rattle.ariadne_cells.proofs.candidates.inline_labels.Given as goal
 
 abbrev pub invariant-loop-label : goal.invariant-loop-label

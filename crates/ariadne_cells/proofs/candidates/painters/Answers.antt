@@ -1,4 +1,4 @@
-use Rattle.std.proofs.Common.{◌≡◌, [], ◌∷◌, ◌++◌, ◌∙◌, ap, option_copied, option_to_list, subst, sym}
+use Rattle.std.proofs.Common.{◌≡◌, [], ◌∷◌, ◌++◌, ◌∙◌, ap, option_copied, option_to_list}
 use Rattle.ariadne_cells.specs.Choices.{infos_of, labels_at, numbered}
 use Rattle.ariadne_cells.proofs.References.{labels_push}
 use Rattle.ariadne_cells.proofs.candidates.painters.Goals as goal

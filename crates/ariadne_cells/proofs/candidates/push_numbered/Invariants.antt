@@ -1,5 +1,5 @@
 use Rattle.std.proofs.Common.{◌≡◌, ◌++◌, take}
-use Rattle.ariadne_cells.specs.Choices.{labels_at, infos_of, inline_infos, numbered}
+use Rattle.ariadne_cells.specs.Choices.{labels_at, numbered}
 use Rattle.ariadne_cells.proofs.candidates.push_numbered.Given as goal
 
 abbrev pub invariant-loop-number : goal.invariant-loop-number

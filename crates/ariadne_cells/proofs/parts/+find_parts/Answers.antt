@@ -1,6 +1,7 @@
-use Rattle.std.proofs.Common.{[], IfOk, refl, sym, subst}
+use Rattle.std.proofs.Common.{[], IfOk, ap, sym, subst}
 use Rattle.ariadne_cells.specs.Choices.{labels_at}
 use Rattle.ariadne_cells.specs.Parts.{AreParts}
+use Rattle.ariadne_cells.specs.declared.parts.Part.{Part}
 use Rattle.ariadne_cells.proofs.PartsOfLabels.{parts-of-none}
 use Rattle.ariadne_cells.proofs.References.{labels_none, labels_one, labels_parts}
 use Rattle.ariadne_cells.proofs.parts.+find_parts.Goals as goal
@@ -10,7 +11,8 @@ pub returns-in_ok-vec-in-empty : goal.returns-in_ok-vec-in-empty
 returns-in_ok-vec-in-empty t c =
     subst (λ labels. AreParts labels c.args.offset c.args.len c.in_ok-vec-in-empty.field-0.items)
     (labels_none c.args.labels.now c.in-empty.len_below)
-    (subst (AreParts [] c.args.offset c.args.len) (sym c.in_ok-vec-in-empty.ensures.items) (parts-of-none c.args.offset c.args.len _ refl refl))
+    (subst (AreParts [] c.args.offset c.args.len) (sym c.in_ok-vec-in-empty.ensures.items) (parts-of-none c.args.offset c.args.len c.new.result
+    (ap (λ (p : Part). p.end) c.new.ensures) (ap (λ (p : Part). p.label) c.new.ensures)))
 
 -- one label is shown in its span
 pub returns-in-len1 : goal.returns-in-len1

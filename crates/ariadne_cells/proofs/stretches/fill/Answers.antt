@@ -1,4 +1,4 @@
-use Rattle.std.proofs.Common.{◌∙◌, ap, option_map, sym}
+use Rattle.std.proofs.Common.{◌∙◌, ap, option_map}
 use Rattle.std.proofs.lemmas.Result.{on_ok_weaker}
 use Rattle.ariadne_cells.specs.Choices.{shown_position}
 use Rattle.ariadne_cells.specs.Parts.{seen_at}

@@ -1,5 +1,5 @@
 use Rattle.std.proofs.Common.{◌-◌, ◌+◌, ◌∙◌, [], ap, arith, subst, sym}
-use Rattle.ariadne_cells.specs.Choices.{IsChoice, labels_at, shown_position}
+use Rattle.ariadne_cells.specs.Choices.{IsChoice, labels_at}
 use Rattle.ariadne_cells.proofs.Stretched.{ShowsBelow, shows_none, shows_choice, shows_all}
 use Rattle.ariadne_cells.proofs.stretches.push_chosen.Goals as goal
 use Rattle.ariadne_cells.proofs.stretches.push_chosen.Goals.{After-len-place}
