@@ -19,5 +19,4 @@ mod words;
 
 pub use drawing::draw;
 pub use fault::{Fault, Status, tell_fault};
-pub use pages::{HELP, VERSION};
 pub use words::without_colors;

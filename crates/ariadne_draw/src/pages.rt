@@ -3,8 +3,8 @@
 ghost use Rattle.std.specs.Prelude.{◌≡◌, map, string_bytes};
 ghost use Rattle.ariadne_draw.specs.Pages.{page_asked, page_text};
 
-/// What `--help` writes. Its two pictures are those that the program draws for the words above them,
-/// without the blanks at the ends of rows.
+/// What `--help` writes. Its two pictures are those that the program draws for the words above
+/// them, without the blanks at the ends of rows.
 pub const HELP: &str = "\
 usage: ariadne-draw [--ascii] [--plain] [--compact] [--bytes] [--file PATH] MESSAGE [START END TEXT]...
 
@@ -58,7 +58,7 @@ Status:
   4  nothing was run: bin/ariadne-draw could not build the program
 ";
 
-/// What `--version` writes: name and version, and the line of the kit that the program is proved with.
+/// What `--version` writes: name and version, and the line of the kit that proved the program.
 pub const VERSION: &str = "\
 ariadne-draw 0.6.0
 rattle-kit-13b logic dac8208d650f15bf

@@ -2,7 +2,7 @@
 
 use super::drawing::draw;
 use super::fault::Status;
-use super::pages::{HELP, VERSION};
+use super::pages::Page;
 use super::tests::{USAGE, run, run_over};
 use super::words::without_colors;
 use ariadne_fakes::{Given, Taker, texts};
@@ -17,7 +17,7 @@ const UNREADABLE: Given<'static> = Given {
 };
 
 /// The pages, each with its word.
-const PAGES: [(&str, &str); 2] = [("--help", HELP), ("--version", VERSION)];
+const PAGES: [(&str, Page); 2] = [("--help", Page::Help), ("--version", Page::Version)];
 
 #[test]
 fn a_page_is_written_where_its_word_is_alone(rt: HostRuntime) -> Result<(), Fail> {
@@ -26,7 +26,7 @@ fn a_page_is_written_where_its_word_is_alone(rt: HostRuntime) -> Result<(), Fail
         let out = Taker::whole(alloc)?;
         let outcome = run_over(&rt, alloc, &[word], UNREADABLE, out)?;
         assert_eq!(rt; outcome.status, Status::Drawn, "{word}");
-        assert_eq!(rt; outcome.out.as_str(), page, "{word}");
+        assert_eq!(rt; outcome.out.as_str(), page.text(), "{word}");
         assert_eq!(rt; outcome.faults.as_str(), "", "{word}");
     }
     Ok(())
@@ -72,7 +72,8 @@ fn a_page_is_cut_where_its_writer_fails(rt: HostRuntime) -> Result<(), Fail> {
     let alloc = rt.alloc();
     for (word, page) in PAGES {
         let words = texts(alloc, &[word])?;
-        for calls in 0..page.len() {
+        let text = page.text().as_bytes();
+        for calls in 0..text.len() {
             let mut input = UNREADABLE;
             let mut out = Taker::narrow(alloc, 1, calls, Some(ErrorKind::BrokenPipe));
             let mut faults = Taker::whole(alloc)?;
@@ -86,7 +87,7 @@ fn a_page_is_cut_where_its_writer_fails(rt: HostRuntime) -> Result<(), Fail> {
             );
             let told = format!(in alloc; "write failed after {calls} bytes\n")?;
             assert_eq!(rt; status, Status::Failed, "at {calls}");
-            assert_eq!(rt; out.held.as_slice(), &page.as_bytes()[..calls]);
+            assert_eq!(rt; out.held.as_slice(), &text[..calls]);
             assert_eq!(rt; faults.held.as_slice(), told.as_bytes());
         }
     }
@@ -95,7 +96,8 @@ fn a_page_is_cut_where_its_writer_fails(rt: HostRuntime) -> Result<(), Fail> {
 
 #[test]
 fn the_help_has_a_line_for_each_option(rt: HostRuntime) {
-    assert!(rt; HELP.starts_with(USAGE));
+    let help = Page::Help.text();
+    assert!(rt; help.starts_with(USAGE));
     let options = [
         "--ascii",
         "--plain",
@@ -107,7 +109,7 @@ fn the_help_has_a_line_for_each_option(rt: HostRuntime) {
         "--version",
     ];
     for option in options {
-        let lines = HELP
+        let lines = help
             .lines()
             .filter(|line| line.trim_start_matches(' ').split("  ").next() == Some(option))
             .count();
@@ -165,15 +167,16 @@ fn shown(alloc: Global, command: &str, picture: &str) -> Result<String, AllocErr
 #[test]
 fn the_help_shows_what_its_examples_draw(rt: HostRuntime) -> Result<(), Fail> {
     let alloc = rt.alloc();
+    let help = Page::Help.text();
     for example in EXAMPLES {
         let command = example.command;
         let outcome = run(&rt, alloc, example.words, example.text)?;
         assert_eq!(rt; outcome.status, Status::Drawn, "{command}");
         let want = shown(alloc, command, outcome.out.as_str())?;
-        assert!(rt; HELP.contains(want.as_str()), "{command}");
+        assert!(rt; help.contains(want.as_str()), "{command}");
     }
     // No other line of it is a command.
-    assert_eq!(rt; HELP.matches("| ariadne-draw ").count(), EXAMPLES.len());
+    assert_eq!(rt; help.matches("| ariadne-draw ").count(), EXAMPLES.len());
     Ok(())
 }
 
