@@ -65,7 +65,7 @@ rattle-kit-13b logic dac8208d650f15bf
 ";
 
 /// A text that the program has ready.
-#[derive(Clone, Copy, Drop)]
+#[derive(Clone, Copy)]
 pub enum Page {
     /// `--help`
     Help,

@@ -57,6 +57,24 @@ pub fn read_words<'a>(alloc: Global, words: &'a [String]) -> Result<Asked<'a>, F
     })
 }
 
+/// Words that ask for the same without colours: `--plain` stands before those that are handed in.
+///
+/// Where these ask for a page they stay as they are, since its word has to be the only one. On `Err`
+/// there was no memory, and the words are dropped.
+pub fn without_colors(alloc: Global, words: Vec<String>) -> Result<Vec<String>, AllocError>
+    ensures report { IfOk result (λ plain. asking_of (map string_bytes plain.items)
+        ≡ option_map colorless (asking_of (map string_bytes words.items))) }
+    ensures page { IfOk result (λ plain. page_asked (map string_bytes plain.items)
+        ≡ page_asked (map string_bytes words.items)) }
+{
+    if asked_page(words.as_slice()).is_some() {
+        return Ok(words);
+    }
+    let mut plain = words;
+    plain.insert(0, String::from_str(alloc, "--plain")?)?;
+    Ok(plain)
+}
+
 /// What the options ask for, and the words from the message on.
 fn read_options<'a>(words: &'a [String]) -> Option<(AskedOptions<'a>, &'a [String])>
     ensures { MatchOption result (asking_of (map string_bytes words.now) ≡ None)
@@ -146,22 +164,4 @@ fn number(word: &str) -> Option<usize>
         return None;
     }
     word.parse().ok()
-}
-
-/// Words that ask for the same without colours: `--plain` stands before those that are handed in.
-///
-/// Where these ask for a page they stay as they are, since its word has to be the only one. On `Err`
-/// there was no memory, and the words are dropped.
-pub fn without_colors(alloc: Global, words: Vec<String>) -> Result<Vec<String>, AllocError>
-    ensures report { IfOk result (λ plain. asking_of (map string_bytes plain.items)
-        ≡ option_map colorless (asking_of (map string_bytes words.items))) }
-    ensures page { IfOk result (λ plain. page_asked (map string_bytes plain.items)
-        ≡ page_asked (map string_bytes words.items)) }
-{
-    if asked_page(words.as_slice()).is_some() {
-        return Ok(words);
-    }
-    let mut plain = words;
-    plain.insert(0, String::from_str(alloc, "--plain")?)?;
-    Ok(plain)
 }
