@@ -86,18 +86,18 @@ fn ten_thousand_labels_on_a_character_are_drawn(rt: HostRuntime) -> Result<(), F
 }
 
 #[test]
-fn a_thousand_nested_labels_are_drawn(rt: HostRuntime) -> Result<(), Fail> {
+fn ten_thousand_nested_labels_are_drawn(rt: HostRuntime) -> Result<(), Fail> {
     let alloc = rt.alloc();
-    let mut builder = labelled_at(&rt, plain_error(alloc), (1000, 1001), "inmost")?;
-    for margin in 0..1000usize {
-        let (start, end) = (margin, 2001usize.saturating_sub(margin));
+    let mut builder = labelled_at(&rt, plain_error(alloc), (10_000, 10_001), "inmost")?;
+    for margin in 0..10_000usize {
+        let (start, end) = (margin, 20_001usize.saturating_sub(margin));
         assert!(rt; start <= end);
         builder = builder.with_label(Label::new(start..end))?;
     }
-    let text = filled(alloc, 'x', 2001)?;
-    let line = filled(alloc, '^', 1000)?;
-    let blanks = filled(alloc, ' ', 1000)?;
-    let strokes = filled(alloc, '-', 1002)?;
+    let text = filled(alloc, 'x', 20_001)?;
+    let line = filled(alloc, '^', 10_000)?;
+    let blanks = filled(alloc, ' ', 10_000)?;
+    let strokes = filled(alloc, '-', 10_002)?;
     let rows = [
         format!(in alloc; " 1 | {text}")?,
         format!(in alloc; "   | {line}|{line}")?,
