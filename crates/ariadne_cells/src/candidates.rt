@@ -10,7 +10,7 @@ use ariadne_picture::label_info::{LabelInfo, LineLabel};
 use std::alloc::{AllocError, Global};
 
 /// Those of the labels of a line that lie within it.
-pub fn inline_labels<'a>(
+pub(crate) fn inline_labels<'a>(
     alloc: Global,
     labels: &'a [LineLabel],
 ) -> Result<Vec<&'a LabelInfo>, AllocError>
@@ -27,7 +27,7 @@ pub fn inline_labels<'a>(
 
 /// The margin label of a line, if it has one, the labels that stand at these indices of a list, and
 /// the labels of the line.
-pub fn painters<'a>(
+pub(crate) fn painters<'a>(
     alloc: Global,
     margin: Option<&'a LineLabel>,
     multi_line: &'a [LabelInfo],

@@ -30,7 +30,7 @@ impl<'a> Part<'a> {
 /// Finds the parts of the places below `len` that each show one of some labels, or none.
 ///
 /// `offset` counts the characters of the source before the line.
-pub fn find_parts<'a>(
+pub(crate) fn find_parts<'a>(
     alloc: Global,
     labels: &[&'a LabelInfo],
     offset: usize,
