@@ -1,5 +1,5 @@
 -- What all rows of a picture share, and the pen that writes them: its text only grows.
-use Rattle.std.specs.Prelude.{ℕ, ◌≡◌, List, [], ◌∷◌, ◌++◌}
+use Rattle.std.specs.Prelude.{ℕ, ◌≡◌, List, ◌++◌}
 use Rattle.ariadne_picture.specs.declared.switches.Switches.{Switches}
 use Rattle.ariadne_picture.specs.Pieces.{Piece}
 use Rattle.ariadne_picture.specs.Canvas.{Palette}

@@ -65,13 +65,13 @@ impl LineTable {
         ensures { OnOk result (IsTable switches.now layout.now 0 self.new) }
     {
         self.len = layout.arrow_len(switches);
-        self.columns.fill(switches, layout, self.len)?;
-        self.verticals.fill(layout)?;
         self.underline_row = underline_row(layout);
+        // This takes more memory than it keeps, so the lists that stay come after it.
         if !switches.compact {
             find_underlines(switches, layout, self.len, &mut self.underlines)?;
         }
-        Ok(())
+        self.columns.fill(switches, layout, self.len)?;
+        self.verticals.fill(layout)
     }
 
     /// Finds the labels that colour the shown characters of a line.

@@ -1,4 +1,4 @@
-use Rattle.std.proofs.Common.{◌≡◌, ◌∙◌, [], ◌∷◌, ap, arith, option_copied, subst, sym}
+use Rattle.std.proofs.Common.{◌≡◌, [], ◌∷◌, ap, arith, option_copied, subst, sym}
 use Rattle.ariadne_cells.specs.Parts.{AreParts}
 use Rattle.ariadne_cells.specs.declared.parts.Part.{Part}
 use Rattle.ariadne_cells.proofs.PartsOfLabels.{parts-of-one}

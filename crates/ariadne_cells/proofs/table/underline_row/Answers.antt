@@ -1,5 +1,5 @@
 -- The search goes over the line's labels.
-use Rattle.std.proofs.Common.{◌≡◌, ℕ, ◌≤◌, Bool, not, List, length, cond, Some, None, unwrap_or, ap, ◌∙◌, arith, inl, inr, rules, tests}
+use Rattle.std.proofs.Common.{◌≡◌, ◌≤◌, Bool, not, List, length, cond, Some, None, unwrap_or, ap, ◌∙◌, arith, inl, inr, rules, tests}
 use Rattle.std.specs.List.{position_or_len}
 use Rattle.std.proofs.Math.Dec.{ltb}
 use Rattle.std.proofs.lemmas.Bool.{cases_lt, cond-true, cond-false, lt-ltb, le-ltb}
