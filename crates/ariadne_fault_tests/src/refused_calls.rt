@@ -99,9 +99,6 @@ pub(crate) const CALLS: &[(&str, &[&str])] = &[
             "Pen::push_margin",
             "Pen::push_gap_margin",
             "Pen::push_line_margin",
-            "inline_labels",
-            "painters",
-            "find_underlines",
             "find_paints",
             "Verticals::fill",
             "push_painted",
@@ -138,7 +135,7 @@ pub(crate) const CALLS: &[(&str, &[&str])] = &[
     ),
     (
         "a_refused_line_of_many_labels_sends_nothing",
-        &["find_parts"],
+        &["find_underlines"],
     ),
 ];
 

@@ -25,11 +25,7 @@ const ROWS: [&str; 7] = [
 ];
 
 /// Refuses the nth request of writing the report, of which a refusal sends nothing.
-fn try_write(
-    rt: &(impl Abort + AllocGlobal),
-    report: &Report<'_>,
-    nth: usize,
-) -> Result<bool, Fail>
+fn try_write(rt: &(impl Abort + AllocGlobal), report: &Report<'_>, nth: usize) -> Result<bool, Fail>
     requires { nth < 100000 }
 {
     let mut source = source_of(rt.alloc(), "ab")?;
