@@ -1,15 +1,19 @@
 -- What one more label changes of what is shown from an offset on.
-use Rattle.std.proofs.Common.{◌≡◌, ℕ, ◌+◌, ◌-◌, ◌^◌, ◌<◌, ◌≤◌, Bool, true, false, cond, List, [], ◌∷◌, ◌++◌, Option, Some, None, filter, option_copied, min, Bor, length, take, get_or}
+use Rattle.std.proofs.Common.{◌≡◌, ℕ, ◌+◌, ◌-◌, ◌^◌, ◌<◌, ◌≤◌, Bool, true, false, cond, List, [], ◌∷◌, ◌++◌, Option, Some, None, filter, option_copied, min, Bor, length, take, get_or, map, slice_get}
 use Rattle.std.proofs.Common.{refl, sym, ap, ◌∙◌, subst, arith}
+use Rattle.std.specs.List.{filter_map, cons_option}
 use Rattle.std.proofs.lemmas.Bool.{cond-true, cond-false}
 use Rattle.std.proofs.lemmas.Bool.Decides.{nat_tests}
-use Rattle.std.proofs.lemmas.List.{append-nil, append_assoc, map_more}
-use Rattle.std.proofs.lemmas.List.Elements.{filter-append}
+use Rattle.std.proofs.lemmas.List.{append-nil, append_assoc, map_more, map-append, take_more}
+use Rattle.std.proofs.lemmas.List.Elements.{filter-append, filter_more, filter_map-append}
 use Rattle.std.proofs.lemmas.List.Sums.{fold_push}
+use Rattle.std.proofs.lemmas.Option.{slice_get-get_or}
 use Rattle.ariadne_cells.specs.declared.choice.Choice.{Choice}
-use Rattle.ariadne_cells.specs.Choices.{IsChoice, Considers, labels_at}
+use Rattle.ariadne_cells.specs.Choices.{IsChoice, Considers, infos_of, inline_infos, numbered}
 use Rattle.ariadne_picture.specs.declared.label_info.LabelInfo.{LabelInfo}
+use Rattle.ariadne_picture.specs.declared.label_info.LineLabel.{LineLabel}
 use Rattle.ariadne_picture.specs.Lists.{best}
+use Rattle.ariadne_picture.specs.Ranks.{is_inline}
 use Rattle.ariadne_picture.specs.Strokes.{holds, is_preferred}
 use Rattle.ariadne_picture.proofs.Lists.ListFacts.{all-append}
 
@@ -70,17 +74,17 @@ considered old new a same_offset less step labels offset len h =
     }
 
 -- a label holds what lies between its start and its end
-pub holds_inside : (a : LabelInfo) (o : ℕ) → a.start ≤ o → o < a.end → holds a o ≡ true
+holds_inside : (a : LabelInfo) (o : ℕ) → a.start ≤ o → o < a.end → holds a o ≡ true
 unfolding holds
 holds_inside a o begun goes_on = grind (arith, nat_tests)
 
 -- and nothing before it begins
-pub holds_before : (a : LabelInfo) (o : ℕ) → o < a.start → holds a o ≡ false
+holds_before : (a : LabelInfo) (o : ℕ) → o < a.start → holds a o ≡ false
 unfolding holds
 holds_before a o before = grind (arith, nat_tests)
 
 -- or from its end on
-pub holds_behind : (a : LabelInfo) (o : ℕ) → a.end ≤ o → holds a o ≡ false
+holds_behind : (a : LabelInfo) (o : ℕ) → a.end ≤ o → holds a o ≡ false
 unfolding holds
 holds_behind a o behind = grind (arith, nat_tests)
 
@@ -125,9 +129,46 @@ pub considers_both : (a b c : Choice) (xs ys : List LabelInfo) → Considers a b
 considers_both a b c xs ys f g labels offset len h =
     subst (λ t. IsChoice t offset len c) (append_assoc labels xs ys) (g (labels ++ xs) offset len (f labels offset len h))
 
--- those of the first references, and the next one
-pub considers_label : (a b c : Choice) (xs : List (Bor LabelInfo)) (i : ℕ) (d : Bor LabelInfo) → i < length xs
-    → Considers a b (labels_at (take i xs)) → Considers b c ((get_or xs i d).now ∷ []) → Considers a c (labels_at (take (i + 1) xs))
-unfolding labels_at
+-- those of the first line labels, and the next one
+pub considers_label : (a b c : Choice) (xs : List LineLabel) (i : ℕ) (d : LineLabel) → i < length xs → Considers a b (infos_of (take i xs))
+    → Considers b c ((get_or xs i d).info ∷ []) → Considers a c (infos_of (take (i + 1) xs))
+unfolding infos_of
 considers_label a b c xs i d below f g =
-    subst (Considers a c) (sym (map_more (λ (x : Bor LabelInfo). x.now) xs i d below)) (considers_both a b c _ _ f g)
+    subst (Considers a c) (sym (map_more (λ (x : LineLabel). x.info) xs i d below)) (considers_both a b c _ _ f g)
+
+-- the same, of those that lie within the line
+pub considers_inline : (a b c : Choice) (xs : List LineLabel) (i : ℕ) (d : LineLabel) → i < length xs
+    → Considers a b (inline_infos (take i xs)) → is_inline (get_or xs i d).side ≡ true → Considers b c ((get_or xs i d).info ∷ [])
+    → Considers a c (inline_infos (take (i + 1) xs))
+unfolding inline_infos infos_of
+considers_inline a b c xs i d below f is g =
+    let infos = map (λ (x : LineLabel). x.info) in
+    let first = filter (λ (x : LineLabel). is_inline x.side) (take i xs) in
+    let x = get_or xs i d in
+    let one_more = filter_more (λ (x : LineLabel). is_inline x.side) xs i d below
+    ∙ ap (λ t. first ++ t) (cond-true (is_inline x.side) (x ∷ []) [] is) in
+    subst (Considers a c) (sym (ap infos one_more ∙ map-append (λ (x : LineLabel). x.info) first (x ∷ []))) (considers_both a b c (infos first) (x.info ∷ []) f g)
+
+-- and one that does not
+pub considers_not_inline : (a b : Choice) (xs : List LineLabel) (i : ℕ) (d : LineLabel) → i < length xs
+    → Considers a b (inline_infos (take i xs)) → is_inline (get_or xs i d).side ≡ false → Considers a b (inline_infos (take (i + 1) xs))
+unfolding inline_infos infos_of
+considers_not_inline a b xs i d below f is =
+    let infos = map (λ (x : LineLabel). x.info) in
+    let first = filter (λ (x : LineLabel). is_inline x.side) (take i xs) in
+    let x = get_or xs i d in
+    let no_more = filter_more (λ (x : LineLabel). is_inline x.side) xs i d below
+    ∙ ap (λ t. first ++ t) (cond-false (is_inline x.side) (x ∷ []) [] is) ∙ append-nil first in
+    subst (Considers a b) (sym (ap infos no_more)) f
+
+-- those of the first numbers, and the next one
+pub considers_number : (a b c : Choice) (infos : List LabelInfo) (numbers : List ℕ) (i e : ℕ) (d : LabelInfo) → i < length numbers
+    → get_or numbers i e < length infos → Considers a b (numbered infos (take i numbers)) → Considers b c (get_or infos (get_or numbers i e) d ∷ [])
+    → Considers a c (numbered infos (take (i + 1) numbers))
+unfolding numbered
+considers_number a b c infos numbers i e d below within f g =
+    let first = take i numbers in
+    let n = get_or numbers i e in
+    let one_more = ap (filter_map (slice_get infos)) (take_more numbers i e below) ∙ filter_map-append (slice_get infos) first (n ∷ [])
+    ∙ ap (λ t. filter_map (slice_get infos) first ++ cons_option t []) (slice_get-get_or infos n d within) in
+    subst (Considers a c) (sym one_more) (considers_both a b c (filter_map (slice_get infos) first) (get_or infos n d ∷ []) f g)

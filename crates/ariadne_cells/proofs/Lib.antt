@@ -5,11 +5,11 @@ pub mod Copies
 pub mod Drawn
 pub mod FallingVerticals
 pub mod LabelVerticals
+pub mod Halved
 pub mod Layouts
 pub mod Margins
 pub mod OneOrder
 pub mod PartsOfLabels
 pub mod PlaceColumns
-pub mod References
 pub mod Stretched
 pub mod Touching

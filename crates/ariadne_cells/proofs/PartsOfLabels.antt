@@ -1,5 +1,5 @@
 -- What two lists of labels show, one behind the other, is the better one of what each shows; and the parts of a line tell it.
-use Rattle.std.proofs.Common.{◌≡◌, ℕ, length, get_or, drop, add-one, ◌+◌, ◌-◌, ◌<◌, ◌≤◌, ◌⊎◌, Bool, true, false, cond, List, [], ◌∷◌, ◌++◌, Option, Some, None, filter, option_copied, Bor, min, max, inl, inr}
+use Rattle.std.proofs.Common.{◌≡◌, ℕ, length, get_or, drop, add-one, ◌+◌, ◌-◌, ◌<◌, ◌≤◌, ◌⊎◌, Bool, true, false, cond, List, [], ◌∷◌, ◌++◌, Option, Some, None, filter, option_copied, Bor, min, inl, inr}
 use Rattle.std.proofs.Common.{refl, sym, ap, ◌∙◌, subst, arith}
 use Rattle.std.specs.Cmp.{IsStrictWeakOrder}
 use Rattle.std.specs.Option.{option_or}
@@ -10,14 +10,16 @@ use Rattle.std.proofs.Math.Seq.{drop-cons}
 use Rattle.std.proofs.lemmas.List.{append-nil, append_assoc}
 use Rattle.std.proofs.lemmas.List.Elements.{filter-append}
 use Rattle.std.proofs.lemmas.List.Sums.{fold-append}
+use Rattle.ariadne_cells.specs.declared.choice.Choice.{Choice}
 use Rattle.ariadne_cells.specs.declared.parts.Part.{Part}
+use Rattle.ariadne_cells.specs.Choices.{IsChoice}
 use Rattle.ariadne_cells.specs.Parts.{AreParts, Reach, better_one, seen_at}
 use Rattle.ariadne_picture.specs.declared.label_info.LabelInfo.{LabelInfo}
 use Rattle.ariadne_picture.specs.Lists.{best}
 use Rattle.ariadne_picture.specs.Strokes.{holds, is_preferred}
 use Rattle.ariadne_picture.proofs.Labels.Orders.{preferred}
 use Rattle.ariadne_picture.proofs.Lists.ListFacts.{none≢some}
-use Rattle.ariadne_cells.proofs.Choices.{holds_inside, holds_before, holds_behind}
+use Rattle.ariadne_cells.proofs.Stretched.{choice-shown, label-shown}
 
 -- ---- the best of two lists
 
@@ -112,11 +114,11 @@ pub record SeenBelow (f : ℕ → Option LabelInfo) (n : ℕ) (parts : List Part
   pub reach : (len : ℕ) (more : List Part) → Reach n len more → Reach 0 len (parts ++ more)
 
 -- no part shows nothing
-seen-none : (f : ℕ → Option LabelInfo) → SeenBelow f 0 []
+pub seen-none : (f : ℕ → Option LabelInfo) → SeenBelow f 0 []
 seen-none f = record { below = λ k more h. absurd (omega arith); behind = λ k more h. refl; reach = λ len more h. h }
 
 -- one more part, through which f gives its label
-seen-more : (f : ℕ → Option LabelInfo) (n : ℕ) (parts : List Part) (a : Part) → SeenBelow f n parts → n ≤ a.end
+pub seen-more : (f : ℕ → Option LabelInfo) (n : ℕ) (parts : List Part) (a : Part) → SeenBelow f n parts → n ≤ a.end
     → ((k : ℕ) → n ≤ k → k < a.end → option_copied a.label ≡ f k) → SeenBelow f a.end (parts ++ a ∷ [])
 unfolding seen_at
 seen-more f n parts a h less same = record {
@@ -131,6 +133,19 @@ seen-more f n parts a h less same = record {
       ∙ h.behind k (a ∷ more) (omega arith) ∙ cond-false _ (option_copied a.label) (seen_at more k) (le-ltb k a.end from);
   reach = λ len more to. subst (Reach 0 len) (sym (append_assoc parts (a ∷ []) more)) (h.reach len (a ∷ more) (less, to));
 }
+
+-- so does the part of a choice among some labels
+pub parts_choice : (labels : List LabelInfo) (offset place to : ℕ) (choice : Choice) (parts more : List Part) (a : Part)
+    → SeenBelow (λ k. label-shown labels (offset + k)) place parts → IsChoice labels (offset + place) (to - place) choice → place < to
+    → a.end ≡ place + choice.len → option_copied a.label ≡ option_copied choice.best → more ≡ parts ++ a ∷ []
+    → SeenBelow (λ k. label-shown labels (offset + k)) a.end more
+parts_choice labels offset place to choice parts more a h choice_is inside end label pushed =
+    let f = λ (k : ℕ). label-shown labels (offset + k) in
+    subst (SeenBelow f a.end) (sym pushed)
+    (seen-more f place parts a h (omega arith)
+    (λ k from below.
+    let same : (offset + place) + (k - place) ≡ offset + k = omega arith in
+    label ∙ choice-shown labels (offset + place) (to - place) choice (k - place) choice_is (omega arith) ∙ ap (label-shown labels) same))
 
 -- ---- two lists of parts, merged
 
@@ -211,51 +226,6 @@ merged-all xs ys offset len i j first second parts f g h ends =
           ∙ (λ m. better_one (f.show k below m) (g.show k below m))
           ∙ sym (shown-both (λ a. holds a (offset + k)) xs ys);
     }
-
--- ---- the parts of one label, and of none
-
--- nothing is seen in one part without a label
-pub parts-of-none : (offset len : ℕ) (a : Part) → a.end ≡ len → a.label ≡ None → AreParts [] offset len (a ∷ [])
-unfolding seen_at best
-parts-of-none offset len a ends none = record {
-  reach = (omega arith, ends);
-  show = λ k below. cond-true _ (option_copied a.label) None (lt-ltb k a.end (omega arith)) ∙ ap option_copied none;
-}
-
--- a place before a label, or behind it, shows none; one in it shows it
-one-held : (info : LabelInfo) (o : ℕ) (b : Bool) → holds info o ≡ b
-    → best is_preferred (filter (λ a. holds a o) (info ∷ [])) ≡ cond b (Some info) None
-unfolding best
-one-held info o b is = ap (λ v. best is_preferred (cond v (info ∷ []) [])) is ∙ elim b as (λ v. best is_preferred (cond v (info ∷ []) []) ≡ cond v (Some info) None) [
-  | true ↦ refl
-  | false ↦ refl
-]
-
--- a label is seen from its start to its end
-pub parts-of-one : (info : LabelInfo) (offset len : ℕ) (before inside behind : Part) → before.end ≡ min (info.start - offset) len
-    → inside.end ≡ max before.end (min (info.end - offset) len) → behind.end ≡ len → before.label ≡ None
-    → option_copied inside.label ≡ Some info → behind.label ≡ None
-    → AreParts (info ∷ []) offset len (before ∷ inside ∷ behind ∷ [])
-unfolding seen_at
-parts-of-one info offset len before inside behind starts ends reaches no-label label no-label-behind = record {
-  reach = (omega arith, (omega arith, (omega arith, reaches)));
-  show = λ k below. elim (cases_lt k before.end) [
-    | inl h ↦
-        cond-true _ (option_copied before.label) _ (lt-ltb k before.end h) ∙ ap option_copied no-label
-        ∙ sym (one-held info (offset + k) false (holds_before info (offset + k) (omega arith)))
-    | inr from ↦
-        cond-false _ (option_copied before.label) _ (le-ltb k before.end from)
-        ∙ elim (cases_lt k inside.end) [
-          | inl h ↦
-              cond-true _ (option_copied inside.label) _ (lt-ltb k inside.end h) ∙ label
-              ∙ sym (one-held info (offset + k) true (holds_inside info (offset + k) (omega arith) (omega arith)))
-          | inr past ↦
-              cond-false _ (option_copied inside.label) _ (le-ltb k inside.end past)
-              ∙ cond-true _ (option_copied behind.label) None (lt-ltb k behind.end (omega arith)) ∙ ap option_copied no-label-behind
-              ∙ sym (one-held info (offset + k) false (holds_behind info (offset + k) (omega arith)))
-        ]
-  ];
-}
 
 -- ---- of two labels the one that is shown
 

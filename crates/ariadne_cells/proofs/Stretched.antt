@@ -57,14 +57,22 @@ filter-same : {X : Type 0} (p q : X → Bool) (xs : List X) → AllByRecursion (
 filter-same p q [] h = refl
 filter-same p q (x ∷ xs) h = λ i. cond (h.0 i) (x ∷ filter-same p q xs h.1 i) (filter-same p q xs h.1 i)
 
--- through the stretch of a choice it is the one of the choice
-position_shown : (labels : List LabelInfo) (offset len : ℕ) (choice : Choice) (k : ℕ) → IsChoice labels offset len choice → k < choice.len
+-- the preferred one of the labels that hold an offset
+abbrev pub label-shown : List LabelInfo → ℕ → Option LabelInfo
+label-shown labels o = best is_preferred (filter (λ a. holds a o) labels)
+
+-- through the stretch of a choice it is that of the choice
+pub choice-shown : (labels : List LabelInfo) (offset len : ℕ) (choice : Choice) (k : ℕ) → IsChoice labels offset len choice → k < choice.len
+    → option_copied choice.best ≡ label-shown labels (offset + k)
+choice-shown labels offset len choice k h below =
+    h.shows
+    ∙ ap (best is_preferred) (sym (filter-same (λ a. holds a (offset + k)) (λ a. holds a offset) labels (h.stays k below)))
+
+-- and so is its position
+position-shown : (labels : List LabelInfo) (offset len : ℕ) (choice : Choice) (k : ℕ) → IsChoice labels offset len choice → k < choice.len
     → option_map (λ (a : LabelInfo). a.position) (option_copied choice.best) ≡ shown_position labels (offset + k)
 unfolding shown_position
-position_shown labels offset len choice k h below =
-    let position = option_map (λ (a : LabelInfo). a.position) in
-    ap position h.shows
-    ∙ ap (λ t. position (best is_preferred t)) (sym (filter-same (λ a. holds a (offset + k)) (λ a. holds a offset) labels (h.stays k below)))
+position-shown labels offset len choice k h below = ap (option_map (λ (a : LabelInfo). a.position)) (choice-shown labels offset len choice k h below)
 
 -- so a stretch for it shows what they show
 pub shows_choice : (labels : List LabelInfo) (offset place to : ℕ) (choice : Choice) (stretches more : List Stretch) (s : Stretch)
@@ -77,7 +85,7 @@ shows_choice labels offset place to choice stretches more s h choice_is inside e
     (shows_more f place stretches s h (omega arith)
     (λ k from below.
     let same : (offset + place) + (k - place) ≡ offset + k = omega arith in
-    position ∙ position_shown labels (offset + place) (to - place) choice (k - place) choice_is (omega arith) ∙ ap (shown_position labels) same))
+    position ∙ position-shown labels (offset + place) (to - place) choice (k - place) choice_is (omega arith) ∙ ap (shown_position labels) same))
 
 -- ---- stretches of parts
 

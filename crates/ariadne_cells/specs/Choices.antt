@@ -2,7 +2,6 @@
 -- there. It is so up to the nearest offset at which one of the labels begins or ends.
 use Rattle.std.specs.Prelude.{ℕ, ◌≡◌, ◌+◌, ◌-◌, ◌^◌, ◌<◌, ◌≤◌, min, List, ◌++◌}
 use Rattle.std.specs.Prelude.{filter, map, slice_get, Option, option_copied, option_map}
-use Rattle.std.specs.Borrow.{Bor}
 use Rattle.std.specs.List.{AllByRecursion, filter_map}
 use Rattle.ariadne_cells.specs.declared.choice.Choice.{Choice}
 use Rattle.ariadne_picture.specs.declared.label_info.LabelInfo.{LabelInfo}
@@ -32,10 +31,6 @@ unfoldable pub shown_position : List LabelInfo → ℕ → Option ℕ
 shown_position labels o = option_map (λ a. a.position) (best is_preferred (filter (λ a. holds a o) labels))
 
 -- ---- among which labels it is chosen
-
--- the labels that some references point to
-unfoldable pub labels_at : List (Bor LabelInfo) → List LabelInfo
-labels_at labels = map (λ a. a.now) labels
 
 -- the labels that some line labels are of
 unfoldable pub infos_of : List LineLabel → List LabelInfo

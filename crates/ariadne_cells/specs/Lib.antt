@@ -1,3 +1,4 @@
+pub mod Candidates
 pub mod Choices
 pub mod Falling
 pub mod Pages

@@ -1,9 +1,12 @@
 //! Which label is shown from a place of a line on, and up to where it is so.
 
-ghost use Rattle.std.specs.Prelude.{◌≡◌, ◌+◌, [], ◌∷◌, option_copied, option_map};
-ghost use Rattle.ariadne_cells.specs.Choices.{Considers, IsChoice, labels_at};
+ghost use Rattle.std.specs.Prelude.{◌≡◌, ◌+◌, ◌<◌, [], ◌∷◌, length, option_copied, option_map};
+ghost use Rattle.std.specs.Prelude.{option_to_list};
+ghost use Rattle.std.specs.List.{All};
+ghost use Rattle.ariadne_cells.specs.Choices.{Considers, IsChoice};
+ghost use Rattle.ariadne_cells.specs.Choices.{infos_of, inline_infos, numbered};
 
-use ariadne_picture::label_info::LabelInfo;
+use ariadne_picture::label_info::{LabelInfo, LineLabel};
 
 /// The label that is shown at a place of a line, among those that were considered, and how many
 /// places from there on show it.
@@ -34,13 +37,50 @@ impl<'a> Choice<'a> {
         }
     }
 
-    /// The choice with these labels, behind those that were considered.
-    pub fn among(self, labels: &[&'a LabelInfo]) -> Choice<'a>
-        ensures { Considers self.entry result (labels_at labels.now) }
+    /// The choice with the margin label of the line, if it has one.
+    pub fn with_margin(self, margin: Option<&'a LineLabel>) -> Choice<'a>
+        ensures { let labels = option_to_list (option_copied margin.entry) in
+            Considers self.entry result (infos_of labels) }
+    {
+        let mut choice = self;
+        if let Some(label) = margin {
+            choice.consider(&label.info);
+        }
+        choice
+    }
+
+    /// The choice with the labels that stand at these indices of a list.
+    pub fn with_numbered(self, infos: &'a [LabelInfo], numbers: &[usize]) -> Choice<'a>
+        requires { All (λ i. i < length infos.now) numbers.now }
+        ensures { Considers self.entry result (numbered infos.now numbers.now) }
+    {
+        let mut choice = self;
+        for number in numbers {
+            choice.consider(&infos[*number]);
+        }
+        choice
+    }
+
+    /// The choice with the labels of the line.
+    pub fn with_labels(self, labels: &'a [LineLabel]) -> Choice<'a>
+        ensures { Considers self.entry result (infos_of labels.now) }
     {
         let mut choice = self;
         for label in labels {
-            choice.consider(label);
+            choice.consider(&label.info);
+        }
+        choice
+    }
+
+    /// The choice with those labels of the line that lie within it.
+    pub fn with_inline(self, labels: &'a [LineLabel]) -> Choice<'a>
+        ensures { Considers self.entry result (inline_infos labels.now) }
+    {
+        let mut choice = self;
+        for label in labels {
+            if label.side.is_inline() {
+                choice.consider(&label.info);
+            }
         }
         choice
     }
@@ -50,6 +90,13 @@ impl<'a> Choice<'a> {
         ensures { result ≡ self.now.len }
     {
         self.len
+    }
+
+    /// The label that is shown, if there is one.
+    pub fn label(&self) -> Option<&'a LabelInfo>
+        ensures { result ≡ self.now.best }
+    {
+        self.best
     }
 
     /// The position of the label that is shown, if there is one.

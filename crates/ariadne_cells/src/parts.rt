@@ -1,11 +1,12 @@
 //! The parts of a line that each show one of many labels: found for either half of the labels, and
 //! merged.
 
-ghost use Rattle.std.specs.Prelude.{◌≡◌, ℕ, List, [], ◌∷◌, ◌++◌, IfOk, option_copied};
+ghost use Rattle.std.specs.Prelude.{◌≡◌, ℕ, List, ◌++◌, IfOk, option_copied};
 ghost use Rattle.ariadne_picture.specs.declared.label_info.LabelInfo.{LabelInfo};
-ghost use Rattle.ariadne_cells.specs.Choices.{labels_at};
+ghost use Rattle.ariadne_cells.specs.Candidates.{AreThere, infos_among};
 ghost use Rattle.ariadne_cells.specs.Parts.{AreParts, better_one};
 
+use crate::candidates::Candidates;
 use ariadne_picture::label_info::LabelInfo;
 use std::alloc::{AllocError, Global};
 
@@ -18,53 +19,51 @@ pub struct Part<'a> {
     pub label: Option<&'a LabelInfo>,
 }
 
-impl<'a> Part<'a> {
-    /// The part up to a place that shows a label, or none.
-    fn new(end: usize, label: Option<&'a LabelInfo>) -> Part<'a>
-        ensures { result ≡ record { end = end; label = label.entry } }
-    {
-        Part { end, label }
-    }
-}
+/// So few labels are all looked at for each part.
+const FEW: usize = 16;
 
 /// Finds the parts of the places below `len` that each show one of some labels, or none.
 ///
 /// `offset` counts the characters of the source before the line.
 pub(crate) fn find_parts<'a>(
     alloc: Global,
-    labels: &[&'a LabelInfo],
+    labels: &Candidates<'a>,
     offset: usize,
     len: usize,
 ) -> Result<Vec<Part<'a>>, AllocError>
-    ensures { IfOk result (λ v. AreParts (labels_at labels.now) offset len v.items) }
+    requires { AreThere labels.now }
+    ensures { IfOk result (λ v. AreParts (infos_among labels.now) offset len v.items) }
 {
-    match labels {
-        [] => Ok(vec![in alloc; Part::new(len, None)]?),
-        [label] => find_parts_of_one(alloc, label, offset, len),
-        _ => {
-            let (first, second) = labels.split_at(labels.len() / 2);
-            let first = find_parts(alloc, first, offset, len)?;
-            let second = find_parts(alloc, second, offset, len)?;
-            merge(alloc, &first, &second)
-        }
+    if labels.count() <= FEW {
+        return find_parts_of_few(alloc, labels, offset, len);
     }
+    let (first, second) = labels.halves();
+    let first = find_parts(alloc, &first, offset, len)?;
+    let second = find_parts(alloc, &second, offset, len)?;
+    merge(alloc, &first, &second)
 }
 
-/// Finds the parts of the places below `len` before a label, in it, and behind it.
-fn find_parts_of_one<'a>(
+/// Finds the parts as `find_parts` does, looking at all labels for each.
+fn find_parts_of_few<'a>(
     alloc: Global,
-    label: &'a LabelInfo,
+    labels: &Candidates<'a>,
     offset: usize,
     len: usize,
 ) -> Result<Vec<Part<'a>>, AllocError>
-    ensures { IfOk result (λ v. AreParts (label.now ∷ []) offset len v.items) }
+    requires { AreThere labels.now }
+    ensures { IfOk result (λ v. AreParts (infos_among labels.now) offset len v.items) }
 {
-    let start = label.start.saturating_sub(offset).min(len);
-    let end = label.end.saturating_sub(offset).clamp(start, len);
-    let before = Part::new(start, None);
-    let inside = Part::new(end, Some(label));
-    let behind = Part::new(len, None);
-    Ok(vec![in alloc; before, inside, behind]?)
+    let mut parts = Vec::new(alloc);
+    let mut place = 0;
+    while place < len {
+        let choice = labels.choose(offset, place, len - place);
+        place += choice.len();
+        parts.push(Part {
+            end: place,
+            label: choice.label(),
+        })?;
+    }
+    Ok(parts)
 }
 
 /// Merges the parts of some labels with those of labels behind them.
@@ -82,7 +81,8 @@ fn merge<'a>(
     while i < first.len() && j < second.len() {
         let (a, b) = (first[i], second[j]);
         let end = a.end.min(b.end);
-        parts.push(Part::new(end, better_one(a.label, b.label)))?;
+        let label = better_one(a.label, b.label);
+        parts.push(Part { end, label })?;
         if a.end == end {
             i += 1;
         }

@@ -4,23 +4,22 @@ ghost use Rattle.std.specs.Prelude.{◌≡◌, ℕ, ◌+◌, ◌<◌, ◌==◌, 
 ghost use Rattle.std.specs.Prelude.{option_map};
 ghost use Rattle.std.specs.List.{All, list_any};
 ghost use Rattle.std.specs.List.Sorted.{IsStrictlyIncreasing};
-ghost use Rattle.ariadne_cells.specs.Choices.{labels_at, shown_position};
+ghost use Rattle.ariadne_cells.specs.Candidates.{AreThere, infos_among};
+ghost use Rattle.ariadne_cells.specs.Choices.{shown_position};
 ghost use Rattle.ariadne_cells.specs.Parts.{seen_at};
 ghost use Rattle.ariadne_cells.specs.Tables.{ArePaints, AreUnderlines, shown_at};
 ghost use Rattle.ariadne_picture.specs.declared.label_info.LabelInfo.{LabelInfo};
 ghost use Rattle.ariadne_picture.specs.Columns.{shown};
 ghost use Rattle.ariadne_picture.specs.Strokes.{holds};
 
-use crate::candidates::{inline_labels, painters};
-use crate::choice::Choice;
+use crate::candidates::Candidates;
 use crate::layout::LineLayout;
 use crate::parts::{Part, find_parts};
 use ariadne_picture::label_info::LabelInfo;
 use ariadne_picture::switches::Switches;
 use std::alloc::AllocError;
 
-/// Up to so many labels are all looked at for each stretch, which takes no memory; the parts of more
-/// are found first.
+/// Up to so many labels are all looked at for each stretch, which takes no memory beside it.
 const FEW: usize = 256;
 
 /// The places from the end of the stretch before it, or from 0, to its own end.
@@ -48,7 +47,7 @@ pub fn find_underlines(
         list.clear();
         return Ok(());
     }
-    let labels = inline_labels(*list.allocator(), layout.labels())?;
+    let labels = Candidates::inline(layout.labels());
     fill(list, &labels, layout.offset(), len)
 }
 
@@ -72,14 +71,7 @@ pub fn find_paints(
     ensures { OnOk result (ArePaints multi_line.now layout.now list.new.items) }
 {
     let margin = layout.margin();
-    let alloc = *list.allocator();
-    let labels = painters(
-        alloc,
-        margin.as_ref(),
-        multi_line,
-        touching,
-        layout.labels(),
-    )?;
+    let labels = Candidates::painters(margin.as_ref(), multi_line, touching, layout.labels());
     fill(list, &labels, layout.offset(), layout.shown_len())
 }
 
@@ -89,15 +81,16 @@ pub fn find_paints(
 /// them, and what is held is of no line.
 fn fill(
     list: &mut Vec<Stretch>,
-    labels: &[&LabelInfo],
+    labels: &Candidates<'_>,
     offset: usize,
     len: usize,
 ) -> Result<(), AllocError>
-    ensures { let shows = shown_position (labels_at labels.now) in OnOk result
+    requires { AreThere labels.now }
+    ensures { let shows = shown_position (infos_among labels.now) in OnOk result
         ((k : ℕ) → k < len → shown_at list.new.items k ≡ shows (offset + k)) }
 {
     list.clear();
-    if labels.len() > FEW {
+    if labels.count() > FEW {
         let parts = find_parts(*list.allocator(), labels, offset, len)?;
         push_parts(list, &parts)
     } else {
@@ -125,18 +118,19 @@ fn push_parts(list: &mut Vec<Stretch>, parts: &[Part<'_>]) -> Result<(), AllocEr
 /// was no memory for them.
 fn push_chosen(
     list: &mut Vec<Stretch>,
-    labels: &[&LabelInfo],
+    labels: &Candidates<'_>,
     offset: usize,
     len: usize,
 ) -> Result<(), AllocError>
-    requires { list.old.items ≡ [] }
-    ensures { let shows = shown_position (labels_at labels.now) in OnOk result
+    requires empty { list.old.items ≡ [] }
+    requires there { AreThere labels.now }
+    ensures { let shows = shown_position (infos_among labels.now) in OnOk result
         ((k : ℕ) → k < len → shown_at list.new.items k ≡ shows (offset + k)) }
 {
-    list.reserve_exact(labels.len().saturating_mul(2).saturating_add(1).min(len))?;
+    list.reserve_exact(labels.count().saturating_mul(2).saturating_add(1).min(len))?;
     let mut place = 0;
     while place < len {
-        let choice = Choice::new(offset, place, len - place).among(labels);
+        let choice = labels.choose(offset, place, len - place);
         place += choice.len();
         list.push(Stretch {
             end: place,

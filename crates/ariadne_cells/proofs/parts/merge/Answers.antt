@@ -1,5 +1,4 @@
-use Rattle.std.proofs.Common.{◌≡◌, ◌≤◌, ◌∙◌, ℕ, ap, arith, drop, inl, inr, min, option_copied, subst, sym}
-use Rattle.ariadne_cells.specs.declared.parts.Part.{Part}
+use Rattle.std.proofs.Common.{◌≡◌, ◌≤◌, ℕ, arith, drop, inl, inr, min, subst, sym}
 use Rattle.ariadne_cells.proofs.PartsOfLabels.{Merging, Rest, SeenBelow, both-at, left-passed, left-stays, merging-none, merging-more, merged-all}
 use Rattle.ariadne_cells.proofs.parts.merge.Goals as goal
 use Rattle.ariadne_cells.proofs.parts.merge.Goals.{then-a-end, else-a-end, then-loop-i-test+else-j-second, else-loop-i-test, Joined-a-end}
@@ -21,12 +20,9 @@ loop-i-init c = λ len f g.
 grown : (c : Joined-a-end) (len : ℕ) (m : Merging c.args.first.now c.args.second.now len c.loop-i.i c.loop-i.j c.loop-i.parts.items)
     → (m.place ≤ c.min-end.result) × SeenBelow (both-at c.args.first.now c.args.second.now) c.min-end.result c.push.new.self.items
 grown c len m =
-    let first = c.args.first.now in
-    let second = c.args.second.now in
-    subst (λ n. (m.place ≤ n) × SeenBelow (both-at first second) n c.push.new.self.items) (ap (λ (p : Part). p.end) c.new.ensures)
-    (merging-more first second c.loop-i.parts.items c.push.new.self.items m.place len c.loop-i.i c.loop-i.j _ _ c.new.result (omega arith)
-    (omega arith) m.left-first m.left-second m.seen (ap (λ (p : Part). p.end) c.new.ensures ∙ c.min-end.ensures)
-    (ap (λ (p : Part). option_copied p.label) c.new.ensures ∙ c.better_one.ensures) c.in_ok-push.ensures.items)
+    merging-more c.args.first.now c.args.second.now c.loop-i.parts.items c.push.new.self.items m.place len c.loop-i.i c.loop-i.j _ _
+    (record { end = c.min-end.result; label = c.better_one-label.result }) (omega arith) (omega arith) m.left-first m.left-second m.seen
+    c.min-end.ensures c.better_one-label.ensures c.in_ok-push.ensures.items
 
 -- and passes the part of the first list that ends there
 first-left : (c : Joined-a-end) (len : ℕ) (m : Merging c.args.first.now c.args.second.now len c.loop-i.i c.loop-i.j c.loop-i.parts.items)

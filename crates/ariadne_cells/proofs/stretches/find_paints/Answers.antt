@@ -1,6 +1,6 @@
 use Rattle.std.proofs.Common.{◌+◌, ◌++◌, ◌∙◌, ap, arith, option_to_list}
 use Rattle.std.proofs.lemmas.Result.{on_ok_weaker}
-use Rattle.ariadne_cells.specs.Choices.{infos_of, labels_at, numbered, shown_position}
+use Rattle.ariadne_cells.specs.Choices.{infos_of, numbered, shown_position}
 use Rattle.ariadne_cells.specs.Tables.{position_paint}
 use Rattle.ariadne_cells.proofs.Stretched.{paint_shown}
 use Rattle.ariadne_cells.proofs.Touching.{painters_kept}
@@ -13,7 +13,7 @@ returns c =
     let multi_line = c.args.multi_line.now in
     let touching = c.args.touching.now in
     let margin = c.as_ref.ensures.value ∙ c.margin-margin.ensures in
-    let same = ap labels_at c.deref.ensures.value ∙ c.in_ok-labels.ensures
+    let same = c.painters-labels.ensures.infos
     ∙ (λ i. infos_of (option_to_list (margin i)) ++ numbered multi_line touching ++ infos_of (c.labels.ensures i)) in
     on_ok_weaker c.fill.result
     (λ h k below.

@@ -1,6 +1,6 @@
 use Rattle.std.proofs.Common.{◌+◌, ◌∙◌, ap}
 use Rattle.std.proofs.lemmas.Result.{on_ok_weaker}
-use Rattle.ariadne_cells.specs.Choices.{inline_infos, labels_at, shown_position}
+use Rattle.ariadne_cells.specs.Choices.{inline_infos, shown_position}
 use Rattle.ariadne_cells.specs.Tables.{shown_at}
 use Rattle.ariadne_cells.proofs.Stretched.{underline_shown, underline_unseen}
 use Rattle.ariadne_cells.proofs.stretches.find_underlines.Goals as goal
@@ -14,7 +14,7 @@ returns-then-not-switches c = λ k below.
 -- they are those of the labels that lie within the line
 pub returns : goal.returns
 returns c =
-    let same = ap labels_at c.deref.ensures.value ∙ c.in_ok-labels.ensures ∙ ap inline_infos c.labels.ensures in
+    let same = c.inline-labels.ensures.infos ∙ ap inline_infos c.labels.ensures in
     on_ok_weaker c.fill.result
     (λ h k below. h k below ∙ (λ i. shown_position (same i) (c.offset.ensures i + k))
     ∙ underline_shown c.args.switches.now c.args.layout.now k c.if-not-switches.false)

@@ -1,12 +1,12 @@
 use Rattle.std.proofs.Common.{arith, subst}
 use Rattle.std.proofs.lemmas.List.{take_all}
-use Rattle.ariadne_cells.specs.Choices.{Considers, labels_at}
+use Rattle.ariadne_cells.specs.Choices.{Considers, infos_of}
 use Rattle.ariadne_cells.proofs.Choices.{considers_none, considers_label}
-use Rattle.ariadne_cells.proofs.choice.Choice.among.Goals as goal
+use Rattle.ariadne_cells.proofs.choice.Choice.with_labels.Goals as goal
 
 -- at first none is considered
 pub loop-label-init : goal.loop-label-init
-unfolding labels_at
+unfolding infos_of
 loop-label-init c = considers_none c.args.self
 
 -- a turn considers one label more
@@ -18,5 +18,5 @@ loop-label-preserved c =
 -- the last turn has considered all labels
 pub returns : goal.returns
 returns c =
-    subst (λ t. Considers c.args.self c.loop-label.choice (labels_at t)) (take_all c.loop-label.label-index c.args.labels.now (omega arith))
+    subst (λ t. Considers c.args.self c.loop-label.choice (infos_of t)) (take_all c.loop-label.label-index c.args.labels.now (omega arith))
     c.loop-label.invariant
