@@ -77,18 +77,10 @@ pub record Rest (whole : List Part) (place len : ℕ) (rest : List Part) : Type 
   pub same : (k : ℕ) → place ≤ k → seen_at whole k ≡ seen_at rest k
 
 -- from the first place on they all are
-pub rest-all : (whole : List Part) (len : ℕ) → Reach 0 len whole → Rest whole 0 len whole
+rest-all : (whole : List Part) (len : ℕ) → Reach 0 len whole → Rest whole 0 len whole
 rest-all whole len h = record { reach = h; same = λ k from. refl }
 
--- a part that goes on is left
-rest-within : (whole rest : List Part) (place next len : ℕ) (a : Part) → Rest whole place len (a ∷ rest) → place ≤ next → next ≤ a.end
-    → Rest whole next len (a ∷ rest)
-rest-within whole rest place next len a h on within = record {
-  reach = (within, h.reach.1);
-  same = λ k from. h.same k (omega arith);
-}
-
--- one that ends is not
+-- a part that ends is none of them
 rest-behind : (whole rest : List Part) (place next len : ℕ) (a : Part) → Rest whole place len (a ∷ rest) → a.end ≡ next
     → Rest whole next len rest
 unfolding seen_at
@@ -118,7 +110,7 @@ pub seen-none : (f : ℕ → Option LabelInfo) → SeenBelow f 0 []
 seen-none f = record { below = λ k more h. absurd (omega arith); behind = λ k more h. refl; reach = λ len more h. h }
 
 -- one more part, through which f gives its label
-pub seen-more : (f : ℕ → Option LabelInfo) (n : ℕ) (parts : List Part) (a : Part) → SeenBelow f n parts → n ≤ a.end
+seen-more : (f : ℕ → Option LabelInfo) (n : ℕ) (parts : List Part) (a : Part) → SeenBelow f n parts → n ≤ a.end
     → ((k : ℕ) → n ≤ k → k < a.end → option_copied a.label ≡ f k) → SeenBelow f a.end (parts ++ a ∷ [])
 unfolding seen_at
 seen-more f n parts a h less same = record {
