@@ -71,10 +71,12 @@ impl<'a> Candidates<'a> {
         usize::from(self.margin.is_some()) + self.touching.len() + self.labels.len()
     }
 
-    /// What is shown at a place, and at up to `len` places from there on.
+    /// What is shown at a place, and at up to `len` places from there on. It is inlined, since a line
+    /// asks it for each of its stretches.
     ///
     /// `offset` counts the characters of the source before the line, and `place` those of the line
     /// before the place.
+    #[inline(always)]
     pub fn choose(&self, offset: usize, place: usize, len: usize) -> Choice<'a>
         requires { AreThere self.now }
         ensures { IsChoice (infos_among self.now) (offset + place) len result }
