@@ -6,7 +6,7 @@ use ariadne::{
 };
 use std::alloc::{AllocError, Global};
 use std::ops::Range;
-use std::test::Fail;
+use std::process::Abort;
 
 /// A piece of the source of an id.
 pub type Piece = (&'static str, Range<usize>);
@@ -63,44 +63,48 @@ pub fn plain_error(alloc: Global) -> ReportBuilder<'static> {
 /// A report with these labels: the start and the end of each, which is not before it, and what it
 /// says.
 pub fn labelled<'a>(
-    rt: &impl AllocGlobal,
+    rt: &(impl Abort + AllocGlobal),
     builder: ReportBuilder<'a>,
     labels: &[(usize, usize, &str)],
-) -> Result<Report<'a>, AllocError> {
+) -> Report<'a> {
     let mut builder = builder;
     for &(start, end, message) in labels {
-        let label = Label::new(start..end.max(start)).with_message(rt.alloc(), message)?;
-        builder = builder.with_label(label)?;
+        let label = Label::new(start..end.max(start))
+            .with_message(rt.alloc(), message)
+            .expect(rt, "memory");
+        builder = builder.with_label(label).expect(rt, "memory");
     }
-    Ok(builder.finish())
+    builder.finish()
 }
 
 /// The same as `labelled`, of labels in the sources of these ids.
 pub fn labelled_in<'a>(
-    rt: &impl AllocGlobal,
+    rt: &(impl Abort + AllocGlobal),
     builder: ReportBuilder<'a, Piece>,
     labels: &[(&'static str, usize, usize, &str)],
-) -> Result<Report<'a, Piece>, AllocError> {
+) -> Report<'a, Piece> {
     let mut builder = builder;
     for &(id, start, end, message) in labels {
-        let label = Label::new((id, start..end.max(start))).with_message(rt.alloc(), message)?;
-        builder = builder.with_label(label)?;
+        let label = Label::new((id, start..end.max(start)))
+            .with_message(rt.alloc(), message)
+            .expect(rt, "memory");
+        builder = builder.with_label(label).expect(rt, "memory");
     }
-    Ok(builder.finish())
+    builder.finish()
 }
 
 /// The picture that a report writes over a cache, and the labels that it leaves out.
 pub fn written<S: Span, C: Cache<S::SourceId>>(
-    rt: &impl AllocGlobal,
+    rt: &(impl Abort + AllocGlobal),
     report: &Report<'_, S>,
     cache: &mut C,
-) -> Result<(String, Vec<LeftOut<C::Error>>), Fail>
+) -> (String, Vec<LeftOut<C::Error>>)
     requires { C.can_fetch cache.old }
     ensures { C.can_fetch cache.new }
 {
     let mut out = Vec::new(rt.alloc());
-    let left_out = report.write(cache, &mut out)?;
-    Ok((String::from_utf8(out)?, left_out))
+    let left_out = report.write(cache, &mut out).expect(rt, "a picture");
+    (String::from_utf8(out).expect(rt, "text"), left_out)
 }
 
 /// Rows, each with a line feed behind it.
@@ -126,38 +130,39 @@ fn trimmed(alloc: Global, picture: &str) -> Result<String, AllocError> {
 /// Asserts that the picture of what is named has these rows, and each of them whole, or but for the
 /// blanks at their ends.
 pub fn assert_shown(
-    rt: &impl AllocGlobal,
+    rt: &(impl Abort + AllocGlobal),
     name: &str,
     picture: &str,
     rows: &[&str],
     is_whole: bool,
-) -> Result<(), Fail> {
-    let expected = joined(rt.alloc(), rows)?;
+) {
+    let expected = joined(rt.alloc(), rows).expect(rt, "memory");
     let is_shown = if is_whole {
         picture == expected.as_str()
     } else {
-        let trimmed = trimmed(rt.alloc(), picture)?;
+        let trimmed = trimmed(rt.alloc(), picture).expect(rt, "memory");
         picture.ends_with('\n') && trimmed.as_str() == expected.as_str()
     };
     if is_shown {
-        return Ok(());
+        return;
     }
-    Err(Fail::new(format_args!("{name}: {picture}")))
+    panic!(rt; "{name}: {picture}")
 }
 
 /// Asserts that a picture has these rows, but for the blanks at their ends.
-pub fn assert_trimmed(rt: &impl AllocGlobal, picture: &str, rows: &[&str]) -> Result<(), Fail> {
+pub fn assert_trimmed(rt: &(impl Abort + AllocGlobal), picture: &str, rows: &[&str]) {
     assert_shown(rt, "the report", picture, rows, false)
 }
 
 /// Asserts which labels are left out of the picture of what is named, and why.
 pub fn assert_missing<E>(
+    rt: &impl Abort,
     name: &str,
     left_out: &[LeftOut<E>],
     wanted: &[(usize, Why)],
-) -> Result<(), Fail> {
+) {
     if left_out.len() != wanted.len() {
-        return Err(Fail::new(format_args!("{name}: {} labels", left_out.len())));
+        panic!(rt; "{name}: {} labels", left_out.len());
     }
     for (left, want) in left_out.iter().zip(wanted) {
         let why = match left.reason {
@@ -166,81 +171,79 @@ pub fn assert_missing<E>(
             Reason::CutsCharacter => Why::CutsCharacter,
         };
         if (left.label, why) != *want {
-            return Err(Fail::new(format_args!("{name}: {} {why:?}", left.label)));
+            panic!(rt; "{name}: {} {why:?}", left.label);
         }
     }
-    Ok(())
 }
 
 /// Asserts which labels are left out, and why.
-pub fn assert_left_out<E>(left_out: &[LeftOut<E>], wanted: &[(usize, Why)]) -> Result<(), Fail> {
-    assert_missing("the report", left_out, wanted)
+pub fn assert_left_out<E>(rt: &impl Abort, left_out: &[LeftOut<E>], wanted: &[(usize, Why)]) {
+    assert_missing(rt, "the report", left_out, wanted)
 }
 
 /// Asserts that all these labels are left out of the picture of what is named since their sources
 /// can't be had, and what is said of each.
 pub fn assert_unknown(
-    rt: &impl AllocGlobal,
+    rt: &(impl Abort + AllocGlobal),
     name: &str,
     left_out: &[LeftOut<UnknownSource>],
     wanted: &[&str],
-) -> Result<(), Fail> {
+) {
     if left_out.len() != wanted.len() {
-        return Err(Fail::new(format_args!("{name}: {} labels", left_out.len())));
+        panic!(rt; "{name}: {} labels", left_out.len());
     }
     for (left, want) in left_out.iter().zip(wanted) {
         let Reason::Unfetched(error) = &left.reason else {
-            return Err(Fail::from("another reason"));
+            panic!(rt; "another reason");
         };
-        let text = error.to_string(rt.alloc())?;
+        let text = error.to_string(rt.alloc()).expect(rt, "memory");
         if text.as_str() != *want {
-            return Err(Fail::new(format_args!("{name}: {text}")));
+            panic!(rt; "{name}: {text}");
         }
     }
-    Ok(())
 }
 
 /// Asserts that over a text a report leaves no label out, and that its picture has these rows, and
 /// each of them whole.
 pub fn assert_bytes(
-    rt: &impl AllocGlobal,
+    rt: &(impl Abort + AllocGlobal),
     report: &Report<'_>,
     text: &str,
     rows: &[&str],
-) -> Result<(), Fail> {
-    let mut source = source_of(rt.alloc(), text)?;
-    let (picture, left_out) = written(rt, report, &mut source)?;
-    assert_left_out(&left_out, &[])?;
+) {
+    let mut source = source_of(rt.alloc(), text).expect(rt, "memory");
+    let (picture, left_out) = written(rt, report, &mut source);
+    assert_left_out(rt, &left_out, &[]);
     assert_shown(rt, "the report", picture.as_str(), rows, true)
 }
 
 /// Asserts that over a text a report leaves no label out, and that its picture has these rows, but
 /// for the blanks at their ends.
 pub fn assert_picture(
-    rt: &impl AllocGlobal,
+    rt: &(impl Abort + AllocGlobal),
     report: &Report<'_>,
     text: &str,
     rows: &[&str],
-) -> Result<(), Fail> {
-    let mut source = source_of(rt.alloc(), text)?;
-    let (picture, left_out) = written(rt, report, &mut source)?;
-    assert_left_out(&left_out, &[])?;
+) {
+    let mut source = source_of(rt.alloc(), text).expect(rt, "memory");
+    let (picture, left_out) = written(rt, report, &mut source);
+    assert_left_out(rt, &left_out, &[]);
     assert_trimmed(rt, picture.as_str(), rows)
 }
 
 /// Asserts that over a cache a report leaves out exactly these labels, and that its picture has
 /// these rows, but for the blanks at their ends.
 pub fn assert_picture_over<S: Span, C: Cache<S::SourceId>>(
-    rt: &impl AllocGlobal,
+    rt: &(impl Abort + AllocGlobal),
     report: &Report<'_, S>,
     cache: &mut C,
     wanted: &[(usize, Why)],
     rows: &[&str],
-) -> Result<(), Fail>
+)
     requires { C.can_fetch cache.old }
     ensures { C.can_fetch cache.new }
 {
-    let (picture, left_out) = written(rt, report, cache)?;
-    assert_left_out(&left_out, wanted)?;
+    let (picture, left_out) = written(rt, report, cache);
+    assert_left_out(rt, &left_out, wanted);
     assert_trimmed(rt, picture.as_str(), rows)
 }

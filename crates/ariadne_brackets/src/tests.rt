@@ -8,7 +8,6 @@ use std::alloc::{AllocError, Global};
 use std::io::ErrorKind;
 use std::process::Abort;
 use std::rt::Files;
-use std::test::Fail;
 use std::{env, fs};
 
 pub const USAGE: &str = "usage: ariadne-brackets PATH...\n";
@@ -27,26 +26,21 @@ pub struct Outcome {
 }
 
 /// Runs the linter with an output.
-pub fn run_into<R: Files>(
-    files: &R,
-    alloc: Global,
-    words: &[&str],
-    out: Taker,
-) -> Result<Outcome, Fail> {
-    let words = texts(alloc, words)?;
+pub fn run_into<R: Files + Abort>(rt: &R, alloc: Global, words: &[&str], out: Taker) -> Outcome {
+    let words = texts(alloc, words).expect(rt, "memory");
     let mut out = out;
-    let mut faults = Taker::whole(alloc)?;
-    let status = lint(files, alloc, words.as_slice(), &mut out, &mut faults);
-    Ok(Outcome {
+    let mut faults = Taker::whole(alloc).expect(rt, "memory");
+    let status = lint(rt, alloc, words.as_slice(), &mut out, &mut faults);
+    Outcome {
         status,
-        out: String::from_utf8(out.held)?,
-        faults: String::from_utf8(faults.held)?,
-    })
+        out: String::from_utf8(out.held).expect(rt, "text"),
+        faults: String::from_utf8(faults.held).expect(rt, "text"),
+    }
 }
 
 /// Runs the linter with an output that takes all.
-pub fn run<R: Files>(files: &R, alloc: Global, words: &[&str]) -> Result<Outcome, Fail> {
-    run_into(files, alloc, words, Taker::whole(alloc)?)
+pub fn run<R: Files + Abort>(rt: &R, alloc: Global, words: &[&str]) -> Outcome {
+    run_into(rt, alloc, words, Taker::whole(alloc).expect(rt, "memory"))
 }
 
 /// Runs the linter, and asserts what comes of it.
@@ -57,12 +51,11 @@ fn assert_run<R: Files + Abort>(
     out: &str,
     status: Status,
     faults: &str,
-) -> Result<(), Fail> {
-    let outcome = run(rt, alloc, words)?;
+) {
+    let outcome = run(rt, alloc, words);
     assert_eq!(rt; outcome.out.as_str(), out, "at {words:?}");
     assert_eq!(rt; outcome.status, status, "at {words:?}");
     assert_eq!(rt; outcome.faults.as_str(), faults, "at {words:?}");
-    Ok(())
 }
 
 /// The picture of both files.
@@ -77,7 +70,7 @@ pub fn both(alloc: Global, first: &str, second: &str) -> Result<String, AllocErr
 }
 
 #[test]
-fn the_first_offence_is_found(rt: HostRuntime) -> Result<(), Fail> {
+fn the_first_offence_is_found(rt: HostRuntime) {
     let cases = [
         ("", None),
         ("a(b)[]", None),
@@ -91,34 +84,43 @@ fn the_first_offence_is_found(rt: HostRuntime) -> Result<(), Fail> {
         ("{}]{)", Some(Offence::Unopened(2))),
     ];
     for (text, offence) in cases {
-        assert_eq!(rt; first_offence(rt.alloc(), text)?, offence, "in {text}");
+        assert_eq!(rt;
+            first_offence(rt.alloc(), text).expect(&rt, "memory"),
+            offence,
+            "in {text}"
+        );
     }
-    Ok(())
 }
 
 #[test]
-fn two_files_are_drawn_in_one_picture(rt: HostRuntime) -> Result<(), Fail> {
+fn two_files_are_drawn_in_one_picture(rt: HostRuntime) {
     let alloc = rt.alloc();
-    let folder = env::temp_dir(&rt)?;
-    let first = folder.join(alloc, "ariadne_brackets_a.txt")?;
-    let second = folder.join(alloc, "ariadne_brackets_b.txt")?;
-    fs::write(&rt, first.as_path(), FIRST)?;
-    fs::write(&rt, second.as_path(), SECOND)?;
-    let picture = both(alloc, first.as_str(), second.as_str())?;
+    let folder = env::temp_dir(&rt).expect(&rt, "a folder");
+    let first = folder
+        .join(alloc, "ariadne_brackets_a.txt")
+        .expect(&rt, "memory");
+    let second = folder
+        .join(alloc, "ariadne_brackets_b.txt")
+        .expect(&rt, "memory");
+    fs::write(&rt, first.as_path(), FIRST).expect(&rt, "a file");
+    fs::write(&rt, second.as_path(), SECOND).expect(&rt, "a file");
+    let picture = both(alloc, first.as_str(), second.as_str()).expect(&rt, "memory");
     let (out, done) = (picture.as_str(), Status::Offences);
     let words = [first.as_str(), second.as_str()];
-    assert_run(&rt, alloc, &words, out, done, "")?;
+    assert_run(&rt, alloc, &words, out, done, "");
     let words = [first.as_str(), second.as_str(), first.as_str()];
-    assert_run(&rt, alloc, &words, out, done, "")?;
+    assert_run(&rt, alloc, &words, out, done, "");
     let words = [first.as_str(), first.as_str(), second.as_str()];
-    assert_run(&rt, alloc, &words, out, done, "")?;
-    Ok(())
+    assert_run(&rt, alloc, &words, out, done, "");
 }
 
 #[test]
-fn each_offence_has_its_labels(rt: HostRuntime) -> Result<(), Fail> {
+fn each_offence_has_its_labels(rt: HostRuntime) {
     let alloc = rt.alloc();
-    let path = env::temp_dir(&rt)?.join(alloc, "ariadne_brackets_one.txt")?;
+    let path = env::temp_dir(&rt)
+        .expect(&rt, "a folder")
+        .join(alloc, "ariadne_brackets_one.txt")
+        .expect(&rt, "memory");
     let name = path.as_str();
     let cases = [
         (")(", "1:1", ")(\n   | |  \n   | `-- never opened\n"),
@@ -131,66 +133,79 @@ fn each_offence_has_its_labels(rt: HostRuntime) -> Result<(), Fail> {
         ),
     ];
     for (text, place, rows) in cases {
-        fs::write(&rt, path.as_path(), text)?;
-        let outcome = run(&rt, alloc, &[name])?;
+        fs::write(&rt, path.as_path(), text).expect(&rt, "a file");
+        let outcome = run(&rt, alloc, &[name]);
         let head = "Error: unbalanced brackets\n   ,-[ ";
-        let want = format!(in alloc; "{head}{name}:{place} ]\n   |\n 1 | {rows}---'\n")?;
+        let want = format!(in alloc; "{head}{name}:{place} ]\n   |\n 1 | {rows}---'\n").expect(
+            &rt, "memory",
+        );
         assert_eq!(rt; outcome.out.as_str(), want.as_str(), "in {text}");
         assert_eq!(rt; outcome.status, Status::Offences, "in {text}");
         assert_eq!(rt; outcome.faults.as_str(), "", "in {text}");
     }
-    Ok(())
 }
 
 #[test]
-fn balanced_files_are_not_told_of(rt: HostRuntime) -> Result<(), Fail> {
+fn balanced_files_are_not_told_of(rt: HostRuntime) {
     let alloc = rt.alloc();
-    let path = env::temp_dir(&rt)?.join(alloc, "ariadne_brackets_clean.txt")?;
+    let path = env::temp_dir(&rt)
+        .expect(&rt, "a folder")
+        .join(alloc, "ariadne_brackets_clean.txt")
+        .expect(&rt, "memory");
     let mut long = String::new(alloc);
     for _ in 0..500 {
-        long.push_str("({[\n")?;
+        long.push_str("({[\n").expect(&rt, "memory");
     }
     for _ in 0..500 {
-        long.push_str("]})\n")?;
+        long.push_str("]})\n").expect(&rt, "memory");
     }
     for text in ["", "a(b)[]\n", long.as_str()] {
-        fs::write(&rt, path.as_path(), text)?;
-        let outcome = run(&rt, alloc, &[path.as_str()])?;
+        fs::write(&rt, path.as_path(), text).expect(&rt, "a file");
+        let outcome = run(&rt, alloc, &[path.as_str()]);
         assert_eq!(rt; outcome.out.as_str(), "");
         assert_eq!(rt; outcome.status, Status::Clean);
         assert_eq!(rt; outcome.faults.as_str(), "");
     }
-    long.push_str("}")?;
-    fs::write(&rt, path.as_path(), long.as_str())?;
-    let outcome = run(&rt, alloc, &[path.as_str()])?;
+    long.push_str("}").expect(&rt, "memory");
+    fs::write(&rt, path.as_path(), long.as_str()).expect(&rt, "a file");
+    let outcome = run(&rt, alloc, &[path.as_str()]);
     let rows = "      |\n 1001 | }\n      | |  \n      | `-- never opened\n------'\n";
     let name = path.as_str();
     let head = "Error: unbalanced brackets\n      ,-[ ";
-    let want = format!(in alloc; "{head}{name}:1001:1 ]\n{rows}")?;
+    let want = format!(in alloc; "{head}{name}:1001:1 ]\n{rows}").expect(&rt, "memory");
     assert_eq!(rt; outcome.out.as_str(), want.as_str());
     assert_eq!(rt; outcome.status, Status::Offences);
-    Ok(())
 }
 
 #[test]
-fn files_that_can_not_be_read_are_told(rt: HostRuntime) -> Result<(), Fail> {
+fn files_that_can_not_be_read_are_told(rt: HostRuntime) {
     let alloc = rt.alloc();
-    let folder = env::temp_dir(&rt)?;
-    let missing = folder.join(alloc, "ariadne_brackets_missing.txt")?;
-    let bytes = folder.join(alloc, "ariadne_brackets_bytes.txt")?;
-    let open = folder.join(alloc, "ariadne_brackets_open.txt")?;
-    let clean = folder.join(alloc, "ariadne_brackets_shut.txt")?;
-    fs::write(&rt, bytes.as_path(), b"(\xff")?;
-    fs::write(&rt, open.as_path(), "x(")?;
-    fs::write(&rt, clean.as_path(), "()")?;
+    let folder = env::temp_dir(&rt).expect(&rt, "a folder");
+    let missing = folder
+        .join(alloc, "ariadne_brackets_missing.txt")
+        .expect(&rt, "memory");
+    let bytes = folder
+        .join(alloc, "ariadne_brackets_bytes.txt")
+        .expect(&rt, "memory");
+    let open = folder
+        .join(alloc, "ariadne_brackets_open.txt")
+        .expect(&rt, "memory");
+    let clean = folder
+        .join(alloc, "ariadne_brackets_shut.txt")
+        .expect(&rt, "memory");
+    fs::write(&rt, bytes.as_path(), b"(\xff").expect(&rt, "a file");
+    fs::write(&rt, open.as_path(), "x(").expect(&rt, "a file");
+    fs::write(&rt, clean.as_path(), "()").expect(&rt, "a file");
     let m = missing.as_str();
     let b = bytes.as_str();
     let f = folder.as_str();
-    let told = format!(in alloc; "{m}: can't be read\n{b}: not UTF-8\n{f}: can't be read\n")?;
+    let told = format!(in alloc; "{m}: can't be read\n{b}: not UTF-8\n{f}: can't be read\n").expect(
+        &rt, "memory",
+    );
     let o = open.as_str();
     let head = "Error: unbalanced brackets\n   ,-[ ";
     let rows = "   |\n 1 | x(\n   |  |  \n   |  `-- never closed\n---'\n";
-    let picture = format!(in alloc; "{head}{o}:1:2 ]\n{rows}")?;
+    let picture = format!(in alloc; "{head}{o}:1:2 ]\n{rows}").expect(&rt, "memory");
     let faults = told.as_str();
     let words = [
         missing.as_str(),
@@ -208,59 +223,61 @@ fn files_that_can_not_be_read_are_told(rt: HostRuntime) -> Result<(), Fail> {
         picture.as_str(),
         Status::BadInput,
         faults,
-    )?;
+    );
     let words = [
         missing.as_str(),
         clean.as_str(),
         bytes.as_str(),
         folder.as_str(),
     ];
-    assert_run(&rt, alloc, &words, "", Status::BadInput, faults)?;
-    Ok(())
+    assert_run(&rt, alloc, &words, "", Status::BadInput, faults);
 }
 
 #[test]
-fn no_words_give_the_usage_line(rt: HostRuntime) -> Result<(), Fail> {
-    let outcome = run(&rt, rt.alloc(), &[])?;
+fn no_words_give_the_usage_line(rt: HostRuntime) {
+    let outcome = run(&rt, rt.alloc(), &[]);
     assert_eq!(rt; outcome.out.as_str(), "");
     assert_eq!(rt; outcome.status, Status::BadInput);
     assert_eq!(rt; outcome.faults.as_str(), USAGE);
-    Ok(())
 }
 
 #[test]
-fn a_writer_that_fails_is_told_with_what_it_took(rt: HostRuntime) -> Result<(), Fail> {
+fn a_writer_that_fails_is_told_with_what_it_took(rt: HostRuntime) {
     let alloc = rt.alloc();
-    let folder = env::temp_dir(&rt)?;
-    let first = folder.join(alloc, "ariadne_brackets_c.txt")?;
-    let second = folder.join(alloc, "ariadne_brackets_d.txt")?;
-    fs::write(&rt, first.as_path(), FIRST)?;
-    fs::write(&rt, second.as_path(), SECOND)?;
-    let whole = both(alloc, first.as_str(), second.as_str())?;
+    let folder = env::temp_dir(&rt).expect(&rt, "a folder");
+    let first = folder
+        .join(alloc, "ariadne_brackets_c.txt")
+        .expect(&rt, "memory");
+    let second = folder
+        .join(alloc, "ariadne_brackets_d.txt")
+        .expect(&rt, "memory");
+    fs::write(&rt, first.as_path(), FIRST).expect(&rt, "a file");
+    fs::write(&rt, second.as_path(), SECOND).expect(&rt, "a file");
+    let whole = both(alloc, first.as_str(), second.as_str()).expect(&rt, "memory");
     for calls in 0..whole.len() {
         for fault in [Some(ErrorKind::BrokenPipe), None] {
             let out = Taker::narrow(alloc, 1, calls, fault);
-            let outcome = run_into(&rt, alloc, &[first.as_str(), second.as_str(), "/"], out)?;
-            let told = format!(in alloc; "/: can't be read\nwrite failed after {calls} bytes\n")?;
+            let outcome = run_into(&rt, alloc, &[first.as_str(), second.as_str(), "/"], out);
+            let told = format!(in alloc;
+                "/: can't be read\nwrite failed after {calls} bytes\n"
+            ).expect(&rt, "memory");
             assert_eq!(rt; outcome.status, Status::Failed, "at {calls}");
             assert_eq!(rt; outcome.out.as_bytes(), &whole.as_bytes()[..calls]);
             assert_eq!(rt; outcome.faults.as_str(), told.as_str());
         }
     }
-    Ok(())
 }
 
 #[test]
-fn a_failing_standard_error_is_passed_over(rt: HostRuntime) -> Result<(), Fail> {
+fn a_failing_standard_error_is_passed_over(rt: HostRuntime) {
     let alloc = rt.alloc();
     let cases: [&[&str]; 2] = [&[], &["/"]];
     for words in cases {
-        let words = texts(alloc, words)?;
-        let mut out = Taker::whole(alloc)?;
-        let mut faults = Taker::whole(alloc)?;
+        let words = texts(alloc, words).expect(&rt, "memory");
+        let mut out = Taker::whole(alloc).expect(&rt, "memory");
+        let mut faults = Taker::whole(alloc).expect(&rt, "memory");
         faults.calls_left = 0;
         let status = lint(&rt, alloc, words.as_slice(), &mut out, &mut faults);
         assert_eq!(rt; status, Status::BadInput);
     }
-    Ok(())
 }

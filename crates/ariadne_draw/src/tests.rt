@@ -7,7 +7,6 @@ use std::alloc::Global;
 use std::io::ErrorKind;
 use std::process::Abort;
 use std::rt::Files;
-use std::test::Fail;
 
 pub const USAGE: &str =
     "usage: ariadne-draw [--ascii] [--plain] [--compact] [--bytes] [--file PATH] MESSAGE [START END TEXT]...\n";
@@ -21,59 +20,54 @@ pub struct Outcome {
 }
 
 /// Runs the program over an input and an output.
-pub fn run_over<R: Files>(
-    files: &R,
+pub fn run_over<R: Files + Abort>(
+    rt: &R,
     alloc: Global,
     words: &[&str],
     input: Given<'_>,
     out: Taker,
-) -> Result<Outcome, Fail> {
-    let words = texts(alloc, words)?;
+) -> Outcome {
+    let words = texts(alloc, words).expect(rt, "memory");
     let mut input = input;
     let mut out = out;
-    let mut faults = Taker::whole(alloc)?;
+    let mut faults = Taker::whole(alloc).expect(rt, "memory");
     let status = draw(
-        files,
+        rt,
         alloc,
         words.as_slice(),
         &mut input,
         &mut out,
         &mut faults,
     );
-    Ok(Outcome {
+    Outcome {
         status,
-        out: String::from_utf8(out.held)?,
-        faults: String::from_utf8(faults.held)?,
-    })
+        out: String::from_utf8(out.held).expect(rt, "text"),
+        faults: String::from_utf8(faults.held).expect(rt, "text"),
+    }
 }
 
 /// Runs the program over a text, with an output that takes all.
-pub fn run<R: Files>(
-    files: &R,
-    alloc: Global,
-    words: &[&str],
-    text: &str,
-) -> Result<Outcome, Fail> {
+pub fn run<R: Files + Abort>(rt: &R, alloc: Global, words: &[&str], text: &str) -> Outcome {
     let input = Given::whole(text.as_bytes());
-    run_over(files, alloc, words, input, Taker::whole(alloc)?)
+    run_over(
+        rt,
+        alloc,
+        words,
+        input,
+        Taker::whole(alloc).expect(rt, "memory"),
+    )
 }
 
 /// Runs the program over a text, which it draws whole as this.
-fn assert_drawn<R: Files + Abort>(
-    rt: &R,
-    alloc: Global,
-    words: &[&str],
-    want: &str,
-) -> Result<(), Fail> {
-    let outcome = run(rt, alloc, words, "ab")?;
+fn assert_drawn<R: Files + Abort>(rt: &R, alloc: Global, words: &[&str], want: &str) {
+    let outcome = run(rt, alloc, words, "ab");
     assert_eq!(rt; outcome.status, Status::Drawn, "at {words:?}");
     assert_eq!(rt; outcome.out.as_str(), want, "at {words:?}");
     assert_eq!(rt; outcome.faults.as_str(), "", "at {words:?}");
-    Ok(())
 }
 
 #[test]
-fn a_report_without_labels_is_its_header(rt: HostRuntime) -> Result<(), Fail> {
+fn a_report_without_labels_is_its_header(rt: HostRuntime) {
     let cases: [(&[&str], &str); 8] = [
         (&["--plain", "m"], "Error: m\n"),
         (&["--plain", "a b"], "Error: a b\n"),
@@ -85,13 +79,12 @@ fn a_report_without_labels_is_its_header(rt: HostRuntime) -> Result<(), Fail> {
         (&["--plain", "--", "m"], "Error: m\n"),
     ];
     for (words, want) in cases {
-        assert_drawn(&rt, rt.alloc(), words, want)?;
+        assert_drawn(&rt, rt.alloc(), words, want);
     }
-    Ok(())
 }
 
 #[test]
-fn options_come_in_any_order_and_repeated(rt: HostRuntime) -> Result<(), Fail> {
+fn options_come_in_any_order_and_repeated(rt: HostRuntime) {
     let cases: [&[&str]; 5] = [
         &["--ascii", "--plain", "m"],
         &["--plain", "--ascii", "--plain", "m"],
@@ -100,15 +93,14 @@ fn options_come_in_any_order_and_repeated(rt: HostRuntime) -> Result<(), Fail> {
         &["--ascii", "--plain", "--ascii", "--", "m"],
     ];
     for words in cases {
-        assert_drawn(&rt, rt.alloc(), words, "Error: m\n")?;
+        assert_drawn(&rt, rt.alloc(), words, "Error: m\n");
     }
-    Ok(())
 }
 
 #[test]
-fn a_report_is_in_colors_where_none_says_plain(rt: HostRuntime) -> Result<(), Fail> {
+fn a_report_is_in_colors_where_none_says_plain(rt: HostRuntime) {
     let alloc = rt.alloc();
-    assert_drawn(&rt, alloc, &["m"], "\u{1b}[31mError:\u{1b}[0m m\n")?;
+    assert_drawn(&rt, alloc, &["m"], "\u{1b}[31mError:\u{1b}[0m m\n");
     assert_drawn(
         &rt,
         alloc,
@@ -118,7 +110,7 @@ fn a_report_is_in_colors_where_none_says_plain(rt: HostRuntime) -> Result<(), Fa
 }
 
 #[test]
-fn other_words_are_answered_by_the_usage_line(rt: HostRuntime) -> Result<(), Fail> {
+fn other_words_are_answered_by_the_usage_line(rt: HostRuntime) {
     let alloc = rt.alloc();
     let cases: [&[&str]; 25] = [
         &["m", "2", "1", "x"], // an end before its start
@@ -153,16 +145,21 @@ fn other_words_are_answered_by_the_usage_line(rt: HostRuntime) -> Result<(), Fai
             rest: b"",
             fault: Some(ErrorKind::TimedOut),
         };
-        let outcome = run_over(&rt, alloc, words, unreadable, Taker::whole(alloc)?)?;
+        let outcome = run_over(
+            &rt,
+            alloc,
+            words,
+            unreadable,
+            Taker::whole(alloc).expect(&rt, "memory"),
+        );
         assert_eq!(rt; outcome.status, Status::BadInput, "at {words:?}");
         assert_eq!(rt; outcome.out.as_str(), "", "at {words:?}");
         assert_eq!(rt; outcome.faults.as_str(), USAGE, "at {words:?}");
     }
-    Ok(())
 }
 
 #[test]
-fn labels_past_the_source_are_told_by_their_number(rt: HostRuntime) -> Result<(), Fail> {
+fn labels_past_the_source_are_told_by_their_number(rt: HostRuntime) {
     let greatest = "18446744073709551615";
     let words = [
         "--ascii",
@@ -178,13 +175,12 @@ fn labels_past_the_source_are_told_by_their_number(rt: HostRuntime) -> Result<()
         greatest,
         "z",
     ];
-    let outcome = run(&rt, rt.alloc(), &words, "ab")?;
+    let outcome = run(&rt, rt.alloc(), &words, "ab");
     assert_eq!(rt; outcome.status, Status::LeftOut);
     assert_eq!(rt;
         outcome.faults.as_str(),
         "label 1: past source\nlabel 3: past source\n"
     );
-    Ok(())
 }
 
 /// An input that can't be drawn over.
@@ -243,7 +239,7 @@ const UNREAD: &[Unread] = &[
 ];
 
 #[test]
-fn an_input_that_is_no_text_is_told(rt: HostRuntime) -> Result<(), Fail> {
+fn an_input_that_is_no_text_is_told(rt: HostRuntime) {
     let alloc = rt.alloc();
     let words = ["--ascii", "--plain", "m", "0", "1", "x"];
     for case in UNREAD {
@@ -252,16 +248,21 @@ fn an_input_that_is_no_text_is_told(rt: HostRuntime) -> Result<(), Fail> {
             rest: case.rest,
             fault: case.fault,
         };
-        let outcome = run_over(&rt, alloc, &words, input, Taker::whole(alloc)?)?;
+        let outcome = run_over(
+            &rt,
+            alloc,
+            &words,
+            input,
+            Taker::whole(alloc).expect(&rt, "memory"),
+        );
         assert_eq!(rt; outcome.status, case.status, "{name}");
         assert_eq!(rt; outcome.out.as_str(), "", "{name}");
         assert_eq!(rt; outcome.faults.as_str(), case.told, "{name}");
     }
-    Ok(())
 }
 
 #[test]
-fn a_failing_standard_error_is_passed_over(rt: HostRuntime) -> Result<(), Fail> {
+fn a_failing_standard_error_is_passed_over(rt: HostRuntime) {
     let alloc = rt.alloc();
     // The words, how many calls standard output answers, and the status.
     let cases: [(&[&str], usize, Status); 3] = [
@@ -274,7 +275,7 @@ fn a_failing_standard_error_is_passed_over(rt: HostRuntime) -> Result<(), Fail> 
         (&["--ascii", "--plain", "m"], 0, Status::Failed),
     ];
     for (words, calls, status) in cases {
-        let given = texts(alloc, words)?;
+        let given = texts(alloc, words).expect(&rt, "memory");
         let mut input = Given::whole(b"ab");
         let mut out = Taker::narrow(alloc, 1000, calls, None);
         let mut faults = Taker::narrow(alloc, 1000, 0, Some(ErrorKind::BrokenPipe));
@@ -289,5 +290,4 @@ fn a_failing_standard_error_is_passed_over(rt: HostRuntime) -> Result<(), Fail> 
         assert_eq!(rt; answered, status, "at {words:?}");
         assert!(rt; faults.held.is_empty(), "at {words:?}");
     }
-    Ok(())
 }

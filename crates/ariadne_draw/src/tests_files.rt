@@ -5,27 +5,31 @@ use super::tests::{Outcome, run_over};
 use ariadne_fakes::{Given, Taker};
 use std::alloc::Global;
 use std::io::ErrorKind;
+use std::process::Abort;
 use std::rt::Files;
-use std::test::Fail;
 use std::{env, fs};
 
 /// Runs the program over an input that is not to be read.
-fn run_over_file<R: Files>(files: &R, alloc: Global, words: &[&str]) -> Result<Outcome, Fail> {
+fn run_over_file<R: Files + Abort>(rt: &R, alloc: Global, words: &[&str]) -> Outcome {
     let unreadable = Given {
         rest: b"",
         fault: Some(ErrorKind::TimedOut),
     };
-    run_over(files, alloc, words, unreadable, Taker::whole(alloc)?)
+    let out = Taker::whole(alloc).expect(rt, "memory");
+    run_over(rt, alloc, words, unreadable, out)
 }
 
 #[test]
-fn a_file_is_drawn_in_place_of_the_input(rt: HostRuntime) -> Result<(), Fail> {
+fn a_file_is_drawn_in_place_of_the_input(rt: HostRuntime) {
     let alloc = rt.alloc();
-    let path = env::temp_dir(&rt)?.join(alloc, "ariadne_draw_f.txt")?;
-    fs::write(&rt, path.as_path(), "ab")?;
+    let path = env::temp_dir(&rt)
+        .expect(&rt, "a folder")
+        .join(alloc, "ariadne_draw_f.txt")
+        .expect(&rt, "memory");
+    fs::write(&rt, path.as_path(), "ab").expect(&rt, "a file");
     let name = path.as_str();
     let rows = "   |\n 1 | ab\n   | ^|  \n   |  `-- x\n---'\n";
-    let want = format!(in alloc; "Error: m\n   ,-[ {name}:1:1 ]\n{rows}")?;
+    let want = format!(in alloc; "Error: m\n   ,-[ {name}:1:1 ]\n{rows}").expect(&rt, "memory");
     let cases: [&[&str]; 4] = [
         &["--ascii", "--plain", "--file", name, "m", "0", "2", "x"],
         &["--file", name, "--plain", "--ascii", "m", "0", "2", "x"],
@@ -46,18 +50,17 @@ fn a_file_is_drawn_in_place_of_the_input(rt: HostRuntime) -> Result<(), Fail> {
         ], // the word behind `--file` is a path, whatever it begins with
     ];
     for words in cases {
-        let outcome = run_over_file(&rt, alloc, words)?;
+        let outcome = run_over_file(&rt, alloc, words);
         assert_eq!(rt; outcome.out.as_str(), want.as_str(), "at {words:?}");
         assert_eq!(rt; outcome.status, Status::Drawn, "at {words:?}");
         assert_eq!(rt; outcome.faults.as_str(), "", "at {words:?}");
     }
-    Ok(())
 }
 
 #[test]
-fn files_of_odd_names_and_texts_are_drawn(rt: HostRuntime) -> Result<(), Fail> {
+fn files_of_odd_names_and_texts_are_drawn(rt: HostRuntime) {
     let alloc = rt.alloc();
-    let folder = env::temp_dir(&rt)?;
+    let folder = env::temp_dir(&rt).expect(&rt, "a folder");
     // A name, what the file holds, and the row of the source.
     let cases = [
         (
@@ -73,28 +76,35 @@ fn files_of_odd_names_and_texts_are_drawn(rt: HostRuntime) -> Result<(), Fail> {
         ),
     ];
     for (name, text, rows) in cases {
-        let path = folder.join(alloc, name)?;
-        fs::write(&rt, path.as_path(), text)?;
+        let path = folder.join(alloc, name).expect(&rt, "memory");
+        fs::write(&rt, path.as_path(), text).expect(&rt, "a file");
         let shown = path.as_str();
         let words = ["--ascii", "--plain", "--file", shown, "m", "1", "2", "x"];
-        let outcome = run_over_file(&rt, alloc, &words)?;
-        let want = format!(in alloc; "Error: m\n   ,-[ {shown}:1:2 ]\n   |\n 1 | {rows}\n---'\n")?;
+        let outcome = run_over_file(&rt, alloc, &words);
+        let want = format!(in alloc;
+            "Error: m\n   ,-[ {shown}:1:2 ]\n   |\n 1 | {rows}\n---'\n"
+        ).expect(&rt, "memory");
         assert_eq!(rt; outcome.out.as_str(), want.as_str(), "at {name}");
         assert_eq!(rt; outcome.status, Status::Drawn, "at {name}");
         assert_eq!(rt; outcome.faults.as_str(), "", "at {name}");
     }
-    Ok(())
 }
 
 #[test]
-fn what_can_not_be_read_is_unfetched(rt: HostRuntime) -> Result<(), Fail> {
+fn what_can_not_be_read_is_unfetched(rt: HostRuntime) {
     let alloc = rt.alloc();
-    let folder = env::temp_dir(&rt)?;
-    let missing = folder.join(alloc, "ariadne_draw_missing.txt")?;
-    let two_lines = folder.join(alloc, "ariadne_draw_missing\nof two lines.txt")?;
-    let bytes = folder.join(alloc, "ariadne_draw_bytes.txt")?;
-    fs::write(&rt, bytes.as_path(), b"a\xff")?;
-    let below = bytes.join(alloc, "below a file")?;
+    let folder = env::temp_dir(&rt).expect(&rt, "a folder");
+    let missing = folder
+        .join(alloc, "ariadne_draw_missing.txt")
+        .expect(&rt, "memory");
+    let two_lines = folder
+        .join(alloc, "ariadne_draw_missing\nof two lines.txt")
+        .expect(&rt, "memory");
+    let bytes = folder
+        .join(alloc, "ariadne_draw_bytes.txt")
+        .expect(&rt, "memory");
+    fs::write(&rt, bytes.as_path(), b"a\xff").expect(&rt, "a file");
+    let below = bytes.join(alloc, "below a file").expect(&rt, "memory");
     let cases = [
         ("a missing path", missing.as_str()),
         ("a missing path with a line feed", two_lines.as_str()),
@@ -106,7 +116,7 @@ fn what_can_not_be_read_is_unfetched(rt: HostRuntime) -> Result<(), Fail> {
     ];
     for (name, path) in cases {
         let words = ["--plain", "--file", path, "m", "0", "1", "x", "0", "9", "y"];
-        let outcome = run_over_file(&rt, alloc, &words)?;
+        let outcome = run_over_file(&rt, alloc, &words);
         assert_eq!(rt; outcome.out.as_str(), "Error: m\n", "{name}");
         assert_eq!(rt; outcome.status, Status::LeftOut, "{name}");
         assert_eq!(rt;
@@ -115,35 +125,35 @@ fn what_can_not_be_read_is_unfetched(rt: HostRuntime) -> Result<(), Fail> {
             "{name}"
         );
     }
-    Ok(())
 }
 
 #[test]
-fn a_file_is_not_read_where_no_label_asks_for_it(rt: HostRuntime) -> Result<(), Fail> {
+fn a_file_is_not_read_where_no_label_asks_for_it(rt: HostRuntime) {
     let words = ["--plain", "--file", "no such file", "m"];
-    let outcome = run_over_file(&rt, rt.alloc(), &words)?;
+    let outcome = run_over_file(&rt, rt.alloc(), &words);
     assert_eq!(rt; outcome.out.as_str(), "Error: m\n");
     assert_eq!(rt; outcome.status, Status::Drawn);
     assert_eq!(rt; outcome.faults.as_str(), "");
-    Ok(())
 }
 
 #[test]
-fn each_label_that_is_left_out_is_told(rt: HostRuntime) -> Result<(), Fail> {
+fn each_label_that_is_left_out_is_told(rt: HostRuntime) {
     let alloc = rt.alloc();
-    let path = env::temp_dir(&rt)?.join(alloc, "ariadne_draw_mark.txt")?;
+    let path = env::temp_dir(&rt)
+        .expect(&rt, "a folder")
+        .join(alloc, "ariadne_draw_mark.txt")
+        .expect(&rt, "memory");
     // A byte order mark is a character of the text.
-    fs::write(&rt, path.as_path(), "\u{feff}a")?;
+    fs::write(&rt, path.as_path(), "\u{feff}a").expect(&rt, "a file");
     let name = path.as_str();
     let words = [
         "--plain", "--bytes", "--file", name, "m", "1", "2", "x", "0", "6", "y",
     ];
-    let outcome = run_over_file(&rt, alloc, &words)?;
+    let outcome = run_over_file(&rt, alloc, &words);
     assert_eq!(rt; outcome.out.as_str(), "Error: m\n");
     assert_eq!(rt; outcome.status, Status::LeftOut);
     assert_eq!(rt;
         outcome.faults.as_str(),
         "label 1: cuts a character\nlabel 2: past source\n"
     );
-    Ok(())
 }

@@ -8,7 +8,6 @@ use super::words::without_colors;
 use ariadne_fakes::{Given, Taker, texts};
 use std::alloc::{AllocError, Global};
 use std::io::ErrorKind;
-use std::test::Fail;
 
 /// An input that is not to be read.
 const UNREADABLE: Given<'static> = Given {
@@ -20,20 +19,19 @@ const UNREADABLE: Given<'static> = Given {
 const PAGES: [(&str, Page); 2] = [("--help", Page::Help), ("--version", Page::Version)];
 
 #[test]
-fn a_page_is_written_where_its_word_is_alone(rt: HostRuntime) -> Result<(), Fail> {
+fn a_page_is_written_where_its_word_is_alone(rt: HostRuntime) {
     let alloc = rt.alloc();
     for (word, page) in PAGES {
-        let out = Taker::whole(alloc)?;
-        let outcome = run_over(&rt, alloc, &[word], UNREADABLE, out)?;
+        let out = Taker::whole(alloc).expect(&rt, "memory");
+        let outcome = run_over(&rt, alloc, &[word], UNREADABLE, out);
         assert_eq!(rt; outcome.status, Status::Drawn, "{word}");
         assert_eq!(rt; outcome.out.as_str(), page.text(), "{word}");
         assert_eq!(rt; outcome.faults.as_str(), "", "{word}");
     }
-    Ok(())
 }
 
 #[test]
-fn beside_other_words_they_are_no_options(rt: HostRuntime) -> Result<(), Fail> {
+fn beside_other_words_they_are_no_options(rt: HostRuntime) {
     let alloc = rt.alloc();
     let cases: [&[&str]; 10] = [
         &["--help", "m"],
@@ -48,7 +46,13 @@ fn beside_other_words_they_are_no_options(rt: HostRuntime) -> Result<(), Fail> {
         &["--help=all"],
     ];
     for words in cases {
-        let outcome = run_over(&rt, alloc, words, UNREADABLE, Taker::whole(alloc)?)?;
+        let outcome = run_over(
+            &rt,
+            alloc,
+            words,
+            UNREADABLE,
+            Taker::whole(alloc).expect(&rt, "memory"),
+        );
         assert_eq!(rt; outcome.status, Status::BadInput, "at {words:?}");
         assert_eq!(rt; outcome.out.as_str(), "", "at {words:?}");
         assert_eq!(rt; outcome.faults.as_str(), USAGE, "at {words:?}");
@@ -60,23 +64,22 @@ fn beside_other_words_they_are_no_options(rt: HostRuntime) -> Result<(), Fail> {
         (&["--plain", "help"], "Error: help\n"),
     ];
     for (words, want) in messages {
-        let outcome = run(&rt, alloc, words, "ab")?;
+        let outcome = run(&rt, alloc, words, "ab");
         assert_eq!(rt; outcome.status, Status::Drawn, "at {words:?}");
         assert_eq!(rt; outcome.out.as_str(), want, "at {words:?}");
     }
-    Ok(())
 }
 
 #[test]
-fn a_page_is_cut_where_its_writer_fails(rt: HostRuntime) -> Result<(), Fail> {
+fn a_page_is_cut_where_its_writer_fails(rt: HostRuntime) {
     let alloc = rt.alloc();
     for (word, page) in PAGES {
-        let words = texts(alloc, &[word])?;
+        let words = texts(alloc, &[word]).expect(&rt, "memory");
         let text = page.text().as_bytes();
         for calls in 0..text.len() {
             let mut input = UNREADABLE;
             let mut out = Taker::narrow(alloc, 1, calls, Some(ErrorKind::BrokenPipe));
-            let mut faults = Taker::whole(alloc)?;
+            let mut faults = Taker::whole(alloc).expect(&rt, "memory");
             let status = draw(
                 &rt,
                 alloc,
@@ -85,13 +88,14 @@ fn a_page_is_cut_where_its_writer_fails(rt: HostRuntime) -> Result<(), Fail> {
                 &mut out,
                 &mut faults,
             );
-            let told = format!(in alloc; "write failed after {calls} bytes\n")?;
+            let told = format!(in alloc; "write failed after {calls} bytes\n").expect(
+                &rt, "memory",
+            );
             assert_eq!(rt; status, Status::Failed, "at {calls}");
             assert_eq!(rt; out.held.as_slice(), &text[..calls]);
             assert_eq!(rt; faults.held.as_slice(), told.as_bytes());
         }
     }
-    Ok(())
 }
 
 #[test]
@@ -165,23 +169,22 @@ fn shown(alloc: Global, command: &str, picture: &str) -> Result<String, AllocErr
 }
 
 #[test]
-fn the_help_shows_what_its_examples_draw(rt: HostRuntime) -> Result<(), Fail> {
+fn the_help_shows_what_its_examples_draw(rt: HostRuntime) {
     let alloc = rt.alloc();
     let help = Page::Help.text();
     for example in EXAMPLES {
         let command = example.command;
-        let outcome = run(&rt, alloc, example.words, example.text)?;
+        let outcome = run(&rt, alloc, example.words, example.text);
         assert_eq!(rt; outcome.status, Status::Drawn, "{command}");
-        let want = shown(alloc, command, outcome.out.as_str())?;
+        let want = shown(alloc, command, outcome.out.as_str()).expect(&rt, "memory");
         assert!(rt; help.contains(want.as_str()), "{command}");
     }
     // No other line of it is a command.
     assert_eq!(rt; help.matches("| ariadne-draw ").count(), EXAMPLES.len());
-    Ok(())
 }
 
 #[test]
-fn words_without_colors_are_plain_ones(rt: HostRuntime) -> Result<(), Fail> {
+fn words_without_colors_are_plain_ones(rt: HostRuntime) {
     let alloc = rt.alloc();
     let cases: [(&[&str], &[&str]); 7] = [
         (&["m"], &["--plain", "m"]),
@@ -193,20 +196,23 @@ fn words_without_colors_are_plain_ones(rt: HostRuntime) -> Result<(), Fail> {
         (&["--version"], &["--version"]),
     ];
     for (words, want) in cases {
-        let plain = without_colors(alloc, texts(alloc, words)?)?;
-        let want = texts(alloc, want)?;
+        let plain = without_colors(alloc, texts(alloc, words).expect(&rt, "memory")).expect(
+            &rt, "memory",
+        );
+        let want = texts(alloc, want).expect(&rt, "memory");
         assert_eq!(rt; plain.as_slice(), want.as_slice(), "at {words:?}");
     }
-    Ok(())
 }
 
 #[test]
-fn a_report_without_colors_is_drawn_plain(rt: HostRuntime) -> Result<(), Fail> {
+fn a_report_without_colors_is_drawn_plain(rt: HostRuntime) {
     let alloc = rt.alloc();
-    let words = without_colors(alloc, texts(alloc, &["m"])?)?;
+    let words = without_colors(alloc, texts(alloc, &["m"]).expect(&rt, "memory")).expect(
+        &rt, "memory",
+    );
     let mut input = Given::whole(b"ab");
-    let mut out = Taker::whole(alloc)?;
-    let mut faults = Taker::whole(alloc)?;
+    let mut out = Taker::whole(alloc).expect(&rt, "memory");
+    let mut faults = Taker::whole(alloc).expect(&rt, "memory");
     let status = draw(
         &rt,
         alloc,
@@ -217,5 +223,4 @@ fn a_report_without_colors_is_drawn_plain(rt: HostRuntime) -> Result<(), Fail> {
     );
     assert_eq!(rt; status, Status::Drawn);
     assert_eq!(rt; out.held.as_slice(), b"Error: m\n".as_slice());
-    Ok(())
 }

@@ -5,7 +5,6 @@ use super::tests::{run, run_over};
 use ariadne_fakes::{Given, Taker};
 use std::alloc::{AllocError, Global};
 use std::io::ErrorKind;
-use std::test::Fail;
 
 const APPLES: [&str; 9] = [
     "--ascii",
@@ -247,29 +246,32 @@ const RUNS: &[Run] = &[
 ];
 
 #[test]
-fn the_words_tell_the_picture(rt: HostRuntime) -> Result<(), Fail> {
+fn the_words_tell_the_picture(rt: HostRuntime) {
     let alloc = rt.alloc();
     for case in RUNS {
         let name = case.name;
-        let outcome = run(&rt, alloc, case.words, case.text)?;
-        let got = trimmed(alloc, outcome.out.as_str())?;
-        assert_eq!(rt; got.as_str(), picture(alloc, case.rows)?.as_str(), "{name}");
+        let outcome = run(&rt, alloc, case.words, case.text);
+        let got = trimmed(alloc, outcome.out.as_str()).expect(&rt, "memory");
+        assert_eq!(rt;
+            got.as_str(),
+            picture(alloc, case.rows).expect(&rt, "memory").as_str(),
+            "{name}"
+        );
         assert_eq!(rt; outcome.status, case.status, "{name}");
         assert_eq!(rt; outcome.faults.as_str(), case.faults, "{name}");
     }
     // The first picture whole, with the blanks at the ends of its rows.
-    let outcome = run(&rt, alloc, &APPLES, "apple == orange;")?;
-    let want = picture(alloc, APPLES_PICTURE)?;
+    let outcome = run(&rt, alloc, &APPLES, "apple == orange;");
+    let want = picture(alloc, APPLES_PICTURE).expect(&rt, "memory");
     assert_eq!(rt; want.len(), 223);
     assert_eq!(rt; outcome.out.as_str(), want.as_str());
     // And a compact one, whose header ends in a blank.
     let words = ["--ascii", "--plain", "--compact", "", "0", "2", "x"];
-    let outcome = run(&rt, alloc, &words, "ab")?;
+    let outcome = run(&rt, alloc, &words, "ab");
     assert_eq!(rt;
         outcome.out.as_str(),
         "Error: \n   ,-[ <unknown>:1:1 ]\n 1 |ab\n   | `- x\n"
     );
-    Ok(())
 }
 
 /// A picture with colours, where `{` stands for what begins an escape, and `}` for the one that ends
@@ -290,9 +292,9 @@ fn colored(alloc: Global, rows: &[&str]) -> Result<String, AllocError> {
 }
 
 #[test]
-fn labels_take_the_colors_of_the_generator_in_turn(rt: HostRuntime) -> Result<(), Fail> {
+fn labels_take_the_colors_of_the_generator_in_turn(rt: HostRuntime) {
     let words = ["--ascii", "m", "0", "1", "x", "2", "3", "y"];
-    let outcome = run(&rt, rt.alloc(), &words, "a\nb")?;
+    let outcome = run(&rt, rt.alloc(), &words, "a\nb");
     let want = colored(
         rt.alloc(),
         &[
@@ -307,26 +309,27 @@ fn labels_take_the_colors_of_the_generator_in_turn(rt: HostRuntime) -> Result<()
             " {38;5;240m  |} {38;5;155m`}{38;5;155m-}{38;5;155m-} y",
             "{38;5;246m---'}",
         ],
-    )?;
+    )
+    .expect(&rt, "memory");
     assert_eq!(rt; outcome.out.as_str(), want.as_str());
     assert_eq!(rt; outcome.status, Status::Drawn);
-    Ok(())
 }
 
 #[test]
-fn a_writer_that_fails_at_each_call_holds_a_beginning(rt: HostRuntime) -> Result<(), Fail> {
+fn a_writer_that_fails_at_each_call_holds_a_beginning(rt: HostRuntime) {
     let alloc = rt.alloc();
-    let whole = picture(alloc, APPLES_PICTURE)?;
+    let whole = picture(alloc, APPLES_PICTURE).expect(&rt, "memory");
     for calls in 0..whole.len() {
         for fault in [Some(ErrorKind::BrokenPipe), None] {
             let input = Given::whole(b"apple == orange;");
             let out = Taker::narrow(alloc, 1, calls, fault);
-            let outcome = run_over(&rt, alloc, &APPLES, input, out)?;
-            let told = format!(in alloc; "write failed after {calls} bytes\n")?;
+            let outcome = run_over(&rt, alloc, &APPLES, input, out);
+            let told = format!(in alloc; "write failed after {calls} bytes\n").expect(
+                &rt, "memory",
+            );
             assert_eq!(rt; outcome.status, Status::Failed, "at {calls}");
             assert_eq!(rt; outcome.out.as_bytes(), &whole.as_bytes()[..calls]);
             assert_eq!(rt; outcome.faults.as_str(), told.as_str());
         }
     }
-    Ok(())
 }

@@ -7,7 +7,6 @@ ghost use Rattle.std.specs.Prelude.{◌≤◌, ◌<◌, IfOk, length};
 use crate::pictures::{assert_rows, picture_of, plain};
 use ariadne::{Label, Report, ReportKind, Source};
 use std::alloc::{AllocError, Global};
-use std::test::Fail;
 
 /// Where a sum stops, and which bracket is open there. Offsets count characters from 0.
 #[derive(Clone, Copy)]
@@ -77,12 +76,12 @@ fn report(alloc: Global, Fault { at, opened }: Fault) -> Result<Report<'static>,
 }
 
 #[test]
-fn a_bracket_is_not_closed(rt: HostRuntime) -> Result<(), Fail> {
-    let closed: Vec<char> = "2*(3+4)".chars().collect(rt.alloc())?;
+fn a_bracket_is_not_closed(rt: HostRuntime) {
+    let closed: Vec<char> = "2*(3+4)".chars().collect(rt.alloc()).expect(&rt, "memory");
     assert_eq!(rt; sum(&closed, 0).ok(), Some((14, 7)));
-    let open: Vec<char> = "2*(3+4".chars().collect(rt.alloc())?;
+    let open: Vec<char> = "2*(3+4".chars().collect(rt.alloc()).expect(&rt, "memory");
     let fault = sum(&open, 0).expect_err(&rt, "a bracket that is open");
-    let mut source = Source::from(rt.alloc(), "2*(3+4")?;
+    let mut source = Source::from(rt.alloc(), "2*(3+4").expect(&rt, "memory");
     let rows = [
         "Error: unclosed bracket",
         "   ,-[ <unknown>:1:7 ]",
@@ -94,6 +93,7 @@ fn a_bracket_is_not_closed(rt: HostRuntime) -> Result<(), Fail> {
         "   |       `- sum stops here",
         "---'",
     ];
-    let picture = picture_of(&rt, &report(rt.alloc(), fault)?, &mut source)?;
+    let report = report(rt.alloc(), fault).expect(&rt, "memory");
+    let picture = picture_of(&rt, &report, &mut source);
     assert_rows(&rt, picture.as_str(), &rows)
 }

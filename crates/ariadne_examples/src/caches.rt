@@ -12,7 +12,6 @@ use crate::pictures::{assert_rows, picture_of, plain};
 use ariadne::{
     Cache, FetchError, Label, Report, ReportKind, Source, SourceMap, UnknownSource, sources,
 };
-use std::test::Fail;
 
 /// A map of sources that shows one id under a title, and the others as they are.
 #[derive(Drop)]
@@ -55,9 +54,9 @@ impl<'s> Cache<&'s str> for Titled<'s> {
 }
 
 #[test]
-fn an_id_is_shown_under_a_title(rt: HostRuntime) -> Result<(), Fail> {
+fn an_id_is_shown_under_a_title(rt: HostRuntime) {
     let alloc = rt.alloc();
-    let map = sources(alloc, [("-", "use pear"), ("fruit", "apple")])?;
+    let map = sources(alloc, [("-", "use pear"), ("fruit", "apple")]).expect(&rt, "memory");
     let mut cache = Titled {
         map,
         id: "-",
@@ -65,9 +64,20 @@ fn an_id_is_shown_under_a_title(rt: HostRuntime) -> Result<(), Fail> {
     };
     let report = Report::build(alloc, ReportKind::Error, ("-", 4..8))
         .with_config(plain())
-        .with_message("unknown fruit")?
-        .with_label(Label::new(("-", 4..8)).with_message(alloc, "not among the fruit")?)?
-        .with_label(Label::new(("fruit", 0..5)).with_message(alloc, "there is only this one")?)?
+        .with_message("unknown fruit")
+        .expect(&rt, "memory")
+        .with_label(
+            Label::new(("-", 4..8))
+                .with_message(alloc, "not among the fruit")
+                .expect(&rt, "memory"),
+        )
+        .expect(&rt, "memory")
+        .with_label(
+            Label::new(("fruit", 0..5))
+                .with_message(alloc, "there is only this one")
+                .expect(&rt, "memory"),
+        )
+        .expect(&rt, "memory")
         .finish();
     let rows = [
         "Error: unknown fruit",
@@ -84,5 +94,5 @@ fn an_id_is_shown_under_a_title(rt: HostRuntime) -> Result<(), Fail> {
         "   |   `---- there is only this one",
         "---'",
     ];
-    assert_rows(&rt, picture_of(&rt, &report, &mut cache)?.as_str(), &rows)
+    assert_rows(&rt, picture_of(&rt, &report, &mut cache).as_str(), &rows)
 }

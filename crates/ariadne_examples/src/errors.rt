@@ -5,7 +5,6 @@
 use crate::pictures::{assert_rows, picture_of, plain};
 use ariadne::{Label, Report, ReportKind, Source};
 use std::alloc::{AllocError, Global};
-use std::test::Fail;
 use thiserror::Error;
 
 /// The greatest number.
@@ -63,19 +62,23 @@ impl Refusal {
 }
 
 #[test]
-fn each_refusal_is_a_report(rt: HostRuntime) -> Result<(), Fail> {
+fn each_refusal_is_a_report(rt: HostRuntime) {
     let alloc = rt.alloc();
     assert_eq!(rt; number("255").ok(), Some(255));
     for (text, header) in [
         ("", "[01] Error: no number\n"),
         ("300", "[03] Error: more than 255\n"),
     ] {
-        let report = number(text).expect_err(&rt, "a refusal").report(alloc)?;
-        let picture = picture_of(&rt, &report, &mut Source::from(alloc, text)?)?;
+        let refusal = number(text).expect_err(&rt, "a refusal");
+        let report = refusal.report(alloc).expect(&rt, "memory");
+        let mut source = Source::from(alloc, text).expect(&rt, "memory");
+        let picture = picture_of(&rt, &report, &mut source);
         assert!(rt; picture.as_str().starts_with(header), "of {text:?}");
     }
-    let report = number("12a4").expect_err(&rt, "a refusal").report(alloc)?;
-    let picture = picture_of(&rt, &report, &mut Source::from(alloc, "12a4")?)?;
+    let refusal = number("12a4").expect_err(&rt, "a refusal");
+    let report = refusal.report(alloc).expect(&rt, "memory");
+    let mut source = Source::from(alloc, "12a4").expect(&rt, "memory");
+    let picture = picture_of(&rt, &report, &mut source);
     let rows = [
         "[02] Error: `a` is no digit",
         "   ,-[ <unknown>:1:3 ]",

@@ -7,7 +7,6 @@ use ariadne::{FileCache, FileError, Label, LeftOut, Reason, Report, ReportKind, 
 use std::alloc::Global;
 use std::io::Write;
 use std::rt::Files;
-use std::test::Fail;
 use std::{env, fs};
 
 /// Draws an error over the files at two paths to `out`, and answers the labels that are left out.
@@ -37,15 +36,19 @@ fn is_unread(left: &LeftOut<FileError>) -> bool {
 }
 
 #[test]
-fn labels_in_two_files(rt: HostRuntime) -> Result<(), Fail> {
+fn labels_in_two_files(rt: HostRuntime) {
     let alloc = rt.alloc();
-    let folder = env::temp_dir(&rt)?;
-    let pie = folder.join(alloc, "ariadne_examples_pie.txt")?;
-    let fruit = folder.join(alloc, "ariadne_examples_fruit.txt")?;
-    fs::write(&rt, pie.as_path(), "let pie = apple + \"crust\";\n")?;
-    fs::write(&rt, fruit.as_path(), "let apple = 3;\n")?;
-    let first = format!(in alloc; "   ,-[ {}:1:19 ]", pie.as_str())?;
-    let second = format!(in alloc; "   |-[ {}:1:5 ]", fruit.as_str())?;
+    let folder = env::temp_dir(&rt).expect(&rt, "a folder");
+    let pie = folder
+        .join(alloc, "ariadne_examples_pie.txt")
+        .expect(&rt, "memory");
+    let fruit = folder
+        .join(alloc, "ariadne_examples_fruit.txt")
+        .expect(&rt, "memory");
+    fs::write(&rt, pie.as_path(), "let pie = apple + \"crust\";\n").expect(&rt, "a file");
+    fs::write(&rt, fruit.as_path(), "let apple = 3;\n").expect(&rt, "a file");
+    let first = format!(in alloc; "   ,-[ {}:1:19 ]", pie.as_str()).expect(&rt, "memory");
+    let second = format!(in alloc; "   |-[ {}:1:5 ]", fruit.as_str()).expect(&rt, "memory");
     let rows = [
         "Error: can't add a text to a number",
         first.as_str(),
@@ -62,14 +65,18 @@ fn labels_in_two_files(rt: HostRuntime) -> Result<(), Fail> {
         "---'",
     ];
     let mut out = Vec::new(alloc);
-    let left_out = draw(&rt, alloc, pie.as_str(), fruit.as_str(), &mut out)?;
+    let left_out = draw(&rt, alloc, pie.as_str(), fruit.as_str(), &mut out).expect(&rt, "memory");
     assert!(rt; left_out.is_empty());
-    assert_rows(&rt, String::from_utf8(out)?.as_str(), &rows)?;
+    assert_rows(
+        &rt,
+        String::from_utf8(out).expect(&rt, "text").as_str(),
+        &rows,
+    );
     // A file that is not there takes away its labels alone.
-    fs::remove_file(&rt, fruit.as_path())?;
+    fs::remove_file(&rt, fruit.as_path()).expect(&rt, "a file");
     let mut out = Vec::new(alloc);
-    let left_out = draw(&rt, alloc, pie.as_str(), fruit.as_str(), &mut out)?;
-    fs::remove_file(&rt, pie.as_path())?;
+    let left_out = draw(&rt, alloc, pie.as_str(), fruit.as_str(), &mut out).expect(&rt, "memory");
+    fs::remove_file(&rt, pie.as_path()).expect(&rt, "a file");
     assert_eq!(rt; left_out.len(), 1);
     for left in &left_out {
         assert_eq!(rt; left.label, 1);
@@ -78,5 +85,9 @@ fn labels_in_two_files(rt: HostRuntime) -> Result<(), Fail> {
     let rows = [
         rows[0], rows[1], rows[2], rows[3], rows[4], rows[5], rows[12],
     ];
-    assert_rows(&rt, String::from_utf8(out)?.as_str(), &rows)
+    assert_rows(
+        &rt,
+        String::from_utf8(out).expect(&rt, "text").as_str(),
+        &rows,
+    )
 }

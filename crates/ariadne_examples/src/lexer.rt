@@ -7,7 +7,6 @@ ghost use Rattle.std.specs.Prelude.{◌≤◌};
 use crate::pictures::{assert_rows, picture_of, plain};
 use ariadne::{IndexType, Label, Report, ReportKind, Source};
 use std::alloc::{AllocError, Global};
-use std::test::Fail;
 
 /// A piece of a text, by its bytes from 0. Its end is exclusive.
 #[derive(Clone, Copy)]
@@ -79,12 +78,13 @@ fn unknown(alloc: Global, place: Place) -> Result<Report<'static>, AllocError> {
 }
 
 #[test]
-fn an_unknown_character_behind_others_of_two_bytes(rt: HostRuntime) -> Result<(), Fail> {
+fn an_unknown_character_behind_others_of_two_bytes(rt: HostRuntime) {
     let mut tokens = Vec::new(rt.alloc());
     let text = "äpplë = 3 € 4";
-    let place = lex(&mut tokens, text)?.expect(&rt, "an unknown character");
+    let place = lex(&mut tokens, text).expect(&rt, "memory");
+    let place = place.expect(&rt, "an unknown character");
     assert_eq!(rt; (tokens.len(), place.start, place.end), (3, 12, 15));
-    let report = unknown(rt.alloc(), place)?;
+    let report = unknown(rt.alloc(), place).expect(&rt, "memory");
     let rows = [
         "Error: unknown character",
         "   ,-[ <unknown>:1:11 ]",
@@ -94,6 +94,6 @@ fn an_unknown_character_behind_others_of_two_bytes(rt: HostRuntime) -> Result<()
         "   |           `-- no token has it",
         "---'",
     ];
-    let picture = picture_of(&rt, &report, &mut Source::from(rt.alloc(), text)?)?;
-    assert_rows(&rt, picture.as_str(), &rows)
+    let mut source = Source::from(rt.alloc(), text).expect(&rt, "memory");
+    assert_rows(&rt, picture_of(&rt, &report, &mut source).as_str(), &rows)
 }

@@ -5,7 +5,6 @@
 use ariadne::{Cache, CharSet, Config, Label, Report, ReportKind, Source, Span};
 use std::alloc::{AllocError, Global};
 use std::process::Abort;
-use std::test::Fail;
 
 /// ASCII strokes, and no colours. A text that is painted by `fg` keeps its own.
 pub(crate) fn plain() -> Config {
@@ -19,13 +18,13 @@ pub(crate) fn picture_of<S: Span, C: Cache<S::SourceId>>(
     rt: &(impl Abort + AllocGlobal),
     report: &Report<'_, S>,
     cache: &mut C,
-) -> Result<String, Fail>
+) -> String
     requires { C.can_fetch cache.old }
 {
     let mut out = Vec::new(rt.alloc());
-    let left_out = report.write(cache, &mut out)?;
+    let left_out = report.write(cache, &mut out).expect(rt, "a picture");
     assert!(rt; left_out.is_empty());
-    Ok(String::from_utf8(out)?)
+    String::from_utf8(out).expect(rt, "text")
 }
 
 /// A text without the blanks at the ends of its rows, each of which ends in a line feed.
@@ -39,31 +38,33 @@ fn trimmed(alloc: Global, picture: &str) -> Result<String, AllocError> {
 }
 
 /// Asserts that a picture has these rows, but for the blanks at their ends.
-pub(crate) fn assert_rows(
-    rt: &(impl Abort + AllocGlobal),
-    picture: &str,
-    rows: &[&str],
-) -> Result<(), Fail> {
+pub(crate) fn assert_rows(rt: &(impl Abort + AllocGlobal), picture: &str, rows: &[&str]) {
     let mut want = String::new(rt.alloc());
     for row in rows {
-        want.push_str(row)?;
-        want.push('\n')?;
+        want.push_str(row).expect(rt, "memory");
+        want.push('\n').expect(rt, "memory");
     }
-    let picture = trimmed(rt.alloc(), picture)?;
+    let picture = trimmed(rt.alloc(), picture).expect(rt, "memory");
     assert_eq!(rt; picture.as_str(), want.as_str());
-    Ok(())
 }
 
 #[test]
-fn a_picture_is_compared_by_its_rows(rt: HostRuntime) -> Result<(), Fail> {
+fn a_picture_is_compared_by_its_rows(rt: HostRuntime) {
     let alloc = rt.alloc();
-    let list = Label::new(10..34).with_message(alloc, "this list is not sorted")?;
+    let list = Label::new(10..34)
+        .with_message(alloc, "this list is not sorted")
+        .expect(&rt, "memory");
     let report = Report::build(alloc, ReportKind::Warning, 10..34)
         .with_config(plain())
-        .with_label(list)?
+        .with_label(list)
+        .expect(&rt, "memory")
         .finish();
     let text = "let pie = [\n    pear,\n    apple,\n];";
-    let picture = picture_of(&rt, &report, &mut Source::from(alloc, text)?)?;
+    let picture = picture_of(
+        &rt,
+        &report,
+        &mut Source::from(alloc, text).expect(&rt, "memory"),
+    );
     assert_rows(
         &rt,
         picture.as_str(),

@@ -6,7 +6,6 @@ use crate::pictures::{assert_rows, plain};
 use ariadne::{Label, Report, ReportKind, Source, WriteError};
 use std::alloc::Global;
 use std::io::Write;
-use std::test::Fail;
 
 /// Draws an error to `out`.
 ///
@@ -27,10 +26,10 @@ pub(crate) fn draw<W: Write>(alloc: Global, out: &mut W) -> Result<(), WriteErro
 }
 
 #[test]
-fn a_label_a_code_and_a_help(rt: HostRuntime) -> Result<(), Fail> {
+fn a_label_a_code_and_a_help(rt: HostRuntime) {
     let mut out = Vec::new(rt.alloc());
-    draw(rt.alloc(), &mut out)?;
-    let picture = String::from_utf8(out)?;
+    draw(rt.alloc(), &mut out).expect(&rt, "memory");
+    let picture = String::from_utf8(out).expect(&rt, "text");
     assert_rows(
         &rt,
         picture.as_str(),

@@ -8,7 +8,6 @@ use crate::pictures::{assert_rows, plain};
 use ariadne::{Label, Report, ReportKind, Sink, Source, WriteError};
 use std::alloc::{AllocError, Global};
 use std::io;
-use std::test::Fail;
 
 /// A board with room for some bytes.
 #[derive(Drop)]
@@ -65,12 +64,14 @@ fn report(alloc: Global) -> Result<Report<'static>, AllocError> {
 }
 
 #[test]
-fn a_board_holds_the_picture_or_its_first_bytes(rt: HostRuntime) -> Result<(), Fail> {
+fn a_board_holds_the_picture_or_its_first_bytes(rt: HostRuntime) {
     let alloc = rt.alloc();
-    let report = report(alloc)?;
-    let mut source = Source::from(alloc, "pear")?;
+    let report = report(alloc).expect(&rt, "memory");
+    let mut source = Source::from(alloc, "pear").expect(&rt, "memory");
     let mut large = Board::new(alloc, 500);
-    report.write_to(&mut source, &mut large)?;
+    report
+        .write_to(&mut source, &mut large)
+        .expect(&rt, "memory");
     assert!(rt; !large.failed());
     let rows = [
         "Error: unknown fruit",
@@ -81,11 +82,14 @@ fn a_board_holds_the_picture_or_its_first_bytes(rt: HostRuntime) -> Result<(), F
         "   |   `--- not sold here",
         "---'",
     ];
-    assert_rows(&rt, String::from_utf8(large.bytes)?.as_str(), &rows)?;
+    assert_rows(
+        &rt,
+        String::from_utf8(large.bytes).expect(&rt, "text").as_str(),
+        &rows,
+    );
     let mut small = Board::new(alloc, 14);
     let answer = report.write_to(&mut source, &mut small);
     assert!(rt; matches!(answer, Err(WriteError::Io { sent: 14, .. })));
     assert!(rt; small.failed());
     assert_eq!(rt; small.bytes.as_slice(), b"Error: unknown".as_slice());
-    Ok(())
 }

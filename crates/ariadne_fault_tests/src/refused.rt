@@ -7,7 +7,6 @@ use ariadne_asserts::asserts::{assert_missing, assert_shown, plain_error, source
 use ariadne_fakes::{refuse, was_refused};
 use std::alloc::{AllocError, Global};
 use std::process::Abort;
-use std::test::Fail;
 
 /// More than any call here makes.
 pub(crate) const MOST_REQUESTS: usize = 1000;
@@ -59,26 +58,21 @@ fn assert_rows(
     name: &str,
     report: &Report<'_>,
     (header, middle, asides): (&'static str, &[&'static str], &[&'static str]),
-) -> Result<(), Fail> {
-    let mut rows = vec![in rt.alloc(); header]?;
-    rows.extend_from_slice(middle)?;
-    rows.extend_from_slice(asides)?;
+) {
+    let mut rows = vec![in rt.alloc(); header].expect(rt, "memory");
+    rows.extend_from_slice(middle).expect(rt, "memory");
+    rows.extend_from_slice(asides).expect(rt, "memory");
     if !middle.is_empty() {
-        rows.push("---'")?;
+        rows.push("---'").expect(rt, "memory");
     }
-    let mut source = source_of(rt.alloc(), "ab")?;
-    let (picture, left_out) = written(rt, report, &mut source)?;
-    assert_missing(name, &left_out, &[])?;
+    let mut source = source_of(rt.alloc(), "ab").expect(rt, "memory");
+    let (picture, left_out) = written(rt, report, &mut source);
+    assert_missing(rt, name, &left_out, &[]);
     assert_shown(rt, name, picture.as_str(), &rows, false)
 }
 
 /// Asserts what is to be seen of a report.
-fn assert_seen(
-    rt: &(impl Abort + AllocGlobal),
-    name: &str,
-    report: &Report<'_>,
-    seen: &Seen,
-) -> Result<(), Fail> {
+fn assert_seen(rt: &(impl Abort + AllocGlobal), name: &str, report: &Report<'_>, seen: &Seen) {
     assert_rows(rt, name, report, (seen.header, seen.middle, seen.asides))
 }
 
@@ -88,7 +82,7 @@ fn labelled(alloc: Global) -> Result<ReportBuilder<'static>, AllocError> {
 }
 
 /// Refuses the nth request of giving a label a message.
-fn try_message(rt: &(impl Abort + AllocGlobal), nth: usize) -> Result<bool, Fail>
+fn try_message(rt: &(impl Abort + AllocGlobal), nth: usize) -> bool
     requires { nth < 100000 }
 {
     let label = Label::new(0..2);
@@ -96,41 +90,47 @@ fn try_message(rt: &(impl Abort + AllocGlobal), nth: usize) -> Result<bool, Fail
     let label = label.with_message(rt.alloc(), "x");
     let is_refused = assert_refused(rt, "with_message", nth, label.is_err());
     if let Ok(label) = label {
-        let builder = plain_error(rt.alloc()).with_label(label)?;
-        assert_seen(rt, "with_message", &builder.finish(), &LABELLED)?;
+        let builder = plain_error(rt.alloc())
+            .with_label(label)
+            .expect(rt, "memory");
+        assert_seen(rt, "with_message", &builder.finish(), &LABELLED);
     }
-    Ok(is_refused)
+    is_refused
 }
 
 /// Refuses the nth request of a copy of a label.
-fn try_copy(rt: &(impl Abort + AllocGlobal), nth: usize) -> Result<bool, Fail>
+fn try_copy(rt: &(impl Abort + AllocGlobal), nth: usize) -> bool
     requires { nth < 100000 }
 {
-    let label = Label::new(0..2).with_message(rt.alloc(), "x")?;
+    let label = Label::new(0..2)
+        .with_message(rt.alloc(), "x")
+        .expect(rt, "memory");
     refuse(rt.alloc(), nth);
     let copy = label.clone();
     let is_refused = assert_refused(rt, "clone", nth, copy.is_err());
     if let Ok(copy) = copy {
         assert!(rt; copy == label);
     }
-    let builder = plain_error(rt.alloc()).with_label(label)?;
-    assert_seen(rt, "clone", &builder.finish(), &LABELLED)?;
-    Ok(is_refused)
+    let builder = plain_error(rt.alloc())
+        .with_label(label)
+        .expect(rt, "memory");
+    assert_seen(rt, "clone", &builder.finish(), &LABELLED);
+    is_refused
 }
 
 #[test]
-fn a_refused_label_is_an_error(rt: HostRuntime) -> Result<(), Fail> {
+fn a_refused_label_is_an_error(rt: HostRuntime) {
     for nth in 1..MOST_REQUESTS {
-        if !try_message(&rt, nth)? {
+        if !try_message(&rt, nth) {
             break;
         }
     }
     for nth in 1..MOST_REQUESTS {
-        if !try_copy(&rt, nth)? {
-            return Ok(());
+        if !try_copy(&rt, nth) {
+            return;
         }
     }
-    Err(Fail::from("every request was refused"))
+    panic!(rt; "every request was refused")
 }
 
 /// A call of the builder by value.
@@ -213,38 +213,32 @@ fn take(step: Step, builder: ReportBuilder<'_>) -> Result<ReportBuilder<'_>, All
 }
 
 /// Refuses the nth request of a call by value, of which a refusal drops the report.
-fn try_step(
-    rt: &(impl Abort + AllocGlobal),
-    step: Step,
-    seen: &Seen,
-    nth: usize,
-) -> Result<bool, Fail>
+fn try_step(rt: &(impl Abort + AllocGlobal), step: Step, seen: &Seen, nth: usize) -> bool
     requires { nth < 100000 }
 {
     let builder = match step {
         Step::Label | Step::Labels => plain_error(rt.alloc()),
-        _ => labelled(rt.alloc())?,
+        _ => labelled(rt.alloc()).expect(rt, "memory"),
     };
-    let name = format!(in rt.alloc(); "{step:?}")?;
+    let name = format!(in rt.alloc(); "{step:?}").expect(rt, "memory");
     refuse(rt.alloc(), nth);
     let builder = take(step, builder);
     let is_refused = assert_refused(rt, name.as_str(), nth, builder.is_err());
     if let Ok(builder) = builder {
-        assert_seen(rt, name.as_str(), &builder.finish(), seen)?;
+        assert_seen(rt, name.as_str(), &builder.finish(), seen);
     }
-    Ok(is_refused)
+    is_refused
 }
 
 #[test]
-fn a_refused_call_by_value_is_an_error(rt: HostRuntime) -> Result<(), Fail> {
+fn a_refused_call_by_value_is_an_error(rt: HostRuntime) {
     for (step, seen) in STEPS {
         for nth in 1..MOST_REQUESTS {
-            if !try_step(&rt, *step, seen, nth)? {
+            if !try_step(&rt, *step, seen, nth) {
                 break;
             }
         }
     }
-    Ok(())
 }
 
 /// A call of the builder by reference.
@@ -351,38 +345,38 @@ fn make(call: Call, builder: &mut ReportBuilder<'_>) -> Result<(), AllocError> {
 }
 
 /// Refuses the nth request of a call by reference, of which a refusal changes nothing.
-fn try_call(
-    rt: &(impl Abort + AllocGlobal),
-    change: &(Call, Seen, Seen),
-    nth: usize,
-) -> Result<bool, Fail>
+fn try_call(rt: &(impl Abort + AllocGlobal), change: &(Call, Seen, Seen), nth: usize) -> bool
     requires { nth < 100000 }
 {
     let (call, before, after) = change;
     let mut builder = match *call {
         Call::AddLabel => plain_error(rt.alloc()),
-        _ => labelled(rt.alloc())?.with_help("old")?.with_note("old")?,
+        _ => labelled(rt.alloc())
+            .expect(rt, "memory")
+            .with_help("old")
+            .expect(rt, "memory")
+            .with_note("old")
+            .expect(rt, "memory"),
     };
-    builder.set_message("old")?;
-    let name = format!(in rt.alloc(); "{call:?}")?;
+    builder.set_message("old").expect(rt, "memory");
+    let name = format!(in rt.alloc(); "{call:?}").expect(rt, "memory");
     refuse(rt.alloc(), nth);
     let answer = make(*call, &mut builder);
     let is_refused = assert_refused(rt, name.as_str(), nth, answer.is_err());
     let seen = if is_refused { before } else { after };
-    assert_seen(rt, name.as_str(), &builder.finish(), seen)?;
-    Ok(is_refused)
+    assert_seen(rt, name.as_str(), &builder.finish(), seen);
+    is_refused
 }
 
 #[test]
-fn a_refused_call_by_reference_changes_nothing(rt: HostRuntime) -> Result<(), Fail> {
+fn a_refused_call_by_reference_changes_nothing(rt: HostRuntime) {
     for call in CALLS {
         for nth in 1..MOST_REQUESTS {
-            if !try_call(&rt, call, nth)? {
+            if !try_call(&rt, call, nth) {
                 break;
             }
         }
     }
-    Ok(())
 }
 
 /// The texts of helps or notes.
@@ -424,10 +418,10 @@ fn try_texts(
     rows: &[&'static [&'static str]; 4],
     is_help: bool,
     nth: usize,
-) -> Result<usize, Fail>
+) -> usize
     requires { nth < 100000 }
 {
-    let mut builder = labelled(rt.alloc())?;
+    let mut builder = labelled(rt.alloc()).expect(rt, "memory");
     refuse(rt.alloc(), nth);
     let answer = if is_help {
         builder.with_helps(TEXTS)
@@ -435,25 +429,25 @@ fn try_texts(
         builder.with_notes(TEXTS)
     };
     let is_refused = assert_refused(rt, "texts", nth, answer.is_err());
-    let mut source = source_of(rt.alloc(), "ab")?;
+    let mut source = source_of(rt.alloc(), "ab").expect(rt, "memory");
     let report = builder.finish();
-    let (picture, _) = written(rt, &report, &mut source)?;
+    let (picture, _) = written(rt, &report, &mut source);
     let added = TEXTS.iter().filter(|text| picture.contains(**text)).count();
     assert_eq!(rt; added < 3, is_refused, "at request {nth}");
     let seen = Seen {
         asides: rows[added.min(3)],
         ..LABELLED
     };
-    assert_seen(rt, "texts", &report, &seen)?;
-    Ok(added)
+    assert_seen(rt, "texts", &report, &seen);
+    added
 }
 
 #[test]
-fn of_refused_helps_and_notes_those_before_stay(rt: HostRuntime) -> Result<(), Fail> {
+fn of_refused_helps_and_notes_those_before_stay(rt: HostRuntime) {
     for (is_help, rows) in [(true, HELPS), (false, NOTES)] {
         let mut most = 0;
         for nth in 1..MOST_REQUESTS {
-            let added = try_texts(&rt, &rows, is_help, nth)?;
+            let added = try_texts(&rt, &rows, is_help, nth);
             assert!(rt; added >= most, "at request {nth}");
             most = added;
             if added == 3 {
@@ -462,48 +456,55 @@ fn of_refused_helps_and_notes_those_before_stay(rt: HostRuntime) -> Result<(), F
         }
         assert_eq!(rt; most, 3);
     }
-    Ok(())
 }
 
 /// Refuses the nth request of adding labels, and answers how many were added.
-fn try_labels(rt: &(impl Abort + AllocGlobal), nth: usize) -> Result<usize, Fail>
+fn try_labels(rt: &(impl Abort + AllocGlobal), nth: usize) -> usize
     requires { nth < 100000 }
 {
     let mut labels = Vec::new(rt.alloc());
     for _ in 0..9 {
-        labels.push(Label::new(0..1).with_message(rt.alloc(), "x")?)?;
+        labels
+            .push(
+                Label::new(0..1)
+                    .with_message(rt.alloc(), "x")
+                    .expect(rt, "memory"),
+            )
+            .expect(rt, "memory");
     }
     let mut builder = plain_error(rt.alloc());
     refuse(rt.alloc(), nth);
     let answer = builder.add_labels(labels);
     let is_refused = assert_refused(rt, "add_labels", nth, answer.is_err());
-    let mut source = source_of(rt.alloc(), "ab")?;
+    let mut source = source_of(rt.alloc(), "ab").expect(rt, "memory");
     let report = builder.finish();
-    let (picture, _) = written(rt, &report, &mut source)?;
+    let (picture, _) = written(rt, &report, &mut source);
     let rows = picture.split_terminator('\n');
     let added = rows.filter(|row| row.ends_with("`-- x")).count();
     assert_eq!(rt; added < 9, is_refused, "at request {nth}");
     let mut middle = Vec::new(rt.alloc());
     if added > 0 {
-        middle.extend_from_slice(SILENT)?;
+        middle.extend_from_slice(SILENT).expect(rt, "memory");
     }
     for _ in 0..added {
-        middle.extend_from_slice(&["   | |", "   | `-- x"])?;
+        middle
+            .extend_from_slice(&["   | |", "   | `-- x"])
+            .expect(rt, "memory");
     }
-    assert_rows(rt, "add_labels", &report, ("Error:", &middle, &[]))?;
-    Ok(added)
+    assert_rows(rt, "add_labels", &report, ("Error:", &middle, &[]));
+    added
 }
 
 #[test]
-fn of_refused_labels_those_before_stay(rt: HostRuntime) -> Result<(), Fail> {
+fn of_refused_labels_those_before_stay(rt: HostRuntime) {
     let mut most = 0;
     for nth in 1..MOST_REQUESTS {
-        let added = try_labels(&rt, nth)?;
+        let added = try_labels(&rt, nth);
         assert!(rt; nth == 1 || added > most, "at request {nth}");
         most = added;
         if added == 9 {
-            return Ok(());
+            return;
         }
     }
-    Err(Fail::from("every request was refused"))
+    panic!(rt; "every request was refused")
 }

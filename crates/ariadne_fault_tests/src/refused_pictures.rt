@@ -12,7 +12,6 @@ use ariadne_fakes::{Taker, refuse};
 use std::alloc::{AllocError, Global};
 use std::io::Stderr;
 use std::process::Abort;
-use std::test::Fail;
 
 /// The labels of a report over two sources and one that can't be had.
 const LABELS: [(&str, usize, usize, &str); 6] = [
@@ -70,20 +69,29 @@ fn text_of(id: &&str) -> Result<&'static str, u8> {
 }
 
 /// The report, which points at a source that no label is in.
-fn rich(
-    rt: &(impl Abort + AllocGlobal),
-    config: Config,
-) -> Result<Report<'static, Piece>, AllocError> {
+fn rich(rt: &(impl Abort + AllocGlobal), config: Config) -> Report<'static, Piece> {
     let alloc = rt.alloc();
     let builder = Report::build(alloc, ReportKind::Error, ("r", 0..0)).with_config(config);
-    let builder = builder.with_code(3)?.with_message("m")?;
-    let mut builder = builder.with_help("h")?.with_note("n\nk")?;
+    let builder = builder
+        .with_code(3)
+        .expect(rt, "memory")
+        .with_message("m")
+        .expect(rt, "memory");
+    let mut builder = builder
+        .with_help("h")
+        .expect(rt, "memory")
+        .with_note("n\nk")
+        .expect(rt, "memory");
     for (id, start, end, message) in LABELS {
         assert!(rt; start <= end);
-        let label = Label::new((id, start..end)).with_message(alloc, message)?;
-        builder = builder.with_label(label.with_color(Color::Fixed(70)))?;
+        let label = Label::new((id, start..end))
+            .with_message(alloc, message)
+            .expect(rt, "memory");
+        builder = builder
+            .with_label(label.with_color(Color::Fixed(70)))
+            .expect(rt, "memory");
     }
-    Ok(builder.finish())
+    builder.finish()
 }
 
 /// A picture without its colours.
@@ -174,20 +182,20 @@ fn try_way(
     way: Way,
     picture: &str,
     nth: usize,
-) -> Result<bool, Fail>
+) -> bool
     requires { nth < 100000 }
 {
     let alloc = rt.alloc();
-    let name = format!(in alloc; "{way:?}")?;
+    let name = format!(in alloc; "{way:?}").expect(rt, "memory");
     let mut cache: FnCache<&'static str, _, &'static str> = FnCache::new(alloc, text_of);
-    let mut out = roomy(alloc)?;
+    let mut out = roomy(alloc).expect(rt, "memory");
     refuse(alloc, nth);
     let answer = sent(rt, stderr, report, way, &mut cache, &mut out);
     let is_refused = assert_refused(rt, name.as_str(), nth, answer.is_err());
     assert_grown(rt, &cache, !is_refused, nth);
     assert!(rt; !out.failed(), "of {way:?} at request {nth}");
     match answer {
-        Ok(left_out) => assert_missing(name.as_str(), &left_out, &LEFT_OUT)?,
+        Ok(left_out) => assert_missing(rt, name.as_str(), &left_out, &LEFT_OUT),
         Err(error) => {
             let is_memory = matches!(error, WriteError::Memory(_));
             assert!(rt; is_memory, "of {way:?} at request {nth}");
@@ -200,28 +208,27 @@ fn try_way(
         held.as_bytes(),
         "of {way:?} at request {nth}"
     );
-    let (again, left_out) = written(rt, report, &mut cache)?;
-    assert_missing(name.as_str(), &left_out, &LEFT_OUT)?;
+    let (again, left_out) = written(rt, report, &mut cache);
+    assert_missing(rt, name.as_str(), &left_out, &LEFT_OUT);
     assert_eq!(rt; again.as_str(), picture, "of {way:?} at request {nth}");
-    Ok(is_refused)
+    is_refused
 }
 
 #[test]
-fn a_refused_picture_sends_nothing_and_the_next_is_whole(rt: HostRuntime) -> Result<(), Fail> {
+fn a_refused_picture_sends_nothing_and_the_next_is_whole(rt: HostRuntime) {
     let alloc = rt.alloc();
     for config in [plain(), plain().with_color(true)] {
-        let report = rich(&rt, config)?;
+        let report = rich(&rt, config);
         let mut cache: FnCache<&'static str, _, &'static str> = FnCache::new(alloc, text_of);
-        let (picture, _) = written(&rt, &report, &mut cache)?;
-        let shown = without_colors(alloc, picture.as_str())?;
-        assert_trimmed(&rt, shown.as_str(), &ROWS)?;
+        let (picture, _) = written(&rt, &report, &mut cache);
+        let shown = without_colors(alloc, picture.as_str()).expect(&rt, "memory");
+        assert_trimmed(&rt, shown.as_str(), &ROWS);
         for way in WAYS {
             for nth in 1..MOST_REQUESTS {
-                if !try_way(&rt, rt.stderr(), &report, way, picture.as_str(), nth)? {
+                if !try_way(&rt, rt.stderr(), &report, way, picture.as_str(), nth) {
                     break;
                 }
             }
         }
     }
-    Ok(())
 }

@@ -9,11 +9,10 @@ use std::cell::Cell;
 use std::collections::HashMap;
 use std::fs::Files;
 use std::process::Abort;
-use std::test::Fail;
 use std::{env, fs};
 
 /// Refuses the nth request of making a source.
-fn try_source(rt: &(impl Abort + AllocGlobal), nth: usize) -> Result<bool, Fail>
+fn try_source(rt: &(impl Abort + AllocGlobal), nth: usize) -> bool
     requires { nth < 100000 }
 {
     refuse(rt.alloc(), nth);
@@ -23,14 +22,18 @@ fn try_source(rt: &(impl Abort + AllocGlobal), nth: usize) -> Result<bool, Fail>
         assert_eq!(rt; source.text(), "a\nb\nc");
         assert_eq!(rt; source.lines().len(), 3);
     }
-    Ok(is_refused)
+    is_refused
 }
 
 /// Refuses the nth request of a copy of a source, which keeps the source as it was.
-fn try_copy(rt: &(impl Abort + AllocGlobal), nth: usize) -> Result<bool, Fail>
+fn try_copy(rt: &(impl Abort + AllocGlobal), nth: usize) -> bool
     requires { nth < 100000 }
 {
-    let source = Source::from(rt.alloc(), "a\nb\nc".to_string(rt.alloc())?)?;
+    let source = Source::from(
+        rt.alloc(),
+        "a\nb\nc".to_string(rt.alloc()).expect(rt, "memory"),
+    )
+    .expect(rt, "memory");
     refuse(rt.alloc(), nth);
     let copy = source.clone();
     let is_refused = assert_refused(rt, "clone", nth, copy.is_err());
@@ -39,11 +42,11 @@ fn try_copy(rt: &(impl Abort + AllocGlobal), nth: usize) -> Result<bool, Fail>
     }
     assert_eq!(rt; source.text(), "a\nb\nc");
     assert_eq!(rt; source.lines().len(), 3);
-    Ok(is_refused)
+    is_refused
 }
 
 /// Refuses the nth request of a map of sources.
-fn try_sources(rt: &(impl Abort + AllocGlobal), nth: usize) -> Result<bool, Fail>
+fn try_sources(rt: &(impl Abort + AllocGlobal), nth: usize) -> bool
     requires { nth < 100000 }
 {
     refuse(rt.alloc(), nth);
@@ -54,7 +57,7 @@ fn try_sources(rt: &(impl Abort + AllocGlobal), nth: usize) -> Result<bool, Fail
             assert_eq!(rt; map.get(&id).map(|source| source.text()), Some(text));
         }
     }
-    Ok(is_refused)
+    is_refused
 }
 
 /// A function that answers every id.
@@ -63,14 +66,15 @@ fn got(_id: &&str) -> Result<&'static str, u8> {
 }
 
 /// Refuses the nth request of giving a cache sources, which drops it.
-fn try_given(rt: &(impl Abort + AllocGlobal), nth: usize) -> Result<bool, Fail>
+fn try_given(rt: &(impl Abort + AllocGlobal), nth: usize) -> bool
     requires { nth < 100000 }
 {
     let alloc = rt.alloc();
     let cache: FnCache<&str, _, &str> = FnCache::new(alloc, got);
     let mut given = HashMap::new(alloc);
     for id in ["a", "b", "c", "d"] {
-        given.insert(id, Source::from(alloc, "given")?)?;
+        let source = Source::from(alloc, "given").expect(rt, "memory");
+        assert!(rt; given.insert(id, source).is_ok());
     }
     refuse(alloc, nth);
     let cache = cache.with_sources(given);
@@ -80,25 +84,24 @@ fn try_given(rt: &(impl Abort + AllocGlobal), nth: usize) -> Result<bool, Fail>
             assert_eq!(rt; cache.get(&id).map(|source| source.text()), Some("given"));
         }
     }
-    Ok(is_refused)
+    is_refused
 }
 
 #[test]
-fn a_refused_source_is_an_error(rt: HostRuntime) -> Result<(), Fail> {
+fn a_refused_source_is_an_error(rt: HostRuntime) {
     for made in 0..4 {
         for nth in 1..MOST_REQUESTS {
             let is_refused = match made {
-                0 => try_source(&rt, nth)?,
-                1 => try_copy(&rt, nth)?,
-                2 => try_sources(&rt, nth)?,
-                _ => try_given(&rt, nth)?,
+                0 => try_source(&rt, nth),
+                1 => try_copy(&rt, nth),
+                2 => try_sources(&rt, nth),
+                _ => try_given(&rt, nth),
             };
             if !is_refused {
                 break;
             }
         }
     }
-    Ok(())
 }
 
 /// Whether a cache holds this text under an id, or none.
@@ -120,7 +123,7 @@ fn try_fetch<Id: Eq, C: Cache<Id>>(
     id: &Id,
     text: Option<&str>,
     nth: usize,
-) -> Result<bool, Fail>
+) -> bool
     requires can { C.can_fetch cache.old }
     requires few { nth < 100000 }
 {
@@ -142,12 +145,12 @@ fn try_fetch<Id: Eq, C: Cache<Id>>(
     let is_failed = matches!(answer, Err(FetchError::Failed(_)));
     assert_eq!(rt; is_failed, text.is_none(), "of {name} at request {nth}");
     assert!(rt; holds(cache, id, text), "of {name} at request {nth}");
-    Ok(is_refused)
+    is_refused
 }
 
 /// Refuses the nth request of a fetch from a function, by either call. The function is called at
 /// most once.
-fn try_function(rt: &(impl Abort + AllocGlobal), is_lent: bool, nth: usize) -> Result<bool, Fail>
+fn try_function(rt: &(impl Abort + AllocGlobal), is_lent: bool, nth: usize) -> bool
     requires { nth < 100000 }
 {
     let alloc = rt.alloc();
@@ -163,8 +166,8 @@ fn try_function(rt: &(impl Abort + AllocGlobal), is_lent: bool, nth: usize) -> R
             }
         },
     );
-    let held = "held".to_string(alloc)?;
-    let id = "x".to_string(alloc)?;
+    let held = "held".to_string(alloc).expect(rt, "memory");
+    let id = "x".to_string(alloc).expect(rt, "memory");
     assert!(rt; cache.ensure(&held).is_ok());
     calls.set(0);
     refuse(alloc, nth);
@@ -179,7 +182,7 @@ fn try_function(rt: &(impl Abort + AllocGlobal), is_lent: bool, nth: usize) -> R
     assert_eq!(rt; cache.get(&id).is_none(), is_refused, "at request {nth}");
     assert!(rt; cache.ensure(&id).is_ok(), "at request {nth}");
     assert!(rt; holds(&cache, &id, Some("got")), "at request {nth}");
-    Ok(is_refused)
+    is_refused
 }
 
 /// Refuses the nth request of a fetch from the files at two paths, by either kind of id.
@@ -189,7 +192,7 @@ fn try_files(
     id: &str,
     is_owned: bool,
     nth: usize,
-) -> Result<bool, Fail>
+) -> bool
     requires { nth < 100000 }
 {
     let alloc = rt.alloc();
@@ -198,19 +201,19 @@ fn try_files(
         assert!(rt; cache.ensure(&held).is_ok());
         return try_fetch(rt, "files", &mut cache, &held, &id, Some("got"), nth);
     }
-    let held = held.to_string(alloc)?;
-    let id = id.to_string(alloc)?;
+    let held = held.to_string(alloc).expect(rt, "memory");
+    let id = id.to_string(alloc).expect(rt, "memory");
     assert!(rt; cache.ensure(&held).is_ok());
     try_fetch(rt, "files", &mut cache, &held, &id, Some("got"), nth)
 }
 
 /// Refuses the nth request of a fetch of an id that a cache of one kind does not know.
-fn try_unknown(rt: &(impl Abort + AllocGlobal), kind: usize, nth: usize) -> Result<bool, Fail>
+fn try_unknown(rt: &(impl Abort + AllocGlobal), kind: usize, nth: usize) -> bool
     requires { nth < 100000 }
 {
     let alloc = rt.alloc();
     let (held, id) = (&"held", &"b");
-    let source = Source::from(alloc, "held")?;
+    let source = Source::from(alloc, "held").expect(rt, "memory");
     match kind {
         0 => try_fetch(rt, "a pair", &mut ("held", source), held, id, None, nth),
         1 => try_fetch(
@@ -223,7 +226,7 @@ fn try_unknown(rt: &(impl Abort + AllocGlobal), kind: usize, nth: usize) -> Resu
             nth,
         ),
         2 => {
-            let mut map = sources(alloc, [("held", "held")])?;
+            let mut map = sources(alloc, [("held", "held")]).expect(rt, "memory");
             try_fetch(rt, "a map", &mut map, held, id, None, nth)
         }
         3 => {
@@ -232,31 +235,34 @@ fn try_unknown(rt: &(impl Abort + AllocGlobal), kind: usize, nth: usize) -> Resu
             try_fetch(rt, "a lent pair", &mut lent, held, id, None, nth)
         }
         _ => {
-            let mut boxed = Box::new(alloc, ("held", source))?;
+            let mut boxed = Box::new(alloc, ("held", source)).expect(rt, "memory");
             try_fetch(rt, "a pair in a box", &mut boxed, held, id, None, nth)
         }
     }
 }
 
 #[test]
-fn a_refused_fetch_leaves_the_cache_as_it_was(rt: HostRuntime) -> Result<(), Fail> {
+fn a_refused_fetch_leaves_the_cache_as_it_was(rt: HostRuntime) {
     let alloc = rt.alloc();
-    let folder = env::temp_dir(&rt)?;
-    let held = folder.join(alloc, "ariadne_tests_held.txt")?;
-    let path = folder.join(alloc, "ariadne_tests_got.txt")?;
-    fs::write(&rt, held.as_path(), "held")?;
-    fs::write(&rt, path.as_path(), "got")?;
+    let folder = env::temp_dir(&rt).expect(&rt, "a folder");
+    let held = folder
+        .join(alloc, "ariadne_tests_held.txt")
+        .expect(&rt, "memory");
+    let path = folder
+        .join(alloc, "ariadne_tests_got.txt")
+        .expect(&rt, "memory");
+    fs::write(&rt, held.as_path(), "held").expect(&rt, "a file");
+    fs::write(&rt, path.as_path(), "got").expect(&rt, "a file");
     for kind in 0..9 {
         for nth in 1..MOST_REQUESTS {
             let is_refused = match kind {
-                0..=4 => try_unknown(&rt, kind, nth)?,
-                5 | 6 => try_function(&rt, kind == 5, nth)?,
-                _ => try_files(&rt, held.as_str(), path.as_str(), kind == 7, nth)?,
+                0..=4 => try_unknown(&rt, kind, nth),
+                5 | 6 => try_function(&rt, kind == 5, nth),
+                _ => try_files(&rt, held.as_str(), path.as_str(), kind == 7, nth),
             };
             if !is_refused {
                 break;
             }
         }
     }
-    Ok(())
 }

@@ -11,15 +11,16 @@ use std::alloc::AllocError;
 use std::io;
 use std::io::{ErrorKind, Write};
 use std::process::Abort;
-use std::test::Fail;
 
 /// The bytes of the picture.
 const LEN: usize = 223;
 
 /// The report that all writers get.
-fn apples(rt: &(impl Abort + AllocGlobal)) -> Result<Report<'static>, Fail> {
-    let builder = plain_error(rt.alloc()).with_message("can't compare apples with oranges")?;
-    Ok(labelled(rt, builder, &APPLE_LABELS)?)
+fn apples(rt: &(impl Abort + AllocGlobal)) -> Report<'static> {
+    let builder = plain_error(rt.alloc())
+        .with_message("can't compare apples with oranges")
+        .expect(rt, "memory");
+    labelled(rt, builder, &APPLE_LABELS)
 }
 
 /// A sink over such a writer.
@@ -127,116 +128,120 @@ fn broken_after(calls: usize) -> Stop {
 fn told<E: Drop>(
     rt: &impl Abort,
     answer: Result<Vec<LeftOut<E>>, WriteError>,
-) -> Result<Option<(usize, ErrorKind)>, Fail> {
+) -> Option<(usize, ErrorKind)> {
     match answer {
         Ok(left_out) => {
             assert!(rt; left_out.is_empty());
-            Ok(None)
+            None
         }
-        Err(WriteError::Io { sent, fault }) => Ok(Some((sent, fault.kind()))),
-        Err(WriteError::Memory(_)) => Err(Fail::from("no memory")),
+        Err(WriteError::Io { sent, fault }) => Some((sent, fault.kind())),
+        Err(WriteError::Memory(_)) => panic!(rt; "no memory"),
     }
 }
 
 /// Asserts that a writer holds what it is to hold, and met so many calls.
-fn assert_held(rt: &(impl Abort + AllocGlobal), out: &Taker, stop: &Stop) -> Result<(), Fail> {
+fn assert_held(rt: &(impl Abort + AllocGlobal), out: &Taker, stop: &Stop) {
     let name = stop.name;
-    let picture = joined(rt.alloc(), &APPLES)?;
+    let picture = joined(rt.alloc(), &APPLES).expect(rt, "memory");
     let bytes = picture.as_bytes();
     assert_eq!(rt; bytes.len(), LEN);
     let held = stop.held;
     assert!(rt; held <= bytes.len());
     assert_eq!(rt; out.held.as_slice(), &bytes[..held], "{name}, {held}");
     assert_eq!(rt; out.calls_left, stop.calls_left, "{name}, {held}");
-    Ok(())
 }
 
 /// Asserts what comes of a writer.
-fn assert_writer(rt: &(impl Abort + AllocGlobal), stop: &Stop) -> Result<(), Fail> {
+fn assert_writer(rt: &(impl Abort + AllocGlobal), stop: &Stop) {
     let name = stop.name;
     let mut out = Taker::narrow(rt.alloc(), stop.room, stop.calls, stop.fault);
-    let mut source = source_of(rt.alloc(), "apple == orange;")?;
-    let answer = apples(rt)?.write(&mut source, &mut out);
-    assert_eq!(rt; told(rt, answer)?, stop.want, "{name}");
+    let mut source = source_of(rt.alloc(), "apple == orange;").expect(rt, "memory");
+    let answer = apples(rt).write(&mut source, &mut out);
+    assert_eq!(rt; told(rt, answer), stop.want, "{name}");
     assert_held(rt, &out, stop)
 }
 
 /// Asserts the same of a sink, and that it has failed where it had before or does
 /// now, and else not.
-fn assert_sink(rt: &(impl Abort + AllocGlobal), stop: &Stop, had_failed: bool) -> Result<(), Fail> {
+fn assert_sink(rt: &(impl Abort + AllocGlobal), stop: &Stop, had_failed: bool) {
     let name = stop.name;
     let mut out = Drain {
         narrow: Taker::narrow(rt.alloc(), stop.room, stop.calls, stop.fault),
         met_fault: had_failed,
     };
-    let mut source = source_of(rt.alloc(), "apple == orange;")?;
-    let answer = apples(rt)?.write_to(&mut source, &mut out);
-    assert_eq!(rt; told(rt, answer)?, stop.want, "{name}");
+    let mut source = source_of(rt.alloc(), "apple == orange;").expect(rt, "memory");
+    let answer = apples(rt).write_to(&mut source, &mut out);
+    assert_eq!(rt; told(rt, answer), stop.want, "{name}");
     assert_eq!(rt; out.failed(), had_failed || stop.want.is_some(), "{name}");
     assert_held(rt, &out.narrow, stop)
 }
 
 #[test]
-fn a_writer_that_fails_holds_what_was_sent(rt: HostRuntime) -> Result<(), Fail> {
+fn a_writer_that_fails_holds_what_was_sent(rt: HostRuntime) {
     for calls in 0..LEN {
-        assert_writer(&rt, &broken_after(calls))?;
+        assert_writer(&rt, &broken_after(calls));
     }
     for stop in STOPS {
-        assert_writer(&rt, stop)?;
+        assert_writer(&rt, stop);
     }
-    Ok(())
 }
 
 #[test]
-fn a_sink_that_fails_holds_what_was_sent_and_has_failed(rt: HostRuntime) -> Result<(), Fail> {
+fn a_sink_that_fails_holds_what_was_sent_and_has_failed(rt: HostRuntime) {
     for calls in 0..LEN {
-        assert_sink(&rt, &broken_after(calls), false)?;
+        assert_sink(&rt, &broken_after(calls), false);
     }
     for stop in STOPS {
-        assert_sink(&rt, stop, false)?;
+        assert_sink(&rt, stop, false);
         // One that had failed before has failed still, also where it takes all.
-        assert_sink(&rt, stop, true)?;
+        assert_sink(&rt, stop, true);
     }
-    Ok(())
 }
 
 #[test]
-fn for_standard_output_the_same_is_written(rt: HostRuntime) -> Result<(), Fail> {
-    let picture = joined(rt.alloc(), &APPLES)?;
-    let mut source = source_of(rt.alloc(), "apple == orange;")?;
+fn for_standard_output_the_same_is_written(rt: HostRuntime) {
+    let picture = joined(rt.alloc(), &APPLES).expect(&rt, "memory");
+    let mut source = source_of(rt.alloc(), "apple == orange;").expect(&rt, "memory");
     let mut out = Taker::narrow(rt.alloc(), 7, LEN, None);
-    let left_out = apples(&rt)?.write_for_stdout(&mut source, &mut out)?;
+    let left_out = apples(&rt)
+        .write_for_stdout(&mut source, &mut out)
+        .expect(&rt, "a picture");
     assert!(rt; left_out.is_empty());
     assert_eq!(rt; out.held.as_slice(), picture.as_bytes());
     let mut out = Taker::narrow(rt.alloc(), 1, 7, Some(ErrorKind::BrokenPipe));
-    let answer = apples(&rt)?.write_for_stdout(&mut source, &mut out);
+    let answer = apples(&rt).write_for_stdout(&mut source, &mut out);
     assert!(rt; matches!(answer, Err(WriteError::Io { sent: 7, .. })));
     assert_eq!(rt; out.held.as_slice(), b"Error: ".as_slice());
-    Ok(())
 }
 
 #[test]
-fn the_same_picture_is_printed(rt: HostRuntime) -> Result<(), Fail> {
-    let mut source = source_of(rt.alloc(), "ab")?;
-    let report = labelled(&rt, plain_error(rt.alloc()), &[(0, 2, "x"), (0, 9, "z")])?;
-    let left_out = report.print(&mut source, &rt)?;
-    assert_left_out(&left_out, &[(1, Why::PastSource)])?;
-    let left_out = report.eprint(&mut source, rt.stderr())?;
-    assert_left_out(&left_out, &[(1, Why::PastSource)])?;
-    Ok(())
+fn the_same_picture_is_printed(rt: HostRuntime) {
+    let mut source = source_of(rt.alloc(), "ab").expect(&rt, "memory");
+    let report = labelled(&rt, plain_error(rt.alloc()), &[(0, 2, "x"), (0, 9, "z")]);
+    let left_out = report.print(&mut source, &rt).expect(&rt, "a picture");
+    assert_left_out(&rt, &left_out, &[(1, Why::PastSource)]);
+    let left_out = report
+        .eprint(&mut source, rt.stderr())
+        .expect(&rt, "memory");
+    assert_left_out(&rt, &left_out, &[(1, Why::PastSource)]);
 }
 
 #[test]
-fn errors_say_how_many_bytes_were_sent(rt: HostRuntime) -> Result<(), Fail> {
+fn errors_say_how_many_bytes_were_sent(rt: HostRuntime) {
     let error = WriteError::from(AllocError);
-    assert_eq!(rt; error.to_string(rt.alloc())?.as_str(), "no memory");
+    assert_eq!(rt;
+        error.to_string(rt.alloc()).expect(&rt, "memory").as_str(),
+        "no memory"
+    );
     for (sent, want) in [
         (0, "write failed after 0 bytes"),
         (222, "write failed after 222 bytes"),
     ] {
         let fault = io::Error::from(ErrorKind::Interrupted);
         let error = WriteError::Io { sent, fault };
-        assert_eq!(rt; error.to_string(rt.alloc())?.as_str(), want);
+        assert_eq!(rt;
+            error.to_string(rt.alloc()).expect(&rt, "memory").as_str(),
+            want
+        );
     }
-    Ok(())
 }

@@ -6,34 +6,36 @@ use ariadne_asserts::asserts::{
 };
 use std::alloc::{AllocError, Global};
 use std::process::Abort;
-use std::test::Fail;
 
 #[test]
-fn a_span_up_to_the_greatest_offset_is_past_its_source(rt: HostRuntime) -> Result<(), Fail> {
-    let mut source = source_of(rt.alloc(), "ab")?;
+fn a_span_up_to_the_greatest_offset_is_past_its_source(rt: HostRuntime) {
+    let mut source = source_of(rt.alloc(), "ab").expect(&rt, "memory");
     let builder = Report::build(rt.alloc(), ReportKind::Error, 0..=usize::MAX);
     let builder = builder.with_config(plain());
-    let report = builder.with_label(Label::new(0..=usize::MAX))?.finish();
-    let (picture, left_out) = written(&rt, &report, &mut source)?;
-    assert_left_out(&left_out, &[(0, Why::PastSource)])?;
+    let report = builder
+        .with_label(Label::new(0..=usize::MAX))
+        .expect(&rt, "memory")
+        .finish();
+    let (picture, left_out) = written(&rt, &report, &mut source);
+    assert_left_out(&rt, &left_out, &[(0, Why::PastSource)]);
     assert_eq!(rt; picture.as_str(), "Error: \n");
-    Ok(())
 }
 
 #[test]
-fn the_greatest_tab_is_want_of_memory(rt: HostRuntime) -> Result<(), Fail> {
+fn the_greatest_tab_is_want_of_memory(rt: HostRuntime) {
     let alloc = rt.alloc();
     for config in [plain(), plain().with_compact(true), Config::new()] {
-        let label = Label::new(1..2).with_message(alloc, "m")?;
+        let label = Label::new(1..2)
+            .with_message(alloc, "m")
+            .expect(&rt, "memory");
         let builder = plain_error(alloc).with_config(config.with_tab_width(usize::MAX));
-        let report = builder.with_label(label)?.finish();
-        let mut source = source_of(alloc, "\tx")?;
+        let report = builder.with_label(label).expect(&rt, "memory").finish();
+        let mut source = source_of(alloc, "\tx").expect(&rt, "memory");
         let mut out = Vec::new(alloc);
         let answer = report.write(&mut source, &mut out);
         assert!(rt; matches!(answer, Err(WriteError::Memory(_))));
         assert!(rt; out.is_empty());
     }
-    Ok(())
 }
 
 /// A text of one character, so many times.
@@ -51,9 +53,12 @@ fn labelled_at<'a>(
     builder: ReportBuilder<'a>,
     (start, end): (usize, usize),
     message: &str,
-) -> Result<ReportBuilder<'a>, AllocError> {
+) -> ReportBuilder<'a> {
     assert!(rt; start <= end);
-    builder.with_label(Label::new(start..end).with_message(rt.alloc(), message)?)
+    let label = Label::new(start..end)
+        .with_message(rt.alloc(), message)
+        .expect(rt, "memory");
+    builder.with_label(label).expect(rt, "memory")
 }
 
 /// Asserts that over a text a report leaves no label out, and that its picture has these rows below
@@ -63,45 +68,49 @@ fn assert_drawn(
     builder: ReportBuilder<'_>,
     text: &str,
     drawn: &[&str],
-) -> Result<(), Fail> {
-    let mut rows = vec![in rt.alloc(); "Error:", "   ,-[ <unknown>:1:1 ]", "   |"]?;
-    rows.extend_from_slice(drawn)?;
-    rows.push("---'")?;
-    let mut source = source_of(rt.alloc(), text)?;
-    let (picture, left_out) = written(rt, &builder.finish(), &mut source)?;
-    assert_left_out(&left_out, &[])?;
+) {
+    let mut rows = vec![in rt.alloc(); "Error:", "   ,-[ <unknown>:1:1 ]", "   |"].expect(
+        rt, "memory",
+    );
+    rows.extend_from_slice(drawn).expect(rt, "memory");
+    rows.push("---'").expect(rt, "memory");
+    let mut source = source_of(rt.alloc(), text).expect(rt, "memory");
+    let (picture, left_out) = written(rt, &builder.finish(), &mut source);
+    assert_left_out(rt, &left_out, &[]);
     assert_trimmed(rt, picture.as_str(), &rows)
 }
 
 #[test]
-fn ten_thousand_labels_on_a_character_are_drawn(rt: HostRuntime) -> Result<(), Fail> {
+fn ten_thousand_labels_on_a_character_are_drawn(rt: HostRuntime) {
     let mut builder = plain_error(rt.alloc());
-    let mut rows = vec![in rt.alloc(); " 1 | x"]?;
+    let mut rows = vec![in rt.alloc(); " 1 | x"].expect(&rt, "memory");
     for _ in 0..10_000 {
-        builder = labelled_at(&rt, builder, (0, 1), "m")?;
-        rows.push("   | |")?;
-        rows.push("   | `-- m")?;
+        builder = labelled_at(&rt, builder, (0, 1), "m");
+        rows.push("   | |").expect(&rt, "memory");
+        rows.push("   | `-- m").expect(&rt, "memory");
     }
     assert_drawn(&rt, builder, "x", &rows)
 }
 
 #[test]
-fn ten_thousand_nested_labels_are_drawn(rt: HostRuntime) -> Result<(), Fail> {
+fn ten_thousand_nested_labels_are_drawn(rt: HostRuntime) {
     let alloc = rt.alloc();
-    let mut builder = labelled_at(&rt, plain_error(alloc), (10_000, 10_001), "inmost")?;
+    let mut builder = labelled_at(&rt, plain_error(alloc), (10_000, 10_001), "inmost");
     for margin in 0..10_000usize {
         let (start, end) = (margin, 20_001usize.saturating_sub(margin));
         assert!(rt; start <= end);
-        builder = builder.with_label(Label::new(start..end))?;
+        builder = builder
+            .with_label(Label::new(start..end))
+            .expect(&rt, "memory");
     }
-    let text = filled(alloc, 'x', 20_001)?;
-    let line = filled(alloc, '^', 10_000)?;
-    let blanks = filled(alloc, ' ', 10_000)?;
-    let strokes = filled(alloc, '-', 10_002)?;
+    let text = filled(alloc, 'x', 20_001).expect(&rt, "memory");
+    let line = filled(alloc, '^', 10_000).expect(&rt, "memory");
+    let blanks = filled(alloc, ' ', 10_000).expect(&rt, "memory");
+    let strokes = filled(alloc, '-', 10_002).expect(&rt, "memory");
     let rows = [
-        format!(in alloc; " 1 | {text}")?,
-        format!(in alloc; "   | {line}|{line}")?,
-        format!(in alloc; "   | {blanks}`{strokes} inmost")?,
+        format!(in alloc; " 1 | {text}").expect(&rt, "memory"),
+        format!(in alloc; "   | {line}|{line}").expect(&rt, "memory"),
+        format!(in alloc; "   | {blanks}`{strokes} inmost").expect(&rt, "memory"),
     ];
     assert_drawn(
         &rt,
@@ -112,15 +121,15 @@ fn ten_thousand_nested_labels_are_drawn(rt: HostRuntime) -> Result<(), Fail> {
 }
 
 #[test]
-fn a_line_of_a_million_characters_is_drawn(rt: HostRuntime) -> Result<(), Fail> {
+fn a_line_of_a_million_characters_is_drawn(rt: HostRuntime) {
     let alloc = rt.alloc();
-    let builder = labelled_at(&rt, plain_error(alloc), (999_999, 1_000_000), "m")?;
-    let text = filled(alloc, 'x', 1_000_000)?;
-    let blanks = filled(alloc, ' ', 999_999)?;
+    let builder = labelled_at(&rt, plain_error(alloc), (999_999, 1_000_000), "m");
+    let text = filled(alloc, 'x', 1_000_000).expect(&rt, "memory");
+    let blanks = filled(alloc, ' ', 999_999).expect(&rt, "memory");
     let rows = [
-        format!(in alloc; " 1 | {text}")?,
-        format!(in alloc; "   | {blanks}|")?,
-        format!(in alloc; "   | {blanks}`-- m")?,
+        format!(in alloc; " 1 | {text}").expect(&rt, "memory"),
+        format!(in alloc; "   | {blanks}|").expect(&rt, "memory"),
+        format!(in alloc; "   | {blanks}`-- m").expect(&rt, "memory"),
     ];
     assert_drawn(
         &rt,
@@ -131,10 +140,10 @@ fn a_line_of_a_million_characters_is_drawn(rt: HostRuntime) -> Result<(), Fail> 
 }
 
 #[test]
-fn a_message_of_a_million_bytes_is_drawn(rt: HostRuntime) -> Result<(), Fail> {
+fn a_message_of_a_million_bytes_is_drawn(rt: HostRuntime) {
     let alloc = rt.alloc();
-    let message = filled(alloc, 'm', 1_000_000)?;
-    let builder = labelled_at(&rt, plain_error(alloc), (0, 1), message.as_str())?;
-    let row = format!(in alloc; "   | `-- {message}")?;
+    let message = filled(alloc, 'm', 1_000_000).expect(&rt, "memory");
+    let builder = labelled_at(&rt, plain_error(alloc), (0, 1), message.as_str());
+    let row = format!(in alloc; "   | `-- {message}").expect(&rt, "memory");
     assert_drawn(&rt, builder, "x", &[" 1 | x", "   | |", row.as_str()])
 }

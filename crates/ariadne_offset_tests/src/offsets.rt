@@ -6,7 +6,6 @@ use ariadne::{CharSet, Config, IndexType, Label, Report};
 use ariadne_asserts::asserts::{Why, assert_missing, plain, plain_error, source_of, written};
 use std::alloc::{AllocError, Global};
 use std::process::Abort;
-use std::test::Fail;
 
 /// A text, and what comes of a label between each two offsets of which the second is at most two
 /// past the text.
@@ -163,23 +162,22 @@ impl Round {
         }
     }
 
-    fn report(
-        &self,
-        rt: &(impl Abort + AllocGlobal),
-        start: usize,
-        end: usize,
-    ) -> Result<Report<'static>, AllocError> {
+    fn report(&self, rt: &(impl Abort + AllocGlobal), start: usize, end: usize) -> Report<'static> {
         assert!(rt; start <= end);
-        let label = Label::new(start..end).with_message(rt.alloc(), "m")?;
+        let label = Label::new(start..end)
+            .with_message(rt.alloc(), "m")
+            .expect(rt, "memory");
         let builder = plain_error(rt.alloc()).with_config(self.config());
-        let mut builder = builder.with_label(label)?;
+        let mut builder = builder.with_label(label).expect(rt, "memory");
         if let Some((start, end)) = self.other {
             let (start, end) = (self.offset(start), self.offset(end));
             assert!(rt; start <= end);
-            let label = Label::new(start..end).with_message(rt.alloc(), "other")?;
-            builder = builder.with_label(label)?;
+            let label = Label::new(start..end)
+                .with_message(rt.alloc(), "other")
+                .expect(rt, "memory");
+            builder = builder.with_label(label).expect(rt, "memory");
         }
-        Ok(builder.finish())
+        builder.finish()
     }
 }
 
@@ -188,29 +186,31 @@ fn assert_pair(
     rt: &(impl Abort + AllocGlobal),
     round: &Round,
     (start, end): (usize, usize),
-) -> Result<Option<Why>, Fail> {
+) -> Option<Why> {
     let alloc = rt.alloc();
     let text = &round.every.text;
-    let mut source = source_of(alloc, text.text)?;
-    let report = round.report(rt, start, end)?;
-    let (picture, left_out) = written(rt, &report, &mut source)?;
+    let mut source = source_of(alloc, text.text).expect(rt, "memory");
+    let report = round.report(rt, start, end);
+    let (picture, left_out) = written(rt, &report, &mut source);
     let reason = round.reason(start, end);
     let mut wanted = Vec::new(alloc);
     let mut labels = Vec::new(alloc);
     let mut messages = Vec::new(alloc);
     match reason {
-        Some(why) => wanted.push((0, why))?,
+        Some(why) => wanted.push((0, why)).expect(rt, "memory"),
         None => {
-            labels.push(text.reach(round.characters(start), round.characters(end)))?;
-            messages.push("m")?;
+            labels
+                .push(text.reach(round.characters(start), round.characters(end)))
+                .expect(rt, "memory");
+            messages.push("m").expect(rt, "memory");
         }
     }
     if let Some((start, end)) = round.other {
-        labels.push(text.reach(start, end))?;
-        messages.push("other")?;
+        labels.push(text.reach(start, end)).expect(rt, "memory");
+        messages.push("other").expect(rt, "memory");
     }
-    let name = format!(in alloc; "{start}..{end} of {:?}", text.text)?;
-    assert_missing(name.as_str(), &left_out, &wanted)?;
+    let name = format!(in alloc; "{start}..{end} of {:?}", text.text).expect(rt, "memory");
+    assert_missing(rt, name.as_str(), &left_out, &wanted);
     assert_reckoned(
         rt,
         name.as_str(),
@@ -218,8 +218,8 @@ fn assert_pair(
         (text, &round.form),
         &labels,
         &messages,
-    )?;
-    Ok(reason)
+    );
+    reason
 }
 
 /// All pairs of offsets, the first at most the second, and that at most two past a length.
@@ -234,10 +234,10 @@ fn pairs(alloc: Global, len: usize) -> Result<Vec<(usize, usize)>, AllocError> {
 }
 
 /// Asserts what comes of all labels of a round, and how many of them are drawn and left out.
-fn assert_round(rt: &(impl Abort + AllocGlobal), round: &Round) -> Result<(), Fail> {
+fn assert_round(rt: &(impl Abort + AllocGlobal), round: &Round) {
     let (mut drawn, mut past, mut cuts) = (0usize, 0usize, 0usize);
-    for pair in pairs(rt.alloc(), round.len())? {
-        match assert_pair(rt, round, pair)? {
+    for pair in pairs(rt.alloc(), round.len()).expect(rt, "memory") {
+        match assert_pair(rt, round, pair) {
             None => drawn = drawn.saturating_add(1),
             Some(Why::CutsCharacter) => cuts = cuts.saturating_add(1),
             Some(_) => past = past.saturating_add(1),
@@ -251,11 +251,10 @@ fn assert_round(rt: &(impl Abort + AllocGlobal), round: &Round) -> Result<(), Fa
         if round.is_bytes { round.every.cuts } else { 0 },
         "of {text:?}"
     );
-    Ok(())
 }
 
 /// Asserts the same of each text, with each other label, and without one.
-fn assert_every(rt: &(impl Abort + AllocGlobal), form: Form, is_bytes: bool) -> Result<(), Fail> {
+fn assert_every(rt: &(impl Abort + AllocGlobal), form: Form, is_bytes: bool) {
     for every in &EVERY {
         let mut round = Round {
             every: *every,
@@ -263,13 +262,12 @@ fn assert_every(rt: &(impl Abort + AllocGlobal), form: Form, is_bytes: bool) -> 
             is_bytes,
             other: None,
         };
-        assert_round(rt, &round)?;
+        assert_round(rt, &round);
         for other in every.others {
             round.other = Some(*other);
-            assert_round(rt, &round)?;
+            assert_round(rt, &round);
         }
     }
-    Ok(())
 }
 
 /// The form of a picture that is not told otherwise.
@@ -285,13 +283,13 @@ const NARROW: Form = Form {
 };
 
 #[test]
-fn every_pair_of_characters_is_drawn_or_left_out(rt: HostRuntime) -> Result<(), Fail> {
-    assert_every(&rt, WIDE, false)?;
+fn every_pair_of_characters_is_drawn_or_left_out(rt: HostRuntime) {
+    assert_every(&rt, WIDE, false);
     assert_every(&rt, NARROW, false)
 }
 
 #[test]
-fn every_pair_of_bytes_is_drawn_or_left_out(rt: HostRuntime) -> Result<(), Fail> {
-    assert_every(&rt, WIDE, true)?;
+fn every_pair_of_bytes_is_drawn_or_left_out(rt: HostRuntime) {
+    assert_every(&rt, WIDE, true);
     assert_every(&rt, NARROW, true)
 }

@@ -2,7 +2,6 @@
 //! thousands of pictures can be compared. Each label has a message, and all have one order.
 
 use std::process::Abort;
-use std::test::Fail;
 
 /// How a picture is drawn.
 #[derive(Clone, Copy)]
@@ -276,16 +275,15 @@ fn assert_stands(
     picture: &str,
     (row, column): (usize, usize),
     message: &str,
-) -> Result<(), Fail> {
+) {
     let Some(found) = picture.split_terminator('\n').nth(row) else {
-        return Err(Fail::from("no such row"));
+        panic!(rt; "no such row");
     };
     let Some(before) = found.strip_suffix(message) else {
-        return Err(Fail::from("no message ends the row"));
+        panic!(rt; "no message ends the row");
     };
     // No character of such a row has two columns.
     assert_eq!(rt; before.chars().count(), column, "of {name}, {message}");
-    Ok(())
 }
 
 /// Asserts that a picture has as many rows as are reckoned of its labels, and that each message
@@ -297,7 +295,7 @@ pub(crate) fn assert_reckoned(
     (text, form): (&Text, &Form),
     labels: &[Reach],
     messages: &[&str],
-) -> Result<(), Fail> {
+) {
     // Of two labels the second is in a group of its own where it ends before the first.
     let size = match labels {
         [first, second] if second.last < first.last => 1,
@@ -308,10 +306,9 @@ pub(crate) fn assert_reckoned(
         let group = Group { text, form, labels };
         for (at, message) in messages.iter().enumerate() {
             let row = above.saturating_add(group.row(at));
-            assert_stands(rt, name, picture, (row, group.column(at)), message)?;
+            assert_stands(rt, name, picture, (row, group.column(at)), message);
         }
         above = above.saturating_add(group.rows());
     }
     assert_eq!(rt; picture.split_terminator('\n').count(), above, "of {name}");
-    Ok(())
 }

@@ -18,7 +18,6 @@ use std::cell::Cell;
 use std::collections::HashMap;
 use std::process::Abort;
 use std::rc::RcStr;
-use std::test::Fail;
 use std::{env, fs};
 
 /// The picture of two labels in the source `ab` of `x`.
@@ -46,7 +45,7 @@ const SECOND: [&str; 7] = [
 ];
 
 /// The report with the two labels on `x`.
-fn two_labels(rt: &(impl Abort + AllocGlobal)) -> Result<Report<'static, Piece>, AllocError> {
+fn two_labels(rt: &(impl Abort + AllocGlobal)) -> Report<'static, Piece> {
     let builder = plain_error_at(rt.alloc(), ("x", 0..0));
     labelled_in(rt, builder, &[("x", 0, 1, "p"), ("x", 1, 2, "q")])
 }
@@ -171,7 +170,7 @@ impl Counted {
 }
 
 /// Asserts what comes of a function.
-fn assert_called(rt: &(impl Abort + AllocGlobal), faulty: &'static Faulty) -> Result<(), Fail> {
+fn assert_called(rt: &(impl Abort + AllocGlobal), faulty: &'static Faulty) {
     let name = faulty.name;
     let counted = Counted {
         calls: Cell::new(0),
@@ -181,30 +180,26 @@ fn assert_called(rt: &(impl Abort + AllocGlobal), faulty: &'static Faulty) -> Re
         rt.alloc(),
         |_id: &&str| -> Result<&str, u8> { counted.answer() },
     );
-    let report = two_labels(rt)?;
+    let report = two_labels(rt);
     for round in faulty.rounds {
-        let (picture, left_out) = written(rt, &report, &mut cache)?;
-        assert_shown(rt, name, picture.as_str(), round.rows, round.is_whole)?;
-        assert_missing(name, &left_out, round.left_out)?;
+        let (picture, left_out) = written(rt, &report, &mut cache);
+        assert_shown(rt, name, picture.as_str(), round.rows, round.is_whole);
+        assert_missing(rt, name, &left_out, round.left_out);
         assert_told(rt, name, &left_out, round.told);
         assert_eq!(rt; counted.calls.get(), round.calls, "of {name}");
     }
     assert_eq!(rt; cache.get(&"x").is_some(), faulty.is_held, "of {name}");
-    Ok(())
 }
 
 #[test]
-fn a_function_is_called_until_it_answers(rt: HostRuntime) -> Result<(), Fail> {
+fn a_function_is_called_until_it_answers(rt: HostRuntime) {
     for faulty in FAULTY {
-        assert_called(&rt, faulty)?;
+        assert_called(&rt, faulty);
     }
-    Ok(())
 }
 
 #[test]
-fn the_sources_of_labels_are_fetched_and_that_of_the_report_is_not(
-    rt: HostRuntime,
-) -> Result<(), Fail> {
+fn the_sources_of_labels_are_fetched_and_that_of_the_report_is_not(rt: HostRuntime) {
     let calls = Cell::new(0u8);
     let mut cache: FnCache<&str, _, &str> = FnCache::new(
         rt.alloc(),
@@ -214,7 +209,7 @@ fn the_sources_of_labels_are_fetched_and_that_of_the_report_is_not(
         },
     );
     let builder = plain_error_at(rt.alloc(), ("r", 0..0));
-    let report = labelled_in(&rt, builder, &[("z", 0, 1, "l"), ("x", 0, 1, "m")])?;
+    let report = labelled_in(&rt, builder, &[("z", 0, 1, "l"), ("x", 0, 1, "m")]);
     let rows = [
         "Error:",
         "   ,-[ x:1:1 ]",
@@ -224,54 +219,67 @@ fn the_sources_of_labels_are_fetched_and_that_of_the_report_is_not(
         "   | `-- m",
         "---'",
     ];
-    assert_picture_over(&rt, &report, &mut cache, &[(0, Why::Unfetched)], &rows)?;
+    assert_picture_over(&rt, &report, &mut cache, &[(0, Why::Unfetched)], &rows);
     assert_eq!(rt; calls.get(), 2);
     assert!(rt; cache.get(&"x").is_some());
     assert!(rt; cache.get(&"z").is_none());
     assert!(rt; cache.get(&"r").is_none());
-    Ok(())
 }
 
 #[test]
-fn a_report_is_drawn_alike_over_each_cache_of_its_source(rt: HostRuntime) -> Result<(), Fail> {
+fn a_report_is_drawn_alike_over_each_cache_of_its_source(rt: HostRuntime) {
     let alloc = rt.alloc();
-    let report = two_labels(&rt)?;
-    let mut map = sources(alloc, [("x", "ab")])?;
-    assert_picture_over(&rt, &report, &mut map, &[], &TWO)?;
-    assert_picture_over(&rt, &report, &mut (&mut map), &[], &TWO)?;
-    assert_picture_over(&rt, &report, &mut Box::new(alloc, map)?, &[], &TWO)?;
-    let source = Source::from(alloc, "ab")?;
-    assert_picture_over(&rt, &report, &mut ("x", &source), &[], &TWO)?;
-    assert_picture_over(&rt, &report, &mut ("x", source), &[], &TWO)?;
+    let report = two_labels(&rt);
+    let mut map = sources(alloc, [("x", "ab")]).expect(&rt, "memory");
+    assert_picture_over(&rt, &report, &mut map, &[], &TWO);
+    assert_picture_over(&rt, &report, &mut (&mut map), &[], &TWO);
+    assert_picture_over(
+        &rt,
+        &report,
+        &mut Box::new(alloc, map).expect(&rt, "memory"),
+        &[],
+        &TWO,
+    );
+    let source = Source::from(alloc, "ab").expect(&rt, "memory");
+    assert_picture_over(&rt, &report, &mut ("x", &source), &[], &TWO);
+    assert_picture_over(&rt, &report, &mut ("x", source), &[], &TWO);
     // Sources that were given are drawn without a call.
     let cache: FnCache<&str, _, &str> = FnCache::new(alloc, |_id: &&str| -> Result<&str, ()> {
         Err(())
     });
     let mut given = HashMap::new(alloc);
-    given.insert("x", Source::from(alloc, "ab")?)?;
-    let mut cache = cache.with_sources(given)?;
+    let source = Source::from(alloc, "ab").expect(&rt, "memory");
+    assert!(rt; given.insert("x", source).is_ok());
+    let mut cache = cache.with_sources(given).expect(&rt, "memory");
     assert_picture_over(&rt, &report, &mut cache, &[], &TWO)
 }
 
 #[test]
-fn a_source_without_a_name_is_unknown(rt: HostRuntime) -> Result<(), Fail> {
+fn a_source_without_a_name_is_unknown(rt: HostRuntime) {
     let alloc = rt.alloc();
-    let report = labelled(&rt, plain_error(alloc), &[(0, 1, "p"), (1, 2, "q")])?;
+    let report = labelled(&rt, plain_error(alloc), &[(0, 1, "p"), (1, 2, "q")]);
     let mut rows = TWO;
     rows[1] = "   ,-[ <unknown>:1:1 ]";
-    let mut shared = Source::from(alloc, RcStr::from_str(alloc, "ab")?)?;
-    assert_picture_over(&rt, &report, &mut shared, &[], &rows)?;
-    let mut source = Source::from(alloc, "ab")?;
-    assert_picture_over(&rt, &report, &mut (&source), &[], &rows)?;
+    let mut shared = Source::from(alloc, RcStr::from_str(alloc, "ab").expect(&rt, "memory")).expect(
+        &rt, "memory",
+    );
+    assert_picture_over(&rt, &report, &mut shared, &[], &rows);
+    let mut source = Source::from(alloc, "ab").expect(&rt, "memory");
+    assert_picture_over(&rt, &report, &mut (&source), &[], &rows);
     assert_picture_over(&rt, &report, &mut source, &[], &rows)
 }
 
 #[test]
-fn ids_may_be_strings(rt: HostRuntime) -> Result<(), Fail> {
+fn ids_may_be_strings(rt: HostRuntime) {
     let alloc = rt.alloc();
-    let label = Label::new(("x".to_string(alloc)?, 0..2)).with_message(alloc, "m")?;
-    let start = ("x".to_string(alloc)?, 1..1);
-    let report = plain_error_at(alloc, start).with_label(label)?.finish();
+    let label = Label::new(("x".to_string(alloc).expect(&rt, "memory"), 0..2))
+        .with_message(alloc, "m")
+        .expect(&rt, "memory");
+    let start = ("x".to_string(alloc).expect(&rt, "memory"), 1..1);
+    let report = plain_error_at(alloc, start)
+        .with_label(label)
+        .expect(&rt, "memory")
+        .finish();
     let rows = [
         "Error:",
         "   ,-[ x:1:2 ]",
@@ -281,38 +289,57 @@ fn ids_may_be_strings(rt: HostRuntime) -> Result<(), Fail> {
         "   |  `-- m",
         "---'",
     ];
-    let mut map = sources(alloc, [("x".to_string(alloc)?, "ab".to_string(alloc)?)])?;
+    let mut map = sources(
+        alloc,
+        [(
+            "x".to_string(alloc).expect(&rt, "memory"),
+            "ab".to_string(alloc).expect(&rt, "memory"),
+        )],
+    )
+    .expect(&rt, "memory");
     assert_picture_over(&rt, &report, &mut map, &[], &rows)
 }
 
 #[test]
-fn an_inclusive_span_holds_its_last_offset(rt: HostRuntime) -> Result<(), Fail> {
+fn an_inclusive_span_holds_its_last_offset(rt: HostRuntime) {
     let alloc = rt.alloc();
-    let mut map = sources(alloc, [("x", "ab")])?;
-    let last = Label::new(("x", 1..=1)).with_message(alloc, "q")?;
-    let report = plain_error_at(alloc, ("x", 0..=0)).with_label(last)?;
-    assert_picture_over(&rt, &report.finish(), &mut map, &[], &SECOND)?;
-    let far = Label::new(("x", 0..=usize::MAX)).with_message(alloc, "q")?;
-    let report = plain_error_at(alloc, ("x", 0..=0)).with_label(far)?;
+    let mut map = sources(alloc, [("x", "ab")]).expect(&rt, "memory");
+    let last = Label::new(("x", 1..=1))
+        .with_message(alloc, "q")
+        .expect(&rt, "memory");
+    let report = plain_error_at(alloc, ("x", 0..=0))
+        .with_label(last)
+        .expect(&rt, "memory");
+    assert_picture_over(&rt, &report.finish(), &mut map, &[], &SECOND);
+    let far = Label::new(("x", 0..=usize::MAX))
+        .with_message(alloc, "q")
+        .expect(&rt, "memory");
+    let report = plain_error_at(alloc, ("x", 0..=0))
+        .with_label(far)
+        .expect(&rt, "memory");
     let left_out = [(0, Why::PastSource)];
-    assert_picture_over(&rt, &report.finish(), &mut map, &left_out, &["Error:"])?;
-    let mut source = Source::from(alloc, "ab")?;
-    let last = Label::new(1..=1).with_message(alloc, "q")?;
-    let report = plain_error_at(alloc, 0..=0).with_label(last)?;
+    assert_picture_over(&rt, &report.finish(), &mut map, &left_out, &["Error:"]);
+    let mut source = Source::from(alloc, "ab").expect(&rt, "memory");
+    let last = Label::new(1..=1)
+        .with_message(alloc, "q")
+        .expect(&rt, "memory");
+    let report = plain_error_at(alloc, 0..=0)
+        .with_label(last)
+        .expect(&rt, "memory");
     let mut rows = SECOND;
     rows[1] = "   ,-[ <unknown>:1:1 ]";
     assert_picture_over(&rt, &report.finish(), &mut source, &[], &rows)
 }
 
 #[test]
-fn a_pair_has_no_source_of_another_id(rt: HostRuntime) -> Result<(), Fail> {
+fn a_pair_has_no_source_of_another_id(rt: HostRuntime) {
     let alloc = rt.alloc();
     let builder = plain_error_at(alloc, ("a", 0..0));
-    let report = labelled_in(&rt, builder, &[("b", 0, 1, "m")])?;
-    let mut pair = ("a", Source::from(alloc, "ab")?);
-    let (picture, left_out) = written(&rt, &report, &mut pair)?;
+    let report = labelled_in(&rt, builder, &[("b", 0, 1, "m")]);
+    let mut pair = ("a", Source::from(alloc, "ab").expect(&rt, "memory"));
+    let (picture, left_out) = written(&rt, &report, &mut pair);
     assert_eq!(rt; picture.as_str(), "Error: \n");
-    assert_left_out(&left_out, &[(0, Why::Unfetched)])?;
+    assert_left_out(&rt, &left_out, &[(0, Why::Unfetched)]);
     assert_unknown(
         &rt,
         "the report",
@@ -356,13 +383,13 @@ impl<'s> Cache<&'s str> for Discreet<'s> {
 }
 
 #[test]
-fn a_cache_of_the_callers_own_may_show_no_name(rt: HostRuntime) -> Result<(), Fail> {
+fn a_cache_of_the_callers_own_may_show_no_name(rt: HostRuntime) {
     let alloc = rt.alloc();
-    let map = sources(alloc, [("x", "ab"), ("y", "c")])?;
+    let map = sources(alloc, [("x", "ab"), ("y", "c")]).expect(&rt, "memory");
     let mut cache = Discreet { map, hidden: "x" };
     let builder = plain_error_at(alloc, ("x", 0..0));
     let labels = [("x", 1, 2, "q"), ("y", 0, 1, "m"), ("z", 0, 1, "l")];
-    let report = labelled_in(&rt, builder, &labels)?;
+    let report = labelled_in(&rt, builder, &labels);
     assert_picture_over(
         &rt,
         &report,
@@ -410,7 +437,7 @@ impl Hesitant {
 }
 
 #[test]
-fn each_id_that_failed_is_asked_for_again(rt: HostRuntime) -> Result<(), Fail> {
+fn each_id_that_failed_is_asked_for_again(rt: HostRuntime) {
     let hesitant = Hesitant {
         has_asked_x: Cell::new(false),
         has_asked_y: Cell::new(false),
@@ -426,7 +453,7 @@ fn each_id_that_failed_is_asked_for_again(rt: HostRuntime) -> Result<(), Fail> {
         ("x", 1, 2, "q"),
         ("y", 1, 2, "q"),
     ];
-    let report = labelled_in(&rt, builder, &labels)?;
+    let report = labelled_in(&rt, builder, &labels);
     let rows = [
         "Error:",
         "   ,-[ x:1:1 ]",
@@ -487,36 +514,41 @@ impl<'s> Cache<&'s str> for Stingy<'s> {
 }
 
 #[test]
-fn where_a_cache_wants_memory_nothing_is_sent(rt: HostRuntime) -> Result<(), Fail> {
+fn where_a_cache_wants_memory_nothing_is_sent(rt: HostRuntime) {
     let alloc = rt.alloc();
     let mut cache = Stingy {
-        map: sources(alloc, [("x", "ab")])?,
+        map: sources(alloc, [("x", "ab")]).expect(&rt, "memory"),
         has_failed: false,
     };
     let builder = plain_error_at(alloc, ("x", 0..0));
     let labels = [("z", 0, 1, "l"), ("x", 1, 2, "q"), ("w", 0, 1, "l")];
-    let report = labelled_in(&rt, builder, &labels)?;
+    let report = labelled_in(&rt, builder, &labels);
     let mut out = Vec::new(alloc);
     let answer = report.write(&mut cache, &mut out);
     assert!(rt; matches!(answer, Err(WriteError::Memory(_))));
     assert!(rt; out.is_empty());
     // What it holds is drawn.
     let builder = plain_error_at(alloc, ("x", 0..0));
-    let report = labelled_in(&rt, builder, &[("x", 1, 2, "q")])?;
+    let report = labelled_in(&rt, builder, &[("x", 1, 2, "q")]);
     assert_picture_over(&rt, &report, &mut cache, &[], &SECOND)
 }
 
 #[test]
-fn a_file_is_drawn_as_it_was_first_read(rt: HostRuntime) -> Result<(), Fail> {
+fn a_file_is_drawn_as_it_was_first_read(rt: HostRuntime) {
     let alloc = rt.alloc();
-    let folder = env::temp_dir(&rt)?;
-    let path = folder.join(alloc, "ariadne_tests\nfeed.txt")?;
+    let folder = env::temp_dir(&rt).expect(&rt, "a folder");
+    let path = folder
+        .join(alloc, "ariadne_tests\nfeed.txt")
+        .expect(&rt, "memory");
     let id = path.as_str();
-    let label = Label::new((id, 1..2)).with_message(alloc, "q")?;
+    let label = Label::new((id, 1..2))
+        .with_message(alloc, "q")
+        .expect(&rt, "memory");
     let report = plain_error_at(alloc, (id, 0..0))
-        .with_label(label)?
+        .with_label(label)
+        .expect(&rt, "memory")
         .finish();
-    let header = format!(in alloc; "   ,-[ {id}:1:1 ]")?;
+    let header = format!(in alloc; "   ,-[ {id}:1:1 ]").expect(&rt, "memory");
     let mut rows = SECOND;
     rows[1] = header.as_str();
     let mut cache = FileCache::new(&rt, alloc);
@@ -528,11 +560,11 @@ fn a_file_is_drawn_as_it_was_first_read(rt: HostRuntime) -> Result<(), Fail> {
         &mut cache,
         &[(0, Why::Unfetched)],
         &["Error:"],
-    )?;
-    fs::write(&rt, path.as_path(), "ab")?;
-    assert_picture_over(&rt, &report, &mut cache, &[], &rows)?;
-    fs::write(&rt, path.as_path(), "\u{feff}x")?;
-    assert_picture_over(&rt, &report, &mut cache, &[], &rows)?;
+    );
+    fs::write(&rt, path.as_path(), "ab").expect(&rt, "a file");
+    assert_picture_over(&rt, &report, &mut cache, &[], &rows);
+    fs::write(&rt, path.as_path(), "\u{feff}x").expect(&rt, "a file");
+    assert_picture_over(&rt, &report, &mut cache, &[], &rows);
     // Its mark is a character without a column.
     rows[3] = " 1 | \u{feff}x";
     rows[4] = "   | |";

@@ -4,7 +4,6 @@ use ariadne::{Cache, FetchError, FileCache, FileError, FnCache, Source, UnknownS
 use std::alloc::{AllocError, Global};
 use std::cell::Cell;
 use std::collections::HashMap;
-use std::test::Fail;
 use std::{env, fs};
 
 /// Whether a fetch answers a source of this text.
@@ -49,11 +48,9 @@ fn has_no_text<Id: Eq, C: Cache<Id, Error = FileError>>(
 }
 
 #[test]
-fn a_source_is_a_cache_without_names_and_a_pair_holds_its_own_id_alone(
-    rt: HostRuntime,
-) -> Result<(), Fail> {
+fn a_source_is_a_cache_without_names_and_a_pair_holds_its_own_id_alone(rt: HostRuntime) {
     let alloc = rt.alloc();
-    let mut source = Source::from(alloc, "ab")?;
+    let mut source = Source::from(alloc, "ab").expect(&rt, "memory");
     assert!(rt; fetches(&mut source, &(), "ab"));
     assert!(rt; source.display(&()).is_none());
     let mut lent = &source;
@@ -64,39 +61,37 @@ fn a_source_is_a_cache_without_names_and_a_pair_holds_its_own_id_alone(
     assert!(rt; fetches(&mut lent, &"a", "ab"));
     assert!(rt; lacks(&mut lent, &"b", "b"));
     assert_eq!(rt; lent.display(&"b"), Some("b"));
-    let mut pair = ("a".to_string(alloc)?, source);
-    let other = "b".to_string(alloc)?;
-    assert!(rt; fetches(&mut pair, &"a".to_string(alloc)?, "ab"));
+    let mut pair = ("a".to_string(alloc).expect(&rt, "memory"), source);
+    let other = "b".to_string(alloc).expect(&rt, "memory");
+    assert!(rt; fetches(&mut pair, &"a".to_string(alloc).expect(&rt, "memory"), "ab"));
     assert!(rt; lacks(&mut pair, &other, "b"));
     assert_eq!(rt; pair.display(&other), Some("b"));
 
     // The last pair of an id counts.
-    let mut map = sources(alloc, [("a", "x"), ("b", "z"), ("a", "y")])?;
+    let mut map = sources(alloc, [("a", "x"), ("b", "z"), ("a", "y")]).expect(&rt, "memory");
     assert!(rt; fetches(&mut map, &"a", "y"));
     assert!(rt; fetches(&mut map, &"b", "z"));
     assert!(rt; lacks(&mut map, &"zz", "zz"));
     assert_eq!(rt; map.display(&"zz"), Some("zz"));
-    Ok(())
 }
 
 #[test]
-fn a_cache_is_reached_by_reference_and_in_a_box(rt: HostRuntime) -> Result<(), Fail> {
+fn a_cache_is_reached_by_reference_and_in_a_box(rt: HostRuntime) {
     let alloc = rt.alloc();
-    let mut pair = ("a", Source::from(alloc, "ab")?);
+    let mut pair = ("a", Source::from(alloc, "ab").expect(&rt, "memory"));
     let mut lent = &mut pair;
     assert!(rt; fetches(&mut lent, &"a", "ab"));
     assert!(rt; lacks(&mut lent, &"b", "b"));
-    let mut boxed = Box::new(alloc, pair)?;
+    let mut boxed = Box::new(alloc, pair).expect(&rt, "memory");
     assert!(rt; fetches(&mut boxed, &"a", "ab"));
     assert_eq!(rt; boxed.display(&"b"), Some("b"));
     let Err(FetchError::Failed(error)) = boxed.ensure(&"b") else {
-        return Err(Fail::from("no error of the cache's own"));
+        panic!(rt; "no error of the cache's own");
     };
     assert_eq!(rt;
-        error.to_string(alloc)?.as_str(),
+        error.to_string(alloc).expect(&rt, "memory").as_str(),
         "Failed to fetch source 'b'"
     );
-    Ok(())
 }
 
 /// A function that fails for `z` and answers every other id.
@@ -105,9 +100,7 @@ fn got_but_z(id: &&str) -> Result<&'static str, u8> {
 }
 
 #[test]
-fn a_function_is_asked_until_it_answers_and_what_is_given_replaces_what_is_held(
-    rt: HostRuntime,
-) -> Result<(), Fail> {
+fn a_function_is_asked_until_it_answers_and_what_is_given_replaces_what_is_held(rt: HostRuntime) {
     let alloc = rt.alloc();
     let calls = Cell::new(0u8);
     let mut cache: FnCache<&str, _, &str> = FnCache::new(alloc, |_id: &&str| -> Result<&str, u8> {
@@ -131,53 +124,59 @@ fn a_function_is_asked_until_it_answers_and_what_is_given_replaces_what_is_held(
     assert!(rt; cache.get(&"z").is_none());
     assert!(rt; fetches(&mut cache, &"b", "got"));
     let mut given = HashMap::new(alloc);
-    given.insert("a", Source::from(alloc, "given")?)?;
-    given.insert("c", Source::from(alloc, "given")?)?;
-    let mut cache = cache.with_sources(given)?;
+    let source = Source::from(alloc, "given").expect(&rt, "memory");
+    assert!(rt; given.insert("a", source).is_ok());
+    let source = Source::from(alloc, "given").expect(&rt, "memory");
+    assert!(rt; given.insert("c", source).is_ok());
+    let mut cache = cache.with_sources(given).expect(&rt, "memory");
     assert!(rt; fetches(&mut cache, &"a", "given"));
     assert!(rt; fetches(&mut cache, &"b", "got"));
     assert!(rt; fetches(&mut cache, &"c", "given"));
     assert!(rt; fetches(&mut cache, &"d", "got"));
-    Ok(())
 }
 
 #[test]
-fn files_are_read_once_by_either_kind_of_path(rt: HostRuntime) -> Result<(), Fail> {
+fn files_are_read_once_by_either_kind_of_path(rt: HostRuntime) {
     let alloc = rt.alloc();
-    let path = env::temp_dir(&rt)?.join(alloc, "ariadne_tests_file.txt")?;
-    fs::write(&rt, path.as_path(), "\u{feff}a\r\n")?;
+    let path = env::temp_dir(&rt)
+        .expect(&rt, "a folder")
+        .join(alloc, "ariadne_tests_file.txt")
+        .expect(&rt, "memory");
+    fs::write(&rt, path.as_path(), "\u{feff}a\r\n").expect(&rt, "a file");
     let mut cache = FileCache::new(&rt, alloc);
     let text = path.as_str();
-    let owned = text.to_string(alloc)?;
+    let owned = text.to_string(alloc).expect(&rt, "memory");
     assert!(rt; fetches(&mut cache, &text, "\u{feff}a\r\n"));
     assert_eq!(rt; cache.display(&text), Some(text));
 
     // What is held stays, under the same path as a `String` too.
-    fs::write(&rt, path.as_path(), "cd")?;
+    fs::write(&rt, path.as_path(), "cd").expect(&rt, "a file");
     assert!(rt; fetches(&mut cache, &owned, "\u{feff}a\r\n"));
     assert_eq!(rt; cache.display(&owned), Some(text));
 
     let mut later = FileCache::new(&rt, alloc);
     assert!(rt; fetches(&mut later, &owned, "cd"));
     assert!(rt; fetches(&mut later, &text, "cd"));
-    Ok(())
 }
 
 #[test]
-fn what_is_no_text_of_a_file_is_an_error(rt: HostRuntime) -> Result<(), Fail> {
+fn what_is_no_text_of_a_file_is_an_error(rt: HostRuntime) {
     let alloc = rt.alloc();
-    let folder = env::temp_dir(&rt)?;
-    let path = folder.join(alloc, "ariadne_tests_bytes.txt")?;
-    let missing = folder.join(alloc, "ariadne_tests_missing.txt")?;
-    fs::write(&rt, path.as_path(), b"a\xff")?;
+    let folder = env::temp_dir(&rt).expect(&rt, "a folder");
+    let path = folder
+        .join(alloc, "ariadne_tests_bytes.txt")
+        .expect(&rt, "memory");
+    let missing = folder
+        .join(alloc, "ariadne_tests_missing.txt")
+        .expect(&rt, "memory");
+    fs::write(&rt, path.as_path(), b"a\xff").expect(&rt, "a file");
     let mut cache = FileCache::new(&rt, alloc);
     let (bytes, unread) = ("file isn't UTF-8", "file can't be read");
-    assert!(rt; has_no_text(alloc, &mut cache, &path.as_str(), bytes)?);
-    assert!(rt; has_no_text(alloc, &mut cache, &folder.as_str(), unread)?);
-    assert!(rt; has_no_text(alloc, &mut cache, &missing.as_str(), unread)?);
+    assert!(rt; has_no_text(alloc, &mut cache, &path.as_str(), bytes).expect(&rt, "memory"));
+    assert!(rt; has_no_text(alloc, &mut cache, &folder.as_str(), unread).expect(&rt, "memory"));
+    assert!(rt; has_no_text(alloc, &mut cache, &missing.as_str(), unread).expect(&rt, "memory"));
     assert!(rt; cache.get(&path.as_str()).is_none());
     // A later fetch reads the file again.
-    fs::write(&rt, path.as_path(), "ab")?;
+    fs::write(&rt, path.as_path(), "ab").expect(&rt, "a file");
     assert!(rt; fetches(&mut cache, &path.as_str(), "ab"));
-    Ok(())
 }

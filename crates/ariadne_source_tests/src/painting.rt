@@ -7,7 +7,6 @@ use ariadne::{Color, ColorGenerator, Fmt};
 use ariadne_color::color::{numbers_rise_evenly, push_painted, push_painted_char};
 use std::alloc::{AllocError, Global};
 use std::fmt::Display;
-use std::test::Fail;
 
 const RED: Option<Color> = Some(Color::Red);
 
@@ -78,7 +77,7 @@ fn greatest_after_one() -> ColorGenerator
 }
 
 #[test]
-fn every_color_in_front_and_behind(rt: HostRuntime) -> Result<(), Fail> {
+fn every_color_in_front_and_behind(rt: HostRuntime) {
     let cases = [
         (Color::Primary, "39", "49"),
         (Color::Fixed(0), "38;5;0", "48;5;0"),
@@ -103,71 +102,88 @@ fn every_color_in_front_and_behind(rt: HostRuntime) -> Result<(), Fail> {
         (Color::BrightWhite, "97", "107"),
     ];
     for (color, front, behind) in cases {
-        let want = format!(in rt.alloc(); "\x1b[{front}mé\x1b[0m")?;
+        let want = format!(in rt.alloc(); "\x1b[{front}mé\x1b[0m").expect(&rt, "memory");
         assert_eq!(rt;
-            painted_char(rt.alloc(), 'é', Some(color))?,
+            painted_char(rt.alloc(), 'é', Some(color)).expect(&rt, "memory"),
             want,
             "{color:?} in front"
         );
         let mut out = String::new(rt.alloc());
-        push_painted_char(&mut out, Some(color), 'é')?;
+        push_painted_char(&mut out, Some(color), 'é').expect(&rt, "memory");
         assert_eq!(rt; out, want, "{color:?} in front of a character");
         let mut out = String::new(rt.alloc());
-        push_painted(&mut out, Some(color), "é")?;
+        push_painted(&mut out, Some(color), "é").expect(&rt, "memory");
         assert_eq!(rt; out, want, "{color:?} in front of a text");
-        let want = format!(in rt.alloc(); "\x1b[{behind}mé\x1b[0m")?;
+        let want = format!(in rt.alloc(); "\x1b[{behind}mé\x1b[0m").expect(&rt, "memory");
         assert_eq!(rt;
-            painted_text(rt.alloc(), "é", Some(color))?,
+            painted_text(rt.alloc(), "é", Some(color)).expect(&rt, "memory"),
             want,
             "{color:?} behind"
         );
     }
-    Ok(())
 }
 
 #[test]
-fn values_of_any_kind_are_painted_and_without_color_stand_alone(
-    rt: HostRuntime,
-) -> Result<(), Fail> {
+fn values_of_any_kind_are_painted_and_without_color_stand_alone(rt: HostRuntime) {
     let alloc = rt.alloc();
     assert_eq!(rt;
-        format!(in alloc; "{}{}", "x".fg(None), 7.bg(None))?.as_str(),
+        format!(in alloc; "{}{}", "x".fg(None), 7.bg(None))
+            .expect(&rt, "memory")
+            .as_str(),
         "x7"
     );
-    let mut out = String::from_str(alloc, "a")?;
-    push_painted(&mut out, None, "b")?;
-    push_painted_char(&mut out, None, 'c')?;
+    let mut out = String::from_str(alloc, "a").expect(&rt, "memory");
+    push_painted(&mut out, None, "b").expect(&rt, "memory");
+    push_painted_char(&mut out, None, 'c').expect(&rt, "memory");
     assert_eq!(rt; out.as_str(), "abc");
 
     // Options of the format are ignored.
-    assert_eq!(rt; format!(in alloc; "{:5}|", "x".fg(None))?.as_str(), "x|");
-    assert_eq!(rt; format!(in alloc; "{:>5}|", "x".bg(None))?.as_str(), "x|");
     assert_eq!(rt;
-        format!(in alloc; "{:05}", 7.fg(RED))?.as_str(),
+        format!(in alloc; "{:5}|", "x".fg(None))
+            .expect(&rt, "memory")
+            .as_str(),
+        "x|"
+    );
+    assert_eq!(rt;
+        format!(in alloc; "{:>5}|", "x".bg(None))
+            .expect(&rt, "memory")
+            .as_str(),
+        "x|"
+    );
+    assert_eq!(rt;
+        format!(in alloc; "{:05}", 7.fg(RED))
+            .expect(&rt, "memory")
+            .as_str(),
         "\x1b[31m7\x1b[0m"
     );
     assert_eq!(rt;
-        format!(in alloc; "{:.1}", "xyz".bg(RED))?.as_str(),
+        format!(in alloc; "{:.1}", "xyz".bg(RED))
+            .expect(&rt, "memory")
+            .as_str(),
         "\x1b[41mxyz\x1b[0m"
     );
 
     // Numbers and empty texts are painted.
-    let seven = format!(in alloc; "{}", 7.bg(Some(Color::Rgb(1, 2, 3))))?;
+    let seven = format!(in alloc; "{}", 7.bg(Some(Color::Rgb(1, 2, 3)))).expect(&rt, "memory");
     assert_eq!(rt; seven.as_str(), "\x1b[48;2;1;2;3m7\x1b[0m");
-    let nothing = "".fg(Some(Color::Primary)).to_string(alloc)?;
+    let nothing = ""
+        .fg(Some(Color::Primary))
+        .to_string(alloc)
+        .expect(&rt, "memory");
     assert_eq!(rt; nothing.as_str(), "\x1b[39m\x1b[0m");
     let mut out = String::new(alloc);
-    push_painted(&mut out, Some(Color::Red), "")?;
+    push_painted(&mut out, Some(Color::Red), "").expect(&rt, "memory");
     assert_eq!(rt; out.as_str(), "\x1b[31m\x1b[0m");
     assert_eq!(rt;
-        painted_number(alloc, 42, RED)?.as_str(),
+        painted_number(alloc, 42, RED)
+            .expect(&rt, "memory")
+            .as_str(),
         "\x1b[31m42\x1b[0m\x1b[41m42\x1b[0m"
     );
     assert_eq!(rt;
-        printed_twice(alloc, 'x')?.as_str(),
+        printed_twice(alloc, 'x').expect(&rt, "memory").as_str(),
         "\x1b[31mx\x1b[0m\x1b[31mx\x1b[0m"
     );
-    Ok(())
 }
 
 #[test]

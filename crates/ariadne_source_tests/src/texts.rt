@@ -5,21 +5,20 @@ use std::alloc::Global;
 use std::hash::{DefaultHasher, Hash, Hasher};
 use std::process::Abort;
 use std::rc::RcStr;
-use std::test::Fail;
 
 /// Asserts that the lines of the text that these join to are these.
-fn assert_lines(rt: &impl Abort, alloc: Global, lines: &[&str]) -> Result<(), Fail> {
+fn assert_lines(rt: &impl Abort, alloc: Global, lines: &[&str]) {
     let mut text = String::new(alloc);
     for line in lines {
-        text.push_str(*line)?;
+        text.push_str(*line).expect(rt, "memory");
     }
-    let source = Source::from(alloc, text)?;
+    let source = Source::from(alloc, text).expect(rt, "memory");
     let mut found = source.lines();
     let mut offset = 0usize;
     for (number, want) in lines.iter().enumerate() {
         assert_eq!(rt; found.len(), lines.len().saturating_sub(number));
         let Some(line) = found.next() else {
-            return Err(Fail::from("a line is missing"));
+            panic!(rt; "a line is missing");
         };
         assert_eq!(rt; line.offset(), offset, "of {want:?}");
         assert_eq!(rt; line.len(), want.chars().count(), "of {want:?}");
@@ -34,21 +33,20 @@ fn assert_lines(rt: &impl Abort, alloc: Global, lines: &[&str]) -> Result<(), Fa
     assert_eq!(rt; source.line(lines.len()), None);
     assert_eq!(rt; source.len(), offset);
     assert_eq!(rt; source.is_empty(), offset == 0);
-    Ok(())
 }
 
 #[test]
-fn seven_characters_end_a_line_and_cr_lf_ends_one(rt: HostRuntime) -> Result<(), Fail> {
+fn seven_characters_end_a_line_and_cr_lf_ends_one(rt: HostRuntime) {
     let alloc = rt.alloc();
-    assert_lines(&rt, alloc, &[""])?;
-    assert_lines(&rt, alloc, &["Single line"])?;
-    assert_lines(&rt, alloc, &["Single line with LF\n"])?;
-    assert_lines(&rt, alloc, &["Single line with CRLF\r\n"])?;
-    assert_lines(&rt, alloc, &["Two\r\n", "lines\n"])?;
-    assert_lines(&rt, alloc, &["Some\n", "more\r\n", "lines"])?;
-    assert_lines(&rt, alloc, &["\n", "\r\n", "\n", "Empty Lines"])?;
-    assert_lines(&rt, alloc, &["Trailing spaces  \n", "are kept\t"])?;
-    assert_lines(&rt, alloc, &["\n", "\r"])?;
+    assert_lines(&rt, alloc, &[""]);
+    assert_lines(&rt, alloc, &["Single line"]);
+    assert_lines(&rt, alloc, &["Single line with LF\n"]);
+    assert_lines(&rt, alloc, &["Single line with CRLF\r\n"]);
+    assert_lines(&rt, alloc, &["Two\r\n", "lines\n"]);
+    assert_lines(&rt, alloc, &["Some\n", "more\r\n", "lines"]);
+    assert_lines(&rt, alloc, &["\n", "\r\n", "\n", "Empty Lines"]);
+    assert_lines(&rt, alloc, &["Trailing spaces  \n", "are kept\t"]);
+    assert_lines(&rt, alloc, &["\n", "\r"]);
     let others = [
         "CR\r",
         "VT\u{b}",
@@ -61,9 +59,9 @@ fn seven_characters_end_a_line_and_cr_lf_ends_one(rt: HostRuntime) -> Result<(),
 }
 
 #[test]
-fn an_offset_lies_in_the_last_line_that_begins_before_it(rt: HostRuntime) -> Result<(), Fail> {
+fn an_offset_lies_in_the_last_line_that_begins_before_it(rt: HostRuntime) {
     let alloc = rt.alloc();
-    let source = Source::from(alloc, "\n\r\n\nEmpty Lines")?;
+    let source = Source::from(alloc, "\n\r\n\nEmpty Lines").expect(&rt, "memory");
     assert_eq!(rt; source.len(), 15);
     let locations = [
         (0, 0, 0),
@@ -78,12 +76,11 @@ fn an_offset_lies_in_the_last_line_that_begins_before_it(rt: HostRuntime) -> Res
         assert_eq!(rt; source.get_offset_line(offset), want, "at {offset}");
     }
     assert_eq!(rt; source.get_offset_line(16), None);
-    Ok(())
 }
 
 #[test]
-fn a_span_lies_in_the_lines_of_its_characters(rt: HostRuntime) -> Result<(), Fail> {
-    let source = Source::from(rt.alloc(), "\n\r\n\nEmpty Lines")?;
+fn a_span_lies_in_the_lines_of_its_characters(rt: HostRuntime) {
+    let source = Source::from(rt.alloc(), "\n\r\n\nEmpty Lines").expect(&rt, "memory");
     let ranges = [
         (20, 30, 0, 4),
         (0, 0, 0, 1),
@@ -98,12 +95,11 @@ fn a_span_lies_in_the_lines_of_its_characters(rt: HostRuntime) -> Result<(), Fai
             "of {start}..{end}"
         );
     }
-    Ok(())
 }
 
 #[test]
-fn bytes_are_not_taken_for_characters(rt: HostRuntime) -> Result<(), Fail> {
-    let source = Source::from(rt.alloc(), "\u{e9}\nb")?;
+fn bytes_are_not_taken_for_characters(rt: HostRuntime) {
+    let source = Source::from(rt.alloc(), "\u{e9}\nb").expect(&rt, "memory");
     assert_eq!(rt; source.len(), 3);
     assert!(rt; source.chars().eq(['\u{e9}', '\n', 'b']));
     for (offset, number, column) in [(0, 0, 0), (1, 0, 1), (2, 0, 2), (3, 1, 0), (4, 1, 1)] {
@@ -114,15 +110,14 @@ fn bytes_are_not_taken_for_characters(rt: HostRuntime) -> Result<(), Fail> {
     let second = source.line(1).map(|line| (line, 1, 0));
     assert_eq!(rt; source.get_offset_line(2), second);
     assert_eq!(rt; source.get_offset_line(4), None);
-    Ok(())
 }
 
 #[test]
-fn a_line_has_no_text_where_its_bytes_are_none_of_the_source(rt: HostRuntime) -> Result<(), Fail> {
+fn a_line_has_no_text_where_its_bytes_are_none_of_the_source(rt: HostRuntime) {
     let alloc = rt.alloc();
-    let long = Source::from(alloc, "abcde")?;
-    let short = Source::from(alloc, "ab")?;
-    let wide = Source::from(alloc, "abcd\u{e9}")?;
+    let long = Source::from(alloc, "abcde").expect(&rt, "memory");
+    let short = Source::from(alloc, "ab").expect(&rt, "memory");
+    let wide = Source::from(alloc, "abcd\u{e9}").expect(&rt, "memory");
     for line in long.lines() {
         assert_eq!(rt; short.get_line_text(line), None);
         assert_eq!(rt; wide.get_line_text(line), None);
@@ -131,7 +126,6 @@ fn a_line_has_no_text_where_its_bytes_are_none_of_the_source(rt: HostRuntime) ->
     for line in short.lines() {
         assert_eq!(rt; long.get_line_text(line), Some("ab"));
     }
-    Ok(())
 }
 
 /// The hash of a source.
@@ -142,12 +136,14 @@ fn hash_of<I: SourceText>(source: &Source<I>) -> u64 {
 }
 
 #[test]
-fn a_copy_equals_its_source_in_text_and_offset(rt: HostRuntime) -> Result<(), Fail> {
+fn a_copy_equals_its_source_in_text_and_offset(rt: HostRuntime) {
     let alloc = rt.alloc();
-    let source = Source::from(alloc, String::from_str(alloc, "a\nb")?)?;
+    let source = Source::from(alloc, String::from_str(alloc, "a\nb").expect(&rt, "memory")).expect(
+        &rt, "memory",
+    );
     assert!(rt; source.lines().len() <= usize::MAX - 98);
     let source = source.with_display_line_offset(98);
-    let copy = source.clone()?;
+    let copy = source.clone().expect(&rt, "memory");
     assert_eq!(rt; copy.text(), "a\nb");
     assert_eq!(rt; copy.display_line_offset(), 98);
     assert!(rt; copy == source);
@@ -155,19 +151,22 @@ fn a_copy_equals_its_source_in_text_and_offset(rt: HostRuntime) -> Result<(), Fa
     assert!(rt; copy.lines().len() <= usize::MAX);
     let moved = copy.with_display_line_offset(0);
     assert!(rt; moved != source);
-    let other = Source::from(moved.memory(), String::from_str(alloc, "a\nc")?)?;
+    let other = Source::from(
+        moved.memory(),
+        String::from_str(alloc, "a\nc").expect(&rt, "memory"),
+    )
+    .expect(&rt, "memory");
     assert_eq!(rt; other.display_line_offset(), 0);
     assert!(rt; other != moved);
 
     // A text may be shared.
-    let text = RcStr::from_str(alloc, "a\nb")?;
-    let source = Source::from(alloc, text.clone()?)?;
-    let copy = source.clone()?;
+    let text = RcStr::from_str(alloc, "a\nb").expect(&rt, "memory");
+    let source = Source::from(alloc, text.clone().expect(&rt, "memory")).expect(&rt, "memory");
+    let copy = source.clone().expect(&rt, "memory");
     assert_eq!(rt; copy.text(), text.as_str());
     assert_eq!(rt; copy.lines().len(), 2);
-    let source = Source::from(alloc, "a\nb")?;
-    assert_eq!(rt; source.clone()?.text(), "a\nb");
-    Ok(())
+    let source = Source::from(alloc, "a\nb").expect(&rt, "memory");
+    assert_eq!(rt; source.clone().expect(&rt, "memory").text(), "a\nb");
 }
 
 #[test]

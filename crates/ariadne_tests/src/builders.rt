@@ -2,7 +2,6 @@
 
 use ariadne::{Color, Label, ReportKind};
 use ariadne_asserts::asserts::{assert_bytes, assert_picture, plain_error};
-use std::test::Fail;
 
 /// The picture of two labels added in turn.
 const TWO: [&str; 9] = [
@@ -18,38 +17,79 @@ const TWO: [&str; 9] = [
 ];
 
 #[test]
-fn labels_are_added_behind_those_that_are_there(rt: HostRuntime) -> Result<(), Fail> {
+fn labels_are_added_behind_those_that_are_there(rt: HostRuntime) {
     let alloc = rt.alloc();
     let p = || Label::new(0..1).with_message(alloc, "p");
     let q = || Label::new(1..2).with_message(alloc, "q");
-    let report = plain_error(alloc).with_message("m")?.with_label(p()?)?;
-    assert_picture(&rt, &report.with_label(q()?)?.finish(), "ab", &TWO)?;
-    let report = plain_error(alloc).with_message("m")?.with_label(p()?)?;
-    assert_picture(&rt, &report.with_labels([q()?])?.finish(), "ab", &TWO)?;
-    let mut report = plain_error(alloc).with_message("m")?;
-    report.add_label(p()?)?;
-    report.add_label(q()?)?;
-    assert_picture(&rt, &report.finish(), "ab", &TWO)?;
-    let mut report = plain_error(alloc).with_message("m")?;
-    report.add_labels([p()?, q()?])?;
-    report.add_labels([])?;
+    let report = plain_error(alloc)
+        .with_message("m")
+        .expect(&rt, "memory")
+        .with_label(p().expect(&rt, "memory"))
+        .expect(&rt, "memory");
+    assert_picture(
+        &rt,
+        &report
+            .with_label(q().expect(&rt, "memory"))
+            .expect(&rt, "memory")
+            .finish(),
+        "ab",
+        &TWO,
+    );
+    let report = plain_error(alloc)
+        .with_message("m")
+        .expect(&rt, "memory")
+        .with_label(p().expect(&rt, "memory"))
+        .expect(&rt, "memory");
+    assert_picture(
+        &rt,
+        &report
+            .with_labels([q().expect(&rt, "memory")])
+            .expect(&rt, "memory")
+            .finish(),
+        "ab",
+        &TWO,
+    );
+    let mut report = plain_error(alloc).with_message("m").expect(&rt, "memory");
+    report
+        .add_label(p().expect(&rt, "memory"))
+        .expect(&rt, "memory");
+    report
+        .add_label(q().expect(&rt, "memory"))
+        .expect(&rt, "memory");
+    assert_picture(&rt, &report.finish(), "ab", &TWO);
+    let mut report = plain_error(alloc).with_message("m").expect(&rt, "memory");
+    report
+        .add_labels([p().expect(&rt, "memory"), q().expect(&rt, "memory")])
+        .expect(&rt, "memory");
+    report.add_labels([]).expect(&rt, "memory");
     assert_picture(&rt, &report.finish(), "ab", &TWO)
 }
 
 #[test]
-fn the_last_message_of_a_report_or_a_label_counts(rt: HostRuntime) -> Result<(), Fail> {
-    let report = plain_error(rt.alloc()).with_message("first")?;
-    let mut report = report.with_message("second")?;
-    assert_bytes(&rt, &report.finish(), "", &["Error: second"])?;
-    report = plain_error(rt.alloc()).with_message("first")?;
-    report.set_message("third")?;
-    assert_bytes(&rt, &report.finish(), "", &["Error: third"])?;
+fn the_last_message_of_a_report_or_a_label_counts(rt: HostRuntime) {
+    let report = plain_error(rt.alloc())
+        .with_message("first")
+        .expect(&rt, "memory");
+    let mut report = report.with_message("second").expect(&rt, "memory");
+    assert_bytes(&rt, &report.finish(), "", &["Error: second"]);
+    report = plain_error(rt.alloc())
+        .with_message("first")
+        .expect(&rt, "memory");
+    report.set_message("third").expect(&rt, "memory");
+    assert_bytes(&rt, &report.finish(), "", &["Error: third"]);
     let mut report = plain_error(rt.alloc());
-    report.set_message("")?;
-    assert_bytes(&rt, &report.finish(), "", &["Error: "])?;
-    let label = Label::new(0..1).with_message(rt.alloc(), "first")?;
-    let label = label.with_message(rt.alloc(), "second")?;
-    let report = plain_error(rt.alloc()).with_label(label)?.finish();
+    report.set_message("").expect(&rt, "memory");
+    assert_bytes(&rt, &report.finish(), "", &["Error: "]);
+    let label = Label::new(0..1)
+        .with_message(rt.alloc(), "first")
+        .expect(&rt, "memory");
+    let label = label
+        .with_message(rt.alloc(), "second")
+        .expect(&rt, "memory");
+    let report = plain_error(rt.alloc())
+        .with_label(label)
+        .expect(&rt, "memory")
+        .finish();
     let rows = [
         "Error:",
         "   ,-[ <unknown>:1:1 ]",
@@ -63,7 +103,7 @@ fn the_last_message_of_a_report_or_a_label_counts(rt: HostRuntime) -> Result<(),
 }
 
 #[test]
-fn kinds_are_shown_by_their_names(rt: HostRuntime) -> Result<(), Fail> {
+fn kinds_are_shown_by_their_names(rt: HostRuntime) {
     let cases = [
         (ReportKind::Error, "Error"),
         (ReportKind::Warning, "Warning"),
@@ -72,10 +112,12 @@ fn kinds_are_shown_by_their_names(rt: HostRuntime) -> Result<(), Fail> {
         (ReportKind::Custom("", Color::Primary), ""),
     ];
     for (kind, want) in cases {
-        assert_eq!(rt; kind.to_string(rt.alloc())?.as_str(), want);
+        assert_eq!(rt;
+            kind.to_string(rt.alloc()).expect(&rt, "memory").as_str(),
+            want
+        );
         assert!(rt; kind == kind);
     }
     assert!(rt; ReportKind::Custom("Hint", Color::Blue) != ReportKind::Custom("Hint", Color::Red));
     assert!(rt; ReportKind::Custom("Error", Color::Red) != ReportKind::Error);
-    Ok(())
 }

@@ -2,7 +2,6 @@
 
 use ariadne::{CharSet, Color, Config, IndexType, Label, LabelAttach, Report, ReportKind};
 use ariadne_asserts::asserts::{assert_bytes, plain, plain_error};
-use std::test::Fail;
 
 #[test]
 fn a_new_configuration_is_the_default(rt: HostRuntime) {
@@ -25,17 +24,23 @@ fn a_new_configuration_is_the_default(rt: HostRuntime) {
 }
 
 #[test]
-fn the_last_configuration_counts(rt: HostRuntime) -> Result<(), Fail> {
+fn the_last_configuration_counts(rt: HostRuntime) {
     let builder = Report::build(rt.alloc(), ReportKind::Error, 0..0);
-    let report = builder.with_message("m")?.finish();
-    assert_bytes(&rt, &report, "", &["\x1b[31mError:\x1b[0m m"])?;
+    let report = builder.with_message("m").expect(&rt, "memory").finish();
+    assert_bytes(&rt, &report, "", &["\x1b[31mError:\x1b[0m m"]);
     let builder = plain_error(rt.alloc()).with_config(Config::default());
-    let report = builder.with_config(plain()).with_message("m")?.finish();
-    assert_bytes(&rt, &report, "", &["Error: m"])?;
+    let report = builder
+        .with_config(plain())
+        .with_message("m")
+        .expect(&rt, "memory")
+        .finish();
+    assert_bytes(&rt, &report, "", &["Error: m"]);
     // It may come behind the label, whose colour it takes away.
     let label = Label::new(0..1).with_color(Color::Blue);
-    let label = label.with_message(rt.alloc(), "m")?;
-    let builder = Report::build(rt.alloc(), ReportKind::Error, 0..0).with_label(label)?;
+    let label = label.with_message(rt.alloc(), "m").expect(&rt, "memory");
+    let builder = Report::build(rt.alloc(), ReportKind::Error, 0..0)
+        .with_label(label)
+        .expect(&rt, "memory");
     let report = builder.with_config(plain()).finish();
     let rows = [
         "Error: ",

@@ -3,7 +3,6 @@
 
 use crate::readme::tell;
 use ariadne_asserts::asserts::assert_trimmed;
-use std::test::Fail;
 
 /// The picture of README.md.
 const README: [&str; 14] = [
@@ -24,12 +23,13 @@ const README: [&str; 14] = [
 ];
 
 #[test]
-fn the_example_of_the_readme(rt: HostRuntime) -> Result<(), Fail> {
+fn the_example_of_the_readme(rt: HostRuntime) {
     let text =
         "def five = match () in {\n\t() => 5,\n\t() => \"5\",\n}\n\ndef six =\n    five\n    + 1\n";
     let mut out = Vec::new(rt.alloc());
     let mut faults: Vec<u8> = Vec::new(rt.alloc());
-    tell(rt.alloc(), text, &mut out, &mut faults)?;
+    tell(rt.alloc(), text, &mut out, &mut faults).expect(&rt, "a picture");
     assert!(rt; faults.is_empty());
-    assert_trimmed(&rt, String::from_utf8(out)?.as_str(), &README)
+    let picture = String::from_utf8(out).expect(&rt, "text");
+    assert_trimmed(&rt, picture.as_str(), &README)
 }
