@@ -22,8 +22,8 @@ fn run_over_file<R: Files + Abort>(rt: &R, alloc: Global, words: &[&str]) -> Out
 #[test]
 fn a_file_is_drawn_in_place_of_the_input(rt: HostRuntime) {
     let alloc = rt.alloc();
-    let path = env::temp_dir(&rt)
-        .expect(&rt, "a folder")
+    let folder = env::temp_dir(&rt).expect(&rt, "a folder");
+    let path = folder
         .join(alloc, "ariadne_draw_f.txt")
         .expect(&rt, "memory");
     fs::write(&rt, path.as_path(), "ab").expect(&rt, "a file");
@@ -49,7 +49,7 @@ fn a_file_is_drawn_in_place_of_the_input(rt: HostRuntime) {
             "--file", "--file", "--file", name, "--ascii", "--plain", "--", "m", "0", "2", "x",
         ], // the word behind `--file` is a path, whatever it begins with
     ];
-    for words in cases {
+    for words in &cases {
         let outcome = run_over_file(&rt, alloc, words);
         assert_eq!(rt; outcome.out.as_str(), want.as_str(), "at {words:?}");
         assert_eq!(rt; outcome.status, Status::Drawn, "at {words:?}");
