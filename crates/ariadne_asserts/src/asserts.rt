@@ -2,11 +2,10 @@
 
 use ariadne::{
     Cache, CharSet, Config, Label, LeftOut, Reason, Report, ReportBuilder, ReportKind, Source,
-    Span, UnknownSource,
+    Span, UnknownSource, WriteError,
 };
 use std::alloc::{AllocError, Global};
 use std::ops::Range;
-use std::process::Abort;
 
 /// A piece of the source of an id.
 pub type Piece = (&'static str, Range<usize>);
@@ -17,6 +16,29 @@ pub enum Why {
     Unfetched,
     PastSource,
     CutsCharacter,
+}
+
+/// What is other than it is to be.
+#[derive(Debug, Drop)]
+pub enum Mismatch {
+    /// The picture, which is this.
+    Picture(String),
+    /// How many labels are left out: so many.
+    Count(usize),
+    /// The label of this position, which is left out for this reason.
+    Label(usize, Why),
+    /// What is said of a label: this.
+    Said(String),
+    /// There is no picture, or it is no text.
+    NoPicture,
+    /// There is no memory.
+    Memory,
+}
+
+impl From<AllocError> for Mismatch {
+    fn from(_error: AllocError) -> Mismatch {
+        Mismatch::Memory
+    }
 }
 
 /// The rows of two labels on a line, blanks at their ends kept.
@@ -63,48 +85,55 @@ pub fn plain_error(alloc: Global) -> ReportBuilder<'static> {
 /// A report with these labels: the start and the end of each, which is not before it, and what it
 /// says.
 pub fn labelled<'a>(
-    rt: &(impl Abort + AllocGlobal),
+    rt: &impl AllocGlobal,
     builder: ReportBuilder<'a>,
     labels: &[(usize, usize, &str)],
-) -> Report<'a> {
+) -> Result<Report<'a>, AllocError> {
     let mut builder = builder;
     for &(start, end, message) in labels {
-        let label = Label::new(start..end.max(start))
-            .with_message(rt.alloc(), message)
-            .expect(rt, "memory");
-        builder = builder.with_label(label).expect(rt, "memory");
+        let label = Label::new(start..end.max(start)).with_message(rt.alloc(), message)?;
+        builder = builder.with_label(label)?;
     }
-    builder.finish()
+    Ok(builder.finish())
 }
 
 /// The same as `labelled`, of labels in the sources of these ids.
 pub fn labelled_in<'a>(
-    rt: &(impl Abort + AllocGlobal),
+    rt: &impl AllocGlobal,
     builder: ReportBuilder<'a, Piece>,
     labels: &[(&'static str, usize, usize, &str)],
-) -> Report<'a, Piece> {
+) -> Result<Report<'a, Piece>, AllocError> {
     let mut builder = builder;
     for &(id, start, end, message) in labels {
-        let label = Label::new((id, start..end.max(start)))
-            .with_message(rt.alloc(), message)
-            .expect(rt, "memory");
-        builder = builder.with_label(label).expect(rt, "memory");
+        let label = Label::new((id, start..end.max(start))).with_message(rt.alloc(), message)?;
+        builder = builder.with_label(label)?;
     }
-    builder.finish()
+    Ok(builder.finish())
 }
 
 /// The picture that a report writes over a cache, and the labels that it leaves out.
 pub fn written<S: Span, C: Cache<S::SourceId>>(
-    rt: &(impl Abort + AllocGlobal),
+    rt: &impl AllocGlobal,
     report: &Report<'_, S>,
     cache: &mut C,
-) -> (String, Vec<LeftOut<C::Error>>)
+) -> Result<(String, Vec<LeftOut<C::Error>>), Mismatch>
     requires { C.can_fetch cache.old }
     ensures { C.can_fetch cache.new }
 {
     let mut out = Vec::new(rt.alloc());
-    let left_out = report.write(cache, &mut out).expect(rt, "a picture");
-    (String::from_utf8(out).expect(rt, "text"), left_out)
+    match report.write(cache, &mut out) {
+        Ok(left_out) => Ok((text_of(out)?, left_out)),
+        Err(WriteError::Memory(_)) => Err(Mismatch::Memory),
+        Err(WriteError::Io { .. }) => Err(Mismatch::NoPicture),
+    }
+}
+
+/// The text of a picture.
+fn text_of(picture: Vec<u8>) -> Result<String, Mismatch> {
+    match String::from_utf8(picture) {
+        Ok(text) => Ok(text),
+        Err(_) => Err(Mismatch::NoPicture),
+    }
 }
 
 /// Rows, each with a line feed behind it.
@@ -127,42 +156,39 @@ fn trimmed(alloc: Global, picture: &str) -> Result<String, AllocError> {
     Ok(text)
 }
 
-/// Asserts that the picture of what is named has these rows, and each of them whole, or but for the
-/// blanks at their ends.
+/// Asserts that a picture has these rows, and each of them whole, or but for the blanks at their
+/// ends.
 pub fn assert_shown(
-    rt: &(impl Abort + AllocGlobal),
-    name: &str,
+    rt: &impl AllocGlobal,
     picture: &str,
     rows: &[&str],
     is_whole: bool,
-) {
-    let expected = joined(rt.alloc(), rows).expect(rt, "memory");
+) -> Result<(), Mismatch> {
+    let expected = joined(rt.alloc(), rows)?;
     let is_shown = if is_whole {
         picture == expected.as_str()
     } else {
-        let trimmed = trimmed(rt.alloc(), picture).expect(rt, "memory");
+        let trimmed = trimmed(rt.alloc(), picture)?;
         picture.ends_with('\n') && trimmed.as_str() == expected.as_str()
     };
     if is_shown {
-        return;
+        return Ok(());
     }
-    panic!(rt; "{name}: {picture}")
+    Err(Mismatch::Picture(picture.to_string(rt.alloc())?))
 }
 
 /// Asserts that a picture has these rows, but for the blanks at their ends.
-pub fn assert_trimmed(rt: &(impl Abort + AllocGlobal), picture: &str, rows: &[&str]) {
-    assert_shown(rt, "the report", picture, rows, false)
+pub fn assert_trimmed(rt: &impl AllocGlobal, picture: &str, rows: &[&str]) -> Result<(), Mismatch> {
+    assert_shown(rt, picture, rows, false)
 }
 
-/// Asserts which labels are left out of the picture of what is named, and why.
-pub fn assert_missing<E>(
-    rt: &impl Abort,
-    name: &str,
+/// Asserts which labels are left out, and why.
+pub fn assert_left_out<E>(
     left_out: &[LeftOut<E>],
     wanted: &[(usize, Why)],
-) {
+) -> Result<(), Mismatch> {
     if left_out.len() != wanted.len() {
-        panic!(rt; "{name}: {} labels", left_out.len());
+        return Err(Mismatch::Count(left_out.len()));
     }
     for (left, want) in left_out.iter().zip(wanted) {
         let why = match left.reason {
@@ -171,79 +197,73 @@ pub fn assert_missing<E>(
             Reason::CutsCharacter => Why::CutsCharacter,
         };
         if (left.label, why) != *want {
-            panic!(rt; "{name}: {} {why:?}", left.label);
+            return Err(Mismatch::Label(left.label, why));
         }
     }
+    Ok(())
 }
 
-/// Asserts which labels are left out, and why.
-pub fn assert_left_out<E>(rt: &impl Abort, left_out: &[LeftOut<E>], wanted: &[(usize, Why)]) {
-    assert_missing(rt, "the report", left_out, wanted)
-}
-
-/// Asserts that all these labels are left out of the picture of what is named since their sources
-/// can't be had, and what is said of each.
+/// Asserts that all these labels are left out since their sources can't be had, and what is said of
+/// each.
 pub fn assert_unknown(
-    rt: &(impl Abort + AllocGlobal),
-    name: &str,
+    rt: &impl AllocGlobal,
     left_out: &[LeftOut<UnknownSource>],
     wanted: &[&str],
-) {
+) -> Result<(), Mismatch> {
     if left_out.len() != wanted.len() {
-        panic!(rt; "{name}: {} labels", left_out.len());
+        return Err(Mismatch::Count(left_out.len()));
     }
     for (left, want) in left_out.iter().zip(wanted) {
-        let Reason::Unfetched(error) = &left.reason else {
-            panic!(rt; "another reason");
+        let text = match &left.reason {
+            Reason::Unfetched(error) => error.to_string(rt.alloc())?,
+            _ => String::new(rt.alloc()),
         };
-        let text = error.to_string(rt.alloc()).expect(rt, "memory");
         if text.as_str() != *want {
-            panic!(rt; "{name}: {text}");
+            return Err(Mismatch::Said(text));
         }
     }
+    Ok(())
 }
 
 /// Asserts that over a text a report leaves no label out, and that its picture has these rows, and
 /// each of them whole.
 pub fn assert_bytes(
-    rt: &(impl Abort + AllocGlobal),
+    rt: &impl AllocGlobal,
     report: &Report<'_>,
     text: &str,
     rows: &[&str],
-) {
-    let mut source = source_of(rt.alloc(), text).expect(rt, "memory");
-    let (picture, left_out) = written(rt, report, &mut source);
-    assert_left_out(rt, &left_out, &[]);
-    assert_shown(rt, "the report", picture.as_str(), rows, true)
+) -> Result<(), Mismatch> {
+    let mut source = source_of(rt.alloc(), text)?;
+    let (picture, left_out) = written(rt, report, &mut source)?;
+    assert_left_out(&left_out, &[])?;
+    assert_shown(rt, picture.as_str(), rows, true)
 }
 
 /// Asserts that over a text a report leaves no label out, and that its picture has these rows, but
 /// for the blanks at their ends.
 pub fn assert_picture(
-    rt: &(impl Abort + AllocGlobal),
+    rt: &impl AllocGlobal,
     report: &Report<'_>,
     text: &str,
     rows: &[&str],
-) {
-    let mut source = source_of(rt.alloc(), text).expect(rt, "memory");
-    let (picture, left_out) = written(rt, report, &mut source);
-    assert_left_out(rt, &left_out, &[]);
-    assert_trimmed(rt, picture.as_str(), rows)
+) -> Result<(), Mismatch> {
+    let mut source = source_of(rt.alloc(), text)?;
+    assert_picture_over(rt, report, &mut source, &[], rows)
 }
 
 /// Asserts that over a cache a report leaves out exactly these labels, and that its picture has
 /// these rows, but for the blanks at their ends.
 pub fn assert_picture_over<S: Span, C: Cache<S::SourceId>>(
-    rt: &(impl Abort + AllocGlobal),
+    rt: &impl AllocGlobal,
     report: &Report<'_, S>,
     cache: &mut C,
     wanted: &[(usize, Why)],
     rows: &[&str],
-)
+) -> Result<(), Mismatch>
     requires { C.can_fetch cache.old }
     ensures { C.can_fetch cache.new }
 {
-    let (picture, left_out) = written(rt, report, cache);
-    assert_left_out(rt, &left_out, wanted);
+    let (picture, left_out) = written(rt, report, cache)?;
+    assert_left_out(&left_out, wanted)?;
     assert_trimmed(rt, picture.as_str(), rows)
 }

@@ -3,7 +3,7 @@
 ghost use Rattle.std.specs.Prelude.{◌<◌};
 
 use ariadne::{Label, Report, ReportBuilder};
-use ariadne_asserts::asserts::{assert_missing, assert_shown, plain_error, source_of, written};
+use ariadne_asserts::asserts::{assert_left_out, assert_shown, plain_error, source_of, written};
 use ariadne_fakes::{refuse, was_refused};
 use std::alloc::{AllocError, Global};
 use std::process::Abort;
@@ -66,9 +66,9 @@ fn assert_rows(
         rows.push("---'").expect(rt, "memory");
     }
     let mut source = source_of(rt.alloc(), "ab").expect(rt, "memory");
-    let (picture, left_out) = written(rt, report, &mut source);
-    assert_missing(rt, name, &left_out, &[]);
-    assert_shown(rt, name, picture.as_str(), &rows, false)
+    let (picture, left_out) = written(rt, report, &mut source).expect(rt, "a picture");
+    assert_left_out(&left_out, &[]).expect(rt, name);
+    assert_shown(rt, picture.as_str(), &rows, false).expect(rt, name)
 }
 
 /// Asserts what is to be seen of a report.
@@ -431,7 +431,7 @@ fn try_texts(
     let is_refused = assert_refused(rt, "texts", nth, answer.is_err());
     let mut source = source_of(rt.alloc(), "ab").expect(rt, "memory");
     let report = builder.finish();
-    let (picture, _) = written(rt, &report, &mut source);
+    let (picture, _) = written(rt, &report, &mut source).expect(rt, "a picture");
     let added = TEXTS.iter().filter(|text| picture.contains(**text)).count();
     assert_eq!(rt; added < 3, is_refused, "at request {nth}");
     let seen = Seen {
@@ -478,7 +478,7 @@ fn try_labels(rt: &(impl Abort + AllocGlobal), nth: usize) -> usize
     let is_refused = assert_refused(rt, "add_labels", nth, answer.is_err());
     let mut source = source_of(rt.alloc(), "ab").expect(rt, "memory");
     let report = builder.finish();
-    let (picture, _) = written(rt, &report, &mut source);
+    let (picture, _) = written(rt, &report, &mut source).expect(rt, "a picture");
     let rows = picture.split_terminator('\n');
     let added = rows.filter(|row| row.ends_with("`-- x")).count();
     assert_eq!(rt; added < 9, is_refused, "at request {nth}");

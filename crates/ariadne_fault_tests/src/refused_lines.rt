@@ -34,12 +34,13 @@ fn try_write(rt: &(impl Abort + AllocGlobal), report: &Report<'_>, nth: usize) -
     let is_refused = assert_refused(rt, "a line of many labels", nth, answer.is_err());
     match answer {
         Ok(left_out) => {
-            assert_left_out(rt, &left_out, &[]);
+            assert_left_out(&left_out, &[]).expect(rt, "the labels");
             assert_trimmed(
                 rt,
                 String::from_utf8(out).expect(rt, "text").as_str(),
                 &ROWS,
-            );
+            )
+            .expect(rt, "the picture");
         }
         Err(error) => {
             assert!(rt; matches!(error, WriteError::Memory(_)), "at request {nth}");

@@ -7,7 +7,7 @@ use crate::writers::Drain;
 use ariadne::{
     Cache, Color, Config, FnCache, Label, LeftOut, Report, ReportKind, Sink, WriteError,
 };
-use ariadne_asserts::asserts::{Piece, Why, assert_missing, assert_trimmed, plain, written};
+use ariadne_asserts::asserts::{Piece, Why, assert_left_out, assert_trimmed, plain, written};
 use ariadne_fakes::{Taker, refuse};
 use std::alloc::{AllocError, Global};
 use std::io::Stderr;
@@ -195,7 +195,7 @@ fn try_way(
     assert_grown(rt, &cache, !is_refused, nth);
     assert!(rt; !out.failed(), "of {way:?} at request {nth}");
     match answer {
-        Ok(left_out) => assert_missing(rt, name.as_str(), &left_out, &LEFT_OUT),
+        Ok(left_out) => assert_left_out(&left_out, &LEFT_OUT).expect(rt, name.as_str()),
         Err(error) => {
             let is_memory = matches!(error, WriteError::Memory(_));
             assert!(rt; is_memory, "of {way:?} at request {nth}");
@@ -208,8 +208,8 @@ fn try_way(
         held.as_bytes(),
         "of {way:?} at request {nth}"
     );
-    let (again, left_out) = written(rt, report, &mut cache);
-    assert_missing(rt, name.as_str(), &left_out, &LEFT_OUT);
+    let (again, left_out) = written(rt, report, &mut cache).expect(rt, "a picture");
+    assert_left_out(&left_out, &LEFT_OUT).expect(rt, name.as_str());
     assert_eq!(rt; again.as_str(), picture, "of {way:?} at request {nth}");
     is_refused
 }
@@ -220,9 +220,9 @@ fn a_refused_picture_sends_nothing_and_the_next_is_whole(rt: HostRuntime) {
     for config in [plain(), plain().with_color(true)] {
         let report = rich(&rt, config);
         let mut cache: FnCache<&'static str, _, &'static str> = FnCache::new(alloc, text_of);
-        let (picture, _) = written(&rt, &report, &mut cache);
+        let (picture, _) = written(&rt, &report, &mut cache).expect(&rt, "a picture");
         let shown = without_colors(alloc, picture.as_str()).expect(&rt, "memory");
-        assert_trimmed(&rt, shown.as_str(), &ROWS);
+        assert_trimmed(&rt, shown.as_str(), &ROWS).expect(&rt, "the picture");
         for way in WAYS {
             for nth in 1..MOST_REQUESTS {
                 if !try_way(&rt, rt.stderr(), &report, way, picture.as_str(), nth) {

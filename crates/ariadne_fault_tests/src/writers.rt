@@ -20,7 +20,7 @@ fn apples(rt: &(impl Abort + AllocGlobal)) -> Report<'static> {
     let builder = plain_error(rt.alloc())
         .with_message("can't compare apples with oranges")
         .expect(rt, "memory");
-    labelled(rt, builder, &APPLE_LABELS)
+    labelled(rt, builder, &APPLE_LABELS).expect(rt, "memory")
 }
 
 /// A sink over such a writer.
@@ -217,13 +217,15 @@ fn for_standard_output_the_same_is_written(rt: HostRuntime) {
 #[test]
 fn the_same_picture_is_printed(rt: HostRuntime) {
     let mut source = source_of(rt.alloc(), "ab").expect(&rt, "memory");
-    let report = labelled(&rt, plain_error(rt.alloc()), &[(0, 2, "x"), (0, 9, "z")]);
+    let report = labelled(&rt, plain_error(rt.alloc()), &[(0, 2, "x"), (0, 9, "z")]).expect(
+        &rt, "memory",
+    );
     let left_out = report.print(&mut source, &rt).expect(&rt, "a picture");
-    assert_left_out(&rt, &left_out, &[(1, Why::PastSource)]);
+    assert_left_out(&left_out, &[(1, Why::PastSource)]).expect(&rt, "the labels");
     let left_out = report
         .eprint(&mut source, rt.stderr())
         .expect(&rt, "memory");
-    assert_left_out(&rt, &left_out, &[(1, Why::PastSource)]);
+    assert_left_out(&left_out, &[(1, Why::PastSource)]).expect(&rt, "the labels");
 }
 
 #[test]

@@ -16,8 +16,8 @@ fn a_span_up_to_the_greatest_offset_is_past_its_source(rt: HostRuntime) {
         .with_label(Label::new(0..=usize::MAX))
         .expect(&rt, "memory")
         .finish();
-    let (picture, left_out) = written(&rt, &report, &mut source);
-    assert_left_out(&rt, &left_out, &[(0, Why::PastSource)]);
+    let (picture, left_out) = written(&rt, &report, &mut source).expect(&rt, "a picture");
+    assert_left_out(&left_out, &[(0, Why::PastSource)]).expect(&rt, "the labels");
     assert_eq!(rt; picture.as_str(), "Error: \n");
 }
 
@@ -75,9 +75,9 @@ fn assert_drawn(
     rows.extend_from_slice(drawn).expect(rt, "memory");
     rows.push("---'").expect(rt, "memory");
     let mut source = source_of(rt.alloc(), text).expect(rt, "memory");
-    let (picture, left_out) = written(rt, &builder.finish(), &mut source);
-    assert_left_out(rt, &left_out, &[]);
-    assert_trimmed(rt, picture.as_str(), &rows)
+    let (picture, left_out) = written(rt, &builder.finish(), &mut source).expect(rt, "a picture");
+    assert_left_out(&left_out, &[]).expect(rt, "the labels");
+    assert_trimmed(rt, picture.as_str(), &rows).expect(rt, "the picture")
 }
 
 #[test]

@@ -3,7 +3,7 @@
 
 use crate::reckoned::{Form, Text, assert_reckoned};
 use ariadne::{CharSet, Config, IndexType, Label, Report};
-use ariadne_asserts::asserts::{Why, assert_missing, plain, plain_error, source_of, written};
+use ariadne_asserts::asserts::{Why, assert_left_out, plain, plain_error, source_of, written};
 use std::alloc::{AllocError, Global};
 use std::process::Abort;
 
@@ -191,7 +191,7 @@ fn assert_pair(
     let text = &round.every.text;
     let mut source = source_of(alloc, text.text).expect(rt, "memory");
     let report = round.report(rt, start, end);
-    let (picture, left_out) = written(rt, &report, &mut source);
+    let (picture, left_out) = written(rt, &report, &mut source).expect(rt, "a picture");
     let reason = round.reason(start, end);
     let mut wanted = Vec::new(alloc);
     let mut labels = Vec::new(alloc);
@@ -210,7 +210,7 @@ fn assert_pair(
         messages.push("other").expect(rt, "memory");
     }
     let name = format!(in alloc; "{start}..{end} of {:?}", text.text).expect(rt, "memory");
-    assert_missing(rt, name.as_str(), &left_out, &wanted);
+    assert_left_out(&left_out, &wanted).expect(rt, name.as_str());
     assert_reckoned(
         rt,
         name.as_str(),

@@ -10,8 +10,8 @@ use ariadne::{
     UnknownSource, WriteError, sources,
 };
 use ariadne_asserts::asserts::{
-    Piece, Why, assert_left_out, assert_missing, assert_picture_over, assert_shown, assert_unknown,
-    labelled, labelled_in, plain_error, plain_error_at, written,
+    Piece, Why, assert_left_out, assert_picture_over, assert_shown, assert_unknown, labelled,
+    labelled_in, plain_error, plain_error_at, written,
 };
 use std::alloc::AllocError;
 use std::cell::Cell;
@@ -47,7 +47,7 @@ const SECOND: [&str; 7] = [
 /// The report with the two labels on `x`.
 fn two_labels(rt: &(impl Abort + AllocGlobal)) -> Report<'static, Piece> {
     let builder = plain_error_at(rt.alloc(), ("x", 0..0));
-    labelled_in(rt, builder, &[("x", 0, 1, "p"), ("x", 1, 2, "q")])
+    labelled_in(rt, builder, &[("x", 0, 1, "p"), ("x", 1, 2, "q")]).expect(rt, "memory")
 }
 
 /// Asserts that all these labels are left out by what is named since their sources can't be had, and
@@ -182,9 +182,9 @@ fn assert_called(rt: &(impl Abort + AllocGlobal), faulty: &'static Faulty) {
     );
     let report = two_labels(rt);
     for round in faulty.rounds {
-        let (picture, left_out) = written(rt, &report, &mut cache);
-        assert_shown(rt, name, picture.as_str(), round.rows, round.is_whole);
-        assert_missing(rt, name, &left_out, round.left_out);
+        let (picture, left_out) = written(rt, &report, &mut cache).expect(rt, "a picture");
+        assert_shown(rt, picture.as_str(), round.rows, round.is_whole).expect(rt, name);
+        assert_left_out(&left_out, round.left_out).expect(rt, name);
         assert_told(rt, name, &left_out, round.told);
         assert_eq!(rt; counted.calls.get(), round.calls, "of {name}");
     }
@@ -209,7 +209,9 @@ fn the_sources_of_labels_are_fetched_and_that_of_the_report_is_not(rt: HostRunti
         },
     );
     let builder = plain_error_at(rt.alloc(), ("r", 0..0));
-    let report = labelled_in(&rt, builder, &[("z", 0, 1, "l"), ("x", 0, 1, "m")]);
+    let report = labelled_in(&rt, builder, &[("z", 0, 1, "l"), ("x", 0, 1, "m")]).expect(
+        &rt, "memory",
+    );
     let rows = [
         "Error:",
         "   ,-[ x:1:1 ]",
@@ -219,7 +221,10 @@ fn the_sources_of_labels_are_fetched_and_that_of_the_report_is_not(rt: HostRunti
         "   | `-- m",
         "---'",
     ];
-    assert_picture_over(&rt, &report, &mut cache, &[(0, Why::Unfetched)], &rows);
+    assert_picture_over(&rt, &report, &mut cache, &[(0, Why::Unfetched)], &rows).expect(
+        &rt,
+        "the picture",
+    );
     assert_eq!(rt; calls.get(), 2);
     assert!(rt; cache.get(&"x").is_some());
     assert!(rt; cache.get(&"z").is_none());
@@ -231,18 +236,19 @@ fn a_report_is_drawn_alike_over_each_cache_of_its_source(rt: HostRuntime) {
     let alloc = rt.alloc();
     let report = two_labels(&rt);
     let mut map = sources(alloc, [("x", "ab")]).expect(&rt, "memory");
-    assert_picture_over(&rt, &report, &mut map, &[], &TWO);
-    assert_picture_over(&rt, &report, &mut (&mut map), &[], &TWO);
+    assert_picture_over(&rt, &report, &mut map, &[], &TWO).expect(&rt, "the picture");
+    assert_picture_over(&rt, &report, &mut (&mut map), &[], &TWO).expect(&rt, "the picture");
     assert_picture_over(
         &rt,
         &report,
         &mut Box::new(alloc, map).expect(&rt, "memory"),
         &[],
         &TWO,
-    );
+    )
+    .expect(&rt, "the picture");
     let source = Source::from(alloc, "ab").expect(&rt, "memory");
-    assert_picture_over(&rt, &report, &mut ("x", &source), &[], &TWO);
-    assert_picture_over(&rt, &report, &mut ("x", source), &[], &TWO);
+    assert_picture_over(&rt, &report, &mut ("x", &source), &[], &TWO).expect(&rt, "the picture");
+    assert_picture_over(&rt, &report, &mut ("x", source), &[], &TWO).expect(&rt, "the picture");
     // Sources that were given are drawn without a call.
     let cache: FnCache<&str, _, &str> = FnCache::new(alloc, |_id: &&str| -> Result<&str, ()> {
         Err(())
@@ -251,22 +257,24 @@ fn a_report_is_drawn_alike_over_each_cache_of_its_source(rt: HostRuntime) {
     let source = Source::from(alloc, "ab").expect(&rt, "memory");
     assert!(rt; given.insert("x", source).is_ok());
     let mut cache = cache.with_sources(given).expect(&rt, "memory");
-    assert_picture_over(&rt, &report, &mut cache, &[], &TWO)
+    assert_picture_over(&rt, &report, &mut cache, &[], &TWO).expect(&rt, "the picture")
 }
 
 #[test]
 fn a_source_without_a_name_is_unknown(rt: HostRuntime) {
     let alloc = rt.alloc();
-    let report = labelled(&rt, plain_error(alloc), &[(0, 1, "p"), (1, 2, "q")]);
+    let report = labelled(&rt, plain_error(alloc), &[(0, 1, "p"), (1, 2, "q")]).expect(
+        &rt, "memory",
+    );
     let mut rows = TWO;
     rows[1] = "   ,-[ <unknown>:1:1 ]";
     let mut shared = Source::from(alloc, RcStr::from_str(alloc, "ab").expect(&rt, "memory")).expect(
         &rt, "memory",
     );
-    assert_picture_over(&rt, &report, &mut shared, &[], &rows);
+    assert_picture_over(&rt, &report, &mut shared, &[], &rows).expect(&rt, "the picture");
     let mut source = Source::from(alloc, "ab").expect(&rt, "memory");
-    assert_picture_over(&rt, &report, &mut (&source), &[], &rows);
-    assert_picture_over(&rt, &report, &mut source, &[], &rows)
+    assert_picture_over(&rt, &report, &mut (&source), &[], &rows).expect(&rt, "the picture");
+    assert_picture_over(&rt, &report, &mut source, &[], &rows).expect(&rt, "the picture")
 }
 
 #[test]
@@ -297,7 +305,7 @@ fn ids_may_be_strings(rt: HostRuntime) {
         )],
     )
     .expect(&rt, "memory");
-    assert_picture_over(&rt, &report, &mut map, &[], &rows)
+    assert_picture_over(&rt, &report, &mut map, &[], &rows).expect(&rt, "the picture")
 }
 
 #[test]
@@ -310,7 +318,7 @@ fn an_inclusive_span_holds_its_last_offset(rt: HostRuntime) {
     let report = plain_error_at(alloc, ("x", 0..=0))
         .with_label(last)
         .expect(&rt, "memory");
-    assert_picture_over(&rt, &report.finish(), &mut map, &[], &SECOND);
+    assert_picture_over(&rt, &report.finish(), &mut map, &[], &SECOND).expect(&rt, "the picture");
     let far = Label::new(("x", 0..=usize::MAX))
         .with_message(alloc, "q")
         .expect(&rt, "memory");
@@ -318,7 +326,10 @@ fn an_inclusive_span_holds_its_last_offset(rt: HostRuntime) {
         .with_label(far)
         .expect(&rt, "memory");
     let left_out = [(0, Why::PastSource)];
-    assert_picture_over(&rt, &report.finish(), &mut map, &left_out, &["Error:"]);
+    assert_picture_over(&rt, &report.finish(), &mut map, &left_out, &["Error:"]).expect(
+        &rt,
+        "the picture",
+    );
     let mut source = Source::from(alloc, "ab").expect(&rt, "memory");
     let last = Label::new(1..=1)
         .with_message(alloc, "q")
@@ -328,24 +339,19 @@ fn an_inclusive_span_holds_its_last_offset(rt: HostRuntime) {
         .expect(&rt, "memory");
     let mut rows = SECOND;
     rows[1] = "   ,-[ <unknown>:1:1 ]";
-    assert_picture_over(&rt, &report.finish(), &mut source, &[], &rows)
+    assert_picture_over(&rt, &report.finish(), &mut source, &[], &rows).expect(&rt, "the picture")
 }
 
 #[test]
 fn a_pair_has_no_source_of_another_id(rt: HostRuntime) {
     let alloc = rt.alloc();
     let builder = plain_error_at(alloc, ("a", 0..0));
-    let report = labelled_in(&rt, builder, &[("b", 0, 1, "m")]);
+    let report = labelled_in(&rt, builder, &[("b", 0, 1, "m")]).expect(&rt, "memory");
     let mut pair = ("a", Source::from(alloc, "ab").expect(&rt, "memory"));
-    let (picture, left_out) = written(&rt, &report, &mut pair);
+    let (picture, left_out) = written(&rt, &report, &mut pair).expect(&rt, "a picture");
     assert_eq!(rt; picture.as_str(), "Error: \n");
-    assert_left_out(&rt, &left_out, &[(0, Why::Unfetched)]);
-    assert_unknown(
-        &rt,
-        "the report",
-        &left_out,
-        &["Failed to fetch source 'b'"],
-    )
+    assert_left_out(&left_out, &[(0, Why::Unfetched)]).expect(&rt, "the labels");
+    assert_unknown(&rt, &left_out, &["Failed to fetch source 'b'"]).expect(&rt, "the report")
 }
 
 /// A map of sources that shows no name for one of its ids.
@@ -389,7 +395,7 @@ fn a_cache_of_the_callers_own_may_show_no_name(rt: HostRuntime) {
     let mut cache = Discreet { map, hidden: "x" };
     let builder = plain_error_at(alloc, ("x", 0..0));
     let labels = [("x", 1, 2, "q"), ("y", 0, 1, "m"), ("z", 0, 1, "l")];
-    let report = labelled_in(&rt, builder, &labels);
+    let report = labelled_in(&rt, builder, &labels).expect(&rt, "memory");
     assert_picture_over(
         &rt,
         &report,
@@ -411,6 +417,7 @@ fn a_cache_of_the_callers_own_may_show_no_name(rt: HostRuntime) {
             "---'",
         ],
     )
+    .expect(&rt, "the picture")
 }
 
 /// A function that fails once for each id.
@@ -453,7 +460,7 @@ fn each_id_that_failed_is_asked_for_again(rt: HostRuntime) {
         ("x", 1, 2, "q"),
         ("y", 1, 2, "q"),
     ];
-    let report = labelled_in(&rt, builder, &labels);
+    let report = labelled_in(&rt, builder, &labels).expect(&rt, "memory");
     let rows = [
         "Error:",
         "   ,-[ x:1:1 ]",
@@ -470,7 +477,7 @@ fn each_id_that_failed_is_asked_for_again(rt: HostRuntime) {
         "---'",
     ];
     let left_out = [(0, Why::Unfetched), (1, Why::Unfetched)];
-    assert_picture_over(&rt, &report, &mut cache, &left_out, &rows)
+    assert_picture_over(&rt, &report, &mut cache, &left_out, &rows).expect(&rt, "the picture")
 }
 
 /// A map of sources that answers want of memory at its second fetch of an id that it does not hold.
@@ -522,15 +529,15 @@ fn where_a_cache_wants_memory_nothing_is_sent(rt: HostRuntime) {
     };
     let builder = plain_error_at(alloc, ("x", 0..0));
     let labels = [("z", 0, 1, "l"), ("x", 1, 2, "q"), ("w", 0, 1, "l")];
-    let report = labelled_in(&rt, builder, &labels);
+    let report = labelled_in(&rt, builder, &labels).expect(&rt, "memory");
     let mut out = Vec::new(alloc);
     let answer = report.write(&mut cache, &mut out);
     assert!(rt; matches!(answer, Err(WriteError::Memory(_))));
     assert!(rt; out.is_empty());
     // What it holds is drawn.
     let builder = plain_error_at(alloc, ("x", 0..0));
-    let report = labelled_in(&rt, builder, &[("x", 1, 2, "q")]);
-    assert_picture_over(&rt, &report, &mut cache, &[], &SECOND)
+    let report = labelled_in(&rt, builder, &[("x", 1, 2, "q")]).expect(&rt, "memory");
+    assert_picture_over(&rt, &report, &mut cache, &[], &SECOND).expect(&rt, "the picture")
 }
 
 #[test]
@@ -560,15 +567,16 @@ fn a_file_is_drawn_as_it_was_first_read(rt: HostRuntime) {
         &mut cache,
         &[(0, Why::Unfetched)],
         &["Error:"],
-    );
+    )
+    .expect(&rt, "the picture");
     fs::write(&rt, path.as_path(), "ab").expect(&rt, "a file");
-    assert_picture_over(&rt, &report, &mut cache, &[], &rows);
+    assert_picture_over(&rt, &report, &mut cache, &[], &rows).expect(&rt, "the picture");
     fs::write(&rt, path.as_path(), "\u{feff}x").expect(&rt, "a file");
-    assert_picture_over(&rt, &report, &mut cache, &[], &rows);
+    assert_picture_over(&rt, &report, &mut cache, &[], &rows).expect(&rt, "the picture");
     // Its mark is a character without a column.
     rows[3] = " 1 | \u{feff}x";
     rows[4] = "   | |";
     rows[5] = "   | `-- q";
     let mut later = FileCache::new(&rt, alloc);
-    assert_picture_over(&rt, &report, &mut later, &[], &rows)
+    assert_picture_over(&rt, &report, &mut later, &[], &rows).expect(&rt, "the picture")
 }

@@ -11,7 +11,7 @@ fn assert_asides(rt: &(impl Abort + AllocGlobal), report: &Report<'_>, asides: &
         .expect(rt, "memory");
     rows.extend_from_slice(asides).expect(rt, "memory");
     rows.push("---'").expect(rt, "memory");
-    assert_picture(rt, report, "", &rows)
+    assert_picture(rt, report, "", &rows).expect(rt, "the picture")
 }
 
 /// A report in the making, at the line of an empty source, whose note `a` was set to `b`, or whose

@@ -34,7 +34,8 @@ fn labels_are_added_behind_those_that_are_there(rt: HostRuntime) {
             .finish(),
         "ab",
         &TWO,
-    );
+    )
+    .expect(&rt, "the picture");
     let report = plain_error(alloc)
         .with_message("m")
         .expect(&rt, "memory")
@@ -48,7 +49,8 @@ fn labels_are_added_behind_those_that_are_there(rt: HostRuntime) {
             .finish(),
         "ab",
         &TWO,
-    );
+    )
+    .expect(&rt, "the picture");
     let mut report = plain_error(alloc).with_message("m").expect(&rt, "memory");
     report
         .add_label(p().expect(&rt, "memory"))
@@ -56,13 +58,13 @@ fn labels_are_added_behind_those_that_are_there(rt: HostRuntime) {
     report
         .add_label(q().expect(&rt, "memory"))
         .expect(&rt, "memory");
-    assert_picture(&rt, &report.finish(), "ab", &TWO);
+    assert_picture(&rt, &report.finish(), "ab", &TWO).expect(&rt, "the picture");
     let mut report = plain_error(alloc).with_message("m").expect(&rt, "memory");
     report
         .add_labels([p().expect(&rt, "memory"), q().expect(&rt, "memory")])
         .expect(&rt, "memory");
     report.add_labels([]).expect(&rt, "memory");
-    assert_picture(&rt, &report.finish(), "ab", &TWO)
+    assert_picture(&rt, &report.finish(), "ab", &TWO).expect(&rt, "the picture")
 }
 
 #[test]
@@ -71,15 +73,15 @@ fn the_last_message_of_a_report_or_a_label_counts(rt: HostRuntime) {
         .with_message("first")
         .expect(&rt, "memory");
     let mut report = report.with_message("second").expect(&rt, "memory");
-    assert_bytes(&rt, &report.finish(), "", &["Error: second"]);
+    assert_bytes(&rt, &report.finish(), "", &["Error: second"]).expect(&rt, "the picture");
     report = plain_error(rt.alloc())
         .with_message("first")
         .expect(&rt, "memory");
     report.set_message("third").expect(&rt, "memory");
-    assert_bytes(&rt, &report.finish(), "", &["Error: third"]);
+    assert_bytes(&rt, &report.finish(), "", &["Error: third"]).expect(&rt, "the picture");
     let mut report = plain_error(rt.alloc());
     report.set_message("").expect(&rt, "memory");
-    assert_bytes(&rt, &report.finish(), "", &["Error: "]);
+    assert_bytes(&rt, &report.finish(), "", &["Error: "]).expect(&rt, "the picture");
     let label = Label::new(0..1)
         .with_message(rt.alloc(), "first")
         .expect(&rt, "memory");
@@ -99,7 +101,7 @@ fn the_last_message_of_a_report_or_a_label_counts(rt: HostRuntime) {
         "   | `-- second",
         "---'",
     ];
-    assert_picture(&rt, &report, "a", &rows)
+    assert_picture(&rt, &report, "a", &rows).expect(&rt, "the picture")
 }
 
 #[test]

@@ -27,14 +27,14 @@ fn a_new_configuration_is_the_default(rt: HostRuntime) {
 fn the_last_configuration_counts(rt: HostRuntime) {
     let builder = Report::build(rt.alloc(), ReportKind::Error, 0..0);
     let report = builder.with_message("m").expect(&rt, "memory").finish();
-    assert_bytes(&rt, &report, "", &["\x1b[31mError:\x1b[0m m"]);
+    assert_bytes(&rt, &report, "", &["\x1b[31mError:\x1b[0m m"]).expect(&rt, "the picture");
     let builder = plain_error(rt.alloc()).with_config(Config::default());
     let report = builder
         .with_config(plain())
         .with_message("m")
         .expect(&rt, "memory")
         .finish();
-    assert_bytes(&rt, &report, "", &["Error: m"]);
+    assert_bytes(&rt, &report, "", &["Error: m"]).expect(&rt, "the picture");
     // It may come behind the label, whose colour it takes away.
     let label = Label::new(0..1).with_color(Color::Blue);
     let label = label.with_message(rt.alloc(), "m").expect(&rt, "memory");
@@ -51,5 +51,5 @@ fn the_last_configuration_counts(rt: HostRuntime) {
         "   | `-- m",
         "---'",
     ];
-    assert_bytes(&rt, &report, "a", &rows)
+    assert_bytes(&rt, &report, "a", &rows).expect(&rt, "the picture")
 }

@@ -31,5 +31,5 @@ fn the_example_of_the_readme(rt: HostRuntime) {
     tell(rt.alloc(), text, &mut out, &mut faults).expect(&rt, "a picture");
     assert!(rt; faults.is_empty());
     let picture = String::from_utf8(out).expect(&rt, "text");
-    assert_trimmed(&rt, picture.as_str(), &README)
+    assert_trimmed(&rt, picture.as_str(), &README).expect(&rt, "the picture")
 }
