@@ -48,7 +48,7 @@ fn has_no_text<Id: Eq, C: Cache<Id, Error = FileError>>(
 }
 
 #[test]
-fn a_source_is_a_cache_without_names_and_a_pair_holds_its_own_id_alone(rt: HostRuntime) {
+fn a_source_is_a_cache_without_names(rt: HostRuntime) {
     let alloc = rt.alloc();
     let mut source = Source::from(alloc, "ab").expect(&rt, "memory");
     assert!(rt; fetches(&mut source, &(), "ab"));
@@ -56,7 +56,12 @@ fn a_source_is_a_cache_without_names_and_a_pair_holds_its_own_id_alone(rt: HostR
     let mut lent = &source;
     assert!(rt; fetches(&mut lent, &(), "ab"));
     assert!(rt; lent.display(&()).is_none());
+}
 
+#[test]
+fn a_pair_holds_its_own_id_alone(rt: HostRuntime) {
+    let alloc = rt.alloc();
+    let source = Source::from(alloc, "ab").expect(&rt, "memory");
     let mut lent = ("a", &source);
     assert!(rt; fetches(&mut lent, &"a", "ab"));
     assert!(rt; lacks(&mut lent, &"b", "b"));
@@ -66,8 +71,11 @@ fn a_source_is_a_cache_without_names_and_a_pair_holds_its_own_id_alone(rt: HostR
     assert!(rt; fetches(&mut pair, &"a".to_string(alloc).expect(&rt, "memory"), "ab"));
     assert!(rt; lacks(&mut pair, &other, "b"));
     assert_eq!(rt; pair.display(&other), Some("b"));
+}
 
-    // The last pair of an id counts.
+#[test]
+fn the_last_pair_of_an_id_counts(rt: HostRuntime) {
+    let alloc = rt.alloc();
     let mut map = sources(alloc, [("a", "x"), ("b", "z"), ("a", "y")]).expect(&rt, "memory");
     assert!(rt; fetches(&mut map, &"a", "y"));
     assert!(rt; fetches(&mut map, &"b", "z"));
@@ -100,7 +108,7 @@ fn got_but_z(id: &&str) -> Result<&'static str, u8> {
 }
 
 #[test]
-fn a_function_is_asked_until_it_answers_and_what_is_given_replaces_what_is_held(rt: HostRuntime) {
+fn a_function_is_asked_until_it_answers(rt: HostRuntime) {
     let alloc = rt.alloc();
     let calls = Cell::new(0u8);
     let mut cache: FnCache<&str, _, &str> = FnCache::new(alloc, |_id: &&str| -> Result<&str, u8> {
@@ -114,14 +122,24 @@ fn a_function_is_asked_until_it_answers_and_what_is_given_replaces_what_is_held(
         assert_eq!(rt; calls.get(), 2);
     }
     assert_eq!(rt; cache.display(&"x"), Some("x"));
+}
 
-    let mut cache: FnCache<&str, _, &str> = FnCache::new(alloc, got_but_z);
+#[test]
+fn an_id_that_fails_is_asked_for_each_time(rt: HostRuntime) {
+    let mut cache: FnCache<&str, _, &str> = FnCache::new(rt.alloc(), got_but_z);
     for _ in 0..2 {
         assert!(rt; matches!(cache.fetch(&"z"), Err(FetchError::Failed(7))));
         let text = cache.fetch(&"a").map_or("", |source| source.text());
         assert_eq!(rt; text, "got");
     }
     assert!(rt; cache.get(&"z").is_none());
+}
+
+#[test]
+fn sources_that_are_given_replace_those_that_are_held(rt: HostRuntime) {
+    let alloc = rt.alloc();
+    let mut cache: FnCache<&str, _, &str> = FnCache::new(alloc, got_but_z);
+    assert!(rt; fetches(&mut cache, &"a", "got"));
     assert!(rt; fetches(&mut cache, &"b", "got"));
     let mut given = HashMap::new(alloc);
     let source = Source::from(alloc, "given").expect(&rt, "memory");
