@@ -41,39 +41,24 @@ pub struct Answer {
     pub left_out: Vec<(usize, Why)>,
 }
 
-/// The kind of a report: its name, or three parts, of which the last two are the name and the
-/// colour of a kind of the caller's own.
+/// The kind of a report. One of the caller's own has a name and a colour.
 #[derive(Drop, Deserialize)]
-#[serde(untagged)]
 pub enum Kind {
-    Named(KindName),
-    Custom(String, String, Hue),
-}
-
-/// The kinds that have a name.
-#[derive(Clone, Copy, Drop, Deserialize)]
-pub enum KindName {
     Error,
     Warning,
     Advice,
+    Custom(String, Hue),
 }
 
-/// A colour: its name, or `Fixed` or `Rgb` with its numbers.
-#[derive(Drop, Deserialize)]
-#[serde(untagged)]
-pub enum Hue {
-    Named(ColorName),
-    Fixed(String, u8),
-    Rgb(String, u8, u8, u8),
-}
-
-/// The colours that have a name and stand in cases.
+/// The colours that stand in cases.
 #[derive(Clone, Copy, Drop, Deserialize)]
-pub enum ColorName {
+pub enum Hue {
     Primary,
     Red,
     Blue,
     BrightGreen,
+    Fixed(u8),
+    Rgb(u8, u8, u8),
 }
 
 /// A label. Where `id` is nothing its source is the only one.

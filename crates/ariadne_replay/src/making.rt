@@ -2,9 +2,7 @@
 
 ghost use Rattle.std.specs.Prelude.{◌≤◌, IfOk};
 
-use crate::case::{
-    Attach, Case, Characters, ColorName, Hue, Kind, KindName, Mark, Offsets, Switches, Text,
-};
+use crate::case::{Attach, Case, Characters, Hue, Kind, Mark, Offsets, Switches, Text};
 use ariadne::{
     CharSet, Color, Config, IndexType, Label, LabelAttach, Report, ReportBuilder, ReportKind,
     Source, Span,
@@ -18,24 +16,24 @@ use std::ops::Range;
 pub type Piece = (String, Range<usize>);
 
 /// A colour of a case.
-fn color_of(hue: &Hue) -> Color {
+fn color_of(hue: Hue) -> Color {
     match hue {
-        Hue::Named(ColorName::Primary) => Color::Primary,
-        Hue::Named(ColorName::Red) => Color::Red,
-        Hue::Named(ColorName::Blue) => Color::Blue,
-        Hue::Named(ColorName::BrightGreen) => Color::BrightGreen,
-        Hue::Fixed(_, number) => Color::Fixed(*number),
-        Hue::Rgb(_, red, green, blue) => Color::Rgb(*red, *green, *blue),
+        Hue::Primary => Color::Primary,
+        Hue::Red => Color::Red,
+        Hue::Blue => Color::Blue,
+        Hue::BrightGreen => Color::BrightGreen,
+        Hue::Fixed(number) => Color::Fixed(number),
+        Hue::Rgb(red, green, blue) => Color::Rgb(red, green, blue),
     }
 }
 
 /// The kind of a case's report.
 fn kind_of(kind: &Kind) -> ReportKind<'_> {
     match kind {
-        Kind::Named(KindName::Error) => ReportKind::Error,
-        Kind::Named(KindName::Warning) => ReportKind::Warning,
-        Kind::Named(KindName::Advice) => ReportKind::Advice,
-        Kind::Custom(_, name, hue) => ReportKind::Custom(name.as_str(), color_of(hue)),
+        Kind::Error => ReportKind::Error,
+        Kind::Warning => ReportKind::Warning,
+        Kind::Advice => ReportKind::Advice,
+        Kind::Custom(name, hue) => ReportKind::Custom(name.as_str(), color_of(*hue)),
     }
 }
 
@@ -100,7 +98,7 @@ pub fn dressed<S: Span + Drop>(
     mark: &Mark,
 ) -> Result<Label<S>, AllocError> {
     let mut label = label.with_order(mark.order).with_priority(mark.priority);
-    if let Some(hue) = &mark.color {
+    if let Some(hue) = mark.color {
         label = label.with_color(color_of(hue));
     }
     match &mark.message {
