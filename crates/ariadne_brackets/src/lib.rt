@@ -20,10 +20,6 @@ mod checked;
 mod fault;
 mod linting;
 mod offence;
-#[cfg(test)]
-mod tests;
-#[cfg(test)]
-mod tests_refused;
 
 pub use fault::{Fault, Status, tell_fault};
 pub use linting::lint;

@@ -1,5 +1,6 @@
-//! Tests of the calls that make a report, of the laws, and of the example of README.md. Pictures are
-//! stored cases of `ariadne_replay`.
+//! Tests of the calls that make a report, of the laws, and of the example of README.md; of all offsets,
+//! the greatest numbers and the longest texts; and of what stands where memory is refused, and where a
+//! writer or a sink fails. Pictures are stored cases of `ariadne_replay`.
 #![tactic(auto)]
 
 #[cfg(test)]
@@ -11,8 +12,26 @@ mod configs;
 #[cfg(test)]
 mod example;
 #[cfg(test)]
+mod extremes;
+#[cfg(test)]
 mod labels;
 #[cfg(test)]
 mod laws;
 #[cfg(test)]
+mod offsets;
+#[cfg(test)]
 mod readme;
+#[cfg(test)]
+mod reckoned;
+#[cfg(test)]
+mod refused;
+#[cfg(test)]
+mod refused_calls;
+#[cfg(test)]
+mod refused_lines;
+#[cfg(test)]
+mod refused_pictures;
+#[cfg(test)]
+mod refused_sources;
+#[cfg(test)]
+mod writers;

@@ -1,10 +1,7 @@
 //! What `draw` writes for `--help` and `--version`, and words without colours.
 
-use super::drawing::draw;
-use super::fault::Status;
-use super::pages::Page;
-use super::tests::{USAGE, run, run_over};
-use super::words::without_colors;
+use crate::draw::{USAGE, run, run_over};
+use ariadne_draw::{Page, Status, draw, without_colors};
 use ariadne_fakes::{Given, Taker, texts};
 use std::alloc::{AllocError, Global};
 use std::io::ErrorKind;

@@ -1,8 +1,6 @@
 //! The program with each of its requests for memory refused in turn.
 
-use super::drawing::draw;
-use super::fault::Status;
-use super::words::without_colors;
+use ariadne_draw::{Status, draw, without_colors};
 use ariadne_fakes::{Given, Taker, refuse, texts, was_refused};
 
 #[test]

@@ -1,7 +1,6 @@
 //! `draw` over words, an input and writers of the tests' own.
 
-use super::drawing::draw;
-use super::fault::Status;
+use ariadne_draw::{Status, draw};
 use ariadne_fakes::{Given, Taker, texts};
 use std::alloc::Global;
 use std::io::ErrorKind;

@@ -1,9 +1,7 @@
 //! The linter with each of its requests for memory refused in turn.
 
-use super::fault::Status;
-use super::linting::lint;
-use super::offence::{Offence, first_offence};
-use super::tests::{FIRST, SECOND, both};
+use crate::lint::{FIRST, SECOND, both};
+use ariadne_brackets::{Offence, first_offence};
 use ariadne_fakes::{Taker, refuse, texts, was_refused};
 use std::{env, fs};
 

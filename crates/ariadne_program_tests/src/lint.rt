@@ -1,8 +1,6 @@
 //! `first_offence` over texts, and `lint` over files of the system.
 
-use super::fault::Status;
-use super::linting::lint;
-use super::offence::{Offence, first_offence};
+use ariadne_brackets::{Offence, Status, first_offence, lint};
 use ariadne_fakes::{Taker, texts};
 use std::alloc::{AllocError, Global};
 use std::io::ErrorKind;

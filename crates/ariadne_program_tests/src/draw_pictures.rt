@@ -1,7 +1,7 @@
 //! The pictures that `draw` draws.
 
-use super::fault::Status;
-use super::tests::{run, run_over};
+use crate::draw::{run, run_over};
+use ariadne_draw::Status;
 use ariadne_fakes::{Given, Taker};
 use std::alloc::{AllocError, Global};
 use std::io::ErrorKind;

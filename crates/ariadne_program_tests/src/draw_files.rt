@@ -1,7 +1,7 @@
 //! `draw` over files of the system.
 
-use super::fault::Status;
-use super::tests::{Outcome, run_over};
+use crate::draw::{Outcome, run_over};
+use ariadne_draw::Status;
 use ariadne_fakes::{Given, Taker};
 use std::alloc::Global;
 use std::io::ErrorKind;
