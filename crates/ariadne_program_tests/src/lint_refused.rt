@@ -1,7 +1,7 @@
 //! The linter with each of its requests for memory refused in turn.
 
 use crate::lint::{FIRST, SECOND, both};
-use ariadne_brackets::{Offence, first_offence};
+use ariadne_brackets::{Offence, Status, first_offence, lint};
 use ariadne_fakes::{Taker, refuse, texts, was_refused};
 use std::{env, fs};
 
