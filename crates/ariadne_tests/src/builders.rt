@@ -1,7 +1,8 @@
 //! Calls of the builder, each by the picture that it makes.
 
-use ariadne::{Color, Label, ReportKind};
+use ariadne::{Color, Label, Report, ReportBuilder, ReportKind};
 use ariadne_asserts::asserts::{assert_bytes, assert_picture, plain_error};
+use std::process::Abort;
 
 /// The picture of two labels added in turn.
 const TWO: [&str; 9] = [
@@ -16,59 +17,67 @@ const TWO: [&str; 9] = [
     "---'",
 ];
 
-#[test]
-fn labels_are_added_behind_those_that_are_there(rt: HostRuntime) {
-    let alloc = rt.alloc();
-    let p = || Label::new(0..1).with_message(alloc, "p");
-    let q = || Label::new(1..2).with_message(alloc, "q");
-    let report = plain_error(alloc)
+/// The first of the two labels.
+fn first(rt: &(impl Abort + AllocGlobal)) -> Label {
+    Label::new(0..1)
+        .with_message(rt.alloc(), "p")
+        .expect(rt, "memory")
+}
+
+/// The second of the two labels.
+fn second(rt: &(impl Abort + AllocGlobal)) -> Label {
+    Label::new(1..2)
+        .with_message(rt.alloc(), "q")
+        .expect(rt, "memory")
+}
+
+/// Their report in the making, with the first alone.
+fn begun(rt: &(impl Abort + AllocGlobal)) -> ReportBuilder<'static> {
+    plain_error(rt.alloc())
         .with_message("m")
-        .expect(&rt, "memory")
-        .with_label(p().expect(&rt, "memory"))
-        .expect(&rt, "memory");
-    assert_picture(
-        &rt,
-        &report
-            .with_label(q().expect(&rt, "memory"))
-            .expect(&rt, "memory")
-            .finish(),
-        "ab",
-        &TWO,
-    )
-    .expect(&rt, "the picture");
-    let report = plain_error(alloc)
-        .with_message("m")
-        .expect(&rt, "memory")
-        .with_label(p().expect(&rt, "memory"))
-        .expect(&rt, "memory");
-    assert_picture(
-        &rt,
-        &report
-            .with_labels([q().expect(&rt, "memory")])
-            .expect(&rt, "memory")
-            .finish(),
-        "ab",
-        &TWO,
-    )
-    .expect(&rt, "the picture");
-    let mut report = plain_error(alloc).with_message("m").expect(&rt, "memory");
-    report
-        .add_label(p().expect(&rt, "memory"))
-        .expect(&rt, "memory");
-    report
-        .add_label(q().expect(&rt, "memory"))
-        .expect(&rt, "memory");
-    assert_picture(&rt, &report.finish(), "ab", &TWO).expect(&rt, "the picture");
-    let mut report = plain_error(alloc).with_message("m").expect(&rt, "memory");
-    report
-        .add_labels([p().expect(&rt, "memory"), q().expect(&rt, "memory")])
-        .expect(&rt, "memory");
-    report.add_labels([]).expect(&rt, "memory");
-    assert_picture(&rt, &report.finish(), "ab", &TWO).expect(&rt, "the picture")
+        .expect(rt, "memory")
+        .with_label(first(rt))
+        .expect(rt, "memory")
+}
+
+/// Asserts that this report has the two labels, in turn.
+fn assert_two(rt: &(impl Abort + AllocGlobal), report: &Report<'_>) {
+    assert_picture(rt, report, "ab", &TWO).expect(rt, "the picture")
 }
 
 #[test]
-fn the_last_message_of_a_report_or_a_label_counts(rt: HostRuntime) {
+fn one_label_more_stands_behind_those_that_are_there(rt: HostRuntime) {
+    let report = begun(&rt).with_label(second(&rt)).expect(&rt, "memory");
+    assert_two(&rt, &report.finish())
+}
+
+#[test]
+fn some_labels_more_stand_behind_those_that_are_there(rt: HostRuntime) {
+    let report = begun(&rt).with_labels([second(&rt)]).expect(&rt, "memory");
+    assert_two(&rt, &report.finish())
+}
+
+#[test]
+fn an_added_label_stands_behind_those_that_are_there(rt: HostRuntime) {
+    let mut report = begun(&rt);
+    report.add_label(second(&rt)).expect(&rt, "memory");
+    assert_two(&rt, &report.finish())
+}
+
+#[test]
+fn added_labels_stand_in_their_order(rt: HostRuntime) {
+    let mut report = plain_error(rt.alloc())
+        .with_message("m")
+        .expect(&rt, "memory");
+    report
+        .add_labels([first(&rt), second(&rt)])
+        .expect(&rt, "memory");
+    report.add_labels([]).expect(&rt, "memory");
+    assert_two(&rt, &report.finish())
+}
+
+#[test]
+fn the_last_message_of_a_report_counts(rt: HostRuntime) {
     let report = plain_error(rt.alloc())
         .with_message("first")
         .expect(&rt, "memory");
@@ -81,11 +90,12 @@ fn the_last_message_of_a_report_or_a_label_counts(rt: HostRuntime) {
     assert_bytes(&rt, &report.finish(), "", &["Error: third"]).expect(&rt, "the picture");
     let mut report = plain_error(rt.alloc());
     report.set_message("").expect(&rt, "memory");
-    assert_bytes(&rt, &report.finish(), "", &["Error: "]).expect(&rt, "the picture");
-    let label = Label::new(0..1)
-        .with_message(rt.alloc(), "first")
-        .expect(&rt, "memory");
-    let label = label
+    assert_bytes(&rt, &report.finish(), "", &["Error: "]).expect(&rt, "the picture")
+}
+
+#[test]
+fn the_last_message_of_a_label_counts(rt: HostRuntime) {
+    let label = first(&rt)
         .with_message(rt.alloc(), "second")
         .expect(&rt, "memory");
     let report = plain_error(rt.alloc())
