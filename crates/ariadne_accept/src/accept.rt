@@ -1,6 +1,6 @@
 //! Which labels of a report are drawn, and why the others are left out.
 
-ghost use Rattle.std.specs.Prelude.{◌≡◌, ◌≤◌, ◌<◌, ◌∷◌, ℕ, List, [], Option, IfOk, chars, length};
+ghost use Rattle.std.specs.Prelude.{◌≡◌, ◌≤◌, ◌<◌, ◌∷◌, List, [], Option, IfOk, chars, length};
 ghost use Rattle.ariadne_base.specs.Listing.{listed_lines};
 ghost use Rattle.ariadne_base.specs.Locations.{char_offset as chars_before, column_at, line_at};
 ghost use Rattle.ariadne_base.specs.Table.{line_extent};

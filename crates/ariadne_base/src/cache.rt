@@ -1,7 +1,7 @@
 //! Where sources come from: a cache is a finite map from ids to sources, which only grows.
 
-ghost use Rattle.std.specs.Prelude.{◌≡◌, ℕ, ⊤, Bool, true, List, Option, None, IsOkAnd, IfErr};
-ghost use Rattle.std.specs.Prelude.{OnErr, IfSome, refl};
+ghost use Rattle.std.specs.Prelude.{◌≡◌, ℕ, ⊤, true, List, Option, None, IsOkAnd, IfErr};
+ghost use Rattle.std.specs.Prelude.{OnErr, IfSome};
 ghost use Rattle.std.specs.Prelude.{alloc_error};
 ghost use Rattle.std.specs.Option.{option_copied};
 ghost use Rattle.ariadne_base.specs.Listing.{Listing};

@@ -1,7 +1,7 @@
 //! Sources: texts with their lines, and the location of an offset in them.
 
 ghost use Rattle.std.specs.Prelude.{◌≡◌, ℕ, ◌+◌, ◌^◌, ◌<◌, ◌≤◌, ◌↔◌, ◌==◌, ◌&&◌, ◌++◌, List, []};
-ghost use Rattle.std.specs.Prelude.{Bool, true, length, nat_eq, IsTrue, IsSome, IfSome, IfOk};
+ghost use Rattle.std.specs.Prelude.{length, nat_eq, IsTrue, IsSome, IfSome, IfOk};
 ghost use Rattle.std.specs.Prelude.{IsSomeAnd, slice_get, slice_range, encode_utf8_all, chars};
 ghost use Rattle.std.specs.Str.Iter.{chars_rest, chars_steps};
 ghost use Rattle.std.specs.Iterator.Runs.{EveryRun, ItemsAreChars};

@@ -1,13 +1,13 @@
 //! The linter over the file system and the streams that it is handed.
 
-ghost use Rattle.std.specs.Prelude.{◌≡◌, ◌≢◌, ◌≤◌, ◌<◌, ◌+◌, ◌^◌, ◌++◌, [], ◌∷◌, map, string_bytes};
+ghost use Rattle.std.specs.Prelude.{◌≡◌, ◌≤◌, ◌<◌, ◌+◌, ◌^◌, ◌++◌, map, string_bytes};
 ghost use Rattle.std.specs.Prelude.{IfOk, Some, None, chars, option_map, slice_get};
-ghost use Rattle.std.specs.List.{AllByRecursion, flat_map, list_all, list_any};
+ghost use Rattle.std.specs.List.{flat_map, list_all, list_any};
 ghost use Rattle.ariadne_base.specs.Cache.{held, KeepsOtherIds};
 ghost use Rattle.ariadne_base.specs.Files.{by_text};
 ghost use Rattle.ariadne_brackets.specs.Outcomes.{IsOutcome, IsOutcomeIn, offends, outcome_first};
 ghost use Rattle.ariadne_brackets.specs.Outcomes.{outcome_last, was_read};
-ghost use Rattle.ariadne_brackets.specs.Linted.{AreChecked, Ended, labels_of, plain_config};
+ghost use Rattle.ariadne_brackets.specs.Linted.{AreChecked, Ended, labels_of};
 ghost use Rattle.ariadne_brackets.specs.Linted.{report_of, same_path, saying, status_of};
 ghost use Rattle.ariadne_brackets.specs.Linting.{AreOutcomes, RanOver, Wrote};
 

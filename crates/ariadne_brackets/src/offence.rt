@@ -1,6 +1,6 @@
 //! The first bracket of a text that has no partner.
 
-ghost use Rattle.std.specs.Prelude.{◌≡◌, ◌↔◌, IfOk, IsTrue, true, chars};
+ghost use Rattle.std.specs.Prelude.{◌≡◌, IfOk, chars};
 ghost use Rattle.ariadne_brackets.specs.Brackets.{closing_of, is_closing, IsFirstOffence};
 
 use std::alloc::{AllocError, Global};

@@ -1,12 +1,12 @@
 //! Reading the words of the command line.
 
-ghost use Rattle.std.specs.Prelude.{◌≡◌, ◌≤◌, ℕ, List, Option, Some, None};
-ghost use Rattle.std.specs.Prelude.{IfOk, IfSome, MatchOption};
+ghost use Rattle.std.specs.Prelude.{◌≡◌, Option, Some, None};
+ghost use Rattle.std.specs.Prelude.{IfOk, MatchOption};
 ghost use Rattle.std.specs.Prelude.{map, option_map, string_bytes};
 ghost use Rattle.ariadne_draw.specs.Pages.{page_asked};
 ghost use Rattle.ariadne_draw.specs.Words.{asking_behind, asking_of, colorless, front_of as front};
 ghost use Rattle.ariadne_draw.specs.Words.{label_of, labels_of, number_of};
-ghost use Rattle.ariadne_draw.specs.Asked.{asking, label_asking, options_asking, ReadsLabels};
+ghost use Rattle.ariadne_draw.specs.Asked.{label_asking, options_asking, ReadsLabels};
 ghost use Rattle.ariadne_draw.specs.Asked.{ReadsWords};
 
 use super::asked::{Asked, AskedLabel, AskedOptions};

@@ -2,7 +2,6 @@
 
 ghost use Rattle.std.specs.Prelude.{◌≡◌, ◌<◌, ◌≤◌, ℕ, List, ◌∷◌, Option, drop, length};
 ghost use Rattle.std.specs.Prelude.{slice_range};
-ghost use Rattle.std.specs.List.{AllByRecursion};
 ghost use Rattle.ariadne_accept.specs.Drawn.{AreDrawn, AreThere, world};
 ghost use Rattle.ariadne_base.specs.Listing.{Listing};
 ghost use Rattle.ariadne_picture.specs.Canvas.{number_width, same_source};

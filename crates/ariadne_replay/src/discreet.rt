@@ -1,6 +1,6 @@
 //! A cache that shows no name for one of its ids.
 
-ghost use Rattle.std.specs.Prelude.{◌≡◌, None, cond, string_bytes};
+ghost use Rattle.std.specs.Prelude.{None, cond, string_bytes};
 ghost use Rattle.std.specs.Str.{bytes_eq};
 ghost use Rattle.std.specs.Cmp.Lexicographic.{bytes_decides};
 ghost use Rattle.std.proofs.Common.{ap₂};

@@ -2,7 +2,7 @@
 
 ghost use Rattle.std.specs.Prelude.{◌≡◌, ◌≤◌, OnOk, chars, length};
 ghost use Rattle.ariadne_picture.specs.declared.switches.Switches.{Switches};
-ghost use Rattle.ariadne_picture.specs.Columns.{Layout, column_of, shown};
+ghost use Rattle.ariadne_picture.specs.Columns.{Layout, shown};
 ghost use Rattle.ariadne_rows.specs.Counted.{IsCounted};
 
 use ariadne_cells::columns::shown_columns;

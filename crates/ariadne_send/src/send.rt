@@ -1,6 +1,6 @@
 //! Sending a picture that is whole.
 
-ghost use Rattle.std.specs.Prelude.{Some, codes, ◌++◌, decimal};
+ghost use Rattle.std.specs.Prelude.{Some};
 ghost use Rattle.ariadne_send.specs.Sent.{GoesOn, Sends, TellsFailure, shown_error};
 
 use crate::sink::Sink;

@@ -1,6 +1,6 @@
 //! A cache of files: an id is a path, and each file is read whole when it is first asked for.
 
-ghost use Rattle.std.specs.Prelude.{◌≡◌, ℕ, List, [], Some, ⊤, string_bytes, OnOk, OnErr, IsSome};
+ghost use Rattle.std.specs.Prelude.{◌≡◌, List, [], Some, ⊤, string_bytes, OnOk, OnErr, IsSome};
 ghost use Rattle.std.specs.Prelude.{None};
 ghost use Rattle.std.specs.Cmp.Lexicographic.{bytes_decides};
 ghost use Rattle.std.specs.Str.{bytes_eq};

@@ -1,6 +1,6 @@
 //! A cache that asks a function for the text of each source that it lacks, and holds it for good.
 
-ghost use Rattle.std.specs.Prelude.{◌≡◌, ℕ, List, [], ◌++◌, true, false, Some, None, IfOk, OnOk};
+ghost use Rattle.std.specs.Prelude.{◌≡◌, [], ◌++◌, true, Some, None, IfOk, OnOk};
 ghost use Rattle.std.specs.Prelude.{OnErr, IsSome, Result, ⊤};
 ghost use Rattle.std.specs.Fn.{CalledAt};
 ghost use Rattle.std.proofs.Common.{ap};

@@ -1,7 +1,5 @@
 //! Caches behind a reference or in a box: they are what they lead to.
 
-ghost use Rattle.std.specs.Prelude.{◌≡◌};
-
 use crate::cache::{Cache, FetchError};
 use crate::source::Source;
 

@@ -1,6 +1,6 @@
 //! A cache whose sources are all given at the start.
 
-ghost use Rattle.std.specs.Prelude.{◌≡◌, ℕ, List, [], ◌∷◌, true, Some, IfOk, reverse};
+ghost use Rattle.std.specs.Prelude.{◌≡◌, List, Some, IfOk, reverse};
 ghost use Rattle.std.specs.Iterator.{IsFinite, Drains};
 ghost use Rattle.std.proofs.Common.{ap};
 ghost use Rattle.ariadne_base.specs.Cache.{SameHeld, listed};

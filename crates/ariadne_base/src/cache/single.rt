@@ -1,6 +1,6 @@
 //! A source as a cache of its own: its only id is `()`, and no name is shown for it.
 
-ghost use Rattle.std.specs.Prelude.{◌≡◌, [], ◌∷◌, None, refl};
+ghost use Rattle.std.specs.Prelude.{[], ◌∷◌, None, refl};
 
 use crate::cache::{Cache, FetchError};
 use crate::source::Source;
