@@ -6,7 +6,7 @@ use ariadne_fakes::{Given, Taker};
 use std::alloc::Global;
 use std::io::ErrorKind;
 use std::process::Abort;
-use std::rt::Files;
+use std::rt::{Env, Files};
 use std::{env, fs};
 
 /// Runs the program over an input that is not to be read.
@@ -57,41 +57,52 @@ fn a_file_is_drawn_in_place_of_the_input(rt: HostRuntime) {
     }
 }
 
-#[test]
-fn files_of_odd_names_and_texts_are_drawn(rt: HostRuntime) {
+/// Asserts that of a file of this name and text, with a label on its second character, these are
+/// the row of the source and what stands below it.
+fn assert_drawn_file(
+    rt: &(impl Env + Files + AllocGlobal + Abort),
+    name: &str,
+    text: &str,
+    rows: &str,
+) {
     let alloc = rt.alloc();
-    let folder = env::temp_dir(&rt).expect(&rt, "a folder");
-    // A name, what the file holds, and the row of the source.
-    let cases = [
-        (
-            "ariadne_draw_of\ntwo lines.txt",
-            "bab",
-            "bab\n   |  |  \n   |  `-- x",
-        ),
-        // A byte order mark is the text's first character, and takes no column.
-        (
-            "ariadne_draw_mark_first.txt",
-            "\u{feff}ab",
-            "\u{feff}ab\n   | |  \n   | `-- x",
-        ),
-    ];
-    for (name, text, rows) in cases {
-        let path = folder.join(alloc, name).expect(&rt, "memory");
-        fs::write(&rt, path.as_path(), text).expect(&rt, "a file");
-        let shown = path.as_str();
-        let words = ["--ascii", "--plain", "--file", shown, "m", "1", "2", "x"];
-        let outcome = run_over_file(&rt, alloc, &words);
-        let want = format!(in alloc;
-            "Error: m\n   ,-[ {shown}:1:2 ]\n   |\n 1 | {rows}\n---'\n"
-        ).expect(&rt, "memory");
-        assert_eq!(rt; outcome.out.as_str(), want.as_str(), "at {name}");
-        assert_eq!(rt; outcome.status, Status::Drawn, "at {name}");
-        assert_eq!(rt; outcome.faults.as_str(), "", "at {name}");
-    }
+    let folder = env::temp_dir(rt).expect(rt, "a folder");
+    let path = folder.join(alloc, name).expect(rt, "memory");
+    fs::write(rt, path.as_path(), text).expect(rt, "a file");
+    let shown = path.as_str();
+    let words = ["--ascii", "--plain", "--file", shown, "m", "1", "2", "x"];
+    let outcome = run_over_file(rt, alloc, &words);
+    let head = format!(in alloc; "Error: m\n   ,-[ {shown}:1:2 ]\n   |\n").expect(rt, "memory");
+    let want = format!(in alloc; "{head} 1 | {rows}\n---'\n").expect(rt, "memory");
+    assert_eq!(rt; outcome.out.as_str(), want.as_str());
+    assert_eq!(rt; outcome.status, Status::Drawn);
+    assert_eq!(rt; outcome.faults.as_str(), "");
 }
 
 #[test]
-fn what_can_not_be_read_is_unfetched(rt: HostRuntime) {
+fn a_file_whose_name_has_two_lines_is_drawn(rt: HostRuntime) {
+    let name = "ariadne_draw_of\ntwo lines.txt";
+    assert_drawn_file(&rt, name, "bab", "bab\n   |  |  \n   |  `-- x")
+}
+
+#[test]
+fn a_byte_order_mark_is_the_first_character_and_takes_no_column(rt: HostRuntime) {
+    let rows = "\u{feff}ab\n   | |  \n   | `-- x";
+    assert_drawn_file(&rt, "ariadne_draw_mark_first.txt", "\u{feff}ab", rows)
+}
+
+/// Asserts that both labels are told as unfetched where the file is this.
+fn assert_unfetched(rt: &(impl Files + AllocGlobal + Abort), name: &str, path: &str) {
+    let words = ["--plain", "--file", path, "m", "0", "1", "x", "0", "9", "y"];
+    let outcome = run_over_file(rt, rt.alloc(), &words);
+    let faults = "label 1: unfetched\nlabel 2: unfetched\n";
+    assert_eq!(rt; outcome.out.as_str(), "Error: m\n", "{name}");
+    assert_eq!(rt; outcome.status, Status::LeftOut, "{name}");
+    assert_eq!(rt; outcome.faults.as_str(), faults, "{name}");
+}
+
+#[test]
+fn what_is_not_there_is_unfetched(rt: HostRuntime) {
     let alloc = rt.alloc();
     let folder = env::temp_dir(&rt).expect(&rt, "a folder");
     let missing = folder
@@ -100,31 +111,24 @@ fn what_can_not_be_read_is_unfetched(rt: HostRuntime) {
     let two_lines = folder
         .join(alloc, "ariadne_draw_missing\nof two lines.txt")
         .expect(&rt, "memory");
+    assert_unfetched(&rt, "a missing path", missing.as_str());
+    assert_unfetched(&rt, "a missing path with a line feed", two_lines.as_str());
+    assert_unfetched(&rt, "an empty path", "");
+    assert_unfetched(&rt, "a path with a zero byte", "a\0b")
+}
+
+#[test]
+fn what_is_no_file_of_a_text_is_unfetched(rt: HostRuntime) {
+    let alloc = rt.alloc();
+    let folder = env::temp_dir(&rt).expect(&rt, "a folder");
     let bytes = folder
         .join(alloc, "ariadne_draw_bytes.txt")
         .expect(&rt, "memory");
     fs::write(&rt, bytes.as_path(), b"a\xff").expect(&rt, "a file");
     let below = bytes.join(alloc, "below a file").expect(&rt, "memory");
-    let cases = [
-        ("a missing path", missing.as_str()),
-        ("a missing path with a line feed", two_lines.as_str()),
-        ("bytes that are not UTF-8", bytes.as_str()),
-        ("a folder", folder.as_str()),
-        ("a path below a file", below.as_str()),
-        ("an empty path", ""),
-        ("a path with a zero byte", "a\0b"),
-    ];
-    for (name, path) in cases {
-        let words = ["--plain", "--file", path, "m", "0", "1", "x", "0", "9", "y"];
-        let outcome = run_over_file(&rt, alloc, &words);
-        assert_eq!(rt; outcome.out.as_str(), "Error: m\n", "{name}");
-        assert_eq!(rt; outcome.status, Status::LeftOut, "{name}");
-        assert_eq!(rt;
-            outcome.faults.as_str(),
-            "label 1: unfetched\nlabel 2: unfetched\n",
-            "{name}"
-        );
-    }
+    assert_unfetched(&rt, "bytes that are not UTF-8", bytes.as_str());
+    assert_unfetched(&rt, "a folder", folder.as_str());
+    assert_unfetched(&rt, "a path below a file", below.as_str())
 }
 
 #[test]

@@ -232,30 +232,34 @@ fn the_sources_of_labels_are_fetched_and_that_of_the_report_is_not(rt: HostRunti
 }
 
 #[test]
-fn a_report_is_drawn_alike_over_each_cache_of_its_source(rt: HostRuntime) {
+fn a_report_is_drawn_alike_over_a_map_lent_or_in_a_box(rt: HostRuntime) {
     let alloc = rt.alloc();
     let report = two_labels(&rt);
     let mut map = sources(alloc, [("x", "ab")]).expect(&rt, "memory");
     assert_picture_over(&rt, &report, &mut map, &[], &TWO).expect(&rt, "the picture");
     assert_picture_over(&rt, &report, &mut (&mut map), &[], &TWO).expect(&rt, "the picture");
-    assert_picture_over(
-        &rt,
-        &report,
-        &mut Box::new(alloc, map).expect(&rt, "memory"),
-        &[],
-        &TWO,
-    )
-    .expect(&rt, "the picture");
-    let source = Source::from(alloc, "ab").expect(&rt, "memory");
+    let mut boxed = Box::new(alloc, map).expect(&rt, "memory");
+    assert_picture_over(&rt, &report, &mut boxed, &[], &TWO).expect(&rt, "the picture")
+}
+
+#[test]
+fn a_report_is_drawn_alike_over_a_pair_that_lends_its_source_or_has_it(rt: HostRuntime) {
+    let report = two_labels(&rt);
+    let source = Source::from(rt.alloc(), "ab").expect(&rt, "memory");
     assert_picture_over(&rt, &report, &mut ("x", &source), &[], &TWO).expect(&rt, "the picture");
-    assert_picture_over(&rt, &report, &mut ("x", source), &[], &TWO).expect(&rt, "the picture");
-    // Sources that were given are drawn without a call.
-    let cache: FnCache<&str, _, &str> = FnCache::new(alloc, |_id: &&str| -> Result<&str, ()> {
-        Err(())
-    });
+    assert_picture_over(&rt, &report, &mut ("x", source), &[], &TWO).expect(&rt, "the picture")
+}
+
+#[test]
+fn sources_that_were_given_are_drawn_without_a_call(rt: HostRuntime) {
+    let alloc = rt.alloc();
+    let report = two_labels(&rt);
     let mut given = HashMap::new(alloc);
     let source = Source::from(alloc, "ab").expect(&rt, "memory");
     assert!(rt; given.insert("x", source).is_ok());
+    let cache: FnCache<&str, _, &str> = FnCache::new(alloc, |_id: &&str| -> Result<&str, ()> {
+        Err(())
+    });
     let mut cache = cache.with_sources(given).expect(&rt, "memory");
     assert_picture_over(&rt, &report, &mut cache, &[], &TWO).expect(&rt, "the picture")
 }
@@ -318,7 +322,13 @@ fn an_inclusive_span_holds_its_last_offset(rt: HostRuntime) {
     let report = plain_error_at(alloc, ("x", 0..=0))
         .with_label(last)
         .expect(&rt, "memory");
-    assert_picture_over(&rt, &report.finish(), &mut map, &[], &SECOND).expect(&rt, "the picture");
+    assert_picture_over(&rt, &report.finish(), &mut map, &[], &SECOND).expect(&rt, "the picture")
+}
+
+#[test]
+fn an_inclusive_span_up_to_the_greatest_offset_is_past_its_source(rt: HostRuntime) {
+    let alloc = rt.alloc();
+    let mut map = sources(alloc, [("x", "ab")]).expect(&rt, "memory");
     let far = Label::new(("x", 0..=usize::MAX))
         .with_message(alloc, "q")
         .expect(&rt, "memory");
@@ -329,7 +339,12 @@ fn an_inclusive_span_holds_its_last_offset(rt: HostRuntime) {
     assert_picture_over(&rt, &report.finish(), &mut map, &left_out, &["Error:"]).expect(
         &rt,
         "the picture",
-    );
+    )
+}
+
+#[test]
+fn an_inclusive_range_holds_its_last_offset(rt: HostRuntime) {
+    let alloc = rt.alloc();
     let mut source = Source::from(alloc, "ab").expect(&rt, "memory");
     let last = Label::new(1..=1)
         .with_message(alloc, "q")

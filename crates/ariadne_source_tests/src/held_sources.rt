@@ -59,13 +59,19 @@ fn a_source_is_a_cache_without_names(rt: HostRuntime) {
 }
 
 #[test]
-fn a_pair_holds_its_own_id_alone(rt: HostRuntime) {
+fn a_pair_that_lends_its_source_holds_its_own_id_alone(rt: HostRuntime) {
     let alloc = rt.alloc();
     let source = Source::from(alloc, "ab").expect(&rt, "memory");
     let mut lent = ("a", &source);
     assert!(rt; fetches(&mut lent, &"a", "ab"));
     assert!(rt; lacks(&mut lent, &"b", "b"));
     assert_eq!(rt; lent.display(&"b"), Some("b"));
+}
+
+#[test]
+fn a_pair_that_has_its_source_holds_its_own_id_alone(rt: HostRuntime) {
+    let alloc = rt.alloc();
+    let source = Source::from(alloc, "ab").expect(&rt, "memory");
     let mut pair = ("a".to_string(alloc).expect(&rt, "memory"), source);
     let other = "b".to_string(alloc).expect(&rt, "memory");
     assert!(rt; fetches(&mut pair, &"a".to_string(alloc).expect(&rt, "memory"), "ab"));
@@ -154,7 +160,7 @@ fn sources_that_are_given_replace_those_that_are_held(rt: HostRuntime) {
 }
 
 #[test]
-fn files_are_read_once_by_either_kind_of_path(rt: HostRuntime) {
+fn a_file_is_read_once_under_either_kind_of_path(rt: HostRuntime) {
     let alloc = rt.alloc();
     let path = env::temp_dir(&rt)
         .expect(&rt, "a folder")
@@ -171,10 +177,20 @@ fn files_are_read_once_by_either_kind_of_path(rt: HostRuntime) {
     fs::write(&rt, path.as_path(), "cd").expect(&rt, "a file");
     assert!(rt; fetches(&mut cache, &owned, "\u{feff}a\r\n"));
     assert_eq!(rt; cache.display(&owned), Some(text));
+}
 
-    let mut later = FileCache::new(&rt, alloc);
-    assert!(rt; fetches(&mut later, &owned, "cd"));
-    assert!(rt; fetches(&mut later, &text, "cd"));
+#[test]
+fn a_file_is_read_under_a_string_first(rt: HostRuntime) {
+    let alloc = rt.alloc();
+    let path = env::temp_dir(&rt)
+        .expect(&rt, "a folder")
+        .join(alloc, "ariadne_tests_string.txt")
+        .expect(&rt, "memory");
+    fs::write(&rt, path.as_path(), "cd").expect(&rt, "a file");
+    let mut cache = FileCache::new(&rt, alloc);
+    let owned = path.as_str().to_string(alloc).expect(&rt, "memory");
+    assert!(rt; fetches(&mut cache, &owned, "cd"));
+    assert!(rt; fetches(&mut cache, &path.as_str(), "cd"));
 }
 
 #[test]

@@ -124,7 +124,7 @@ fn every_color_in_front_and_behind(rt: HostRuntime) {
 }
 
 #[test]
-fn values_of_any_kind_are_painted_and_without_color_stand_alone(rt: HostRuntime) {
+fn values_without_color_stand_alone(rt: HostRuntime) {
     let alloc = rt.alloc();
     assert_eq!(rt;
         format!(in alloc; "{}{}", "x".fg(None), 7.bg(None))
@@ -136,8 +136,11 @@ fn values_of_any_kind_are_painted_and_without_color_stand_alone(rt: HostRuntime)
     push_painted(&mut out, None, "b").expect(&rt, "memory");
     push_painted_char(&mut out, None, 'c').expect(&rt, "memory");
     assert_eq!(rt; out.as_str(), "abc");
+}
 
-    // Options of the format are ignored.
+#[test]
+fn options_of_the_format_are_ignored(rt: HostRuntime) {
+    let alloc = rt.alloc();
     assert_eq!(rt;
         format!(in alloc; "{:5}|", "x".fg(None))
             .expect(&rt, "memory")
@@ -162,8 +165,11 @@ fn values_of_any_kind_are_painted_and_without_color_stand_alone(rt: HostRuntime)
             .as_str(),
         "\x1b[41mxyz\x1b[0m"
     );
+}
 
-    // Numbers and empty texts are painted.
+#[test]
+fn numbers_and_empty_texts_are_painted(rt: HostRuntime) {
+    let alloc = rt.alloc();
     let seven = format!(in alloc; "{}", 7.bg(Some(Color::Rgb(1, 2, 3)))).expect(&rt, "memory");
     assert_eq!(rt; seven.as_str(), "\x1b[48;2;1;2;3m7\x1b[0m");
     let nothing = ""
@@ -174,6 +180,11 @@ fn values_of_any_kind_are_painted_and_without_color_stand_alone(rt: HostRuntime)
     let mut out = String::new(alloc);
     push_painted(&mut out, Some(Color::Red), "").expect(&rt, "memory");
     assert_eq!(rt; out.as_str(), "\x1b[31m\x1b[0m");
+}
+
+#[test]
+fn values_of_any_kind_are_painted(rt: HostRuntime) {
+    let alloc = rt.alloc();
     assert_eq!(rt;
         painted_number(alloc, 42, RED)
             .expect(&rt, "memory")

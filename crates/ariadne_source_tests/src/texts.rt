@@ -170,7 +170,7 @@ fn a_copy_equals_its_source_in_text_and_offset(rt: HostRuntime) {
 }
 
 #[test]
-fn half_open_ranges_end_before_their_end_and_inclusive_ones_behind_it(rt: HostRuntime) {
+fn half_open_ranges_end_before_their_end(rt: HostRuntime) {
     for (start, end, len) in [(2, 5, 3), (3, 3, 0), (5, 2, 0), (0, usize::MAX, usize::MAX)] {
         let span = ("a", start..end);
         assert_eq!(rt; *span.source(), "a");
@@ -187,8 +187,10 @@ fn half_open_ranges_end_before_their_end_and_inclusive_ones_behind_it(rt: HostRu
             (len == 0, len == 0)
         );
     }
+}
 
-    // An inclusive range ends one past its last offset.
+#[test]
+fn inclusive_ranges_end_one_past_their_last_offset(rt: HostRuntime) {
     let cases = [
         (0, 4, 5, 5),
         (0, usize::MAX, usize::MAX, usize::MAX), // there is no offset past it

@@ -81,13 +81,21 @@ fn the_last_message_of_a_report_counts(rt: HostRuntime) {
     let report = plain_error(rt.alloc())
         .with_message("first")
         .expect(&rt, "memory");
-    let mut report = report.with_message("second").expect(&rt, "memory");
-    assert_bytes(&rt, &report.finish(), "", &["Error: second"]).expect(&rt, "the picture");
-    report = plain_error(rt.alloc())
+    let report = report.with_message("second").expect(&rt, "memory").finish();
+    assert_bytes(&rt, &report, "", &["Error: second"]).expect(&rt, "the picture")
+}
+
+#[test]
+fn a_set_message_replaces_the_first(rt: HostRuntime) {
+    let mut report = plain_error(rt.alloc())
         .with_message("first")
         .expect(&rt, "memory");
     report.set_message("third").expect(&rt, "memory");
-    assert_bytes(&rt, &report.finish(), "", &["Error: third"]).expect(&rt, "the picture");
+    assert_bytes(&rt, &report.finish(), "", &["Error: third"]).expect(&rt, "the picture")
+}
+
+#[test]
+fn a_message_may_be_empty(rt: HostRuntime) {
     let mut report = plain_error(rt.alloc());
     report.set_message("").expect(&rt, "memory");
     assert_bytes(&rt, &report.finish(), "", &["Error: "]).expect(&rt, "the picture")

@@ -24,18 +24,22 @@ fn a_new_configuration_is_the_default(rt: HostRuntime) {
 }
 
 #[test]
-fn the_last_configuration_counts(rt: HostRuntime) {
+fn a_report_is_in_colors_where_none_says_otherwise(rt: HostRuntime) {
     let builder = Report::build(rt.alloc(), ReportKind::Error, 0..0);
     let report = builder.with_message("m").expect(&rt, "memory").finish();
-    assert_bytes(&rt, &report, "", &["\x1b[31mError:\x1b[0m m"]).expect(&rt, "the picture");
+    assert_bytes(&rt, &report, "", &["\x1b[31mError:\x1b[0m m"]).expect(&rt, "the picture")
+}
+
+#[test]
+fn the_last_configuration_counts(rt: HostRuntime) {
     let builder = plain_error(rt.alloc()).with_config(Config::default());
-    let report = builder
-        .with_config(plain())
-        .with_message("m")
-        .expect(&rt, "memory")
-        .finish();
-    assert_bytes(&rt, &report, "", &["Error: m"]).expect(&rt, "the picture");
-    // It may come behind the label, whose colour it takes away.
+    let builder = builder.with_config(plain());
+    let report = builder.with_message("m").expect(&rt, "memory").finish();
+    assert_bytes(&rt, &report, "", &["Error: m"]).expect(&rt, "the picture")
+}
+
+#[test]
+fn a_configuration_behind_a_label_takes_its_color_away(rt: HostRuntime) {
     let label = Label::new(0..1).with_color(Color::Blue);
     let label = label.with_message(rt.alloc(), "m").expect(&rt, "memory");
     let builder = Report::build(rt.alloc(), ReportKind::Error, 0..0)

@@ -51,6 +51,10 @@ fn each_field_makes_a_label_another(rt: HostRuntime) {
     for other in others {
         assert!(rt; other != label);
     }
+}
+
+#[test]
+fn labels_are_compared_by_their_spans_too(rt: HostRuntime) {
     assert!(rt; Label::new((7u8, 0..1)) == Label::new((7u8, 0..1)));
     assert!(rt; Label::new((7u8, 0..1)) != Label::new((8u8, 0..1)));
     assert!(rt; Label::new(0..=1) != Label::new(0..=2));
