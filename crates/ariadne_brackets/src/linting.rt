@@ -1,6 +1,6 @@
 //! The linter over the file system and the streams that it is handed.
 
-ghost use Rattle.std.specs.Prelude.{◌≡◌, ◌≤◌, ◌<◌, ◌+◌, ◌^◌, ◌++◌, map, string_bytes};
+ghost use Rattle.std.specs.Prelude.{◌≡◌, ◌≤◌, ◌<◌, ◌+◌, ◌^◌, ◌++◌, [], ◌∷◌, map, string_bytes};
 ghost use Rattle.std.specs.Prelude.{IfOk, Some, None, chars, option_map, slice_get};
 ghost use Rattle.std.specs.List.{flat_map, list_all, list_any};
 ghost use Rattle.ariadne_base.specs.Cache.{held, KeepsOtherIds};
@@ -141,17 +141,22 @@ fn check_files<'a, R: Files, F: Write>(
     Ok(checked)
 }
 
-/// A label with a message.
-fn label<'a>(
+/// The report with a label more, at a place of a file.
+fn marked<'a>(
     alloc: Global,
+    builder: ReportBuilder<'static, Piece<'a>>,
     path: &'a str,
     place: Range<usize>,
     message: &str,
-) -> Result<Label<Piece<'a>>, AllocError>
+) -> Result<ReportBuilder<'static, Piece<'a>>, AllocError>
     requires { place.start ≤ place.end }
-    ensures { IfOk result (λ label. label ≡ saying path.entry place.start place.end message.now) }
+    ensures { IfOk result (λ report. report ≡ record builder.entry {
+      labels = builder.entry.labels
+          ++ saying path.entry place.start place.end message.now ∷ [];
+    }) }
 {
-    Label::new((path, place)).with_message(alloc, message)
+    let label = Label::new((path, place)).with_message(alloc, message)?;
+    builder.with_label(label)
 }
 
 /// The report with the labels of one file more.
@@ -168,15 +173,18 @@ fn with_labels_of<'a>(
         return Ok(builder);
     };
     match offence {
-        Offence::Unopened(p) => {
-            builder.with_label(label(alloc, path, p..p + 1, "never opened")?)
+        Offence::Unopened(p) => marked(alloc, builder, path, p..p + 1, "never opened"),
+        Offence::Mismatched(o, p) => {
+            let builder = marked(alloc, builder, path, o..o + 1, "opened here")?;
+            marked(
+                alloc,
+                builder,
+                path,
+                o..p + 1,
+                "closed by another bracket here",
+            )
         }
-        Offence::Mismatched(o, p) => builder
-            .with_label(label(alloc, path, o..o + 1, "opened here")?)?
-            .with_label(label(alloc, path, o..p + 1, "closed by another bracket here")?),
-        Offence::Unclosed(o) => {
-            builder.with_label(label(alloc, path, o..o + 1, "never closed")?)
-        }
+        Offence::Unclosed(o) => marked(alloc, builder, path, o..o + 1, "never closed"),
     }
 }
 

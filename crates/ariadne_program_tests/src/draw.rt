@@ -10,6 +10,12 @@ use std::rt::Files;
 pub const USAGE: &str =
     "usage: ariadne-draw [--ascii] [--plain] [--compact] [--bytes] [--file PATH] MESSAGE [START END TEXT]...\n";
 
+/// An input that is not to be read.
+pub const UNREADABLE: Given<'static> = Given {
+    rest: b"",
+    fault: Some(ErrorKind::TimedOut),
+};
+
 /// What a run answered, and what its writers took.
 #[derive(Drop)]
 pub struct Outcome {
@@ -58,11 +64,21 @@ pub fn run<R: Files + Abort>(rt: &R, alloc: Global, words: &[&str], text: &str) 
 }
 
 /// Runs the program over a text, which it draws whole as this.
-fn assert_drawn<R: Files + Abort>(rt: &R, alloc: Global, words: &[&str], want: &str) {
+pub fn assert_drawn<R: Files + Abort>(rt: &R, alloc: Global, words: &[&str], want: &str) {
     let outcome = run(rt, alloc, words, "ab");
     assert_eq!(rt; outcome.status, Status::Drawn, "at {words:?}");
     assert_eq!(rt; outcome.out.as_str(), want, "at {words:?}");
     assert_eq!(rt; outcome.faults.as_str(), "", "at {words:?}");
+}
+
+/// Asserts that words ask for no report: before the input is read they are answered by the usage
+/// line.
+pub fn assert_usage<R: Files + Abort>(rt: &R, alloc: Global, words: &[&str]) {
+    let out = Taker::whole(alloc).expect(rt, "memory");
+    let outcome = run_over(rt, alloc, words, UNREADABLE, out);
+    assert_eq!(rt; outcome.status, Status::BadInput, "at {words:?}");
+    assert_eq!(rt; outcome.out.as_str(), "", "at {words:?}");
+    assert_eq!(rt; outcome.faults.as_str(), USAGE, "at {words:?}");
 }
 
 #[test]
@@ -110,7 +126,6 @@ fn a_report_is_in_colors_where_none_says_plain(rt: HostRuntime) {
 
 #[test]
 fn other_words_are_answered_by_the_usage_line(rt: HostRuntime) {
-    let alloc = rt.alloc();
     let cases: [&[&str]; 25] = [
         &["m", "2", "1", "x"], // an end before its start
         &["m", "0", "1"], // a label is three words
@@ -139,21 +154,7 @@ fn other_words_are_answered_by_the_usage_line(rt: HostRuntime) {
         &[],
     ];
     for words in cases {
-        // (words are judged before the input is read)
-        let unreadable = Given {
-            rest: b"",
-            fault: Some(ErrorKind::TimedOut),
-        };
-        let outcome = run_over(
-            &rt,
-            alloc,
-            words,
-            unreadable,
-            Taker::whole(alloc).expect(&rt, "memory"),
-        );
-        assert_eq!(rt; outcome.status, Status::BadInput, "at {words:?}");
-        assert_eq!(rt; outcome.out.as_str(), "", "at {words:?}");
-        assert_eq!(rt; outcome.faults.as_str(), USAGE, "at {words:?}");
+        assert_usage(&rt, rt.alloc(), words);
     }
 }
 

@@ -1,16 +1,10 @@
 //! What `draw` writes for `--help` and `--version`, and words without colours.
 
-use crate::draw::{USAGE, run, run_over};
+use crate::draw::{UNREADABLE, USAGE, assert_drawn, assert_usage, run, run_over};
 use ariadne_draw::{Page, Status, draw, without_colors};
 use ariadne_fakes::{Given, Taker, texts};
 use std::alloc::{AllocError, Global};
 use std::io::ErrorKind;
-
-/// An input that is not to be read.
-const UNREADABLE: Given<'static> = Given {
-    rest: b"",
-    fault: Some(ErrorKind::TimedOut),
-};
 
 /// The pages, each with its word.
 const PAGES: [(&str, Page); 2] = [("--help", Page::Help), ("--version", Page::Version)];
@@ -29,7 +23,6 @@ fn a_page_is_written_where_its_word_is_alone(rt: HostRuntime) {
 
 #[test]
 fn beside_other_words_they_are_no_options(rt: HostRuntime) {
-    let alloc = rt.alloc();
     let cases: [&[&str]; 10] = [
         &["--help", "m"],
         &["--help", "--help"],
@@ -43,27 +36,20 @@ fn beside_other_words_they_are_no_options(rt: HostRuntime) {
         &["--help=all"],
     ];
     for words in cases {
-        let outcome = run_over(
-            &rt,
-            alloc,
-            words,
-            UNREADABLE,
-            Taker::whole(alloc).expect(&rt, "memory"),
-        );
-        assert_eq!(rt; outcome.status, Status::BadInput, "at {words:?}");
-        assert_eq!(rt; outcome.out.as_str(), "", "at {words:?}");
-        assert_eq!(rt; outcome.faults.as_str(), USAGE, "at {words:?}");
+        assert_usage(&rt, rt.alloc(), words);
     }
-    let messages: [(&[&str], &str); 4] = [
+}
+
+#[test]
+fn words_like_theirs_may_be_a_message(rt: HostRuntime) {
+    let cases: [(&[&str], &str); 4] = [
         (&["--plain", "-h"], "Error: -h\n"),
         (&["--plain", "--", "--help"], "Error: --help\n"),
         (&["--plain", "--", "--version"], "Error: --version\n"),
         (&["--plain", "help"], "Error: help\n"),
     ];
-    for (words, want) in messages {
-        let outcome = run(&rt, alloc, words, "ab");
-        assert_eq!(rt; outcome.status, Status::Drawn, "at {words:?}");
-        assert_eq!(rt; outcome.out.as_str(), want, "at {words:?}");
+    for (words, want) in cases {
+        assert_drawn(&rt, rt.alloc(), words, want);
     }
 }
 

@@ -12,6 +12,8 @@ mod draw_pictures;
 #[cfg(test)]
 mod draw_refused;
 #[cfg(test)]
+mod files;
+#[cfg(test)]
 mod lint;
 #[cfg(test)]
 mod lint_refused;

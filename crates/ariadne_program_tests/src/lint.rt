@@ -1,19 +1,20 @@
 //! `first_offence` over texts, and `lint` over files of the system.
 
+use crate::files::{file_of, path_of};
 use ariadne_brackets::{Offence, Status, first_offence, lint};
 use ariadne_fakes::{Taker, texts};
 use std::alloc::{AllocError, Global};
+use std::env;
 use std::io::ErrorKind;
 use std::process::Abort;
-use std::rt::Files;
-use std::{env, fs};
+use std::rt::{Env, Files};
 
 pub const USAGE: &str = "usage: ariadne-brackets PATH...\n";
 
 /// What stands in the two files of the picture.
-pub const FIRST: &str = "(]";
+pub const FIRST: &[u8] = b"(]";
 
-pub const SECOND: &str = "f(x\n]\n";
+pub const SECOND: &[u8] = b"f(x\n]\n";
 
 /// What a run answered, and what its writers took.
 #[derive(Drop)]
@@ -93,33 +94,35 @@ fn the_first_offence_is_found(rt: HostRuntime) {
 #[test]
 fn two_files_are_drawn_in_one_picture(rt: HostRuntime) {
     let alloc = rt.alloc();
-    let folder = env::temp_dir(&rt).expect(&rt, "a folder");
-    let first = folder
-        .join(alloc, "ariadne_brackets_a.txt")
-        .expect(&rt, "memory");
-    let second = folder
-        .join(alloc, "ariadne_brackets_b.txt")
-        .expect(&rt, "memory");
-    fs::write(&rt, first.as_path(), FIRST).expect(&rt, "a file");
-    fs::write(&rt, second.as_path(), SECOND).expect(&rt, "a file");
-    let picture = both(alloc, first.as_str(), second.as_str()).expect(&rt, "memory");
+    let first = file_of(&rt, "ariadne_brackets_a.txt", FIRST);
+    let second = file_of(&rt, "ariadne_brackets_b.txt", SECOND);
+    let (first, second) = (first.as_str(), second.as_str());
+    let picture = both(alloc, first, second).expect(&rt, "memory");
     let (out, done) = (picture.as_str(), Status::Offences);
-    let words = [first.as_str(), second.as_str()];
-    assert_run(&rt, alloc, &words, out, done, "");
-    let words = [first.as_str(), second.as_str(), first.as_str()];
-    assert_run(&rt, alloc, &words, out, done, "");
-    let words = [first.as_str(), first.as_str(), second.as_str()];
-    assert_run(&rt, alloc, &words, out, done, "");
+    assert_run(&rt, alloc, &[first, second], out, done, "");
+    assert_run(&rt, alloc, &[first, second, first], out, done, "");
+    assert_run(&rt, alloc, &[first, first, second], out, done, "");
+}
+
+/// Asserts where the offence of a text is told, and its row with those below it.
+fn assert_offence(
+    rt: &(impl Env + Files + AllocGlobal + Abort),
+    text: &str,
+    place: &str,
+    rows: &str,
+) {
+    let alloc = rt.alloc();
+    let file = file_of(rt, "ariadne_brackets_one.txt", text.as_bytes());
+    let path = file.as_str();
+    let head = "Error: unbalanced brackets\n   ,-[ ";
+    let want = format!(in alloc; "{head}{path}:{place} ]\n   |\n 1 | {rows}---'\n").expect(
+        rt, "memory",
+    );
+    assert_run(rt, alloc, &[path], want.as_str(), Status::Offences, "");
 }
 
 #[test]
 fn each_offence_has_its_labels(rt: HostRuntime) {
-    let alloc = rt.alloc();
-    let path = env::temp_dir(&rt)
-        .expect(&rt, "a folder")
-        .join(alloc, "ariadne_brackets_one.txt")
-        .expect(&rt, "memory");
-    let name = path.as_str();
     let cases = [
         (")(", "1:1", ")(\n   | |  \n   | `-- never opened\n"),
         ("([", "1:2", "([\n   |  |  \n   |  `-- never closed\n"),
@@ -131,69 +134,53 @@ fn each_offence_has_its_labels(rt: HostRuntime) {
         ),
     ];
     for (text, place, rows) in cases {
-        fs::write(&rt, path.as_path(), text).expect(&rt, "a file");
-        let outcome = run(&rt, alloc, &[name]);
-        let head = "Error: unbalanced brackets\n   ,-[ ";
-        let want = format!(in alloc; "{head}{name}:{place} ]\n   |\n 1 | {rows}---'\n").expect(
-            &rt, "memory",
-        );
-        assert_eq!(rt; outcome.out.as_str(), want.as_str(), "in {text}");
-        assert_eq!(rt; outcome.status, Status::Offences, "in {text}");
-        assert_eq!(rt; outcome.faults.as_str(), "", "in {text}");
+        assert_offence(&rt, text, place, rows);
     }
+}
+
+/// Brackets of three kinds, each within the one before, on a thousand lines.
+fn thousand_lines(alloc: Global) -> Result<String, AllocError> {
+    let mut text = String::new(alloc);
+    for _ in 0..500 {
+        text.push_str("({[\n")?;
+    }
+    for _ in 0..500 {
+        text.push_str("]})\n")?;
+    }
+    Ok(text)
 }
 
 #[test]
 fn balanced_files_are_not_told_of(rt: HostRuntime) {
     let alloc = rt.alloc();
-    let path = env::temp_dir(&rt)
-        .expect(&rt, "a folder")
-        .join(alloc, "ariadne_brackets_clean.txt")
-        .expect(&rt, "memory");
-    let mut long = String::new(alloc);
-    for _ in 0..500 {
-        long.push_str("({[\n").expect(&rt, "memory");
-    }
-    for _ in 0..500 {
-        long.push_str("]})\n").expect(&rt, "memory");
-    }
+    let long = thousand_lines(alloc).expect(&rt, "memory");
     for text in ["", "a(b)[]\n", long.as_str()] {
-        fs::write(&rt, path.as_path(), text).expect(&rt, "a file");
-        let outcome = run(&rt, alloc, &[path.as_str()]);
-        assert_eq!(rt; outcome.out.as_str(), "");
-        assert_eq!(rt; outcome.status, Status::Clean);
-        assert_eq!(rt; outcome.faults.as_str(), "");
+        let file = file_of(&rt, "ariadne_brackets_clean.txt", text.as_bytes());
+        assert_run(&rt, alloc, &[file.as_str()], "", Status::Clean, "");
     }
-    long.push_str("}").expect(&rt, "memory");
-    fs::write(&rt, path.as_path(), long.as_str()).expect(&rt, "a file");
-    let outcome = run(&rt, alloc, &[path.as_str()]);
+}
+
+#[test]
+fn an_offence_behind_a_thousand_lines_is_told(rt: HostRuntime) {
+    let alloc = rt.alloc();
+    let mut text = thousand_lines(alloc).expect(&rt, "memory");
+    text.push_str("}").expect(&rt, "memory");
+    let file = file_of(&rt, "ariadne_brackets_long.txt", text.as_bytes());
+    let path = file.as_str();
     let rows = "      |\n 1001 | }\n      | |  \n      | `-- never opened\n------'\n";
-    let name = path.as_str();
     let head = "Error: unbalanced brackets\n      ,-[ ";
-    let want = format!(in alloc; "{head}{name}:1001:1 ]\n{rows}").expect(&rt, "memory");
-    assert_eq!(rt; outcome.out.as_str(), want.as_str());
-    assert_eq!(rt; outcome.status, Status::Offences);
+    let want = format!(in alloc; "{head}{path}:1001:1 ]\n{rows}").expect(&rt, "memory");
+    assert_run(&rt, alloc, &[path], want.as_str(), Status::Offences, "")
 }
 
 #[test]
 fn files_that_can_not_be_read_are_told(rt: HostRuntime) {
     let alloc = rt.alloc();
     let folder = env::temp_dir(&rt).expect(&rt, "a folder");
-    let missing = folder
-        .join(alloc, "ariadne_brackets_missing.txt")
-        .expect(&rt, "memory");
-    let bytes = folder
-        .join(alloc, "ariadne_brackets_bytes.txt")
-        .expect(&rt, "memory");
-    let open = folder
-        .join(alloc, "ariadne_brackets_open.txt")
-        .expect(&rt, "memory");
-    let clean = folder
-        .join(alloc, "ariadne_brackets_shut.txt")
-        .expect(&rt, "memory");
-    fs::write(&rt, bytes.as_path(), b"(\xff").expect(&rt, "a file");
-    fs::write(&rt, open.as_path(), "x(").expect(&rt, "a file");
-    fs::write(&rt, clean.as_path(), "()").expect(&rt, "a file");
+    let missing = path_of(&rt, "ariadne_brackets_missing.txt");
+    let bytes = file_of(&rt, "ariadne_brackets_bytes.txt", b"(\xff");
+    let open = file_of(&rt, "ariadne_brackets_open.txt", b"x(");
+    let clean = file_of(&rt, "ariadne_brackets_shut.txt", b"()");
     let m = missing.as_str();
     let b = bytes.as_str();
     let f = folder.as_str();
@@ -214,14 +201,8 @@ fn files_that_can_not_be_read_are_told(rt: HostRuntime) {
         missing.as_str(),
         bytes.as_str(),
     ];
-    assert_run(
-        &rt,
-        alloc,
-        &words,
-        picture.as_str(),
-        Status::BadInput,
-        faults,
-    );
+    let out = picture.as_str();
+    assert_run(&rt, alloc, &words, out, Status::BadInput, faults);
     let words = [
         missing.as_str(),
         clean.as_str(),
@@ -242,20 +223,14 @@ fn no_words_give_the_usage_line(rt: HostRuntime) {
 #[test]
 fn a_writer_that_fails_is_told_with_what_it_took(rt: HostRuntime) {
     let alloc = rt.alloc();
-    let folder = env::temp_dir(&rt).expect(&rt, "a folder");
-    let first = folder
-        .join(alloc, "ariadne_brackets_c.txt")
-        .expect(&rt, "memory");
-    let second = folder
-        .join(alloc, "ariadne_brackets_d.txt")
-        .expect(&rt, "memory");
-    fs::write(&rt, first.as_path(), FIRST).expect(&rt, "a file");
-    fs::write(&rt, second.as_path(), SECOND).expect(&rt, "a file");
-    let whole = both(alloc, first.as_str(), second.as_str()).expect(&rt, "memory");
+    let first = file_of(&rt, "ariadne_brackets_c.txt", FIRST);
+    let second = file_of(&rt, "ariadne_brackets_d.txt", SECOND);
+    let (first, second) = (first.as_str(), second.as_str());
+    let whole = both(alloc, first, second).expect(&rt, "memory");
     for calls in 0..whole.len() {
         for fault in [Some(ErrorKind::BrokenPipe), None] {
             let out = Taker::narrow(alloc, 1, calls, fault);
-            let outcome = run_into(&rt, alloc, &[first.as_str(), second.as_str(), "/"], out);
+            let outcome = run_into(&rt, alloc, &[first, second, "/"], out);
             let told = format!(in alloc;
                 "/: can't be read\nwrite failed after {calls} bytes\n"
             ).expect(&rt, "memory");

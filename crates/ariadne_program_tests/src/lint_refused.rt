@@ -1,9 +1,13 @@
 //! The linter with each of its requests for memory refused in turn.
 
+ghost use Rattle.std.specs.Prelude.{◌<◌};
+
+use crate::files::file_of;
 use crate::lint::{FIRST, SECOND, both};
 use ariadne_brackets::{Offence, Status, first_offence, lint};
 use ariadne_fakes::{Taker, refuse, texts, was_refused};
-use std::{env, fs};
+use std::process::Abort;
+use std::rt::Files;
 
 #[test]
 fn a_refused_request_of_first_offence_is_its_error(rt: HostRuntime) {
@@ -24,37 +28,46 @@ fn a_refused_request_of_first_offence_is_its_error(rt: HostRuntime) {
     panic!(rt; "a request was refused each time")
 }
 
+/// Refuses the nth request of linting. Where there is none the picture is this, and the answer true.
+fn is_drawn(
+    rt: &(impl Files + AllocGlobal + Abort),
+    words: &[String],
+    nth: usize,
+    picture: &str,
+) -> bool
+    requires { nth < 100000 }
+{
+    let alloc = rt.alloc();
+    let mut out = Taker::whole(alloc).expect(rt, "memory");
+    let mut faults = Taker::whole(alloc).expect(rt, "memory");
+    refuse(alloc, nth);
+    let status = lint(rt, alloc, words, &mut out, &mut faults);
+    if !was_refused(alloc) {
+        assert_eq!(rt; status, Status::Offences, "at request {nth}");
+        assert_eq!(rt; out.held.as_slice(), picture.as_bytes(), "at request {nth}");
+        return true;
+    }
+    assert_eq!(rt; status, Status::Failed, "at request {nth}");
+    assert!(rt; out.held.is_empty(), "at request {nth}");
+    assert_eq!(rt;
+        faults.held.as_slice(),
+        b"no memory\n".as_slice(),
+        "at request {nth}"
+    );
+    false
+}
+
 #[test]
 fn a_refused_request_is_told_as_no_memory(rt: HostRuntime) {
     let alloc = rt.alloc();
-    let folder = env::temp_dir(&rt).expect(&rt, "a folder");
-    let first = folder
-        .join(alloc, "ariadne_brackets_e.txt")
-        .expect(&rt, "memory");
-    let second = folder
-        .join(alloc, "ariadne_brackets_f.txt")
-        .expect(&rt, "memory");
-    fs::write(&rt, first.as_path(), FIRST).expect(&rt, "a file");
-    fs::write(&rt, second.as_path(), SECOND).expect(&rt, "a file");
+    let first = file_of(&rt, "ariadne_brackets_e.txt", FIRST);
+    let second = file_of(&rt, "ariadne_brackets_f.txt", SECOND);
     let picture = both(alloc, first.as_str(), second.as_str()).expect(&rt, "memory");
     let words = texts(alloc, &[first.as_str(), second.as_str()]).expect(&rt, "memory");
     for nth in 1..1000 {
-        let mut out = Taker::whole(alloc).expect(&rt, "memory");
-        let mut faults = Taker::whole(alloc).expect(&rt, "memory");
-        refuse(alloc, nth);
-        let status = lint(&rt, alloc, words.as_slice(), &mut out, &mut faults);
-        if !was_refused(alloc) {
-            assert_eq!(rt; status, Status::Offences, "at request {nth}");
-            assert_eq!(rt; out.held.as_slice(), picture.as_bytes(), "at request {nth}");
+        if is_drawn(&rt, words.as_slice(), nth, picture.as_str()) {
             return;
         }
-        assert_eq!(rt; status, Status::Failed, "at request {nth}");
-        assert!(rt; out.held.is_empty(), "at request {nth}");
-        assert_eq!(rt;
-            faults.held.as_slice(),
-            b"no memory\n".as_slice(),
-            "at request {nth}"
-        );
     }
     panic!(rt; "a request was refused each time")
 }

@@ -2,6 +2,7 @@
 
 use ariadne::{Label, Report, ReportBuilder};
 use ariadne_asserts::asserts::{assert_picture, plain_error};
+use std::alloc::{AllocError, Global};
 use std::process::Abort;
 
 /// Asserts what stands between the only line and the tail.
@@ -14,28 +15,36 @@ fn assert_asides(rt: &(impl Abort + AllocGlobal), report: &Report<'_>, asides: &
     assert_picture(rt, report, "", &rows).expect(rt, "the picture")
 }
 
-/// A report in the making, at the line of an empty source, whose note `a` was set to `b`, or whose
-/// help.
-fn set(rt: &(impl Abort + AllocGlobal), is_help: bool) -> ReportBuilder<'static> {
-    let builder = plain_error(rt.alloc())
-        .with_label(Label::new(0..0))
-        .expect(rt, "memory");
-    if is_help {
-        let mut builder = builder.with_help("a").expect(rt, "memory");
-        builder.set_help("b").expect(rt, "memory");
-        builder
-    } else {
-        let mut builder = builder.with_note("a").expect(rt, "memory");
-        builder.set_note("b").expect(rt, "memory");
-        builder
-    }
+/// A report in the making, at the line of an empty source.
+fn begun(alloc: Global) -> Result<ReportBuilder<'static>, AllocError> {
+    plain_error(alloc).with_label(Label::new(0..0))
+}
+
+/// Such a report, whose note `a` was set to `b`.
+fn with_set_note(alloc: Global) -> Result<ReportBuilder<'static>, AllocError> {
+    let mut builder = begun(alloc)?.with_note("a")?;
+    builder.set_note("b")?;
+    Ok(builder)
+}
+
+/// Such a report, whose help `a` was set to `b`.
+fn with_set_help(alloc: Global) -> Result<ReportBuilder<'static>, AllocError> {
+    let mut builder = begun(alloc)?.with_help("a")?;
+    builder.set_help("b")?;
+    Ok(builder)
 }
 
 #[test]
-fn a_set_help_or_note_stands_alone_and_added_ones_behind_it(rt: HostRuntime) {
-    assert_asides(&rt, &set(&rt, false).finish(), &["   |", "   | Note: b"]);
-    assert_asides(&rt, &set(&rt, true).finish(), &["   |", "   | Help: b"]);
-    let mut builder = set(&rt, false);
+fn a_set_note_or_help_stands_alone(rt: HostRuntime) {
+    let noted = with_set_note(rt.alloc()).expect(&rt, "memory");
+    assert_asides(&rt, &noted.finish(), &["   |", "   | Note: b"]);
+    let helped = with_set_help(rt.alloc()).expect(&rt, "memory");
+    assert_asides(&rt, &helped.finish(), &["   |", "   | Help: b"])
+}
+
+#[test]
+fn added_notes_stand_behind_a_set_one(rt: HostRuntime) {
+    let mut builder = with_set_note(rt.alloc()).expect(&rt, "memory");
     builder.with_notes(["c", "d"]).expect(&rt, "memory");
     builder.add_note("e").expect(&rt, "memory");
     let notes = [
@@ -48,8 +57,12 @@ fn a_set_help_or_note_stands_alone_and_added_ones_behind_it(rt: HostRuntime) {
         "   |",
         "   | Note 4: e",
     ];
-    assert_asides(&rt, &builder.finish(), &notes);
-    let mut builder = set(&rt, true);
+    assert_asides(&rt, &builder.finish(), &notes)
+}
+
+#[test]
+fn added_helps_stand_behind_a_set_one(rt: HostRuntime) {
+    let mut builder = with_set_help(rt.alloc()).expect(&rt, "memory");
     builder.with_helps(["c", "d"]).expect(&rt, "memory");
     builder.add_help("e").expect(&rt, "memory");
     let helps = [

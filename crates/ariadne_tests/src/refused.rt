@@ -3,7 +3,9 @@
 ghost use Rattle.std.specs.Prelude.{◌<◌};
 
 use ariadne::{Label, Report, ReportBuilder};
-use ariadne_asserts::asserts::{assert_left_out, assert_shown, plain_error, source_of, written};
+use ariadne_asserts::asserts::{
+    Mismatch, assert_left_out, assert_shown, plain_error, source_of, written,
+};
 use ariadne_fakes::{refuse, was_refused};
 use std::alloc::{AllocError, Global};
 use std::process::Abort;
@@ -412,6 +414,13 @@ const NOTES: [&[&str]; 4] = [
     ],
 ];
 
+/// How many of the texts stand in the picture of a report.
+fn count_texts(rt: &impl AllocGlobal, report: &Report<'_>) -> Result<usize, Mismatch> {
+    let mut source = source_of(rt.alloc(), "ab")?;
+    let (picture, _) = written(rt, report, &mut source)?;
+    Ok(TEXTS.iter().filter(|text| picture.contains(**text)).count())
+}
+
 /// Refuses the nth request of adding helps or notes, and answers how many were added.
 fn try_texts(
     rt: &(impl Abort + AllocGlobal),
@@ -429,10 +438,8 @@ fn try_texts(
         builder.with_notes(TEXTS)
     };
     let is_refused = assert_refused(rt, "texts", nth, answer.is_err());
-    let mut source = source_of(rt.alloc(), "ab").expect(rt, "memory");
     let report = builder.finish();
-    let (picture, _) = written(rt, &report, &mut source).expect(rt, "a picture");
-    let added = TEXTS.iter().filter(|text| picture.contains(**text)).count();
+    let added = count_texts(rt, &report).expect(rt, "a picture");
     assert_eq!(rt; added < 3, is_refused, "at request {nth}");
     let seen = Seen {
         asides: rows[added.min(3)],

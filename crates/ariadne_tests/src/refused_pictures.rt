@@ -5,7 +5,8 @@ ghost use Rattle.std.specs.Prelude.{◌<◌};
 use crate::refused::{MOST_REQUESTS, assert_refused};
 use crate::writers::Drain;
 use ariadne::{
-    Cache, Color, Config, FnCache, Label, LeftOut, Report, ReportKind, Sink, WriteError,
+    Cache, Color, Config, FnCache, Label, LeftOut, Report, ReportBuilder, ReportKind, Sink,
+    WriteError,
 };
 use ariadne_asserts::asserts::{Piece, Why, assert_left_out, assert_trimmed, plain, written};
 use ariadne_fakes::{Taker, refuse};
@@ -68,28 +69,24 @@ fn text_of(id: &&str) -> Result<&'static str, u8> {
     }
 }
 
-/// The report, which points at a source that no label is in.
-fn rich(rt: &(impl Abort + AllocGlobal), config: Config) -> Report<'static, Piece> {
-    let alloc = rt.alloc();
-    let builder = Report::build(alloc, ReportKind::Error, ("r", 0..0)).with_config(config);
-    let builder = builder
-        .with_code(3)
-        .expect(rt, "memory")
-        .with_message("m")
-        .expect(rt, "memory");
-    let mut builder = builder
-        .with_help("h")
-        .expect(rt, "memory")
+/// A report without labels yet, which points at a source that no label is in.
+fn begun(alloc: Global, config: Config) -> Result<ReportBuilder<'static, Piece>, AllocError> {
+    Report::build(alloc, ReportKind::Error, ("r", 0..0))
+        .with_config(config)
+        .with_code(3)?
+        .with_message("m")?
+        .with_help("h")?
         .with_note("n\nk")
-        .expect(rt, "memory");
+}
+
+/// The report.
+fn rich(rt: &(impl Abort + AllocGlobal), config: Config) -> Report<'static, Piece> {
+    let mut builder = begun(rt.alloc(), config).expect(rt, "memory");
     for (id, start, end, message) in LABELS {
         assert!(rt; start <= end);
-        let label = Label::new((id, start..end))
-            .with_message(alloc, message)
-            .expect(rt, "memory");
-        builder = builder
-            .with_label(label.with_color(Color::Fixed(70)))
-            .expect(rt, "memory");
+        let label = Label::new((id, start..end)).with_color(Color::Fixed(70));
+        let label = label.with_message(rt.alloc(), message).expect(rt, "memory");
+        builder = builder.with_label(label).expect(rt, "memory");
     }
     builder.finish()
 }
