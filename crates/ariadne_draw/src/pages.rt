@@ -61,7 +61,7 @@ Status:
 /// What `--version` writes: name and version, and the line of the kit that proved the program.
 pub const VERSION: &str = "\
 ariadne-draw 0.6.0
-rattle-kit-13b logic dac8208d650f15bf
+rattle-kit-13f logic dac8208d650f15bf
 ";
 
 /// A text that the program has ready.
