@@ -1,6 +1,6 @@
 //! Values that are printed in a colour.
 
-ghost use Rattle.std.specs.Prelude.{◌≡◌, ◌++◌, option_map};
+ghost use Rattle.std.specs.Prelude.{◌≡◌, ◌++◌, Some, option_map};
 ghost use Rattle.std.specs.Fmt.{DisplaysOnOk};
 ghost use Rattle.ariadne_color.specs.Escapes.{closing, opening_end};
 
@@ -58,11 +58,18 @@ fn write_painted<W: fmt::Write, T: Display>(
         (T.output value.now)) f.new }
 {
     f.write_str(head)?;
-    match color {
-        Color::Fixed(number) => write!(f, "{number}m")?,
-        Color::Rgb(red, green, blue) => write!(f, "{red};{green};{blue}m")?,
-        _ => (),
-    }
+    write_opening_end(f, color)?;
     f.write(value)?;
     f.write_str(CLOSING)
+}
+
+/// Writes the end of the escape that opens a colour, from its first number on.
+fn write_opening_end<W: fmt::Write>(f: &mut Formatter<W>, color: Color) -> fmt::Result
+    ensures { DisplaysOnOk W.write_str_gives f.old result (Some (opening_end color)) f.new }
+{
+    match color {
+        Color::Fixed(number) => write!(f, "{number}m"),
+        Color::Rgb(red, green, blue) => write!(f, "{red};{green};{blue}m"),
+        _ => Ok(()),
+    }
 }
