@@ -1,18 +1,11 @@
-//! Tests of the two programs, as the calls that their `main` makes.
+//! Tests of the two programs, as the calls that their `main` makes, where an input or a writer fails or
+//! memory is refused. `tools/runs` tells what else they do.
 #![tactic(auto)]
 
 #[cfg(test)]
 mod draw;
 #[cfg(test)]
-mod draw_files;
-#[cfg(test)]
-mod draw_pages;
-#[cfg(test)]
-mod draw_pictures;
-#[cfg(test)]
 mod draw_refused;
-#[cfg(test)]
-mod files;
 #[cfg(test)]
 mod lint;
 #[cfg(test)]

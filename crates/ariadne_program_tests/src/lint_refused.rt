@@ -2,8 +2,7 @@
 
 ghost use Rattle.std.specs.Prelude.{◌<◌};
 
-use crate::files::file_of;
-use crate::lint::{FIRST, SECOND, both};
+use crate::lint::{FIRST, SECOND, both, file_of};
 use ariadne_brackets::{Offence, Status, first_offence, lint};
 use ariadne_fakes::{Taker, refuse, texts, was_refused};
 use std::process::Abort;

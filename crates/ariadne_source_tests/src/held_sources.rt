@@ -209,6 +209,7 @@ fn what_is_no_text_of_a_file_is_an_error(rt: HostRuntime) {
     assert!(rt; has_no_text(alloc, &mut cache, &path.as_str(), bytes).expect(&rt, "memory"));
     assert!(rt; has_no_text(alloc, &mut cache, &folder.as_str(), unread).expect(&rt, "memory"));
     assert!(rt; has_no_text(alloc, &mut cache, &missing.as_str(), unread).expect(&rt, "memory"));
+    assert!(rt; has_no_text(alloc, &mut cache, &"a\0b", unread).expect(&rt, "memory"));
     assert!(rt; cache.get(&path.as_str()).is_none());
     // A later fetch reads the file again.
     fs::write(&rt, path.as_path(), "ab").expect(&rt, "a file");
