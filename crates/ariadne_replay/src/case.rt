@@ -1,36 +1,18 @@
-//! A case: a report, what it is drawn over, and what is sent of it, or is asked for.
+//! The members of a case: a report, what it is drawn over, and what is sent of it, or is asked for.
+//!
+//! A case is a JSON object. Its members are `name`; `kind`, and `kind_color` of a kind of the caller's
+//! own; `number` (a code that is a number, in front of one that is a text); `code`, `message`, `span`
+//! (an id, a start and an end), `labels`, `helps`, `notes` and `config`; `cache` (`source`, `sources` or
+//! `custom`), the `sources`, each with `id`, `text` and `offset`, and the id that a custom cache shows no
+//! name for, in `hidden`; `left_out` and `picture`, as in an answer, and whether that is without the
+//! blanks at the ends of its rows, `is_trimmed`. A label has `id` (null where its source is the only
+//! one), `start`, `end`, `message`, `color`, `order` and `priority`. Where a case has no picture, its
+//! answer is asked for.
 
-use serde::{Deserialize, Serialize};
-
-/// A case. Where it has no picture, its answer is asked for.
-#[derive(Drop, Deserialize)]
-pub struct Case {
-    pub name: String,
-    pub kind: Kind,
-    /// A code that is a number, in front of one that is a text.
-    #[serde(default)]
-    pub number: Option<u64>,
-    pub code: Option<String>,
-    pub message: Option<String>,
-    /// The report's own, as that of a label.
-    pub span: (Option<String>, usize, usize),
-    pub labels: Vec<Mark>,
-    pub helps: Vec<String>,
-    pub notes: Vec<String>,
-    pub config: Switches,
-    pub cache: CacheKind,
-    pub sources: Vec<Text>,
-    /// The ids that a custom cache shows no name for.
-    pub hidden: Vec<String>,
-    /// As in an answer.
-    #[serde(default)]
-    pub left_out: Vec<(usize, Why)>,
-    /// As in an answer.
-    pub picture: Option<String>,
-    /// Whether that is without the blanks at the ends of its rows.
-    #[serde(default)]
-    pub is_trimmed: bool,
-}
+use serde::Serialize;
+use serde_json::Value;
+use std::io;
+use std::io::ErrorKind;
 
 /// What a report answers.
 #[derive(Drop, Serialize)]
@@ -38,98 +20,65 @@ pub struct Answer {
     /// What is sent.
     pub picture: String,
     /// The positions of the labels that are left out, from 0, each with its reason.
-    pub left_out: Vec<(usize, Why)>,
+    pub left_out: Vec<(usize, &'static str)>,
 }
 
-/// The kind of a report. One of the caller's own has a name and a colour.
-#[derive(Drop, Deserialize)]
-pub enum Kind {
-    Error,
-    Warning,
-    Advice,
-    Custom(String, Hue),
+/// What is answered for a case that has a member too few, or an odd one.
+pub fn odd_case() -> io::Error {
+    io::Error::from(ErrorKind::InvalidData)
 }
 
-/// The colours that stand in cases.
-#[derive(Clone, Copy, Drop, Deserialize)]
-pub enum Hue {
-    Primary,
-    Red,
-    Blue,
-    BrightGreen,
-    Fixed(u8),
-    Rgb(u8, u8, u8),
+/// A member that is a text, if it is there and not null.
+pub fn text_if_any<'c>(value: &'c Value, name: &str) -> Option<&'c str> {
+    value.get(name).and_then(Value::as_str)
 }
 
-/// A label. Where `id` is nothing its source is the only one.
-#[derive(Drop, Deserialize)]
-pub struct Mark {
-    pub id: Option<String>,
-    pub start: usize,
-    pub end: usize,
-    pub message: Option<String>,
-    pub color: Option<Hue>,
-    pub order: i32,
-    pub priority: i32,
+/// A member that is a text.
+pub fn text<'c>(value: &'c Value, name: &str) -> io::Result<&'c str> {
+    match text_if_any(value, name) {
+        Some(text) => Ok(text),
+        None => Err(odd_case()),
+    }
 }
 
-/// The switches of a configuration.
-#[derive(Clone, Copy, Drop, Deserialize)]
-pub struct Switches {
-    pub cross_gap: bool,
-    pub label_attach: Attach,
-    pub compact: bool,
-    pub underlines: bool,
-    pub multiline_arrows: bool,
-    pub color: bool,
-    pub tab_width: usize,
-    pub char_set: Characters,
-    pub index_type: Offsets,
+/// A member that is a switch. One that is not there is off.
+pub fn is_on(value: &Value, name: &str) -> bool {
+    value.get(name).and_then(Value::as_bool) == Some(true)
 }
 
-/// Where arrows are attached.
-#[derive(Clone, Copy, Drop, Deserialize)]
-pub enum Attach {
-    Start,
-    Middle,
-    End,
+/// A value that is an offset, if it is there.
+fn offset_of(value: Option<&Value>) -> io::Result<usize> {
+    match value.and_then(Value::as_u64) {
+        Some(offset) => Ok(offset as usize),
+        None => Err(odd_case()),
+    }
 }
 
-/// What strokes are drawn with.
-#[derive(Clone, Copy, Drop, Deserialize)]
-pub enum Characters {
-    Unicode,
-    Ascii,
+/// A member that is an offset or a count.
+pub fn offset(value: &Value, name: &str) -> io::Result<usize> {
+    offset_of(value.get(name))
 }
 
-/// What offsets count.
-#[derive(Clone, Copy, Drop, Deserialize)]
-pub enum Offsets {
-    Byte,
-    Char,
+/// A member that is a number of either sign.
+pub fn number(value: &Value, name: &str) -> io::Result<i32> {
+    let number = value.get(name).and_then(Value::as_i64);
+    match number.map(i32::try_from) {
+        Some(Ok(number)) => Ok(number),
+        _ => Err(odd_case()),
+    }
 }
 
-/// What the sources are held by.
-#[derive(Clone, Copy, Drop, Deserialize)]
-#[serde(rename_all = "lowercase")]
-pub enum CacheKind {
-    Source,
-    Sources,
-    Custom,
+/// A member that is a list. One that is not there is empty.
+pub fn list<'c>(value: &'c Value, name: &str) -> &'c [Value] {
+    match value.get(name).and_then(Value::as_array) {
+        Some(items) => items.as_slice(),
+        None => &[],
+    }
 }
 
-/// A source: its id, its text, and its display offset.
-#[derive(Drop, Deserialize)]
-pub struct Text {
-    pub id: Option<String>,
-    pub text: String,
-    pub offset: usize,
-}
-
-/// Why a label is left out.
-#[derive(Clone, Copy, Drop, PartialEq, Eq, Deserialize, Serialize)]
-pub enum Why {
-    Unfetched,
-    PastSource,
-    CutsCharacter,
+/// The id, the start and the end of the report's own span.
+pub fn own_span(case: &Value) -> io::Result<(Option<&str>, usize, usize)> {
+    let span = list(case, "span");
+    let id = span.first().and_then(Value::as_str);
+    Ok((id, offset_of(span.get(1))?, offset_of(span.get(2))?))
 }

@@ -1,46 +1,46 @@
 //! Writes the report of a case, and answers what was sent and left out.
 
-use crate::case::{Answer, CacheKind, Case, Why};
+use crate::case::{Answer, list, odd_case, offset, text};
 use crate::discreet::Discreet;
-use crate::making::{named_report, odd_case, plain_report, source_of};
+use crate::making::{named_report, plain_report, source_of};
 use ariadne::{Cache, FnCache, LeftOut, Reason, Report, Source, Span, WriteError, sources};
+use serde_json::Value;
 use std::alloc::{AllocError, Global};
 use std::collections::HashMap;
 use std::io;
 use std::io::ErrorKind;
 
 /// The answer of a case's report.
-pub fn answer_of(alloc: Global, case: &Case) -> io::Result<Answer> {
-    match case.cache {
-        CacheKind::Source => over_one_source(alloc, case),
-        CacheKind::Sources if has_no_offset(case) => over_map(alloc, case),
-        CacheKind::Sources => over_given_sources(alloc, case),
-        CacheKind::Custom => over_discreet_cache(alloc, case),
+pub fn answer_of(alloc: Global, case: &Value) -> io::Result<Answer> {
+    match text(case, "cache")? {
+        "source" => over_one_source(alloc, case),
+        "sources" if has_no_offset(case) => over_map(alloc, case),
+        "sources" => over_given_sources(alloc, case),
+        "custom" => over_discreet_cache(alloc, case),
+        _ => Err(odd_case()),
     }
 }
 
 /// Whether all its sources are counted from 1.
-fn has_no_offset(case: &Case) -> bool {
-    case.sources.iter().all(|text| text.offset == 0)
+fn has_no_offset(case: &Value) -> bool {
+    list(case, "sources").iter().all(|told| told.get("offset").and_then(Value::as_u64) == Some(0))
 }
 
 /// The answer of a case over its only source.
-fn over_one_source(alloc: Global, case: &Case) -> io::Result<Answer> {
-    let Some(text) = case.sources.first() else {
+fn over_one_source(alloc: Global, case: &Value) -> io::Result<Answer> {
+    let Some(told) = list(case, "sources").first() else {
         return Err(odd_case());
     };
-    let mut source = source_of(alloc, text)?;
+    let mut source = source_of(alloc, told)?;
     written(alloc, &plain_report(alloc, case)?, &mut source)
 }
 
 /// The answer of a case over a map of its sources.
-fn over_map(alloc: Global, case: &Case) -> io::Result<Answer> {
+fn over_map(alloc: Global, case: &Value) -> io::Result<Answer> {
     let mut texts = Vec::new(alloc);
-    for text in &case.sources {
-        let Some(id) = &text.id else {
-            return Err(odd_case());
-        };
-        texts.push((id.clone()?, text.text.clone()?))?;
+    for told in list(case, "sources") {
+        let id = text(told, "id")?.to_string(alloc)?;
+        texts.push((id, text(told, "text")?.to_string(alloc)?))?;
     }
     let mut cache = sources(alloc, texts)?;
     written(alloc, &named_report(alloc, case)?, &mut cache)
@@ -52,32 +52,30 @@ fn missing(_id: &String) -> Result<String, ()> {
 }
 
 /// The sources of a case by their ids.
-fn given_sources(alloc: Global, case: &Case) -> io::Result<HashMap<String, Source<String>>> {
+fn given_sources(alloc: Global, case: &Value) -> io::Result<HashMap<String, Source<String>>> {
     let mut given = HashMap::new(alloc);
-    for text in &case.sources {
-        let Some(id) = &text.id else {
-            return Err(odd_case());
-        };
-        given.insert(id.clone()?, source_of(alloc, text)?)?;
+    for told in list(case, "sources") {
+        let id = text(told, "id")?.to_string(alloc)?;
+        given.insert(id, source_of(alloc, told)?)?;
     }
     Ok(given)
 }
 
 /// The answer of a case over sources that have display offsets.
-fn over_given_sources(alloc: Global, case: &Case) -> io::Result<Answer> {
+fn over_given_sources(alloc: Global, case: &Value) -> io::Result<Answer> {
     let cache = FnCache::new(alloc, missing);
     let mut cache = cache.with_sources(given_sources(alloc, case)?)?;
     written(alloc, &named_report(alloc, case)?, &mut cache)
 }
 
 /// The answer of a case over a cache that hides the name of one source.
-fn over_discreet_cache(alloc: Global, case: &Case) -> io::Result<Answer> {
-    let [hidden] = case.hidden.as_slice() else {
+fn over_discreet_cache(alloc: Global, case: &Value) -> io::Result<Answer> {
+    let Some(hidden) = list(case, "hidden").first().and_then(Value::as_str) else {
         return Err(odd_case());
     };
     let cache = FnCache::new(alloc, missing);
     let cache = cache.with_sources(given_sources(alloc, case)?)?;
-    let hidden = hidden.clone()?;
+    let hidden = hidden.to_string(alloc)?;
     let mut cache = Discreet { cache, hidden };
     written(alloc, &named_report(alloc, case)?, &mut cache)
 }
@@ -110,7 +108,10 @@ fn text_of(picture: Vec<u8>) -> io::Result<String> {
 }
 
 /// The positions of the labels that are left out, each with its reason.
-fn reasons_of<E>(alloc: Global, left_out: &[LeftOut<E>]) -> Result<Vec<(usize, Why)>, AllocError> {
+fn reasons_of<E>(
+    alloc: Global,
+    left_out: &[LeftOut<E>],
+) -> Result<Vec<(usize, &'static str)>, AllocError> {
     let mut reasons = Vec::new(alloc);
     for left in left_out {
         reasons.push((left.label, reason_of(&left.reason)))?;
@@ -119,10 +120,10 @@ fn reasons_of<E>(alloc: Global, left_out: &[LeftOut<E>]) -> Result<Vec<(usize, W
 }
 
 /// A reason without what the cache said.
-fn reason_of<E>(reason: &Reason<E>) -> Why {
+fn reason_of<E>(reason: &Reason<E>) -> &'static str {
     match reason {
-        Reason::Unfetched(_) => Why::Unfetched,
-        Reason::PastSource => Why::PastSource,
-        Reason::CutsCharacter => Why::CutsCharacter,
+        Reason::Unfetched(_) => "Unfetched",
+        Reason::PastSource => "PastSource",
+        Reason::CutsCharacter => "CutsCharacter",
     }
 }
