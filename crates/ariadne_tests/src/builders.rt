@@ -1,7 +1,7 @@
 //! Calls of the builder, each by the picture that it makes.
 
 use ariadne::{Color, Label, Report, ReportBuilder, ReportKind};
-use ariadne_asserts::asserts::{assert_bytes, assert_picture, plain_error};
+use ariadne_asserts::asserts::{assert_picture, plain_error};
 use std::process::Abort;
 
 /// The picture of two labels added in turn.
@@ -31,12 +31,10 @@ fn second(rt: &(impl Abort + AllocGlobal)) -> Label {
         .expect(rt, "memory")
 }
 
-/// Their report in the making, with the first alone.
+/// Their report in the making, without labels.
 fn begun(rt: &(impl Abort + AllocGlobal)) -> ReportBuilder<'static> {
     plain_error(rt.alloc())
         .with_message("m")
-        .expect(rt, "memory")
-        .with_label(first(rt))
         .expect(rt, "memory")
 }
 
@@ -46,80 +44,19 @@ fn assert_two(rt: &(impl Abort + AllocGlobal), report: &Report<'_>) {
 }
 
 #[test]
-fn one_label_more_stands_behind_those_that_are_there(rt: HostRuntime) {
-    let report = begun(&rt).with_label(second(&rt)).expect(&rt, "memory");
+fn labels_stand_behind_those_that_are_there(rt: HostRuntime) {
+    let report = begun(&rt).with_label(first(&rt)).expect(&rt, "memory");
+    let report = report.with_labels([second(&rt)]).expect(&rt, "memory");
     assert_two(&rt, &report.finish())
 }
 
 #[test]
-fn some_labels_more_stand_behind_those_that_are_there(rt: HostRuntime) {
-    let report = begun(&rt).with_labels([second(&rt)]).expect(&rt, "memory");
-    assert_two(&rt, &report.finish())
-}
-
-#[test]
-fn an_added_label_stands_behind_those_that_are_there(rt: HostRuntime) {
+fn added_labels_stand_behind_those_that_are_there(rt: HostRuntime) {
     let mut report = begun(&rt);
-    report.add_label(second(&rt)).expect(&rt, "memory");
-    assert_two(&rt, &report.finish())
-}
-
-#[test]
-fn added_labels_stand_in_their_order(rt: HostRuntime) {
-    let mut report = plain_error(rt.alloc())
-        .with_message("m")
-        .expect(&rt, "memory");
-    report
-        .add_labels([first(&rt), second(&rt)])
-        .expect(&rt, "memory");
+    report.add_label(first(&rt)).expect(&rt, "memory");
+    report.add_labels([second(&rt)]).expect(&rt, "memory");
     report.add_labels([]).expect(&rt, "memory");
     assert_two(&rt, &report.finish())
-}
-
-#[test]
-fn the_last_message_of_a_report_counts(rt: HostRuntime) {
-    let report = plain_error(rt.alloc())
-        .with_message("first")
-        .expect(&rt, "memory");
-    let report = report.with_message("second").expect(&rt, "memory").finish();
-    assert_bytes(&rt, &report, "", &["Error: second"]).expect(&rt, "the picture")
-}
-
-#[test]
-fn a_set_message_replaces_the_first(rt: HostRuntime) {
-    let mut report = plain_error(rt.alloc())
-        .with_message("first")
-        .expect(&rt, "memory");
-    report.set_message("third").expect(&rt, "memory");
-    assert_bytes(&rt, &report.finish(), "", &["Error: third"]).expect(&rt, "the picture")
-}
-
-#[test]
-fn a_message_may_be_empty(rt: HostRuntime) {
-    let mut report = plain_error(rt.alloc());
-    report.set_message("").expect(&rt, "memory");
-    assert_bytes(&rt, &report.finish(), "", &["Error: "]).expect(&rt, "the picture")
-}
-
-#[test]
-fn the_last_message_of_a_label_counts(rt: HostRuntime) {
-    let label = first(&rt)
-        .with_message(rt.alloc(), "second")
-        .expect(&rt, "memory");
-    let report = plain_error(rt.alloc())
-        .with_label(label)
-        .expect(&rt, "memory")
-        .finish();
-    let rows = [
-        "Error:",
-        "   ,-[ <unknown>:1:1 ]",
-        "   |",
-        " 1 | a",
-        "   | |",
-        "   | `-- second",
-        "---'",
-    ];
-    assert_picture(&rt, &report, "a", &rows).expect(&rt, "the picture")
 }
 
 #[test]

@@ -1,7 +1,7 @@
 //! Configurations: the default one, and which one counts.
 
 use ariadne::{CharSet, Color, Config, IndexType, Label, LabelAttach, Report, ReportKind};
-use ariadne_asserts::asserts::{assert_bytes, plain, plain_error};
+use ariadne_asserts::asserts::{assert_bytes, plain};
 
 #[test]
 fn a_new_configuration_is_the_default(rt: HostRuntime) {
@@ -28,14 +28,6 @@ fn a_report_is_in_colors_where_none_says_otherwise(rt: HostRuntime) {
     let builder = Report::build(rt.alloc(), ReportKind::Error, 0..0);
     let report = builder.with_message("m").expect(&rt, "memory").finish();
     assert_bytes(&rt, &report, "", &["\x1b[31mError:\x1b[0m m"]).expect(&rt, "the picture")
-}
-
-#[test]
-fn the_last_configuration_counts(rt: HostRuntime) {
-    let builder = plain_error(rt.alloc()).with_config(Config::default());
-    let builder = builder.with_config(plain());
-    let report = builder.with_message("m").expect(&rt, "memory").finish();
-    assert_bytes(&rt, &report, "", &["Error: m"]).expect(&rt, "the picture")
 }
 
 #[test]

@@ -1,10 +1,8 @@
-//! Tests of the calls that make a report, of the laws, and of the example of README.md; of all offsets,
-//! the greatest numbers and the longest texts; and of what stands where memory is refused, and where a
-//! writer or a sink fails. Pictures are stored cases of `ariadne_replay`.
+//! Tests of the calls that make a report, of the laws, and of the example of README.md; of the greatest
+//! numbers; and of what stands where memory is refused, and where a writer or a sink fails. Pictures
+//! are stored cases of `ariadne_replay`, or reckoned by `tools/try-reckoned`.
 #![tactic(auto)]
 
-#[cfg(test)]
-mod asides;
 #[cfg(test)]
 mod builders;
 #[cfg(test)]
@@ -18,11 +16,7 @@ mod labels;
 #[cfg(test)]
 mod laws;
 #[cfg(test)]
-mod offsets;
-#[cfg(test)]
 mod readme;
-#[cfg(test)]
-mod reckoned;
 #[cfg(test)]
 mod refused;
 #[cfg(test)]
