@@ -8,9 +8,10 @@ ghost use Rattle.ariadne_accept.specs.Drawn.{AreDrawn, world};
 ghost use Rattle.ariadne_drawing.specs.Lines.{AreOverLines};
 ghost use Rattle.ariadne_base.specs.Listing.{Listing, listed_lines};
 ghost use Rattle.ariadne_cells.specs.Pages.{DrawsRows};
-ghost use Rattle.ariadne_picture.specs.Canvas.{canvas, group_id, group_source, header_offset, palette_of};
-ghost use Rattle.ariadne_picture.specs.Canvas.{same_source, section_of, texts_of};
-ghost use Rattle.ariadne_picture.specs.Groups.{groups_of};
+ghost use Rattle.ariadne_picture.specs.Canvas.{canvas, group_id, group_source, header_offset};
+ghost use Rattle.ariadne_picture.specs.Canvas.{number_width, palette_of, same_source, section_of};
+ghost use Rattle.ariadne_picture.specs.Canvas.{texts_of};
+ghost use Rattle.ariadne_picture.specs.Groups.{groups_of, ordered};
 ghost use Rattle.ariadne_picture.specs.Lists.{joined};
 ghost use Rattle.ariadne_picture.specs.Pieces.{Section, Texts, location_text, row_pieces};
 ghost use Rattle.ariadne_picture.specs.Pieces.{section_rows};
@@ -35,7 +36,7 @@ use ariadne_rows::asides::{push_helps, push_notes};
 use ariadne_rows::gutter::Gutter;
 use ariadne_rows::headers::{push_group_header, push_header, push_spacer, push_tail};
 use ariadne_rows::sheet::GroupSheet;
-use std::alloc::AllocError;
+use std::alloc::{AllocError, Global};
 
 /// Draws the picture of accepted labels, whose sources the cache holds.
 ///
@@ -51,11 +52,8 @@ pub fn draw<S: Span, C: Cache<S::SourceId>>(
         (C.names cache.now) (C.contents cache.now) in
         IfOk result (λ text. string_bytes text ≡ printed (canvas w report.now infos.items)) }
 {
-    let mut infos = infos;
-    put_in_order(report.alloc, &ByOrder, &mut infos)?;
-    let width = number_width(report, cache, &infos);
-    let switches = report.config().switches();
-    let page = Page::new(report.alloc, palette(report)?, switches, width)?;
+    let infos = in_order(report.alloc, infos)?;
+    let page = page_of(report, cache, &infos)?;
     let mut pen = Pen::new(report.alloc, &page);
     push_header(
         &mut pen,
@@ -65,6 +63,36 @@ pub fn draw<S: Span, C: Cache<S::SourceId>>(
     )?;
     push_groups(&mut pen, &page, report, cache, &infos)?;
     Ok(pen.into_text())
+}
+
+/// The labels in their order.
+fn in_order(alloc: Global, infos: Vec<LabelInfo>) -> Result<Vec<LabelInfo>, AllocError>
+    ensures { IfOk result (λ sorted. sorted.items ≡ ordered infos.items) }
+{
+    let mut infos = infos;
+    put_in_order(alloc, &ByOrder, &mut infos)?;
+    Ok(infos)
+}
+
+/// What all rows of the picture of labels in order share.
+fn page_of<S: Span, C: Cache<S::SourceId>>(
+    report: &Content<'_, S>,
+    cache: &C,
+    infos: &[LabelInfo],
+) -> Result<Page, AllocError>
+    requires drawn { let w = world S.source_of S.start_of S.end_of S.SourceId.eq
+        (C.names cache.now) (C.contents cache.now) in AreDrawn w report.now infos.now }
+    ensures { let w = world S.source_of S.start_of S.end_of S.SourceId.eq
+        (C.names cache.now) (C.contents cache.now) in let r = report.now in
+        IfOk result (λ page. page ≡ record {
+          palette = palette_of r;
+          switches = switches_of r.config;
+          number_width = number_width w r (groups_of (same_source w r) infos.now);
+        }) }
+{
+    let width = number_width(report, cache, infos);
+    let switches = report.config().switches();
+    Page::new(report.alloc, palette(report)?, switches, width)
 }
 
 /// The colours that the pieces of a report's picture may have.

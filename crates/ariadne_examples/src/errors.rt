@@ -5,6 +5,7 @@
 use crate::pictures::{assert_rows, picture_of, plain};
 use ariadne::{Label, Report, ReportKind, Source};
 use std::alloc::{AllocError, Global};
+use std::process::Abort;
 use thiserror::Error;
 
 /// The greatest number.
@@ -61,24 +62,19 @@ impl Refusal {
     }
 }
 
+/// The picture of what is told of a text that is no number.
+fn refused(rt: &(impl Abort + AllocGlobal), text: &str) -> String {
+    let refusal = number(text).expect_err(rt, "a refusal");
+    let report = refusal.report(rt.alloc()).expect(rt, "memory");
+    let mut source = Source::from(rt.alloc(), text).expect(rt, "memory");
+    picture_of(rt, &report, &mut source)
+}
+
 #[test]
 fn each_refusal_is_a_report(rt: HostRuntime) {
-    let alloc = rt.alloc();
     assert_eq!(rt; number("255").ok(), Some(255));
-    for (text, header) in [
-        ("", "[01] Error: no number\n"),
-        ("300", "[03] Error: more than 255\n"),
-    ] {
-        let refusal = number(text).expect_err(&rt, "a refusal");
-        let report = refusal.report(alloc).expect(&rt, "memory");
-        let mut source = Source::from(alloc, text).expect(&rt, "memory");
-        let picture = picture_of(&rt, &report, &mut source);
-        assert!(rt; picture.as_str().starts_with(header), "of {text:?}");
-    }
-    let refusal = number("12a4").expect_err(&rt, "a refusal");
-    let report = refusal.report(alloc).expect(&rt, "memory");
-    let mut source = Source::from(alloc, "12a4").expect(&rt, "memory");
-    let picture = picture_of(&rt, &report, &mut source);
+    assert!(rt; refused(&rt, "").starts_with("[01] Error: no number\n"));
+    assert!(rt; refused(&rt, "300").starts_with("[03] Error: more than 255\n"));
     let rows = [
         "[02] Error: `a` is no digit",
         "   ,-[ <unknown>:1:3 ]",
@@ -88,5 +84,5 @@ fn each_refusal_is_a_report(rt: HostRuntime) {
         "   |   `-- no digit",
         "---'",
     ];
-    assert_rows(&rt, picture.as_str(), &rows)
+    assert_rows(&rt, refused(&rt, "12a4").as_str(), &rows)
 }

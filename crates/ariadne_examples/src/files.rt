@@ -1,30 +1,41 @@
-//! Labels in several files, which a `FileCache` reads when they are first asked for. Copy `draw`:
-//! an id is a path as text, and spans are paired with it. `is_unread` shows what is told of a file
-//! that can't be had; the labels in the others are drawn all the same.
+//! Labels in several files, which a `FileCache` reads when they are first asked for. Copy `report`
+//! and `draw`: an id is a path as text, and spans are paired with it. `is_unread` shows what is told
+//! of a file that can't be had; the labels in the others are drawn all the same.
 
 use crate::pictures::{assert_rows, plain};
 use ariadne::{FileCache, FileError, Label, LeftOut, Reason, Report, ReportKind, WriteError};
-use std::alloc::Global;
+use std::alloc::{AllocError, Global};
 use std::io::Write;
-use std::rt::Files;
+use std::ops::Range;
+use std::path::PathBuf;
+use std::process::Abort;
+use std::rt::{Env, Files};
 use std::{env, fs};
 
-/// Draws an error over the files at two paths to `out`, and answers the labels that are left out.
-pub(crate) fn draw<'p, R: Files, W: Write>(
-    files: &R,
+/// The error over the files at two paths.
+fn report<'p>(
     alloc: Global,
     pie: &'p str,
     fruit: &'p str,
-    out: &mut W,
-) -> Result<Vec<LeftOut<FileError>>, WriteError> {
+) -> Result<Report<'static, (&'p str, Range<usize>)>, AllocError> {
     let report = Report::build(alloc, ReportKind::Error, (pie, 18..25))
         .with_config(plain())
         .with_message("can't add a text to a number")?
         .with_label(Label::new((pie, 18..25)).with_message(alloc, "this is a text")?)?
-        .with_label(Label::new((fruit, 4..9)).with_message(alloc, "declared as a number here")?)?
-        .finish();
+        .with_label(Label::new((fruit, 4..9)).with_message(alloc, "declared as a number here")?)?;
+    Ok(report.finish())
+}
+
+/// Draws the error over the files at two paths to `out`, and answers the labels that are left out.
+pub(crate) fn draw<R: Files, W: Write>(
+    files: &R,
+    alloc: Global,
+    pie: &str,
+    fruit: &str,
+    out: &mut W,
+) -> Result<Vec<LeftOut<FileError>>, WriteError> {
     let mut cache = FileCache::new(files, alloc);
-    report.write(&mut cache, out)
+    report(alloc, pie, fruit)?.write(&mut cache, out)
 }
 
 /// Whether a label is left out since its file can't be opened or read.
@@ -35,20 +46,39 @@ fn is_unread(left: &LeftOut<FileError>) -> bool {
     }
 }
 
+/// The path of a file of this name, after this was written to it.
+fn file_of(rt: &(impl Abort + AllocGlobal + Env + Files), name: &str, text: &str) -> PathBuf {
+    let folder = env::temp_dir(rt).expect(rt, "a folder");
+    let path = folder.join(rt.alloc(), name).expect(rt, "memory");
+    fs::write(rt, path.as_path(), text).expect(rt, "a file");
+    path
+}
+
+/// The file of the first label.
+fn pie(rt: &(impl Abort + AllocGlobal + Env + Files)) -> PathBuf {
+    let text = "let pie = apple + \"crust\";\n";
+    file_of(rt, "ariadne_examples_pie.txt", text)
+}
+
+/// The picture over two files, and the labels that are left out.
+fn drawn(
+    rt: &(impl Abort + AllocGlobal + Files),
+    pie: &str,
+    fruit: &str,
+) -> (String, Vec<LeftOut<FileError>>) {
+    let mut out = Vec::new(rt.alloc());
+    let left_out = draw(rt, rt.alloc(), pie, fruit, &mut out).expect(rt, "memory");
+    (String::from_utf8(out).expect(rt, "text"), left_out)
+}
+
 #[test]
 fn labels_in_two_files(rt: HostRuntime) {
-    let alloc = rt.alloc();
-    let folder = env::temp_dir(&rt).expect(&rt, "a folder");
-    let pie = folder
-        .join(alloc, "ariadne_examples_pie.txt")
-        .expect(&rt, "memory");
-    let fruit = folder
-        .join(alloc, "ariadne_examples_fruit.txt")
-        .expect(&rt, "memory");
-    fs::write(&rt, pie.as_path(), "let pie = apple + \"crust\";\n").expect(&rt, "a file");
-    fs::write(&rt, fruit.as_path(), "let apple = 3;\n").expect(&rt, "a file");
-    let first = format!(in alloc; "   ,-[ {}:1:19 ]", pie.as_str()).expect(&rt, "memory");
-    let second = format!(in alloc; "   |-[ {}:1:5 ]", fruit.as_str()).expect(&rt, "memory");
+    let pie = pie(&rt);
+    let fruit = file_of(&rt, "ariadne_examples_fruit.txt", "let apple = 3;\n");
+    let (picture, left_out) = drawn(&rt, pie.as_str(), fruit.as_str());
+    assert!(rt; left_out.is_empty());
+    let first = format!(in rt.alloc(); "   ,-[ {}:1:19 ]", pie.as_str()).expect(&rt, "memory");
+    let second = format!(in rt.alloc(); "   |-[ {}:1:5 ]", fruit.as_str()).expect(&rt, "memory");
     let rows = [
         "Error: can't add a text to a number",
         first.as_str(),
@@ -64,30 +94,17 @@ fn labels_in_two_files(rt: HostRuntime) {
         "   |       `---- declared as a number here",
         "---'",
     ];
-    let mut out = Vec::new(alloc);
-    let left_out = draw(&rt, alloc, pie.as_str(), fruit.as_str(), &mut out).expect(&rt, "memory");
-    assert!(rt; left_out.is_empty());
-    assert_rows(
-        &rt,
-        String::from_utf8(out).expect(&rt, "text").as_str(),
-        &rows,
-    );
-    // A file that is not there takes away its labels alone.
-    fs::remove_file(&rt, fruit.as_path()).expect(&rt, "a file");
-    let mut out = Vec::new(alloc);
-    let left_out = draw(&rt, alloc, pie.as_str(), fruit.as_str(), &mut out).expect(&rt, "memory");
-    fs::remove_file(&rt, pie.as_path()).expect(&rt, "a file");
+    assert_rows(&rt, picture.as_str(), &rows)
+}
+
+#[test]
+fn a_file_that_is_not_there_takes_away_its_labels_alone(rt: HostRuntime) {
+    let pie = pie(&rt);
+    let (picture, left_out) = drawn(&rt, pie.as_str(), "no such file");
     assert_eq!(rt; left_out.len(), 1);
     for left in &left_out {
         assert_eq!(rt; left.label, 1);
         assert!(rt; is_unread(left));
     }
-    let rows = [
-        rows[0], rows[1], rows[2], rows[3], rows[4], rows[5], rows[12],
-    ];
-    assert_rows(
-        &rt,
-        String::from_utf8(out).expect(&rt, "text").as_str(),
-        &rows,
-    )
+    assert!(rt; picture.ends_with("this is a text\n---'\n"));
 }

@@ -6,18 +6,20 @@ ghost use Rattle.std.specs.Cmp.Lexicographic.{bytes_decides};
 ghost use Rattle.std.proofs.Common.{ap};
 
 use ariadne::{
-    Cache, FetchError, FileCache, FnCache, Label, LeftOut, Reason, Report, Source, SourceMap,
+    Cache, FetchError, FileCache, FnCache, Label, LeftOut, Reason, Report, Source, SourceMap, Span,
     UnknownSource, WriteError, sources,
 };
 use ariadne_asserts::asserts::{
     Piece, Why, assert_left_out, assert_picture_over, assert_shown, assert_unknown, labelled,
     labelled_in, plain_error, plain_error_at, written,
 };
-use std::alloc::AllocError;
+use std::alloc::{AllocError, Global};
 use std::cell::Cell;
 use std::collections::HashMap;
+use std::ops::{Range, RangeInclusive};
 use std::process::Abort;
 use std::rc::RcStr;
+use std::rt::Files;
 use std::{env, fs};
 
 /// The picture of two labels in the source `ab` of `x`.
@@ -44,10 +46,52 @@ const SECOND: [&str; 7] = [
     "---'",
 ];
 
+/// A report that points at a source, with labels: of each the id, the start, the end and the message.
+fn report_at(
+    rt: &(impl Abort + AllocGlobal),
+    id: &'static str,
+    labels: &[(&'static str, usize, usize, &str)],
+) -> Report<'static, Piece> {
+    labelled_in(rt, plain_error_at(rt.alloc(), (id, 0..0)), labels).expect(rt, "memory")
+}
+
 /// The report with the two labels on `x`.
 fn two_labels(rt: &(impl Abort + AllocGlobal)) -> Report<'static, Piece> {
-    let builder = plain_error_at(rt.alloc(), ("x", 0..0));
-    labelled_in(rt, builder, &[("x", 0, 1, "p"), ("x", 1, 2, "q")]).expect(rt, "memory")
+    report_at(rt, "x", &[("x", 0, 1, "p"), ("x", 1, 2, "q")])
+}
+
+/// Asserts that over a cache a report leaves out exactly these labels, and has these rows.
+fn assert_over<S: Span, C: Cache<S::SourceId>>(
+    rt: &(impl Abort + AllocGlobal),
+    report: &Report<'_, S>,
+    cache: &mut C,
+    left_out: &[(usize, Why)],
+    rows: &[&str],
+)
+    requires { C.can_fetch cache.old }
+    ensures { C.can_fetch cache.new }
+{
+    assert_picture_over(rt, report, cache, left_out, rows).expect(rt, "the picture")
+}
+
+/// Asserts that over a cache the two labels are drawn.
+fn assert_two<C: Cache<&'static str>>(rt: &(impl Abort + AllocGlobal), cache: &mut C)
+    requires { C.can_fetch cache.old }
+    ensures { C.can_fetch cache.new }
+{
+    assert_over(rt, &two_labels(rt), cache, &[], &TWO)
+}
+
+/// Asserts that over a cache of one source without a name two labels are drawn.
+fn assert_unnamed<C: Cache<()>>(rt: &(impl Abort + AllocGlobal), cache: &mut C)
+    requires { C.can_fetch cache.old }
+    ensures { C.can_fetch cache.new }
+{
+    let report = labelled(rt, plain_error(rt.alloc()), &[(0, 1, "p"), (1, 2, "q")]);
+    let report = report.expect(rt, "memory");
+    let mut rows = TWO;
+    rows[1] = "   ,-[ <unknown>:1:1 ]";
+    assert_over(rt, &report, cache, &[], &rows)
 }
 
 /// Asserts that all these labels are left out by what is named since their sources can't be had, and
@@ -198,6 +242,17 @@ fn a_function_is_called_until_it_answers(rt: HostRuntime) {
     }
 }
 
+/// The picture of the label that is not on `z`.
+const ONE: [&str; 7] = [
+    "Error:",
+    "   ,-[ x:1:1 ]",
+    "   |",
+    " 1 | ab",
+    "   | |",
+    "   | `-- m",
+    "---'",
+];
+
 #[test]
 fn the_sources_of_labels_are_fetched_and_that_of_the_report_is_not(rt: HostRuntime) {
     let calls = Cell::new(0u8);
@@ -208,23 +263,8 @@ fn the_sources_of_labels_are_fetched_and_that_of_the_report_is_not(rt: HostRunti
             if *id == "z" { Err(7) } else { Ok("ab") }
         },
     );
-    let builder = plain_error_at(rt.alloc(), ("r", 0..0));
-    let report = labelled_in(&rt, builder, &[("z", 0, 1, "l"), ("x", 0, 1, "m")]).expect(
-        &rt, "memory",
-    );
-    let rows = [
-        "Error:",
-        "   ,-[ x:1:1 ]",
-        "   |",
-        " 1 | ab",
-        "   | |",
-        "   | `-- m",
-        "---'",
-    ];
-    assert_picture_over(&rt, &report, &mut cache, &[(0, Why::Unfetched)], &rows).expect(
-        &rt,
-        "the picture",
-    );
+    let report = report_at(&rt, "r", &[("z", 0, 1, "l"), ("x", 0, 1, "m")]);
+    assert_over(&rt, &report, &mut cache, &[(0, Why::Unfetched)], &ONE);
     assert_eq!(rt; calls.get(), 2);
     assert!(rt; cache.get(&"x").is_some());
     assert!(rt; cache.get(&"z").is_none());
@@ -233,65 +273,66 @@ fn the_sources_of_labels_are_fetched_and_that_of_the_report_is_not(rt: HostRunti
 
 #[test]
 fn a_report_is_drawn_alike_over_a_map_lent_or_in_a_box(rt: HostRuntime) {
-    let alloc = rt.alloc();
-    let report = two_labels(&rt);
-    let mut map = sources(alloc, [("x", "ab")]).expect(&rt, "memory");
-    assert_picture_over(&rt, &report, &mut map, &[], &TWO).expect(&rt, "the picture");
-    assert_picture_over(&rt, &report, &mut (&mut map), &[], &TWO).expect(&rt, "the picture");
-    let mut boxed = Box::new(alloc, map).expect(&rt, "memory");
-    assert_picture_over(&rt, &report, &mut boxed, &[], &TWO).expect(&rt, "the picture")
+    let mut map = sources(rt.alloc(), [("x", "ab")]).expect(&rt, "memory");
+    assert_two(&rt, &mut map);
+    assert_two(&rt, &mut (&mut map));
+    let mut boxed = Box::new(rt.alloc(), map).expect(&rt, "memory");
+    assert_two(&rt, &mut boxed)
 }
 
 #[test]
 fn a_report_is_drawn_alike_over_a_pair_that_lends_its_source_or_has_it(rt: HostRuntime) {
-    let report = two_labels(&rt);
     let source = Source::from(rt.alloc(), "ab").expect(&rt, "memory");
-    assert_picture_over(&rt, &report, &mut ("x", &source), &[], &TWO).expect(&rt, "the picture");
-    assert_picture_over(&rt, &report, &mut ("x", source), &[], &TWO).expect(&rt, "the picture")
+    assert_two(&rt, &mut ("x", &source));
+    assert_two(&rt, &mut ("x", source))
+}
+
+/// Fails for every id.
+fn missing(_id: &&'static str) -> Result<&'static str, ()> {
+    Err(())
 }
 
 #[test]
 fn sources_that_were_given_are_drawn_without_a_call(rt: HostRuntime) {
-    let alloc = rt.alloc();
-    let report = two_labels(&rt);
-    let mut given = HashMap::new(alloc);
-    let source = Source::from(alloc, "ab").expect(&rt, "memory");
+    let mut given = HashMap::new(rt.alloc());
+    let source = Source::from(rt.alloc(), "ab").expect(&rt, "memory");
     assert!(rt; given.insert("x", source).is_ok());
-    let cache: FnCache<&str, _, &str> = FnCache::new(alloc, |_id: &&str| -> Result<&str, ()> {
-        Err(())
-    });
-    let mut cache = cache.with_sources(given).expect(&rt, "memory");
-    assert_picture_over(&rt, &report, &mut cache, &[], &TWO).expect(&rt, "the picture")
+    let cache: FnCache<&'static str, _, &'static str> = FnCache::new(rt.alloc(), missing);
+    assert_two(&rt, &mut cache.with_sources(given).expect(&rt, "memory"))
 }
 
 #[test]
 fn a_source_without_a_name_is_unknown(rt: HostRuntime) {
-    let alloc = rt.alloc();
-    let report = labelled(&rt, plain_error(alloc), &[(0, 1, "p"), (1, 2, "q")]).expect(
-        &rt, "memory",
-    );
-    let mut rows = TWO;
-    rows[1] = "   ,-[ <unknown>:1:1 ]";
-    let mut shared = Source::from(alloc, RcStr::from_str(alloc, "ab").expect(&rt, "memory")).expect(
-        &rt, "memory",
-    );
-    assert_picture_over(&rt, &report, &mut shared, &[], &rows).expect(&rt, "the picture");
-    let mut source = Source::from(alloc, "ab").expect(&rt, "memory");
-    assert_picture_over(&rt, &report, &mut (&source), &[], &rows).expect(&rt, "the picture");
-    assert_picture_over(&rt, &report, &mut source, &[], &rows).expect(&rt, "the picture")
+    let mut source = Source::from(rt.alloc(), "ab").expect(&rt, "memory");
+    assert_unnamed(&rt, &mut (&source));
+    assert_unnamed(&rt, &mut source)
+}
+
+#[test]
+fn a_source_that_shares_its_text_is_drawn(rt: HostRuntime) {
+    let text = RcStr::from_str(rt.alloc(), "ab").expect(&rt, "memory");
+    assert_unnamed(
+        &rt,
+        &mut Source::from(rt.alloc(), text).expect(&rt, "memory"),
+    )
+}
+
+/// The report of a label on a source whose id is a `String`.
+fn report_of_string(alloc: Global) -> Result<Report<'static, (String, Range<usize>)>, AllocError> {
+    let label = Label::new(("x".to_string(alloc)?, 0..2)).with_message(alloc, "m")?;
+    let builder = plain_error_at(alloc, ("x".to_string(alloc)?, 1..1));
+    Ok(builder.with_label(label)?.finish())
+}
+
+/// A map of one source, whose id and text are `String`s.
+fn map_of_string(alloc: Global) -> Result<SourceMap<String, String>, AllocError> {
+    sources(alloc, [("x".to_string(alloc)?, "ab".to_string(alloc)?)])
 }
 
 #[test]
 fn ids_may_be_strings(rt: HostRuntime) {
-    let alloc = rt.alloc();
-    let label = Label::new(("x".to_string(alloc).expect(&rt, "memory"), 0..2))
-        .with_message(alloc, "m")
-        .expect(&rt, "memory");
-    let start = ("x".to_string(alloc).expect(&rt, "memory"), 1..1);
-    let report = plain_error_at(alloc, start)
-        .with_label(label)
-        .expect(&rt, "memory")
-        .finish();
+    let report = report_of_string(rt.alloc()).expect(&rt, "memory");
+    let mut map = map_of_string(rt.alloc()).expect(&rt, "memory");
     let rows = [
         "Error:",
         "   ,-[ x:1:2 ]",
@@ -301,68 +342,51 @@ fn ids_may_be_strings(rt: HostRuntime) {
         "   |  `-- m",
         "---'",
     ];
-    let mut map = sources(
-        alloc,
-        [(
-            "x".to_string(alloc).expect(&rt, "memory"),
-            "ab".to_string(alloc).expect(&rt, "memory"),
-        )],
-    )
-    .expect(&rt, "memory");
-    assert_picture_over(&rt, &report, &mut map, &[], &rows).expect(&rt, "the picture")
+    assert_over(&rt, &report, &mut map, &[], &rows)
+}
+
+/// The report of a label over offsets of `x`, the last included.
+fn report_to(
+    rt: &(impl Abort + AllocGlobal),
+    offsets: RangeInclusive<usize>,
+) -> Report<'static, (&'static str, RangeInclusive<usize>)> {
+    let label = Label::new(("x", offsets))
+        .with_message(rt.alloc(), "q")
+        .expect(rt, "memory");
+    let builder = plain_error_at(rt.alloc(), ("x", 0..=0));
+    builder.with_label(label).expect(rt, "memory").finish()
 }
 
 #[test]
 fn an_inclusive_span_holds_its_last_offset(rt: HostRuntime) {
-    let alloc = rt.alloc();
-    let mut map = sources(alloc, [("x", "ab")]).expect(&rt, "memory");
-    let last = Label::new(("x", 1..=1))
-        .with_message(alloc, "q")
-        .expect(&rt, "memory");
-    let report = plain_error_at(alloc, ("x", 0..=0))
-        .with_label(last)
-        .expect(&rt, "memory");
-    assert_picture_over(&rt, &report.finish(), &mut map, &[], &SECOND).expect(&rt, "the picture")
+    let mut map = sources(rt.alloc(), [("x", "ab")]).expect(&rt, "memory");
+    assert_over(&rt, &report_to(&rt, 1..=1), &mut map, &[], &SECOND)
 }
 
 #[test]
 fn an_inclusive_span_up_to_the_greatest_offset_is_past_its_source(rt: HostRuntime) {
-    let alloc = rt.alloc();
-    let mut map = sources(alloc, [("x", "ab")]).expect(&rt, "memory");
-    let far = Label::new(("x", 0..=usize::MAX))
-        .with_message(alloc, "q")
-        .expect(&rt, "memory");
-    let report = plain_error_at(alloc, ("x", 0..=0))
-        .with_label(far)
-        .expect(&rt, "memory");
-    let left_out = [(0, Why::PastSource)];
-    assert_picture_over(&rt, &report.finish(), &mut map, &left_out, &["Error:"]).expect(
-        &rt,
-        "the picture",
-    )
+    let mut map = sources(rt.alloc(), [("x", "ab")]).expect(&rt, "memory");
+    let report = report_to(&rt, 0..=usize::MAX);
+    assert_over(&rt, &report, &mut map, &[(0, Why::PastSource)], &["Error:"])
 }
 
 #[test]
 fn an_inclusive_range_holds_its_last_offset(rt: HostRuntime) {
-    let alloc = rt.alloc();
-    let mut source = Source::from(alloc, "ab").expect(&rt, "memory");
     let last = Label::new(1..=1)
-        .with_message(alloc, "q")
+        .with_message(rt.alloc(), "q")
         .expect(&rt, "memory");
-    let report = plain_error_at(alloc, 0..=0)
-        .with_label(last)
-        .expect(&rt, "memory");
+    let builder = plain_error_at(rt.alloc(), 0..=0);
+    let report = builder.with_label(last).expect(&rt, "memory").finish();
     let mut rows = SECOND;
     rows[1] = "   ,-[ <unknown>:1:1 ]";
-    assert_picture_over(&rt, &report.finish(), &mut source, &[], &rows).expect(&rt, "the picture")
+    let mut source = Source::from(rt.alloc(), "ab").expect(&rt, "memory");
+    assert_over(&rt, &report, &mut source, &[], &rows)
 }
 
 #[test]
 fn a_pair_has_no_source_of_another_id(rt: HostRuntime) {
-    let alloc = rt.alloc();
-    let builder = plain_error_at(alloc, ("a", 0..0));
-    let report = labelled_in(&rt, builder, &[("b", 0, 1, "m")]).expect(&rt, "memory");
-    let mut pair = ("a", Source::from(alloc, "ab").expect(&rt, "memory"));
+    let report = report_at(&rt, "a", &[("b", 0, 1, "m")]);
+    let mut pair = ("a", Source::from(rt.alloc(), "ab").expect(&rt, "memory"));
     let (picture, left_out) = written(&rt, &report, &mut pair).expect(&rt, "a picture");
     assert_eq!(rt; picture.as_str(), "Error: \n");
     assert_left_out(&left_out, &[(0, Why::Unfetched)]).expect(&rt, "the labels");
@@ -405,34 +429,26 @@ impl<'s> Cache<&'s str> for Discreet<'s> {
 
 #[test]
 fn a_cache_of_the_callers_own_may_show_no_name(rt: HostRuntime) {
-    let alloc = rt.alloc();
-    let map = sources(alloc, [("x", "ab"), ("y", "c")]).expect(&rt, "memory");
-    let mut cache = Discreet { map, hidden: "x" };
-    let builder = plain_error_at(alloc, ("x", 0..0));
+    let map = sources(rt.alloc(), [("x", "ab"), ("y", "c")]).expect(&rt, "memory");
     let labels = [("x", 1, 2, "q"), ("y", 0, 1, "m"), ("z", 0, 1, "l")];
-    let report = labelled_in(&rt, builder, &labels).expect(&rt, "memory");
-    assert_picture_over(
-        &rt,
-        &report,
-        &mut cache,
-        &[(2, Why::Unfetched)],
-        &[
-            "Error:",
-            "   ,-[ <unknown>:1:1 ]",
-            "   |",
-            " 1 | ab",
-            "   |  |",
-            "   |  `-- q",
-            "   |",
-            "   |-[ y:1:1 ]",
-            "   |",
-            " 1 | c",
-            "   | |",
-            "   | `-- m",
-            "---'",
-        ],
-    )
-    .expect(&rt, "the picture")
+    let rows = [
+        "Error:",
+        "   ,-[ <unknown>:1:1 ]",
+        "   |",
+        " 1 | ab",
+        "   |  |",
+        "   |  `-- q",
+        "   |",
+        "   |-[ y:1:1 ]",
+        "   |",
+        " 1 | c",
+        "   | |",
+        "   | `-- m",
+        "---'",
+    ];
+    let report = report_at(&rt, "x", &labels);
+    let mut cache = Discreet { map, hidden: "x" };
+    assert_over(&rt, &report, &mut cache, &[(2, Why::Unfetched)], &rows)
 }
 
 /// A function that fails once for each id.
@@ -468,14 +484,12 @@ fn each_id_that_failed_is_asked_for_again(rt: HostRuntime) {
         rt.alloc(),
         |id: &&str| -> Result<&str, u8> { hesitant.answer(*id) },
     );
-    let builder = plain_error_at(rt.alloc(), ("x", 0..0));
     let labels = [
         ("x", 0, 1, "p"),
         ("y", 0, 1, "p"),
         ("x", 1, 2, "q"),
         ("y", 1, 2, "q"),
     ];
-    let report = labelled_in(&rt, builder, &labels).expect(&rt, "memory");
     let rows = [
         "Error:",
         "   ,-[ x:1:1 ]",
@@ -492,7 +506,13 @@ fn each_id_that_failed_is_asked_for_again(rt: HostRuntime) {
         "---'",
     ];
     let left_out = [(0, Why::Unfetched), (1, Why::Unfetched)];
-    assert_picture_over(&rt, &report, &mut cache, &left_out, &rows).expect(&rt, "the picture")
+    assert_over(
+        &rt,
+        &report_at(&rt, "x", &labels),
+        &mut cache,
+        &left_out,
+        &rows,
+    )
 }
 
 /// A map of sources that answers want of memory at its second fetch of an id that it does not hold.
@@ -535,63 +555,84 @@ impl<'s> Cache<&'s str> for Stingy<'s> {
     }
 }
 
+/// Such a map, of the source `ab` of `x`.
+fn stingy_map(rt: &(impl Abort + AllocGlobal)) -> Stingy<'static> {
+    Stingy {
+        map: sources(rt.alloc(), [("x", "ab")]).expect(rt, "memory"),
+        has_failed: false,
+    }
+}
+
 #[test]
 fn where_a_cache_wants_memory_nothing_is_sent(rt: HostRuntime) {
-    let alloc = rt.alloc();
-    let mut cache = Stingy {
-        map: sources(alloc, [("x", "ab")]).expect(&rt, "memory"),
-        has_failed: false,
-    };
-    let builder = plain_error_at(alloc, ("x", 0..0));
+    let mut cache = stingy_map(&rt);
     let labels = [("z", 0, 1, "l"), ("x", 1, 2, "q"), ("w", 0, 1, "l")];
-    let report = labelled_in(&rt, builder, &labels).expect(&rt, "memory");
-    let mut out = Vec::new(alloc);
+    let report = report_at(&rt, "x", &labels);
+    let mut out = Vec::new(rt.alloc());
     let answer = report.write(&mut cache, &mut out);
     assert!(rt; matches!(answer, Err(WriteError::Memory(_))));
     assert!(rt; out.is_empty());
     // What it holds is drawn.
-    let builder = plain_error_at(alloc, ("x", 0..0));
-    let report = labelled_in(&rt, builder, &[("x", 1, 2, "q")]).expect(&rt, "memory");
-    assert_picture_over(&rt, &report, &mut cache, &[], &SECOND).expect(&rt, "the picture")
+    assert_two(&rt, &mut cache)
+}
+
+/// The report of a label on the second character of the file at a path.
+fn report_of_file<'p>(
+    rt: &(impl Abort + AllocGlobal),
+    path: &'p str,
+) -> Report<'static, (&'p str, Range<usize>)> {
+    let label = Label::new((path, 1..2))
+        .with_message(rt.alloc(), "q")
+        .expect(rt, "memory");
+    let builder = plain_error_at(rt.alloc(), (path, 0..0));
+    builder.with_label(label).expect(rt, "memory").finish()
+}
+
+/// Asserts that of the file at a path the second character is drawn, in this row.
+fn assert_file<R: Files + Drop>(
+    rt: &(impl Abort + AllocGlobal),
+    cache: &mut FileCache<R>,
+    path: &str,
+    row: &str,
+) {
+    let header = format!(in rt.alloc(); "   ,-[ {path}:1:1 ]").expect(rt, "memory");
+    let mut rows = SECOND;
+    rows[1] = header.as_str();
+    rows[3] = row;
+    assert_over(rt, &report_of_file(rt, path), cache, &[], &rows)
 }
 
 #[test]
 fn a_file_is_drawn_as_it_was_first_read(rt: HostRuntime) {
-    let alloc = rt.alloc();
     let folder = env::temp_dir(&rt).expect(&rt, "a folder");
     let path = folder
-        .join(alloc, "ariadne_tests\nfeed.txt")
+        .join(rt.alloc(), "ariadne_tests\nfeed.txt")
         .expect(&rt, "memory");
-    let id = path.as_str();
-    let label = Label::new((id, 1..2))
-        .with_message(alloc, "q")
+    let mut cache = FileCache::new(&rt, rt.alloc());
+    fs::write(&rt, path.as_path(), "ab").expect(&rt, "a file");
+    assert_file(&rt, &mut cache, path.as_str(), " 1 | ab");
+    fs::write(&rt, path.as_path(), "cd").expect(&rt, "a file");
+    assert_file(&rt, &mut cache, path.as_str(), " 1 | ab");
+    let mut later = FileCache::new(&rt, rt.alloc());
+    assert_file(&rt, &mut later, path.as_str(), " 1 | cd")
+}
+
+#[test]
+fn a_file_that_is_not_there_is_asked_for_again(rt: HostRuntime) {
+    let folder = env::temp_dir(&rt).expect(&rt, "a folder");
+    let path = folder
+        .join(rt.alloc(), "ariadne_tests_later.txt")
         .expect(&rt, "memory");
-    let report = plain_error_at(alloc, (id, 0..0))
-        .with_label(label)
-        .expect(&rt, "memory")
-        .finish();
-    let header = format!(in alloc; "   ,-[ {id}:1:1 ]").expect(&rt, "memory");
-    let mut rows = SECOND;
-    rows[1] = header.as_str();
-    let mut cache = FileCache::new(&rt, alloc);
-    // A file that is not there is asked for again.
     let _ = fs::remove_file(&rt, path.as_path());
-    assert_picture_over(
+    let report = report_of_file(&rt, path.as_str());
+    let mut cache = FileCache::new(&rt, rt.alloc());
+    assert_over(
         &rt,
         &report,
         &mut cache,
         &[(0, Why::Unfetched)],
         &["Error:"],
-    )
-    .expect(&rt, "the picture");
+    );
     fs::write(&rt, path.as_path(), "ab").expect(&rt, "a file");
-    assert_picture_over(&rt, &report, &mut cache, &[], &rows).expect(&rt, "the picture");
-    fs::write(&rt, path.as_path(), "\u{feff}x").expect(&rt, "a file");
-    assert_picture_over(&rt, &report, &mut cache, &[], &rows).expect(&rt, "the picture");
-    // Its mark is a character without a column.
-    rows[3] = " 1 | \u{feff}x";
-    rows[4] = "   | |";
-    rows[5] = "   | `-- q";
-    let mut later = FileCache::new(&rt, alloc);
-    assert_picture_over(&rt, &report, &mut later, &[], &rows).expect(&rt, "the picture")
+    assert_file(&rt, &mut cache, path.as_str(), " 1 | ab")
 }

@@ -76,50 +76,57 @@ fn greatest_after_one() -> ColorGenerator
     colors
 }
 
+/// Colours, each with the parameters of its escape in front and behind.
+const COLORS: [(Color, &str, &str); 21] = [
+    (Color::Primary, "39", "49"),
+    (Color::Fixed(0), "38;5;0", "48;5;0"),
+    (Color::Fixed(99), "38;5;99", "48;5;99"),
+    (Color::Fixed(255), "38;5;255", "48;5;255"),
+    (Color::Rgb(1, 20, 255), "38;2;1;20;255", "48;2;1;20;255"),
+    (Color::Black, "30", "40"),
+    (Color::Red, "31", "41"),
+    (Color::Green, "32", "42"),
+    (Color::Yellow, "33", "43"),
+    (Color::Blue, "34", "44"),
+    (Color::Magenta, "35", "45"),
+    (Color::Cyan, "36", "46"),
+    (Color::White, "37", "47"),
+    (Color::BrightBlack, "90", "100"),
+    (Color::BrightRed, "91", "101"),
+    (Color::BrightGreen, "92", "102"),
+    (Color::BrightYellow, "93", "103"),
+    (Color::BrightBlue, "94", "104"),
+    (Color::BrightMagenta, "95", "105"),
+    (Color::BrightCyan, "96", "106"),
+    (Color::BrightWhite, "97", "107"),
+];
+
 #[test]
-fn every_color_in_front_and_behind(rt: HostRuntime) {
-    let cases = [
-        (Color::Primary, "39", "49"),
-        (Color::Fixed(0), "38;5;0", "48;5;0"),
-        (Color::Fixed(99), "38;5;99", "48;5;99"),
-        (Color::Fixed(255), "38;5;255", "48;5;255"),
-        (Color::Rgb(1, 20, 255), "38;2;1;20;255", "48;2;1;20;255"),
-        (Color::Black, "30", "40"),
-        (Color::Red, "31", "41"),
-        (Color::Green, "32", "42"),
-        (Color::Yellow, "33", "43"),
-        (Color::Blue, "34", "44"),
-        (Color::Magenta, "35", "45"),
-        (Color::Cyan, "36", "46"),
-        (Color::White, "37", "47"),
-        (Color::BrightBlack, "90", "100"),
-        (Color::BrightRed, "91", "101"),
-        (Color::BrightGreen, "92", "102"),
-        (Color::BrightYellow, "93", "103"),
-        (Color::BrightBlue, "94", "104"),
-        (Color::BrightMagenta, "95", "105"),
-        (Color::BrightCyan, "96", "106"),
-        (Color::BrightWhite, "97", "107"),
-    ];
-    for (color, front, behind) in cases {
+fn every_color_in_front(rt: HostRuntime) {
+    for (color, front, _) in COLORS {
         let want = format!(in rt.alloc(); "\x1b[{front}mé\x1b[0m").expect(&rt, "memory");
-        assert_eq!(rt;
-            painted_char(rt.alloc(), 'é', Some(color)).expect(&rt, "memory"),
-            want,
-            "{color:?} in front"
-        );
+        let painted = painted_char(rt.alloc(), 'é', Some(color)).expect(&rt, "memory");
+        assert_eq!(rt; painted, want, "{color:?}");
+    }
+}
+
+#[test]
+fn every_color_is_pushed(rt: HostRuntime) {
+    for (color, front, _) in COLORS {
+        let want = format!(in rt.alloc(); "\x1b[{front}mé\x1b[0m\x1b[{front}me\x1b[0m");
         let mut out = String::new(rt.alloc());
         push_painted_char(&mut out, Some(color), 'é').expect(&rt, "memory");
-        assert_eq!(rt; out, want, "{color:?} in front of a character");
-        let mut out = String::new(rt.alloc());
-        push_painted(&mut out, Some(color), "é").expect(&rt, "memory");
-        assert_eq!(rt; out, want, "{color:?} in front of a text");
+        push_painted(&mut out, Some(color), "e").expect(&rt, "memory");
+        assert_eq!(rt; out, want.expect(&rt, "memory"), "{color:?}");
+    }
+}
+
+#[test]
+fn every_color_behind(rt: HostRuntime) {
+    for (color, _, behind) in COLORS {
         let want = format!(in rt.alloc(); "\x1b[{behind}mé\x1b[0m").expect(&rt, "memory");
-        assert_eq!(rt;
-            painted_text(rt.alloc(), "é", Some(color)).expect(&rt, "memory"),
-            want,
-            "{color:?} behind"
-        );
+        let painted = painted_text(rt.alloc(), "é", Some(color)).expect(&rt, "memory");
+        assert_eq!(rt; painted, want, "{color:?}");
     }
 }
 

@@ -1,52 +1,39 @@
 //! The lines of texts, look-ups in them, and spans.
 
 use ariadne::{Source, SourceText, Span};
-use std::alloc::Global;
 use std::hash::{DefaultHasher, Hash, Hasher};
 use std::process::Abort;
 use std::rc::RcStr;
 
 /// Asserts that the lines of the text that these join to are these.
-fn assert_lines(rt: &impl Abort, alloc: Global, lines: &[&str]) {
-    let mut text = String::new(alloc);
+fn assert_lines(rt: &(impl Abort + AllocGlobal), lines: &[&str]) {
+    let mut text = String::new(rt.alloc());
     for line in lines {
         text.push_str(*line).expect(rt, "memory");
     }
-    let source = Source::from(alloc, text).expect(rt, "memory");
+    let source = Source::from(rt.alloc(), text).expect(rt, "memory");
     let mut found = source.lines();
-    let mut offset = 0usize;
     for (number, want) in lines.iter().enumerate() {
-        assert_eq!(rt; found.len(), lines.len().saturating_sub(number));
-        let Some(line) = found.next() else {
-            panic!(rt; "a line is missing");
-        };
-        assert_eq!(rt; line.offset(), offset, "of {want:?}");
-        assert_eq!(rt; line.len(), want.chars().count(), "of {want:?}");
-        assert_eq!(rt; line.is_empty(), want.is_empty(), "of {want:?}");
-        assert_eq!(rt; source.get_line_text(line), Some(*want));
-        assert_eq!(rt; source.line(number), Some(line), "of {want:?}");
-        offset = line.span().end;
+        let line = found.next();
+        assert_eq!(rt; source.line(number), line, "of {want:?}");
+        let text = line.and_then(|line| source.get_line_text(line));
+        assert_eq!(rt; text, Some(*want));
     }
-    assert_eq!(rt; found.size_hint(), (0, Some(0)));
-    assert_eq!(rt; found.next(), None);
     assert_eq!(rt; found.next(), None);
     assert_eq!(rt; source.line(lines.len()), None);
-    assert_eq!(rt; source.len(), offset);
-    assert_eq!(rt; source.is_empty(), offset == 0);
 }
 
 #[test]
 fn seven_characters_end_a_line_and_cr_lf_ends_one(rt: HostRuntime) {
-    let alloc = rt.alloc();
-    assert_lines(&rt, alloc, &[""]);
-    assert_lines(&rt, alloc, &["Single line"]);
-    assert_lines(&rt, alloc, &["Single line with LF\n"]);
-    assert_lines(&rt, alloc, &["Single line with CRLF\r\n"]);
-    assert_lines(&rt, alloc, &["Two\r\n", "lines\n"]);
-    assert_lines(&rt, alloc, &["Some\n", "more\r\n", "lines"]);
-    assert_lines(&rt, alloc, &["\n", "\r\n", "\n", "Empty Lines"]);
-    assert_lines(&rt, alloc, &["Trailing spaces  \n", "are kept\t"]);
-    assert_lines(&rt, alloc, &["\n", "\r"]);
+    assert_lines(&rt, &[""]);
+    assert_lines(&rt, &["Single line"]);
+    assert_lines(&rt, &["Single line with LF\n"]);
+    assert_lines(&rt, &["Single line with CRLF\r\n"]);
+    assert_lines(&rt, &["Two\r\n", "lines\n"]);
+    assert_lines(&rt, &["Some\n", "more\r\n", "lines"]);
+    assert_lines(&rt, &["\n", "\r\n", "\n", "Empty Lines"]);
+    assert_lines(&rt, &["Trailing spaces  \n", "are kept\t"]);
+    assert_lines(&rt, &["\n", "\r"]);
     let others = [
         "CR\r",
         "VT\u{b}",
@@ -55,7 +42,26 @@ fn seven_characters_end_a_line_and_cr_lf_ends_one(rt: HostRuntime) {
         "LS\u{2028}",
         "PS\u{2029}",
     ];
-    assert_lines(&rt, alloc, &others)
+    assert_lines(&rt, &others)
+}
+
+#[test]
+fn a_line_tells_where_it_is_and_how_long(rt: HostRuntime) {
+    let source = Source::from(rt.alloc(), "\u{e9}b\r\nc").expect(&rt, "memory");
+    assert_eq!(rt; (source.len(), source.is_empty()), (5, false));
+    let mut lines = source.lines();
+    assert_eq!(rt; (lines.len(), lines.size_hint()), (2, (2, Some(2))));
+    for (offset, len) in [(0, 4), (4, 1)] {
+        let told = lines.next().map(|line| (
+            line.offset(),
+            line.len(),
+            line.is_empty(),
+            line.span(),
+        ));
+        let end = offset + len;
+        assert_eq!(rt; told, Some((offset, len, false, offset..end)));
+    }
+    assert_eq!(rt; (lines.len(), lines.size_hint()), (0, (0, Some(0))));
 }
 
 #[test]
@@ -114,18 +120,12 @@ fn bytes_are_not_taken_for_characters(rt: HostRuntime) {
 
 #[test]
 fn a_line_has_no_text_where_its_bytes_are_none_of_the_source(rt: HostRuntime) {
-    let alloc = rt.alloc();
-    let long = Source::from(alloc, "abcde").expect(&rt, "memory");
-    let short = Source::from(alloc, "ab").expect(&rt, "memory");
-    let wide = Source::from(alloc, "abcd\u{e9}").expect(&rt, "memory");
-    for line in long.lines() {
-        assert_eq!(rt; short.get_line_text(line), None);
-        assert_eq!(rt; wide.get_line_text(line), None);
-        assert_eq!(rt; long.get_line_text(line), Some("abcde"));
-    }
-    for line in short.lines() {
-        assert_eq!(rt; long.get_line_text(line), Some("ab"));
-    }
+    let long = Source::from(rt.alloc(), "abcde").expect(&rt, "memory");
+    let short = Source::from(rt.alloc(), "ab").expect(&rt, "memory");
+    let wide = Source::from(rt.alloc(), "abcd\u{e9}").expect(&rt, "memory");
+    let line = long.line(0).expect(&rt, "a line");
+    assert_eq!(rt; short.get_line_text(line), None);
+    assert_eq!(rt; wide.get_line_text(line), None);
 }
 
 /// The hash of a source.
@@ -137,55 +137,45 @@ fn hash_of<I: SourceText>(source: &Source<I>) -> u64 {
 
 #[test]
 fn a_copy_equals_its_source_in_text_and_offset(rt: HostRuntime) {
-    let alloc = rt.alloc();
-    let source = Source::from(alloc, String::from_str(alloc, "a\nb").expect(&rt, "memory")).expect(
-        &rt, "memory",
-    );
+    let text = String::from_str(rt.alloc(), "a\nb").expect(&rt, "memory");
+    let source = Source::from(rt.alloc(), text).expect(&rt, "memory");
     assert!(rt; source.lines().len() <= usize::MAX - 98);
     let source = source.with_display_line_offset(98);
     let copy = source.clone().expect(&rt, "memory");
-    assert_eq!(rt; copy.text(), "a\nb");
-    assert_eq!(rt; copy.display_line_offset(), 98);
+    assert_eq!(rt; (copy.text(), copy.display_line_offset()), ("a\nb", 98));
     assert!(rt; copy == source);
     assert_eq!(rt; hash_of(&copy), hash_of(&source));
     assert!(rt; copy.lines().len() <= usize::MAX);
-    let moved = copy.with_display_line_offset(0);
-    assert!(rt; moved != source);
-    let other = Source::from(
-        moved.memory(),
-        String::from_str(alloc, "a\nc").expect(&rt, "memory"),
-    )
-    .expect(&rt, "memory");
-    assert_eq!(rt; other.display_line_offset(), 0);
-    assert!(rt; other != moved);
+    assert!(rt; copy.with_display_line_offset(0) != source);
+}
 
-    // A text may be shared.
-    let text = RcStr::from_str(alloc, "a\nb").expect(&rt, "memory");
-    let source = Source::from(alloc, text.clone().expect(&rt, "memory")).expect(&rt, "memory");
+#[test]
+fn sources_of_other_texts_are_others(rt: HostRuntime) {
+    let source = Source::from(rt.alloc(), "a\nb").expect(&rt, "memory");
+    let other = Source::from(source.memory(), "a\nc").expect(&rt, "memory");
+    assert!(rt; other != source);
+    assert!(rt; source.clone().expect(&rt, "memory") == source);
+}
+
+#[test]
+fn a_text_may_be_shared(rt: HostRuntime) {
+    let text = RcStr::from_str(rt.alloc(), "a\nb").expect(&rt, "memory");
+    let source = Source::from(rt.alloc(), text).expect(&rt, "memory");
     let copy = source.clone().expect(&rt, "memory");
-    assert_eq!(rt; copy.text(), text.as_str());
-    assert_eq!(rt; copy.lines().len(), 2);
-    let source = Source::from(alloc, "a\nb").expect(&rt, "memory");
-    assert_eq!(rt; source.clone().expect(&rt, "memory").text(), "a\nb");
+    assert_eq!(rt; copy.text(), source.text());
+}
+
+/// The start of a span, its end, its length, and whether it is empty.
+fn told_of<S: Span>(span: &S) -> (usize, usize, usize, bool) {
+    (span.start(), span.end(), span.len(), span.is_empty())
 }
 
 #[test]
 fn half_open_ranges_end_before_their_end(rt: HostRuntime) {
     for (start, end, len) in [(2, 5, 3), (3, 3, 0), (5, 2, 0), (0, usize::MAX, usize::MAX)] {
-        let span = ("a", start..end);
-        assert_eq!(rt; *span.source(), "a");
-        assert_eq!(rt; *Span::source(&span.1), ());
-        assert_eq!(rt; (span.start(), Span::start(&span.1)), (start, start));
-        assert_eq!(rt; (span.end(), Span::end(&span.1)), (end, end));
-        assert_eq!(rt;
-            (span.len(), Span::len(&span.1)),
-            (len, len),
-            "of {start}..{end}"
-        );
-        assert_eq!(rt;
-            (span.is_empty(), Span::is_empty(&span.1)),
-            (len == 0, len == 0)
-        );
+        let want = (start, end, len, len == 0);
+        assert_eq!(rt; told_of(&(start..end)), want);
+        assert_eq!(rt; told_of(&("a", start..end)), want);
     }
 }
 
@@ -198,38 +188,23 @@ fn inclusive_ranges_end_one_past_their_last_offset(rt: HostRuntime) {
         (5, 2, 3, 0),
     ];
     for (start, last, end, len) in cases {
-        let span = (7u8, start..=last);
-        assert_eq!(rt; *span.source(), 7);
-        assert_eq!(rt; *Span::source(&span.1), ());
-        assert_eq!(rt; (span.start(), Span::start(&span.1)), (start, start));
-        assert_eq!(rt;
-            (span.end(), Span::end(&span.1)),
-            (end, end),
-            "of {start}..={last}"
-        );
-        assert_eq!(rt;
-            (span.len(), Span::len(&span.1)),
-            (len, len),
-            "of {start}..={last}"
-        );
-        assert_eq!(rt;
-            (span.is_empty(), Span::is_empty(&span.1)),
-            (len == 0, len == 0)
-        );
+        let want = (start, end, len, len == 0);
+        assert_eq!(rt; told_of(&(start..=last)), want);
+        assert_eq!(rt; told_of(&(7u8, start..=last)), want);
     }
+}
 
-    // A span holds its start and not its end.
+#[test]
+fn a_span_has_a_source_and_holds_its_start_and_not_its_end(rt: HostRuntime) {
+    assert_eq!(rt; *("a", 2..5).source(), "a");
+    assert_eq!(rt; *(7u8, 2..=4).source(), 7);
+    assert_eq!(rt; *Span::source(&(2..5)), ());
     for (offset, is_held) in [(1, false), (2, true), (4, true), (5, false)] {
-        assert_eq!(rt;
+        let held = (
             Span::contains(&(2..5), offset),
-            is_held,
-            "at {offset} of 2..5"
-        );
-        assert_eq!(rt;
             ("a", 2..=4).contains(offset),
-            is_held,
-            "at {offset} of 2..=4"
         );
-        assert_eq!(rt; ((), 5..2).contains(offset), false, "at {offset} of 5..2");
+        assert_eq!(rt; held, (is_held, is_held), "at {offset}");
+        assert!(rt; !Span::contains(&(5..2), offset), "at {offset}");
     }
 }

@@ -421,6 +421,22 @@ fn count_texts(rt: &impl AllocGlobal, report: &Report<'_>) -> Result<usize, Mism
     Ok(TEXTS.iter().filter(|text| picture.contains(**text)).count())
 }
 
+/// The report to which the texts are added as helps or notes, until the nth request, and whether
+/// that was refused.
+fn with_texts(rt: &(impl Abort + AllocGlobal), is_help: bool, nth: usize) -> (Report<'static>, bool)
+    requires { nth < 100000 }
+{
+    let mut builder = labelled(rt.alloc()).expect(rt, "memory");
+    refuse(rt.alloc(), nth);
+    let has_failed = if is_help {
+        builder.with_helps(TEXTS).is_err()
+    } else {
+        builder.with_notes(TEXTS).is_err()
+    };
+    let is_refused = assert_refused(rt, "texts", nth, has_failed);
+    (builder.finish(), is_refused)
+}
+
 /// Refuses the nth request of adding helps or notes, and answers how many were added.
 fn try_texts(
     rt: &(impl Abort + AllocGlobal),
@@ -430,15 +446,7 @@ fn try_texts(
 ) -> usize
     requires { nth < 100000 }
 {
-    let mut builder = labelled(rt.alloc()).expect(rt, "memory");
-    refuse(rt.alloc(), nth);
-    let answer = if is_help {
-        builder.with_helps(TEXTS)
-    } else {
-        builder.with_notes(TEXTS)
-    };
-    let is_refused = assert_refused(rt, "texts", nth, answer.is_err());
-    let report = builder.finish();
+    let (report, is_refused) = with_texts(rt, is_help, nth);
     let added = count_texts(rt, &report).expect(rt, "a picture");
     assert_eq!(rt; added < 3, is_refused, "at request {nth}");
     let seen = Seen {
@@ -465,40 +473,51 @@ fn of_refused_helps_and_notes_those_before_stay(rt: HostRuntime) {
     }
 }
 
-/// Refuses the nth request of adding labels, and answers how many were added.
-fn try_labels(rt: &(impl Abort + AllocGlobal), nth: usize) -> usize
-    requires { nth < 100000 }
-{
+/// Nine labels of one character that say `x`.
+fn nine_labels(rt: &(impl Abort + AllocGlobal)) -> Vec<Label> {
     let mut labels = Vec::new(rt.alloc());
     for _ in 0..9 {
-        labels
-            .push(
-                Label::new(0..1)
-                    .with_message(rt.alloc(), "x")
-                    .expect(rt, "memory"),
-            )
-            .expect(rt, "memory");
+        let label = Label::new(0..1).with_message(rt.alloc(), "x");
+        labels.push(label.expect(rt, "memory")).expect(rt, "memory");
     }
-    let mut builder = plain_error(rt.alloc());
-    refuse(rt.alloc(), nth);
-    let answer = builder.add_labels(labels);
-    let is_refused = assert_refused(rt, "add_labels", nth, answer.is_err());
+    labels
+}
+
+/// How many of them stand in the picture of a report.
+fn count_labels(rt: &(impl Abort + AllocGlobal), report: &Report<'_>) -> usize {
     let mut source = source_of(rt.alloc(), "ab").expect(rt, "memory");
-    let report = builder.finish();
-    let (picture, _) = written(rt, &report, &mut source).expect(rt, "a picture");
+    let (picture, _) = written(rt, report, &mut source).expect(rt, "a picture");
     let rows = picture.split_terminator('\n');
-    let added = rows.filter(|row| row.ends_with("`-- x")).count();
-    assert_eq!(rt; added < 9, is_refused, "at request {nth}");
+    rows.filter(|row| row.ends_with("`-- x")).count()
+}
+
+/// Asserts that a report has so many of them.
+fn assert_labels(rt: &(impl Abort + AllocGlobal), report: &Report<'_>, count: usize) {
     let mut middle = Vec::new(rt.alloc());
-    if added > 0 {
+    if count > 0 {
         middle.extend_from_slice(SILENT).expect(rt, "memory");
     }
-    for _ in 0..added {
+    for _ in 0..count {
         middle
             .extend_from_slice(&["   | |", "   | `-- x"])
             .expect(rt, "memory");
     }
-    assert_rows(rt, "add_labels", &report, ("Error:", &middle, &[]));
+    assert_rows(rt, "add_labels", report, ("Error:", &middle, &[]))
+}
+
+/// Refuses the nth request of adding labels, and answers how many were added.
+fn try_labels(rt: &(impl Abort + AllocGlobal), nth: usize) -> usize
+    requires { nth < 100000 }
+{
+    let labels = nine_labels(rt);
+    let mut builder = plain_error(rt.alloc());
+    refuse(rt.alloc(), nth);
+    let answer = builder.add_labels(labels);
+    let is_refused = assert_refused(rt, "add_labels", nth, answer.is_err());
+    let report = builder.finish();
+    let added = count_labels(rt, &report);
+    assert_eq!(rt; added < 9, is_refused, "at request {nth}");
+    assert_labels(rt, &report, added);
     added
 }
 

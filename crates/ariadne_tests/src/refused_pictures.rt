@@ -170,6 +170,34 @@ fn assert_grown<C: Cache<&'static str>>(rt: &impl Abort, cache: &C, is_whole: bo
     }
 }
 
+/// Asserts that over a cache the whole picture is written.
+fn assert_whole<C: Cache<&'static str>>(
+    rt: &(impl Abort + AllocGlobal),
+    report: &Report<'static, Piece>,
+    cache: &mut C,
+    picture: &str,
+    nth: usize,
+)
+    requires { C.can_fetch cache.old }
+    ensures { C.can_fetch cache.new }
+{
+    let (shown, left_out) = written(rt, report, cache).expect(rt, "a picture");
+    assert_left_out(&left_out, &LEFT_OUT).expect(rt, "the labels");
+    assert_eq!(rt; shown.as_str(), picture, "at request {nth}");
+}
+
+/// Asserts which labels are left out, or that there was no memory.
+fn assert_answer<E: Drop>(
+    rt: &impl Abort,
+    answer: Result<Vec<LeftOut<E>>, WriteError>,
+    nth: usize,
+) {
+    match answer {
+        Ok(left_out) => assert_left_out(&left_out, &LEFT_OUT).expect(rt, "the labels"),
+        Err(error) => assert!(rt; matches!(error, WriteError::Memory(_)), "at request {nth}"),
+    }
+}
+
 /// Refuses the nth request of a way to write the report, of which a refusal sends nothing. With
 /// memory the whole picture is sent over the same cache.
 fn try_way(
@@ -191,13 +219,7 @@ fn try_way(
     let is_refused = assert_refused(rt, name.as_str(), nth, answer.is_err());
     assert_grown(rt, &cache, !is_refused, nth);
     assert!(rt; !out.failed(), "of {way:?} at request {nth}");
-    match answer {
-        Ok(left_out) => assert_left_out(&left_out, &LEFT_OUT).expect(rt, name.as_str()),
-        Err(error) => {
-            let is_memory = matches!(error, WriteError::Memory(_));
-            assert!(rt; is_memory, "of {way:?} at request {nth}");
-        }
-    }
+    assert_answer(rt, answer, nth);
     let is_held = !is_refused && !matches!(way, Way::Print | Way::Eprint);
     let held = if is_held { picture } else { "" };
     assert_eq!(rt;
@@ -205,9 +227,7 @@ fn try_way(
         held.as_bytes(),
         "of {way:?} at request {nth}"
     );
-    let (again, left_out) = written(rt, report, &mut cache).expect(rt, "a picture");
-    assert_left_out(&left_out, &LEFT_OUT).expect(rt, name.as_str());
-    assert_eq!(rt; again.as_str(), picture, "of {way:?} at request {nth}");
+    assert_whole(rt, report, &mut cache, picture, nth);
     is_refused
 }
 

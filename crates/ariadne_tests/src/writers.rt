@@ -203,14 +203,17 @@ fn for_standard_output_the_same_is_written(rt: HostRuntime) {
     let picture = joined(rt.alloc(), &APPLES).expect(&rt, "memory");
     let mut source = source_of(rt.alloc(), "apple == orange;").expect(&rt, "memory");
     let mut out = Taker::narrow(rt.alloc(), 7, LEN, None);
-    let left_out = apples(&rt)
-        .write_for_stdout(&mut source, &mut out)
-        .expect(&rt, "a picture");
-    assert!(rt; left_out.is_empty());
+    let answer = apples(&rt).write_for_stdout(&mut source, &mut out);
+    assert_eq!(rt; told(&rt, answer), None);
     assert_eq!(rt; out.held.as_slice(), picture.as_bytes());
+}
+
+#[test]
+fn a_fault_of_standard_output_is_told(rt: HostRuntime) {
+    let mut source = source_of(rt.alloc(), "apple == orange;").expect(&rt, "memory");
     let mut out = Taker::narrow(rt.alloc(), 1, 7, Some(ErrorKind::BrokenPipe));
     let answer = apples(&rt).write_for_stdout(&mut source, &mut out);
-    assert!(rt; matches!(answer, Err(WriteError::Io { sent: 7, .. })));
+    assert_eq!(rt; told(&rt, answer), Some((7, ErrorKind::BrokenPipe)));
     assert_eq!(rt; out.held.as_slice(), b"Error: ".as_slice());
 }
 

@@ -7,20 +7,17 @@ use Rattle.ariadne_picture.specs.Groups.{groups_of}
 use Rattle.ariadne_picture.specs.Report.{ReportFields}
 use Rattle.ariadne_accept.specs.Drawn.{world}
 use Rattle.ariadne_labels.specs.Kinds.{shown_kind}
-use Rattle.ariadne_drawing.proofs.WholePictures.{kind_text_is, message_is, sorted_drawn, sorted_is, whole_picture}
+use Rattle.ariadne_drawing.proofs.WholePictures.{kind_text_is, message_is, sorted_drawn, whole_picture}
 use Rattle.ariadne_drawing.proofs.drawing.draw.Goals as goal
 
 -- the labels in order are drawn
-pub number_width-width-requires : goal.number_width-width-requires
-number_width-width-requires g c =
+pub page_of-requires : goal.page_of-requires
+page_of-requires g c =
     let w = world g.S.Span.source_of g.S.Span.start_of g.S.Span.end_of g.S.SourceId.PartialEq.eq (g.C.Cache.names c.args.cache.now)
     (g.C.Cache.contents c.args.cache.now) in
     let r = c.args.report.now in
-    let infos = c.args.infos in
-    let sorted =
-    sorted_is infos.items c.deref_mut.result.now c.put_in_order.new.items c.deref.result.now infos.len infos.ok.0 c.deref_mut.ensures.value
-    c.in_ok-put_in_order.ensures c.deref.ensures.value in
-    record { drawn = sorted_drawn w r infos.items c.deref.result.now sorted c.requires.drawn }
+    let sorted = c.deref.ensures.value ∙ c.in_ok-infos.ensures in
+    record { drawn = sorted_drawn w r c.args.infos.items c.deref.result.now sorted c.requires.drawn }
 
 -- the header leaves the page
 pub push_groups-requires-clause-page : goal.push_groups-requires-clause-page
@@ -39,11 +36,8 @@ push_groups-requires-clause-drawn g c =
     let w = world g.S.Span.source_of g.S.Span.start_of g.S.Span.end_of g.S.SourceId.PartialEq.eq (g.C.Cache.names c.args.cache.now)
     (g.C.Cache.contents c.args.cache.now) in
     let r = c.args.report.now in
-    let infos = c.args.infos in
-    let sorted =
-    sorted_is infos.items c.deref_mut.result.now c.put_in_order.new.items c.deref-2.result.now infos.len infos.ok.0 c.deref_mut.ensures.value
-    c.in_ok-put_in_order.ensures c.deref-2.ensures.value in
-    sorted_drawn w r infos.items c.deref-2.result.now sorted c.requires.drawn
+    let sorted = c.deref-2.ensures.value ∙ c.in_ok-infos.ensures in
+    sorted_drawn w r c.args.infos.items c.deref-2.result.now sorted c.requires.drawn
 
 -- the picture is written
 pub returns : goal.returns
@@ -51,24 +45,18 @@ returns g c =
     let w = world g.S.Span.source_of g.S.Span.start_of g.S.Span.end_of g.S.SourceId.PartialEq.eq (g.C.Cache.names c.args.cache.now)
     (g.C.Cache.contents c.args.cache.now) in
     let r = c.args.report.now in
-    let infos = c.args.infos in
-    let first =
-    sorted_is infos.items c.deref_mut.result.now c.put_in_order.new.items c.deref.result.now infos.len infos.ok.0 c.deref_mut.ensures.value
-    c.in_ok-put_in_order.ensures c.deref.ensures.value in
-    let sorted =
-    sorted_is infos.items c.deref_mut.result.now c.put_in_order.new.items c.deref-2.result.now infos.len infos.ok.0 c.deref_mut.ensures.value
-    c.in_ok-put_in_order.ensures c.deref-2.ensures.value in
+    let sorted = c.deref-2.ensures.value ∙ c.in_ok-infos.ensures in
     let kind : shown_kind c.report.inside.kind ≡ kind_name r.kind = ap (λ (x : ReportFields _). kind_name x.kind) c.report.view_is in
     let header =
     c.in_ok-push_header.ensures (texts_of r)
     (kind_text_is r (option_copied c.code.result) c.name.result.now c.code.ensures (c.name.ensures ∙ kind))
     (message_is r ∙ sym c.message.ensures) in
-    let same : c.deref.result.now ≡ c.deref-2.result.now = first ∙ sym sorted in
+    let same : c.deref.result.now ≡ c.deref-2.result.now = c.deref.ensures.value ∙ sym c.deref-2.ensures.value in
     let page = c.in_ok-page.page in
-    let palette = ap (λ (x : PageFields). x.palette) c.in_ok-page.ensures ∙ c.in_ok-palette.ensures in
+    let palette = ap (λ (x : PageFields). x.palette) c.in_ok-page.ensures in
     let width : page.number_width ≡ number_width w r (groups_of (same_source w r) c.deref-2.result.now) =
-    ap (λ (x : PageFields). x.number_width) c.in_ok-page.ensures ∙ c.number_width-width.ensures
+    ap (λ (x : PageFields). x.number_width) c.in_ok-page.ensures
     ∙ ap (λ xs. number_width w r (groups_of (same_source w r) xs)) same in
     c.into_text.ensures
-    ∙ whole_picture w r infos.items c.deref-2.result.now sorted page c.new-pen.result c.push_header.new.pen c.push_groups.new.pen c.new-pen.ensures
+    ∙ whole_picture w r c.args.infos.items c.deref-2.result.now sorted page c.new-pen.result c.push_header.new.pen c.push_groups.new.pen c.new-pen.ensures
     palette width header c.in_ok-push_groups.ensures
