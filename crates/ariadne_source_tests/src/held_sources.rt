@@ -47,6 +47,15 @@ fn a_source_is_a_cache_without_names(rt: HostRuntime) {
     assert!(rt; lent.display(&()).is_none());
 }
 
+#[test]
+fn an_error_names_the_id_that_a_cache_lacks(rt: HostRuntime) {
+    let mut pair = ("a", Source::from(rt.alloc(), "ab").expect(&rt, "memory"));
+    let Err(FetchError::Failed(error)) = pair.ensure(&"b") else {
+        panic!(rt; "no error of the cache's own");
+    };
+    assert_eq!(rt; error.name(), "b");
+}
+
 /// The path of a file of this name in the folder for files that don't last, after this was written to
 /// it.
 fn file_of(rt: &(impl Abort + AllocGlobal + Env + Files), name: &str, content: &[u8]) -> PathBuf {
