@@ -1,6 +1,6 @@
 //! Reports over caches of each kind: what is drawn, what is left out, and what is asked for.
 
-ghost use Rattle.std.specs.Prelude.{◌≡◌, true, Some, None, cond};
+ghost use Rattle.std.specs.Prelude.{◌≡◌, ◌≤◌, true, Some, None, cond};
 ghost use Rattle.std.specs.Str.{bytes_eq};
 ghost use Rattle.std.specs.Cmp.Lexicographic.{bytes_decides};
 ghost use Rattle.std.proofs.Common.{ap};
@@ -345,12 +345,15 @@ fn ids_may_be_strings(rt: HostRuntime) {
     assert_over(&rt, &report, &mut map, &[], &rows)
 }
 
-/// The report of a label over offsets of `x`, the last included.
+/// The report of a label between two offsets of `x`, the last included.
 fn report_to(
     rt: &(impl Abort + AllocGlobal),
-    offsets: RangeInclusive<usize>,
-) -> Report<'static, (&'static str, RangeInclusive<usize>)> {
-    let label = Label::new(("x", offsets))
+    start: usize,
+    last: usize,
+) -> Report<'static, (&'static str, RangeInclusive<usize>)>
+    requires { start ≤ last }
+{
+    let label = Label::new(("x", start..=last))
         .with_message(rt.alloc(), "q")
         .expect(rt, "memory");
     let builder = plain_error_at(rt.alloc(), ("x", 0..=0));
@@ -360,13 +363,13 @@ fn report_to(
 #[test]
 fn an_inclusive_span_holds_its_last_offset(rt: HostRuntime) {
     let mut map = sources(rt.alloc(), [("x", "ab")]).expect(&rt, "memory");
-    assert_over(&rt, &report_to(&rt, 1..=1), &mut map, &[], &SECOND)
+    assert_over(&rt, &report_to(&rt, 1, 1), &mut map, &[], &SECOND)
 }
 
 #[test]
 fn an_inclusive_span_up_to_the_greatest_offset_is_past_its_source(rt: HostRuntime) {
     let mut map = sources(rt.alloc(), [("x", "ab")]).expect(&rt, "memory");
-    let report = report_to(&rt, 0..=usize::MAX);
+    let report = report_to(&rt, 0, usize::MAX);
     assert_over(&rt, &report, &mut map, &[(0, Why::PastSource)], &["Error:"])
 }
 
@@ -596,9 +599,15 @@ fn assert_file<R: Files + Drop>(
     row: &str,
 ) {
     let header = format!(in rt.alloc(); "   ,-[ {path}:1:1 ]").expect(rt, "memory");
-    let mut rows = SECOND;
-    rows[1] = header.as_str();
-    rows[3] = row;
+    let rows = [
+        "Error:",
+        header.as_str(),
+        "   |",
+        row,
+        "   |  |",
+        "   |  `-- q",
+        "---'",
+    ];
     assert_over(rt, &report_of_file(rt, path), cache, &[], &rows)
 }
 
