@@ -1,13 +1,13 @@
 -- Look-ups in lists of pairs, and fetch steps seen under other ids.
-use Rattle.std.proofs.Common.{◌≡◌, ℕ, List, [], ◌∷◌, ◌++◌, map, Bool, true, false, cond, Some, None, IsSome, Result, Ok, Err, refl, sym, ap, subst}
+use Rattle.std.proofs.Common.{◌≡◌, ℕ, List, [], ◌∷◌, ◌++◌, map, Bool, true, false, cond, Some, None, IsSome, is_some, Option, Result, Ok, Err, refl, sym, ap, subst}
 use Rattle.std.proofs.Common.{◌∙◌}
-use Rattle.std.specs.Prelude.{⊤, reverse}
+use Rattle.std.specs.Prelude.{⊤, reverse, OnOk, OnErr}
 use Rattle.std.specs.Cmp.{IsEquivalence}
 use Rattle.std.specs.Map.{lookup}
 use Rattle.std.specs.Option.{option_or}
 use Rattle.std.proofs.lemmas.List.{reverse-append, map-append}
 use Rattle.ariadne_base.specs.Listing.{Listing}
-use Rattle.ariadne_base.specs.Cache.{held, SameHeld, Fetched, listed, listing_of}
+use Rattle.ariadne_base.specs.Cache.{held, Grows, KeepsOtherIds, SameHeld, Fetched, listed, listing_of}
 use Rattle.ariadne_base.specs.declared.cache.FetchError.{FetchError}
 use Rattle.ariadne_base.specs.declared.cache.FetchError.TheVariants.{Memory, Failed}
 
@@ -55,17 +55,69 @@ pub Fetched-refused : {Id E : Type 0} (eq : Id → Id → Bool) (contents : List
 Fetched-refused eq contents id (Memory _) none = (none, λ q. refl)
 Fetched-refused eq contents id (Failed e) none = (none, (λ q. refl), tt)
 
+-- what is not there is nothing
+pub none-there : {S : Type 0} (found : Option S) → false ≡ is_some found → found ≡ None
+none-there None told = refl
+none-there (Some s) told = cc
+
+-- nothing is not there
+pub nothing-there : {S P : Type 0} (found : Option S) → found ≡ None → IsSome found → P
+nothing-there (Some s) none there = cc
+nothing-there None none there = cc
+
+-- equal ids find the same
+held-equal : {Id : Type 0} {eq : Id → Id → Bool} (laws : IsEquivalence eq) (contents : List (Id × Listing))
+    (p q : Id) → eq p q ≡ true → held eq contents p ≡ held eq contents q
+held-equal laws contents p q e = λ i. lookup (λ k. laws.congr p q k e i) contents
+
+-- the new contents are the old ones with s put under an id
+pub record Put {Id : Type 0} (eq : Id → Id → Bool) (id : Id) (s : Listing) (old new : List (Id × Listing)) : Type 0 where
+  pub at : (q : Id) → held eq new q ≡ cond (eq id q) (Some s) (held eq old q)
+
+module _ {Id : Type 0} {eq : Id → Id → Bool} (laws : IsEquivalence eq) {id : Id} {s : Listing} {old new : List (Id × Listing)} where
+  -- what is put under an equal id is put under the id
+  pub Put-equal : (key : Id) → eq id key ≡ true
+      → ((q : Id) → held eq new q ≡ cond (eq key q) (Some s) (held eq old q)) → Put eq id s old new
+  Put-equal key same put = record {
+    at = λ q. put q ∙ ap (λ b. cond b (Some s) (held eq old q)) (sym (laws.congr id key q same));
+  }
+
+  -- what was put is found
+  pub held-put : Put eq id s old new → held eq new id ≡ Some s
+  held-put put = put.at id ∙ ap (λ b. cond b (Some s) (held eq old id)) (laws.refl id)
+
+  -- other ids find what they found
+  pub KeepsOtherIds-put : Put eq id s old new → KeepsOtherIds eq id old new
+  KeepsOtherIds-put put = λ q apart. put.at q ∙ ap (λ b. cond b (Some s) (held eq old q)) apart
+
+  -- where nothing was held under the id, what was held stays
+  pub Grows-put : Put eq id s old new → held eq old id ≡ None → Grows eq old new
+  Grows-put put none = λ q there.
+      let by_test : (b : Bool) → eq id q ≡ b → held eq new q ≡ held eq old q = elim [
+        | true ↦ λ e.
+            let gone : false ≡ true = subst IsSome (sym (held-equal laws old id q e) ∙ none) there in cc
+        | false ↦ λ e. KeepsOtherIds-put put q e
+      ]
+      in by_test (eq id q) refl
+
+-- what a try to put s under an id leaves, where nothing was held under it
+pub tried-put : {Id E : Type 0} {eq : Id → Id → Bool} (laws : IsEquivalence eq) (id : Id) (s : Listing) (old new : List (Id × Listing))
+    (told : Result Unit E) → OnOk told (Put eq id s old new) → OnErr told (new ≡ old) → held eq old id ≡ None
+    → OnOk told (held eq new id ≡ Some s) × KeepsOtherIds eq id old new × Grows eq old new × OnErr told (SameHeld eq old new)
+tried-put laws id s old new (Ok _) put same none = (held-put laws put, KeepsOtherIds-put laws put, Grows-put laws put none, tt)
+tried-put {eq = eq} laws id s old new (Err _) put same none =
+    let kept : SameHeld eq old new = λ q. ap (λ l. held eq l q) same in (tt, (λ q apart. kept q), (λ q there. kept q), kept)
+
 -- the pairs of id and text so far, the last first, and one pair more
 pub listed-push : {Id I : Type 0} {eq : Id → Id → Bool} (laws : IsEquivalence eq) (text : I → List ℕ)
-    (pairs : List (Id × I)) (id : Id) (item : I) (s : Listing) (old new : List (Id × Listing))
-    → s ≡ listing_of (text item) → SameHeld eq (reverse (listed text pairs)) old
-    → ((q : Id) → held eq new q ≡ cond (eq id q) (Some s) (held eq old q))
+    (pairs : List (Id × I)) (id : Id) (item : I) (old new : List (Id × Listing))
+    → SameHeld eq (reverse (listed text pairs)) old
+    → ((q : Id) → held eq new q ≡ cond (eq id q) (Some (listing_of (text item))) (held eq old q))
     → SameHeld eq (reverse (listed text (pairs ++ (id, item) ∷ []))) new
-listed-push {eq = eq} laws text pairs id item s old new is so_far put q =
+listed-push {eq = eq} laws text pairs id item old new so_far put q =
     let one_more = map-append (λ p. (p.0, listing_of (text p.1))) pairs ((id, item) ∷ []) in
     let turned = ap reverse one_more ∙ reverse-push (listed text pairs) (id, listing_of (text item)) in
     put q
-    ∙ ap (λ b. cond b (Some s) (held eq old q)) (laws.symm id q)
-    ∙ ap (λ t. cond (eq q id) (Some t) (held eq old q)) is
+    ∙ ap (λ b. cond b (Some (listing_of (text item))) (held eq old q)) (laws.symm id q)
     ∙ ap (cond (eq q id) (Some (listing_of (text item)))) (so_far q)
     ∙ ap (λ l. held eq l q) (sym turned)

@@ -1,18 +1,16 @@
 -- Sources under paths: what look-ups by the text of a path find.
-use Rattle.std.proofs.Common.{◌≡◌, ℕ, List, Bool, true, false, cond, Some, None, IsSome, is_some, arith, String, string_bytes, Bor, refl, sym, ap}
-use Rattle.std.proofs.Common.{subst, ◌∙◌}
-use Rattle.std.specs.Cmp.Lexicographic.{bytes_decides}
+use Rattle.std.proofs.Common.{◌≡◌, ℕ, List, true, false, cond, Some, None, IsSome, is_some, String, string_bytes, Bor, sym, ap}
+use Rattle.std.proofs.Common.{◌∙◌}
 use Rattle.std.specs.HashMap.{HashMap, Updates}
 use Rattle.std.specs.Map.{lookup}
 use Rattle.std.specs.Str.{bytes_eq}
 use Rattle.std.specs.String.{string_eq}
 use Rattle.std.specs.declared.alloc.Global.{Global}
-use Rattle.std.proofs.lemmas.Grind.{common_steps}
 use Rattle.std.proofs.lemmas.Map.Text.{hash_map_updates_text}
 use Rattle.ariadne_base.specs.Listing.{Listing}
-use Rattle.ariadne_base.specs.Cache.{held, Grows, KeepsOtherIds}
+use Rattle.ariadne_base.specs.Cache.{held}
 use Rattle.ariadne_base.specs.Files.{by_path, by_text}
-use Rattle.ariadne_base.proofs.Lookups.{lookup-map_keys}
+use Rattle.ariadne_base.proofs.Lookups.{lookup-map_keys, none-there, Put}
 
 -- a path is found by its bytes
 pub held-by_path : (sources : List (String Global × Listing)) (path : List ℕ)
@@ -36,16 +34,12 @@ pub IsNone-by_path : (sources : List (String Global × Listing)) (path : List �
     → false ≡ is_some (lookup (λ k. bytes_eq path (string_bytes k)) sources)
     → held bytes_eq (by_path sources) path ≡ None
 IsNone-by_path sources path told =
-    grind (arith, common_steps, ap is_some (held-by_path sources path), told)
+    none-there _ (told ∙ sym (ap is_some (held-by_path sources path)))
 
--- the new sources are the old ones with s put under the path
-pub record Put (path : List ℕ) (s : Listing) (old new : List (List ℕ × Listing)) : Type 0 where
-  pub at : (q : List ℕ) → held bytes_eq new q ≡ cond (bytes_eq path q) (Some s) (held bytes_eq old q)
-
--- so are those of a map after an insertion under a key of that text
+-- the sources of a map after an insertion under a key of that text are the old ones with it put under the path
 pub by_path-insert : {S : Type 0} (m n : HashMap (String Global) Listing S) (key : String Global)
     (path : List ℕ) (s : Listing) → string_bytes key ≡ path → Updates string_eq m n key (Some s)
-    → Put path s (by_path m.entries) (by_path n.entries)
+    → Put bytes_eq path s (by_path m.entries) (by_path n.entries)
 by_path-insert m n key path s same updates = record {
   at = λ q.
       held-by_path n.entries q
@@ -53,25 +47,3 @@ by_path-insert m n key path s same updates = record {
       ∙ ap (λ b. cond (bytes_eq b q) (Some s) (lookup (λ k. bytes_eq q (string_bytes k)) m.entries)) same
       ∙ ap (cond (bytes_eq path q) (Some s)) (sym (held-by_path m.entries q));
 }
-
-module _ {path : List ℕ} {s : Listing} {old new : List (List ℕ × Listing)} (put : Put path s old new) where
-  -- what was put is found
-  pub IsSome-put : IsSome (held bytes_eq new path)
-  IsSome-put =
-      let found = ap (λ b. cond b (Some s) (held bytes_eq old path)) ((bytes_decides path path).1 refl) in
-      subst IsSome (sym (put.at path ∙ found)) refl
-
-  -- other paths find what they found
-  pub KeepsOtherIds-put : KeepsOtherIds bytes_eq path old new
-  KeepsOtherIds-put = λ q apart. put.at q ∙ ap (λ b. cond b (Some s) (held bytes_eq old q)) apart
-
-  -- where nothing was held under the path, what was held stays
-  pub Grows-put : held bytes_eq old path ≡ None → Grows bytes_eq old new
-  Grows-put none = λ q there.
-      let by_test : (b : Bool) → bytes_eq path q ≡ b → held bytes_eq new q ≡ held bytes_eq old q = elim [
-        | true ↦ λ e.
-            let same = ap (held bytes_eq old) (sym ((bytes_decides path q).0 e)) in
-            let gone : false ≡ true = subst IsSome (same ∙ none) there in cc
-        | false ↦ λ e. KeepsOtherIds-put q e
-      ]
-      in by_test (bytes_eq path q) refl

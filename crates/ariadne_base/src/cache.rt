@@ -13,6 +13,7 @@ pub mod function;
 pub mod lent;
 pub mod map;
 pub mod named;
+mod put;
 pub mod single;
 
 use crate::source::Source;

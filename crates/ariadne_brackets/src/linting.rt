@@ -1,22 +1,24 @@
 //! The linter over the file system and the streams that it is handed.
 
 ghost use Rattle.std.specs.Prelude.{◌≡◌, ◌≤◌, ◌<◌, ◌+◌, ◌^◌, ◌++◌, [], ◌∷◌, map, string_bytes};
-ghost use Rattle.std.specs.Prelude.{IfOk, Some, None, chars, option_map, slice_get};
+ghost use Rattle.std.specs.Prelude.{IfOk, IsSome, Some, None, chars, codes, option_map, slice_get};
 ghost use Rattle.std.specs.List.{flat_map, list_all, list_any};
 ghost use Rattle.ariadne_base.specs.Cache.{held, KeepsOtherIds};
 ghost use Rattle.ariadne_base.specs.Files.{by_text};
+ghost use Rattle.ariadne_picture.specs.Report.{error, new_report};
 ghost use Rattle.ariadne_brackets.specs.Outcomes.{IsOutcome, IsOutcomeIn, offends, outcome_first};
 ghost use Rattle.ariadne_brackets.specs.Outcomes.{outcome_last, was_read};
-ghost use Rattle.ariadne_brackets.specs.Linted.{AreChecked, Ended, labels_of};
+ghost use Rattle.ariadne_brackets.specs.Linted.{AreChecked, Ended, labels_of, plain_config};
 ghost use Rattle.ariadne_brackets.specs.Linted.{report_of, same_path, saying, status_of};
 ghost use Rattle.ariadne_brackets.specs.Linting.{AreOutcomes, RanOver, Wrote};
+ghost use Rattle.ariadne_brackets.specs.declared.checked.Outcome.TheVariants.{Unread};
 
 use super::checked::{Checked, Outcome};
 use super::fault::{Fault, FileFault, Status, tell_fault};
 use super::offence::{Offence, first_offence};
 use ariadne::{
-    Cache, CharSet, Config, FetchError, FileCache, Label, Report, ReportBuilder, ReportKind,
-    WriteError,
+    Cache, CharSet, Config, FetchError, FileCache, FileError, Label, Report, ReportBuilder,
+    ReportKind, WriteError,
 };
 use std::alloc::{AllocError, Global};
 use std::io::Write;
@@ -90,22 +92,41 @@ fn check_file<'a, R: Files, F: Write>(
         path.entry) c.outcome) }
 {
     match cache.ensure(&path) {
-        Ok(()) => {}
-        Err(FetchError::Memory(refused)) => return Err(refused),
-        Err(FetchError::Failed(error)) => {
-            let _ = writeln!(faults, "{path}: {}", FileFault::of_error(&error));
-            return Ok(Checked {
-                path,
-                outcome: Outcome::Unread,
-            });
-        }
+        Ok(()) => check_held(alloc, cache, path),
+        Err(FetchError::Memory(refused)) => Err(refused),
+        Err(FetchError::Failed(error)) => Ok(tell_unread(path, &error, faults)),
     }
+}
+
+/// Finds the first offence of the file at a path, which the cache holds.
+fn check_held<'a, R: Files>(
+    alloc: Global,
+    cache: &FileCache<&R>,
+    path: &'a str,
+) -> Result<Checked<'a>, AllocError>
+    requires { IsSome (held same_path (by_text cache.now) path) }
+    ensures path { IfOk result (λ c. c.path ≡ path.entry) }
+    ensures outcome { IfOk result (λ c. IsOutcome (held same_path (by_text cache.now)
+        path.entry) c.outcome) }
+{
     match cache.get(&path) {
         Some(source) => {
             let outcome = check_text(alloc, source.text())?;
             Ok(Checked { path, outcome })
         }
         None => unreachable!(),
+    }
+}
+
+/// The file at a path, which is not read. A line on `faults` tells why.
+fn tell_unread<'a, F: Write>(path: &'a str, error: &FileError, faults: &mut F) -> Checked<'a>
+    ensures path { result.path ≡ path.entry }
+    ensures outcome { result.outcome ≡ Unread }
+{
+    let _ = writeln!(faults, "{path}: {}", FileFault::of_error(error));
+    Checked {
+        path,
+        outcome: Outcome::Unread,
     }
 }
 
@@ -216,16 +237,39 @@ fn offences_report<'a>(
     let Some(piece) = first_piece(checked) else {
         return Ok(None);
     };
+    let builder = report_at(alloc, piece)?;
+    Ok(Some(with_labels_of_all(alloc, builder, checked)?.finish()))
+}
+
+/// The report before it has labels, which points at a place of a file.
+fn report_at<'a>(
+    alloc: Global,
+    piece: Piece<'a>,
+) -> Result<ReportBuilder<'static, Piece<'a>>, AllocError>
+    ensures { IfOk result (λ report. report ≡ record (new_report error piece.entry)
+        { message = Some (codes "unbalanced brackets"); config = plain_config }) }
+{
     let config = Config::new()
         .with_char_set(CharSet::Ascii)
         .with_color(false);
-    let mut builder = Report::build(alloc, ReportKind::Error, piece)
+    Report::build(alloc, ReportKind::Error, piece)
         .with_config(config)
-        .with_message("unbalanced brackets")?;
+        .with_message("unbalanced brackets")
+}
+
+/// The report with the labels of these files more.
+fn with_labels_of_all<'a>(
+    alloc: Global,
+    mut builder: ReportBuilder<'static, Piece<'a>>,
+    checked: &[Checked<'a>],
+) -> Result<ReportBuilder<'static, Piece<'a>>, AllocError>
+    ensures { IfOk result (λ report. report ≡ record builder.entry
+        { labels = builder.entry.labels ++ flat_map labels_of checked.now }) }
+{
     for it in checked {
         builder = with_labels_of(alloc, builder, it)?;
     }
-    Ok(Some(builder.finish()))
+    Ok(builder)
 }
 
 /// Writes the report of the offences that were found, if there are any.
@@ -240,9 +284,25 @@ fn write_report<R: Files, W: Write>(
     ensures wrote { Wrote (by_text cache.new) checked.now (W.contents out.old) (W.contents out.new)
         result }
 {
-    let Some(report) = offences_report(alloc, checked)? else {
-        return Ok(());
-    };
+    match offences_report(alloc, checked)? {
+        Some(report) => write_offences(&report, checked, cache, out),
+        None => Ok(()),
+    }
+}
+
+/// Writes the report of the offences in these files.
+fn write_offences<R: Files, W: Write>(
+    report: &Report<'static, Piece<'_>>,
+    checked: &[Checked<'_>],
+    cache: &mut FileCache<&R>,
+    out: &mut W,
+) -> Result<(), Fault>
+    requires found { AreOutcomes (by_text cache.old) checked.now }
+    requires report { Some report.now ≡ report_of checked.now }
+    ensures outcomes { AreOutcomes (by_text cache.new) checked.now }
+    ensures wrote { Wrote (by_text cache.new) checked.now (W.contents out.old) (W.contents out.new)
+        result }
+{
     // (every file with an offence is held, so that no label is left out)
     match report.write(cache, out) {
         Ok(_) => Ok(()),

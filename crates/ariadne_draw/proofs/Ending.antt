@@ -1,5 +1,5 @@
 -- How a run ends, by what the words ask for.
-use Rattle.std.proofs.Common.{◌≡◌, refl, ◌∙◌, ap, inl, inr}
+use Rattle.std.proofs.Common.{◌≡◌, refl, ◌∙◌, ap, inl}
 use Rattle.std.specs.Prelude.{ℕ, true, List, [], ◌∷◌, Option, Some, None, IfSome, IsSome, ⊤, alloc_error}
 use Rattle.std.specs.Borrow.{Bor}
 use Rattle.std.specs.Io.KnownBytes.{Keeps}
@@ -13,7 +13,7 @@ use Rattle.ariadne_draw.specs.declared.fault.Fault.{Fault}
 use Rattle.ariadne_draw.specs.declared.fault.Fault.TheVariants.{Writer, Memory, Usage, Unread, NotUtf8}
 use Rattle.ariadne_draw.specs.declared.fault.Status.{Status}
 use Rattle.ariadne_draw.specs.Asked.{IsFaultOfWords}
-use Rattle.ariadne_draw.specs.Drawn.{Ended, EndedOver, Leaves, files, report_of, sources}
+use Rattle.ariadne_draw.specs.Drawn.{Ended, EndedOver, Leaves, OverFile, OverInput, files, report_of, sources}
 use Rattle.ariadne_draw.specs.Faults.{status_of}
 use Rattle.ariadne_draw.specs.Words.{Asking}
 
@@ -55,20 +55,19 @@ alone source = (tt, source) ∷ []
 abbrev only : Listing → World (Unit {0} × Range ℕ) (Unit {0})
 only source = sources (λ p q. true) (λ id. None) (alone source)
 
-module _ (asks : Option Asking) (asking : Asking) (input before after : Option (List ℕ)) (ended : Status) where
+module _ (asking : Asking) (before after : Option (List ℕ)) (ended : Status) where
   -- the file at a path was drawn over
-  pub ended_over_file : (path : Bor (List ℕ)) (old new : List (Bor (List ℕ) × Listing))
-      → asks ≡ Some asking → asking.options.path ≡ Some path.now → old ≡ []
+  pub over_file : (path : Bor (List ℕ)) (old new : List (Bor (List ℕ) × Listing)) → old ≡ []
       → KeepsOtherIds (λ p q. bytes_eq p.now q.now) path old new
       → Leaves {E = FileError} (λ id e. ⊤) (files old) (files new) (report_of path asking) before after ended
-      → Ended asks input before after ended
-  ended_over_file path old new is has none others leaves = rw (is, has) (record {
+      → OverFile asking path.now before after ended
+  over_file path old new none others leaves = record {
     id = path;
     is_path = refl;
     contents = new;
     hold_at_most = λ q other. rw none at (others q other);
     leaves = rw none at leaves;
-  })
+  }
 
   -- a text is the only source, before and after
   over_same : (old new text : Listing) → old ≡ text → new ≡ text
@@ -77,15 +76,19 @@ module _ (asks : Option Asking) (asking : Asking) (input before after : Option (
   over_same old new text first then leaves = rw (first, then) at leaves
 
   -- the text of the input was drawn over
-  pub ended_over_input : (old new : Listing)
-      → asks ≡ Some asking → asking.options.path ≡ None → IsUtf8 old.text → IfSome input (λ bytes. old.text ≡ bytes) → old.display_offset ≡ 0
+  pub over_input : (input : Option (List ℕ)) (old new : Listing) → IsUtf8 old.text → IfSome input (λ bytes. old.text ≡ bytes) → old.display_offset ≡ 0
       → Grows (λ p q. true) (alone old) (alone new)
       → Leaves {E = Unit {0}} (λ id e. ⊥) (only old) (only new) (report_of tt asking) before after ended
-      → Ended asks input before after ended
-  ended_over_input old new is has is_text read first grows leaves =
+      → OverInput asking input before after ended
+  over_input input old new is_text read first grows leaves =
       let id : Unit {0} = tt in
       let there : IsSome (held (λ p q. true) (alone old) id) = refl in
       let kept : Some new ≡ Some old = grows id there in
       let same : new ≡ old = cc in
       let text : old ≡ listing_of old.text = ap (λ n. let s : Listing = record { text = old.text; display_offset = n } in s) first in
-      rw (is, has) (inr (record { text = old.text; is_text = is_text; read = read; leaves = over_same old new _ text (same ∙ text) leaves }))
+      record { text = old.text; is_text = is_text; read = read; leaves = over_same old new _ text (same ∙ text) leaves }
+
+  -- the report was drawn over what the options name
+  pub ended_over : (asks : Option Asking) (path input : Option (List ℕ)) → asks ≡ Some asking → asking.options.path ≡ path
+      → EndedOver path asking input before after ended → Ended asks input before after ended
+  ended_over asks path input is has over = rw is (rw (← has) at over)

@@ -1,23 +1,23 @@
 -- What a write of a report leaves, told in the program's words.
-use Rattle.std.proofs.Common.{◌≡◌, refl, inl, inr}
-use Rattle.std.specs.Prelude.{ℕ, Bool, false, List, [], ◌∷◌, Option, Result, Ok, Err, Vec}
+use Rattle.std.proofs.Common.{◌≡◌, refl, sym, ap, ◌∙◌, append_assoc, get_or, inl, inr}
+use Rattle.std.specs.Prelude.{ℕ, ◌+◌, ◌<◌, Bool, false, List, [], ◌∷◌, ◌++◌, length, map, drop, Option, Result, Ok, Err, Vec}
+use Rattle.std.proofs.lemmas.List.{drop_more}
 use Rattle.std.specs.List.{list_any}
-use Rattle.std.specs.Result.{IsErrAnd}
 use Rattle.std.specs.declared.alloc.Global.{Global}
 use Rattle.std.specs.declared.ops.Range.{Range}
 use Rattle.ariadne_base.specs.Cache.{held}
-use Rattle.ariadne_color.specs.Generator.{GeneratorState, stepped, usual_start}
+use Rattle.ariadne_color.specs.Generator.{GeneratorState, color_of, stepped, usual_start}
 use Rattle.ariadne_base.specs.Listing.{Listing}
 use Rattle.ariadne_picture.specs.Report.{LabelFields, ReportFields, World}
 use Rattle.ariadne_accept.specs.Judging.{GrowsFor}
-use Rattle.ariadne.specs.Written.{Written}
+use Rattle.ariadne.specs.Written.{IsWritten, Written}
 use Rattle.ariadne_accept.specs.declared.accept.LeftOut.{LeftOut}
 use Rattle.ariadne_send.specs.declared.send.WriteError.{WriteError}
 use Rattle.ariadne_send.specs.declared.send.WriteError.TheVariants as write
-use Rattle.ariadne_draw.specs.declared.fault.Fault.{Fault}
-use Rattle.ariadne_draw.specs.declared.fault.Fault.TheVariants.{Writer, Memory, Usage, Unread, NotUtf8}
-use Rattle.ariadne_draw.specs.Drawn.{Leaves, Wrote, labels_from}
-use Rattle.ariadne_draw.specs.Faults.{fault_of, status_of}
+use Rattle.ariadne_draw.specs.Asked.{label_asking}
+use Rattle.ariadne_draw.specs.declared.asked.AskedLabel.{AskedLabel}
+use Rattle.ariadne_draw.specs.Drawn.{Leaves, colored, labels_from}
+use Rattle.ariadne_draw.specs.Faults.{status_of_written, status_without}
 use Rattle.ariadne_draw.specs.Words.{AskingLabel}
 
 module _ {Id : Type 0} (eq : Id → Id → Bool) (id q : Id) where
@@ -33,18 +33,29 @@ module _ {Id : Type 0} (eq : Id → Id → Bool) (id q : Id) where
       → eq id q ≡ false → held eq new q ≡ held eq old q
   others_kept r labels old new grows are other = grows.only q (rw are (none_named other usual_start labels))
 
-module _ {S Id E : Type 0} (fails : Id → E → Type 0) (old w : World S Id) (r : ReportFields S) (before after : Option (List ℕ)) where
-  -- a fault of the writer
-  pub wrote_part : (e : WriteError) (result : Result (Vec (LeftOut E) Global) Fault)
-      → Written fails old w r before after (Err e) → IsErrAnd result (λ f. f ≡ fault_of e) → Wrote fails old w r before after result
-  wrote_part e (Ok list) written told = elim told [ ]
-  wrote_part (write.Memory refused) (Err f) written told = rw told written
-  wrote_part (write.Io sent fault) (Err f) written told = rw told written
+-- a report that gets other labels stays as it is but for these
+pub report_next : {S : Type 0} (report before after : ReportFields S) (labels : List (LabelFields S)) → after ≡ record before { labels = labels }
+    → before ≡ record report { labels = before.labels } → after ≡ record report { labels = after.labels }
+report_next report before after labels next so_far = rw (next, so_far) refl
 
-  -- what a fault has left, by its status
-  pub left_by_fault : (fault : Fault) → Wrote {E = E} fails old w r before after (Err fault) → Leaves fails old w r before after (status_of fault)
-  left_by_fault (Writer sent) cut = inr (sent, cut)
-  left_by_fault (Memory refused) keeps = inl keeps
-  left_by_fault Usage none = elim none [ ]
-  left_by_fault Unread none = elim none [ ]
-  left_by_fault NotUtf8 none = elim none [ ]
+-- the labels so far and those that come, and the next one of these taken
+pub label_next : {Id : Type 0} (id : Id) (s : GeneratorState) (so_far all : List (LabelFields (Id × Range ℕ))) (items : List AskedLabel) (i : ℕ) (label : AskedLabel)
+    → i < length items → label ≡ get_or items i label
+    → so_far ++ labels_from id s (map label_asking (drop i items)) ≡ all
+    → (so_far ++ colored id (color_of (stepped s)) (label_asking label) ∷ []) ++ labels_from id (stepped s) (map label_asking (drop (i + 1) items)) ≡ all
+label_next id s so_far all items i label inside is before =
+    let taken : drop i items ≡ label ∷ drop (i + 1) items = drop_more items i label inside ∙ ap (λ first. first ∷ drop (i + 1) items) (sym is) in
+    append_assoc so_far _ _ ∙ (rw taken at before)
+
+module _ {S Id E : Type 0} (fails : Id → E → Type 0) (old w : World S Id) (r : ReportFields S) (before after : Option (List ℕ)) where
+  -- the whole picture, by the labels that were left out of it
+  left_without : (list : List (LeftOut E)) → IsWritten fails old w r list before after → Leaves fails old w r before after (status_without list)
+  left_without [] whole = whole
+  left_without (label ∷ labels) whole = (label ∷ labels, (λ none. cc), whole)
+
+  -- what the writing has left, by its status
+  pub left_by_writing : (written : Result (Vec (LeftOut E) Global) WriteError) → Written fails old w r before after written
+      → Leaves fails old w r before after (status_of_written written)
+  left_by_writing (Ok list) whole = left_without list.items whole
+  left_by_writing (Err (write.Memory refused)) keeps = inl keeps
+  left_by_writing (Err (write.Io sent fault)) cut = inr (sent, cut)

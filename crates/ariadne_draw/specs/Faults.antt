@@ -1,5 +1,7 @@
 -- Why nothing was drawn, or not all of it, and the status that the program ends with.
-use Rattle.std.specs.Prelude.{ℕ, List, codes}
+use Rattle.std.specs.Prelude.{ℕ, List, [], ◌∷◌, codes, Result, Ok, Err, Vec}
+use Rattle.std.specs.declared.alloc.Global.{Global}
+use Rattle.ariadne_accept.specs.declared.accept.LeftOut.{LeftOut}
 use Rattle.ariadne_accept.specs.declared.accept.Reason.{Reason}
 use Rattle.ariadne_accept.specs.declared.accept.Reason.TheVariants.{Unfetched, PastSource}
 use Rattle.ariadne_accept.specs.declared.accept.Reason.TheVariants.{CutsCharacter}
@@ -10,6 +12,7 @@ use Rattle.ariadne_draw.specs.declared.fault.Fault.TheVariants.{Usage, Unread, N
 use Rattle.ariadne_draw.specs.declared.fault.Fault.TheVariants.{Memory}
 use Rattle.ariadne_draw.specs.declared.fault.Status.{Status}
 use Rattle.ariadne_draw.specs.declared.fault.Status.TheVariants.{BadInput, Failed}
+use Rattle.ariadne_draw.specs.declared.fault.Status.TheVariants as status
 
 -- the fault that an error is
 abbrev pub fault_of : WriteError → Fault
@@ -23,6 +26,16 @@ status_of Unread = BadInput
 status_of NotUtf8 = BadInput
 status_of (Writer sent) = Failed
 status_of (Memory refused) = Failed
+
+-- the status of a report that was written without these labels
+abbrev pub status_without : {E : Type 0} → List (LeftOut E) → Status
+status_without [] = status.Drawn
+status_without (label ∷ labels) = status.LeftOut
+
+-- the status that the writing of a report ends with
+abbrev pub status_of_written : {E : Type 0} → Result (Vec (LeftOut E) Global) WriteError → Status
+status_of_written (Ok left_out) = status_without left_out.items
+status_of_written (Err error) = status_of (fault_of error)
 
 -- a fault from before the first byte is written
 abbrev pub IsBeforeWriting : Fault → Type 0

@@ -1,23 +1,23 @@
 //! The program over the streams that it is handed: words in, a report and a status out.
 
-ghost use Rattle.std.specs.Prelude.{◌≡◌, false, IfErr, IfNone, IfOk, IfSome, map};
-ghost use Rattle.std.specs.Prelude.{string_bytes};
+ghost use Rattle.std.specs.Prelude.{◌≡◌, ◌++◌, [], ◌∷◌, None, false, IfErr, IfNone, IfOk, IfSome};
+ghost use Rattle.std.specs.Prelude.{map, string_bytes};
 ghost use Rattle.std.specs.Str.{IsUtf8};
 ghost use Rattle.ariadne_base.specs.Cache.{Grows, KeepsOtherIds};
-ghost use Rattle.ariadne_draw.specs.Asked.{asking, options_asking};
-ghost use Rattle.ariadne_draw.specs.Drawn.{config_of, own_span, reads_input, report_of, sources};
-ghost use Rattle.ariadne_draw.specs.Drawn.{Ended, Leaves, Wrote};
-ghost use Rattle.ariadne_draw.specs.Faults.{IsBeforeWriting, reason_text};
+ghost use Rattle.ariadne_draw.specs.Asked.{asking, label_asking, options_asking};
+ghost use Rattle.ariadne_draw.specs.Drawn.{colored, config_of, own_span, reads_input, report_of};
+ghost use Rattle.ariadne_draw.specs.Drawn.{sources, Ended, EndedOver, Leaves, OverFile};
+ghost use Rattle.ariadne_draw.specs.Faults.{IsBeforeWriting, reason_text, status_of_written};
 ghost use Rattle.ariadne_draw.specs.Pages.{IsShown, page_asked, page_text};
 ghost use Rattle.ariadne_draw.specs.Words.{asking_of};
 
-use super::asked::{Asked, AskedOptions};
+use super::asked::{Asked, AskedLabel, AskedOptions};
 use super::fault::{Fault, Status, tell_fault};
 use super::pages::{Page, asked_page};
 use super::words::read_words;
 use ariadne::{
-    Cache, CharSet, ColorGenerator, Config, FileCache, IndexType, Label, LeftOut, Reason, Report,
-    ReportKind, Source,
+    Cache, CharSet, Color, ColorGenerator, Config, FileCache, IndexType, Label, LeftOut, Reason,
+    Report, ReportBuilder, ReportKind, Source, WriteError,
 };
 use ariadne_send::send::send;
 use std::alloc::{AllocError, Global};
@@ -84,12 +84,41 @@ fn draw_report<R: Files, I: Read, W: Write, F: Write>(
         Ok(asked) => asked,
         Err(fault) => return tell_fault(faults, &fault),
     };
-    if let Some(path) = asked.options.path {
-        let mut cache = FileCache::new(files, alloc);
-        return draw_over(alloc, &asked, path, &mut cache, out, faults);
+    match asked.options.path {
+        Some(path) => draw_file(files, alloc, &asked, path, out, faults),
+        None => draw_input(alloc, &asked, input, out, faults),
     }
+}
+
+/// Draws the report that is asked for over the file at a path.
+fn draw_file<R: Files, W: Write, F: Write>(
+    files: &R,
+    alloc: Global,
+    asked: &Asked<'_>,
+    path: &str,
+    out: &mut W,
+    faults: &mut F,
+) -> Status
+    ensures { OverFile (asking asked.now) path.now (W.contents out.old) (W.contents out.new)
+        result }
+{
+    let mut cache = FileCache::new(files, alloc);
+    draw_over(alloc, asked, path, &mut cache, out, faults)
+}
+
+/// Draws the report that is asked for over the text of `input`.
+fn draw_input<I: Read, W: Write, F: Write>(
+    alloc: Global,
+    asked: &Asked<'_>,
+    input: &mut I,
+    out: &mut W,
+    faults: &mut F,
+) -> Status
+    ensures { EndedOver None (asking asked.now) (I.remaining input.old) (W.contents out.old)
+        (W.contents out.new) result }
+{
     match read_source(alloc, input) {
-        Ok(mut source) => draw_over(alloc, &asked, (), &mut source, out, faults),
+        Ok(mut source) => draw_over(alloc, asked, (), &mut source, out, faults),
         Err(fault) => tell_fault(faults, &fault),
     }
 }
@@ -129,34 +158,27 @@ fn draw_over<Id: Eq + Copy, C: Cache<Id>, W: Write, F: Write>(
         (sources Id.eq (C.names cache.new) (C.contents cache.new)) (report_of id (asking asked.now))
         (W.contents out.old) (W.contents out.new) result }
 {
-    match write_report(alloc, asked, id, cache, out) {
+    match asked_report(alloc, asked, id) {
+        Ok(report) => tell_written(faults, report.write(cache, out)),
+        Err(refused) => tell_fault(faults, &Fault::Memory(refused)),
+    }
+}
+
+/// Tells what the writing of a report could not draw, and answers how the program ends.
+fn tell_written<E: Drop, F: Write>(
+    faults: &mut F,
+    written: Result<Vec<LeftOut<E>>, WriteError>,
+) -> Status
+    ensures { result ≡ status_of_written written }
+{
+    match written {
         Ok(left_out) if left_out.is_empty() => Status::Drawn,
         Ok(left_out) => {
             tell_left_out(faults, left_out.as_slice());
             Status::LeftOut
         }
-        Err(fault) => tell_fault(faults, &fault),
+        Err(error) => tell_fault(faults, &Fault::from(error)),
     }
-}
-
-/// Writes the report that is asked for over the source with this id in a cache, and answers the
-/// labels that were left out of it.
-fn write_report<Id: Eq + Copy, C: Cache<Id>, W: Write>(
-    alloc: Global,
-    asked: &Asked<'_>,
-    id: Id,
-    cache: &mut C,
-    out: &mut W,
-) -> Result<Vec<LeftOut<C::Error>>, Fault>
-    requires { C.can_fetch cache.old }
-    ensures kept { Grows Id.eq (C.contents cache.old) (C.contents cache.new) }
-    ensures others { KeepsOtherIds Id.eq id (C.contents cache.old) (C.contents cache.new) }
-    ensures wrote { Wrote C.fails (sources Id.eq (C.names cache.old) (C.contents cache.old))
-        (sources Id.eq (C.names cache.new) (C.contents cache.new)) (report_of id (asking asked.now))
-        (W.contents out.old) (W.contents out.new) result }
-{
-    let report = asked_report(alloc, asked, id)?;
-    Ok(report.write(cache, out)?)
 }
 
 /// The report that is asked for, over the source with this id.
@@ -167,17 +189,43 @@ fn asked_report<Id: Eq + Copy>(
 ) -> Result<Report<'static, (Id, Range<usize>)>, AllocError>
     ensures { IfOk result (λ report. report ≡ report_of id (asking asked.now)) }
 {
-    let mut builder = Report::build(alloc, ReportKind::Error, asked_span(asked, id))
-        .with_config(asked_config(&asked.options))
-        .with_message(asked.message)?;
+    let mut builder = report_without_labels(alloc, asked, id)?;
     let mut colors = ColorGenerator::new();
     for label in &asked.labels {
-        let drawn = Label::new((id, label.start..label.end))
-            .with_message(alloc, label.text)?
-            .with_color(colors.next());
-        builder = builder.with_label(drawn)?;
+        builder = with_asked_label(alloc, builder, label, id, colors.next())?;
     }
     Ok(builder.finish())
+}
+
+/// The report that is asked for, before it gets its labels.
+fn report_without_labels<Id: Eq + Copy>(
+    alloc: Global,
+    asked: &Asked<'_>,
+    id: Id,
+) -> Result<ReportBuilder<'static, (Id, Range<usize>)>, AllocError>
+    ensures { IfOk result (λ report. report ≡ record (report_of id (asking asked.now))
+        { labels = [] }) }
+{
+    Report::build(alloc, ReportKind::Error, asked_span(asked, id))
+        .with_config(asked_config(&asked.options))
+        .with_message(asked.message)
+}
+
+/// The report with a label more, in the source with this id and in this colour.
+fn with_asked_label<Id: Eq + Copy>(
+    alloc: Global,
+    builder: ReportBuilder<'static, (Id, Range<usize>)>,
+    label: &AskedLabel<'_>,
+    id: Id,
+    color: Color,
+) -> Result<ReportBuilder<'static, (Id, Range<usize>)>, AllocError>
+    ensures { IfOk result (λ report. report ≡ record builder.entry
+        { labels = builder.entry.labels ++ colored id color (label_asking label.now) ∷ [] }) }
+{
+    let drawn = Label::new((id, label.start..label.end))
+        .with_message(alloc, label.text)?
+        .with_color(color);
+    builder.with_label(drawn)
 }
 
 /// What the report that is asked for points at, in the source with this id.
@@ -194,21 +242,33 @@ fn asked_span<Id: Copy>(asked: &Asked<'_>, id: Id) -> (Id, Range<usize>)
 fn asked_config(options: &AskedOptions<'_>) -> Config
     ensures { result ≡ config_of (options_asking options.now) }
 {
-    let char_set = if options.is_ascii {
+    Config::new()
+        .with_char_set(asked_char_set(options))
+        .with_color(!options.is_plain)
+        .with_compact(options.is_compact)
+        .with_index_type(asked_index_type(options))
+}
+
+/// The characters that the options ask for.
+fn asked_char_set(options: &AskedOptions<'_>) -> CharSet
+    ensures { result ≡ (config_of (options_asking options.now)).char_set }
+{
+    if options.is_ascii {
         CharSet::Ascii
     } else {
         CharSet::Unicode
-    };
-    let index_type = if options.is_bytes {
+    }
+}
+
+/// What the options ask offsets to count.
+fn asked_index_type(options: &AskedOptions<'_>) -> IndexType
+    ensures { result ≡ (config_of (options_asking options.now)).index_type }
+{
+    if options.is_bytes {
         IndexType::Byte
     } else {
         IndexType::Char
-    };
-    Config::new()
-        .with_char_set(char_set)
-        .with_color(!options.is_plain)
-        .with_compact(options.is_compact)
-        .with_index_type(index_type)
+    }
 }
 
 /// Writes a line to `faults` for each label that was left out, by its number from 1.

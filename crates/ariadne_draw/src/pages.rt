@@ -75,7 +75,6 @@ pub enum Page {
 
 impl Page {
     /// What is written of it.
-    #[tactic(auto, unfolding(crate::specs::Pages::page_text))]
     pub fn text(self) -> &'static str
         ensures { result.now ≡ page_text self }
     {

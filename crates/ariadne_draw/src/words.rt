@@ -43,10 +43,22 @@ pub enum Front {
 pub fn read_words<'a>(alloc: Global, words: &'a [String]) -> Result<Asked<'a>, Fault>
     ensures { ReadsWords (asking_of (map string_bytes words.now)) result }
 {
-    let Some((options, rest)) = read_options(words) else {
-        return Err(Fault::Usage);
-    };
-    let Some((message, rest)) = rest.split_first() else {
+    match read_options(words) {
+        Some((options, rest)) => read_behind(alloc, options, rest),
+        None => Err(Fault::Usage),
+    }
+}
+
+/// Reads the message and the labels that stand behind these options.
+fn read_behind<'a>(
+    alloc: Global,
+    options: AskedOptions<'a>,
+    words: &'a [String],
+) -> Result<Asked<'a>, Fault>
+    ensures { ReadsWords (asking_behind (options_asking options.entry) (map string_bytes words.now))
+        result }
+{
+    let Some((message, rest)) = words.split_first() else {
         return Err(Fault::Usage);
     };
     let labels = read_labels(alloc, rest)?;

@@ -88,9 +88,9 @@ module _ {S Id : Type 0} (w : World S Id) (r : ReportFields S) (width : ℕ) whe
                 ne_eqb end (length infos) other ∙ sym (ne_eqb (so_far.count + 1) n some)
           ]
 
-      module _ (next : PenFields) (labels : List LabelInfo) (same : labels ≡ slice_range infos start end)
+      module _ (next : PenFields)
           (drawn : (n k : ℕ) → (start == 0) ≡ (k == 0) → (end == length infos) ≡ (k + 1 == n)
-          → DrawsRows new next (section_rows (texts_of r) new.page.number_width (section_of w r n (k, labels)))) where
+          → DrawsRows new next (section_rows (texts_of r) new.page.number_width (section_of w r n (k, slice_range infos start end)))) where
         -- its rows leave the page
         pub one_page : next.page ≡ new.page
         one_page = rows_page new next _ (drawn (length (groups_of (same_source w r) infos)) so_far.count so_far.first ends_all)
@@ -105,9 +105,7 @@ module _ {S Id : Type 0} (w : World S Id) (r : ReportFields S) (width : ℕ) whe
             let k = so_far.count in
             let rows = section_rows (texts_of r) width (section_of w r n (k, group)) in
             let above : DrawsRows new next rows =
-            subst (λ x. DrawsRows new next (section_rows (texts_of r) x (section_of w r n (k, group)))) wide
-            (subst (λ ls. DrawsRows new next (section_rows (texts_of r) new.page.number_width (section_of w r n (k, ls)))) same
-            (drawn n k so_far.first ends_all)) in
+            subst (λ x. DrawsRows new next (section_rows (texts_of r) x (section_of w r n (k, group)))) wide (drawn n k so_far.first ends_all) in
             record {
               count = k + 1;
               counted = counted_more;
@@ -120,10 +118,10 @@ module _ {S Id : Type 0} (w : World S Id) (r : ReportFields S) (width : ℕ) whe
 -- ---- the labels in order
 
 -- a list of labels that was put in order in place
-pub sorted_is : (old lent new shown : List LabelInfo) (n : ℕ) → n ≡ length old → lent ≡ old → new ≡ in_order (λ a b. int_lt a.order b.order) lent
-    → shown ≡ take n (new ++ drop (length new) old) → shown ≡ ordered old
+pub sorted_is : (old lent new : List LabelInfo) (n : ℕ) → n ≡ length old → lent ≡ old → new ≡ in_order (λ a b. int_lt a.order b.order) lent
+    → take n (new ++ drop (length new) old) ≡ ordered old
 unfolding ordered
-sorted_is old lent new shown n long same put e = e ∙ put-back (λ a b. int_lt a.order b.order) old lent new n long same put
+sorted_is old lent new n long same put = put-back (λ a b. int_lt a.order b.order) old lent new n long same put
 
 -- labels that are drawn are so in any order
 pub sorted_drawn : {S Id : Type 0} (w : World S Id) (r : ReportFields S) (infos sorted : List LabelInfo) → sorted ≡ ordered infos → AreDrawn w r infos
@@ -166,17 +164,23 @@ module _ {S Id : Type 0} (w : World S Id) (r : ReportFields S) (infos sorted : L
       ∙ ap (λ n. header_pieces (texts_of r)
       ∷ rows_from w r n (length (groups_of (same_source w r) sorted)) 0 (groups_of (same_source w r) sorted)) (sym e)
 
-  -- a pen at the start of a page writes the header, and then the groups: it has written the picture
-  pub whole_picture : (page : PageFields) (start behind end : PenFields) → start ≡ record { page = page; bytes = [] }
-      → page.palette ≡ palette_of r → page.number_width ≡ number_width w r (groups_of (same_source w r) sorted)
+  -- the header and the groups below it are the outline
+  pub outline_drawn : (width : ℕ) (start behind end : PenFields) → width ≡ number_width w r (groups_of (same_source w r) sorted)
       → DrawsRow start behind (header_pieces (texts_of r))
-      → DrawsRows behind end (rows_from w r page.number_width (length (groups_of (same_source w r) sorted)) 0 (groups_of (same_source w r) sorted))
-      → end.bytes ≡ printed (canvas w r infos)
-  unfolding canvas
-  whole_picture page start behind end fresh palette width header below =
-      let rest = rows_from w r page.number_width (length (groups_of (same_source w r) sorted)) 0 (groups_of (same_source w r) sorted) in
+      → DrawsRows behind end (rows_from w r width (length (groups_of (same_source w r) sorted)) 0 (groups_of (same_source w r) sorted))
+      → DrawsRows start end (outline w r infos)
+  outline_drawn width start behind end wide header below =
+      let rest = rows_from w r width (length (groups_of (same_source w r) sorted)) 0 (groups_of (same_source w r) sorted) in
       let first = header_pieces (texts_of r) in
-      let all : DrawsRows start end (first ∷ rest) = rows_both start behind end (first ∷ []) rest (rows_one start behind first header) below in
-      ap (λ (q : PenFields). q.bytes) all ∙ ap (λ (q : PenFields). q.bytes ++ rows_bytes q.page.palette (first ∷ rest)) fresh
-      ∙ ap (λ p. rows_bytes p (first ∷ rest)) palette ∙ bytes_are (palette_of r) (first ∷ rest)
-      ∙ ap (λ rows. printed (map (map (cell_of (palette_of r))) rows)) (sym (outline_is page.number_width width))
+      subst (DrawsRows start end) (sym (outline_is width wide))
+      (rows_both start behind end (first ∷ []) rest (rows_one start behind first header) below)
+
+-- a pen that wrote the outline from the start of its page on has written the picture
+pub outline_bytes : {S Id : Type 0} (w : World S Id) (r : ReportFields S) (infos : List LabelInfo) (page : PageFields) (start end : PenFields)
+    → start ≡ record { page = page; bytes = [] } → page.palette ≡ palette_of r → DrawsRows start end (outline w r infos)
+    → end.bytes ≡ printed (canvas w r infos)
+unfolding canvas
+outline_bytes w r infos page start end fresh palette all =
+    let rows = outline w r infos in
+    ap (λ (q : PenFields). q.bytes) all ∙ ap (λ (q : PenFields). q.bytes ++ rows_bytes q.page.palette rows) fresh
+    ∙ ap (λ p. rows_bytes p rows) palette ∙ bytes_are (palette_of r) rows

@@ -1,16 +1,16 @@
 //! The picture of a report, as text: its header, and the rows of its groups.
 
 ghost use Rattle.std.specs.Prelude.{◌≡◌, ◌+◌, ◌<◌, ◌≤◌, ◌==◌, ◌++◌, ℕ, List, [], ◌∷◌, Option, Some};
-ghost use Rattle.std.specs.Prelude.{IfOk, OnOk, chars, if◌then◌else◌, length, map, slice_get};
-ghost use Rattle.std.specs.Prelude.{string_bytes};
+ghost use Rattle.std.specs.Prelude.{IfOk, OnOk, chars, drop, if◌then◌else◌, length, map, slice_get};
+ghost use Rattle.std.specs.Prelude.{slice_range, string_bytes};
 ghost use Rattle.std.specs.List.{enumerate_from};
 ghost use Rattle.ariadne_accept.specs.Drawn.{AreDrawn, world};
 ghost use Rattle.ariadne_drawing.specs.Lines.{AreOverLines};
+ghost use Rattle.ariadne_drawing.specs.WholePages.{page_of};
 ghost use Rattle.ariadne_base.specs.Listing.{Listing, listed_lines};
 ghost use Rattle.ariadne_cells.specs.Pages.{DrawsRows};
-ghost use Rattle.ariadne_picture.specs.Canvas.{canvas, group_id, group_source, header_offset};
-ghost use Rattle.ariadne_picture.specs.Canvas.{number_width, palette_of, same_source, section_of};
-ghost use Rattle.ariadne_picture.specs.Canvas.{texts_of};
+ghost use Rattle.ariadne_picture.specs.Canvas.{canvas, group_id, group_source, header_offset, outline};
+ghost use Rattle.ariadne_picture.specs.Canvas.{palette_of, same_source, section_of, texts_of};
 ghost use Rattle.ariadne_picture.specs.Groups.{groups_of, ordered};
 ghost use Rattle.ariadne_picture.specs.Lists.{joined};
 ghost use Rattle.ariadne_picture.specs.Pieces.{Section, Texts, location_text, row_pieces};
@@ -30,7 +30,6 @@ use ariadne_cells::order::{ByOrder, put_in_order};
 use ariadne_cells::page::Page;
 use ariadne_cells::palette::Palette;
 use ariadne_cells::pen::Pen;
-use ariadne_cells::table::LineTable;
 use ariadne_picture::label_info::LabelInfo;
 use ariadne_rows::asides::{push_helps, push_notes};
 use ariadne_rows::gutter::Gutter;
@@ -52,20 +51,11 @@ pub fn draw<S: Span, C: Cache<S::SourceId>>(
         (C.names cache.now) (C.contents cache.now) in
         IfOk result (λ text. string_bytes text ≡ printed (canvas w report.now infos.items)) }
 {
-    let infos = in_order(report.alloc, infos)?;
-    let page = page_of(report, cache, &infos)?;
-    let mut pen = Pen::new(report.alloc, &page);
-    push_header(
-        &mut pen,
-        report.code(),
-        report.kind.name(),
-        report.message(),
-    )?;
-    push_groups(&mut pen, &page, report, cache, &infos)?;
-    Ok(pen.into_text())
+    let sorted = in_order(report.alloc, infos)?;
+    picture(report, cache, &sorted)
 }
 
-/// The labels in their order.
+/// The labels in the order in which they are drawn.
 fn in_order(alloc: Global, infos: Vec<LabelInfo>) -> Result<Vec<LabelInfo>, AllocError>
     ensures { IfOk result (λ sorted. sorted.items ≡ ordered infos.items) }
 {
@@ -74,8 +64,27 @@ fn in_order(alloc: Global, infos: Vec<LabelInfo>) -> Result<Vec<LabelInfo>, Allo
     Ok(infos)
 }
 
-/// What all rows of the picture of labels in order share.
-fn page_of<S: Span, C: Cache<S::SourceId>>(
+/// The text of a report's picture, over labels in order.
+fn picture<S: Span, C: Cache<S::SourceId>>(
+    report: &Content<'_, S>,
+    cache: &C,
+    infos: &[LabelInfo],
+) -> Result<String, AllocError>
+    requires drawn { let w = world S.source_of S.start_of S.end_of S.SourceId.eq
+        (C.names cache.now) (C.contents cache.now) in AreDrawn w report.now infos.now }
+    ensures { let w = world S.source_of S.start_of S.end_of S.SourceId.eq
+        (C.names cache.now) (C.contents cache.now) in
+        (labels : List LabelInfo) → infos.now ≡ ordered labels →
+        IfOk result (λ text. string_bytes text ≡ printed (canvas w report.now labels)) }
+{
+    let page = page(report, cache, infos)?;
+    let mut pen = Pen::new(report.alloc, &page);
+    push_picture(&mut pen, &page, report, cache, infos)?;
+    Ok(pen.into_text())
+}
+
+/// What all rows of a report's picture share, over labels in order.
+fn page<S: Span, C: Cache<S::SourceId>>(
     report: &Content<'_, S>,
     cache: &C,
     infos: &[LabelInfo],
@@ -83,16 +92,34 @@ fn page_of<S: Span, C: Cache<S::SourceId>>(
     requires drawn { let w = world S.source_of S.start_of S.end_of S.SourceId.eq
         (C.names cache.now) (C.contents cache.now) in AreDrawn w report.now infos.now }
     ensures { let w = world S.source_of S.start_of S.end_of S.SourceId.eq
-        (C.names cache.now) (C.contents cache.now) in let r = report.now in
-        IfOk result (λ page. page ≡ record {
-          palette = palette_of r;
-          switches = switches_of r.config;
-          number_width = number_width w r (groups_of (same_source w r) infos.now);
-        }) }
+        (C.names cache.now) (C.contents cache.now) in
+        IfOk result (λ page. page ≡ page_of w report.now infos.now) }
 {
     let width = number_width(report, cache, infos);
     let switches = report.config().switches();
     Page::new(report.alloc, palette(report)?, switches, width)
+}
+
+/// Writes the header of a report's picture and its groups, over labels in order.
+fn push_picture<S: Span, C: Cache<S::SourceId>>(
+    pen: &mut Pen<'_>,
+    page: &Page,
+    report: &Content<'_, S>,
+    cache: &C,
+    infos: &[LabelInfo],
+) -> Result<(), AllocError>
+    requires page { pen.old.page ≡ page.now }
+    requires fields { let w = world S.source_of S.start_of S.end_of S.SourceId.eq
+        (C.names cache.now) (C.contents cache.now) in page.now ≡ page_of w report.now infos.now }
+    requires drawn { let w = world S.source_of S.start_of S.end_of S.SourceId.eq
+        (C.names cache.now) (C.contents cache.now) in AreDrawn w report.now infos.now }
+    ensures { let w = world S.source_of S.start_of S.end_of S.SourceId.eq
+        (C.names cache.now) (C.contents cache.now) in
+        (labels : List LabelInfo) → infos.now ≡ ordered labels →
+        OnOk result (DrawsRows pen.old pen.new (outline w report.now labels)) }
+{
+    push_header(pen, report.code(), report.kind.name(), report.message())?;
+    push_groups(pen, page, report, cache, infos)
 }
 
 /// The colours that the pieces of a report's picture may have.
@@ -129,21 +156,68 @@ fn push_groups<'a, S: Span, C: Cache<S::SourceId>>(
         (joined (λ e. section_rows (texts_of r) page.now.number_width
         (section_of w r (length gs) e)) (enumerate_from 0 gs))) }
 {
-    let mut lists = Lists {
-        sheet: GroupSheet::new(report.alloc),
-        gutter: Gutter::new(report.alloc, page),
-        labels: Vec::new(report.alloc),
-        table: LineTable::new(report.alloc),
-    };
+    let mut lists = Lists::new(report.alloc, page);
+    push_groups_over(pen, &mut lists, report, cache, infos)
+}
+
+/// Writes the groups of labels in order, each of which these lists are filled with in turn.
+fn push_groups_over<'a, S: Span, C: Cache<S::SourceId>>(
+    pen: &mut Pen<'_>,
+    lists: &mut Lists<'a>,
+    report: &Content<'_, S>,
+    cache: &C,
+    infos: &'a [LabelInfo],
+) -> Result<(), AllocError>
+    requires page { lists.old.gutter.page ≡ pen.old.page }
+    requires switches { pen.old.page.switches ≡ switches_of report.now.config }
+    requires drawn { let w = world S.source_of S.start_of S.end_of S.SourceId.eq
+        (C.names cache.now) (C.contents cache.now) in AreDrawn w report.now infos.now }
+    ensures { let w = world S.source_of S.start_of S.end_of S.SourceId.eq
+        (C.names cache.now) (C.contents cache.now) in let r = report.now in
+        let gs = groups_of (same_source w r) infos.now in
+        OnOk result (DrawsRows pen.old pen.new
+        (joined (λ e. section_rows (texts_of r) pen.old.page.number_width
+        (section_of w r (length gs) e)) (enumerate_from 0 gs))) }
+{
     let mut start = 0;
     while start < infos.len() {
-        let end = group_end(report, infos, start);
-        let is_last = end == infos.len();
-        lists.sheet.fill(&infos[start..end])?;
-        push_group(pen, &mut lists, report, cache, start == 0, is_last)?;
-        start = end;
+        start = push_group_from(pen, lists, report, cache, infos, start)?;
     }
     Ok(())
+}
+
+/// Writes the rows of the group that begins at `start`, and gives where the next one begins.
+fn push_group_from<'a, S: Span, C: Cache<S::SourceId>>(
+    pen: &mut Pen<'_>,
+    lists: &mut Lists<'a>,
+    report: &Content<'_, S>,
+    cache: &C,
+    infos: &'a [LabelInfo],
+    start: usize,
+) -> Result<usize, AllocError>
+    requires page { lists.old.gutter.page ≡ pen.old.page }
+    requires switches { pen.old.page.switches ≡ switches_of report.now.config }
+    requires start { start < length infos.now }
+    requires drawn { let w = world S.source_of S.start_of S.end_of S.SourceId.eq
+        (C.names cache.now) (C.contents cache.now) in AreDrawn w report.now infos.now }
+    ensures page { OnOk result (lists.new.gutter.page ≡ lists.old.gutter.page) }
+    ensures after { IfOk result (λ end. start < end) }
+    ensures within { IfOk result (λ end. end ≤ length infos.now) }
+    ensures groups { let w = world S.source_of S.start_of S.end_of S.SourceId.eq
+        (C.names cache.now) (C.contents cache.now) in let same = same_source w report.now in
+        IfOk result (λ end. groups_of same (drop start infos.now)
+        ≡ slice_range infos.now start end ∷ groups_of same (drop end infos.now)) }
+    ensures drawn { let w = world S.source_of S.start_of S.end_of S.SourceId.eq
+        (C.names cache.now) (C.contents cache.now) in let r = report.now in
+        (n k : ℕ) → (start == 0) ≡ (k == 0) →
+        IfOk result (λ end. (end == length infos.now) ≡ (k + 1 == n) →
+        DrawsRows pen.old pen.new (section_rows (texts_of r) pen.old.page.number_width
+        (section_of w r n (k, slice_range infos.now start end)))) }
+{
+    let end = group_end(report, infos, start);
+    lists.sheet.fill(&infos[start..end])?;
+    push_group(pen, lists, report, cache, start == 0, end == infos.len())?;
+    Ok(end)
 }
 
 /// Writes the rows of a group, whose labels are those of `lists.sheet`.

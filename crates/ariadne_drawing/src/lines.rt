@@ -1,6 +1,6 @@
 //! The rows of the lines of a group, from its first line to its last.
 
-ghost use Rattle.std.specs.Prelude.{◌≡◌, ◌<◌, ◌≤◌, ◌+◌, ℕ, OnOk, false, length, map, replicate};
+ghost use Rattle.std.specs.Prelude.{◌≡◌, ◌<◌, ◌≤◌, ◌+◌, ℕ, [], OnOk, false, length, map, replicate};
 ghost use Rattle.std.specs.Prelude.{IfSome, Some, ◌^◌, ◌-◌, option_map, slice_get};
 ghost use Rattle.std.specs.Prelude.{slice_range, true};
 ghost use Rattle.std.specs.List.{AllByRecursion, enumerate_from, range_with_len};
@@ -27,6 +27,7 @@ ghost use Rattle.ariadne_base.specs.Locations.{line_text};
 use ariadne_accept::content::Content;
 use ariadne_base::{Source, SourceText, Span};
 use ariadne_cells::layout::LineLayout;
+use ariadne_cells::page::Page;
 use ariadne_cells::pen::Pen;
 use ariadne_cells::table::LineTable;
 use ariadne_picture::label_info::{LabelInfo, LineLabel, Side};
@@ -35,7 +36,7 @@ use ariadne_rows::rows::{
     push_alternate_row, push_arrow_row, push_bare_row, push_gap_row, push_source_row,
 };
 use ariadne_rows::sheet::GroupSheet;
-use std::alloc::AllocError;
+use std::alloc::{AllocError, Global};
 
 /// The lists of the group and of the line that are drawn. They are made once a picture, and filled
 /// anew for each group and for each line.
@@ -45,6 +46,23 @@ pub(crate) struct Lists<'a> {
     pub(crate) gutter: Gutter<'a>,
     pub(crate) labels: Vec<LineLabel>,
     pub(crate) table: LineTable,
+}
+
+impl<'a> Lists<'a> {
+    /// Lists of no group, to be drawn on this page.
+    pub(crate) fn new(alloc: Global, page: &'a Page) -> Lists<'a>
+        ensures sheet { result.sheet ≡ record { labels = []; line = 0 } }
+        ensures gutter { result.gutter ≡ record { page = page.now; positions = []; bars = [] } }
+        ensures labels { result.labels.items ≡ [] }
+        ensures table { result.table.len ≡ 0 }
+    {
+        Lists {
+            sheet: GroupSheet::new(alloc),
+            gutter: Gutter::new(alloc, page),
+            labels: Vec::new(alloc),
+            table: LineTable::new(alloc),
+        }
+    }
 }
 
 /// Writes the rows of all lines of a group, whose labels are those of `lists.sheet`, and whose

@@ -12,6 +12,7 @@ ghost use Rattle.ariadne_base.specs.declared.cache.file.FileError.TheVariants.{R
 ghost use Rattle.ariadne_base.specs.Cache.{Fetched, held, Grows, SameHeld, KeepsOtherIds};
 ghost use Rattle.ariadne_base.specs.Files.{by_path, by_text, file_error_text};
 
+use crate::cache::put::put;
 use crate::cache::{Cache, FetchError};
 use crate::source::Source;
 use std::alloc::{AllocError, Global};
@@ -104,10 +105,8 @@ impl<R: Files + Drop> FileCache<R> {
         ensures grows { Grows bytes_eq (by_path self.old) (by_path self.new) }
         ensures err { OnErr result (SameHeld bytes_eq (by_path self.old) (by_path self.new)) }
     {
-        let source = Source::from(self.alloc, text)?;
         let key = String::from_str(self.alloc, path)?;
-        self.sources.insert(key, source)?;
-        Ok(())
+        put(&mut self.sources, self.alloc, key, text)
     }
 }
 

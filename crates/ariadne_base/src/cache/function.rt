@@ -8,6 +8,7 @@ ghost use Rattle.ariadne_base.specs.Cache.{held, Fetched, Grows, SameHeld, Keeps
 ghost use Rattle.ariadne_base.specs.Cache.{listing_of};
 
 use crate::cache::named::SourceName;
+use crate::cache::put::put;
 use crate::cache::{Cache, FetchError};
 use crate::source::Source;
 use crate::text::SourceText;
@@ -84,10 +85,8 @@ impl<Id: SourceName + Hash + Clone, F, I: SourceText> FnCache<Id, F, I> {
         ensures grows { Grows Id.eq self.old.sources self.new.sources }
         ensures err { OnErr result (SameHeld Id.eq self.old.sources self.new.sources) }
     {
-        let source = Source::from(self.alloc, text)?;
         let key = id.clone()?;
-        self.sources.insert(key, source)?;
-        Ok(())
+        put(&mut self.sources, self.alloc, key, text)
     }
 }
 

@@ -6,6 +6,7 @@ ghost use Rattle.std.proofs.Common.{ap};
 ghost use Rattle.ariadne_base.specs.Cache.{SameHeld, listed};
 
 use crate::cache::named::{SourceName, UnknownSource, unknown};
+use crate::cache::put::put;
 use crate::cache::{Cache, FetchError};
 use crate::source::Source;
 use crate::text::SourceText;
@@ -48,8 +49,7 @@ where
 {
     let mut sources: HashMap<Id, Source<I>> = HashMap::new(alloc);
     for (id, text) in texts {
-        let source = Source::from(alloc, text)?;
-        sources.insert(id, source)?;
+        put(&mut sources, alloc, id, text)?;
     }
     Ok(SourceMap { sources, alloc })
 }

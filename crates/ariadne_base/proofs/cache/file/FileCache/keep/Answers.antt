@@ -1,19 +1,28 @@
-use Rattle.std.proofs.Common.{rules}
+use Rattle.std.proofs.Common.{Some, subst, IsSome, sym, refl, ap, string_bytes}
+use Rattle.std.specs.Cmp.Lexicographic.{nat_list_eq_equiv}
+use Rattle.std.specs.HashMap.{Updates}
+use Rattle.std.specs.String.{string_eq}
+use Rattle.std.proofs.lemmas.Result.{on_ok_weaker, on_err_weaker}
+use Rattle.ariadne_base.specs.Cache.{listing_of}
 use Rattle.ariadne_base.specs.Files.{by_path}
-use Rattle.ariadne_base.proofs.Paths.{Put, by_path-insert, IsSome-put, KeepsOtherIds-put, Grows-put}
+use Rattle.ariadne_base.proofs.Lookups.{tried-put}
+use Rattle.ariadne_base.proofs.Paths.{by_path-insert}
 use Rattle.ariadne_base.proofs.cache.file.FileCache.keep.Goals as goal
 
 -- the text's source is put under the path, where nothing was held, and under no other
 pub returns : goal.returns
 returns g c =
-    let old = by_path c.self.inside.sources.entries in
-    let new = by_path c.insert.new.self.entries in
-    let put : Put c.args.path.now c.in_ok-source.source old new =
-    by_path-insert c.self.inside.sources c.insert.new.self c.in_ok-key.key c.args.path.now
-    c.in_ok-source.source c.in_ok-key.ensures.ok c.in_ok-insert.ensures.updates in
+    let path = c.args.path.now in
+    let source = listing_of (string_bytes c.args.text) in
+    let old = c.self.inside.sources in
+    let new = c.put.new.sources in
+    let put = on_ok_weaker {P = Updates string_eq old new c.in_ok-key.key (Some source)} c.put.result
+    (by_path-insert old new c.in_ok-key.key path source c.in_ok-key.ensures.ok) c.put.ensures.ok in
+    let tried = tried-put nat_list_eq_equiv path source (by_path old.entries) (by_path new.entries) c.put.result put
+    (on_err_weaker c.put.result (ap by_path) c.put.ensures.err) (rw (← c.self.view_is) at c.requires) in
     rw (← c.self.view_is) record {
-      ok = IsSome-put put;
-      others = KeepsOtherIds-put put;
-      grows = Grows-put put (rw (← c.self.view_is) at c.requires);
-      err = search rules;
+      ok = on_ok_weaker c.put.result (λ e. subst IsSome (sym e) refl) tried.0;
+      others = tried.1;
+      grows = tried.2;
+      err = tried.3;
     }
