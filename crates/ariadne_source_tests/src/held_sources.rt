@@ -1,7 +1,8 @@
-//! What a source and a cache of files hold, answer and show, by their own calls. Those of the other
-//! caches are tried where memory is refused.
+//! What sources and caches hold, answer and show, by their own calls. What is not here is tried where
+//! memory is refused.
 
-use ariadne::{Cache, FetchError, FileCache, Source};
+use ariadne::{Cache, FetchError, FileCache, FnCache, Source, sources};
+use std::collections::HashMap;
 use std::path::PathBuf;
 use std::process::Abort;
 use std::rt::{Env, Files};
@@ -54,6 +55,36 @@ fn an_error_names_the_id_that_a_cache_lacks(rt: HostRuntime) {
         panic!(rt; "no error of the cache's own");
     };
     assert_eq!(rt; error.name(), "b");
+}
+
+#[test]
+fn a_map_shows_the_name_of_an_id_that_it_lacks(rt: HostRuntime) {
+    let mut map = sources(rt.alloc(), [("a", "x")]).expect(&rt, "memory");
+    assert!(rt; !fetches(&mut map, &"z", "x"));
+    assert_eq!(rt; map.display(&"z"), Some("z"));
+}
+
+/// Answers the same text for every id.
+fn got(_id: &&'static str) -> Result<&'static str, ()> {
+    Ok("got")
+}
+
+/// A source for `a` that is given to a cache.
+fn given(rt: &(impl Abort + AllocGlobal)) -> HashMap<&'static str, Source<&'static str>> {
+    let mut given = HashMap::new(rt.alloc());
+    let source = Source::from(rt.alloc(), "given").expect(rt, "memory");
+    assert!(rt; given.insert("a", source).is_ok());
+    given
+}
+
+#[test]
+fn sources_that_are_given_replace_those_that_are_held(rt: HostRuntime) {
+    let mut cache: FnCache<&'static str, _, &'static str> = FnCache::new(rt.alloc(), got);
+    assert!(rt; fetches(&mut cache, &"a", "got"));
+    assert!(rt; fetches(&mut cache, &"b", "got"));
+    let mut cache = cache.with_sources(given(&rt)).expect(&rt, "memory");
+    assert!(rt; fetches(&mut cache, &"a", "given"));
+    assert!(rt; fetches(&mut cache, &"b", "got"));
 }
 
 /// The path of a file of this name in the folder for files that don't last, after this was written to
