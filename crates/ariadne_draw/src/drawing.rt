@@ -7,7 +7,7 @@ ghost use Rattle.ariadne_base.specs.Cache.{Grows, KeepsOtherIds};
 ghost use Rattle.ariadne_draw.specs.Asked.{asking, label_asking, options_asking};
 ghost use Rattle.ariadne_draw.specs.Drawn.{colored, config_of, own_span, reads_input, report_of};
 ghost use Rattle.ariadne_draw.specs.Drawn.{sources, Ended, EndedOver, Leaves, OverFile};
-ghost use Rattle.ariadne_draw.specs.Faults.{IsBeforeWriting, reason_text, status_of_written};
+ghost use Rattle.ariadne_draw.specs.Faults.{IsFaultOfInput, reason_text, status_of_written};
 ghost use Rattle.ariadne_draw.specs.Pages.{IsShown, page_asked, page_text};
 ghost use Rattle.ariadne_draw.specs.Words.{asking_of};
 
@@ -129,7 +129,7 @@ fn read_source<I: Read>(alloc: Global, input: &mut I) -> Result<Source<String>, 
         (λ bytes. source.text ≡ bytes)) }
     ensures text { IfOk result (λ source. IsUtf8 source.text) }
     ensures lines { IfOk result (λ source. source.display_offset ≡ 0) }
-    ensures refused { IfErr result IsBeforeWriting }
+    ensures refused { IfErr result (IsFaultOfInput (I.remaining input.old)) }
 {
     let mut bytes = Vec::new(alloc);
     if let Err(error) = input.read_to_end(&mut bytes) {
