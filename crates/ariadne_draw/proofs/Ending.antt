@@ -1,6 +1,6 @@
 -- How a run ends, by what the words ask for.
-use Rattle.std.proofs.Common.{◌≡◌, refl, ◌∙◌, ap, inl}
-use Rattle.std.specs.Prelude.{ℕ, true, List, [], ◌∷◌, Option, Some, None, IfSome, IsSome, ⊤, alloc_error}
+use Rattle.std.proofs.Common.{◌≡◌, refl, ◌∙◌, ap, inl, inr}
+use Rattle.std.specs.Prelude.{ℕ, Bool, true, List, [], ◌∷◌, Option, Some, None, IfSome, IsSome, ⊤, alloc_error}
 use Rattle.std.specs.Borrow.{Bor}
 use Rattle.std.specs.Io.KnownBytes.{Keeps}
 use Rattle.std.specs.Str.{IsUtf8, bytes_eq}
@@ -14,7 +14,7 @@ use Rattle.ariadne_draw.specs.declared.fault.Fault.TheVariants.{Writer, Memory, 
 use Rattle.ariadne_draw.specs.declared.fault.Status.{Status}
 use Rattle.ariadne_draw.specs.Asked.{IsFaultOfWords}
 use Rattle.ariadne_draw.specs.Drawn.{Ended, EndedOver, Leaves, OverFile, OverInput, files, report_of, sources}
-use Rattle.ariadne_draw.specs.Faults.{status_of}
+use Rattle.ariadne_draw.specs.Faults.{IsFaultOfInput, status_of}
 use Rattle.ariadne_draw.specs.Words.{Asking}
 
 -- bytes that nothing was done to stay
@@ -22,9 +22,9 @@ keeps_same : (bytes : Option (List ℕ)) → Keeps bytes bytes
 keeps_same (Some bytes) = refl
 keeps_same None = tt
 
-module _ (input before : Option (List ℕ)) where
+module _ (has_failed : Bool) (input before : Option (List ℕ)) where
   -- there was no memory, before anything was looked at: by the path
-  no_memory_over : (path : Option (List ℕ)) (asking : Asking) → EndedOver path asking input before before (status_of (Memory alloc_error))
+  no_memory_over : (path : Option (List ℕ)) (asking : Asking) → EndedOver path asking has_failed input before before (status_of (Memory alloc_error))
   no_memory_over None asking = inl (keeps_same before)
   no_memory_over (Some path) asking = record {
     id = record { ref_ptr = (0, 0); now = path };
@@ -35,12 +35,21 @@ module _ (input before : Option (List ℕ)) where
   }
 
   -- and by the words
-  no_memory : (asks : Option Asking) → Ended asks input before before (status_of (Memory alloc_error))
+  no_memory : (asks : Option Asking) → Ended asks has_failed input before before (status_of (Memory alloc_error))
   no_memory (Some asking) = no_memory_over asking.options.path asking
   no_memory None = keeps_same before
 
+  -- the input could not be read
+  pub ended_by_input : (asking : Asking) (fault : Fault) → IsFaultOfInput has_failed input fault
+      → EndedOver None asking has_failed input before before (status_of fault)
+  ended_by_input asking Usage none = elim none [ ]
+  ended_by_input asking Unread failed = inl (inl failed, keeps_same before)
+  ended_by_input asking NotUtf8 no_text = inl (inr no_text, keeps_same before)
+  ended_by_input asking (Writer sent) none = elim none [ ]
+  ended_by_input asking (Memory refused) any = no_memory_over None asking
+
   -- the words were refused
-  pub ended_by_words : (asks : Option Asking) (fault : Fault) → IsFaultOfWords asks fault → Ended asks input before before (status_of fault)
+  pub ended_by_words : (asks : Option Asking) (fault : Fault) → IsFaultOfWords asks fault → Ended asks has_failed input before before (status_of fault)
   ended_by_words asks Usage none = rw none (keeps_same before)
   ended_by_words asks Unread none = elim none [ ]
   ended_by_words asks NotUtf8 none = elim none [ ]
@@ -89,6 +98,7 @@ module _ (asking : Asking) (before after : Option (List ℕ)) (ended : Status) w
       record { text = old.text; is_text = is_text; read = read; leaves = over_same old new _ text (same ∙ text) leaves }
 
   -- the report was drawn over what the options name
-  pub ended_over : (asks : Option Asking) (path input : Option (List ℕ)) → asks ≡ Some asking → asking.options.path ≡ path
-      → EndedOver path asking input before after ended → Ended asks input before after ended
-  ended_over asks path input is has over = rw is (rw (← has) at over)
+  pub ended_over : (asks : Option Asking) (path : Option (List ℕ)) (has_failed : Bool) (input : Option (List ℕ))
+      → asks ≡ Some asking → asking.options.path ≡ path
+      → EndedOver path asking has_failed input before after ended → Ended asks has_failed input before after ended
+  ended_over asks path has_failed input is has over = rw is (rw (← has) at over)

@@ -19,6 +19,7 @@ use Rattle.ariadne_picture.specs.declared.switches.IndexType.TheVariants.{Byte, 
 use Rattle.ariadne_accept.specs.Drawn.{world}
 use Rattle.ariadne.specs.Written.{IsCutOff, IsWritten}
 use Rattle.ariadne_accept.specs.declared.accept.LeftOut.{LeftOut}
+use Rattle.ariadne_draw.specs.Faults.{IsNoText}
 use Rattle.ariadne_draw.specs.Words.{Asking, AskingLabel, AskingOptions}
 use Rattle.ariadne_draw.specs.declared.fault.Fault.{Fault}
 use Rattle.ariadne_draw.specs.declared.fault.Fault.TheVariants.{Usage, Unread, NotUtf8, Writer}
@@ -97,6 +98,16 @@ LeavesNothing before after status.LeftOut = ⊥
 LeavesNothing before after status.BadInput = Keeps before after
 LeavesNothing before after status.Failed = Keeps before after
 
+-- nothing has: the input can't be read, as a read of it has failed or it is no text, or there was no
+-- memory
+abbrev pub LeavesUnread : Bool → Option (List ℕ) → Option (List ℕ) → Option (List ℕ) → Status
+    → Type 0
+LeavesUnread has_failed input before after status.Drawn = ⊥
+LeavesUnread has_failed input before after status.LeftOut = ⊥
+LeavesUnread has_failed input before after status.BadInput =
+    (has_failed ≡ true ⊎ IsNoText input) × Keeps before after
+LeavesUnread has_failed input before after status.Failed = Keeps before after
+
 -- the whole picture of a report with all its labels; that without some of them; or, where writing
 -- failed, nothing or the first bytes. What it read was old before, and w when it was drawn.
 module _ {S Id E : Type 0} (fails : Id → E → Type 0) (old w : World S Id) (r : ReportFields S)
@@ -130,19 +141,20 @@ pub record OverFile (asking : Asking) (path : List ℕ) (before after : Option (
   pub leaves : Leaves {E = FileError} (λ id e. ⊤) (files []) (files contents)
       (report_of id asking) before after ended
 
--- by what the options name
-abbrev pub EndedOver : Option (List ℕ) → Asking → Option (List ℕ) → Option (List ℕ)
+-- by what the options name, and by whether a read of the input has failed
+abbrev pub EndedOver : Option (List ℕ) → Asking → Bool → Option (List ℕ) → Option (List ℕ)
     → Option (List ℕ) → Status → Type 0
-EndedOver None asking input before after ended =
-    LeavesNothing before after ended ⊎ OverInput asking input before after ended
-EndedOver (Some path) asking input before after ended = OverFile asking path before after ended
+EndedOver None asking has_failed input before after ended =
+    LeavesUnread has_failed input before after ended ⊎ OverInput asking input before after ended
+EndedOver (Some path) asking has_failed input before after ended =
+    OverFile asking path before after ended
 
 -- by what the words ask for
-abbrev pub Ended : Option Asking → Option (List ℕ) → Option (List ℕ) → Option (List ℕ) → Status
-    → Type 0
-Ended None input before after ended = LeavesNothing before after ended
-Ended (Some asking) input before after ended =
-    EndedOver asking.options.path asking input before after ended
+abbrev pub Ended : Option Asking → Bool → Option (List ℕ) → Option (List ℕ) → Option (List ℕ)
+    → Status → Type 0
+Ended None has_failed input before after ended = LeavesNothing before after ended
+Ended (Some asking) has_failed input before after ended =
+    EndedOver asking.options.path asking has_failed input before after ended
 
 -- standard input is read where a report is asked for, and no path is named
 abbrev pub reads_input : Option Asking → Bool

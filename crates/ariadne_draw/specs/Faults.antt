@@ -1,5 +1,6 @@
 -- Why nothing was drawn, or not all of it, and the status that the program ends with.
-use Rattle.std.specs.Prelude.{ℕ, List, [], ◌∷◌, codes, Option, IfSome, Result, Ok, Err, Vec, ⊤}
+use Rattle.std.specs.Prelude.{ℕ, ◌≡◌, Bool, true, List, [], ◌∷◌, codes, Option, IfSome}
+use Rattle.std.specs.Prelude.{Result, Ok, Err, Vec, ⊤}
 use Rattle.std.specs.Str.{IsUtf8}
 use Rattle.std.specs.declared.alloc.Global.{Global}
 use Rattle.ariadne_accept.specs.declared.accept.LeftOut.{LeftOut}
@@ -38,14 +39,18 @@ abbrev pub status_of_written : {E : Type 0} → Result (Vec (LeftOut E) Global) 
 status_of_written (Ok left_out) = status_without left_out.items
 status_of_written (Err error) = status_of (fault_of error)
 
--- a fault of reading the input, whose known bytes these are: it can't be read, it is no text (then
--- they are none), or there was no memory
-abbrev pub IsFaultOfInput : Option (List ℕ) → Fault → Type 0
-IsFaultOfInput input Usage = ⊥
-IsFaultOfInput input Unread = ⊤
-IsFaultOfInput input NotUtf8 = IfSome input (λ bytes. IsUtf8 bytes → ⊥)
-IsFaultOfInput input (Writer sent) = ⊥
-IsFaultOfInput input (Memory refused) = ⊤
+-- bytes are no text, where they are known
+abbrev pub IsNoText : Option (List ℕ) → Type 0
+IsNoText input = IfSome input (λ bytes. IsUtf8 bytes → ⊥)
+
+-- a fault of reading an input with these bytes: a read has failed, it is no text, or there was no
+-- memory
+abbrev pub IsFaultOfInput : Bool → Option (List ℕ) → Fault → Type 0
+IsFaultOfInput has_failed input Usage = ⊥
+IsFaultOfInput has_failed input Unread = has_failed ≡ true
+IsFaultOfInput has_failed input NotUtf8 = IsNoText input
+IsFaultOfInput has_failed input (Writer sent) = ⊥
+IsFaultOfInput has_failed input (Memory refused) = ⊤
 
 -- what is told of a label that was left out for this reason
 abbrev pub reason_text : {E : Type 0} → Reason E → List ℕ

@@ -1,7 +1,8 @@
 //! The program over the streams that it is handed: words in, a report and a status out.
 
 ghost use Rattle.std.specs.Prelude.{◌≡◌, ◌++◌, [], ◌∷◌, None, false, IfErr, IfNone, IfOk, IfSome};
-ghost use Rattle.std.specs.Prelude.{map, string_bytes};
+ghost use Rattle.std.specs.Prelude.{◌≢◌, ◌⊎◌, alloc_error, map, string_bytes, true};
+ghost use Rattle.std.specs.IoError.{error_kind};
 ghost use Rattle.std.specs.Str.{IsUtf8};
 ghost use Rattle.ariadne_base.specs.Cache.{Grows, KeepsOtherIds};
 ghost use Rattle.ariadne_draw.specs.Asked.{asking, label_asking, options_asking};
@@ -9,11 +10,14 @@ ghost use Rattle.ariadne_draw.specs.Drawn.{colored, config_of, own_span, reads_i
 ghost use Rattle.ariadne_draw.specs.Drawn.{sources, Ended, EndedOver, Leaves, OverFile};
 ghost use Rattle.ariadne_draw.specs.Faults.{IsFaultOfInput, reason_text, status_of_written};
 ghost use Rattle.ariadne_draw.specs.Pages.{IsShown, page_asked, page_text};
+ghost use Rattle.ariadne_draw.specs.Watching.{has_failed, reader_of};
 ghost use Rattle.ariadne_draw.specs.Words.{asking_of};
+ghost use Rattle.ariadne_draw.specs.declared.fault.Fault.TheVariants.{Memory, Unread};
 
 use super::asked::{Asked, AskedLabel, AskedOptions};
 use super::fault::{Fault, Status, tell_fault};
 use super::pages::{Page, asked_page};
+use super::watched::Watched;
 use super::words::read_words;
 use ariadne::{
     Cache, CharSet, Color, ColorGenerator, Config, FileCache, IndexType, Label, LeftOut, Reason,
@@ -21,7 +25,8 @@ use ariadne::{
 };
 use ariadne_send::send::send;
 use std::alloc::{AllocError, Global};
-use std::io::{Read, Write};
+use std::io;
+use std::io::{ErrorKind, Read, Write};
 use std::ops::Range;
 use std::rt::Files;
 
@@ -31,22 +36,23 @@ use std::rt::Files;
 /// The words are those of the command line without the program's name. They are judged first, then
 /// the input is read, if no file is named, then the report is written to `out`, then `faults` gets
 /// a line for each label that was left out, or the one line that says why nothing could be drawn. A
-/// failure of `faults` is passed over. What `out` got is told by the status.
+/// failure of `faults` is passed over. What `out` got is told by the status. Words that ask for a
+/// report are refused only where a read of the input has failed, or what it gave is no text.
 ///
 /// Where the only word is `--help` or `--version` nothing is drawn or read: `out` gets that text.
 pub fn draw<R: Files, I: Read, W: Write, F: Write>(
     files: &R,
     alloc: Global,
     words: &[String],
-    input: &mut I,
+    input: &mut Watched<I>,
     out: &mut W,
     faults: &mut F,
 ) -> Status
     ensures page { IfSome (page_asked (map string_bytes words.now)) (λ page.
         IsShown (page_text page) (W.contents out.old) (W.contents out.new) result) }
     ensures ended { IfNone (page_asked (map string_bytes words.now))
-        (Ended (asking_of (map string_bytes words.now)) (I.remaining input.old)
-        (W.contents out.old) (W.contents out.new) result) }
+        (Ended (asking_of (map string_bytes words.now)) (has_failed input.new)
+        (I.remaining (reader_of input.old)) (W.contents out.old) (W.contents out.new) result) }
     ensures unread { reads_input (asking_of (map string_bytes words.now)) ≡ false
         → input.new ≡ input.old }
 {
@@ -71,12 +77,12 @@ fn draw_report<R: Files, I: Read, W: Write, F: Write>(
     files: &R,
     alloc: Global,
     words: &[String],
-    input: &mut I,
+    input: &mut Watched<I>,
     out: &mut W,
     faults: &mut F,
 ) -> Status
-    ensures ended { Ended (asking_of (map string_bytes words.now)) (I.remaining input.old)
-        (W.contents out.old) (W.contents out.new) result }
+    ensures ended { Ended (asking_of (map string_bytes words.now)) (has_failed input.new)
+        (I.remaining (reader_of input.old)) (W.contents out.old) (W.contents out.new) result }
     ensures unread { reads_input (asking_of (map string_bytes words.now)) ≡ false
         → input.new ≡ input.old }
 {
@@ -110,12 +116,12 @@ fn draw_file<R: Files, W: Write, F: Write>(
 fn draw_input<I: Read, W: Write, F: Write>(
     alloc: Global,
     asked: &Asked<'_>,
-    input: &mut I,
+    input: &mut Watched<I>,
     out: &mut W,
     faults: &mut F,
 ) -> Status
-    ensures { EndedOver None (asking asked.now) (I.remaining input.old) (W.contents out.old)
-        (W.contents out.new) result }
+    ensures { EndedOver None (asking asked.now) (has_failed input.new)
+        (I.remaining (reader_of input.old)) (W.contents out.old) (W.contents out.new) result }
 {
     match read_source(alloc, input) {
         Ok(mut source) => draw_over(alloc, asked, (), &mut source, out, faults),
@@ -124,20 +130,35 @@ fn draw_input<I: Read, W: Write, F: Write>(
 }
 
 /// The text of a reader, to its end, as a source.
-fn read_source<I: Read>(alloc: Global, input: &mut I) -> Result<Source<String>, Fault>
-    ensures read { IfOk result (λ source. IfSome (I.remaining input.old)
+fn read_source<I: Read>(alloc: Global, input: &mut Watched<I>) -> Result<Source<String>, Fault>
+    ensures read { IfOk result (λ source. IfSome (I.remaining (reader_of input.old))
         (λ bytes. source.text ≡ bytes)) }
     ensures text { IfOk result (λ source. IsUtf8 source.text) }
     ensures lines { IfOk result (λ source. source.display_offset ≡ 0) }
-    ensures refused { IfErr result (IsFaultOfInput (I.remaining input.old)) }
+    ensures refused { IfErr result
+        (IsFaultOfInput (has_failed input.new) (I.remaining (reader_of input.old))) }
 {
     let mut bytes = Vec::new(alloc);
     if let Err(error) = input.read_to_end(&mut bytes) {
-        return Err(Fault::of_error(&error, Fault::Unread));
+        return Err(reading_fault(&error, input.has_failed()));
     }
     match String::from_utf8(bytes) {
         Ok(text) => Ok(Source::from(alloc, text)?),
         Err(_) => Err(Fault::NotUtf8),
+    }
+}
+
+/// What an error of reading to the end means: want of memory, unless a read has failed.
+fn reading_fault(error: &io::Error, has_failed: bool) -> Fault
+    ensures unread { error_kind error.now ≢ ErrorKind.OutOfMemory → has_failed ≡ true
+        → result ≡ Unread }
+    ensures refused { ((result ≡ Unread) × (has_failed ≡ true)) ⊎ (result ≡ Memory alloc_error) }
+{
+    if has_failed {
+        Fault::of_error(error, Fault::Unread)
+    } else {
+        // (std gives up after 2^64 reads, whose bytes no memory holds)
+        Fault::Memory(AllocError)
     }
 }
 

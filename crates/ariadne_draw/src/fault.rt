@@ -18,7 +18,8 @@ pub enum Status {
     Drawn = 0,
     /// The report was written without some of its labels, which standard error names.
     LeftOut = 1,
-    /// The words ask for nothing that it can draw, or the input is no text. Nothing was written.
+    /// The words ask for nothing that it can draw, or the input can't be read or is no text. Nothing
+    /// was written.
     BadInput = 2,
     /// Memory was refused, and nothing was written, or the writer failed on the way.
     Failed = 3,

@@ -5,9 +5,11 @@ mod asked;
 mod drawing;
 mod fault;
 mod pages;
+mod watched;
 mod words;
 
 pub use drawing::draw;
 pub use fault::{Fault, Status, tell_fault};
 pub use pages::Page;
+pub use watched::Watched;
 pub use words::without_colors;

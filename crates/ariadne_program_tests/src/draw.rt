@@ -1,15 +1,16 @@
 //! `draw` over inputs and writers that fail.
 
-use ariadne_draw::{Page, Status, draw};
+use ariadne_draw::{Page, Status, Watched, draw};
 use ariadne_fakes::{Given, Taker, texts};
 use std::io::ErrorKind;
 use std::process::Abort;
 use std::rt::Files;
 
-/// What a run answered, and what its writers took.
+/// What a run answered, whether a read failed, and what its writers took.
 #[derive(Drop)]
 struct Outcome {
     status: Status,
+    has_failed: bool,
     out: Vec<u8>,
     faults: Vec<u8>,
 }
@@ -23,7 +24,7 @@ fn run(
 ) -> Outcome {
     let alloc = rt.alloc();
     let words = texts(alloc, words).expect(rt, "memory");
-    let mut input = input;
+    let mut input = Watched::new(input);
     let mut out = out;
     let mut faults = Taker::whole(alloc).expect(rt, "memory");
     let status = draw(
@@ -36,41 +37,48 @@ fn run(
     );
     Outcome {
         status,
+        has_failed: input.has_failed(),
         out: out.held,
         faults: faults.held,
     }
 }
 
 #[test]
-fn an_input_that_fails_behind_its_bytes_is_told(rt: HostRuntime) {
+fn an_input_that_can_not_be_read_is_told(rt: HostRuntime) {
     let unread = b"input: can't be read\n".as_slice();
     let cases = [
         (
             b"ab".as_slice(),
-            ErrorKind::TimedOut,
+            Some(ErrorKind::TimedOut),
             Status::BadInput,
             unread,
         ),
         // (that these are no text is not told)
         (
             b"a\xff".as_slice(),
-            ErrorKind::TimedOut,
+            Some(ErrorKind::TimedOut),
             Status::BadInput,
             unread,
         ),
         (
+            b"a\xff".as_slice(),
+            None,
+            Status::BadInput,
+            b"input: not UTF-8\n".as_slice(),
+        ),
+        (
             b"ab".as_slice(),
-            ErrorKind::OutOfMemory,
+            Some(ErrorKind::OutOfMemory),
             Status::Failed,
             b"no memory\n".as_slice(),
         ),
     ];
     for (rest, fault, status, told) in cases {
-        let fault = Some(fault);
         let out = Taker::whole(rt.alloc()).expect(&rt, "memory");
         let words = ["--ascii", "--plain", "m", "0", "1", "x"];
         let outcome = run(&rt, &words, Given { rest, fault }, out);
         assert_eq!(rt; outcome.status, status, "of {rest:?}");
+        assert_eq!(rt; outcome.has_failed, fault.is_some(), "of {rest:?}");
         assert!(rt; outcome.out.is_empty(), "of {rest:?}");
         assert_eq!(rt; outcome.faults.as_slice(), told, "of {rest:?}");
     }

@@ -1,6 +1,6 @@
 //! The program with each of its requests for memory refused in turn.
 
-use ariadne_draw::{Status, draw, without_colors};
+use ariadne_draw::{Status, Watched, draw, without_colors};
 use ariadne_fakes::{Given, Taker, refuse, texts, was_refused};
 
 #[test]
@@ -12,7 +12,7 @@ fn a_refused_request_is_told_as_no_memory(rt: HostRuntime) {
     )
     .expect(&rt, "memory");
     for nth in 1..1000 {
-        let mut input = Given::whole(b"apple == orange;");
+        let mut input = Watched::new(Given::whole(b"apple == orange;"));
         let mut out = Taker::whole(alloc).expect(&rt, "memory");
         let mut faults = Taker::whole(alloc).expect(&rt, "memory");
         refuse(alloc, nth);

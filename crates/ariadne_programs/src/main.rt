@@ -1,7 +1,7 @@
 //! `ariadne-draw`: draws a report over the text on its standard input, or over a file.
 #![tactic(auto)]
 
-use ariadne_draw::{Fault, draw, tell_fault, without_colors};
+use ariadne_draw::{Fault, Watched, draw, tell_fault, without_colors};
 use std::alloc::AllocError;
 use std::env;
 use std::env::VarError;
@@ -39,7 +39,7 @@ fn main(rt: HostRuntime) -> ExitCode {
             &rt,
             rt.alloc(),
             words.as_slice(),
-            &mut rt.stdin(),
+            &mut Watched::new(rt.stdin()),
             &mut rt.stdout(),
             &mut faults,
         ),

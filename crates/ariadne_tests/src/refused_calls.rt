@@ -159,4 +159,5 @@ pub(crate) const OTHERS: &[(&str, &str)] = &[
         "the picture is whole before its first byte is sent",
     ),
     ("Sink::take", "is the caller's own"),
+    ("Watched::read", "hands on what its reader answers"),
 ];

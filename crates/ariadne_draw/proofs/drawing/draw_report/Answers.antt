@@ -5,10 +5,10 @@ use Rattle.ariadne_draw.proofs.Ending.{ended_by_words, ended_over}
 use Rattle.ariadne_draw.proofs.drawing.draw_report.Goals as goal
 
 pub returns-in-Err-clause-ended : goal.returns-in-Err-clause-ended
-returns-in-Err-clause-ended g c = rw c.tell_fault.ensures (ended_by_words _ _ _ c.in-Err.fault c.in-Err.ensures)
+returns-in-Err-clause-ended g c = rw c.tell_fault.ensures (ended_by_words _ _ _ _ c.in-Err.fault c.in-Err.ensures)
 
 pub returns-in-Some-clause-ended : goal.returns-in-Some-clause-ended
-returns-in-Some-clause-ended g c = ended_over _ _ _ _ _ _ _ c.in-Ok.ensures (ap option_copied c.in-Some.is) c.draw_file.ensures
+returns-in-Some-clause-ended g c = ended_over _ _ _ _ _ _ _ _ c.in-Ok.ensures (ap option_copied c.in-Some.is) c.draw_file.ensures
 
 pub returns-clause-ended : goal.returns-clause-ended
-returns-clause-ended g c = ended_over _ _ _ _ _ _ _ c.in-Ok.ensures (ap option_copied c.in-None.is) c.draw_input.ensures
+returns-clause-ended g c = ended_over _ _ _ _ _ _ _ _ c.in-Ok.ensures (ap option_copied c.in-None.is) c.draw_input.ensures
