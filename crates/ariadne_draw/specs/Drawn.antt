@@ -1,11 +1,10 @@
 -- What a run draws: the report that the words ask for, over the text of standard input or over the
 -- file at the path that they name. And what has reached its output when it ends.
 use Rattle.std.specs.Prelude.{ℕ, ◌≡◌, ◌≢◌, ◌⊎◌, Bool, true, false, not, if◌then◌else◌, List, []}
-use Rattle.std.specs.Prelude.{◌∷◌, Option, Some, None, is_none, IfSome, Result, Ok, Err, Vec, ⊤}
+use Rattle.std.specs.Prelude.{◌∷◌, Option, Some, None, is_none, IfSome, ⊤}
 use Rattle.std.specs.Borrow.{Bor}
 use Rattle.std.specs.Io.KnownBytes.{Keeps}
 use Rattle.std.specs.Str.{IsUtf8, bytes_eq}
-use Rattle.std.specs.declared.alloc.Global.{Global}
 use Rattle.std.specs.declared.ops.Range.{Range}
 use Rattle.ariadne_base.specs.Cache.{held, listing_of}
 use Rattle.ariadne_color.specs.Generator.{GeneratorState, color_of, stepped, usual_start}
@@ -21,9 +20,6 @@ use Rattle.ariadne.specs.Written.{IsCutOff, IsWritten}
 use Rattle.ariadne_accept.specs.declared.accept.LeftOut.{LeftOut}
 use Rattle.ariadne_draw.specs.Faults.{IsNoText}
 use Rattle.ariadne_draw.specs.Words.{Asking, AskingLabel, AskingOptions}
-use Rattle.ariadne_draw.specs.declared.fault.Fault.{Fault}
-use Rattle.ariadne_draw.specs.declared.fault.Fault.TheVariants.{Usage, Unread, NotUtf8, Writer}
-use Rattle.ariadne_draw.specs.declared.fault.Fault.TheVariants.{Memory}
 use Rattle.ariadne_draw.specs.declared.fault.Status.{Status}
 use Rattle.ariadne_draw.specs.declared.fault.Status.TheVariants as status
 
@@ -160,16 +156,3 @@ Ended (Some asking) has_failed input before after ended =
 abbrev pub reads_input : Option Asking → Bool
 reads_input None = false
 reads_input (Some asking) = is_none asking.options.path
-
--- ---- what is known while it draws
-
--- what the writing of a report leaves, by its answer
-module _ {S Id E : Type 0} (fails : Id → E → Type 0) (old w : World S Id) (r : ReportFields S)
-    (before after : Option (List ℕ)) where
-  abbrev pub Wrote : Result (Vec (LeftOut E) Global) Fault → Type 0
-  Wrote (Ok list) = IsWritten fails old w r list.items before after
-  Wrote (Err (Writer sent)) = IsCutOff fails old w r sent before after
-  Wrote (Err (Memory refused)) = Keeps before after
-  Wrote (Err Usage) = ⊥
-  Wrote (Err Unread) = ⊥
-  Wrote (Err NotUtf8) = ⊥
