@@ -198,12 +198,6 @@ push_some : {X : Type 0} (xs : List X) (x : X) → xs ++ x ∷ [] ≢ []
 push_some [] x h = cc
 push_some (y ∷ xs) x h = cc
 
--- at the end an open line stands alone
-before-nil : (o : List ℕ) → 0 < length o → before o [] ≡ o ∷ []
-unfolding before
-before-nil [] h = absurd (omega arith)
-before-nil (c ∷ o) h = refl
-
 -- what is open at the end is the last line, also where the text is empty
 last_line : (done : List (List ℕ)) (o t : List ℕ) → full_lines_of t ≡ done ++ before o [] → (0 < length o) ⊎ (done ≡ []) → lines_of t ≡ done ++ o ∷ []
 unfolding before lines_of

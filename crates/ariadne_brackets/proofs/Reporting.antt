@@ -1,15 +1,10 @@
 -- The report of the labels that were made.
 use Rattle.std.proofs.Common.{◌≡◌, refl}
-use Rattle.std.specs.Prelude.{ℕ, List, [], ◌∷◌, codes, slice_get, Some, None, option_map}
+use Rattle.std.specs.Prelude.{ℕ, List, [], ◌∷◌, codes, slice_get, Some, option_map}
 use Rattle.std.specs.Borrow.{Bor}
 use Rattle.std.specs.declared.ops.Range.{Range}
 use Rattle.ariadne_picture.specs.Report.{LabelFields, ReportFields, error, new_report}
 use Rattle.ariadne_brackets.specs.Linted.{plain_config, report_with}
-
--- without a first label there is none, and no report
-pub report_none : (labels : List (LabelFields (Bor (List ℕ) × Range ℕ))) → None ≡ option_map (λ label. label.span) (slice_get labels 0) → None ≡ report_with labels
-report_none [] none = refl
-report_none (label ∷ labels) none = absurd cc
 
 -- a report with these labels, which points at what the first one does
 pub report_whole : (labels : List (LabelFields (Bor (List ℕ) × Range ℕ))) (span : Bor (List ℕ) × Range ℕ) (report : ReportFields (Bor (List ℕ) × Range ℕ))

@@ -1,25 +1,20 @@
--- The bytes of pieces and of rows: one after another, of one more place, of cells that are repeated,
+-- The bytes of pieces and of rows: one after another, of cells that are repeated,
 -- of plain texts and of blanks.
 use Rattle.std.proofs.Common.{◌≡◌, ℕ, zero, suc, ◌+◌, List, [], ◌∷◌, ◌++◌, replicate, map, Option, Some, None, refl, sym, ap, ◌∙◌, arith}
-use Rattle.std.proofs.Common.{append_assoc}
 use Rattle.std.proofs.lemmas.List.{append-nil, map-append, replicate_more, replicate-append-replicate}
 use Rattle.std.proofs.lemmas.Bool.{cond_both}
 use Rattle.ariadne_color.specs.declared.color.Color.{Color}
 use Rattle.ariadne_color.specs.Colors.{painted}
 use Rattle.ariadne_color.specs.Escapes.{opened, closed}
-use Rattle.ariadne_base.specs.Locations.{upto}
 use Rattle.ariadne_picture.specs.declared.switches.CharSet.{CharSet}
-use Rattle.ariadne_picture.specs.declared.switches.CharSet.TheVariants.{Ascii, Unicode}
-use Rattle.ariadne_picture.specs.declared.cell.Glyph.TheVariants.{Blank}
 use Rattle.ariadne_picture.specs.declared.cell.Ink.{Ink}
 use Rattle.ariadne_picture.specs.declared.cell.Paint.TheVariants.{Plain}
-use Rattle.ariadne_picture.specs.Cells.{glyph_code}
 use Rattle.ariadne_picture.specs.Lists.{joined}
 use Rattle.ariadne_picture.specs.Pieces.{Piece, blank_piece, glyph_text, ink_pieces, plain_text, repeated, spaces, stroke}
 use Rattle.ariadne_picture.specs.Canvas.{Palette, color_of, paint_color, cell_of}
 use Rattle.ariadne_picture.specs.Print.{cell_bytes, pieces_bytes, row_bytes, rows_bytes}
-use Rattle.ariadne_picture.proofs.Lists.Joined.{joined-append, joined-one, joined-upto_more}
-use Rattle.ariadne_cells.proofs.Copies.{repeated_none, repeated_more, repeated_blank}
+use Rattle.ariadne_picture.proofs.Lists.Joined.{joined-append, joined-one}
+use Rattle.ariadne_cells.proofs.Copies.{repeated_none, repeated_more}
 
 -- ---- pieces
 
@@ -44,21 +39,6 @@ unfolding pieces_bytes
 pieces_bytes-append p xs ys =
     ap (joined cell_bytes) (map-append (cell_of p) xs ys) ∙ joined-append cell_bytes (map (cell_of p) xs) (map (cell_of p) ys)
 
--- ---- one more place of a row
-
--- of no place nothing is written
-pub places_none : (p : Palette) (f : ℕ → List Piece) (old : List ℕ) → old ≡ old ++ pieces_bytes p (joined f (upto 0))
-unfolding pieces_bytes joined
-places_none p f old = sym (append-nil old)
-
--- behind the places below n stands place n
-pub places_more : (p : Palette) (f : ℕ → List Piece) (old b here : List ℕ) (n : ℕ) → b ≡ old ++ pieces_bytes p (joined f (upto n))
-    → here ≡ pieces_bytes p (f n) → b ++ here ≡ old ++ pieces_bytes p (joined f (upto (n + 1)))
-places_more p f old b here n e h =
-    let before = joined f (upto n) in
-    (λ i. e i ++ h i) ∙ append_assoc old (pieces_bytes p before) (pieces_bytes p (f n))
-    ∙ ap (λ t. old ++ t) (sym (ap (pieces_bytes p) (joined-upto_more f n) ∙ pieces_bytes-append p before (f n)))
-
 -- ---- rows
 
 -- a row is its pieces and a line feed
@@ -66,20 +46,10 @@ pub row_bytes-is : (p : Palette) (xs : List Piece) → row_bytes p xs ≡ pieces
 unfolding row_bytes
 row_bytes-is p xs = refl
 
--- a row of two parts
-pub row_bytes-append : (p : Palette) (xs ys : List Piece) → row_bytes p (xs ++ ys) ≡ pieces_bytes p xs ++ row_bytes p ys
-unfolding row_bytes
-row_bytes-append p xs ys = ap (λ t. t ++ 10 ∷ []) (pieces_bytes-append p xs ys) ∙ append_assoc (pieces_bytes p xs) (pieces_bytes p ys) (10 ∷ [])
-
 -- no rows have no bytes
 pub rows_bytes_none : (p : Palette) → rows_bytes p [] ≡ []
 unfolding rows_bytes joined
 rows_bytes_none p = refl
-
--- the bytes of the first row stand in front
-pub rows_bytes_first : (p : Palette) (row : List Piece) (rows : List (List Piece)) → rows_bytes p (row ∷ rows) ≡ row_bytes p row ++ rows_bytes p rows
-unfolding rows_bytes joined
-rows_bytes_first p row rows = refl
 
 -- a single row
 pub rows_bytes_one : (p : Palette) (row : List Piece) → rows_bytes p (row ∷ []) ≡ row_bytes p row
@@ -132,11 +102,6 @@ pub spaces_more : (n : ℕ) → spaces n ++ 32 ∷ [] ≡ spaces (n + 1)
 unfolding spaces
 spaces_more n = replicate_more n 32
 
--- no blanks are no text
-pub spaces_none : spaces 0 ≡ []
-unfolding spaces
-spaces_none = refl
-
 -- blanks behind blanks
 pub spaces-append : (m n : ℕ) → spaces m ++ spaces n ≡ spaces (m + n)
 unfolding spaces
@@ -158,19 +123,3 @@ pub ink_bytes : (p : Palette) (set : CharSet) (a : Ink) (n : ℕ) → pieces_byt
     ≡ painted (color_of p a.first_paint) (glyph_text set a.first) ++ pieces_bytes p (replicate n (stroke set a.rest a.rest_paint))
 unfolding ink_pieces
 ink_bytes p set a n = pieces_bytes_first p (stroke set a.first a.first_paint) _
-
--- of no columns there are no cells
-pub ink_bytes_none : (p : Palette) (set : CharSet) (a : Ink) → pieces_bytes p (ink_pieces set a 0) ≡ []
-unfolding ink_pieces
-ink_bytes_none p set a = pieces_bytes_none p
-
--- a stroke of blanks without colour is a blank
-blank_text : (set : CharSet) → glyph_text set Blank ≡ 32 ∷ []
-unfolding glyph_text glyph_code lib.Utf8.encode
-blank_text Unicode = refl
-blank_text Ascii = refl
-
--- plain blank cells are blanks
-pub blank_run : (p : Palette) (set : CharSet) (n : ℕ) → pieces_bytes p (replicate n (stroke set Blank Plain)) ≡ spaces n
-blank_run p set n =
-    run_bytes p n (stroke set Blank Plain) ∙ ap (repeated n) (plain_bytes p (glyph_text set Blank) ∙ blank_text set) ∙ repeated_blank n

@@ -1,18 +1,15 @@
 -- What a pen has written after one call and another: bytes, pieces and rows, one behind the other.
-use Rattle.std.proofs.Common.{◌≡◌, ℕ, ◌+◌, List, [], ◌∷◌, ◌++◌, replicate, sym, ap, ◌∙◌, append_assoc, subst}
+use Rattle.std.proofs.Common.{◌≡◌, ℕ, ◌+◌, List, [], ◌∷◌, ◌++◌, sym, ap, ◌∙◌, append_assoc, subst}
 use Rattle.std.proofs.lemmas.List.{append-nil}
 use Rattle.ariadne_color.specs.Colors.{painted}
 use Rattle.ariadne_base.specs.Locations.{upto}
-use Rattle.ariadne_picture.specs.declared.switches.CharSet.{CharSet}
-use Rattle.ariadne_picture.specs.declared.cell.Glyph.TheVariants.{Blank}
-use Rattle.ariadne_picture.specs.declared.cell.Paint.TheVariants.{Plain}
 use Rattle.ariadne_picture.specs.Canvas.{color_of}
 use Rattle.ariadne_picture.specs.Lists.{joined}
-use Rattle.ariadne_picture.specs.Pieces.{Piece, blank_piece, plain_text, spaces, stroke}
-use Rattle.ariadne_picture.specs.Print.{pieces_bytes, row_bytes, rows_bytes}
+use Rattle.ariadne_picture.specs.Pieces.{Piece, blank_piece, plain_text}
+use Rattle.ariadne_picture.specs.Print.{pieces_bytes, rows_bytes}
 use Rattle.ariadne_picture.proofs.Lists.Joined.{joined-upto_more}
 use Rattle.ariadne_cells.specs.Pages.{Adds, Draws, DrawsRow, DrawsRows, PageFields, PenFields}
-use Rattle.ariadne_cells.proofs.Bytes.{blank_one, blank_run, pieces_bytes_none, pieces_bytes_one, pieces_bytes-append, plain_one, row_bytes-append, row_bytes-is}
+use Rattle.ariadne_cells.proofs.Bytes.{blank_one, pieces_bytes_none, pieces_bytes_one, pieces_bytes-append, plain_one, row_bytes-is}
 use Rattle.ariadne_cells.proofs.Bytes.{rows_bytes_none, rows_bytes_one, rows_bytes-append}
 
 -- ---- bytes
@@ -61,10 +58,6 @@ draws_plain a b text h = adds_same a b text _ (sym (plain_one a.page.palette tex
 pub draws_blank : (a b : PenFields) → Adds a b (32 ∷ []) → Draws a b (blank_piece ∷ [])
 draws_blank a b h = adds_same a b (32 ∷ []) _ (sym (blank_one a.page.palette)) h
 
--- blanks, as plain cells of a stroke
-pub draws_blanks : (a b : PenFields) (set : CharSet) (n : ℕ) → Adds a b (spaces n) → Draws a b (replicate n (stroke set Blank Plain))
-draws_blanks a b set n h = adds_same a b (spaces n) _ (sym (blank_run a.page.palette set n)) h
-
 -- of no place nothing is drawn
 pub draws_places_none : (a : PenFields) (f : ℕ → List Piece) → Draws a a (joined f (upto 0))
 unfolding joined
@@ -82,14 +75,6 @@ draws_places_more a b c f n before here =
 pub draws_row_ended : (a b c : PenFields) (xs : List Piece) → Draws a b xs → Adds b c (10 ∷ []) → DrawsRow a c xs
 draws_row_ended a b c xs pieces end =
     adds_same a c _ _ (sym (row_bytes-is a.page.palette xs)) (adds-append a b c (pieces_bytes a.page.palette xs) (10 ∷ []) pieces end)
-
--- the beginning of a row, and the rest of it
-pub draws_row-append : (a b c : PenFields) (xs ys : List Piece) → Draws a b xs → DrawsRow b c ys → DrawsRow a c (xs ++ ys)
-draws_row-append a b c xs ys first then =
-    let kept = page_kept a b (pieces_bytes a.page.palette xs) first in
-    let later : Adds b c (row_bytes a.page.palette ys) = subst (λ (page : PageFields). Adds b c (row_bytes page.palette ys)) kept then in
-    adds_same a c _ _ (sym (row_bytes-append a.page.palette xs ys))
-    (adds-append a b c (pieces_bytes a.page.palette xs) (row_bytes a.page.palette ys) first later)
 
 -- no rows are drawn
 pub draws_rows_none : (a : PenFields) → DrawsRows a a []

@@ -1,5 +1,5 @@
 -- The bytes of margins: text after text.
-use Rattle.std.proofs.Common.{◌≡◌, ℕ, ◌+◌, ◌-◌, Bool, true, false, if◌then◌else◌, List, [], ◌∷◌, ◌++◌, length, decimal, codes, refl, sym, ap, ◌∙◌}
+use Rattle.std.proofs.Common.{◌≡◌, ℕ, ◌+◌, ◌-◌, Bool, true, false, if◌then◌else◌, List, [], ◌∷◌, ◌++◌, length, decimal, codes, sym, ap, ◌∙◌}
 use Rattle.std.proofs.Common.{append_assoc}
 use Rattle.ariadne_color.specs.Escapes.{opened, closed}
 use Rattle.ariadne_picture.specs.declared.switches.Switches.{Switches}
@@ -8,7 +8,7 @@ use Rattle.ariadne_picture.specs.declared.cell.Paint.{Paint}
 use Rattle.ariadne_picture.specs.declared.cell.Paint.TheVariants.{Margin, SkippedMargin}
 use Rattle.ariadne_picture.specs.Canvas.{Palette, color_of}
 use Rattle.ariadne_picture.specs.Groups.{printed_number}
-use Rattle.ariadne_picture.specs.Rows.{Aside, Row, alternate, arrow, bare, blank, gap, piece, source}
+use Rattle.ariadne_picture.specs.Rows.{Row, bare, gap, source}
 use Rattle.ariadne_picture.specs.Pieces.{blank_piece, glyph_text, margin_paint, margin_pieces, margin_text, spaces}
 use Rattle.ariadne_picture.specs.Print.{pieces_bytes}
 use Rattle.ariadne_cells.proofs.Bytes.{blank_first, blank_one, painted_parts, pieces_bytes_first, pieces_bytes_none, spaces_more}
@@ -61,36 +61,3 @@ pub line_bytes : (p : Palette) (s : Switches) (w number display_offset l : ℕ) 
     → pieces_bytes p (margin_pieces s w display_offset (source l)) ≡ numbered p s w number
 unfolding margin_text margin_paint
 line_bytes p s w number display_offset l e = margin_bytes p s w display_offset (source l) ∙ ap (numbered p s w) (sym e)
-
--- ---- the margins of the rows without a number are two texts
-
--- of an alternate row
-pub alternate_margin : (s : Switches) (w display_offset l r : ℕ) → margin_pieces s w display_offset (alternate l r) ≡ margin_pieces s w 0 (bare 0)
-unfolding margin_pieces margin_paint margin_text
-alternate_margin s w display_offset l r = refl
-
--- of an arrow row
-pub arrow_margin : (s : Switches) (w display_offset l r : ℕ) → margin_pieces s w display_offset (arrow l r) ≡ margin_pieces s w 0 (bare 0)
-unfolding margin_pieces margin_paint margin_text
-arrow_margin s w display_offset l r = refl
-
--- of a row in place of hidden lines, outside all labels
-pub bare_margin : (s : Switches) (w display_offset l : ℕ) → margin_pieces s w display_offset (bare l) ≡ margin_pieces s w 0 (bare 0)
-unfolding margin_pieces margin_paint margin_text
-bare_margin s w display_offset l = refl
-
--- of one inside a label
-pub gap_margin : (s : Switches) (w display_offset l : ℕ) → margin_pieces s w display_offset (gap l) ≡ margin_pieces s w 0 (gap 0)
-unfolding margin_pieces margin_paint margin_text
-gap_margin s w display_offset l = refl
-
--- of the row above a help or a note
-pub blank_margin : (s : Switches) (w display_offset : ℕ) (a : Aside) (k : ℕ) → margin_pieces s w display_offset (blank a k) ≡ margin_pieces s w 0 (bare 0)
-unfolding margin_pieces margin_paint margin_text
-blank_margin s w display_offset a k = refl
-
--- of the rows of a help or a note
-pub piece_margin : (s : Switches) (w display_offset : ℕ) (a : Aside) (k n : ℕ)
-    → margin_pieces s w display_offset (piece a k n) ≡ margin_pieces s w 0 (bare 0)
-unfolding margin_pieces margin_paint margin_text
-piece_margin s w display_offset a k n = refl

@@ -80,10 +80,6 @@ pub column_of-more : (s : Switches) (y : Layout) (k : ℕ) → column_of s y (k 
 unfolding width column_of
 column_of-more s y k = let e : k + 1 ≡ suc k = omega arith in ap (column_of s y) e
 
--- so the next place begins at no lower column
-pub column_of-grows : (s : Switches) (y : Layout) (k : ℕ) → column_of s y k ≤ column_of s y (k + 1)
-column_of-grows s y k = let more = column_of-more s y k in omega (arith, more)
-
 -- and n places later the widths of those between are added
 pub column_of-between : (s : Switches) (y : Layout) (k n : ℕ) → column_of s y (k + n) ≡ column_of s y k + total (width s y) (range_with_len k n)
 column_of-between s y k n =

@@ -5,11 +5,9 @@ use Rattle.std.proofs.lemmas.List.{get_or-drop, get_or_default, drop_all}
 use Rattle.std.proofs.lemmas.List.Folds.{drop_split}
 use Rattle.std.proofs.Math.ListN.{length-drop}
 use Rattle.std.proofs.Math.Seq.{drop-cons, take-suc}
-use Rattle.std.proofs.Common.{map, max}
 use Rattle.std.specs.List.{slice_range, AllByRecursion}
-use Rattle.std.proofs.lemmas.List.{drop_more}
 use Rattle.ariadne_picture.specs.declared.label_info.LabelInfo.{LabelInfo}
-use Rattle.ariadne_picture.specs.Groups.{ahead, greatest, groups_of, is_cut, HasNoCut, AreCut}
+use Rattle.ariadne_picture.specs.Groups.{ahead, groups_of, is_cut, HasNoCut, AreCut}
 
 -- ---- ranges of a list
 
@@ -188,20 +186,3 @@ pub range_first : {X : Type 0} (xs : List X) (i j : ℕ) (d : X) → i < j → i
 range_first xs i j d low high =
     let n : j - i ≡ suc (j - suc i) = omega arith in
     ap (λ k. take k (drop i xs)) n ∙ ap (take (suc (j - suc i))) (drop-cons xs i d high)
-
--- one step to the greatest line, as it is computed
-more_steps : (xs : List LabelInfo) (i : ℕ) (d : LabelInfo) (last g : ℕ) → i < length xs
-    → max last (greatest (map (λ a. a.end_line) (drop i xs))) ≡ g
-    → max (max last (get_or xs i d).end_line) (greatest (map (λ a. a.end_line) (drop (i + 1) xs))) ≡ g
-unfolding greatest
-more_steps xs i d last g h e =
-    let cut : drop i xs ≡ get_or xs i d ∷ drop (i + 1) xs = drop_more xs i d h in
-    let whole : max last (greatest (map (λ a. a.end_line) (get_or xs i d ∷ drop (i + 1) xs))) ≡ g =
-    ap (λ ys. max last (greatest (map (λ (a : LabelInfo). a.end_line) ys))) (sym cut) ∙ e in
-    omega arith
-
--- one step to the greatest line
-pub last_more : (xs : List LabelInfo) (i : ℕ) (d : LabelInfo) (last new g : ℕ) → i < length xs → new ≡ max last (get_or xs i d).end_line
-    → max last (greatest (map (λ a. a.end_line) (drop i xs))) ≡ g → max new (greatest (map (λ a. a.end_line) (drop (i + 1) xs))) ≡ g
-last_more xs i d last new g h e f =
-    ap (λ n. max n (greatest (map (λ (a : LabelInfo). a.end_line) (drop (i + 1) xs)))) e ∙ more_steps xs i d last g h f

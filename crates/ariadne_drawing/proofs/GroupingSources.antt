@@ -126,15 +126,6 @@ module _ {S Id : Type 0} (w : World S Id) (r : ReportFields S) where
       let there = all_at (λ (a : LabelInfo). a.position < length r.labels) infos start none high (drawn_there infos drawn) in
       (d, found_source a d x (label_there a.position labels x same at there) id is o get source found)
 
-  -- a source is there for it
-  pub source_there : (a : LabelInfo) (d : IsDrawn w r a) (x : LabelFields S) → slice_get r.labels a.position ≡ Some x → (id : Id) → id ≡ w.id_of x.span
-      → (o : Option Listing) → o ≡ w.source_of id → o ≡ Some d.source
-  source_there a d x there id is o get =
-      let label : Some d.label ≡ Some x = sym d.there ∙ there in
-      let same : d.label ≡ x = cc in
-      let ids : w.id_of d.label.span ≡ id = ap (λ (y : LabelFields S). w.id_of y.span) same ∙ sym is in
-      get ∙ ap w.source_of (sym ids) ∙ d.is_held
-
   -- how wide the numbers of groups are, by the first and the others
   pub width_more : (g : List LabelInfo) (gs : List (List LabelInfo)) (n : ℕ) → n ≡ group_end_line g + 1 + (group_source w r g).display_offset
       → number_width w r (g ∷ gs) ≡ max (length (decimal n)) (number_width w r gs)

@@ -37,10 +37,6 @@ pub bytes-first : (p : Palette) (x : Piece) (xs : List Piece) → pieces_bytes p
 unfolding pieces_bytes joined cell_bytes
 bytes-first p x xs = refl
 
--- a single piece
-pub bytes-one : (p : Palette) (x : Piece) → pieces_bytes p (x ∷ []) ≡ painted (color_of p x.paint) x.text
-bytes-one p x = bytes-first p x [] ∙ ap (λ t. painted (color_of p x.paint) x.text ++ t) (bytes-none p) ∙ append-nil _
-
 -- pieces one after another
 pub bytes-append : (p : Palette) (xs ys : List Piece) → pieces_bytes p (xs ++ ys) ≡ pieces_bytes p xs ++ pieces_bytes p ys
 unfolding pieces_bytes

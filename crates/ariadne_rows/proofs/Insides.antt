@@ -1,14 +1,13 @@
 -- Which labels hold a character of a line: only those that touch it, so the others need not be looked at.
 use Rattle.std.proofs.Common.{◌≡◌, ℕ, ◌+◌, ◌<◌, ◌≤◌, Bool, true, false, not, ◌&&◌, ◌||◌, cond, List, [], ◌∷◌, length, map, filter, nat_le, nat_lt}
-use Rattle.std.proofs.Common.{refl, sym, ap, ◌∙◌, arith, inl, inr, Some, Contains}
-use Rattle.std.specs.Prelude.{slice_get, option_to_list}
+use Rattle.std.proofs.Common.{refl, sym, ap, ◌∙◌, arith, inl, inr, Some}
+use Rattle.std.specs.Prelude.{slice_get}
 use Rattle.std.specs.List.{AllByRecursion, enumerate_from, list_any}
 use Rattle.std.proofs.lemmas.Bool.{cases_Bool, true≢false, false_from_ne_true}
 use Rattle.std.proofs.lemmas.List.Sorted.{list_any-IsPermutation}
-use Rattle.std.proofs.lemmas.Option.{slice_get_within, get_or_from_slice_get}
 use Rattle.ariadne_base.specs.Locations.{line_offset, line_text}
 use Rattle.ariadne_picture.specs.declared.label_info.LabelInfo.{LabelInfo}
-use Rattle.ariadne_picture.specs.Lists.{in_order, joined}
+use Rattle.ariadne_picture.specs.Lists.{in_order}
 use Rattle.ariadne_picture.specs.Ranks.{Sheet, is_on_one_line, multi_line_labels, span_len}
 use Rattle.ariadne_picture.specs.Rows.{is_inside}
 use Rattle.ariadne_picture.specs.Strokes.{holds}
@@ -17,7 +16,6 @@ use Rattle.ariadne_picture.proofs.Lists.ListFacts.{all-at, all-every, all-filter
 use Rattle.ariadne_picture.proofs.Lists.StableOrder.{in_order-permutation}
 use Rattle.ariadne_picture.proofs.Rows.RowsThere.{enumerated-at}
 use Rattle.ariadne_rows.specs.Sheets.{HoldersTouch, holds_at, touches, touching}
-use Rattle.ariadne_rows.proofs.Rising.{filter-both}
 
 -- ---- tests of some element
 
@@ -58,18 +56,6 @@ module _ (s : Sheet) (l : ℕ) (h : HoldersTouch s l) (o : ℕ) (low : line_offs
       all-in_order P (λ a b. nat_lt (span_len b) (span_len a)) (filter (λ a. not (is_on_one_line a)) s.labels)
       (all-filter P (λ a. not (is_on_one_line a)) s.labels (h o low high))
 
-  -- so of those that touch it as many hold the character as of all
-  pub holders : filter (λ a. holds a o) (filter (touches l) (multi_line_labels s)) ≡ filter (λ a. holds a o) (multi_line_labels s)
-  holders = filter-both (λ a. holds a o) (touches l) (multi_line_labels s) ∙ kept (multi_line_labels s) holders-touch
-    where
-      kept : (xs : List LabelInfo) → AllByRecursion (λ a. holds a o ≡ true → touches l a ≡ true) xs
-          → filter (λ a. touches l a && holds a o) xs ≡ filter (λ a. holds a o) xs
-      kept [] a = refl
-      kept (x ∷ xs) a = elim (cases_Bool (holds x o)) [
-        | inl t ↦ rw (a.0 t, t) (ap (λ ys. x ∷ ys) (kept xs a.1))
-        | inr f ↦ elim (cases_Bool (touches l x)) [ inl t ↦ rw (t, f) (kept xs a.1) | inr g ↦ rw (g, f) (kept xs a.1) ]
-      ]
-
   -- one that does not touch it does not hold it
   untouched : (i : ℕ) (a : LabelInfo) → slice_get (multi_line_labels s) i ≡ Some a → touches l a ≡ false → holds a o ≡ false
   untouched i a e f = elim (cases_Bool (holds a o)) [
@@ -93,35 +79,6 @@ pub left-out : (s : Sheet) (l : ℕ) → HoldersTouch s l → (i : ℕ) (a : Lab
 left-out s l h i a e out k less =
     untouched s l h (line_offset length s.lines l + k) (omega arith) (omega arith) i a e
     (false_from_ne_true (touches l a) (λ t. out (touching-has s l i a e t)))
-
--- the same by std's word
-pub left-out-contained : (s : Sheet) (l : ℕ) → HoldersTouch s l → (i : ℕ) (a : LabelInfo) → slice_get (multi_line_labels s) i ≡ Some a
-    → (Contains (touching s l) i → ⊥) → (k : ℕ) → k < length (line_text s.lines l) → holds a (line_offset length s.lines l + k) ≡ false
-left-out-contained s l h i a e out k less =
-    left-out s l h i a e
-    (λ has. out (has.place, slice_get_within (touching s l) has.place i has.there, get_or_from_slice_get (touching s l) has.place i i has.there)) k less
-
--- numbers of a list whose elements pass a test give these elements
-from-numbered : {X : Type 0} (whole : List X) (t : X → Bool) (n : ℕ) (xs : List X)
-    → AllByRecursion (λ e. slice_get whole e.0 ≡ Some e.1) (enumerate_from n xs)
-    → joined (λ i. option_to_list (slice_get whole i)) (map (λ e. e.0) (filter (λ e. t e.1) (enumerate_from n xs))) ≡ filter t xs
-unfolding joined
-from-numbered whole t n [] a = refl
-from-numbered whole t n (x ∷ xs) a =
-    elim (t x) as (λ v. joined (λ i. option_to_list (slice_get whole i))
-    (map (λ (e : ℕ × _). e.0) (cond v ((n, x) ∷ filter (λ e. t e.1) (enumerate_from (n + 1) xs)) (filter (λ e. t e.1) (enumerate_from (n + 1) xs))))
-    ≡ cond v (x ∷ filter t xs) (filter t xs)) [
-      | true ↦ rw a.0 (ap (λ ys. x ∷ ys) (from-numbered whole t (n + 1) xs a.1))
-      | false ↦ from-numbered whole t (n + 1) xs a.1
-    ]
-
--- the labels of those numbers are the multi-line labels that touch the line
-pub touching-labels : (s : Sheet) (l : ℕ)
-    → joined (λ i. option_to_list (slice_get (multi_line_labels s) i)) (touching s l) ≡ filter (touches l) (multi_line_labels s)
-unfolding touching
-touching-labels s l =
-    let labels : List LabelInfo = multi_line_labels s in
-    from-numbered labels (touches l) 0 labels (all-numbered (λ (e : ℕ × LabelInfo). slice_get labels e.0 ≡ Some e.1) labels (λ k x e. e))
 
 -- ---- whether the start of a line lies inside a label
 

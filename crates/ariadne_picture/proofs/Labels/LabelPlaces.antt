@@ -3,11 +3,10 @@ use Rattle.std.proofs.Common.{◌≡◌, ℕ, ◌+◌, ◌-◌, ◌<◌, ◌≤�
 use Rattle.std.proofs.lemmas.Bool.{cases_lt}
 use Rattle.ariadne_base.specs.Locations.{line_at, column_at, line_offset, line_text}
 use Rattle.ariadne_base.specs.Ranges.{last_offset}
-use Rattle.ariadne_base.proofs.LocationLemmas.{offset_up, offset_more, offset_all, IsLineAt, line_at_is, line_at_up}
+use Rattle.ariadne_base.proofs.LocationLemmas.{offset_up, offset_more, offset_all, IsLineAt, line_at_is}
 use Rattle.ariadne_picture.specs.declared.switches.LabelAttach.{LabelAttach}
 use Rattle.ariadne_picture.specs.declared.switches.LabelAttach.TheVariants.{Start, Middle, End}
 use Rattle.ariadne_picture.specs.declared.label_info.LabelInfo.{LabelInfo}
-use Rattle.ariadne_picture.specs.Bars.{EndsNoEarlier}
 use Rattle.ariadne_picture.specs.Report.{LabelFields}
 use Rattle.ariadne_picture.specs.Accept.{attach_offset, info_of}
 
@@ -123,13 +122,6 @@ module _ (ls : List (List ℕ)) (a : LabelInfo) (h : IsPlaced ls a) where
   pub end-place : a.end_place ≤ length (line_text ls a.end_line)
   end-place = let e = h.end_place in let k = last-in-line in omega arith
 
-  -- where it lies within one line so are its attach place and all places of its span
-  pub attach-place : a.start_line ≡ a.end_line → a.attach ≤ length (line_text ls a.start_line)
-  attach-place one =
-      let to = h.attach_to in
-      let k = subst (λ n. last_offset a.start a.end ≤ line_offset length ls n + length (line_text ls n)) (sym one) last-in-line in
-      omega arith
-
   -- its attach place is none behind its end
   pub attach-before-end : a.attach ≤ a.end - line_offset length ls a.start_line
   attach-before-end = let to = h.attach_to in let forward = h.forward in omega arith
@@ -137,9 +129,3 @@ module _ (ls : List (List ℕ)) (a : LabelInfo) (h : IsPlaced ls a) where
   -- all its text on its last line lies in that line
   pub last-text : a.end - line_offset length ls a.end_line ≤ length (line_text ls a.end_line)
   last-text = let k = end-in-line in omega arith
-
--- a label that lies so ends on the line where it starts or on a later one
-pub placed-rises : (ls : List (List ℕ)) (a : LabelInfo) → IsPlaced ls a → EndsNoEarlier a
-placed-rises ls a h =
-    let up = line_at_up length ls a.start (last_offset a.start a.end) h.some (omega arith) in let starts = h.starts in let ends = h.ends in
-    omega arith

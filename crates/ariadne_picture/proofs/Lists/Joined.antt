@@ -55,29 +55,6 @@ joined-upto_more f n =
     ap (joined f) (range_more 0 n) ∙ joined-append f (upto n) ((0 + n) ∷ [])
     ∙ ap (λ t. joined f (upto n) ++ t) (joined-one f (0 + n) ∙ ap f (zero-add n))
 
--- a loop's start: no part has been written
-pub joined-upto_none : {X : Type 0} (f : ℕ → List X) (old : List X) → old ≡ old ++ joined f (upto 0)
-unfolding joined
-joined-upto_none f old = sym (append-nil old)
-
--- a loop's step: part n is written behind those below n
-pub joined-upto_step : {X : Type 0} (f : ℕ → List X) (old so_far part : List X) (n : ℕ) → so_far ≡ old ++ joined f (upto n) → part ≡ f n → so_far
-    ++ part ≡ old ++ joined f (upto (n + 1))
-joined-upto_step f old so_far part n e p =
-    (λ i. e i ++ p i) ∙ append_assoc old (joined f (upto n)) (f n) ∙ ap (λ t. old ++ t) (sym (joined-upto_more f n))
-
--- parts by number, from number n on
-joined-range : {X Y : Type 0} (f : ℕ → List Y) (n : ℕ) (xs : List X)
-    → joined (λ (e : ℕ × X). f e.0) (enumerate_from n xs) ≡ joined f (range_with_len n (length xs))
-unfolding joined
-joined-range f n [] = refl
-joined-range f n (x ∷ xs) = ap (λ t. f n ++ t) (joined-range f (n + 1) xs)
-
--- parts that only the numbers of the elements tell
-pub joined-enumerated : {X Y : Type 0} (f : ℕ → List Y) (xs : List X)
-    → joined (λ (e : ℕ × X). f e.0) (enumerate_from 0 xs) ≡ joined f (upto (length xs))
-joined-enumerated f xs = joined-range f 0 xs
-
 -- two functions that agree at the elements that P holds of
 pub joined-enumerated_same : {X Y : Type 0} (P : X → Type 0) (f g : ℕ × X → List Y) → ((k : ℕ) (x : X) → P x → f (k, x) ≡ g (k, x))
     → (n : ℕ) (xs : List X) → AllByRecursion P xs → joined f (enumerate_from n xs) ≡ joined g (enumerate_from n xs)

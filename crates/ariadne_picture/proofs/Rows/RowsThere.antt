@@ -2,7 +2,7 @@
 use Rattle.std.proofs.Common.{◌≡◌, ℕ, zero, suc, ◌+◌, ◌-◌, ◌<◌, ◌≤◌, Bool, true, false, not, List, [], ◌∷◌, ◌++◌, Some, length, map, filter}
 use Rattle.std.proofs.Common.{slice_get, refl, sym, ap, ◌∙◌, subst, arith, ◌==◌, nat_lt, inl, inr, is_some, Contains, if◌then◌else◌}
 use Rattle.std.specs.List.{AllByRecursion, enumerate_from, range_with_len}
-use Rattle.std.proofs.lemmas.Bool.{cond_both, cond-true, cond-false, ltb-false, cases_Bool, and_left, and_right, ne_eqb, not_from_true}
+use Rattle.std.proofs.lemmas.Bool.{cond_both, ltb-false, and_left, and_right, ne_eqb, not_from_true}
 use Rattle.std.proofs.lemmas.Option.{slice_get_within}
 use Rattle.std.proofs.lemmas.List.Elements.{Contains-append_left, Contains-append_right, Contains-push}
 use Rattle.ariadne_picture.specs.declared.label_info.LabelInfo.{LabelInfo}
@@ -157,11 +157,6 @@ arrow-there s l n x e h =
     (contains-later (source l) (joined (label_rows s.switches.compact l) (enumerate_from 0 (line_labels s l))) (arrow l n)
     (contains-joined (label_rows s.switches.compact l) (enumerate_from 0 (line_labels s l)) n (n, x) (arrow l n) there
     (arrow-of-label s.switches.compact l n x h)))
-
--- a label with a message has its alternate row too, where there are any
-pub alternate-of-label : (l n : ℕ) (x : LineLabel) → x.info.has_message ≡ true → Contains (label_rows false l (n, x)) (alternate l n)
-unfolding label_rows
-alternate-of-label l n x h = rw h (contains-first (alternate l n) (arrow l n ∷ []))
 
 -- ---- rows of the group
 
