@@ -157,7 +157,7 @@ fn reading_fault(error: &io::Error, has_failed: bool) -> Fault
     if has_failed {
         Fault::of_error(error, Fault::Unread)
     } else {
-        // (std gives up after 2^64 reads, whose bytes no memory holds)
+        // (or std gave up after 2^64 reads)
         Fault::Memory(AllocError)
     }
 }
