@@ -19,7 +19,11 @@ come first, in any order, and the last --file counts.
   --file PATH  the report is drawn over this file, and standard input is not read
   --           the word behind it is MESSAGE, whatever it begins with
   --help       writes this text, where it is the only word
-  --version    writes name, version and the kit that proved it, where it is the only word
+  --version    writes the program's version and that of what it ports, where it is the only word
+
+One dash begins no option: -h is a message, and the program then waits for standard input.
+Colours are on in a pipe and a file too, unless --plain or NO_COLOR says otherwise.
+Helps and notes can't be given here: they are for calls of the library.
 
 Two labels on one line:
 
@@ -58,10 +62,10 @@ Status:
   4  nothing was run: bin/ariadne-draw could not build the program
 ";
 
-/// What `--version` writes: name and version, and the line of the kit that proved the program.
+/// What `--version` writes: the program's name and version, and the version of what it ports.
 pub const VERSION: &str = "\
 ariadne-draw 0.6.0
-rattle-kit-13f logic dac8208d650f15bf
+port of the Rust crate ariadne 0.6.0
 ";
 
 /// A text that the program has ready.

@@ -1,0 +1,183 @@
+# How programs are built, proved and unproved. It is read by scripts that have set:
+#
+#     root   the clone's folder
+#     name   the name that lines on standard error begin with
+#
+# A build that HUP, INT or TERM interrupts ends with its script, and nothing stays of it. Where nothing
+# can be built the script ends with status 4, and tells why, with the lines of `rt`.
+made=       # a temporary folder, while there is one
+lines=      # the file that gets what `rt` says
+unfinished= # a folder in out/unproved/ that is not whole yet
+running=    # the process of `rt`, while it runs
+
+# tell LINE: writes the line to standard error.
+tell() {
+    echo "$name: $1" >&2
+}
+
+# refuse LINE: tells why nothing is run, and ends.
+refuse() {
+    tell "$1"
+    clear_up
+    exit 4
+}
+
+# clear_up: removes what a build has made on its way.
+clear_up() {
+    [ -z "$made" ] || rm -rf "$made"
+    [ -z "$unfinished" ] || rm -rf "$unfinished"
+}
+
+# end SIGNAL: ends the build, removes what it has made, and ends the script by the signal.
+end() {
+    [ -z "$running" ] || kill "$running"
+    wait
+    clear_up
+    trap - "$1"
+    kill -s "$1" "$$"
+}
+
+# begin: sees that `rt` is there, and makes the folder of a build.
+begin() {
+    command -v rt > /dev/null || refuse "not built yet, and rt, the command of Rattle's kit, is not on the path"
+    for signal in HUP INT TERM; do
+        trap "end $signal" "$signal"
+    done
+    made=$(mktemp -d "${TMPDIR:-/tmp}/$name.XXXXXX") || refuse 'no temporary folder can be made'
+    lines=$made/lines
+}
+
+# ended: a build is over, and nothing is left to be removed.
+ended() {
+    clear_up
+    made=
+    unfinished=
+    trap - HUP INT TERM
+}
+
+# run_rt FOLDER WORD..: runs `rt` with the words in the folder. What it says goes to $lines. (It
+# runs in the background, since a trap waits for what runs in front.)
+run_rt() {
+    (cd "$1" && shift && exec rt "$@") < /dev/null >> "$lines" 2>&1 &
+    running=$!
+    wait "$running"
+    set -- $?
+    running=
+    return "$1"
+}
+
+# below CRATE: the crates of this repository that it stands on, lowest first, and itself at last.
+below() {
+    awk -v last="$1" '
+        function visit(crate, used, count, at) {
+            if (!(crate in uses) || crate in seen) return
+            seen[crate]
+            count = split(uses[crate], used, " ")
+            for (at = 1; at <= count; at++) visit(used[at])
+            print crate
+        }
+        { sub(/#.*/, ""); colon = index($0, ":") }
+        colon { split($0, left, /[ :]/); uses[left[1]] = substr($0, colon + 1) }
+        END { visit(last) }' "$root/crates.txt"
+}
+
+# checksum CLONE CRATE..: a checksum of what an unproved build of the last crate is made of.
+checksum() (
+    cd "$1" && shift || exit
+    {
+        for crate; do
+            grep "^$crate[ :]" crates.txt
+            find "crates/$crate/src" -type f | LC_ALL=C sort | tr '\n' '\0' | xargs -0 sha256sum
+        done
+        cat "$root/tools/keeping"
+    } | sha256sum | cut -d ' ' -f 1
+)
+
+# copy CLONE CRATE..: makes a clone of what unproved builds of these crates are made of.
+copy() {
+    clone=$1
+    shift
+    for crate; do
+        mkdir -p "$clone/crates/$crate" &&
+            cp -R "$root/crates/$crate/src" "$clone/crates/$crate" &&
+            grep "^$crate[ :]" "$root/crates.txt" >> "$clone/crates.txt" || return
+    done
+    chmod -R u+w "$clone"
+}
+
+# with_keeping MAIN: the text of a program that is that of MAIN, a `main.rt`, but keeps itself where it
+# has no environment.
+with_keeping() {
+    sed 's/^fn main(/fn program(/' "$1" || return
+    if grep -q '^fn main(.*) -> ExitCode' "$1"; then
+        sed 's/PROGRAM/Ok(program(rt))/' "$root/tools/keeping"
+    else
+        sed 's/PROGRAM/program(rt)/' "$root/tools/keeping"
+    fi
+}
+
+# starter FILE: a script that starts the program beside it, as the program was started when it kept
+# itself. The file has the words of that, with a NUL behind each; the last two are the program's own.
+starter() {
+    echo '#!/bin/sh'
+    printf 'ARIADNE_BUILD=unproved exec '
+    tr '\0' '\n' < "$1" | sed '$d' | sed '$d' | sed "s/'/'\\\\''/g; s/.*/'&'/" | tr '\n' ' '
+    echo '"${0%/*}/program" "$@"'
+}
+
+# find_unproved CRATE: sets `kept` to the folder of the program's unproved build from these sources.
+# It may not be there yet.
+find_unproved() {
+    kept=$root/out/unproved/$1-$(checksum "$root" $(below "$1"))
+}
+
+# build_unproved CRATE: builds the program without a proof, and sets `kept` to the folder with it, whose
+# script `start` starts it. Where out/unproved/ can't be written this is below $made, which stays.
+#
+# `rt try` runs what it builds and keeps nothing. So it is given a copy of the sources whose program,
+# where it has no environment, copies itself into a folder.
+build_unproved() {
+    copy "$made/clone" $(below "$1") || refuse 'the sources could not be copied'
+    # (They may have changed on the way.)
+    kept=$root/out/unproved/$1-$(checksum "$made/clone" $(below "$1"))
+    main=$made/clone/crates/$1/src/main.rt
+    with_keeping "$main" > "$made/main" && mv "$made/main" "$main" && mkdir "$made/kept" ||
+        refuse 'the sources could not be copied'
+    if ! run_rt "$made/clone/crates/$1" try -- "$made/kept" || ! [ -s "$made/kept/started" ]; then
+        cat "$lines" >&2
+        refuse 'could not be built: rt says why above'
+    fi
+    starter "$made/kept/started" > "$made/kept/start" && chmod -R a+rx "$made/kept" ||
+        refuse 'the build could not be kept'
+    keep "$1"
+}
+
+# keep CRATE: moves the build to $kept, in place of the crate's older ones. Another run may have done so
+# meanwhile.
+keep() {
+    unfinished=$root/out/unproved/.$1.$$
+    if mkdir -p "$root/out/unproved" && cp -R "$made/kept" "$unfinished"; then
+        [ -x "$kept/start" ] || rm -rf "$root/out/unproved/$1"-*
+        mv -T "$unfinished" "$kept"
+        ended
+    else
+        rm -rf "$unfinished" "$made/clone"
+        kept=$made/kept
+    fi 2> /dev/null
+}
+
+# build_proved CRATE WORD..: has `rt` prove the program and build it, as crates/CRATE/out/CRATE. The words
+# are those of a run that ends with status 0, since `rt` has no command that builds a program and does
+# not run it.
+build_proved() {
+    : > "$made/began"
+    program=$root/crates/$1/out/$1
+    folder=$root/crates/$1
+    shift
+    run_rt "$folder" run -- "$@" || {
+        tail -n 60 "$lines" >&2
+        refuse 'could not be built: rt says why above'
+    }
+    # (An edit while it was built counts as newer.)
+    touch -r "$made/began" "$program"
+}
