@@ -4,13 +4,13 @@
 
 use crate::pictures::{assert_rows, plain};
 use ariadne::{FileCache, FileError, Label, LeftOut, Reason, Report, ReportKind, WriteError};
+use ariadne_fakes::Folder;
 use std::alloc::{AllocError, Global};
 use std::io::Write;
 use std::ops::Range;
 use std::path::PathBuf;
 use std::process::Abort;
-use std::rt::{Env, Files};
-use std::{env, fs};
+use std::rt::Files;
 
 /// The error over the files at two paths.
 fn report<'p>(
@@ -46,18 +46,10 @@ fn is_unread(left: &LeftOut<FileError>) -> bool {
     }
 }
 
-/// The path of a file of this name, after this was written to it.
-fn file_of(rt: &(impl Abort + AllocGlobal + Env + Files), name: &str, text: &str) -> PathBuf {
-    let folder = env::temp_dir(rt).expect(rt, "a folder");
-    let path = folder.join(rt.alloc(), name).expect(rt, "memory");
-    fs::write(rt, path.as_path(), text).expect(rt, "a file");
-    path
-}
-
-/// The file of the first label.
-fn pie(rt: &(impl Abort + AllocGlobal + Env + Files)) -> PathBuf {
-    let text = "let pie = apple + \"crust\";\n";
-    file_of(rt, "ariadne_examples_pie.txt", text)
+/// The file of the first label, in this folder.
+fn pie(rt: &(impl Abort + AllocGlobal + Files), folder: &Folder) -> PathBuf {
+    let text = b"let pie = apple + \"crust\";\n";
+    folder.file_of(rt, "pie.txt", text).expect(rt, "a file")
 }
 
 /// The picture over two files, and the labels that are left out.
@@ -73,8 +65,11 @@ fn drawn(
 
 #[test]
 fn labels_in_two_files(rt: HostRuntime) {
-    let pie = pie(&rt);
-    let fruit = file_of(&rt, "ariadne_examples_fruit.txt", "let apple = 3;\n");
+    let folder = Folder::new(&rt).expect(&rt, "a folder");
+    let pie = pie(&rt, &folder);
+    let fruit = folder
+        .file_of(&rt, "fruit.txt", b"let apple = 3;\n")
+        .expect(&rt, "a file");
     let (picture, left_out) = drawn(&rt, pie.as_str(), fruit.as_str());
     assert!(rt; left_out.is_empty());
     let first = format!(in rt.alloc(); "   ,-[ {}:1:19 ]", pie.as_str()).expect(&rt, "memory");
@@ -94,12 +89,14 @@ fn labels_in_two_files(rt: HostRuntime) {
         "   |       `---- declared as a number here",
         "---'",
     ];
-    assert_rows(&rt, picture.as_str(), &rows)
+    assert_rows(&rt, picture.as_str(), &rows);
+    folder.remove(&rt).expect(&rt, "no folder")
 }
 
 #[test]
 fn a_file_that_is_not_there_takes_away_its_labels_alone(rt: HostRuntime) {
-    let pie = pie(&rt);
+    let folder = Folder::new(&rt).expect(&rt, "a folder");
+    let pie = pie(&rt, &folder);
     let (picture, left_out) = drawn(&rt, pie.as_str(), "no such file");
     assert_eq!(rt; left_out.len(), 1);
     for left in &left_out {
@@ -107,4 +104,5 @@ fn a_file_that_is_not_there_takes_away_its_labels_alone(rt: HostRuntime) {
         assert!(rt; is_unread(left));
     }
     assert!(rt; picture.ends_with("this is a text\n---'\n"));
+    folder.remove(&rt).expect(&rt, "no folder")
 }

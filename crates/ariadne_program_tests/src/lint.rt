@@ -1,31 +1,16 @@
 //! `lint` over files of the system, into a writer that fails.
 
-use ariadne_brackets::{Status, lint};
-use ariadne_fakes::{Taker, texts};
+use ariadne_brackets::{Offence, Status, first_offence, lint};
+use ariadne_fakes::{Folder, Taker, texts};
 use std::alloc::{AllocError, Global};
 use std::io::ErrorKind;
-use std::path::PathBuf;
 use std::process::Abort;
-use std::rt::{Env, Files};
-use std::{env, fs};
+use std::rt::Files;
 
 /// What stands in the two files of the picture.
 pub const FIRST: &[u8] = b"(]";
 
 pub const SECOND: &[u8] = b"f(x\n]\n";
-
-/// The path of a file of this name in the folder for files that don't last, after this was written to
-/// it.
-pub fn file_of(
-    rt: &(impl Env + Files + AllocGlobal + Abort),
-    name: &str,
-    content: &[u8],
-) -> PathBuf {
-    let folder = env::temp_dir(rt).expect(rt, "a folder");
-    let path = folder.join(rt.alloc(), name).expect(rt, "memory");
-    fs::write(rt, path.as_path(), content).expect(rt, "a file");
-    path
-}
 
 /// The picture of both files.
 pub fn both(alloc: Global, first: &str, second: &str) -> Result<String, AllocError> {
@@ -63,8 +48,9 @@ fn assert_cut(
 
 #[test]
 fn a_writer_that_fails_is_told_with_what_it_took(rt: HostRuntime) {
-    let first = file_of(&rt, "ariadne_brackets_c.txt", FIRST);
-    let second = file_of(&rt, "ariadne_brackets_d.txt", SECOND);
+    let folder = Folder::new(&rt).expect(&rt, "a folder");
+    let first = folder.file_of(&rt, "a", FIRST).expect(&rt, "a file");
+    let second = folder.file_of(&rt, "b", SECOND).expect(&rt, "a file");
     let whole = both(rt.alloc(), first.as_str(), second.as_str()).expect(&rt, "memory");
     let words = [first.as_str(), second.as_str(), "/"];
     for calls in 0..whole.len() {
@@ -76,5 +62,20 @@ fn a_writer_that_fails_is_told_with_what_it_took(rt: HostRuntime) {
             Some(ErrorKind::BrokenPipe),
         );
         assert_cut(&rt, &words, whole.as_str(), calls, None);
+    }
+    folder.remove(&rt).expect(&rt, "no folder")
+}
+
+#[test]
+fn the_first_offence_of_a_text(rt: HostRuntime) {
+    let cases = [
+        ("a(b)[]\n", None),
+        ("\u{e9})", Some(Offence::Unopened(1))),
+        ("([)]", Some(Offence::Mismatched(1, 2))),
+        ("{[()]}{", Some(Offence::Unclosed(6))),
+    ];
+    for (text, want) in cases {
+        let found = first_offence(rt.alloc(), text).expect(&rt, "memory");
+        assert_eq!(rt; found, want, "of {text:?}");
     }
 }

@@ -2,9 +2,9 @@
 
 ghost use Rattle.std.specs.Prelude.{◌<◌};
 
-use crate::lint::{FIRST, SECOND, both, file_of};
+use crate::lint::{FIRST, SECOND, both};
 use ariadne_brackets::{Offence, Status, first_offence, lint};
-use ariadne_fakes::{Taker, refuse, texts, was_refused};
+use ariadne_fakes::{Folder, Taker, refuse, texts, was_refused};
 use std::process::Abort;
 use std::rt::Files;
 
@@ -59,13 +59,14 @@ fn is_drawn(
 #[test]
 fn a_refused_request_is_told_as_no_memory(rt: HostRuntime) {
     let alloc = rt.alloc();
-    let first = file_of(&rt, "ariadne_brackets_e.txt", FIRST);
-    let second = file_of(&rt, "ariadne_brackets_f.txt", SECOND);
+    let folder = Folder::new(&rt).expect(&rt, "a folder");
+    let first = folder.file_of(&rt, "a", FIRST).expect(&rt, "a file");
+    let second = folder.file_of(&rt, "b", SECOND).expect(&rt, "a file");
     let picture = both(alloc, first.as_str(), second.as_str()).expect(&rt, "memory");
     let words = texts(alloc, &[first.as_str(), second.as_str()]).expect(&rt, "memory");
     for nth in 1..1000 {
         if is_drawn(&rt, words.as_slice(), nth, picture.as_str()) {
-            return;
+            return folder.remove(&rt).expect(&rt, "no folder");
         }
     }
     panic!(rt; "a request was refused each time")

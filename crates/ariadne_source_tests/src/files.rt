@@ -3,10 +3,11 @@
 use crate::caches::assert_over;
 use ariadne::{FileCache, Label, Report};
 use ariadne_asserts::asserts::{Why, plain_error_at};
+use ariadne_fakes::Folder;
+use std::fs;
 use std::ops::Range;
 use std::process::Abort;
 use std::rt::Files;
-use std::{env, fs};
 
 /// The report of a label on the second character of the file at a path.
 fn report_of_file<'p>(
@@ -42,26 +43,23 @@ fn assert_file<R: Files + Drop>(
 
 #[test]
 fn a_file_is_drawn_as_it_was_first_read(rt: HostRuntime) {
-    let folder = env::temp_dir(&rt).expect(&rt, "a folder");
+    let folder = Folder::new(&rt).expect(&rt, "a folder");
     let path = folder
-        .join(rt.alloc(), "ariadne_tests\nfeed.txt")
-        .expect(&rt, "memory");
+        .file_of(&rt, "line\nfeed.txt", b"ab")
+        .expect(&rt, "a file");
     let mut cache = FileCache::new(&rt, rt.alloc());
-    fs::write(&rt, path.as_path(), "ab").expect(&rt, "a file");
     assert_file(&rt, &mut cache, path.as_str(), " 1 | ab");
     fs::write(&rt, path.as_path(), "cd").expect(&rt, "a file");
     assert_file(&rt, &mut cache, path.as_str(), " 1 | ab");
     let mut later = FileCache::new(&rt, rt.alloc());
-    assert_file(&rt, &mut later, path.as_str(), " 1 | cd")
+    assert_file(&rt, &mut later, path.as_str(), " 1 | cd");
+    folder.remove(&rt).expect(&rt, "no folder")
 }
 
 #[test]
 fn a_file_that_is_not_there_is_asked_for_again(rt: HostRuntime) {
-    let folder = env::temp_dir(&rt).expect(&rt, "a folder");
-    let path = folder
-        .join(rt.alloc(), "ariadne_tests_later.txt")
-        .expect(&rt, "memory");
-    let _ = fs::remove_file(&rt, path.as_path());
+    let folder = Folder::new(&rt).expect(&rt, "a folder");
+    let path = folder.path_of(&rt, "later.txt").expect(&rt, "memory");
     let report = report_of_file(&rt, path.as_str());
     let mut cache = FileCache::new(&rt, rt.alloc());
     assert_over(
@@ -72,5 +70,6 @@ fn a_file_that_is_not_there_is_asked_for_again(rt: HostRuntime) {
         &["Error:"],
     );
     fs::write(&rt, path.as_path(), "ab").expect(&rt, "a file");
-    assert_file(&rt, &mut cache, path.as_str(), " 1 | ab")
+    assert_file(&rt, &mut cache, path.as_str(), " 1 | ab");
+    folder.remove(&rt).expect(&rt, "no folder")
 }

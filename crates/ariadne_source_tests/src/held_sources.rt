@@ -2,11 +2,11 @@
 //! memory is refused.
 
 use ariadne::{Cache, FetchError, FileCache, FnCache, Source, sources};
+use ariadne_fakes::Folder;
 use std::collections::HashMap;
-use std::path::PathBuf;
+use std::fs;
 use std::process::Abort;
-use std::rt::{Env, Files};
-use std::{env, fs};
+use std::rt::Files;
 
 /// Whether a fetch answers a source of this text.
 fn fetches<Id: Eq, C: Cache<Id>>(cache: &mut C, id: &Id, text: &str) -> bool
@@ -87,18 +87,12 @@ fn sources_that_are_given_replace_those_that_are_held(rt: HostRuntime) {
     assert!(rt; fetches(&mut cache, &"b", "got"));
 }
 
-/// The path of a file of this name in the folder for files that don't last, after this was written to
-/// it.
-fn file_of(rt: &(impl Abort + AllocGlobal + Env + Files), name: &str, content: &[u8]) -> PathBuf {
-    let folder = env::temp_dir(rt).expect(rt, "a folder");
-    let path = folder.join(rt.alloc(), name).expect(rt, "memory");
-    fs::write(rt, path.as_path(), content).expect(rt, "a file");
-    path
-}
-
 #[test]
 fn a_file_is_read_once_under_either_kind_of_path(rt: HostRuntime) {
-    let file = file_of(&rt, "ariadne_tests_file.txt", b"\xef\xbb\xbfa\r\n");
+    let folder = Folder::new(&rt).expect(&rt, "a folder");
+    let file = folder
+        .file_of(&rt, "file.txt", b"\xef\xbb\xbfa\r\n")
+        .expect(&rt, "a file");
     let path = file.as_str();
     let owned = path.to_string(rt.alloc()).expect(&rt, "memory");
     let mut cache = FileCache::new(&rt, rt.alloc());
@@ -109,31 +103,37 @@ fn a_file_is_read_once_under_either_kind_of_path(rt: HostRuntime) {
     fs::write(&rt, file.as_path(), "cd").expect(&rt, "a file");
     assert!(rt; fetches(&mut cache, &owned, "\u{feff}a\r\n"));
     assert_eq!(rt; cache.display(&owned), Some(path));
+    folder.remove(&rt).expect(&rt, "no folder")
 }
 
 #[test]
 fn a_file_is_read_under_a_string_first(rt: HostRuntime) {
-    let file = file_of(&rt, "ariadne_tests_string.txt", b"cd");
+    let folder = Folder::new(&rt).expect(&rt, "a folder");
+    let file = folder.file_of(&rt, "file.txt", b"cd").expect(&rt, "a file");
     let owned = file.as_str().to_string(rt.alloc()).expect(&rt, "memory");
     let mut cache = FileCache::new(&rt, rt.alloc());
     assert!(rt; fetches(&mut cache, &owned, "cd"));
     assert!(rt; fetches(&mut cache, &file.as_str(), "cd"));
+    folder.remove(&rt).expect(&rt, "no folder")
 }
 
 #[test]
 fn what_can_not_be_read_is_an_error(rt: HostRuntime) {
-    let folder = env::temp_dir(&rt).expect(&rt, "a folder");
     let mut cache = FileCache::new(&rt, rt.alloc());
-    assert_no_text(&rt, &mut cache, folder.as_str(), "file can't be read");
+    assert_no_text(&rt, &mut cache, ".", "file can't be read");
     assert_no_text(&rt, &mut cache, "no such file", "file can't be read");
     assert_no_text(&rt, &mut cache, "a\0b", "file can't be read")
 }
 
 #[test]
 fn bytes_of_no_text_are_an_error_and_read_again(rt: HostRuntime) {
-    let file = file_of(&rt, "ariadne_tests_bytes.txt", b"a\xff");
+    let folder = Folder::new(&rt).expect(&rt, "a folder");
+    let file = folder
+        .file_of(&rt, "file.txt", b"a\xff")
+        .expect(&rt, "a file");
     let mut cache = FileCache::new(&rt, rt.alloc());
     assert_no_text(&rt, &mut cache, file.as_str(), "file isn't UTF-8");
     fs::write(&rt, file.as_path(), "ab").expect(&rt, "a file");
     assert!(rt; fetches(&mut cache, &file.as_str(), "ab"));
+    folder.remove(&rt).expect(&rt, "no folder")
 }

@@ -59,6 +59,38 @@ fn added_labels_stand_behind_those_that_are_there(rt: HostRuntime) {
     assert_two(&rt, &report.finish())
 }
 
+/// The picture of a report with three helps and two notes, which are numbered since there are
+/// several.
+const ASIDES: [&str; 17] = [
+    "Error: m",
+    "   ,-[ <unknown>:1:1 ]",
+    "   |",
+    " 1 | ab",
+    "   | |",
+    "   | `-- p",
+    "   |",
+    "   | Help 1: a",
+    "   |",
+    "   | Help 2: b",
+    "   |",
+    "   | Help 3: c",
+    "   |",
+    "   | Note 1: d",
+    "   |",
+    "   | Note 2: e",
+    "---'",
+];
+
+#[test]
+fn helps_and_notes_stand_behind_those_that_are_there(rt: HostRuntime) {
+    let mut report = begun(&rt).with_label(first(&rt)).expect(&rt, "memory");
+    report.add_help("a").expect(&rt, "memory");
+    report.with_helps(["b", "c"]).expect(&rt, "memory");
+    report.add_note("d").expect(&rt, "memory");
+    report.with_notes(["e"]).expect(&rt, "memory");
+    assert_picture(&rt, &report.finish(), "ab", &ASIDES).expect(&rt, "the picture")
+}
+
 #[test]
 fn kinds_are_shown_by_their_names(rt: HostRuntime) {
     let cases = [

@@ -4,12 +4,11 @@ ghost use Rattle.std.specs.Prelude.{◌<◌};
 
 use crate::refused::{MOST_REQUESTS, assert_refused};
 use ariadne::{Cache, FetchError, FileCache, FnCache, Source, sources};
-use ariadne_fakes::refuse;
+use ariadne_fakes::{Folder, refuse};
 use std::cell::Cell;
 use std::collections::HashMap;
 use std::fs::Files;
 use std::process::Abort;
-use std::{env, fs};
 
 /// Refuses the nth request of making a source.
 fn try_source(rt: &(impl Abort + AllocGlobal), nth: usize) -> bool
@@ -243,16 +242,11 @@ fn try_unknown(rt: &(impl Abort + AllocGlobal), kind: usize, nth: usize) -> bool
 
 #[test]
 fn a_refused_fetch_leaves_the_cache_as_it_was(rt: HostRuntime) {
-    let alloc = rt.alloc();
-    let folder = env::temp_dir(&rt).expect(&rt, "a folder");
+    let folder = Folder::new(&rt).expect(&rt, "a folder");
     let held = folder
-        .join(alloc, "ariadne_tests_held.txt")
-        .expect(&rt, "memory");
-    let path = folder
-        .join(alloc, "ariadne_tests_got.txt")
-        .expect(&rt, "memory");
-    fs::write(&rt, held.as_path(), "held").expect(&rt, "a file");
-    fs::write(&rt, path.as_path(), "got").expect(&rt, "a file");
+        .file_of(&rt, "held.txt", b"held")
+        .expect(&rt, "a file");
+    let path = folder.file_of(&rt, "got.txt", b"got").expect(&rt, "a file");
     for kind in 0..9 {
         for nth in 1..MOST_REQUESTS {
             let is_refused = match kind {
@@ -265,4 +259,5 @@ fn a_refused_fetch_leaves_the_cache_as_it_was(rt: HostRuntime) {
             }
         }
     }
+    folder.remove(&rt).expect(&rt, "no folder")
 }

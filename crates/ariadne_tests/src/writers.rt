@@ -4,7 +4,7 @@ ghost use Rattle.std.specs.Prelude.{Some};
 
 use ariadne::{LeftOut, Report, Sink, WriteError};
 use ariadne_asserts::asserts::{
-    APPLE_LABELS, APPLES, Why, assert_left_out, joined, labelled, plain_error, source_of,
+    APPLE_LABELS, APPLES, Why, assert_left_out, joined, labelled, plain, plain_error, source_of,
 };
 use ariadne_fakes::Taker;
 use std::alloc::AllocError;
@@ -210,9 +210,11 @@ fn for_standard_output_the_same_is_written(rt: HostRuntime) {
 
 #[test]
 fn a_fault_of_standard_output_is_told(rt: HostRuntime) {
-    let mut source = source_of(rt.alloc(), "apple == orange;").expect(&rt, "memory");
+    let mut source = source_of(rt.alloc(), "ab").expect(&rt, "memory");
+    let builder = plain_error(rt.alloc()).with_config(plain().with_compact(true));
+    let report = labelled(&rt, builder, &[(0, 2, "x")]).expect(&rt, "memory");
     let mut out = Taker::narrow(rt.alloc(), 1, 7, Some(ErrorKind::BrokenPipe));
-    let answer = apples(&rt).write_for_stdout(&mut source, &mut out);
+    let answer = report.write_for_stdout(&mut source, &mut out);
     assert_eq!(rt; told(&rt, answer), Some((7, ErrorKind::BrokenPipe)));
     assert_eq!(rt; out.held.as_slice(), b"Error: ".as_slice());
 }
