@@ -21,6 +21,7 @@ use ariadne::{
     ReportKind, WriteError,
 };
 use std::alloc::{AllocError, Global};
+use std::collections::HashSet;
 use std::io::Write;
 use std::ops::Range;
 use std::rt::Files;
@@ -69,13 +70,6 @@ fn lint_files<R: Files, W: Write, F: Write>(
     let checked = check_files(alloc, &mut cache, words, faults)?;
     write_report(alloc, &checked, &mut cache, out)?;
     Ok(status(&checked))
-}
-
-/// Whether the file at a path is among those that were checked.
-fn is_among(checked: &[Checked<'_>], path: &str) -> bool
-    ensures { result ≡ list_any (λ c. same_path path.entry c.path) checked.now }
-{
-    checked.iter().any(|it| path == it.path)
 }
 
 /// Reads the file at a path and finds its first offence. A line on `faults` tells why a file is
@@ -152,10 +146,11 @@ fn check_files<'a, R: Files, F: Write>(
     ensures { IfOk result (λ checked. AreChecked (map string_bytes words.now) (by_text cache.new)
         checked.items) }
 {
+    let mut seen: HashSet<&'a str> = HashSet::new(alloc);
     let mut checked: Vec<Checked<'a>> = Vec::new(alloc);
     for word in words {
         let path = word.as_str();
-        if !is_among(&checked, path) {
+        if seen.insert(path)? {
             checked.push(check_file(alloc, cache, path, faults)?)?;
         }
     }
