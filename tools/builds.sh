@@ -109,11 +109,13 @@ copy() {
 # has no environment.
 with_keeping() {
     sed 's/^fn main(/fn program(/' "$1" || return
-    if grep -q '^fn main(.*) -> ExitCode' "$1"; then
-        sed 's/PROGRAM/Ok(program(rt))/' "$root/tools/keeping"
-    else
-        sed 's/PROGRAM/program(rt)/' "$root/tools/keeping"
-    fi
+    case $(sed -n 's/^fn main(.*) -> \(.*\) {$/\1/p' "$1") in
+        ExitCode) status='Ok(program(rt))' ;;
+        'io::Result<ExitCode>') status='program(rt)' ;;
+        'io::Result<()>') status='program(rt).map(|()| std::process::ExitCode::SUCCESS)' ;;
+        *) return 1 ;;
+    esac
+    sed "s/PROGRAM/$status/" "$root/tools/keeping"
 }
 
 # starter FILE: a script that starts the program beside it, as the program was started when it kept
