@@ -31,13 +31,13 @@ impl<'a, S: Span> Report<'a, S> {
     ///
     /// The source of each label is fetched, in the order of the labels, and no other is. A label is
     /// left out where its source can't be had, where it begins past its source or ends more than
-    /// one past it, and where one of its ends lies inside a character; the answer lists these
+    /// one past it, and where one of its ends lies inside a character; the result lists these
     /// labels by their positions, from 0, each with its reason. The picture is drawn whole before
     /// its first byte is sent, and sending takes no memory.
     ///
     /// On `Memory` nothing was sent: the cache had no memory for a source, or there was none for
     /// the picture. On `Io` the writer failed, or took nothing of a piece that is not empty: it has
-    /// taken exactly the first `sent` bytes of the picture, which has more. After each answer the
+    /// taken exactly the first `sent` bytes of the picture, which has more. After each result the
     /// cache holds what it held, and beyond that at most sources of labels.
     ///
     /// After `Ok` every message can be found: it has a row of its own, and strokes lead from it to
@@ -64,7 +64,7 @@ impl<'a, S: Span> Report<'a, S> {
     /// Draws the report over the sources of a cache and sends the picture to a sink, as `write` does
     /// to a writer.
     ///
-    /// After `Io` the sink has failed; after every other answer it has failed only if it had before.
+    /// After `Io` the sink has failed; after every other result it has failed only if it had before.
     pub fn write_to<C: Cache<S::SourceId>, K: Sink>(
         &self,
         cache: &mut C,
@@ -87,7 +87,7 @@ impl<'a, S: Span> Report<'a, S> {
 
     /// Draws the report over the sources of a cache and sends the picture to `out`, which is to be
     /// printed to standard output. It is `write` under another name: no terminal is asked, so the
-    /// bytes and the answers are the same.
+    /// bytes and the results are the same.
     pub fn write_for_stdout<C: Cache<S::SourceId>, W: Write>(
         &self,
         cache: &mut C,

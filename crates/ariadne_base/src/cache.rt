@@ -20,10 +20,10 @@ use crate::source::Source;
 use crate::text::SourceText;
 use std::alloc::{AllocError, AllocFailed};
 
-/// Why a fetch has no source to answer.
+/// Why a fetch has no source to return.
 #[derive(Debug, Drop)]
 pub enum FetchError<E> {
-    /// A growth of memory was refused. The same fetch may be answered when there is memory.
+    /// A growth of memory was refused. The same fetch may succeed when there is memory.
     Memory(AllocError),
     /// The cache can't have the source, and this says why.
     Failed(E),
@@ -62,7 +62,7 @@ pub trait Cache<Id: Eq> {
     // The name that an id is shown under, if it has one.
     ghost names: { Self → Id → Option (List ℕ) };
 
-    // The errors that may be answered for an id.
+    // The errors that may be returned for an id.
     ghost fails: { Id → Self.Error → Type 0 };
 
     // What the cache needs before it is asked, as that its function may be called.
@@ -71,7 +71,7 @@ pub trait Cache<Id: Eq> {
     /// Has the source of an id held, or says why it can't be.
     ///
     /// What was held before stays, under every id. After `Ok` the id is held and nothing else is
-    /// new; an id that was held already is answered `Ok`, changes nothing and takes no memory.
+    /// new; an id that was held already gives `Ok`, changes nothing and takes no memory.
     /// After an error the cache holds what it held, and the id was not held.
     fn ensure(&mut self, id: &Id) -> Result<(), FetchError<Self::Error>>
         requires { can_fetch self.old }

@@ -8,7 +8,7 @@ mod range_inclusive;
 /// A piece of a source, from its start to before its end.
 ///
 /// Offsets count from the start of the source, from 0, in characters (or in bytes, for a report
-/// whose index type says so). A span answers the same at every call. Its end may lie before its
+/// whose index type says so). A span returns the same at every call. Its end may lie before its
 /// start, or past the source.
 ///
 /// ```rust

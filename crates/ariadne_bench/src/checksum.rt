@@ -1,4 +1,4 @@
-//! The checksum of an answer: FNV-1a with 64 bits.
+//! The checksum of a result: FNV-1a with 64 bits.
 
 use ariadne::{Source, SourceText};
 

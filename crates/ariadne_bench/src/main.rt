@@ -1,7 +1,7 @@
 //! Measures workloads: `NAME N` runs the workload NAME N times and prints one line,
 //! `NAME N BYTES CHECKSUM NANOSECONDS`.
 //!
-//! BYTES are those of its text, or of its picture, CHECKSUM is that of the last answer, and
+//! BYTES are those of its text, or of its picture, CHECKSUM is that of the last result, and
 //! NANOSECONDS are those of all N rounds, without what is made before them. `--check NAME...` runs
 //! each workload once and leaves the time out, so that its lines are the same in every run.
 #![tactic(auto)]
@@ -26,7 +26,7 @@ use texts::LARGE;
 /// The status of words that name no workload.
 const USAGE: u8 = 2;
 
-/// What a workload answered, and how long its rounds took.
+/// What a workload returned, and how long its rounds took.
 struct Outcome {
     bytes: usize,
     checksum: u64,
@@ -85,7 +85,7 @@ fn measure_sources(
     Ok(outcome_of(&out, nanoseconds))
 }
 
-/// What the writing of this picture answered.
+/// What the writing of this picture returned.
 fn outcome_of(picture: &[u8], nanoseconds: u128) -> Outcome {
     Outcome {
         bytes: picture.len(),
@@ -127,7 +127,7 @@ fn run(
     }
 }
 
-/// Runs what two words order, and answers whether they name a workload and how often.
+/// Runs what two words order, and returns whether they name a workload and how often.
 fn run_words(rt: &(impl Print + AllocGlobal + Clock), words: &[String]) -> io::Result<bool> {
     let Some(order) = Order::from_words(words) else {
         return Ok(false);
@@ -136,7 +136,7 @@ fn run_words(rt: &(impl Print + AllocGlobal + Clock), words: &[String]) -> io::R
     Ok(true)
 }
 
-/// Runs workloads once each, and answers whether each name is that of one.
+/// Runs workloads once each, and returns whether each name is that of one.
 fn check(rt: &(impl Print + AllocGlobal + Clock), names: &[String]) -> io::Result<bool> {
     for name in names {
         let Some(order) = Order::once(name.as_str()) else {

@@ -30,7 +30,7 @@ use std::rt::Files;
 type Piece<'a> = (&'a str, Range<usize>);
 
 /// Checks the brackets of the files that `words` name, writes one report of all offences to `out`,
-/// and answers how the linter ends.
+/// and returns how the linter ends.
 ///
 /// Every word is a path, and a path named again is passed over. The files are read in the order of
 /// the words, and `faults` gets a line for each that can't be read. Where none has an offence

@@ -20,7 +20,7 @@ use ariadne_picture::cell::{Glyph, Ink, Paint};
 use std::alloc::{AllocError, Global};
 use std::marker::Model;
 
-/// The pen of a picture. What it writes is appended to the picture's text; where it answers `Err`
+/// The pen of a picture. What it writes is appended to the picture's text; where it returns `Err`
 /// there was no memory, and the picture is lost.
 #[derive(Drop)]
 pub struct Pen<'a> {

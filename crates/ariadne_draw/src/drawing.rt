@@ -31,7 +31,7 @@ use std::ops::Range;
 use std::rt::Files;
 
 /// Draws the report that `words` ask for over the text of `input`, or over the file in `files` that
-/// they name, and answers how the program ends.
+/// they name, and returns how the program ends.
 ///
 /// The words are those of the command line without the program's name. They are judged first, then
 /// the input is read, if no file is named, then the report is written to `out`, then `faults` gets
@@ -62,7 +62,7 @@ pub fn draw<R: Files, I: Read, W: Write, F: Write>(
     }
 }
 
-/// Writes a page to `out`, tells why it could not be written whole, and answers how the program ends.
+/// Writes a page to `out`, tells why it could not be written whole, and returns how the program ends.
 fn show<W: Write, F: Write>(page: Page, out: &mut W, faults: &mut F) -> Status
     ensures { IsShown (page_text page) (W.contents out.old) (W.contents out.new) result }
 {
@@ -163,7 +163,7 @@ fn reading_fault(error: &io::Error, has_failed: bool) -> Fault
 }
 
 /// Draws the report that is asked for over the source with this id in a cache, tells what could not
-/// be drawn, and answers how the program ends.
+/// be drawn, and returns how the program ends.
 fn draw_over<Id: Eq + Copy, C: Cache<Id>, W: Write, F: Write>(
     alloc: Global,
     asked: &Asked<'_>,
@@ -185,7 +185,7 @@ fn draw_over<Id: Eq + Copy, C: Cache<Id>, W: Write, F: Write>(
     }
 }
 
-/// Tells what the writing of a report could not draw, and answers how the program ends.
+/// Tells what the writing of a report could not draw, and returns how the program ends.
 fn tell_written<E: Drop, F: Write>(
     faults: &mut F,
     written: Result<Vec<LeftOut<E>>, WriteError>,

@@ -97,7 +97,7 @@ impl Fault {
     }
 }
 
-/// Writes a fault's text and a line feed to `faults`, and answers its status.
+/// Writes a fault's text and a line feed to `faults`, and returns its status.
 ///
 /// A writer that fails is passed over.
 pub fn tell_fault<F: Write>(faults: &mut F, fault: &Fault) -> Status

@@ -26,7 +26,7 @@ fn report<'p>(
     Ok(report.finish())
 }
 
-/// Draws the error over the files at two paths to `out`, and answers the labels that are left out.
+/// Draws the error over the files at two paths to `out`, and returns the labels that are left out.
 pub(crate) fn draw<R: Files, W: Write>(
     files: &R,
     alloc: Global,

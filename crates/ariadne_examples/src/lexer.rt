@@ -39,7 +39,7 @@ fn kind_of(c: char) -> Option<Kind> {
 /// A run of characters of one kind, and where it stands.
 type Token = (Kind, Place);
 
-/// Adds the tokens of a text to `tokens`, and answers where an unknown character ends them.
+/// Adds the tokens of a text to `tokens`, and returns where an unknown character ends them.
 fn lex(tokens: &mut Vec<Token>, text: &str) -> Result<Option<Place>, AllocError> {
     let mut kind = Kind::Blank;
     let mut start = 0;

@@ -20,7 +20,7 @@ pub(crate) fn draw<W: Write>(alloc: Global, out: &mut W) -> Result<(), WriteErro
         .with_help("did you mean `apple`?")?
         .finish();
     let mut source = Source::from(alloc, "let pie = aple + 1;")?;
-    // The answer lists the labels that are left out. This one lies in the text.
+    // The result lists the labels that are left out. This one lies in the text.
     report.write(&mut source, out)?;
     Ok(())
 }

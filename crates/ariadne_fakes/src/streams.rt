@@ -9,12 +9,12 @@ use std::alloc::{AllocError, Global};
 use std::io;
 use std::io::{ErrorKind, Read, Write};
 
-/// A reader of bytes. Behind them it answers the fault, or their end where there is none.
+/// A reader of bytes. Behind them it returns the fault, or their end where there is none.
 #[derive(Drop)]
 pub struct Given<'a> {
     /// The bytes that are still to be read.
     pub rest: &'a [u8],
-    /// What each read behind them answers.
+    /// What each read behind them returns.
     pub fault: Option<ErrorKind>,
 }
 
@@ -45,7 +45,7 @@ impl Read for Given<'_> {
     }
 }
 
-/// A writer of few bytes a call, which after some calls answers the fault, or takes nothing where
+/// A writer of few bytes a call, which after some calls returns the fault, or takes nothing where
 /// there is none.
 #[derive(Drop)]
 pub struct Taker {
@@ -53,9 +53,9 @@ pub struct Taker {
     pub held: Vec<u8>,
     /// How many bytes it takes a call, at most.
     pub room: usize,
-    /// How many calls it still answers.
+    /// How many calls it still serves.
     pub calls_left: usize,
-    /// What each later call answers.
+    /// What each later call returns.
     pub fault: Option<ErrorKind>,
 }
 

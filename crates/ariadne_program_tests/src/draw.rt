@@ -6,7 +6,7 @@ use std::io::ErrorKind;
 use std::process::Abort;
 use std::rt::Files;
 
-/// What a run answered, whether a read failed, and what its writers took.
+/// What a run returned, whether a read failed, and what its writers took.
 #[derive(Drop)]
 struct Outcome {
     status: Status,

@@ -27,7 +27,7 @@ fn a_refused_request_of_first_offence_is_its_error(rt: HostRuntime) {
     panic!(rt; "a request was refused each time")
 }
 
-/// Refuses the nth request of linting. Where there is none the picture is this, and the answer true.
+/// Refuses the nth request of linting. Where there is none the picture is this, and it returns true.
 fn is_drawn(
     rt: &(impl Files + AllocGlobal + Abort),
     words: &[String],

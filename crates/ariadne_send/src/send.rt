@@ -18,7 +18,7 @@ pub enum WriteError {
     Io {
         /// How many bytes of the picture were sent before, which are its first ones.
         sent: usize,
-        /// What the writer answered, or a fault of the kind `WriteZero` where it took nothing.
+        /// What the writer returned, or a fault of the kind `WriteZero` where it took nothing.
         fault: io::Error,
     },
 }

@@ -21,7 +21,7 @@ pub trait Sink {
         ensures bytes { WriteAppends (contents self.old) (contents self.new) result bytes.now }
         ensures failed { TellsFault (has_failed self.old) (has_failed self.new) result bytes.now };
 
-    /// Whether a call of `take` has answered a fault, or has taken nothing of a piece that is not
+    /// Whether a call of `take` has returned a fault, or has taken nothing of a piece that is not
     /// empty.
     fn failed(&self) -> bool
         ensures { result ≡ has_failed self.now };

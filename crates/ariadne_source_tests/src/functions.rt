@@ -115,7 +115,7 @@ struct Counted {
 }
 
 impl Counted {
-    /// What the next call answers.
+    /// What the next call returns.
     fn answer(&self) -> Result<&'static str, u8> {
         self.calls.set(self.calls.get().wrapping_add(1));
         if self.calls.get() <= self.faulty.faults {
@@ -206,7 +206,7 @@ struct Hesitant {
 }
 
 impl Hesitant {
-    /// What the next call for an id answers.
+    /// What the next call for an id returns.
     fn answer(&self, id: &str) -> Result<&'static str, u8> {
         let has_asked = if id == "x" {
             &self.has_asked_x

@@ -1,4 +1,4 @@
-//! What sources and caches hold, answer and show, by their own calls. What is not here is tried where
+//! What sources and caches hold, return and show, by their own calls. What is not here is tried where
 //! memory is refused.
 
 use ariadne::{Cache, FetchError, FileCache, FnCache, Source, sources};
@@ -8,7 +8,7 @@ use std::fs;
 use std::process::Abort;
 use std::rt::Files;
 
-/// Whether a fetch answers a source of this text.
+/// Whether a fetch returns a source of this text.
 fn fetches<Id: Eq, C: Cache<Id>>(cache: &mut C, id: &Id, text: &str) -> bool
     requires { C.can_fetch cache.old }
     ensures { C.can_fetch cache.new }

@@ -69,7 +69,7 @@ fn a_cache_of_the_callers_own_may_show_no_name(rt: HostRuntime) {
     assert_over(&rt, &report, &mut cache, &[(2, Why::Unfetched)], &rows)
 }
 
-/// A map of sources that answers want of memory at its second fetch of an id that it does not hold.
+/// A map of sources that returns want of memory at its second fetch of an id that it does not hold.
 #[derive(Drop)]
 struct Stingy<'s> {
     map: SourceMap<&'s str, &'s str>,

@@ -13,7 +13,7 @@ use std::process::Abort;
 /// More than any call here makes.
 pub(crate) const MOST_REQUESTS: usize = 1000;
 
-/// Asserts that a call has failed exactly where its request was refused, and answers whether it
+/// Asserts that a call has failed exactly where its request was refused, and returns whether it
 /// was.
 pub(crate) fn assert_refused(
     rt: &(impl Abort + AllocGlobal),
@@ -437,7 +437,7 @@ fn with_texts(rt: &(impl Abort + AllocGlobal), is_help: bool, nth: usize) -> (Re
     (builder.finish(), is_refused)
 }
 
-/// Refuses the nth request of adding helps or notes, and answers how many were added.
+/// Refuses the nth request of adding helps or notes, and returns how many were added.
 fn try_texts(
     rt: &(impl Abort + AllocGlobal),
     rows: &[&'static [&'static str]; 4],
@@ -505,7 +505,7 @@ fn assert_labels(rt: &(impl Abort + AllocGlobal), report: &Report<'_>, count: us
     assert_rows(rt, "add_labels", report, ("Error:", &middle, &[]))
 }
 
-/// Refuses the nth request of adding labels, and answers how many were added.
+/// Refuses the nth request of adding labels, and returns how many were added.
 fn try_labels(rt: &(impl Abort + AllocGlobal), nth: usize) -> usize
     requires { nth < 100000 }
 {

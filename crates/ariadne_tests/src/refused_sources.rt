@@ -59,7 +59,7 @@ fn try_sources(rt: &(impl Abort + AllocGlobal), nth: usize) -> bool
     is_refused
 }
 
-/// A function that answers every id.
+/// A function that has a source for every id.
 fn got(_id: &&str) -> Result<&'static str, u8> {
     Ok("got")
 }
@@ -112,8 +112,8 @@ fn holds<Id: Eq, C: Cache<Id>>(cache: &C, id: &Id, text: Option<&str>) -> bool {
 }
 
 /// Refuses the nth request of a fetch from a cache that holds `held` under one id, and is to have
-/// this text under the other, or none. A refusal leaves the cache as it was, and the next fetch is
-/// answered.
+/// this text under the other, or none. A refusal leaves the cache as it was, and the next fetch
+/// succeeds.
 fn try_fetch<Id: Eq, C: Cache<Id>>(
     rt: &(impl Abort + AllocGlobal),
     name: &str,

@@ -59,7 +59,7 @@ struct Stop {
     name: &'static str,
     /// How many bytes it takes a call.
     room: usize,
-    /// How many calls it answers before its fault.
+    /// How many calls it serves before its fault.
     calls: usize,
     /// The fault, or none where it takes nothing.
     fault: Option<ErrorKind>,
@@ -67,7 +67,7 @@ struct Stop {
     want: Option<(usize, ErrorKind)>,
     /// How many of the first bytes it holds.
     held: usize,
-    /// How many calls it would still answer.
+    /// How many calls it would still serve.
     calls_left: usize,
 }
 

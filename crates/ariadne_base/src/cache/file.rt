@@ -26,7 +26,7 @@ use std::{fmt, fs, io};
 /// Why a file is no source.
 #[derive(Debug, Drop)]
 pub enum FileError {
-    /// It can't be opened or read, and this is the fault that was answered.
+    /// It can't be opened or read, and this is the fault that was returned.
     Read(io::Error),
     /// It was read, and its bytes aren't text in UTF-8.
     NotUtf8,
@@ -125,7 +125,7 @@ fn read_text<R: Files>(
     }
 }
 
-/// What is answered for a fault of a read. A want of memory is told as such.
+/// What is returned for a fault of a read. A want of memory is told as such.
 fn reading_error(fault: io::Error) -> FetchError<FileError>
     ensures memory { error_kind fault ≡ ErrorKind.OutOfMemory → result ≡ Memory alloc_error }
     ensures read { error_kind fault ≢ ErrorKind.OutOfMemory → result ≡ Failed (Read fault) }

@@ -19,7 +19,7 @@ use std::marker::Model;
 
 /// A cache that asks a function for the text of each source that it lacks.
 ///
-/// A fetch of an id that isn't held calls the function once. Its error is answered as `Failed`, and
+/// A fetch of an id that isn't held calls the function once. Its error is returned as `Failed`, and
 /// the next fetch of that id calls it again; its text becomes the source that is held for good. A
 /// fetch of a held id never calls it.
 #[derive(Drop)]
@@ -120,7 +120,7 @@ impl<
         ensures rests { IsSome (held Id.eq self.old.sources id.now) →
             self.new.function ≡ self.old.function }
 
-        // For another it is called once, and what it answers decides.
+        // For another it is called once, and what it returns decides.
         ensures called { held Id.eq self.old.sources id.now ≡ None →
             (r : Result I E) × CalledAt F.FnMut self.old.function id.now r self.new.function
             × Answers I.text r (held Id.eq self.new.sources id.now) result }

@@ -87,7 +87,7 @@ impl fmt::Display for UnknownSource {
 
 impl Error for UnknownSource {}
 
-/// What a fetch of an id of this name answers where its source is not held.
+/// What a fetch of an id of this name returns where its source is not held.
 pub(crate) fn unknown(alloc: Global, name: &str) -> FetchError<UnknownSource>
     ensures { Refuses (λ n e. e ≡ n) name.now result }
 {
@@ -97,7 +97,7 @@ pub(crate) fn unknown(alloc: Global, name: &str) -> FetchError<UnknownSource>
     }
 }
 
-/// What a fetch of an id answers where one id alone is held.
+/// What a fetch of an id returns where one id alone is held.
 fn ensure_only<Id: SourceName>(
     held: &Id,
     id: &Id,

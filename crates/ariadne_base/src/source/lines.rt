@@ -9,7 +9,7 @@ use std::marker::Model;
 
 /// An iterator over the [`Line`]s of a source, from the first to the last.
 ///
-/// Its length is known at each step, and after the last line it answers `None` for good.
+/// Its length is known at each step, and after the last line it returns `None` for good.
 #[derive(Debug, Drop)]
 pub struct SourceLines<'a> {
     pub(super) rest: &'a [Line],

@@ -9,9 +9,9 @@ use std::marker::Model;
 
 /// A generator of colours, one after another.
 ///
-/// It keeps three numbers, for red, green and blue. Each call moves all three and answers a colour
+/// It keeps three numbers, for red, green and blue. Each call moves all three and returns a colour
 /// of the cube of 6 * 6 * 6 colours in the 256-colour palette. A generator that starts as another
-/// did answers the same colours. No call takes memory.
+/// did returns the same colours. No call takes memory.
 ///
 /// ```rust
 /// let mut colors = ColorGenerator::new();
