@@ -1,11 +1,13 @@
 -- The files that were checked so far, and one more.
 use Rattle.std.proofs.Common.{◌≡◌, refl, sym, ap, ◌∙◌, append_assoc, add-one, get_or}
-use Rattle.std.specs.Prelude.{ℕ, suc, ◌+◌, ◌<◌, ◌||◌, Bool, true, false, List, [], ◌∷◌, ◌++◌, length, drop, map}
+use Rattle.std.specs.Prelude.{ℕ, suc, ◌+◌, ◌<◌, ◌||◌, Bool, true, false, cond, not, List, [], ◌∷◌, ◌++◌, length, drop, map}
 use Rattle.std.specs.Borrow.{Bor}
 use Rattle.std.specs.List.{list_any}
 use Rattle.std.specs.Str.{bytes_eq}
 use Rattle.std.proofs.Math.Seq.{drop-cons}
+use Rattle.std.proofs.lemmas.Cmp.{nat_list_eq_equiv}
 use Rattle.std.proofs.lemmas.List.{map-append}
+use Rattle.std.proofs.lemmas.List.Folds.{list_any-append}
 use Rattle.ariadne_base.specs.Cache.{held, KeepsOtherIds}
 use Rattle.ariadne_base.specs.Listing.{Listing}
 use Rattle.ariadne_brackets.specs.Linted.{named_after, same_path}
@@ -54,6 +56,35 @@ module _ (checked : List Checked) (path : Bor (List ℕ)) (words all : List (Lis
       let last : paths (c ∷ []) ≡ path.now ∷ [] = rw same refl in
       let more : paths (checked ++ c ∷ []) ≡ paths checked ++ path.now ∷ [] = map-append (λ d. d.path.now) checked (c ∷ []) ∙ ap (λ p. paths checked ++ p) last in
       rw more (sym (named_next (paths checked) words path.now (among path checked ∙ unseen)) ∙ is)
+
+-- ---- paths that were seen
+
+-- what is added was absent, and what is not was there
+pub was_absent : (had added : Bool) → added ≡ not had → added ≡ true → had ≡ false
+was_absent false added is so = refl
+was_absent true added is so = cc
+
+pub was_present : (had added : Bool) → added ≡ not had → added ≡ false → had ≡ true
+was_present true added is so = refl
+was_present false added is so = cc
+
+-- where the first is not, the second decides
+cond_or : (b had : Bool) → cond b true had ≡ (had || (b || false))
+cond_or true true = refl
+cond_or true false = refl
+cond_or false true = refl
+cond_or false false = refl
+
+-- a path is among those of one file more where it is that file's, or was among them
+pub seen_next : (path : Bor (List ℕ)) (checked : List Checked) (c : Checked) → c.path ≡ path
+    → (q : Bor (List ℕ)) (had : Bool) → had ≡ list_any (λ d. same_path q d.path) checked
+    → cond (same_path path q) true had ≡ list_any (λ d. same_path q d.path) (checked ++ c ∷ [])
+seen_next path checked c same q had is =
+    let turned : same_path path q ≡ same_path q c.path = nat_list_eq_equiv.symm path.now q.now ∙ ap (same_path q) (sym same) in
+    cond_or (same_path path q) had
+    ∙ ap (λ b. had || (b || false)) turned
+    ∙ ap (λ b. b || (same_path q c.path || false)) is
+    ∙ sym (list_any-append (λ d. same_path q d.path) checked (c ∷ []))
 
 -- ---- outcomes
 
