@@ -30,7 +30,7 @@ clear_up() {
 
 # end SIGNAL: ends the build, removes what it has made, and ends the script by the signal.
 end() {
-    [ -z "$running" ] || kill "$running"
+    [ -z "$running" ] || kill "$running" 2> /dev/null
     wait
     clear_up
     trap - "$1"

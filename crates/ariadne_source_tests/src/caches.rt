@@ -4,8 +4,8 @@ ghost use Rattle.std.specs.Prelude.{◌≤◌};
 
 use ariadne::{Cache, Label, Report, Source, SourceMap, Span, sources};
 use ariadne_asserts::asserts::{
-    Piece, Why, assert_left_out, assert_picture_over, assert_unknown, labelled, labelled_in,
-    plain_error, plain_error_at, written,
+    Piece, Why, assert_left_out, assert_picture_over, assert_trimmed, assert_unknown, labelled,
+    labelled_in, plain_error, plain_error_at, written,
 };
 use std::alloc::{AllocError, Global};
 use std::ops::{Range, RangeInclusive};
@@ -183,6 +183,17 @@ fn an_inclusive_range_holds_its_last_offset(rt: HostRuntime) {
     rows[1] = "   ,-[ <unknown>:1:1 ]";
     let mut source = Source::from(rt.alloc(), "ab").expect(&rt, "memory");
     assert_over(&rt, &report, &mut source, &[], &rows)
+}
+
+#[test]
+fn a_source_that_a_map_lacks_is_named(rt: HostRuntime) {
+    let labels = [("x", 0, 1, "p"), ("zz", 0, 1, "z"), ("x", 1, 2, "q")];
+    let report = report_at(&rt, "x", &labels);
+    let mut map = sources(rt.alloc(), [("x", "ab")]).expect(&rt, "memory");
+    let (picture, left_out) = written(&rt, &report, &mut map).expect(&rt, "a picture");
+    assert_trimmed(&rt, picture.as_str(), &TWO).expect(&rt, "the picture");
+    assert_left_out(&left_out, &[(1, Why::Unfetched)]).expect(&rt, "the labels");
+    assert_unknown(&rt, &left_out, &["Failed to fetch source 'zz'"]).expect(&rt, "the report")
 }
 
 #[test]
