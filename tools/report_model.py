@@ -12,7 +12,7 @@ import unicodedata
 from bisect import bisect_left, bisect_right
 from dataclasses import dataclass
 from functools import cache, cached_property
-from itertools import accumulate, chain, groupby
+from itertools import accumulate, chain
 from typing import NamedTuple, Optional
 
 # ---- sources: lines, and offsets in characters and in bytes
@@ -64,7 +64,9 @@ def sources_of(report):
 
 # ---- columns
 
-# What `unicode_width` says otherwise than the two properties that `columns_of` reads.
+# What the library's widths are that the two properties don't tell which `columns_of` reads. They are not
+# all here, and Python's tables are of an older Unicode: of the 144,755 characters that Unicode 14 names
+# 511 have another width in the library, as vowel signs of India, jamo behind a lead, and hexagrams.
 ODD_COLUMNS = {"\u17d8": 3}
 
 
@@ -109,14 +111,17 @@ class Drawn:
 
     @property
     def has_message(self):
+        """Whether it has rows of its own. One without a message colours its text, and is underlined."""
         return self.label["message"] is not None
 
     @property
     def is_within_line(self):
+        """Whether it starts and ends on one line."""
         return self.start_line == self.end_line
 
     @property
     def length(self):
+        """How many characters it covers."""
         return self.end - self.start
 
 
@@ -279,7 +284,7 @@ class Layout:
 
 SOURCE, GAP, BARE, ALTERNATE, ARROW = "source", "gap", "bare", "alternate", "arrow"
 HEADER, SPACER, BLANK, PIECE, TAIL = "header", "spacer", "blank", "piece", "tail"
-LINES_PART = 2
+HEADER_PART, SPACER_PART, LINES_PART, HELPS_PART, NOTES_PART, TAIL_PART = range(6)
 
 
 class Row(NamedTuple):
@@ -297,14 +302,17 @@ class Row(NamedTuple):
 
 
 def source_row(line):
+    """The row with the text of a line."""
     return Row(LINES_PART, line, 0, SOURCE)
 
 
 def alternate_row(line, rank):
+    """The row with underlines and verticals above the arrow row of a rank."""
     return Row(LINES_PART, line, 2 * rank + 1, ALTERNATE)
 
 
 def arrow_row(line, rank):
+    """The row with the message of the label of a rank."""
     return Row(LINES_PART, line, 2 * rank + 2, ARROW)
 
 
@@ -354,16 +362,18 @@ class Group:
     # Its rows
 
     def rows(self, texts):
-        """The rows of the group. The texts are the helps and notes, if it is the last one."""
+        """The rows of the group. The texts are the helps and the notes, by their part, as lists of
+        lines, if it is the last group."""
         is_compact = self.config["compact"]
-        rows = [Row(0, 0, 0, HEADER)] + ([] if is_compact else [Row(1, 0, 0, SPACER)])
+        rows = [Row(HEADER_PART, 0, 0, HEADER)]
+        rows += [] if is_compact else [Row(SPACER_PART, 0, 0, SPACER)]
         for line in range(self.first_line, self.last_line + 1):
             rows += self.line_rows(line)
-        for part, pieces in enumerate(texts, start=LINES_PART + 1):
+        for part, pieces in texts.items():
             for number, lines in enumerate(pieces):
                 rows += [] if is_compact else [Row(part, number, 0, BLANK)]
                 rows += [Row(part, number, piece + 1, PIECE) for piece in range(len(lines))]
-        return rows + ([] if is_compact else [Row(5, 0, 0, TAIL)])
+        return rows + ([] if is_compact else [Row(TAIL_PART, 0, 0, TAIL)])
 
     def line_rows(self, line):
         """The rows of a line. Of hidden lines in turn the first one has a row, or none has."""
@@ -620,19 +630,25 @@ class Model:
         ]
         numbers = (group.source.number_of(group.last_line) for group in self.groups)
         self.number_width = len(str(max(numbers, default=0)))
+        self.texts = {
+            part: [lines_of(text) for text in report.get(name) or ()]
+            for part, name in ((HELPS_PART, "helps"), (NOTES_PART, "notes"))
+        }
 
     # Its rows, as lists of cells
 
     def rows(self):
         """The rows of the picture, from top to bottom."""
         yield self.header()
-        texts = [
-            [lines_of(text) for text in self.report.get(name) or ()] for name in ("helps", "notes")
-        ]
         for number, group in enumerate(self.groups):
-            gutter = Gutter(group)
-            for row in group.rows(texts if number == len(self.groups) - 1 else ()):
-                yield list(self.cells(number, gutter, row, texts))
+            is_last = number == len(self.groups) - 1
+            for row in group.rows(self.texts if is_last else {}):
+                if row.name == HEADER:
+                    yield self.group_header(group, number == 0)
+                elif row.name in (SPACER, TAIL):
+                    yield self.frame(is_last and row.name == TAIL)
+                else:
+                    yield self.line_row(group, row)
 
     def header(self):
         """The first row: the kind, behind its code of at least two characters, and the message."""
@@ -644,24 +660,24 @@ class Model:
         color = report.get("kind_color") or KIND_COLORS[report["kind"]]
         return [(f"{code}{report['kind']}:", color), (f" {report.get('message') or ''}", None)]
 
-    def cells(self, number, gutter, row, texts):
-        """A row of a group, by its name."""
-        group, strokes = gutter.group, self.strokes
-        if row.name == HEADER:
-            return self.group_header(number, group)
-        if row.name == TAIL and number == len(self.groups) - 1:
-            return [(strokes.horizontal * (self.number_width + 2) + strokes.right_bottom, MARGIN_COLOR)]
-        if row.name in (SPACER, TAIL):
-            return [(" " * (self.number_width + 2), None), (strokes.vertical, MARGIN_COLOR)]
-        cells = self.margin(group, row) if row.name == BARE else [
-            *self.margin(group, row), *gutter.cells(row)
-        ]
-        return chain(cells, self.behind_gutter(group, row, texts))
+    def frame(self, is_last):
+        """The last row of a picture, or one between the parts of it."""
+        strokes, width = self.strokes, self.number_width + 2
+        if is_last:
+            return [(strokes.horizontal * width + strokes.right_bottom, MARGIN_COLOR)]
+        return [(" " * width, None), (strokes.vertical, MARGIN_COLOR)]
 
-    def group_header(self, number, group):
+    def line_row(self, group, row):
+        """A row of a line, a help or a note: its margin, its gutter, and what stands behind."""
+        margin = self.margin(group, row)
+        if row.name == BARE:
+            return margin
+        return chain(margin, Gutter(group).cells(row), self.behind_gutter(group, row))
+
+    def group_header(self, group, is_first):
         """The row that names a group's source, and where in it the report is."""
         strokes = self.strokes
-        corner = strokes.left_top if number == 0 else strokes.left_tee
+        corner = strokes.left_top if is_first else strokes.left_tee
         return [
             (" " * (self.number_width + 2), None),
             *((stroke, MARGIN_COLOR) for stroke in (corner, strokes.horizontal, strokes.left_bracket)),
@@ -697,10 +713,10 @@ class Model:
         color = MARGIN_COLOR if row.name == SOURCE else SKIPPED_COLOR
         return [BLANK_CELL, (text, color)] + ([] if self.config["compact"] else [BLANK_CELL])
 
-    def behind_gutter(self, group, row, texts):
+    def behind_gutter(self, group, row):
         """What a row has to the right of its gutter."""
         if row.name == PIECE:
-            return self.aside(row, texts)
+            return self.aside(row)
         if row.name not in (SOURCE, ALTERNATE, ARROW):
             return []
         layout = group.layouts[row.line]
@@ -712,12 +728,11 @@ class Model:
         message = [BLANK_CELL, (own.label.label["message"], None)] if has_text else []
         return chain(area.cells(row), message)
 
-    def aside(self, row, texts):
+    def aside(self, row):
         """A line of a help or a note: the first one behind its word, the others below it."""
-        part = row.part - LINES_PART - 1
-        word, own = ("Help", "Note")[part], texts[part]
-        prefix = word if len(own) == 1 else f"{word} {row.line + 1}"
-        line = own[row.line][row.step - 1]
+        word, texts = {HELPS_PART: "Help", NOTES_PART: "Note"}[row.part], self.texts[row.part]
+        prefix = word if len(texts) == 1 else f"{word} {row.line + 1}"
+        line = texts[row.line][row.step - 1]
         if row.step == 1:
             return [(prefix, NOTE_COLOR), (f": {line}", None)]
         return [(" " * (len(prefix) + 2) + line, None)]
