@@ -64,9 +64,9 @@ def sources_of(report):
 
 # ---- columns
 
-# What the library's widths are that the two properties don't tell which `columns_of` reads. They are not
-# all here, and Python's tables are of an older Unicode: of the 144,755 characters that Unicode 14 names
-# 511 have another width in the library, as vowel signs of India, jamo behind a lead, and hexagrams.
+# A width of the library that the two properties don't tell which `columns_of` reads. It is not the only
+# one, and Python's tables are of an older Unicode: of the 144,755 characters that Unicode 14 names 511
+# have another width in the library. Among them are Indic vowel signs, Hangul jamo and hexagrams.
 ODD_COLUMNS = {"\u17d8": 3}
 
 
