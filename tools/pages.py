@@ -1,0 +1,97 @@
+#!/usr/bin/env python3
+"""Reads the pages, for all tools: the commands with their pictures and the example of README.md and of
+--help, and the pictures of docs/GALLERY.md. Python tools import it. Others write a page to it, and get
+a part: tools/pages.py input|picture|example|commands < README.md
+
+`input` is what the page's first command hands to its program, `picture` the rows that stand below it,
+`example` the page's code in Rust, and `commands` each command and its picture, with a NUL behind each
+of both. The status is 0, or 2 where the words are not understood, and 1 where a page has no such part.
+"""
+
+import re
+import shlex
+import sys
+from pathlib import Path
+from typing import NamedTuple
+
+ROOT = Path(__file__).resolve().parent.parent
+README = ROOT / "README.md"
+GALLERY = ROOT / "docs/GALLERY.md"
+
+# A command, an empty line, and the picture that it draws, which all stand as far from the left.
+COMMAND = re.compile(r"^( +)(printf '(.*)' \| (\S+) (.*))\n\n((?:\1.*\n)+)", re.M)
+CODE = "```{}\n(.*?\n)```\n"
+PICTURE = re.compile(r"\*\*(.*?)\*\*\n\n```text\n(.*?)\n```\n", re.S)
+
+
+def trimmed(rows):
+    """Rows without the blanks at their ends."""
+    return [row.rstrip(" ") for row in rows]
+
+
+def rows_of(text):
+    """The rows of a text, without the blanks at their ends. One that ends in a line feed has an empty
+    row behind it."""
+    return trimmed(text.split("\n"))
+
+
+class Command(NamedTuple):
+    """A command of a page: its line, what it hands to its program, its words, and its picture."""
+
+    line: str
+    input: bytes
+    words: list
+    rows: list
+
+
+def commands_of(page):
+    """The commands of a page that have a picture below them."""
+    commands = []
+    for indent, line, text, _, words, picture in COMMAND.findall(page):
+        handed = text.encode().decode("unicode_escape").encode("latin-1")
+        rows = [row.removeprefix(indent) for row in picture.removesuffix("\n").split("\n")]
+        commands.append(Command(line, handed, shlex.split(words), trimmed(rows)))
+    return commands
+
+
+def code_of(page, language):
+    """The first code of a page in a language, or None."""
+    found = re.search(CODE.format(language), page, re.M | re.S)
+    return found and found[1]
+
+
+def pictures_of(page):
+    """The pictures of a page: the name above each, and its rows."""
+    return [(name, rows_of(picture)) for name, picture in PICTURE.findall(page)]
+
+
+def part_of(page, name):
+    """A part of a page, as it is written for a shell, or None where it has no such part."""
+    if name == "example":
+        example = code_of(page, "rust")
+        return example and example.encode()
+    commands = commands_of(page)
+    if not commands:
+        return None
+    if name == "input":
+        return commands[0].input
+    if name == "picture":
+        return "".join(row + "\n" for row in commands[0].rows).encode()
+    pairs = ((it.line, "".join(row + "\n" for row in it.rows)) for it in commands)
+    return "".join(f"{line}\0{picture}\0" for line, picture in pairs).encode()
+
+
+def main(words):
+    if len(words) != 1 or words[0] not in ("input", "picture", "example", "commands"):
+        print("usage: tools/pages.py input|picture|example|commands < PAGE", file=sys.stderr)
+        return 2
+    part = part_of(sys.stdin.buffer.read().decode(), words[0])
+    if part is None:
+        print(f"pages: the page has no {words[0]}", file=sys.stderr)
+        return 1
+    sys.stdout.buffer.write(part)
+    return 0
+
+
+if __name__ == "__main__":
+    sys.exit(main(sys.argv[1:]))
