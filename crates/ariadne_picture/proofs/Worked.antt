@@ -12,5 +12,9 @@ mod JudgedLabels
 mod VariedPictures
 mod VariedColorPictures
 pub mod Readings
+mod Changes
 mod WrongPictures
+mod WrongUnicodePictures
+mod WrongPlacings
 mod OddReports
+mod Premises

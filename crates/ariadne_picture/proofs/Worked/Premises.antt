@@ -1,0 +1,110 @@
+-- The premises of the promise. Each is met by a report in colours, so neither is a condition that nothing meets; and each of
+-- the texts that `HaveNoEscapes` names is needed: a report with an escape sequence in that text alone loses it, where all
+-- sequences are taken away.
+use Rattle.std.specs.Prelude.{ℕ, ◌≡◌, Bool, true, false, not, [], ◌∷◌, Some, None, List, refl, nat_eq}
+use Rattle.std.specs.Str.{chars}
+use Rattle.std.specs.Cmp.Lexicographic.{pointwise}
+use Rattle.std.proofs.Common.{arith}
+use Rattle.ariadne_color.specs.declared.color.Color.TheVariants.{Primary}
+use Rattle.ariadne_picture.specs.declared.switches.IndexType.TheVariants.{Byte}
+use Rattle.ariadne_picture.specs.Report.{ReportFields, custom}
+use Rattle.ariadne_picture.specs.Print.{printed, unescaped}
+use Rattle.ariadne_picture.specs.Variants.{HaveNoEscapes, OwnStartIsBoundary, colorless, own_start}
+use Rattle.ariadne_picture.proofs.Worked.Sample.{Span, Entry, world, utf8, named, one, report, label, silent_label, label_in, color_config, drawn}
+use Rattle.ariadne_picture.proofs.Worked.Readings.{infos, cells_of}
+
+-- ---- a report in colours that has all texts
+
+-- a source that is called as its id, and one that no label is in, whose name and text are an escape
+unfoldable sources : List Entry
+sources =
+    named "a" "x"
+    ∷ record { id = utf8 "b"; name = Some (27 ∷ []); listing = record { text = 27 ∷ []; display_offset = 0 } } ∷ []
+
+unfoldable colored : ReportFields Span
+colored = record (report (label_in "a" 0 1 "m" ∷ [])) {
+  code = Some (utf8 "7");
+  message = Some (utf8 "t");
+  notes = utf8 "n" ∷ [];
+  helps = utf8 "h" ∷ [];
+  config = color_config;
+}
+
+no_text_has_an_escape : HaveNoEscapes (world sources) colored
+unfolding drawn sources colored chars
+no_text_has_an_escape = record {
+  kind = refl;
+  code = refl;
+  message = refl;
+  labels = (refl, tt);
+  notes = (refl, tt);
+  helps = (refl, tt);
+  names = (refl, tt);
+  sources = (refl, tt);
+}
+
+-- ---- a report in bytes whose own start is a boundary of its source, behind a character of two bytes
+
+unfoldable in_bytes : ReportFields Span
+in_bytes = record (report (label 2 3 "m" ∷ [])) {
+  span = record { id = utf8 ""; start = 2; end = 3 };
+  config = record color_config { index_type = Byte };
+}
+
+its_own_start_is_a_boundary : OwnStartIsBoundary (world (one "éb")) in_bytes (infos (one "éb") in_bytes)
+unfolding drawn infos in_bytes own_start chars
+its_own_start_is_a_boundary = ((λ same. (1, refl, omega arith)), tt)
+
+-- ---- an escape sequence in one text alone
+
+-- what is left of the bytes isn't the print of the report without colours
+unfoldable is_moved : List Entry → ReportFields Span → Bool
+is_moved entries r = not (pointwise nat_eq (unescaped (printed (cells_of entries r))) (printed (cells_of entries (colorless r))))
+
+-- the sequence that ends all colours
+abbrev sequence : List ℕ
+sequence = 27 ∷ 91 ∷ 109 ∷ []
+
+unfoldable simple : ReportFields Span
+simple = report (label 0 1 "m" ∷ [])
+
+unfoldable moved : Unit {0}
+unfolding drawn infos cells_of is_moved simple
+moved = tt
+
+without_one_nothing_moves : is_moved (one "x") simple ≡ false
+unfolding moved
+without_one_nothing_moves = refl
+
+in_the_kind : is_moved (one "x") (record simple { kind = custom sequence Primary }) ≡ true
+unfolding moved
+in_the_kind = refl
+
+in_the_code : is_moved (one "x") (record simple { code = Some sequence }) ≡ true
+unfolding moved
+in_the_code = refl
+
+in_the_message : is_moved (one "x") (record simple { message = Some sequence }) ≡ true
+unfolding moved
+in_the_message = refl
+
+in_the_message_of_a_label : is_moved (one "x")
+    (report (record (silent_label 0 1) { message = Some sequence } ∷ [])) ≡ true
+unfolding moved
+in_the_message_of_a_label = refl
+
+in_a_note : is_moved (one "x") (record simple { notes = sequence ∷ [] }) ≡ true
+unfolding moved
+in_a_note = refl
+
+in_a_help : is_moved (one "x") (record simple { helps = sequence ∷ [] }) ≡ true
+unfolding moved
+in_a_help = refl
+
+in_a_name : is_moved (record { id = []; name = Some sequence; listing = record { text = utf8 "x"; display_offset = 0 } } ∷ []) simple ≡ true
+unfolding moved
+in_a_name = refl
+
+in_a_source : is_moved (record { id = []; name = None; listing = record { text = sequence; display_offset = 0 } } ∷ []) simple ≡ true
+unfolding moved
+in_a_source = refl
