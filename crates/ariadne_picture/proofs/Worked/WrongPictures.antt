@@ -59,6 +59,22 @@ a_row_behind_the_last : of_wide (λ rows. rows ++ (plain "x" ∷ []) ∷ []) ≡
 unfolding computed
 a_row_behind_the_last = refl
 
+a_source_row_that_begins_with_two_blanks : of_nested (shows 6 0 "  ") ≡ not_placed
+unfolding computed
+a_source_row_that_begins_with_two_blanks = refl
+
+a_source_row_with_a_stroke_behind_its_margin : of_nested (shows 6 2 "-") ≡ not_placed
+unfolding computed
+a_source_row_with_a_stroke_behind_its_margin = refl
+
+a_row_below_a_line_that_begins_with_a_stroke : of_nested (shows 7 0 "|") ≡ not_placed
+unfolding computed
+a_row_below_a_line_that_begins_with_a_stroke = refl
+
+a_row_below_a_line_with_a_stroke_behind_its_margin : of_nested (shows 7 2 "-") ≡ not_placed
+unfolding computed
+a_row_below_a_line_with_a_stroke_behind_its_margin = refl
+
 -- ---- message rows
 
 a_message_on_another_labels_row : of_nested (λ rows. shows 8 15 "all" (shows 11 14 "mid" rows)) ≡ no_message_rows
@@ -142,6 +158,10 @@ a_gap_row_without_gutter_inside_a_label = refl
 a_gap_row_with_an_unbroken_bar : of_apart (shows 4 3 "|") ≡ no_bars
 unfolding computed
 a_gap_row_with_an_unbroken_bar = refl
+
+a_gap_row_that_ends_with_its_bar : of_apart (on_row 4 (λ row. take 4 row)) ≡ no_bars
+unfolding computed
+a_gap_row_that_ends_with_its_bar = refl
 
 a_bare_row_inside_a_label : of_apart (on_row 4 (λ row. plain " " ∷ plain "  |" ∷ plain " " ∷ [])) ≡ no_bars
 unfolding computed
