@@ -16,5 +16,7 @@ mod Changes
 mod WrongPictures
 mod WrongUnicodePictures
 mod WrongPlacings
+mod StrayStrokes
+mod TwoReadings
 mod OddReports
 mod Premises

@@ -12,5 +12,7 @@ pub mod Pieces
 pub mod Canvas
 pub mod Print
 pub mod Placing
+pub mod Blocks
+pub mod Causes
 pub mod Variants
 pub mod Headline

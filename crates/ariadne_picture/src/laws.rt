@@ -17,7 +17,9 @@ ghost use Rattle.ariadne_picture.specs.Bars.{BarBesideAlternate, BarBesideArrow,
 ghost use Rattle.ariadne_picture.specs.Bars.{EndsNoEarlier, IsLineLabel, IsMarginLabel};
 ghost use Rattle.ariadne_picture.specs.Bars.{IsGutterLabel, IsOfLine};
 ghost use Rattle.ariadne_picture.specs.Bars.{IsInside, IsOutside, Shows};
+ghost use Rattle.ariadne_picture.specs.Blocks.{has_whole_blocks};
 ghost use Rattle.ariadne_picture.specs.Canvas.{Cell, canvas, sections, texts_of};
+ghost use Rattle.ariadne_picture.specs.Causes.{has_no_other_strokes};
 ghost use Rattle.ariadne_picture.specs.Groups.{AreGroupsOf, groups_of, ordered};
 ghost use Rattle.ariadne_picture.specs.Headline.{CanBeRead, IsTraced};
 ghost use Rattle.ariadne_picture.specs.Lists.{best, in_order};
@@ -218,9 +220,28 @@ pub fn rows_keep_the_columns_of_their_line<S, Id, R>()
         CanBeRead rows groups (λ placing. is_aligned rows groups placing) }
 {}
 
+/// The block of a line has the rows of its labels and no other.
+pub fn blocks_are_whole<S, Id, R>()
+    ensures { (w : World S Id) (r : ReportFields S) (reasons : List (Option R))
+        → HaveOneSource w → AreForward w r
+        → let infos = drawn_labels w r.config 0 r.labels reasons in
+        let rows = canvas w r infos in let groups = sections w r infos in
+        CanBeRead rows groups (λ placing. has_whole_blocks groups placing) }
+{}
+
+/// No stroke without a cause: in the rows below a line each cell of a place is blank, or shows a
+/// vertical, a corner, a horizontal or an underline that a label has there.
+pub fn no_stroke_is_without_a_cause<S, Id, R>()
+    ensures { (w : World S Id) (r : ReportFields S) (reasons : List (Option R))
+        → HaveOneSource w → AreForward w r
+        → let infos = drawn_labels w r.config 0 r.labels reasons in
+        let rows = canvas w r infos in let groups = sections w r infos in
+        CanBeRead rows groups (λ placing. has_no_other_strokes rows groups placing) }
+{}
+
 /// Every picture can be read, under one choice of row numbers for all of this: its rows belong
-/// together, each accepted message has a row of its own, and strokes lead from it to its label, in
-/// the columns where the source row shows them. The two premises hold wherever sources are looked
+/// together, each accepted message has a row of its own, strokes lead from it to its label, in the
+/// columns where the source row shows them, and no stroke stands elsewhere. The two premises hold wherever sources are looked
 /// up by their ids, and labels start at most at their ends.
 pub fn every_picture_can_be_read<S, Id, R>()
     ensures { (w : World S Id) (r : ReportFields S) (reasons : List (Option R))

@@ -16,6 +16,9 @@ use Rattle.ariadne_picture.proofs.Reading.DrawnReports.{AreNumbered, picture_of,
 use Rattle.ariadne_picture.proofs.Reading.GutterFree.{gutter-bars}
 use Rattle.ariadne_picture.proofs.Reading.InlineTraces.{inline-traces}
 use Rattle.ariadne_picture.proofs.Reading.EndTraces.{end-traces}
+use Rattle.ariadne_picture.proofs.Reading.OtherStrokes.{no-other-strokes}
+use Rattle.ariadne_picture.proofs.Reading.WholeBlocks.{whole-blocks}
+use Rattle.ariadne_picture.specs.Causes.{has_no_other_strokes}
 use Rattle.ariadne_picture.proofs.Reading.Pictures.{Picture}
 use Rattle.ariadne_picture.proofs.Rows.RowPlacing.{row_placing}
 
@@ -54,12 +57,16 @@ module _ {S Id R : Type 0} (w : World S Id) (r : ReportFields S) (reasons : List
 
   -- the tracing promise
   pub every-traced : IsTraced (canvas w r infos) (sections w r infos) (texts_of r).message_of
-  every-traced = record {
-    placing = row_placing (texts_of r) (sections w r infos);
-    rows_belong_together = canvas-placed w r infos numbered;
-    each_message_has_one_row_of_its_own = canvas-messages w r infos numbered;
-    strokes_lead_from_it_to_the_attach_character = every-inline;
-    or_to_both_ends_of_the_gutter_column = every-end;
-    and_along_the_gutter_column = every-bar;
-    in_the_columns_where_the_source_row_shows_them = canvas-aligned w r infos numbered;
-  }
+  every-traced = (
+    row_placing (texts_of r) (sections w r infos),
+    record {
+      rows_belong_together = canvas-placed w r infos numbered;
+      blocks_are_whole = whole-blocks picture;
+      each_message_has_one_row_of_its_own = canvas-messages w r infos numbered;
+      strokes_lead_from_it_to_the_attach_character = every-inline;
+      or_to_both_ends_of_the_gutter_column = every-end;
+      and_along_the_gutter_column = every-bar;
+      in_the_columns_where_the_source_row_shows_them = canvas-aligned w r infos numbered;
+      and_no_stroke_stands_elsewhere = of-canvas w r infos numbered has_no_other_strokes (no-other-strokes picture);
+    },
+  )

@@ -1,11 +1,14 @@
 -- Finished pictures that are changed by hand, and the verdicts of all clauses on them. Rows and cells count from 0.
 use Rattle.std.specs.Prelude.{ℕ, Bool, true, false, [], ◌∷◌, Some, None, List, slice_set, slice_index_or}
+use Rattle.std.specs.List.{list_all}
 use Prim.Native.String.{String}
 use Rattle.ariadne_color.specs.declared.color.Color.TheVariants.{Blue}
 use Rattle.ariadne_picture.specs.Report.{ReportFields}
 use Rattle.ariadne_picture.specs.Canvas.{Cell, texts_of}
 use Rattle.ariadne_picture.specs.Placing.{Placing, no_cell, is_placing, has_message_rows, has_inline_traces, has_ends_of_gutter_traces, has_gutter_bars}
 use Rattle.ariadne_picture.specs.Placing.{is_aligned}
+use Rattle.ariadne_picture.specs.Blocks.{has_whole_blocks}
+use Rattle.ariadne_picture.specs.Causes.{has_no_other_strokes}
 use Rattle.ariadne_picture.proofs.Rows.RowPlacing.{row_placing}
 use Rattle.ariadne_picture.proofs.Worked.Sample.{Span, Entry, utf8, drawn}
 use Rattle.ariadne_picture.proofs.Worked.Readings.{infos, cells_of, parts_of}
@@ -79,7 +82,17 @@ no_bars = true ∷ true ∷ true ∷ true ∷ false ∷ true ∷ []
 abbrev pub not_aligned : List Bool
 not_aligned = true ∷ true ∷ true ∷ true ∷ true ∷ false ∷ []
 
+-- whether these six all hold; whole blocks, and no other strokes
+unfoldable pub further_verdicts_by : Placing → List Entry → ReportFields Span → (Rows → Rows) → List Bool
+further_verdicts_by p entries r change =
+    let parts = parts_of entries r in
+    list_all (λ b. b) (verdicts_by p entries r change) ∷ has_whole_blocks parts p
+    ∷ has_no_other_strokes (change (cells_of entries r)) parts p ∷ []
+
+unfoldable pub further_verdicts : List Entry → ReportFields Span → (Rows → Rows) → List Bool
+further_verdicts entries r = further_verdicts_by (row_placing (texts_of r) (parts_of entries r)) entries r
+
 -- `unfolding judged` lets `refl` compute them
 unfoldable pub judged : Unit {0}
-unfolding drawn infos cells_of parts_of as_drawn on_row on_cell shows is_blue takes plain verdicts_by verdicts
+unfolding drawn infos cells_of parts_of as_drawn on_row on_cell shows is_blue takes plain verdicts_by verdicts further_verdicts_by further_verdicts
 judged = tt

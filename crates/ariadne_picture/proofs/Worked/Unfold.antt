@@ -30,6 +30,9 @@ use Rattle.ariadne_picture.specs.Placing.{is_gutter_label_placed, is_group_place
 use Rattle.ariadne_picture.specs.Placing.{has_message_rows, is_inline_traced, is_underlined, has_inline_traces, is_end_traced, is_start_traced}
 use Rattle.ariadne_picture.specs.Placing.{is_pointed, has_ends_of_gutter_traces, gutter_rows, is_gap_row, is_bar, is_column_traced}
 use Rattle.ariadne_picture.specs.Placing.{is_last_column_free, has_gutter_bars, columns_before, is_line_aligned, is_aligned}
+use Rattle.ariadne_picture.specs.Blocks.{block_size, has_whole_blocks}
+use Rattle.ariadne_picture.specs.Causes.{is_upright, is_stroke_of, inline_trace, end_trace, start_trace, gutter_traces, traces_below, is_underline_of}
+use Rattle.ariadne_picture.specs.Causes.{has_cause, is_place_caused, is_line_caused, has_no_other_strokes}
 
 unfoldable pub evaluated : Unit {0}
 unfolding digits is_separator begins_with_line_feed ends_line in_front full_lines_of lines_of line_offset line_at column_at char_offset inserted
@@ -49,5 +52,6 @@ unfolding digits is_separator begins_with_line_feed ends_line in_front full_line
     has_margin is_source_row is_block_row is_in_group is_in_block are_rising messages_of is_line_placed is_gutter_label_placed is_group_placed are_distinct
     is_placing is_message_row are_block_ends has_message_rows is_inline_traced is_underlined has_inline_traces is_end_traced is_start_traced
     is_pointed has_ends_of_gutter_traces gutter_rows is_gap_row is_bar is_column_traced is_last_column_free has_gutter_bars columns_before
-    is_line_aligned is_aligned
+    is_line_aligned is_aligned block_size has_whole_blocks is_upright is_stroke_of inline_trace end_trace start_trace gutter_traces traces_below
+    is_underline_of has_cause is_place_caused is_line_caused has_no_other_strokes
 evaluated = tt
