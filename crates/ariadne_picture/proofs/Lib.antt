@@ -4,4 +4,5 @@ pub mod Rows
 pub mod Cells
 pub mod Reading
 pub mod Variants
+pub mod Sent
 pub mod Worked

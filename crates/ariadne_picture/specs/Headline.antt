@@ -1,8 +1,8 @@
 -- What the headline says of a report that was drawn: what was sent is exactly the printed canvas of
 -- the accepted labels; on it each accepted message has one row of its own, and strokes lead from it
 -- to the label's attach character or gutter column, in the columns where the source row shows them;
--- in the text below a line no stroke stands elsewhere. Colours move nothing, and offsets in bytes
--- draw as the same offsets in characters.
+-- in the text below a line no stroke stands elsewhere. A cell takes the columns of its text. Colours
+-- move nothing, and offsets in bytes draw as the same offsets in characters.
 use Rattle.std.specs.Prelude.{ℕ, ◌≡◌, Bool, true, List, Option}
 use Rattle.std.specs.Io.KnownBytes.{Appends}
 use Rattle.ariadne_picture.specs.declared.label_info.LabelInfo.{LabelInfo}
@@ -10,6 +10,7 @@ use Rattle.ariadne_picture.specs.Report.{ReportFields, World}
 use Rattle.ariadne_picture.specs.Pieces.{Section}
 use Rattle.ariadne_picture.specs.Canvas.{Cell, canvas, sections, texts_of}
 use Rattle.ariadne_picture.specs.Print.{printed}
+use Rattle.ariadne_picture.specs.Sent.{HaveColumnsOfTexts}
 use Rattle.ariadne_picture.specs.Placing.{Placing, is_placing, has_message_rows, has_inline_traces}
 use Rattle.ariadne_picture.specs.Placing.{has_ends_of_gutter_traces, has_gutter_bars, is_aligned}
 use Rattle.ariadne_picture.specs.Blocks.{has_whole_blocks}
@@ -44,5 +45,6 @@ pub record Headline {S Id : Type 0} (w : World S Id) (r : ReportFields S) (infos
   pub exactly_the_printed_canvas_was_sent : Appends before after (printed (canvas w r infos))
   pub each_message_is_traced : IsTraced (canvas w r infos) (sections w r infos)
       (texts_of r).message_of
+  pub each_cell_takes_the_columns_of_its_text : HaveColumnsOfTexts (canvas w r infos)
   pub colors_move_nothing : ColorsMoveNothing w r infos
   pub bytes_draw_as_characters : BytesDrawAsCharacters w r infos

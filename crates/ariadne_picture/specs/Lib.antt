@@ -11,6 +11,7 @@ pub mod Cells
 pub mod Pieces
 pub mod Canvas
 pub mod Print
+pub mod Sent
 pub mod Placing
 pub mod Blocks
 pub mod Causes

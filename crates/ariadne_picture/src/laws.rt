@@ -31,6 +31,7 @@ ghost use Rattle.ariadne_picture.specs.Ranks.{span_len};
 ghost use Rattle.ariadne_picture.specs.Report.{AreForward, ConfigFields, HaveOneSource};
 ghost use Rattle.ariadne_picture.specs.Report.{LabelFields, ReportFields, World};
 ghost use Rattle.ariadne_picture.specs.Rows.{Row, source, alternate, arrow, gap, before, rows};
+ghost use Rattle.ariadne_picture.specs.Sent.{HaveColumnsOfTexts};
 ghost use Rattle.ariadne_picture.specs.Strokes.{bar_at, first_row, is_preferred, last_row};
 ghost use Rattle.ariadne_picture.specs.Variants.{BytesDrawAsCharacters, ColorsMoveNothing};
 ghost use Rattle.ariadne_picture.specs.Variants.{HasNoEscape, HaveNoEscapes};
@@ -248,6 +249,13 @@ pub fn every_picture_can_be_read<S, Id, R>()
         → HaveOneSource w → AreForward w r
         → let infos = drawn_labels w r.config 0 r.labels reasons in
         IsTraced (canvas w r infos) (sections w r infos) (texts_of r).message_of }
+{}
+
+/// Each cell of a picture takes the columns of the characters of its text. So alignment is a fact of
+/// the texts that are sent.
+pub fn cells_take_the_columns_of_their_texts<S, Id>()
+    ensures { (w : World S Id) (r : ReportFields S) (infos : List LabelInfo)
+        → HaveColumnsOfTexts (canvas w r infos) }
 {}
 
 /// Colours move nothing: without them the picture is that of the report without colours, and where

@@ -17,13 +17,14 @@
 //! | `Pieces` | the texts of each row | 12 |
 //! | `Canvas` | the whole picture, in colours | 10 |
 //! | `Print` | the bytes that are sent | 4 |
+//! | `Sent` | what columns are in what is sent | 1 |
 //! | `Placing` | how a finished picture is read, clause by clause | 30 |
 //! | `Blocks` | how many rows stand below a line | 1 |
 //! | `Causes` | that no stroke in the text is none of a label's | 8 |
 //! | `Variants` | what moves nothing: colours, and what offsets count | 8 |
 //! | `Headline` | what a success of `write` means | 3 |
 //!
-//! For the headline alone `Report`, `Accept`, `Placing`, `Blocks`, `Causes`, `Variants` and
+//! For the headline alone `Report`, `Accept`, `Sent`, `Placing`, `Blocks`, `Causes`, `Variants` and
 //! `Headline` serve. `Bars` says once more, case by case, where gutter bars stand; it serves the
 //! laws in [`laws`]. What serves only the proofs of code stands in `specs/` of the crates above, and
 //! can be skipped.
