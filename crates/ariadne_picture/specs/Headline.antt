@@ -1,8 +1,9 @@
 -- What the headline says of a report that was drawn: what was sent is exactly the printed canvas of
 -- the accepted labels; on it each accepted message has one row of its own, and strokes lead from it
 -- to the label's attach character or gutter column, in the columns where the source row shows them;
--- in the text below a line no stroke stands elsewhere. A cell takes the columns of its text. Colours
--- move nothing, and offsets in bytes draw as the same offsets in characters.
+-- in the text below a line no stroke stands elsewhere. Source rows and gutter labels are read in one
+-- way, and a cell takes the columns of its text. Colours move nothing, and offsets in bytes draw as
+-- the same offsets in characters.
 use Rattle.std.specs.Prelude.{ℕ, ◌≡◌, Bool, true, List, Option}
 use Rattle.std.specs.Io.KnownBytes.{Appends}
 use Rattle.ariadne_picture.specs.declared.label_info.LabelInfo.{LabelInfo}
@@ -15,6 +16,7 @@ use Rattle.ariadne_picture.specs.Placing.{Placing, is_placing, has_message_rows,
 use Rattle.ariadne_picture.specs.Placing.{has_ends_of_gutter_traces, has_gutter_bars, is_aligned}
 use Rattle.ariadne_picture.specs.Blocks.{has_whole_blocks}
 use Rattle.ariadne_picture.specs.Causes.{has_no_other_strokes}
+use Rattle.ariadne_picture.specs.Readings.{AgreeOnStrokes}
 use Rattle.ariadne_picture.specs.Variants.{ColorsMoveNothing, BytesDrawAsCharacters}
 
 -- there are row numbers under which the rows belong together and this test holds of them
@@ -39,12 +41,20 @@ abbrev pub IsTraced : List (List Cell) → List Section → (ℕ → List ℕ) �
 IsTraced rows groups message_of =
     (placing : Placing) × IsReadBy rows groups message_of placing
 
+-- they are read in one way: row numbers that they are read by agree on source rows, and on the head
+-- and the message of each gutter label
+abbrev pub AreReadInOneWay : List (List Cell) → List Section → (ℕ → List ℕ) → Type 0
+AreReadInOneWay rows groups message_of =
+    (p q : Placing) → IsReadBy rows groups message_of p → IsReadBy rows groups message_of q
+    → AgreeOnStrokes groups p q
+
 -- what was before, and is now, in the writer; the accepted labels are infos
 pub record Headline {S Id : Type 0} (w : World S Id) (r : ReportFields S) (infos : List LabelInfo)
     (before after : Option (List ℕ)) : Type 0 where
   pub exactly_the_printed_canvas_was_sent : Appends before after (printed (canvas w r infos))
   pub each_message_is_traced : IsTraced (canvas w r infos) (sections w r infos)
       (texts_of r).message_of
+  pub in_one_way : AreReadInOneWay (canvas w r infos) (sections w r infos) (texts_of r).message_of
   pub each_cell_takes_the_columns_of_its_text : HaveColumnsOfTexts (canvas w r infos)
   pub colors_move_nothing : ColorsMoveNothing w r infos
   pub bytes_draw_as_characters : BytesDrawAsCharacters w r infos

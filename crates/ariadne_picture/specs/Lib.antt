@@ -15,5 +15,6 @@ pub mod Sent
 pub mod Placing
 pub mod Blocks
 pub mod Causes
+pub mod Readings
 pub mod Variants
 pub mod Headline
