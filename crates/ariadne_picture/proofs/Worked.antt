@@ -19,4 +19,5 @@ mod WrongPlacings
 mod StrayStrokes
 mod TwoReadings
 mod OddReports
-mod Premises
+pub mod Premises
+mod Sentences

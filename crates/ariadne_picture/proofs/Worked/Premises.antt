@@ -4,7 +4,8 @@
 use Rattle.std.specs.Prelude.{ℕ, ◌≡◌, Bool, true, false, not, [], ◌∷◌, Some, None, List, refl, nat_eq}
 use Rattle.std.specs.Str.{chars}
 use Rattle.std.specs.Cmp.Lexicographic.{pointwise}
-use Rattle.std.proofs.Common.{arith}
+use Rattle.std.proofs.Common.{arith, sym}
+use Rattle.std.proofs.lemmas.Bool.{true≢false}
 use Rattle.ariadne_color.specs.declared.color.Color.TheVariants.{Primary}
 use Rattle.ariadne_picture.specs.declared.switches.IndexType.TheVariants.{Byte}
 use Rattle.ariadne_picture.specs.Report.{ReportFields, custom}
@@ -16,12 +17,12 @@ use Rattle.ariadne_picture.proofs.Worked.Readings.{infos, cells_of}
 -- ---- a report in colours that has all texts
 
 -- a source that is called as its id, and one that no label is in, whose name and text are an escape
-unfoldable sources : List Entry
+unfoldable pub sources : List Entry
 sources =
     named "a" "x"
     ∷ record { id = utf8 "b"; name = Some (27 ∷ []); listing = record { text = 27 ∷ []; display_offset = 0 } } ∷ []
 
-unfoldable colored : ReportFields Span
+unfoldable pub colored : ReportFields Span
 colored = record (report (label_in "a" 0 1 "m" ∷ [])) {
   code = Some (utf8 "7");
   message = Some (utf8 "t");
@@ -30,7 +31,7 @@ colored = record (report (label_in "a" 0 1 "m" ∷ [])) {
   config = color_config;
 }
 
-no_text_has_an_escape : HaveNoEscapes (world sources) colored
+pub no_text_has_an_escape : HaveNoEscapes (world sources) colored
 unfolding drawn sources colored chars
 no_text_has_an_escape = record {
   kind = refl;
@@ -45,13 +46,13 @@ no_text_has_an_escape = record {
 
 -- ---- a report in bytes whose own start is a boundary of its source, behind a character of two bytes
 
-unfoldable in_bytes : ReportFields Span
+unfoldable pub in_bytes : ReportFields Span
 in_bytes = record (report (label 2 3 "m" ∷ [])) {
   span = record { id = utf8 ""; start = 2; end = 3 };
   config = record color_config { index_type = Byte };
 }
 
-its_own_start_is_a_boundary : OwnStartIsBoundary (world (one "éb")) in_bytes (infos (one "éb") in_bytes)
+pub its_own_start_is_a_boundary : OwnStartIsBoundary (world (one "éb")) in_bytes (infos (one "éb") in_bytes)
 unfolding drawn infos in_bytes own_start chars
 its_own_start_is_a_boundary = ((λ same. (1, refl, omega arith)), tt)
 
@@ -60,6 +61,10 @@ its_own_start_is_a_boundary = ((λ same. (1, refl, omega arith)), tt)
 -- what is left of the bytes isn't the print of the report without colours
 unfoldable is_moved : List Entry → ReportFields Span → Bool
 is_moved entries r = not (pointwise nat_eq (unescaped (printed (cells_of entries r))) (printed (cells_of entries (colorless r))))
+
+-- a report that breaks the premise, and whose bytes are moved
+abbrev IsNeeded : List Entry → ReportFields Span → Type 0
+IsNeeded entries r = (is_moved entries r ≡ true) × (HaveNoEscapes (world entries) r → ⊥)
 
 -- the sequence that ends all colours
 abbrev sequence : List ℕ
@@ -76,35 +81,35 @@ without_one_nothing_moves : is_moved (one "x") simple ≡ false
 unfolding moved
 without_one_nothing_moves = refl
 
-in_the_kind : is_moved (one "x") (record simple { kind = custom sequence Primary }) ≡ true
+in_the_kind : IsNeeded (one "x") (record simple { kind = custom sequence Primary })
 unfolding moved
-in_the_kind = refl
+in_the_kind = (refl, λ h. true≢false (sym h.kind))
 
-in_the_code : is_moved (one "x") (record simple { code = Some sequence }) ≡ true
+in_the_code : IsNeeded (one "x") (record simple { code = Some sequence })
 unfolding moved
-in_the_code = refl
+in_the_code = (refl, λ h. true≢false (sym h.code))
 
-in_the_message : is_moved (one "x") (record simple { message = Some sequence }) ≡ true
+in_the_message : IsNeeded (one "x") (record simple { message = Some sequence })
 unfolding moved
-in_the_message = refl
+in_the_message = (refl, λ h. true≢false (sym h.message))
 
-in_the_message_of_a_label : is_moved (one "x")
-    (report (record (silent_label 0 1) { message = Some sequence } ∷ [])) ≡ true
+in_the_message_of_a_label : IsNeeded (one "x")
+    (report (record (silent_label 0 1) { message = Some sequence } ∷ []))
 unfolding moved
-in_the_message_of_a_label = refl
+in_the_message_of_a_label = (refl, λ h. true≢false (sym h.labels.0))
 
-in_a_note : is_moved (one "x") (record simple { notes = sequence ∷ [] }) ≡ true
+in_a_note : IsNeeded (one "x") (record simple { notes = sequence ∷ [] })
 unfolding moved
-in_a_note = refl
+in_a_note = (refl, λ h. true≢false (sym h.notes.0))
 
-in_a_help : is_moved (one "x") (record simple { helps = sequence ∷ [] }) ≡ true
+in_a_help : IsNeeded (one "x") (record simple { helps = sequence ∷ [] })
 unfolding moved
-in_a_help = refl
+in_a_help = (refl, λ h. true≢false (sym h.helps.0))
 
-in_a_name : is_moved (record { id = []; name = Some sequence; listing = record { text = utf8 "x"; display_offset = 0 } } ∷ []) simple ≡ true
+in_a_name : IsNeeded (record { id = []; name = Some sequence; listing = record { text = utf8 "x"; display_offset = 0 } } ∷ []) simple
 unfolding moved
-in_a_name = refl
+in_a_name = (refl, λ h. true≢false (sym h.names.0))
 
-in_a_source : is_moved (record { id = []; name = None; listing = record { text = sequence; display_offset = 0 } } ∷ []) simple ≡ true
-unfolding moved
-in_a_source = refl
+in_a_source : IsNeeded (record { id = []; name = None; listing = record { text = sequence; display_offset = 0 } } ∷ []) simple
+unfolding moved chars
+in_a_source = (refl, λ h. true≢false (sym h.sources.0))

@@ -50,8 +50,17 @@ of_silent = verdicts (one "ab cd") (configured unicode_config (silent_label 0 2 
 unfoldable of_mixed : (Rows → Rows) → List Bool
 of_mixed = verdicts (one "ab\ncd ef") (configured unicode_config (label 0 5 "over" ∷ label 6 8 "n" ∷ []))
 
+-- two labels over several lines of which the first ends within the second
+--
+--     4   2 │ │ ╭─▶ cd
+--     5   3 │ ├───▶ ef
+--     6     │ │ │
+--     7     │ ╰─────── first
+unfoldable of_chained : (Rows → Rows) → List Bool
+of_chained = verdicts (one "ab\ncd\nef\ngh") (configured unicode_config (label 0 8 "first" ∷ label 4 10 "second" ∷ []))
+
 unfoldable computed : Unit {0}
-unfolding judged of_crossed of_two of_silent of_mixed
+unfolding judged of_crossed of_two of_silent of_mixed of_chained
 computed = tt
 
 unchanged_crossed_labels_are_read : of_crossed as_drawn ≡ all_hold
@@ -69,6 +78,10 @@ an_unchanged_label_without_message_is_read = refl
 unchanged_labels_at_an_end_are_read : of_mixed as_drawn ≡ all_hold
 unfolding computed
 unchanged_labels_at_an_end_are_read = refl
+
+unchanged_chained_labels_are_read : of_chained as_drawn ≡ all_hold
+unfolding computed
+unchanged_chained_labels_are_read = refl
 
 -- ---- not placed
 
@@ -191,7 +204,21 @@ a_crossing_before_the_head_of_a_bar : of_crossed (shows 4 5 "┼") ≡ no_bars
 unfolding computed
 a_crossing_before_the_head_of_a_bar = refl
 
+a_broken_bar_beside_a_line : of_crossed (shows 7 3 "┆") ≡ no_bars
+unfolding computed
+a_broken_bar_beside_a_line = refl
+
 -- ---- two clauses refuse these
+
+-- each asks for the head
+a_horizontal_for_the_head_of_a_bar : of_crossed (shows 3 3 "─") ≡ true ∷ true ∷ true ∷ false ∷ false ∷ true ∷ []
+unfolding computed
+a_horizontal_for_the_head_of_a_bar = refl
+
+-- the first label's horizontal is broken, and the second one's bar
+a_letter_where_a_horizontal_crosses_a_bar : of_chained (shows 7 5 "x") ≡ true ∷ true ∷ true ∷ false ∷ false ∷ true ∷ []
+unfolding computed
+a_letter_where_a_horizontal_crosses_a_bar = refl
 
 -- the bar has no end, and the label's trace no corner
 a_horizontal_for_the_corner_of_a_bar : of_crossed (shows 9 5 "─") ≡ true ∷ true ∷ true ∷ false ∷ false ∷ true ∷ []
