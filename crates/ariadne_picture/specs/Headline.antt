@@ -2,8 +2,8 @@
 -- the accepted labels; on it each accepted message has one row of its own, and strokes lead from it
 -- to the label's attach character or gutter column, in the columns where the source row shows them;
 -- in the text below a line no stroke stands elsewhere. Source rows and gutter labels are read in one
--- way, and a cell takes the columns of its text. Colours move nothing, and offsets in bytes draw as
--- the same offsets in characters.
+-- way. A cell takes the columns of its text, and the rows are the lines that are sent. Colours move
+-- nothing, and offsets in bytes draw as the same offsets in characters.
 use Rattle.std.specs.Prelude.{ℕ, ◌≡◌, Bool, true, List, Option}
 use Rattle.std.specs.Io.KnownBytes.{Appends}
 use Rattle.ariadne_picture.specs.declared.label_info.LabelInfo.{LabelInfo}
@@ -11,13 +11,14 @@ use Rattle.ariadne_picture.specs.Report.{ReportFields, World}
 use Rattle.ariadne_picture.specs.Pieces.{Section}
 use Rattle.ariadne_picture.specs.Canvas.{Cell, canvas, sections, texts_of}
 use Rattle.ariadne_picture.specs.Print.{printed}
-use Rattle.ariadne_picture.specs.Sent.{HaveColumnsOfTexts}
+use Rattle.ariadne_picture.specs.Sent.{HaveColumnsOfTexts, HaveNoLineFeeds, RowsAreLines}
 use Rattle.ariadne_picture.specs.Placing.{Placing, is_placing, has_message_rows, has_inline_traces}
 use Rattle.ariadne_picture.specs.Placing.{has_ends_of_gutter_traces, has_gutter_bars, is_aligned}
 use Rattle.ariadne_picture.specs.Blocks.{has_whole_blocks}
 use Rattle.ariadne_picture.specs.Causes.{has_no_other_strokes}
 use Rattle.ariadne_picture.specs.Readings.{AgreeOnStrokes}
-use Rattle.ariadne_picture.specs.Variants.{ColorsMoveNothing, BytesDrawAsCharacters}
+use Rattle.ariadne_picture.specs.Variants.{HaveNoEscapes, ColorsMoveNothing}
+use Rattle.ariadne_picture.specs.Variants.{BytesDrawAsCharacters}
 
 -- there are row numbers under which the rows belong together and this test holds of them
 abbrev pub CanBeRead : List (List Cell) → List Section → (Placing → Bool) → Type 0
@@ -56,5 +57,7 @@ pub record Headline {S Id : Type 0} (w : World S Id) (r : ReportFields S) (infos
       (texts_of r).message_of
   pub in_one_way : AreReadInOneWay (canvas w r infos) (sections w r infos) (texts_of r).message_of
   pub each_cell_takes_the_columns_of_its_text : HaveColumnsOfTexts (canvas w r infos)
+  pub its_rows_are_the_lines_that_are_sent : HaveNoEscapes w r → HaveNoLineFeeds w r
+      → RowsAreLines (canvas w r infos)
   pub colors_move_nothing : ColorsMoveNothing w r infos
   pub bytes_draw_as_characters : BytesDrawAsCharacters w r infos

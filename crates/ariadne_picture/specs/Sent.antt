@@ -1,11 +1,12 @@
 -- What a finished picture is as it is sent: a cell takes the columns of its text, and a row of cells
 -- is a line of what is sent.
-use Rattle.std.specs.Prelude.{ℕ, ◌≡◌, true, not, ◌==◌, List, IfSome}
+use Rattle.std.specs.Prelude.{ℕ, ◌≡◌, true, not, ◌==◌, List, [], ◌∷◌, ◌++◌, map, IfSome}
 use Rattle.std.specs.List.{list_all, AllByRecursion, slice_split}
 use Rattle.ariadne_picture.specs.Lists.{joined}
 use Rattle.ariadne_picture.specs.Report.{ReportFields, World}
 use Rattle.ariadne_picture.specs.Columns.{text_columns}
 use Rattle.ariadne_picture.specs.Canvas.{Cell, kind_name}
+use Rattle.ariadne_picture.specs.Print.{printed, unescaped}
 
 -- ---- columns
 
@@ -26,6 +27,11 @@ row_text cells = joined (λ c. c.text) cells
 -- bytes cut at each line feed
 abbrev pub lines_sent : List ℕ → List (List ℕ)
 lines_sent bytes = slice_split (λ b. b == 10) bytes
+
+-- what is sent of these rows, without escape sequences, is the text of each as a line, and nothing
+-- behind the last line feed
+abbrev pub RowsAreLines : List (List Cell) → Type 0
+RowsAreLines rows = lines_sent (unescaped (printed rows)) ≡ map row_text rows ++ [] ∷ []
 
 -- a text without line feed
 abbrev pub HasNoLineFeed : List ℕ → Type 0

@@ -33,7 +33,7 @@ ghost use Rattle.ariadne_picture.specs.Readings.{AgreeOnLines};
 ghost use Rattle.ariadne_picture.specs.Report.{AreForward, ConfigFields, HaveOneSource};
 ghost use Rattle.ariadne_picture.specs.Report.{LabelFields, ReportFields, World};
 ghost use Rattle.ariadne_picture.specs.Rows.{Row, source, alternate, arrow, gap, before, rows};
-ghost use Rattle.ariadne_picture.specs.Sent.{HaveColumnsOfTexts};
+ghost use Rattle.ariadne_picture.specs.Sent.{HaveColumnsOfTexts, HaveNoLineFeeds, RowsAreLines};
 ghost use Rattle.ariadne_picture.specs.Strokes.{bar_at, first_row, is_preferred, last_row};
 ghost use Rattle.ariadne_picture.specs.Variants.{BytesDrawAsCharacters, ColorsMoveNothing};
 ghost use Rattle.ariadne_picture.specs.Variants.{HasNoEscape, HaveNoEscapes};
@@ -278,6 +278,14 @@ pub fn gutter_labels_are_read_in_one_way<S, Id, R>()
 pub fn cells_take_the_columns_of_their_texts<S, Id>()
     ensures { (w : World S Id) (r : ReportFields S) (infos : List LabelInfo)
         → HaveColumnsOfTexts (canvas w r infos) }
+{}
+
+/// The rows of a picture are the lines that are sent, where no text that was handed in has the byte
+/// that begins an escape sequence, and none that a row shows whole has a line feed. Behind the last
+/// line feed stands nothing.
+pub fn rows_are_lines<S, Id>()
+    ensures { (w : World S Id) (r : ReportFields S) (infos : List LabelInfo)
+        → HaveNoEscapes w r → HaveNoLineFeeds w r → RowsAreLines (canvas w r infos) }
 {}
 
 /// Colours move nothing: without them the picture is that of the report without colours, and where

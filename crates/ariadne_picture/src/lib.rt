@@ -17,7 +17,7 @@
 //! | `Pieces` | the texts of each row | 12 |
 //! | `Canvas` | the whole picture, in colours | 10 |
 //! | `Print` | the bytes that are sent | 4 |
-//! | `Sent` | what columns are in what is sent | 1 |
+//! | `Sent` | what columns and lines are in what is sent | 3 |
 //! | `Placing` | how a finished picture is read, clause by clause | 30 |
 //! | `Blocks` | how many rows stand below a line | 1 |
 //! | `Causes` | that no stroke in the text is none of a label's | 8 |
