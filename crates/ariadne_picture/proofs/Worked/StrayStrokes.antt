@@ -41,7 +41,15 @@ crossed = record ascii_config { cross_gap = false }
 unfoldable bare_config : ConfigFields
 bare_config = record ascii_config { underlines = false; multiline_arrows = false }
 
--- a label on a character that takes no column
+-- a label that starts at the margin and ends below, and one that starts below and ends at the margin
+unfoldable of_crossed : (Rows → Rows) → List Bool
+of_crossed = further_verdicts (one "aa\nbb\ncc") (configured unicode_config (label 0 8 "far" ∷ label 1 7 "near" ∷ []))
+
+-- a label without message above a line that begins with a blank
+unfoldable of_silent : (Rows → Rows) → List Bool
+of_silent = further_verdicts (one "a\n b") (report (silent_label 0 1 ∷ label 3 4 "m" ∷ []))
+
+-- a label on a character that takes no column: the text is e, U+0301, x
 unfoldable of_accent : (Rows → Rows) → List Bool
 of_accent = further_verdicts (one "éx") (report (label 1 2 "m" ∷ []))
 
@@ -51,7 +59,7 @@ tangled config = further_verdicts (one "ab漢d\nefgh\nijkl\nm") (configured conf
     ∷ silent_label 1 2 ∷ label 0 3 "e" ∷ []))
 
 unfoldable computed : Unit {0}
-unfolding judged nested apart wide of_nested of_apart of_wide of_fruit of_far fruit_in crossed bare_config of_accent tangled
+unfolding judged nested apart wide of_nested of_apart of_wide of_fruit of_far fruit_in crossed bare_config of_crossed of_silent of_accent tangled
 computed = tt
 
 -- ---- finished pictures
@@ -91,6 +99,14 @@ labels_that_cross = refl
 labels_without_underlines : fruit_in bare_config as_drawn ≡ all_hold
 unfolding computed
 labels_without_underlines = refl
+
+crossed_labels : of_crossed as_drawn ≡ all_hold
+unfolding computed
+crossed_labels = refl
+
+a_silent_line : of_silent as_drawn ≡ all_hold
+unfolding computed
+a_silent_line = refl
 
 a_character_without_columns : of_accent as_drawn ≡ all_hold
 unfolding computed
@@ -142,6 +158,30 @@ an_underline_in_another_row : of_fruit (shows 6 13 "^") ≡ stray
 unfolding computed
 an_underline_in_another_row = refl
 
+a_vertical_below_its_corner : of_fruit (shows 6 5 "|") ≡ stray
+unfolding computed
+a_vertical_below_its_corner = refl
+
+a_corner_in_a_vertical : of_fruit (shows 6 15 "`") ≡ stray
+unfolding computed
+a_corner_in_a_vertical = refl
+
+a_level_in_a_row_of_verticals : of_fruit (shows 6 8 "-") ≡ stray
+unfolding computed
+a_level_in_a_row_of_verticals = refl
+
+a_letter_in_an_underline : of_fruit (shows 4 4 "x") ≡ stray
+unfolding computed
+a_letter_in_an_underline = refl
+
+an_underline_where_none_are_drawn : fruit_in bare_config (shows 4 3 "^") ≡ stray
+unfolding computed
+an_underline_where_none_are_drawn = refl
+
+a_vertical_above_the_message_of_a_label_that_ends_beside_its_line : of_nested (shows 7 9 "|") ≡ stray
+unfolding computed
+a_vertical_above_the_message_of_a_label_that_ends_beside_its_line = refl
+
 a_letter_among_the_strokes : of_fruit (shows 6 8 "x") ≡ stray
 unfolding computed
 a_letter_among_the_strokes = refl
@@ -174,6 +214,10 @@ an_underline_in_another_row_in_unicode : fruit_in unicode_config (shows 6 13 "�
 unfolding computed
 an_underline_in_another_row_in_unicode = refl
 
+an_underline_below_a_label_over_several_lines : of_crossed (shows 4 11 "─") ≡ stray
+unfolding computed
+an_underline_below_a_label_over_several_lines = refl
+
 -- the place of the accent has no cell, and nothing stands left of the horizontal behind it
 a_corner_before_a_place_without_cell : of_accent (shows 5 3 "`") ≡ stray
 unfolding computed
@@ -186,6 +230,16 @@ a_level_before_a_place_without_cell = refl
 a_vertical_before_a_place_without_cell : of_accent (shows 5 3 "|") ≡ stray
 unfolding computed
 a_vertical_before_a_place_without_cell = refl
+
+-- ---- where another clause asks for the stroke, it refuses these too
+
+a_letter_for_a_corner : of_fruit (shows 5 5 "x") ≡ false ∷ true ∷ false ∷ []
+unfolding computed
+a_letter_for_a_corner = refl
+
+a_letter_in_a_horizontal : of_fruit (shows 5 6 "x") ≡ false ∷ true ∷ false ∷ []
+unfolding computed
+a_letter_in_a_horizontal = refl
 
 -- ---- what stands behind a message the clause on message rows refuses alone
 

@@ -6,7 +6,7 @@ use Rattle.ariadne_picture.proofs.Worked.Sample.{Span, Entry, one, label, config
 use Rattle.ariadne_picture.proofs.Worked.Readings.{choose}
 use Rattle.ariadne_picture.proofs.Worked.Changes.{as_drawn, further_verdicts_by, judged}
 
--- a message that is a blank, of a label on a character without columns, beside two labels that start before it
+-- a message that is a blank, of a label on a character without columns, U+0301 behind e, beside two labels that start before it
 unfoldable blank_message : ReportFields Span
 blank_message = configured compact_config (label 1 2 " " ∷ label 0 5 "b" ∷ label 0 4 "c" ∷ [])
 

@@ -141,6 +141,10 @@ a_blank_in_the_stroke_to_the_last_arrow_head : of_nested (shows 9 5 " ") ≡ no_
 unfolding computed
 a_blank_in_the_stroke_to_the_last_arrow_head = refl
 
+a_blank_for_an_arrow_head_of_the_second_group : of_apart (shows 11 5 " ") ≡ no_ends
+unfolding computed
+a_blank_for_an_arrow_head_of_the_second_group = refl
+
 -- ---- gutter bars
 
 a_bar_a_row_early : of_nested (shows 4 5 "|") ≡ no_bars
@@ -158,6 +162,14 @@ a_gap_row_without_gutter_inside_a_label = refl
 a_gap_row_with_an_unbroken_bar : of_apart (shows 4 3 "|") ≡ no_bars
 unfolding computed
 a_gap_row_with_an_unbroken_bar = refl
+
+a_gap_row_that_begins_with_two_blanks : of_apart (shows 4 0 "  ") ≡ no_bars
+unfolding computed
+a_gap_row_that_begins_with_two_blanks = refl
+
+a_bar_with_a_hole_in_the_second_group : of_apart (shows 13 3 " ") ≡ no_bars
+unfolding computed
+a_bar_with_a_hole_in_the_second_group = refl
 
 a_gap_row_that_ends_with_its_bar : of_apart (on_row 4 (λ row. take 4 row)) ≡ no_bars
 unfolding computed
@@ -192,6 +204,10 @@ a_blank_of_a_tab_taken_as_two_columns = refl
 an_arrow_row_whose_text_begins_a_column_early : of_wide (λ rows. shows 5 1 " |" (takes 5 1 2 rows)) ≡ not_aligned
 unfolding computed
 an_arrow_row_whose_text_begins_a_column_early = refl
+
+a_character_of_two_columns_in_the_second_group : of_apart (takes 12 7 2) ≡ not_aligned
+unfolding computed
+a_character_of_two_columns_in_the_second_group = refl
 
 a_stroke_of_two_columns : of_fruit (takes 4 4 2) ≡ not_aligned
 unfolding computed

@@ -4,7 +4,7 @@ use Rattle.std.specs.Prelude.{ℕ, ◌≡◌, Bool, true, false, refl, [], ◌�
 use Rattle.ariadne_picture.specs.Placing.{Placing}
 use Rattle.ariadne_picture.proofs.Worked.Sample.{one, label, silent_label, report}
 use Rattle.ariadne_picture.proofs.Worked.Readings.{choose, nested, nested_placing}
-use Rattle.ariadne_picture.proofs.Worked.Changes.{Rows, as_drawn, shows, verdicts_by, further_verdicts_by, all_hold, not_placed, judged}
+use Rattle.ariadne_picture.proofs.Worked.Changes.{Rows, as_drawn, on_row, shows, verdicts_by, further_verdicts_by, all_hold, not_placed, judged}
 
 -- the starts of the groups, the source rows of each, the length of the block of each line, and the message rows; no label
 -- is over several lines, and a row below a line has three places
@@ -211,3 +211,18 @@ a_head_in_the_gap_row_below_its_line : of_gap 4 (λ rows. shows 4 3 "," (shows 4
     ≡ not_placed
 unfolding computed of_gap
 a_head_in_the_gap_row_below_its_line = refl
+
+-- rows below a line that end before the place of a label, which has no cell: the text is e, U+0301, x
+unfoldable of_accent : ℕ → (Rows → Rows) → List Bool
+of_accent places =
+    verdicts_by (record (numbers (1 ∷ 7 ∷ []) ((3 ∷ []) ∷ []) (2 ∷ []) (5 ∷ [])) { places = λ g l. places }) (one "éx")
+    (report (label 1 2 "m" ∷ []))
+
+a_place_without_cell_in_its_row : of_accent 4 as_drawn ≡ all_hold
+unfolding computed of_accent
+a_place_without_cell_in_its_row = refl
+
+a_place_without_cell_behind_its_row : of_accent 1 (λ rows. on_row 4 (take 4) (on_row 5 (λ row. take 4 row ++ drop 6 row) rows))
+    ≡ true ∷ true ∷ false ∷ true ∷ true ∷ true ∷ []
+unfolding computed of_accent
+a_place_without_cell_behind_its_row = refl

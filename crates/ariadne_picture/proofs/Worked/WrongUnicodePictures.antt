@@ -129,6 +129,10 @@ an_underline_with_a_hole_above_the_end_of_a_longer_label : of_mixed (shows 5 10 
 unfolding computed
 an_underline_with_a_hole_above_the_end_of_a_longer_label = refl
 
+a_bar_in_a_horizontal_of_the_second_group : of_two (shows 13 5 "│") ≡ no_inline_traces
+unfolding computed
+a_bar_in_a_horizontal_of_the_second_group = refl
+
 -- ---- ends of gutter traces: beside a line
 
 a_bar_for_the_tee_where_a_label_ends : of_crossed (shows 7 5 "│") ≡ no_ends
@@ -142,6 +146,10 @@ no_arrow_head_where_a_label_ends = refl
 no_arrow_head_where_a_label_starts : of_crossed (shows 3 7 "─") ≡ no_ends
 unfolding computed
 no_arrow_head_where_a_label_starts = refl
+
+a_bar_below_the_last_character_of_a_label_that_ends_beside_its_line : of_crossed (shows 9 9 "│") ≡ no_ends
+unfolding computed
+a_bar_below_the_last_character_of_a_label_that_ends_beside_its_line = refl
 
 -- ---- ends of gutter traces: below a line
 
@@ -165,9 +173,21 @@ a_blank_in_the_gutter_behind_a_corner : of_crossed (shows 9 7 " ") ≡ no_ends
 unfolding computed
 a_blank_in_the_gutter_behind_a_corner = refl
 
+an_arrow_head_in_the_gutter_behind_a_corner : of_crossed (shows 9 7 "▶") ≡ no_ends
+unfolding computed
+an_arrow_head_in_the_gutter_behind_a_corner = refl
+
 a_blank_before_the_first_character : of_crossed (shows 5 9 " ") ≡ no_ends
 unfolding computed
 a_blank_before_the_first_character = refl
+
+a_bar_before_the_first_character : of_crossed (shows 5 9 "│") ≡ no_ends
+unfolding computed
+a_bar_before_the_first_character = refl
+
+a_bar_before_the_last_character : of_crossed (shows 11 9 "│") ≡ no_ends
+unfolding computed
+a_bar_before_the_last_character = refl
 
 a_blank_between_the_last_character_and_the_message : of_crossed (shows 11 12 " ") ≡ no_ends
 unfolding computed
@@ -192,6 +212,18 @@ a_horizontal_in_a_bar_before_the_label_of_the_row : of_crossed (shows 9 3 "─")
 unfolding computed
 a_horizontal_in_a_bar_before_the_label_of_the_row = refl
 
+a_horizontal_in_a_bar_where_none_crosses_it : of_crossed (shows 8 5 "─") ≡ no_bars
+unfolding computed
+a_horizontal_in_a_bar_where_none_crosses_it = refl
+
+a_broken_bar_below_a_line : of_crossed (shows 8 3 "┆") ≡ no_bars
+unfolding computed
+a_broken_bar_below_a_line = refl
+
+a_bar_below_its_corner : of_crossed (shows 10 5 "│") ≡ no_bars
+unfolding computed
+a_bar_below_its_corner = refl
+
 a_bar_beside_a_line_before_its_head : of_crossed (shows 3 5 "│") ≡ no_bars
 unfolding computed
 a_bar_beside_a_line_before_its_head = refl
@@ -214,6 +246,11 @@ a_broken_bar_beside_a_line = refl
 a_horizontal_for_the_head_of_a_bar : of_crossed (shows 3 3 "─") ≡ true ∷ true ∷ true ∷ false ∷ false ∷ true ∷ []
 unfolding computed
 a_horizontal_for_the_head_of_a_bar = refl
+
+-- the stroke to the arrow head is broken, and the column isn't free
+a_letter_in_the_stroke_to_an_arrow_head : of_crossed (shows 3 5 "x") ≡ true ∷ true ∷ true ∷ false ∷ false ∷ true ∷ []
+unfolding computed
+a_letter_in_the_stroke_to_an_arrow_head = refl
 
 -- the first label's horizontal is broken, and the second one's bar
 a_letter_where_a_horizontal_crosses_a_bar : of_chained (shows 7 5 "x") ≡ true ∷ true ∷ true ∷ false ∷ false ∷ true ∷ []
