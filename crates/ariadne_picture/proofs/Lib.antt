@@ -3,5 +3,7 @@ pub mod Labels
 pub mod Rows
 pub mod Cells
 pub mod Reading
+pub mod OneReading
 pub mod Variants
+pub mod Sent
 pub mod Worked

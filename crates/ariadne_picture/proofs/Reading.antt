@@ -18,6 +18,9 @@ pub mod GutterSpans
 pub mod GutterBars
 pub mod GutterRows
 pub mod GutterFree
+pub mod WholeBlocks
+pub mod LabelTraces
+pub mod OtherStrokes
 pub mod DrawnReports
 pub mod EveryReport
 pub mod EveryHeadline

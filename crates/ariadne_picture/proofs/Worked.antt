@@ -12,5 +12,12 @@ mod JudgedLabels
 mod VariedPictures
 mod VariedColorPictures
 pub mod Readings
+mod Changes
 mod WrongPictures
+mod WrongUnicodePictures
+mod WrongPlacings
+mod StrayStrokes
+mod TwoReadings
 mod OddReports
+pub mod Premises
+mod Sentences

@@ -1,7 +1,9 @@
 -- What the headline says of a report that was drawn: what was sent is exactly the printed canvas of
 -- the accepted labels; on it each accepted message has one row of its own, and strokes lead from it
--- to the label's attach character or gutter column, in the columns where the source row shows them.
--- Colours move nothing, and offsets in bytes draw as the same offsets in characters.
+-- to the label's attach character or gutter column, in the columns where the source row shows them;
+-- in the text below a line no stroke stands elsewhere. Source rows and gutter labels are read in one
+-- way. A cell takes the columns of its text, and the rows are the lines that are sent. Colours move
+-- nothing, and offsets in bytes draw as the same offsets in characters.
 use Rattle.std.specs.Prelude.{ℕ, ◌≡◌, Bool, true, List, Option}
 use Rattle.std.specs.Io.KnownBytes.{Appends}
 use Rattle.ariadne_picture.specs.declared.label_info.LabelInfo.{LabelInfo}
@@ -9,26 +11,43 @@ use Rattle.ariadne_picture.specs.Report.{ReportFields, World}
 use Rattle.ariadne_picture.specs.Pieces.{Section}
 use Rattle.ariadne_picture.specs.Canvas.{Cell, canvas, sections, texts_of}
 use Rattle.ariadne_picture.specs.Print.{printed}
+use Rattle.ariadne_picture.specs.Sent.{HaveColumnsOfTexts, HaveNoLineFeeds, RowsAreLines}
 use Rattle.ariadne_picture.specs.Placing.{Placing, is_placing, has_message_rows, has_inline_traces}
 use Rattle.ariadne_picture.specs.Placing.{has_ends_of_gutter_traces, has_gutter_bars, is_aligned}
-use Rattle.ariadne_picture.specs.Variants.{ColorsMoveNothing, BytesDrawAsCharacters}
+use Rattle.ariadne_picture.specs.Blocks.{has_whole_blocks}
+use Rattle.ariadne_picture.specs.Causes.{has_no_other_strokes}
+use Rattle.ariadne_picture.specs.Readings.{AgreeOnStrokes}
+use Rattle.ariadne_picture.specs.Variants.{HaveNoEscapes, ColorsMoveNothing}
+use Rattle.ariadne_picture.specs.Variants.{BytesDrawAsCharacters}
 
 -- there are row numbers under which the rows belong together and this test holds of them
 abbrev pub CanBeRead : List (List Cell) → List Section → (Placing → Bool) → Type 0
 CanBeRead rows groups test =
     (placing : Placing) × (is_placing rows groups placing ≡ true) × (test placing ≡ true)
 
--- the finished rows can be read: there are row numbers under which each of these tests holds of
--- them
-pub record IsTraced (rows : List (List Cell)) (groups : List Section)
-    (message_of : ℕ → List ℕ) : Type 0 where
-  pub placing : Placing
+-- the finished rows are read by these row numbers: each of these tests holds of them
+pub record IsReadBy (rows : List (List Cell)) (groups : List Section) (message_of : ℕ → List ℕ)
+    (placing : Placing) : Type 0 where
   pub rows_belong_together : is_placing rows groups placing ≡ true
+  pub blocks_are_whole : has_whole_blocks groups placing ≡ true
   pub each_message_has_one_row_of_its_own : has_message_rows rows groups placing message_of ≡ true
   pub strokes_lead_from_it_to_the_attach_character : has_inline_traces rows groups placing ≡ true
   pub or_to_both_ends_of_the_gutter_column : has_ends_of_gutter_traces rows groups placing ≡ true
   pub and_along_the_gutter_column : has_gutter_bars rows groups placing ≡ true
   pub in_the_columns_where_the_source_row_shows_them : is_aligned rows groups placing ≡ true
+  pub and_no_stroke_stands_elsewhere : has_no_other_strokes rows groups placing ≡ true
+
+-- they can be read: there are such row numbers
+abbrev pub IsTraced : List (List Cell) → List Section → (ℕ → List ℕ) → Type 0
+IsTraced rows groups message_of =
+    (placing : Placing) × IsReadBy rows groups message_of placing
+
+-- they are read in one way: row numbers that they are read by agree on source rows, and on the head
+-- and the message of each gutter label
+abbrev pub AreReadInOneWay : List (List Cell) → List Section → (ℕ → List ℕ) → Type 0
+AreReadInOneWay rows groups message_of =
+    (p q : Placing) → IsReadBy rows groups message_of p → IsReadBy rows groups message_of q
+    → AgreeOnStrokes groups p q
 
 -- what was before, and is now, in the writer; the accepted labels are infos
 pub record Headline {S Id : Type 0} (w : World S Id) (r : ReportFields S) (infos : List LabelInfo)
@@ -36,5 +55,9 @@ pub record Headline {S Id : Type 0} (w : World S Id) (r : ReportFields S) (infos
   pub exactly_the_printed_canvas_was_sent : Appends before after (printed (canvas w r infos))
   pub each_message_is_traced : IsTraced (canvas w r infos) (sections w r infos)
       (texts_of r).message_of
+  pub in_one_way : AreReadInOneWay (canvas w r infos) (sections w r infos) (texts_of r).message_of
+  pub each_cell_takes_the_columns_of_its_text : HaveColumnsOfTexts (canvas w r infos)
+  pub its_rows_are_the_lines_that_are_sent : HaveNoEscapes w r → HaveNoLineFeeds w r
+      → RowsAreLines (canvas w r infos)
   pub colors_move_nothing : ColorsMoveNothing w r infos
   pub bytes_draw_as_characters : BytesDrawAsCharacters w r infos

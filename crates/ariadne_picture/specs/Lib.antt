@@ -11,6 +11,10 @@ pub mod Cells
 pub mod Pieces
 pub mod Canvas
 pub mod Print
+pub mod Sent
 pub mod Placing
+pub mod Blocks
+pub mod Causes
+pub mod Readings
 pub mod Variants
 pub mod Headline

@@ -189,16 +189,23 @@ module _ (canvas : List (List Cell)) (sections : List Section) (p : Placing) whe
 
   -- ---- the rows belong together as the placing says
 
+  -- row n begins with one blank, then its margin, blanks and this text, and, if not compact, one blank
+  unfoldable pub has_margin : Section → List ℕ → ℕ → Bool
+  has_margin s text n =
+      is_blank (cell_at n 0)
+      && is_text (unindented (cell_at n 1).text) text
+      && (s.sheet.switches.compact || is_blank (cell_at n 2))
+
   -- row n shows line l: its number in the margin, and its characters
   unfoldable pub is_source_row : Section → ℕ → ℕ → Bool
   is_source_row s l n =
-      is_text (unindented (cell_at n 1).text)
-      (decimal (printed_number s.display_offset l) ++ codes " " ++ glyph_text (set_of s) Vbar)
+      has_margin s
+      (decimal (printed_number s.display_offset l) ++ codes " " ++ glyph_text (set_of s) Vbar) n
       && pointwise is_text (map (λ c. c.text) (text_cells s n)) (shown_texts s l)
 
   -- row n has a margin without a number
   unfoldable pub is_block_row : Section → ℕ → Bool
-  is_block_row s n = is_text (unindented (cell_at n 1).text) (glyph_text (set_of s) Vbar)
+  is_block_row s n = has_margin s (glyph_text (set_of s) Vbar) n
 
   -- row n is one of group g
   unfoldable pub is_in_group : ℕ → ℕ → Bool
@@ -407,10 +414,14 @@ module _ (canvas : List (List Cell)) (sections : List Section) (p : Placing) whe
 
   -- ---- gutter bars
 
+  -- row n reaches over the gutter
+  abbrev pub has_gutter : Section → ℕ → Bool
+  has_gutter s n = nat_le (text_cell s) (length (row_at n))
+
   -- the rows of a group that have gutter cells
   unfoldable pub gutter_rows : ℕ → Section → List ℕ
   gutter_rows g s =
-      filter (λ n. is_blank (cell_at n 0) && nat_le (text_cell s) (length (row_at n)))
+      filter (λ n. is_blank (cell_at n 0) && has_gutter s n)
       (between (p.start g) (p.start (g + 1)))
 
   -- row n stands in place of hidden lines, and shows that
@@ -446,7 +457,7 @@ module _ (canvas : List (List Cell)) (sections : List Section) (p : Placing) whe
   is_column_traced g s i label =
       let a = p.head_row g i in
       let b = p.message_row label.position in
-      list_all (is_bar g s i a b) (between a (b + 1))
+      list_all (λ n. has_gutter s n && is_bar g s i a b n) (between a (b + 1))
       && list_all (is_free_outside s i a b) (gutter_rows g s)
 
   -- row n has no bar in the column of arrow heads

@@ -1,7 +1,7 @@
 //! Laws of the definitions that a picture is drawn by. Each is the contract of a function that does
 //! nothing: calling it tells the law.
 
-ghost use Rattle.std.specs.Prelude.{◌≡◌, ◌↔◌, ◌⊎◌, ℕ, Bool, List, [], Option, Some, None};
+ghost use Rattle.std.specs.Prelude.{◌≡◌, ◌↔◌, ◌⊎◌, ℕ, Bool, true, List, [], Option, Some, None};
 ghost use Rattle.std.specs.Prelude.{nat_lt, int_lt, length, slice_get, IsTrue, IsFalse};
 ghost use Rattle.std.specs.Prelude.{All, AllPairs, Contains, IsPermutation, IsSortedBy};
 ghost use Rattle.std.specs.Cmp.{IsStrictWeakOrder};
@@ -17,18 +17,23 @@ ghost use Rattle.ariadne_picture.specs.Bars.{BarBesideAlternate, BarBesideArrow,
 ghost use Rattle.ariadne_picture.specs.Bars.{EndsNoEarlier, IsLineLabel, IsMarginLabel};
 ghost use Rattle.ariadne_picture.specs.Bars.{IsGutterLabel, IsOfLine};
 ghost use Rattle.ariadne_picture.specs.Bars.{IsInside, IsOutside, Shows};
+ghost use Rattle.ariadne_picture.specs.Blocks.{has_whole_blocks};
 ghost use Rattle.ariadne_picture.specs.Canvas.{Cell, canvas, sections, texts_of};
+ghost use Rattle.ariadne_picture.specs.Causes.{has_no_other_strokes};
 ghost use Rattle.ariadne_picture.specs.Groups.{AreGroupsOf, groups_of, ordered};
-ghost use Rattle.ariadne_picture.specs.Headline.{CanBeRead, IsTraced};
+ghost use Rattle.ariadne_picture.specs.Headline.{AreReadInOneWay, CanBeRead, IsTraced};
 ghost use Rattle.ariadne_picture.specs.Lists.{best, in_order};
 ghost use Rattle.ariadne_picture.specs.Placing.{has_ends_of_gutter_traces, has_gutter_bars};
 ghost use Rattle.ariadne_picture.specs.Placing.{has_inline_traces, has_message_rows, is_aligned};
+ghost use Rattle.ariadne_picture.specs.Placing.{Placing, is_placing};
 ghost use Rattle.ariadne_picture.specs.Ranks.{Sheet, is_before, is_hidden, is_nearer_margin};
 ghost use Rattle.ariadne_picture.specs.Ranks.{gutter_labels};
 ghost use Rattle.ariadne_picture.specs.Ranks.{span_len};
+ghost use Rattle.ariadne_picture.specs.Readings.{AgreeOnLines};
 ghost use Rattle.ariadne_picture.specs.Report.{AreForward, ConfigFields, HaveOneSource};
 ghost use Rattle.ariadne_picture.specs.Report.{LabelFields, ReportFields, World};
 ghost use Rattle.ariadne_picture.specs.Rows.{Row, source, alternate, arrow, gap, before, rows};
+ghost use Rattle.ariadne_picture.specs.Sent.{HaveColumnsOfTexts, HaveNoLineFeeds, RowsAreLines};
 ghost use Rattle.ariadne_picture.specs.Strokes.{bar_at, first_row, is_preferred, last_row};
 ghost use Rattle.ariadne_picture.specs.Variants.{BytesDrawAsCharacters, ColorsMoveNothing};
 ghost use Rattle.ariadne_picture.specs.Variants.{HasNoEscape, HaveNoEscapes};
@@ -218,15 +223,69 @@ pub fn rows_keep_the_columns_of_their_line<S, Id, R>()
         CanBeRead rows groups (λ placing. is_aligned rows groups placing) }
 {}
 
+/// The block of a line has the rows of its labels and no other.
+pub fn blocks_are_whole<S, Id, R>()
+    ensures { (w : World S Id) (r : ReportFields S) (reasons : List (Option R))
+        → HaveOneSource w → AreForward w r
+        → let infos = drawn_labels w r.config 0 r.labels reasons in
+        let rows = canvas w r infos in let groups = sections w r infos in
+        CanBeRead rows groups (λ placing. has_whole_blocks groups placing) }
+{}
+
+/// No stroke without a cause: in the rows below a line each cell of a place is blank, or shows a
+/// vertical, a corner, a horizontal or an underline that a label has there.
+pub fn no_stroke_is_without_a_cause<S, Id, R>()
+    ensures { (w : World S Id) (r : ReportFields S) (reasons : List (Option R))
+        → HaveOneSource w → AreForward w r
+        → let infos = drawn_labels w r.config 0 r.labels reasons in
+        let rows = canvas w r infos in let groups = sections w r infos in
+        CanBeRead rows groups (λ placing. has_no_other_strokes rows groups placing) }
+{}
+
 /// Every picture can be read, under one choice of row numbers for all of this: its rows belong
-/// together, each accepted message has a row of its own, and strokes lead from it to its label, in
-/// the columns where the source row shows them. The two premises hold wherever sources are looked
+/// together, each accepted message has a row of its own, strokes lead from it to its label, in the
+/// columns where the source row shows them, and no stroke stands elsewhere. The two premises hold wherever sources are looked
 /// up by their ids, and labels start at most at their ends.
 pub fn every_picture_can_be_read<S, Id, R>()
     ensures { (w : World S Id) (r : ReportFields S) (reasons : List (Option R))
         → HaveOneSource w → AreForward w r
         → let infos = drawn_labels w r.config 0 r.labels reasons in
         IsTraced (canvas w r infos) (sections w r infos) (texts_of r).message_of }
+{}
+
+/// The source row of each line is found in one way: row numbers under which the rows of a picture
+/// belong together have the same row for it.
+pub fn lines_are_found_in_one_way<S, Id, R>()
+    ensures { (w : World S Id) (r : ReportFields S) (reasons : List (Option R))
+        → AreForward w r
+        → let infos = drawn_labels w r.config 0 r.labels reasons in
+        let rows = canvas w r infos in let groups = sections w r infos in
+        (p q : Placing) → is_placing rows groups p ≡ true → is_placing rows groups q ≡ true
+        → AgreeOnLines groups p q }
+{}
+
+/// Labels over several lines are read in one way: row numbers that a picture is read by agree on
+/// source rows, and on the head and the message of each such label that has one.
+pub fn gutter_labels_are_read_in_one_way<S, Id, R>()
+    ensures { (w : World S Id) (r : ReportFields S) (reasons : List (Option R))
+        → AreForward w r
+        → let infos = drawn_labels w r.config 0 r.labels reasons in
+        AreReadInOneWay (canvas w r infos) (sections w r infos) (texts_of r).message_of }
+{}
+
+/// Each cell of a picture takes the columns of the characters of its text. So alignment is a fact of
+/// the texts that are sent.
+pub fn cells_take_the_columns_of_their_texts<S, Id>()
+    ensures { (w : World S Id) (r : ReportFields S) (infos : List LabelInfo)
+        → HaveColumnsOfTexts (canvas w r infos) }
+{}
+
+/// The rows of a picture are the lines that are sent, where no text that was handed in has the byte
+/// that begins an escape sequence, and none that a row shows whole has a line feed. Behind the last
+/// line feed stands nothing.
+pub fn rows_are_lines<S, Id>()
+    ensures { (w : World S Id) (r : ReportFields S) (infos : List LabelInfo)
+        → HaveNoEscapes w r → HaveNoLineFeeds w r → RowsAreLines (canvas w r infos) }
 {}
 
 /// Colours move nothing: without them the picture is that of the report without colours, and where

@@ -17,13 +17,18 @@
 //! | `Pieces` | the texts of each row | 12 |
 //! | `Canvas` | the whole picture, in colours | 10 |
 //! | `Print` | the bytes that are sent | 4 |
+//! | `Sent` | what columns and lines are in what is sent | 3 |
 //! | `Placing` | how a finished picture is read, clause by clause | 30 |
+//! | `Blocks` | how many rows stand below a line | 1 |
+//! | `Causes` | that no stroke in the text is none of a label's | 8 |
+//! | `Readings` | what row numbers that a picture is read by agree on | 2 |
 //! | `Variants` | what moves nothing: colours, and what offsets count | 8 |
 //! | `Headline` | what a success of `write` means | 3 |
 //!
-//! For the headline alone `Report`, `Accept`, `Placing`, `Variants` and `Headline` serve. `Bars`
-//! says once more, case by case, where gutter bars stand; it serves the laws in [`laws`]. What
-//! serves only the proofs of code stands in `specs/` of the crates above, and can be skipped.
+//! For the headline alone `Report`, `Accept`, `Sent`, `Placing`, `Blocks`, `Causes`, `Readings`,
+//! `Variants` and `Headline` serve. `Bars` says once more, case by case, where gutter bars stand; it
+//! serves the laws in [`laws`]. What serves only the proofs of code stands in `specs/` of the crates
+//! above, and can be skipped.
 #![tactic(auto)]
 
 pub mod cell;

@@ -85,6 +85,11 @@ pub margin-blank : (w : ℕ) (s : Section) (x : Row) → slice_get (front_pieces
 unfolding margin_pieces
 margin-blank w s x = refl
 
+-- the third one is another, if not compact
+pub margin-gap : (w : ℕ) (s : Section) (x : Row) → s.sheet.switches.compact ≡ false → slice_get (front_pieces w s x) 2 ≡ Some blank_piece
+unfolding margin_pieces
+margin-gap w s x loose = rw loose refl
+
 -- the second cell of a row
 pub margin-cell : (w : ℕ) (s : Section) (x : Row) → slice_get (front_pieces w s x) 1 ≡ Some
     (record { text = margin_text s.sheet.switches.char_set w s.display_offset x; paint = margin_paint x; columns = w + 2 })

@@ -16,18 +16,20 @@ use Rattle.ariadne_picture.proofs.Reading.DrawnReports.{AreNumbered, picture_of,
 use Rattle.ariadne_picture.proofs.Reading.GutterFree.{gutter-bars}
 use Rattle.ariadne_picture.proofs.Reading.InlineTraces.{inline-traces}
 use Rattle.ariadne_picture.proofs.Reading.EndTraces.{end-traces}
+use Rattle.ariadne_picture.proofs.Reading.OtherStrokes.{no-other-strokes}
+use Rattle.ariadne_picture.proofs.Reading.WholeBlocks.{whole-blocks}
+use Rattle.ariadne_picture.specs.Causes.{has_no_other_strokes}
 use Rattle.ariadne_picture.proofs.Reading.Pictures.{Picture}
 use Rattle.ariadne_picture.proofs.Rows.RowPlacing.{row_placing}
 
 module _ {S Id R : Type 0} (w : World S Id) (r : ReportFields S) (reasons : List (Option R))
-    (law : (p q : Id) → w.is_same p q ≡ true → w.source_of p ≡ w.source_of q)
     (forward : AllByRecursion (λ label. w.start_of label.span ≤ w.end_of label.span) r.labels) where
   -- the labels that acceptance lets in
   abbrev infos : List LabelInfo
   infos = drawn_labels w r.config 0 r.labels reasons
 
   -- acceptance orders the ends of a label, counts the labels and places them
-  numbered : AreNumbered infos
+  pub numbered : AreNumbered infos
   numbered = record {
     rises = recursion_from_All EndsNoEarlier infos (drawn-rise w r.config 0 r.labels reasons);
     numbers = drawn-numbers w r reasons forward;
@@ -37,29 +39,34 @@ module _ {S Id R : Type 0} (w : World S Id) (r : ReportFields S) (reasons : List
   abbrev picture : Picture
   picture = picture_of w r infos numbered
 
-  -- each is placed within the source of its group, as the law gives each group one source
-  placed : ArePlaced picture
-  placed g s = sections-placed w r law reasons g s forward
+  module _ (law : (p q : Id) → w.is_same p q ≡ true → w.source_of p ≡ w.source_of q) where
+    -- each is placed within the source of its group, as the law gives each group one source
+    placed : ArePlaced picture
+    placed g s = sections-placed w r law reasons g s forward
 
-  -- its labels within a line are led to their characters, its gutter labels into and out of their columns, in which their
-  -- bars stand
-  pub every-inline : has_inline_traces (canvas w r infos) (sections w r infos) (row_placing (texts_of r) (sections w r infos)) ≡ true
-  every-inline = of-canvas w r infos numbered has_inline_traces (inline-traces picture placed)
+    -- its labels within a line are led to their characters, its gutter labels into and out of their columns, in which their
+    -- bars stand
+    pub every-inline : has_inline_traces (canvas w r infos) (sections w r infos) (row_placing (texts_of r) (sections w r infos)) ≡ true
+    every-inline = of-canvas w r infos numbered has_inline_traces (inline-traces picture placed)
 
-  pub every-end : has_ends_of_gutter_traces (canvas w r infos) (sections w r infos) (row_placing (texts_of r) (sections w r infos)) ≡ true
-  every-end = of-canvas w r infos numbered has_ends_of_gutter_traces (end-traces picture placed)
+    pub every-end : has_ends_of_gutter_traces (canvas w r infos) (sections w r infos) (row_placing (texts_of r) (sections w r infos)) ≡ true
+    every-end = of-canvas w r infos numbered has_ends_of_gutter_traces (end-traces picture placed)
 
-  pub every-bar : has_gutter_bars (canvas w r infos) (sections w r infos) (row_placing (texts_of r) (sections w r infos)) ≡ true
-  every-bar = of-canvas w r infos numbered has_gutter_bars (gutter-bars picture placed)
+    pub every-bar : has_gutter_bars (canvas w r infos) (sections w r infos) (row_placing (texts_of r) (sections w r infos)) ≡ true
+    every-bar = of-canvas w r infos numbered has_gutter_bars (gutter-bars picture placed)
 
-  -- the tracing promise
-  pub every-traced : IsTraced (canvas w r infos) (sections w r infos) (texts_of r).message_of
-  every-traced = record {
-    placing = row_placing (texts_of r) (sections w r infos);
-    rows_belong_together = canvas-placed w r infos numbered;
-    each_message_has_one_row_of_its_own = canvas-messages w r infos numbered;
-    strokes_lead_from_it_to_the_attach_character = every-inline;
-    or_to_both_ends_of_the_gutter_column = every-end;
-    and_along_the_gutter_column = every-bar;
-    in_the_columns_where_the_source_row_shows_them = canvas-aligned w r infos numbered;
-  }
+    -- the tracing promise
+    pub every-traced : IsTraced (canvas w r infos) (sections w r infos) (texts_of r).message_of
+    every-traced = (
+      row_placing (texts_of r) (sections w r infos),
+      record {
+        rows_belong_together = canvas-placed w r infos numbered;
+        blocks_are_whole = whole-blocks picture;
+        each_message_has_one_row_of_its_own = canvas-messages w r infos numbered;
+        strokes_lead_from_it_to_the_attach_character = every-inline;
+        or_to_both_ends_of_the_gutter_column = every-end;
+        and_along_the_gutter_column = every-bar;
+        in_the_columns_where_the_source_row_shows_them = canvas-aligned w r infos numbered;
+        and_no_stroke_stands_elsewhere = of-canvas w r infos numbered has_no_other_strokes (no-other-strokes picture);
+      },
+    )

@@ -18,7 +18,7 @@ use Rattle.ariadne_picture.specs.Strokes.{is_at_margin, has_tee, rank_at}
 use Rattle.ariadne_picture.specs.Cells.{margin_glyph}
 use Rattle.ariadne_picture.specs.Pieces.{Piece, Section, glyph_text, margin_text, blank_piece}
 use Rattle.ariadne_picture.specs.Placing.{is_level, set_of, is_margin_at, between, gutter_cell, shown_lines, is_gap_row, is_crossed_in, is_bar}
-use Rattle.ariadne_picture.specs.Placing.{is_blank, ends_in}
+use Rattle.ariadne_picture.specs.Placing.{is_blank, ends_in, text_cell, has_gutter}
 use Rattle.ariadne_picture.proofs.Cells.MarginTexts.{margin-blank}
 use Rattle.ariadne_picture.proofs.Labels.LabelsAtLine.{IsHere, gutter-labels-owned}
 use Rattle.ariadne_picture.proofs.Labels.LabelPlaces.{IsPlaced, covers}
@@ -33,16 +33,16 @@ use Rattle.ariadne_picture.proofs.Reading.EndTraces.{its-message, head-corner, e
 use Rattle.ariadne_picture.proofs.Reading.GapMargins.{alternate-no-gap, arrow-no-gap, gap-margin}
 use Rattle.ariadne_picture.proofs.Reading.GutterCells.{own-glyph, column_shows, gutter-cell, column-few}
 use Rattle.ariadne_picture.proofs.Cells.GutterInks.{bar-beside, bar-gap, bar-alternate, bar-arrow, behind-arrow}
-use Rattle.ariadne_picture.proofs.Reading.HeadPlaces.{IsGutterLabelOf, head-place}
+use Rattle.ariadne_picture.proofs.Reading.HeadPlaces.{IsGutterLabelOf, margin-line, head-at-margin, head-place}
 use Rattle.ariadne_picture.proofs.Cells.InkCells.{shows-level}
 use Rattle.ariadne_picture.proofs.Reading.InOrder.{in-order}
 use Rattle.ariadne_picture.proofs.Reading.PlaceCounts.{ArePlaced}
 use Rattle.ariadne_picture.proofs.Reading.GutterSpans.{IsSpan, bar-inside, own-place}
 use Rattle.ariadne_picture.proofs.Reading.MessagePlaces.{label-here, arrow-shows, two-true}
 use Rattle.ariadne_picture.proofs.Reading.Pictures.{Picture, row-there, RowAt, read, number, source_row, message_row, head_row, number-at}
-use Rattle.ariadne_picture.proofs.Reading.ShownLine.{rows_above, IsArrowRow, numbered-at, IsShownLine, source-is, source-at, every-line}
+use Rattle.ariadne_picture.proofs.Reading.ShownLine.{rows_above, IsArrowRow, arrow-at, numbered-at, IsShownLine, source-is, source-at, every-line}
 use Rattle.ariadne_picture.proofs.Reading.ShownLine.{group-line-at, source-row-is}
-use Rattle.ariadne_picture.proofs.Reading.TextRows.{IsTextRow, source-text, arrow-text, alternate-text, front-at, gap-text}
+use Rattle.ariadne_picture.proofs.Reading.TextRows.{IsTextRow, source-text, arrow-text, alternate-text, front-at, gap-text, row-length}
 use Rattle.ariadne_picture.proofs.Reading.Placed.{margin-shows}
 use Rattle.ariadne_picture.proofs.Reading.RowNames.{IsName, name-of, named-arrow}
 use Rattle.ariadne_picture.proofs.Rows.RowPlacing.{row_list}
@@ -53,6 +53,10 @@ list_any-false test [] a = refl
 list_any-false test (x ∷ xs) a = rw a.0 (list_any-false test xs a.1)
 
 module _ (v : Picture) {g : ℕ} {s : Section} {i : ℕ} {a : LabelInfo} (o : IsGutterLabelOf v g s i a) where
+  -- a row with a text has gutter cells before it
+  gutter-there : {x : Row} {text : List Piece} → IsTextRow v g s x text → read v has_gutter s (number v g s x) ≡ true
+  gutter-there {x} r = let long = row-length v r in le-leb (text_cell s) _ (omega (arith, long))
+
   -- a row that is no source row is none of a shown line
   no-source : {k : ℕ} (x : Row) → RowAt v g s k x → ((l : ℕ) → x ≡ source l → ⊥)
       → list_any (λ l. source_row v g l == number v g s x) (shown_lines s) ≡ false
@@ -214,13 +218,37 @@ module _ (v : Picture) {g : ℕ} {s : Section} {i : ℕ} {a : LabelInfo} (o : Is
         ∙ arrow-passes (named-arrow v is name) is low high
     between-passes k x is name low high = absurd (bars-of-lines s.sheet x i (bar-inside v o h x is low high refl))
 
+    -- its row has gutter cells
+    between-gutter : (k : ℕ) (x : Row) → RowAt v g s k x → IsName s.sheet x → h.from < k → k < h.to → read v has_gutter s (number v g s x) ≡ true
+    unfolding has_tee
+    between-gutter k (bare l) is name low high = absurd (no-bare is low high name.0 name.1)
+    between-gutter k (source l) is name low high = gutter-there (source-text v is)
+    between-gutter k (gap l) is name low high = gutter-there (gap-text v is)
+    between-gutter k (alternate l r) is name low high = gutter-there (alternate-text v is)
+    between-gutter k (arrow l r) is name low high = gutter-there (arrow-text v is)
+    between-gutter k x is name low high = absurd (bars-of-lines s.sheet x i (bar-inside v o h x is low high refl))
+
+    -- so do those of the head and of the corner
+    head-gutter : read v has_gutter s (head_row v g i) ≡ true
+    head-gutter = elim (cases_Bool (is_margin_at s a.start_line i)) [
+      | inl at ↦ rw (head-at-margin v o at) (gutter-there (source-text v (source-row-is v (margin-line v o at))))
+      | inr off ↦ let q = head-place v o off in rw q.row (gutter-there (arrow-text v (arrow-at v q.arrow_row)))
+    ]
+
+    end-gutter : read v has_gutter s (message_row v a.position) ≡ true
+    end-gutter = let q = its-message v o in rw q.row (gutter-there (arrow-text v (arrow-at v q.arrow_row)))
+
     -- so all rows from the head to the corner pass
-    row-passes : (n : ℕ) → head_row v g i ≤ n → n ≤ message_row v a.position → bar_test n ≡ true
+    row-passes : (n : ℕ) → head_row v g i ≤ n → n ≤ message_row v a.position → (read v has_gutter s n && bar_test n) ≡ true
     unfolding is_bar
     row-passes n low high = elim (cases_Bool (n == head_row v g i)) [
-      | inl z ↦ cond-true _ _ _ z ∙ ap (λ n. column_shows v s n i Ltop) (eqb-true n _ z) ∙ head-corner v o
+      | inl z ↦
+          both_true (ap (read v has_gutter s) (eqb-true n _ z) ∙ head-gutter)
+          (cond-true _ _ _ z ∙ ap (λ n. column_shows v s n i Ltop) (eqb-true n _ z) ∙ head-corner v o)
       | inr ne ↦ elim (cases_Bool (n == message_row v a.position)) [
-        | inl z ↦ cond-false _ _ _ ne ∙ cond-true _ _ _ z ∙ ap (λ n. column_shows v s n i Lbot) (eqb-true n _ z) ∙ end-corner v o
+        | inl z ↦
+            both_true (ap (read v has_gutter s) (eqb-true n _ z) ∙ end-gutter)
+            (cond-false _ _ _ ne ∙ cond-true _ _ _ z ∙ ap (λ n. column_shows v s n i Lbot) (eqb-true n _ z) ∙ end-corner v o)
         | inr nm ↦
             let next = start-next v.texts v.sections g s o.group in
             let few = slice_get_within (row_list v.texts v.sections s) h.to _ h.foot.name in
@@ -230,11 +258,14 @@ module _ (v : Picture) {g : ℕ} {s : Section} {i : ℕ} {a : LabelInfo} (o : Is
             let at = number-at v x.2 in
             let first : n ≡ head_row v g i → ⊥ = λ z. true≢false (sym (eq-eqb n _ z) ∙ ne) in
             let last : n ≡ message_row v a.position → ⊥ = λ z. true≢false (sym (eq-eqb n _ z) ∙ nm) in
-            rw (← x.3) (between-passes x.0 x.1 x.2 (name-of v x.2) (omega arith) (omega arith))
+            let name = name-of v x.2 in
+            let low : h.from < x.0 = omega arith in
+            let high : x.0 < h.to = omega arith in
+            rw (← x.3) (both_true (between-gutter x.0 x.1 x.2 name low high) (between-passes x.0 x.1 x.2 name low high))
       ]
     ]
 
-    pub stroke-passes : list_all bar_test (between (head_row v g i) (message_row v a.position + 1)) ≡ true
+    pub stroke-passes : list_all (λ n. read v has_gutter s n && bar_test n) (between (head_row v g i) (message_row v a.position + 1)) ≡ true
     stroke-passes =
         let from : ℕ = head_row v g i in
         let to : ℕ = message_row v a.position in

@@ -42,11 +42,11 @@ best-some beats [] x h = absurd (none≢some x h.there)
 best-some beats (y ∷ ys) x h = (best_of beats y ys, refl)
 
 -- how many line labels stand before the first that has a message
-abbrev silent : List LineLabel → ℕ
+abbrev pub silent : List LineLabel → ℕ
 silent xs = position_or_len (λ (x : LineLabel). x.info.has_message) xs
 
 -- the first row of a block is the alternate row of its first label that has a message
-first-alternate : (l a : ℕ) (xs : List LineLabel) → list_any (λ (x : LineLabel). x.info.has_message) xs ≡ true
+pub first-alternate : (l a : ℕ) (xs : List LineLabel) → list_any (λ (x : LineLabel). x.info.has_message) xs ≡ true
     → slice_get (joined (label_rows false l) (enumerate_from a xs)) 0 ≡ Some (alternate l (a + silent xs))
 unfolding joined label_rows
 first-alternate l a [] h = absurd (true≢false (sym h))

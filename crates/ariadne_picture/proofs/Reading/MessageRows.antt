@@ -27,7 +27,7 @@ use Rattle.ariadne_picture.proofs.Reading.TextRows.{IsTextRow, area, arrow_inks,
 use Rattle.ariadne_picture.proofs.Lists.ListFacts.{all-filtered}
 
 -- a label that is no start shows its message, behind a blank
-message-shown : (t : Texts) (o : Option LineLabel) (x : LineLabel) → o ≡ Some x → is_start x.side ≡ false
+pub message-shown : (t : Texts) (o : Option LineLabel) (x : LineLabel) → o ≡ Some x → is_start x.side ≡ false
     → message_pieces t o ≡ blank_piece ∷ plain_text (t.message_of x.info.position) ∷ []
 unfolding message_pieces
 message-shown t o x e off = ap (message_pieces t) e ∙ (rw off refl)

@@ -58,7 +58,7 @@ vertical-there y r k x h e m off =
     (both_true (both_true m (ap not off)) (eq-eqb x.place x.place refl))
 
 -- a row that stands before another of its line has a lower step
-step-rises : (x y : Row) → row_part x ≡ row_part y → row_line x ≡ row_line y → IsBefore x y → row_step x < row_step y
+pub step-rises : (x y : Row) → row_part x ≡ row_part y → row_line x ≡ row_line y → IsBefore x y → row_step x < row_step y
 step-rises x y part line before = elim ((before-decides x y).0 before) [
   | inl less ↦ absurd (omega arith)
   | inr same ↦ elim same.1 [ inl less ↦ absurd (omega arith) | inr step ↦ step.1 ]

@@ -14,14 +14,14 @@ use Rattle.ariadne_picture.specs.Groups.{group_lines}
 use Rattle.ariadne_picture.specs.Ranks.{multi_line_labels, gutter_labels, is_hidden}
 use Rattle.ariadne_picture.specs.Rows.{Row, source, arrow, row_part, row_line}
 use Rattle.ariadne_picture.specs.Columns.{layout_of, shown, column_of}
-use Rattle.ariadne_picture.specs.Pieces.{Piece, Section, glyph_text, margin_text}
+use Rattle.ariadne_picture.specs.Pieces.{Piece, Section, glyph_text, margin_text, blank_piece}
 use Rattle.ariadne_picture.specs.Canvas.{Cell, cell_of}
 use Rattle.ariadne_picture.specs.Placing.{cell_at, unindented, text_cells, shown_lines, shown_texts, is_margin_at, is_source_row, is_block_row}
 use Rattle.ariadne_picture.specs.Placing.{is_in_group, is_in_block, are_rising, messages_of, is_line_placed, is_gutter_label_placed, is_group_placed}
-use Rattle.ariadne_picture.specs.Placing.{char_texts, are_distinct, is_placing}
+use Rattle.ariadne_picture.specs.Placing.{char_texts, are_distinct, is_placing, is_blank, has_margin}
 use Rattle.ariadne_picture.proofs.Cells.CanvasRows.{map-map, row_cells}
-use Rattle.ariadne_picture.proofs.Cells.MarginTexts.{margin-cell, source-margin, alternate-margin, arrow-margin, shown-texts}
-use Rattle.ariadne_picture.proofs.Lists.Elements.{all-from, all-numbered, list_all-true, pointwise-equal, texts-same}
+use Rattle.ariadne_picture.proofs.Cells.MarginTexts.{margin-blank, margin-gap, margin-cell, source-margin, alternate-margin, arrow-margin, shown-texts}
+use Rattle.ariadne_picture.proofs.Lists.Elements.{all-from, all-numbered, left-true, right-true, list_all-true, pointwise-equal, texts-same}
 use Rattle.ariadne_picture.proofs.Lists.Joined.{map-joined}
 use Rattle.ariadne_picture.proofs.Lists.ListFacts.{all-joined, Increasing}
 use Rattle.ariadne_picture.proofs.Rows.LineBlock.{filter-append}
@@ -58,6 +58,18 @@ module _ (v : Picture) where
       → (read v cell_at (number v g s x) 1).text ≡ margin_text s.sheet.switches.char_set v.width s.display_offset x
   margin-shows {g} {s} {x} r = ap (λ (c : Cell). c.text) (front-at v r 1 _ (margin-cell v.width s x))
 
+  -- so the row begins as it should, where that text is this one behind blanks
+  has-margin : {g : ℕ} {s : Section} {x : Row} {text : List Piece} (t : List ℕ) → IsTextRow v g s x text
+      → unindented (margin_text s.sheet.switches.char_set v.width s.display_offset x) ≡ t → read v has_margin s t (number v g s x) ≡ true
+  unfolding has_margin
+  has-margin {g} {s} {x} t r same =
+      both_true (both_true (ap is_blank (front-at v r 0 blank_piece (margin-blank v.width s x)))
+      (pointwise-equal _ _ (ap unindented (margin-shows r) ∙ same)))
+      (elim (cases_Bool s.sheet.switches.compact) [
+        | inl tight ↦ left-true _ _ tight
+        | inr loose ↦ right-true _ _ (ap is_blank (front-at v r 2 blank_piece (margin-gap v.width s x loose)))
+      ])
+
   -- ---- a line
 
   module _ (g : ℕ) (s : Section) (l : ℕ) (h : IsShownLine v g s l) where
@@ -77,8 +89,7 @@ module _ (v : Picture) where
     unfolding is_source_row
     source-shows =
         both_true
-        (pointwise-equal _ _ (ap unindented (margin-shows (source-text v (source-row-is v h)))
-        ∙ source-margin s.sheet.switches.char_set v.width s.display_offset l))
+        (has-margin _ (source-text v (source-row-is v h)) (source-margin s.sheet.switches.char_set v.width s.display_offset l))
         (rw source-texts (texts-same (shown_texts s l)))
 
     -- a row of the block has a bar alone in its margin
@@ -86,7 +97,7 @@ module _ (v : Picture) where
         → unindented (margin_text s.sheet.switches.char_set v.width s.display_offset x) ≡ glyph_text s.sheet.switches.char_set Vbar
         → read v is_block_row s (number v g s x) ≡ true
     unfolding is_block_row
-    block-shows x r bar = pointwise-equal _ _ (ap unindented (margin-shows r) ∙ bar)
+    block-shows x r bar = has-margin _ r bar
 
     -- so the line stands where the placing says
     line-placed : read v is_line_placed g s l ≡ true

@@ -13,12 +13,15 @@ use Rattle.ariadne_picture.specs.Pieces.{Section, Texts}
 use Rattle.ariadne_picture.specs.Canvas.{Cell}
 use Rattle.ariadne_picture.specs.Placing.{Placing, is_placing, has_message_rows, has_inline_traces, has_ends_of_gutter_traces, has_gutter_bars}
 use Rattle.ariadne_picture.specs.Placing.{is_aligned}
+use Rattle.ariadne_picture.specs.Blocks.{has_whole_blocks}
+use Rattle.ariadne_picture.specs.Causes.{has_no_other_strokes}
 
 -- all clauses of the tracing promise
 unfoldable pub is_read : List (List Cell) → List Section → Texts → Placing → Bool
 is_read cells parts t p =
     is_placing cells parts p && has_message_rows cells parts p t.message_of && has_inline_traces cells parts p
     && has_ends_of_gutter_traces cells parts p && has_gutter_bars cells parts p && is_aligned cells parts p
+    && has_whole_blocks parts p && has_no_other_strokes cells parts p
 
 -- ---- the groups of a picture, each with its rows by name
 

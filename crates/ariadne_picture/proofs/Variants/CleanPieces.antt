@@ -1,8 +1,8 @@
--- The pieces of every row are without the byte that begins an escape sequence, where the texts that the row shows are.
-use Rattle.std.proofs.Common.{◌≢◌, ℕ, zero, suc, ◌+◌, Bool, true, false, List, [], ◌∷◌, ◌++◌, length, replicate, Option, Some, None, refl, arith}
+-- The pieces of every row are without a control byte, where the texts that the row shows are.
+use Rattle.std.proofs.Common.{◌≡◌, ◌≢◌, ℕ, zero, suc, ◌+◌, Bool, true, false, List, [], ◌∷◌, ◌++◌, length, replicate, Option, Some, None, refl, arith}
 use Rattle.std.proofs.Common.{◌==◌, if◌then◌else◌}
-use Rattle.std.specs.Prelude.{slice_index, slice_index_or, decimal, codes, unwrap_or}
-use Rattle.std.specs.List.{AllByRecursion}
+use Rattle.std.specs.Prelude.{nat_le, slice_index, slice_index_or, decimal, codes, unwrap_or}
+use Rattle.std.specs.List.{AllByRecursion, list_all}
 use Rattle.std.specs.Str.Lines.{lines}
 use Rattle.std.proofs.lemmas.Bool.{cond_both}
 use Rattle.ariadne_base.specs.Locations.{upto}
@@ -10,6 +10,7 @@ use Rattle.ariadne_picture.specs.declared.switches.CharSet.{CharSet}
 use Rattle.ariadne_picture.specs.declared.switches.Switches.{Switches}
 use Rattle.ariadne_picture.specs.declared.label_info.LabelInfo.{LabelInfo}
 use Rattle.ariadne_picture.specs.declared.label_info.LineLabel.{LineLabel}
+use Rattle.ariadne_picture.specs.declared.cell.Glyph.{Glyph}
 use Rattle.ariadne_picture.specs.declared.cell.Glyph.TheVariants.{Hbar}
 use Rattle.ariadne_picture.specs.declared.cell.Paint.{Paint}
 use Rattle.ariadne_picture.specs.declared.cell.Ink.{Ink}
@@ -18,193 +19,220 @@ use Rattle.ariadne_picture.specs.Ranks.{Sheet, is_start, multi_line_labels}
 use Rattle.ariadne_picture.specs.Rows.{Aside, help, note, Row, group_header, spacer, source, alternate, arrow, gap, blank, piece, tail}
 use Rattle.ariadne_picture.specs.Columns.{Layout, layout_of, shown, shown_columns, width, column_of, arrow_len}
 use Rattle.ariadne_picture.specs.Cells.{column_ink}
-use Rattle.ariadne_picture.specs.Pieces.{Piece, blank_piece, plain_text, stroke, glyph_text, ink_pieces, shown_text, char_pieces, char_paint}
+use Rattle.ariadne_picture.specs.Pieces.{Piece, blank_piece, plain_text, spaces, stroke, glyph_text, ink_pieces, shown_text, char_pieces, char_paint}
 use Rattle.ariadne_picture.specs.Pieces.{place_pieces, shown_pieces, area_pieces, margin_text, margin_pieces, column_size, gutter_len, gutter_pieces}
 use Rattle.ariadne_picture.specs.Pieces.{Texts, Section, location_text, group_header_pieces, spacer_pieces, repeated, tail_pieces, message_pieces}
 use Rattle.ariadne_picture.specs.Pieces.{aside_texts, aside_name, aside_prefix, aside_line, aside_pieces, rest_pieces, row_pieces}
 use Rattle.ariadne_picture.proofs.Lists.ListFacts.{all-append}
 use Rattle.ariadne_picture.proofs.Cells.RowCells.{all-replicate}
-use Rattle.ariadne_picture.proofs.Variants.CleanTexts.{IsClean, clean-from, clean-append, all-or, all-parts, clean-spaces, clean-decimal, clean-glyph}
-use Rattle.ariadne_picture.proofs.Variants.CleanTexts.{clean-shown, clean-trimmed, clean-lines}
+use Rattle.ariadne_picture.proofs.Variants.CleanTexts.{IsClean, IsControl, all-or, all-parts, all-trimmed}
+use Rattle.ariadne_picture.proofs.Variants.CleanTexts.{clean-append as append-clean, clean-printable as printable-clean, clean-spaces as spaces-clean}
+use Rattle.ariadne_picture.proofs.Variants.CleanTexts.{clean-decimal as decimal-clean, clean-glyph as glyph-clean, clean-shown}
 
 -- a piece without that byte
-abbrev pub IsCleanPiece : Piece → Type 0
-IsCleanPiece p = IsClean p.text
+abbrev pub IsCleanPiece : ℕ → Piece → Type 0
+IsCleanPiece b p = IsClean b p.text
 
 -- pieces without it
-abbrev pub AreClean : List Piece → Type 0
-AreClean pieces = AllByRecursion IsCleanPiece pieces
+abbrev pub AreClean : ℕ → List Piece → Type 0
+AreClean b pieces = AllByRecursion (IsCleanPiece b) pieces
+
+-- texts that are cut into lines, none of which has it
+abbrev pub HaveCleanLines : ℕ → List (List ℕ) → Type 0
+HaveCleanLines b texts = AllByRecursion (λ t. AllByRecursion (IsClean b) (lines t)) texts
+
+-- lines whose characters are all shown without it
+abbrev pub AreShownClean : ℕ → List (List ℕ) → Type 0
+AreShownClean b ls = AllByRecursion (AllByRecursion (λ c. IsClean b (shown_text c))) ls
 
 -- no text of a report has it
-pub record AreCleanTexts (t : Texts) : Type 0 where
-  pub kind_text : IsClean t.kind_text
-  pub message : IsClean (unwrap_or t.message [])
-  pub helps : AllByRecursion IsClean t.helps
-  pub notes : AllByRecursion IsClean t.notes
-  pub message_of : (k : ℕ) → IsClean (t.message_of k)
+pub record AreCleanTexts (b : ℕ) (t : Texts) : Type 0 where
+  pub kind_text : IsClean b t.kind_text
+  pub message : IsClean b (unwrap_or t.message [])
+  pub helps : HaveCleanLines b t.helps
+  pub notes : HaveCleanLines b t.notes
+  pub message_of : (k : ℕ) → IsClean b (t.message_of k)
 
--- neither the name of a group's source nor its lines, in characters, have it
-pub record IsCleanSection (g : Section) : Type 0 where
-  pub name : IsClean g.name
-  pub lines : AllByRecursion IsClean g.sheet.lines
+-- neither the name of a group's source nor its lines, as they are shown, have it
+pub record IsCleanSection (b : ℕ) (g : Section) : Type 0 where
+  pub name : IsClean b g.name
+  pub lines : AreShownClean b g.sheet.lines
 
--- ---- the cells of inks
+module _ (b : ℕ) (control : IsControl b) where
+  clean-append : (s t : List ℕ) → IsClean b s → IsClean b t → IsClean b (s ++ t)
+  clean-append = append-clean b
 
--- one ink: strokes and blanks
-clean-ink : (set : CharSet) (ink : Ink) (n : ℕ) → AreClean (ink_pieces set ink n)
-unfolding ink_pieces
-clean-ink set ink zero = tt
-clean-ink set ink (suc n) =
-    (clean-glyph set ink.first, all-replicate IsCleanPiece n (stroke set ink.rest ink.rest_paint) (clean-glyph set ink.rest))
+  clean-printable : (t : List ℕ) → list_all (λ c. nat_le 32 c) t ≡ true → IsClean b t
+  clean-printable = printable-clean b control
 
--- those of many places
-clean-inks : (set : CharSet) (ink_at : ℕ → Ink) (size : ℕ → ℕ) (n : ℕ)
-    → AreClean (joined (λ k. ink_pieces set (ink_at k) (size k)) (upto n))
-clean-inks set ink_at size n =
-    all-parts IsCleanPiece (λ k. ink_pieces set (ink_at k) (size k)) (λ k. clean-ink set (ink_at k) (size k)) (upto n)
+  clean-spaces : (n : ℕ) → IsClean b (spaces n)
+  clean-spaces = spaces-clean b control
 
--- a text area
-clean-area : (switches : Switches) (y : Layout) (ink_at : ℕ → Ink) → AreClean (area_pieces switches y ink_at)
-unfolding area_pieces
-clean-area switches y ink_at = clean-inks switches.char_set ink_at (width switches y) (arrow_len switches y)
+  clean-decimal : (n : ℕ) → IsClean b (decimal n)
+  clean-decimal = decimal-clean b control
 
--- a gutter
-clean-gutter : (s : Sheet) (x : Row) → AreClean (gutter_pieces s x)
-unfolding gutter_pieces
-clean-gutter s x = clean-inks s.switches.char_set (column_ink s x) (λ i. column_size s.switches) (gutter_len s)
+  clean-glyph : (set : CharSet) (glyph : Glyph) → IsClean b (glyph_text set glyph)
+  clean-glyph = glyph-clean b control
 
--- ---- source rows
+  -- ---- the cells of inks
 
--- a character that is shown
-clean-char : (switches : Switches) (paint : Paint) (x c : ℕ) → c ≢ 27 → AreClean (char_pieces switches paint x c)
-unfolding char_pieces
-clean-char switches paint x c h =
-    let n = shown_columns switches.tab_width x c in
-    let blank : Piece = record { text = 32 ∷ []; paint = paint; columns = 1 } in
-    cond_both (c == 9) (replicate n blank) (record { text = shown_text c; paint = paint; columns = n } ∷ []) AreClean
-    (λ _. all-replicate IsCleanPiece n blank (λ e. omega arith, tt)) (λ _. (clean-shown c h, tt))
+  -- one ink: strokes and blanks
+  clean-ink : (set : CharSet) (ink : Ink) (n : ℕ) → AreClean b (ink_pieces set ink n)
+  unfolding ink_pieces
+  clean-ink set ink zero = tt
+  clean-ink set ink (suc n) =
+      (clean-glyph set ink.first, all-replicate (IsCleanPiece b) n (stroke set ink.rest ink.rest_paint) (clean-glyph set ink.rest))
 
--- the characters of a line
-clean-line : (switches : Switches) (labels : List LabelInfo) (y : Layout) → IsClean y.text → AreClean (shown_pieces switches labels y)
-unfolding shown_pieces place_pieces shown
-clean-line switches labels y a =
-    let char : (k : ℕ) → slice_index (shown y) k ≢ 27 =
-    λ k. all-or (λ c. c ≢ 27) (shown y) k 0 (λ e. omega arith) (clean-trimmed y.text a) in
-    all-parts IsCleanPiece (place_pieces switches labels y)
-    (λ k. clean-char switches (char_paint labels y k) (column_of switches y k) (slice_index (shown y) k) (char k)) (upto (length (shown y)))
+  -- those of many places
+  clean-inks : (set : CharSet) (ink_at : ℕ → Ink) (size : ℕ → ℕ) (n : ℕ)
+      → AreClean b (joined (λ k. ink_pieces set (ink_at k) (size k)) (upto n))
+  clean-inks set ink_at size n =
+      all-parts (IsCleanPiece b) (λ k. ink_pieces set (ink_at k) (size k)) (λ k. clean-ink set (ink_at k) (size k)) (upto n)
 
--- line number l of a sheet
-clean-source : (switches : Switches) (s : Sheet) (l : ℕ) → AllByRecursion IsClean s.lines
-    → AreClean (shown_pieces switches (multi_line_labels s) (layout_of s l))
-unfolding layout_of
-clean-source switches s l a = clean-line switches (multi_line_labels s) (layout_of s l) (all-or IsClean s.lines l [] tt a)
+  -- a text area
+  clean-area : (switches : Switches) (y : Layout) (ink_at : ℕ → Ink) → AreClean b (area_pieces switches y ink_at)
+  unfolding area_pieces
+  clean-area switches y ink_at = clean-inks switches.char_set ink_at (width switches y) (arrow_len switches y)
 
--- ---- margins, headers and tails
+  -- a gutter
+  clean-gutter : (s : Sheet) (x : Row) → AreClean b (gutter_pieces s x)
+  unfolding gutter_pieces
+  clean-gutter s x = clean-inks s.switches.char_set (column_ink s x) (λ i. column_size s.switches) (gutter_len s)
 
--- a line number, or blanks, and a vertical
-clean-margin_text : (set : CharSet) (w display_offset : ℕ) (x : Row) → IsClean (margin_text set w display_offset x)
-unfolding margin_text
-clean-margin_text set w display_offset (source l) = search (clean-append, clean-spaces, clean-decimal, clean-glyph, clean-from)
-clean-margin_text set w display_offset x = search (clean-append, clean-spaces, clean-glyph)
+  -- ---- source rows
 
--- the margin of a row
-clean-margin : (switches : Switches) (w display_offset : ℕ) (x : Row) → AreClean (margin_pieces switches w display_offset x)
-unfolding margin_pieces
-clean-margin switches w display_offset x =
-    let blank = clean-from (32 ∷ []) refl in
-    let gap = cond_both switches.compact [] (blank_piece ∷ []) AreClean (λ _. tt) (λ _. (blank, tt)) in
-    (blank, (clean-margin_text switches.char_set w display_offset x, gap))
+  -- a character that is shown
+  clean-char : (switches : Switches) (paint : Paint) (x c : ℕ) → IsClean b (shown_text c) → AreClean b (char_pieces switches paint x c)
+  unfolding char_pieces
+  clean-char switches paint x c h =
+      let n = shown_columns switches.tab_width x c in
+      let blank : Piece = record { text = 32 ∷ []; paint = paint; columns = 1 } in
+      cond_both (c == 9) (replicate n blank) (record { text = shown_text c; paint = paint; columns = n } ∷ []) (AreClean b)
+      (λ _. all-replicate (IsCleanPiece b) n blank (clean-printable (32 ∷ []) refl)) (λ _. (h, tt))
 
--- the line and the column that a group header names
-clean-location : (ls : List (List ℕ)) (display_offset : ℕ) (place : Option ℕ) → IsClean (location_text ls display_offset place)
-unfolding location_text
-clean-location ls display_offset None = clean-from (codes "?:?") refl
-clean-location ls display_offset (Some o) = search (clean-append, clean-decimal, clean-from)
+  -- the characters of a line
+  clean-line : (switches : Switches) (labels : List LabelInfo) (y : Layout) → AllByRecursion (λ c. IsClean b (shown_text c)) y.text → AreClean b (shown_pieces switches labels y)
+  unfolding shown_pieces place_pieces shown
+  clean-line switches labels y a =
+      let some = control.some in
+      let IsShown : ℕ → Type 0 = λ c. IsClean b (shown_text c) in
+      let none : IsShown 0 = clean-shown b control 0 (λ _ e. omega arith) in
+      let char : (k : ℕ) → IsShown (slice_index (shown y) k) = λ k. all-or IsShown (shown y) k 0 none (all-trimmed IsShown y.text a) in
+      all-parts (IsCleanPiece b) (place_pieces switches labels y)
+      (λ k. clean-char switches (char_paint labels y k) (column_of switches y k) (slice_index (shown y) k) (char k)) (upto (length (shown y)))
 
--- a group header
-clean-header : (g : Section) (w : ℕ) → IsCleanSection g → AreClean (group_header_pieces g w)
-unfolding group_header_pieces
-clean-header g w h =
-    let name = h.name in let place = clean-location g.sheet.lines g.display_offset g.header_offset in
-    search (clean-append, clean-spaces, clean-glyph, clean-from)
+  -- line number l of a sheet
+  clean-source : (switches : Switches) (s : Sheet) (l : ℕ) → AreShownClean b s.lines
+      → AreClean b (shown_pieces switches (multi_line_labels s) (layout_of s l))
+  unfolding layout_of
+  clean-source switches s l a = clean-line switches (multi_line_labels s) (layout_of s l) (all-or (AllByRecursion (λ c. IsClean b (shown_text c))) s.lines l [] tt a)
 
--- the row below it
-clean-spacer : (set : CharSet) (w : ℕ) → AreClean (spacer_pieces set w)
-unfolding spacer_pieces
-clean-spacer set w = search (clean-spaces, clean-glyph)
+  -- ---- margins, headers and tails
 
--- the row at the group's end
-clean-tail : (set : CharSet) (w : ℕ) (is_last : Bool) → AreClean (tail_pieces set w is_last)
-unfolding tail_pieces repeated
-clean-tail set w false = clean-spacer set w
-clean-tail set w true =
-    let bar = all-parts (λ b. b ≢ 27) (λ k. glyph_text set Hbar) (λ k. clean-glyph set Hbar) (upto (w + 2)) in
-    search (clean-append, clean-glyph)
+  -- a line number, or blanks, and a vertical
+  clean-margin_text : (set : CharSet) (w display_offset : ℕ) (x : Row) → IsClean b (margin_text set w display_offset x)
+  unfolding margin_text
+  clean-margin_text set w display_offset (source l) = search (clean-append, clean-spaces, clean-decimal, clean-glyph, clean-printable)
+  clean-margin_text set w display_offset x = search (clean-append, clean-spaces, clean-glyph)
 
--- ---- messages, helps and notes
+  -- the margin of a row
+  clean-margin : (switches : Switches) (w display_offset : ℕ) (x : Row) → AreClean b (margin_pieces switches w display_offset x)
+  unfolding margin_pieces
+  clean-margin switches w display_offset x =
+      let blank = clean-printable (32 ∷ []) refl in
+      let gap = cond_both switches.compact [] (blank_piece ∷ []) (AreClean b) (λ _. tt) (λ _. (blank, tt)) in
+      (blank, (clean-margin_text switches.char_set w display_offset x, gap))
 
-module _ (t : Texts) (clean : AreCleanTexts t) where
-  -- the message of a label
-  clean-message : (x : Option LineLabel) → AreClean (message_pieces t x)
-  unfolding message_pieces
-  clean-message None = tt
-  clean-message (Some x) =
-      let message = t.message_of x.info.position in
-      cond_both (is_start x.side) [] (blank_piece ∷ plain_text message ∷ []) AreClean
-      (λ _. tt) (λ _. (clean-from (32 ∷ []) refl, (clean.message_of x.info.position, tt)))
+  -- the line and the column that a group header names
+  clean-location : (ls : List (List ℕ)) (display_offset : ℕ) (place : Option ℕ) → IsClean b (location_text ls display_offset place)
+  unfolding location_text
+  clean-location ls display_offset None = clean-printable (codes "?:?") refl
+  clean-location ls display_offset (Some o) = search (clean-append, clean-decimal, clean-printable)
 
-  -- the word in front of a help or a note
-  clean-name : (a : Aside) → IsClean (aside_name a)
-  unfolding aside_name
-  clean-name help = clean-from (codes "Help") refl
-  clean-name note = clean-from (codes "Note") refl
+  -- a group header
+  clean-header : (g : Section) (w : ℕ) → IsCleanSection b g → AreClean b (group_header_pieces g w)
+  unfolding group_header_pieces
+  clean-header g w h =
+      let name = h.name in let place = clean-location g.sheet.lines g.display_offset g.header_offset in
+      search (clean-append, clean-spaces, clean-glyph, clean-printable)
 
-  -- that word with its number, where it has one
-  clean-prefix : (a : Aside) (k : ℕ) → IsClean (aside_prefix t a k)
-  unfolding aside_prefix
-  clean-prefix a k =
-      let is_one = length (aside_texts t a) == 1 in let number = codes " " ++ decimal (k + 1) in
-      let clean : IsClean number = search (clean-append, clean-decimal, clean-from) in
-      clean-append (aside_name a) (if is_one then [] else number) (clean-name a)
-      (cond_both is_one [] number IsClean (λ _. tt) (λ _. clean))
+  -- the row below it
+  clean-spacer : (set : CharSet) (w : ℕ) → AreClean b (spacer_pieces set w)
+  unfolding spacer_pieces
+  clean-spacer set w = search (clean-spaces, clean-glyph)
 
-  -- the helps, or the notes
-  clean-texts : (a : Aside) → AllByRecursion IsClean (aside_texts t a)
-  unfolding aside_texts
-  clean-texts help = clean.helps
-  clean-texts note = clean.notes
+  -- the row at the group's end
+  clean-tail : (set : CharSet) (w : ℕ) (is_last : Bool) → AreClean b (tail_pieces set w is_last)
+  unfolding tail_pieces repeated
+  clean-tail set w false = clean-spacer set w
+  clean-tail set w true =
+      let bar = all-parts (λ c. c ≢ b) (λ k. glyph_text set Hbar) (λ k. clean-glyph set Hbar) (upto (w + 2)) in
+      search (clean-append, clean-glyph)
 
-  -- a line of one
-  clean-aside_line : (a : Aside) (k p : ℕ) → IsClean (aside_line t a k p)
-  unfolding aside_line
-  clean-aside_line a k p =
-      let text = slice_index_or (aside_texts t a) k [] in
-      all-or IsClean (lines text) p [] tt (clean-lines text (all-or IsClean (aside_texts t a) k [] tt (clean-texts a)))
+  -- ---- messages, helps and notes
 
-  -- a row of one
-  clean-aside : (a : Aside) (k p : ℕ) → AreClean (aside_pieces t a k p)
-  unfolding aside_pieces
-  clean-aside a k zero = let line = clean-aside_line a k 0 in search (clean-append, clean-prefix, clean-from)
-  clean-aside a k (suc p) = search (clean-append, clean-spaces, clean-aside_line)
+  module _ (t : Texts) (clean : AreCleanTexts b t) where
+    -- the message of a label
+    clean-message : (x : Option LineLabel) → AreClean b (message_pieces t x)
+    unfolding message_pieces
+    clean-message None = tt
+    clean-message (Some x) =
+        let message = t.message_of x.info.position in
+        cond_both (is_start x.side) [] (blank_piece ∷ plain_text message ∷ []) (AreClean b)
+        (λ _. tt) (λ _. (clean-printable (32 ∷ []) refl, (clean.message_of x.info.position, tt)))
 
-  -- ---- rows
+    -- the word in front of a help or a note
+    clean-name : (a : Aside) → IsClean b (aside_name a)
+    unfolding aside_name
+    clean-name help = clean-printable (codes "Help") refl
+    clean-name note = clean-printable (codes "Note") refl
 
-  module _ (w : ℕ) (g : Section) (named : IsCleanSection g) where
-    -- what follows the margin
-    clean-rest : (x : Row) → AreClean (rest_pieces t g x)
-    unfolding rest_pieces
-    clean-rest (source l) = search (all-append, clean-gutter, clean-source)
-    clean-rest (alternate l r) = search (all-append, clean-gutter, clean-area)
-    clean-rest (arrow l r) = search (all-append, clean-gutter, clean-area, clean-message)
-    clean-rest (gap l) = clean-gutter g.sheet (gap l)
-    clean-rest (blank a k) = clean-gutter g.sheet (blank a k)
-    clean-rest (piece a k p) = search (all-append, clean-gutter, clean-aside)
-    clean-rest x = tt
+    -- that word with its number, where it has one
+    clean-prefix : (a : Aside) (k : ℕ) → IsClean b (aside_prefix t a k)
+    unfolding aside_prefix
+    clean-prefix a k =
+        let is_one = length (aside_texts t a) == 1 in let number = codes " " ++ decimal (k + 1) in
+        let clean : IsClean b number = search (clean-append, clean-decimal, clean-printable) in
+        clean-append (aside_name a) (if is_one then [] else number) (clean-name a)
+        (cond_both is_one [] number (IsClean b) (λ _. tt) (λ _. clean))
 
-    -- a row
-    pub clean-row : (x : Row) → AreClean (row_pieces t w g x)
-    unfolding row_pieces
-    clean-row group_header = clean-header g w named
-    clean-row spacer = clean-spacer g.sheet.switches.char_set w
-    clean-row tail = clean-tail g.sheet.switches.char_set w g.is_last
-    clean-row x = search (all-append, clean-margin, clean-rest)
+    -- the helps, or the notes
+    clean-texts : (a : Aside) → HaveCleanLines b (aside_texts t a)
+    unfolding aside_texts
+    clean-texts help = clean.helps
+    clean-texts note = clean.notes
+
+    -- a line of one
+    clean-aside_line : (a : Aside) (k p : ℕ) → IsClean b (aside_line t a k p)
+    unfolding aside_line
+    clean-aside_line a k p =
+        let text = slice_index_or (aside_texts t a) k [] in
+        all-or (IsClean b) (lines text) p [] tt (all-or (λ t. AllByRecursion (IsClean b) (lines t)) (aside_texts t a) k [] tt (clean-texts a))
+
+    -- a row of one
+    clean-aside : (a : Aside) (k p : ℕ) → AreClean b (aside_pieces t a k p)
+    unfolding aside_pieces
+    clean-aside a k zero = let line = clean-aside_line a k 0 in search (clean-append, clean-prefix, clean-printable)
+    clean-aside a k (suc p) = search (clean-append, clean-spaces, clean-aside_line)
+
+    -- ---- rows
+
+    module _ (w : ℕ) (g : Section) (named : IsCleanSection b g) where
+      -- what follows the margin
+      clean-rest : (x : Row) → AreClean b (rest_pieces t g x)
+      unfolding rest_pieces
+      clean-rest (source l) = search (all-append, clean-gutter, clean-source)
+      clean-rest (alternate l r) = search (all-append, clean-gutter, clean-area)
+      clean-rest (arrow l r) = search (all-append, clean-gutter, clean-area, clean-message)
+      clean-rest (gap l) = clean-gutter g.sheet (gap l)
+      clean-rest (blank a k) = clean-gutter g.sheet (blank a k)
+      clean-rest (piece a k p) = search (all-append, clean-gutter, clean-aside)
+      clean-rest x = tt
+
+      -- a row
+      pub clean-row : (x : Row) → AreClean b (row_pieces t w g x)
+      unfolding row_pieces
+      clean-row group_header = clean-header g w named
+      clean-row spacer = clean-spacer g.sheet.switches.char_set w
+      clean-row tail = clean-tail g.sheet.switches.char_set w g.is_last
+      clean-row x = search (all-append, clean-margin, clean-rest)

@@ -1,13 +1,14 @@
--- Texts without the byte that begins an escape sequence: which texts have none, and that no part of such a text has it.
+-- Texts without a control byte, as the one is that begins an escape sequence, and a line feed: which texts have none, and that
+-- no part of such a text has it.
 use Rattle.std.proofs.Common.{◌≡◌, ◌≢◌, ℕ, zero, suc, ◌+◌, ◌-◌, ◌/◌, ◌%◌, ◌<◌, Bool, true, false, not, ◌&&◌, cond, List, [], ◌∷◌, ◌++◌, take, length}
-use Rattle.std.proofs.Common.{refl, sym, ap, ◌∙◌, subst, arith, ◌==◌, nat_lt}
+use Rattle.std.proofs.Common.{refl, sym, ap, ◌∙◌, subst, arith, ◌==◌, nat_lt, nat_le}
 use Rattle.std.specs.Prelude.{slice_index, slice_index_or, decimal, flat_map, encode_utf8}
 use Rattle.std.specs.Char.{is_whitespace}
 use Rattle.std.specs.Fmt.{digits, digits_onto, digit_glyph}
 use Rattle.std.specs.List.{AllByRecursion, list_all, slice_split, onto_first}
 use Rattle.std.specs.Str.{drop_trailing_whitespace}
 use Rattle.std.specs.Str.Lines.{lines, lines_of_parts, strip_carriage_return}
-use Rattle.std.proofs.lemmas.Bool.{cond_both, cond-true, true≢false, and_parts, eq-eqb, ne_eqb, lt-ltb}
+use Rattle.std.proofs.lemmas.Bool.{cond_both, cond-true, true≢false, and_parts, eq-eqb, ne_eqb, lt-ltb, leb-true}
 use Rattle.ariadne_base.specs.Lines.{lines_of}
 use Rattle.ariadne_base.proofs.LineLaws.{lines_joined}
 use Rattle.ariadne_picture.specs.declared.switches.CharSet.{CharSet}
@@ -17,30 +18,9 @@ use Rattle.ariadne_picture.specs.declared.cell.Glyph.TheVariants.{Blank}
 use Rattle.ariadne_picture.specs.Cells.{glyph_code}
 use Rattle.ariadne_picture.specs.Lists.{joined}
 use Rattle.ariadne_picture.specs.Pieces.{spaces, glyph_text, shown_text}
-use Rattle.ariadne_picture.specs.Variants.{HasNoEscape}
 use Rattle.ariadne_picture.proofs.Lists.ListFacts.{all-append, all-weaker}
 use Rattle.ariadne_picture.proofs.Lists.Elements.{list_all-true}
 use Rattle.ariadne_picture.proofs.Cells.RowCells.{all-replicate}
-
--- none of these bytes or characters is the one that begins an escape sequence
-abbrev pub IsClean : List ℕ → Type 0
-IsClean text = AllByRecursion (λ b. b ≢ 27) text
-
--- a text that passes the test has none
-pub clean-from : (t : List ℕ) → HasNoEscape t → IsClean t
-clean-from [] h = tt
-clean-from (b ∷ t) h =
-    let p = and_parts (not (b == 27)) (list_all (λ b. not (b == 27)) t) h in
-    (λ e. true≢false (sym p.0 ∙ ap not (eq-eqb b 27 e)), clean-from t p.1)
-
--- and one that has none passes it
-pub clean-test : (t : List ℕ) → IsClean t → HasNoEscape t
-clean-test t a =
-    list_all-true (λ b. not (b == 27)) t (all-weaker (λ b. b ≢ 27) (λ b. not (b == 27) ≡ true) t (λ b h. ap not (ne_eqb b 27 h)) a)
-
--- two texts, one behind the other
-pub clean-append : (s t : List ℕ) → IsClean s → IsClean t → IsClean (s ++ t)
-clean-append s t a b = all-append (λ b. b ≢ 27) s t a b
 
 -- ---- parts of lists
 
@@ -93,91 +73,144 @@ module _ {X : Type 0} (P : X → Type 0) where
       cond_both (test x) ([] ∷ slice_split test xs) (onto_first x (slice_split test xs)) (AllByRecursion (AllByRecursion P))
       (λ _. (tt, rest)) (λ _. all-onto_first x (slice_split test xs) a.0 rest)
 
--- ---- what is written beside the texts that are handed in
+-- ---- texts without a byte
 
--- blanks
-pub clean-spaces : (n : ℕ) → IsClean (spaces n)
-unfolding spaces
-clean-spaces n = all-replicate (λ b. b ≢ 27) n 32 (λ e. omega arith)
+-- none of these bytes or characters is this one
+abbrev pub IsClean : ℕ → List ℕ → Type 0
+IsClean b text = AllByRecursion (λ c. c ≢ b) text
 
--- a digit
-clean-digit : (d : ℕ) → d < 10 → digit_glyph false d ≢ 27
-clean-digit d h e =
-    let is : digit_glyph false d ≡ 48 + d = cond-true (nat_lt d 10) (48 + d) (87 + d) (lt-ltb d 10 h) in
-    omega (arith, is, e)
+-- a text passes the test for it
+abbrev pub HasNo : ℕ → List ℕ → Type 0
+HasNo b text = list_all (λ c. not (c == b)) text ≡ true
 
--- digits in front of a text
-clean-digits : (k n : ℕ) (t : List ℕ) → IsClean t → IsClean (digits_onto k 10 false n t)
-clean-digits zero n t a = a
-clean-digits (suc k) n t a =
-    let d = digit_glyph false (n % 10) in
-    let h : d ≢ 27 = clean-digit (n % 10) (omega arith) in
-    cond_both (n / 10 == 0) (d ∷ t) (digits_onto k 10 false (n / 10) (d ∷ t)) IsClean
-    (λ _. (h, a)) (λ _. clean-digits k (n / 10) (d ∷ t) (h, a))
+-- a byte of control
+pub record IsControl (b : ℕ) : Type 0 where
+  pub some : 0 < b
+  pub low : b < 32
 
--- a number
-pub clean-decimal : (n : ℕ) → IsClean (decimal n)
-unfolding digits
-clean-decimal n = clean-digits 64 n [] tt
+module _ (b : ℕ) where
+  -- a text that passes the test has none
+  pub clean-from : (t : List ℕ) → HasNo b t → IsClean b t
+  clean-from [] h = tt
+  clean-from (c ∷ t) h =
+      let p = and_parts (not (c == b)) (list_all (λ c. not (c == b)) t) h in
+      (λ e. true≢false (sym p.0 ∙ ap not (eq-eqb c b e)), clean-from t p.1)
 
--- a stroke, in either set of characters
-pub clean-glyph : (set : CharSet) (glyph : Glyph) → IsClean (glyph_text set glyph)
-unfolding glyph_text glyph_code lib.Utf8.encode
-clean-glyph set glyph = clean-from (glyph_text set glyph) (test set glyph)
-  where
-    test : (set : CharSet) (glyph : Glyph) → HasNoEscape (glyph_text set glyph)
-    test Unicode Blank = refl
-    test Ascii Blank = refl
-    test Unicode glyph = refl
-    test Ascii glyph = refl
+  -- and one that has none passes it
+  pub clean-test : (t : List ℕ) → IsClean b t → HasNo b t
+  clean-test t a =
+      list_all-true (λ c. not (c == b)) t (all-weaker (λ c. c ≢ b) (λ c. not (c == b) ≡ true) t (λ c h. ap not (ne_eqb c b h)) a)
 
--- ---- characters
+  -- two texts, one behind the other
+  pub clean-append : (s t : List ℕ) → IsClean b s → IsClean b t → IsClean b (s ++ t)
+  clean-append s t m n = all-append (λ c. c ≢ b) s t m n
 
--- a character's bytes: its own below 128, and else none below 128
-pub clean-encode : (c : ℕ) → c ≢ 27 → IsClean (encode_utf8 c)
-unfolding lib.Utf8.encode
-clean-encode c h =
-    let next = λ (n : ℕ). 128 + n % 64 in
-    let past : (n : ℕ) → next n ≢ 27 = λ n e. omega arith in
-    let two = (192 + c / 64) ∷ next c ∷ [] in
-    let three = (224 + c / 4096) ∷ next (c / 64) ∷ next c ∷ [] in
-    let four = (240 + c / 262144) ∷ next (c / 4096) ∷ next (c / 64) ∷ next c ∷ [] in
-    let long = cond (nat_lt c 65536) three four in
-    cond_both (nat_lt c 128) (c ∷ []) (cond (nat_lt c 2048) two long) IsClean (λ _. (h, tt))
-    (λ _. cond_both (nat_lt c 2048) two long IsClean (λ _. (λ e. omega arith, (past c, tt)))
-    (λ _. cond_both (nat_lt c 65536) three four IsClean (λ _. (λ e. omega arith, (past (c / 64), (past c, tt))))
-    (λ _. (λ e. omega arith, (past (c / 4096), (past (c / 64), (past c, tt)))))))
+module _ (b : ℕ) (control : IsControl b) where
+  -- ---- what is written beside the texts that are handed in
 
--- a character is shown by its bytes, or as a blank
-pub clean-shown : (c : ℕ) → c ≢ 27 → IsClean (shown_text c)
-unfolding shown_text
-clean-shown c h =
-    cond_both (is_whitespace c) (32 ∷ []) (encode_utf8 c) IsClean (λ _. (λ e. omega arith, tt)) (λ _. clean-encode c h)
+  -- printable texts
+  pub clean-printable : (t : List ℕ) → list_all (λ c. nat_le 32 c) t ≡ true → IsClean b t
+  clean-printable [] h = tt
+  clean-printable (c ∷ t) h =
+      let low = control.low in
+      let p = and_parts (nat_le 32 c) (list_all (λ c. nat_le 32 c) t) h in
+      let least = leb-true 32 c p.0 in
+      (λ e. omega arith, clean-printable t p.1)
 
--- characters without the white space at their end
-pub clean-trimmed : (cs : List ℕ) → IsClean cs → IsClean (drop_trailing_whitespace cs)
-clean-trimmed [] a = tt
-clean-trimmed (c ∷ cs) a =
-    cond_both (is_whitespace c && length (drop_trailing_whitespace cs) == 0) [] (c ∷ drop_trailing_whitespace cs) IsClean
-    (λ _. tt) (λ _. (a.0, clean-trimmed cs a.1))
+  -- blanks
+  pub clean-spaces : (n : ℕ) → IsClean b (spaces n)
+  unfolding spaces
+  clean-spaces n = let low = control.low in all-replicate (λ c. c ≢ b) n 32 (λ e. omega arith)
+
+  -- digits in front of a text
+  clean-digits : (k n : ℕ) (t : List ℕ) → IsClean b t → IsClean b (digits_onto k 10 false n t)
+  clean-digits zero n t a = a
+  clean-digits (suc k) n t a =
+      let low = control.low in
+      let d = digit_glyph false (n % 10) in
+      let small : n % 10 < 10 = omega arith in
+      let is : d ≡ 48 + n % 10 = cond-true (nat_lt (n % 10) 10) (48 + n % 10) (87 + n % 10) (lt-ltb (n % 10) 10 small) in
+      let h : d ≢ b = λ e. omega (arith, is, e) in
+      cond_both (n / 10 == 0) (d ∷ t) (digits_onto k 10 false (n / 10) (d ∷ t)) (IsClean b)
+      (λ _. (h, a)) (λ _. clean-digits k (n / 10) (d ∷ t) (h, a))
+
+  -- a number
+  pub clean-decimal : (n : ℕ) → IsClean b (decimal n)
+  unfolding digits
+  clean-decimal n = clean-digits 64 n [] tt
+
+  -- a stroke, in either set of characters
+  pub clean-glyph : (set : CharSet) (glyph : Glyph) → IsClean b (glyph_text set glyph)
+  unfolding glyph_text glyph_code lib.Utf8.encode
+  clean-glyph set glyph = clean-printable (glyph_text set glyph) (test set glyph)
+    where
+      test : (set : CharSet) (glyph : Glyph) → list_all (λ c. nat_le 32 c) (glyph_text set glyph) ≡ true
+      test Unicode Blank = refl
+      test Ascii Blank = refl
+      test Unicode glyph = refl
+      test Ascii glyph = refl
+
+  -- ---- characters
+
+  -- a character's bytes: its own below 128, and else none below 128
+  clean-encode : (c : ℕ) → c ≢ b → IsClean b (encode_utf8 c)
+  unfolding lib.Utf8.encode
+  clean-encode c h =
+      let low = control.low in
+      let next = λ (n : ℕ). 128 + n % 64 in
+      let past : (n : ℕ) → next n ≢ b = λ n e. omega arith in
+      let two = (192 + c / 64) ∷ next c ∷ [] in
+      let three = (224 + c / 4096) ∷ next (c / 64) ∷ next c ∷ [] in
+      let four = (240 + c / 262144) ∷ next (c / 4096) ∷ next (c / 64) ∷ next c ∷ [] in
+      let long = cond (nat_lt c 65536) three four in
+      cond_both (nat_lt c 128) (c ∷ []) (cond (nat_lt c 2048) two long) (IsClean b) (λ _. (h, tt))
+      (λ _. cond_both (nat_lt c 2048) two long (IsClean b) (λ _. (λ e. omega arith, (past c, tt)))
+      (λ _. cond_both (nat_lt c 65536) three four (IsClean b) (λ _. (λ e. omega arith, (past (c / 64), (past c, tt))))
+      (λ _. (λ e. omega arith, (past (c / 4096), (past (c / 64), (past c, tt)))))))
+
+  -- a character is shown by its bytes, or as a blank
+  pub clean-shown : (c : ℕ) → (is_whitespace c ≡ false → c ≢ b) → IsClean b (shown_text c)
+  unfolding shown_text
+  clean-shown c h =
+      let low = control.low in
+      cond_both (is_whitespace c) (32 ∷ []) (encode_utf8 c) (IsClean b) (λ _. (λ e. omega arith, tt)) (λ black. clean-encode c (h black))
+
+-- what holds of characters holds of those before the white space at their end
+pub all-trimmed : (P : ℕ → Type 0) (cs : List ℕ) → AllByRecursion P cs → AllByRecursion P (drop_trailing_whitespace cs)
+all-trimmed P [] a = tt
+all-trimmed P (c ∷ cs) a =
+    cond_both (is_whitespace c && length (drop_trailing_whitespace cs) == 0) [] (c ∷ drop_trailing_whitespace cs) (AllByRecursion P)
+    (λ _. tt) (λ _. (a.0, all-trimmed P cs a.1))
 
 -- ---- lines
 
 -- the lines of a source, which join to its characters
-pub clean-lines_of : (t : List ℕ) → IsClean t → AllByRecursion IsClean (lines_of t)
-clean-lines_of t a = all-flat (λ b. b ≢ 27) (lines_of t) (subst IsClean (sym (lines_joined t)) a)
+pub clean-lines_of : (b : ℕ) (t : List ℕ) → IsClean b t → AllByRecursion (IsClean b) (lines_of t)
+clean-lines_of b t a = all-flat (λ c. c ≢ b) (lines_of t) (subst (IsClean b) (sym (lines_joined t)) a)
 
 -- a line without its carriage return
-clean-stripped : (l : List ℕ) → IsClean l → IsClean (strip_carriage_return l)
-clean-stripped l a =
-    let n = length l - 1 in cond_both (slice_index l n == 13) (take n l) l IsClean (λ _. all-take (λ b. b ≢ 27) n l a) (λ _. a)
+clean-stripped : (b : ℕ) (l : List ℕ) → IsClean b l → IsClean b (strip_carriage_return l)
+clean-stripped b l a =
+    let n = length l - 1 in
+    cond_both (slice_index l n == 13) (take n l) l (IsClean b) (λ _. all-take (λ c. c ≢ b) n l a) (λ _. a)
 
 -- the lines in the parts of a text between line feeds
-clean-parts : (parts : List (List ℕ)) → AllByRecursion IsClean parts → AllByRecursion IsClean (lines_of_parts parts)
-clean-parts [] a = tt
-clean-parts (x ∷ []) a = cond_both (length x == 0) [] (x ∷ []) (AllByRecursion IsClean) (λ _. tt) (λ _. a)
-clean-parts (x ∷ y ∷ parts) a = (clean-stripped x a.0, clean-parts (y ∷ parts) a.1)
+clean-parts : (b : ℕ) (parts : List (List ℕ)) → AllByRecursion (IsClean b) parts → AllByRecursion (IsClean b) (lines_of_parts parts)
+clean-parts b [] a = tt
+clean-parts b (x ∷ []) a = cond_both (length x == 0) [] (x ∷ []) (AllByRecursion (IsClean b)) (λ _. tt) (λ _. a)
+clean-parts b (x ∷ y ∷ parts) a = (clean-stripped b x a.0, clean-parts b (y ∷ parts) a.1)
 
 -- the lines of a help or a note, in bytes
-pub clean-lines : (t : List ℕ) → IsClean t → AllByRecursion IsClean (lines t)
-clean-lines t a = clean-parts (slice_split (λ b. b == 10) t) (all-split (λ b. b ≢ 27) (λ b. b == 10) t a)
+pub clean-lines : (b : ℕ) (t : List ℕ) → IsClean b t → AllByRecursion (IsClean b) (lines t)
+clean-lines b t a = clean-parts b (slice_split (λ c. c == 10) t) (all-split (λ c. c ≢ b) (λ c. c == 10) t a)
+
+-- none has a line feed
+pub fed-lines : (t : List ℕ) → AllByRecursion (IsClean 10) (lines t)
+fed-lines t = clean-parts 10 (slice_split (λ c. c == 10) t) (split t)
+  where
+    split : (t : List ℕ) → AllByRecursion (IsClean 10) (slice_split (λ c. c == 10) t)
+    split [] = (tt, tt)
+    split (c ∷ t) =
+        let rest = split t in
+        cond_both (c == 10) ([] ∷ slice_split (λ c. c == 10) t) (onto_first c (slice_split (λ c. c == 10) t)) (AllByRecursion (IsClean 10))
+        (λ _. (tt, rest)) (λ f. all-onto_first (λ c. c ≢ 10) c _ (λ e. true≢false (sym (eq-eqb c 10 e) ∙ f)) rest)

@@ -1,78 +1,11 @@
 -- Finished pictures that were changed by hand and can't be read, by computation. Each theorem gives the verdicts
 -- of all six clauses on the changed rows, by the placing that the names of the rows give, so a clause that
 -- looks at less lets one of them through.
-use Rattle.std.specs.Prelude.{ℕ, ◌≡◌, Bool, true, false, refl, [], ◌∷◌, ◌++◌, Some, None, List, take, drop, slice_set, slice_index_or}
-use Prim.Native.String.{String}
-use Rattle.ariadne_color.specs.declared.color.Color.TheVariants.{Blue}
-use Rattle.ariadne_picture.specs.Report.{ReportFields}
-use Rattle.ariadne_picture.specs.Canvas.{Cell, texts_of}
-use Rattle.ariadne_picture.specs.Placing.{no_cell, is_placing, has_message_rows, has_inline_traces, has_ends_of_gutter_traces, has_gutter_bars}
-use Rattle.ariadne_picture.specs.Placing.{is_aligned}
-use Rattle.ariadne_picture.proofs.Rows.RowPlacing.{row_placing}
-use Rattle.ariadne_picture.proofs.Worked.Sample.{Span, Entry, utf8, one, label, report, drawn}
-use Rattle.ariadne_picture.proofs.Worked.Readings.{infos, cells_of, parts_of, nested, apart, wide}
-
--- ---- rows that are changed; rows and cells count from 0
-
-abbrev Rows : Type 0
-Rows = List (List Cell)
-
--- row n, changed
-unfoldable on_row : ℕ → (List Cell → List Cell) → Rows → Rows
-on_row n change rows = slice_set rows n (change (slice_index_or rows n []))
-
--- cell c, changed
-unfoldable on_cell : ℕ → (Cell → Cell) → List Cell → List Cell
-on_cell c change row = slice_set row c (change (slice_index_or row c no_cell))
-
--- cell c of row n shows this text
-unfoldable shows : ℕ → ℕ → String → Rows → Rows
-shows n c t = on_row n (on_cell c (λ (cell : Cell). record cell { text = utf8 t }))
-
--- cell c of row n has a colour
-unfoldable is_blue : ℕ → ℕ → Rows → Rows
-is_blue n c = on_row n (on_cell c (λ (cell : Cell). record cell { color = Some Blue }))
-
--- cell c of row n takes so many columns
-unfoldable takes : ℕ → ℕ → ℕ → Rows → Rows
-takes n c columns = on_row n (on_cell c (λ (cell : Cell). record cell { columns = columns }))
-
--- a plain cell of one column
-unfoldable plain : String → Cell
-plain t = record { text = utf8 t; color = None; columns = 1 }
-
--- ---- verdicts
-
--- placed, message rows, inline traces, ends of gutter traces, gutter bars, alignment
-unfoldable verdicts : List Entry → ReportFields Span → (Rows → Rows) → List Bool
-verdicts entries r change =
-    let cells = change (cells_of entries r) in
-    let parts = parts_of entries r in
-    let p = row_placing (texts_of r) parts in
-    is_placing cells parts p ∷ has_message_rows cells parts p (texts_of r).message_of ∷ has_inline_traces cells parts p
-    ∷ has_ends_of_gutter_traces cells parts p ∷ has_gutter_bars cells parts p ∷ is_aligned cells parts p ∷ []
-
-abbrev all_hold : List Bool
-all_hold = true ∷ true ∷ true ∷ true ∷ true ∷ true ∷ []
-
--- the one clause that fails
-abbrev not_placed : List Bool
-not_placed = false ∷ true ∷ true ∷ true ∷ true ∷ true ∷ []
-
-abbrev no_message_rows : List Bool
-no_message_rows = true ∷ false ∷ true ∷ true ∷ true ∷ true ∷ []
-
-abbrev no_inline_traces : List Bool
-no_inline_traces = true ∷ true ∷ false ∷ true ∷ true ∷ true ∷ []
-
-abbrev no_ends : List Bool
-no_ends = true ∷ true ∷ true ∷ false ∷ true ∷ true ∷ []
-
-abbrev no_bars : List Bool
-no_bars = true ∷ true ∷ true ∷ true ∷ false ∷ true ∷ []
-
-abbrev not_aligned : List Bool
-not_aligned = true ∷ true ∷ true ∷ true ∷ true ∷ false ∷ []
+use Rattle.std.specs.Prelude.{◌≡◌, Bool, true, false, refl, [], ◌∷◌, ◌++◌, List, take, drop}
+use Rattle.ariadne_picture.proofs.Worked.Sample.{one, label, report}
+use Rattle.ariadne_picture.proofs.Worked.Readings.{nested, apart, wide}
+use Rattle.ariadne_picture.proofs.Worked.Changes.{Rows, as_drawn, on_row, shows, is_blue, takes, plain, verdicts, all_hold, not_placed}
+use Rattle.ariadne_picture.proofs.Worked.Changes.{no_message_rows, no_inline_traces, no_ends, no_bars, not_aligned, judged}
 
 -- ---- the pictures
 
@@ -97,18 +30,18 @@ unfoldable of_far : (Rows → Rows) → List Bool
 of_far = verdicts (one "aa\nbb\ncc\ndd\nee") (report (label 0 4 "two lines" ∷ label 13 14 "far" ∷ []))
 
 unfoldable computed : Unit {0}
-unfolding drawn infos nested apart wide cells_of parts_of on_row on_cell shows is_blue takes plain verdicts of_nested of_apart of_wide of_fruit of_far
+unfolding judged nested apart wide of_nested of_apart of_wide of_fruit of_far
 computed = tt
 
-unchanged_nested_labels_are_read : of_nested (λ rows. rows) ≡ all_hold
+unchanged_nested_labels_are_read : of_nested as_drawn ≡ all_hold
 unfolding computed
 unchanged_nested_labels_are_read = refl
 
-unchanged_labels_on_one_line_are_read : of_fruit (λ rows. rows) ≡ all_hold
+unchanged_labels_on_one_line_are_read : of_fruit as_drawn ≡ all_hold
 unfolding computed
 unchanged_labels_on_one_line_are_read = refl
 
-unchanged_far_labels_are_read : of_far (λ rows. rows) ≡ all_hold
+unchanged_far_labels_are_read : of_far as_drawn ≡ all_hold
 unfolding computed
 unchanged_far_labels_are_read = refl
 
@@ -125,6 +58,22 @@ another_character_in_a_source_row = refl
 a_row_behind_the_last : of_wide (λ rows. rows ++ (plain "x" ∷ []) ∷ []) ≡ not_placed
 unfolding computed
 a_row_behind_the_last = refl
+
+a_source_row_that_begins_with_two_blanks : of_nested (shows 6 0 "  ") ≡ not_placed
+unfolding computed
+a_source_row_that_begins_with_two_blanks = refl
+
+a_source_row_with_a_stroke_behind_its_margin : of_nested (shows 6 2 "-") ≡ not_placed
+unfolding computed
+a_source_row_with_a_stroke_behind_its_margin = refl
+
+a_row_below_a_line_that_begins_with_a_stroke : of_nested (shows 7 0 "|") ≡ not_placed
+unfolding computed
+a_row_below_a_line_that_begins_with_a_stroke = refl
+
+a_row_below_a_line_with_a_stroke_behind_its_margin : of_nested (shows 7 2 "-") ≡ not_placed
+unfolding computed
+a_row_below_a_line_with_a_stroke_behind_its_margin = refl
 
 -- ---- message rows
 
@@ -192,6 +141,10 @@ a_blank_in_the_stroke_to_the_last_arrow_head : of_nested (shows 9 5 " ") ≡ no_
 unfolding computed
 a_blank_in_the_stroke_to_the_last_arrow_head = refl
 
+a_blank_for_an_arrow_head_of_the_second_group : of_apart (shows 11 5 " ") ≡ no_ends
+unfolding computed
+a_blank_for_an_arrow_head_of_the_second_group = refl
+
 -- ---- gutter bars
 
 a_bar_a_row_early : of_nested (shows 4 5 "|") ≡ no_bars
@@ -209,6 +162,18 @@ a_gap_row_without_gutter_inside_a_label = refl
 a_gap_row_with_an_unbroken_bar : of_apart (shows 4 3 "|") ≡ no_bars
 unfolding computed
 a_gap_row_with_an_unbroken_bar = refl
+
+a_gap_row_that_begins_with_two_blanks : of_apart (shows 4 0 "  ") ≡ no_bars
+unfolding computed
+a_gap_row_that_begins_with_two_blanks = refl
+
+a_bar_with_a_hole_in_the_second_group : of_apart (shows 13 3 " ") ≡ no_bars
+unfolding computed
+a_bar_with_a_hole_in_the_second_group = refl
+
+a_gap_row_that_ends_with_its_bar : of_apart (on_row 4 (λ row. take 4 row)) ≡ no_bars
+unfolding computed
+a_gap_row_that_ends_with_its_bar = refl
 
 a_bare_row_inside_a_label : of_apart (on_row 4 (λ row. plain " " ∷ plain "  |" ∷ plain " " ∷ [])) ≡ no_bars
 unfolding computed
@@ -239,6 +204,10 @@ a_blank_of_a_tab_taken_as_two_columns = refl
 an_arrow_row_whose_text_begins_a_column_early : of_wide (λ rows. shows 5 1 " |" (takes 5 1 2 rows)) ≡ not_aligned
 unfolding computed
 an_arrow_row_whose_text_begins_a_column_early = refl
+
+a_character_of_two_columns_in_the_second_group : of_apart (takes 12 7 2) ≡ not_aligned
+unfolding computed
+a_character_of_two_columns_in_the_second_group = refl
 
 a_stroke_of_two_columns : of_fruit (takes 4 4 2) ≡ not_aligned
 unfolding computed

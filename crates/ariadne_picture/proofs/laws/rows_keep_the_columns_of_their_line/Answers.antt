@@ -4,5 +4,5 @@ use Rattle.ariadne_picture.proofs.laws.rows_keep_the_columns_of_their_line.Goals
 
 pub returns : goal.returns
 returns g c w r reasons law forward =
-    let all = every-traced w r reasons law forward in
-    (all.placing, all.rows_belong_together, all.in_the_columns_where_the_source_row_shows_them)
+    let all = every-traced w r reasons forward law in
+    (all.0, all.1.rows_belong_together, all.1.in_the_columns_where_the_source_row_shows_them)

@@ -1,0 +1,98 @@
+-- Finished pictures that are changed by hand, and the verdicts of all clauses on them. Rows and cells count from 0.
+use Rattle.std.specs.Prelude.{ℕ, Bool, true, false, [], ◌∷◌, Some, None, List, slice_set, slice_index_or}
+use Rattle.std.specs.List.{list_all}
+use Prim.Native.String.{String}
+use Rattle.ariadne_color.specs.declared.color.Color.TheVariants.{Blue}
+use Rattle.ariadne_picture.specs.Report.{ReportFields}
+use Rattle.ariadne_picture.specs.Canvas.{Cell, texts_of}
+use Rattle.ariadne_picture.specs.Placing.{Placing, no_cell, is_placing, has_message_rows, has_inline_traces, has_ends_of_gutter_traces, has_gutter_bars}
+use Rattle.ariadne_picture.specs.Placing.{is_aligned}
+use Rattle.ariadne_picture.specs.Blocks.{has_whole_blocks}
+use Rattle.ariadne_picture.specs.Causes.{has_no_other_strokes}
+use Rattle.ariadne_picture.proofs.Rows.RowPlacing.{row_placing}
+use Rattle.ariadne_picture.proofs.Worked.Sample.{Span, Entry, utf8, drawn}
+use Rattle.ariadne_picture.proofs.Worked.Readings.{infos, cells_of, parts_of}
+
+-- ---- rows that are changed
+
+abbrev pub Rows : Type 0
+Rows = List (List Cell)
+
+-- no change
+unfoldable pub as_drawn : Rows → Rows
+as_drawn rows = rows
+
+-- row n, changed
+unfoldable pub on_row : ℕ → (List Cell → List Cell) → Rows → Rows
+on_row n change rows = slice_set rows n (change (slice_index_or rows n []))
+
+-- cell c, changed
+unfoldable pub on_cell : ℕ → (Cell → Cell) → List Cell → List Cell
+on_cell c change row = slice_set row c (change (slice_index_or row c no_cell))
+
+-- cell c of row n shows this text
+unfoldable pub shows : ℕ → ℕ → String → Rows → Rows
+shows n c t = on_row n (on_cell c (λ (cell : Cell). record cell { text = utf8 t }))
+
+-- cell c of row n has a colour
+unfoldable pub is_blue : ℕ → ℕ → Rows → Rows
+is_blue n c = on_row n (on_cell c (λ (cell : Cell). record cell { color = Some Blue }))
+
+-- cell c of row n takes so many columns
+unfoldable pub takes : ℕ → ℕ → ℕ → Rows → Rows
+takes n c columns = on_row n (on_cell c (λ (cell : Cell). record cell { columns = columns }))
+
+-- a plain cell of one column
+unfoldable pub plain : String → Cell
+plain t = record { text = utf8 t; color = None; columns = 1 }
+
+-- ---- verdicts
+
+-- placed, message rows, inline traces, ends of gutter traces, gutter bars, alignment
+unfoldable pub verdicts_by : Placing → List Entry → ReportFields Span → (Rows → Rows) → List Bool
+verdicts_by p entries r change =
+    let cells = change (cells_of entries r) in
+    let parts = parts_of entries r in
+    is_placing cells parts p ∷ has_message_rows cells parts p (texts_of r).message_of ∷ has_inline_traces cells parts p
+    ∷ has_ends_of_gutter_traces cells parts p ∷ has_gutter_bars cells parts p ∷ is_aligned cells parts p ∷ []
+
+-- by the placing that the names of the rows give
+unfoldable pub verdicts : List Entry → ReportFields Span → (Rows → Rows) → List Bool
+verdicts entries r = verdicts_by (row_placing (texts_of r) (parts_of entries r)) entries r
+
+abbrev pub all_hold : List Bool
+all_hold = true ∷ true ∷ true ∷ true ∷ true ∷ true ∷ []
+
+-- the one clause that fails
+abbrev pub not_placed : List Bool
+not_placed = false ∷ true ∷ true ∷ true ∷ true ∷ true ∷ []
+
+abbrev pub no_message_rows : List Bool
+no_message_rows = true ∷ false ∷ true ∷ true ∷ true ∷ true ∷ []
+
+abbrev pub no_inline_traces : List Bool
+no_inline_traces = true ∷ true ∷ false ∷ true ∷ true ∷ true ∷ []
+
+abbrev pub no_ends : List Bool
+no_ends = true ∷ true ∷ true ∷ false ∷ true ∷ true ∷ []
+
+abbrev pub no_bars : List Bool
+no_bars = true ∷ true ∷ true ∷ true ∷ false ∷ true ∷ []
+
+abbrev pub not_aligned : List Bool
+not_aligned = true ∷ true ∷ true ∷ true ∷ true ∷ false ∷ []
+
+-- whether these six all hold; whole blocks, and no other strokes
+unfoldable pub further_verdicts_by : Placing → List Entry → ReportFields Span → (Rows → Rows) → List Bool
+further_verdicts_by p entries r change =
+    let parts = parts_of entries r in
+    list_all (λ b. b) (verdicts_by p entries r change) ∷ has_whole_blocks parts p
+    ∷ has_no_other_strokes (change (cells_of entries r)) parts p ∷ []
+
+unfoldable pub further_verdicts : List Entry → ReportFields Span → (Rows → Rows) → List Bool
+further_verdicts entries r = further_verdicts_by (row_placing (texts_of r) (parts_of entries r)) entries r
+
+-- `unfolding judged` lets `refl` compute them
+unfoldable pub judged : Unit {0}
+unfolding drawn infos cells_of parts_of as_drawn on_row on_cell shows is_blue takes plain verdicts_by verdicts further_verdicts_by further_verdicts
+judged = tt

@@ -1,0 +1,69 @@
+-- What may be taken from each sentence of the headline: what is proved here needs each field of the records, and no field of a
+-- premise that these reports don't meet.
+use Rattle.std.proofs.Common.{◌≡◌, ℕ, true, List, Option}
+use Rattle.std.specs.Cmp.Derive.{both_true}
+use Rattle.std.specs.Io.KnownBytes.{Appends}
+use Rattle.std.specs.Prelude.{Some}
+use Rattle.std.specs.List.{AllByRecursion}
+use Rattle.ariadne_picture.specs.declared.label_info.LabelInfo.{LabelInfo}
+use Rattle.ariadne_picture.specs.declared.verdict.Verdict.TheVariants.{Accepted}
+use Rattle.ariadne_picture.specs.Report.{ReportFields, World}
+use Rattle.ariadne_picture.specs.Pieces.{Section, Texts}
+use Rattle.ariadne_picture.specs.Canvas.{Cell, canvas, sections, texts_of}
+use Rattle.ariadne_picture.specs.Print.{printed, erased, unescaped}
+use Rattle.ariadne_picture.specs.Sent.{HaveColumnsOfTexts, HaveNoLineFeeds, RowsAreLines}
+use Rattle.ariadne_picture.specs.Placing.{Placing}
+use Rattle.ariadne_picture.specs.Variants.{HaveNoEscapes, ColorsMoveNothing, BytesDrawAsCharacters, colorless, char_world, char_report, verdict_at}
+use Rattle.ariadne_picture.specs.Headline.{IsReadBy, IsTraced, AreReadInOneWay, Headline}
+use Rattle.ariadne_picture.proofs.Rows.RowPlacing.{is_read}
+use Rattle.ariadne_picture.proofs.Worked.Sample.{world, one}
+use Rattle.ariadne_picture.proofs.Worked.Readings.{infos}
+use Rattle.ariadne_picture.proofs.Worked.Premises.{sources, colored, no_text_has_an_escape, no_row_is_cut, in_bytes, its_own_start_is_a_boundary}
+
+-- row numbers that a picture is read by meet every clause
+all_clauses : (rows : List (List Cell)) (groups : List Section) (t : Texts) (p : Placing) → IsReadBy rows groups t.message_of p
+    → is_read rows groups t p ≡ true
+unfolding is_read
+all_clauses rows groups t p h =
+    both_true (both_true (both_true (both_true (both_true (both_true (both_true h.rows_belong_together h.each_message_has_one_row_of_its_own)
+    h.strokes_lead_from_it_to_the_attach_character) h.or_to_both_ends_of_the_gutter_column) h.and_along_the_gutter_column)
+    h.in_the_columns_where_the_source_row_shows_them) h.blocks_are_whole) h.and_no_stroke_stands_elsewhere
+
+-- the headline is all of these
+all_sentences : {S Id : Type 0} (w : World S Id) (r : ReportFields S) (labels : List LabelInfo) (before after : Option (List ℕ))
+    → Headline w r labels before after
+    → Appends before after (printed (canvas w r labels))
+    × IsTraced (canvas w r labels) (sections w r labels) (texts_of r).message_of
+    × AreReadInOneWay (canvas w r labels) (sections w r labels) (texts_of r).message_of
+    × HaveColumnsOfTexts (canvas w r labels) × (HaveNoEscapes w r → HaveNoLineFeeds w r → RowsAreLines (canvas w r labels))
+    × ColorsMoveNothing w r labels × BytesDrawAsCharacters w r labels
+all_sentences w r labels before after h = (
+  h.exactly_the_printed_canvas_was_sent,
+  h.each_message_is_traced,
+  h.in_one_way,
+  h.each_cell_takes_the_columns_of_its_text,
+  h.its_rows_are_the_lines_that_are_sent,
+  h.colors_move_nothing,
+  h.bytes_draw_as_characters,
+)
+
+-- the cells and the bytes of a report in colours are those of the same report without
+without_colors : let labels = infos sources colored in
+    ColorsMoveNothing (world sources) colored labels
+    → (erased (canvas (world sources) colored labels) ≡ canvas (world sources) (colorless colored) labels)
+    × (unescaped (printed (canvas (world sources) colored labels)) ≡ printed (canvas (world sources) (colorless colored) labels))
+without_colors h = (h.cells, h.bytes no_text_has_an_escape)
+
+-- its rows are the lines that are sent
+whole_lines : let labels = infos sources colored in
+    (HaveNoEscapes (world sources) colored → HaveNoLineFeeds (world sources) colored → RowsAreLines (canvas (world sources) colored labels))
+    → RowsAreLines (canvas (world sources) colored labels)
+whole_lines h = h no_text_has_an_escape no_row_is_cut
+
+-- a report in bytes draws as the one in characters, which accepts its labels
+in_characters : let w = world (one "éb") in
+    let labels = infos (one "éb") in_bytes in
+    BytesDrawAsCharacters w in_bytes labels
+    → AllByRecursion (λ (a : LabelInfo). verdict_at (char_world w) (char_report w in_bytes labels) a.position ≡ Some (Accepted a)) labels
+    × (canvas w in_bytes labels ≡ canvas (char_world w) (char_report w in_bytes labels) labels)
+in_characters h = (h.labels, h.cells its_own_start_is_a_boundary)

@@ -1,0 +1,8 @@
+-- Every picture can be read, this clause too.
+use Rattle.ariadne_picture.proofs.Reading.EveryReport.{every-traced}
+use Rattle.ariadne_picture.proofs.laws.blocks_are_whole.Goals as goal
+
+pub returns : goal.returns
+returns g c w r reasons law forward =
+    let all = every-traced w r reasons forward law in
+    (all.0, all.1.rows_belong_together, all.1.blocks_are_whole)

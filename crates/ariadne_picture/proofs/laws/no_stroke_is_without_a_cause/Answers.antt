@@ -1,0 +1,8 @@
+-- Every picture can be read, this clause too.
+use Rattle.ariadne_picture.proofs.Reading.EveryReport.{every-traced}
+use Rattle.ariadne_picture.proofs.laws.no_stroke_is_without_a_cause.Goals as goal
+
+pub returns : goal.returns
+returns g c w r reasons law forward =
+    let all = every-traced w r reasons forward law in
+    (all.0, all.1.rows_belong_together, all.1.and_no_stroke_stands_elsewhere)
