@@ -12,6 +12,5 @@ pub mod LinesQuiet
 pub mod LinesRows
 pub mod LinesShown
 pub mod LinesWalk
-pub mod Offsets
 pub mod OverLines
 pub mod WholePictures

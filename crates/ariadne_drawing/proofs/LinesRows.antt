@@ -1,7 +1,7 @@
 -- The rows of a line's labels, as they are written one after another.
 use Rattle.std.proofs.Common.{◌≡◌, ◌∙◌, ℕ, zero, suc, ◌+◌, ◌<◌, Bool, true, false, List, [], ◌∷◌, ◌++◌, length, map, get_or, take, refl, sym, ap}
 use Rattle.std.proofs.Common.{subst, arith, append_assoc, Some}
-use Rattle.std.specs.Prelude.{slice_get, OnOk, Result, Ok, Err}
+use Rattle.std.specs.Prelude.{slice_get}
 use Rattle.std.specs.List.{enumerate_from}
 use Rattle.std.proofs.lemmas.List.{append-nil, map-append}
 use Rattle.std.proofs.lemmas.Option.{slice_get-get_or, slice_get_within, get_or_from_slice_get}
@@ -21,13 +21,6 @@ use Rattle.ariadne_rows.specs.Gutters.{GutterFields, IsBelow, HasBarsOf}
 use Rattle.ariadne_rows.proofs.Listing.{joined-more}
 use Rattle.ariadne_rows.proofs.GutterSteps.{below-alternate, below-arrow, column-within}
 use Rattle.ariadne_drawing.specs.Lines.{IsBelowLine}
-
--- ---- what holds after a call that had memory
-
--- so does what follows from it
-pub on-ok : {T E P Q : Type 0} (r : Result T E) → (P → Q) → OnOk r P → OnOk r Q
-on-ok (Ok x) f h = f h
-on-ok (Err e) f h = tt
 
 -- ---- rows written one after another
 

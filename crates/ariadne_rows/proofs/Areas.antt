@@ -1,5 +1,5 @@
 -- The places of a row below a line: a stretch with one stroke is one run, and stretches stand one behind the other.
-use Rattle.std.proofs.Common.{◌≡◌, ℕ, Option, zero, suc, ◌+◌, ◌-◌, ◌<◌, ◌≤◌, List, [], ◌∷◌, ◌++◌, replicate, Some, None, refl, sym, ap, ◌∙◌, subst, arith, append_assoc}
+use Rattle.std.proofs.Common.{◌≡◌, ℕ, Option, zero, suc, ◌+◌, ◌-◌, ◌<◌, ◌≤◌, List, [], ◌∷◌, ◌++◌, replicate, Some, None, refl, sym, ap, ◌∙◌, subst, arith}
 use Rattle.std.proofs.Common.{add-zero, lit<}
 use Rattle.std.specs.List.{range_with_len}
 use Rattle.std.proofs.lemmas.List.{append-nil, replicate-append-replicate}
@@ -27,7 +27,8 @@ use Rattle.ariadne_picture.proofs.Rows.LineBlock.{range-append}
 use Rattle.ariadne_cells.proofs.PlaceColumns.{column_of-between}
 use Rattle.ariadne_rows.specs.declared.area.Backdrop.{Backdrop}
 use Rattle.ariadne_rows.specs.Areas.{seen_ink, places_pieces, DrawsPlaces, DrawsOver}
-use Rattle.ariadne_rows.proofs.Bytes.{pieces_bytes_first, pieces_bytes_none, pieces_bytes-append, plain_bytes}
+use Rattle.ariadne_cells.proofs.Bytes.{pieces_bytes_first, pieces_bytes_none, plain_bytes}
+use Rattle.ariadne_cells.proofs.Drawn.{draws-append}
 
 -- ---- the columns of places
 
@@ -142,14 +143,6 @@ places_run switches y len columns g p from to h order within =
 
 -- ---- what is written
 
--- pieces written behind others
-draws_append : (a b c : PenFields) (xs ys : List Piece) → Draws a b xs → Draws b c ys → Draws a c (xs ++ ys)
-draws_append a b c xs ys d e =
-    let p : Palette = a.page.palette in
-    e ∙ ap (λ (q : PenFields). record q { bytes = q.bytes ++ pieces_bytes q.page.palette ys }) d
-    ∙ ap (λ (t : List ℕ). record a { bytes = t })
-    (append_assoc a.bytes (pieces_bytes p xs) (pieces_bytes p ys) ∙ ap (λ t. a.bytes ++ t) (sym (pieces_bytes-append p xs ys)))
-
 -- no place is written at first
 pub draws_none : (a : PenFields) (table : LineTable) (f : ℕ → Ink) (from : ℕ) → DrawsPlaces a a table f from from
 draws_none a table f from = record {
@@ -173,7 +166,7 @@ draws_more a b c table f i j k low high d e = record {
       let behind : Draws b c (places_pieces s y f j k) =
       subst (λ (q : PageFields). Draws b c (places_pieces q.switches y f j k)) d.page (e.drawn y there) in
       subst (Draws a c) (sym (places_more s y f i j k low high))
-      (draws_append a b c (places_pieces s y f i j) (places_pieces s y f j k) (d.drawn y h) behind);
+      (draws-append a b c (places_pieces s y f i j) (places_pieces s y f j k) (d.drawn y h) behind);
 }
 
 -- inks that agree on the places

@@ -2,7 +2,6 @@ pub mod Areas
 pub mod ArrowRows
 pub mod AsideRows
 pub mod BarBits
-pub mod Bytes
 pub mod CountedColumns
 pub mod Events
 pub mod GutterBytes

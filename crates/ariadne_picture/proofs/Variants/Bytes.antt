@@ -37,12 +37,12 @@ part-bytes n text =
     omega arith
 
 -- an offset of a text, and what it is in characters of it
-record IsInChars (index : IndexType) (text : List ℕ) (start in_chars : ℕ) : Type 0 where
-  found : offset_in_chars index text start ≡ Some in_chars
-  within : in_chars ≤ length text
+pub record IsInChars (index : IndexType) (text : List ℕ) (start in_chars : ℕ) : Type 0 where
+  pub found : offset_in_chars index text start ≡ Some in_chars
+  pub within : in_chars ≤ length text
 
 -- such an offset is no greater than the text: it is itself, or the bytes of a part of the text
-start-within : (index : IndexType) (text : List ℕ) (start in_chars : ℕ) → IsInChars index text start in_chars → start ≤ text_len index text
+pub start-within : (index : IndexType) (text : List ℕ) (start in_chars : ℕ) → IsInChars index text start in_chars → start ≤ text_len index text
 unfolding offset_in_chars text_len char_offset
 start-within Char text start n is = let same : Some start ≡ Some n = is.found in let low = is.within in let equal : start ≡ n = cc in omega arith
 start-within Byte text start n is =

@@ -7,7 +7,7 @@ use Rattle.ariadne_picture.specs.Accept.{offset_in_chars}
 use Rattle.ariadne_picture.specs.Report.{ConfigFields}
 use Rattle.ariadne_rows.specs.Headers.{location_numbers}
 use Rattle.std.specs.Prelude.{chars}
-use Rattle.ariadne_drawing.proofs.Offsets.{start-within}
+use Rattle.ariadne_picture.proofs.Variants.Bytes.{start-within}
 use Rattle.std.proofs.lemmas.Bool.{le-leb}
 use Rattle.std.proofs.Common.{subst}
 use Rattle.std.specs.Str.{IsUtf8}

@@ -9,7 +9,8 @@ use Rattle.ariadne_rows.proofs.GutterSteps.{beside-gap}
 use Rattle.ariadne_drawing.specs.Lines.{AreOverLines}
 use Rattle.ariadne_drawing.proofs.LinesHidden.{drawn-page, drawn-switches, drawn-over, inside-told, over-rise}
 use Rattle.ariadne_drawing.proofs.LinesHidden.{hidden-none, line-there, run-gap, run-none, run-bare}
-use Rattle.ariadne_drawing.proofs.LinesRows.{on-ok, rows-none, rows-one, rows-of}
+use Rattle.std.proofs.lemmas.Result.{on_ok_weaker}
+use Rattle.ariadne_drawing.proofs.LinesRows.{rows-none, rows-one, rows-of}
 use Rattle.ariadne_drawing.proofs.lines.push_hidden.Goals as goal
 
 -- the line is there
@@ -29,7 +30,7 @@ returns-then-is_inside-clause-drawn g c = λ t s h over some beside hidden run.
     c.in_ok-go_to.ensures.ok c.line.ensures c.unwrap-extent.ensures c.requires.within c.offset.ensures some c.is_inside.ensures in
     let own : AreOverLines s.sheet.lines s.sheet.labels = drawn-over t s page.switches source labels h over in
     let inside : is_inside s.sheet l ≡ true = sym told ∙ c.if-is_inside.true in
-    on-ok c.push_gap_row.result (λ d.
+    on_ok_weaker c.push_gap_row.result (λ d.
     rows-of t s page.number_width c.args.pen.now c.push_gap_row.new.pen (gap l ∷ []) (line_rows s.sheet l) (run-gap s.sheet l hidden run inside)
     (rows-one c.args.pen.now c.push_gap_row.new.pen (row_pieces t page.number_width s (gap l)) d))
     (c.push_gap_row.ensures t s l (drawn-page t s page source labels h)
@@ -66,7 +67,7 @@ returns-clause-drawn g c = λ t s h over some beside hidden run.
     let full : s.sheet.switches.compact ≡ false =
     ap (λ (z : Switches). z.compact) (drawn-switches t s page source labels h) ∙ ap (λ (p : PageFields). p.switches.compact) (sym c.page.ensures)
     ∙ ap (λ (w : Switches). w.compact) (sym c.switches.ensures.switches) ∙ c.if-switches.false in
-    on-ok c.push_bare_row.result (λ d.
+    on_ok_weaker c.push_bare_row.result (λ d.
     rows-of t s page.number_width c.args.pen.now c.push_bare_row.new.pen (bare l ∷ []) (line_rows s.sheet l)
     (run-bare s.sheet l hidden run outside full)
     (rows-one c.args.pen.now c.push_bare_row.new.pen (row_pieces t page.number_width s (bare l)) d))

@@ -5,7 +5,8 @@ use Rattle.ariadne_picture.specs.Lists.{joined}
 use Rattle.ariadne_picture.specs.Rows.{line_rows}
 use Rattle.std.specs.List.{range_with_len}
 use Rattle.ariadne_drawing.proofs.LinesHidden.{drawn-labels, drawn-lines, drawn-over}
-use Rattle.ariadne_drawing.proofs.LinesRows.{on-ok, rows-none, rows-of}
+use Rattle.std.proofs.lemmas.Result.{on_ok_weaker}
+use Rattle.ariadne_drawing.proofs.LinesRows.{rows-none, rows-of}
 use Rattle.ariadne_drawing.proofs.LinesShown.{hidden-some}
 use Rattle.ariadne_drawing.proofs.LinesWalk.{run-empty, run-hidden}
 use Rattle.ariadne_drawing.proofs.lines.push_hidden_lines.Goals as goal
@@ -24,7 +25,7 @@ returns-then-line-next-clause-drawn g c = λ t s h over some low beside run hidd
     let own = drawn-over t s page.switches source labels h over in
     let any : 0 < length s.sheet.labels = subst (λ ls. 0 < length ls) (sym (drawn-labels t s page source labels h)) some in
     let full = hidden-some (chars source.text) s.sheet l (drawn-lines t s page source labels h) own any (omega arith) here in
-    on-ok c.push_hidden.result
+    on_ok_weaker c.push_hidden.result
     (λ d. rows-of t s page.number_width c.args.pen.now c.push_hidden.new.pen (line_rows s.sheet l)
     (joined (line_rows s.sheet) (range_with_len l (m - l))) (run-hidden s.sheet l m low less hidden) d)
     (c.push_hidden.ensures.drawn t s h over full beside here run)

@@ -1,5 +1,6 @@
 use Rattle.ariadne_picture.specs.Canvas.{texts_of}
-use Rattle.ariadne_drawing.proofs.LinesRows.{on-ok, column-at, drawn-at, line-label-at, table-next}
+use Rattle.std.proofs.lemmas.Result.{on_ok_weaker}
+use Rattle.ariadne_drawing.proofs.LinesRows.{column-at, drawn-at, line-label-at, table-next}
 use Rattle.ariadne_drawing.proofs.lines.push_label.Goals as goal
 
 -- a start or an end has a column
@@ -17,7 +18,7 @@ pass_bar-requires g c =
 pub returns-clause-drawn : goal.returns-clause-drawn
 returns-clause-drawn g c = λ s l x h e.
     let page = c.args.pen.now.page in
-    on-ok c.pass_bar.result (λ _.
+    on_ok_weaker c.pass_bar.result (λ _.
     drawn-at (texts_of c.args.report.now) s page.number_width l c.args.rank page.switches.compact c.args.pen.now c.push_rows_of_label.new.pen
     c.args.layout.now c.labels-labels.result.now _ x c.labels-labels.ensures c.requires.rank e (c.in_ok-push_rows_of_label.ensures s l h))
     c.pass_bar.ensures.page
@@ -31,7 +32,7 @@ returns-clause-below g c = λ s l h.
     let y = c.args.layout.now in
     let gutter = c.args.gutter.now in
     let table = c.args.table.now in
-    on-ok c.pass_bar.result
+    on_ok_weaker c.pass_bar.result
     (λ b. table-next t s page l r y gutter c.pass_bar.new.gutter table c.pass.new.self h (c.pass.ensures h.is_table.verticals) b)
     (c.pass_bar.ensures.below s.sheet l r h.rise h.bars
     (line-label-at t s page l r y gutter table h c.labels-labels.result.now _ c.labels-labels.ensures c.requires.rank))

@@ -27,7 +27,8 @@ use Rattle.ariadne_drawing.proofs.LinesHidden.{drawn-labels, drawn-lines, drawn-
 use Rattle.ariadne_drawing.proofs.LinesHidden.{over-rise}
 use Rattle.ariadne_drawing.proofs.LinesLayout.{beside-same, labels-there, layout-is, len-is, line-chars, margin-column, of-some, places-fit, some-and}
 use Rattle.ariadne_drawing.proofs.LinesQuiet.{layout-labels}
-use Rattle.ariadne_drawing.proofs.LinesRows.{line-shown, on-ok, row-page, rows-one}
+use Rattle.std.proofs.lemmas.Result.{on_ok_weaker}
+use Rattle.ariadne_drawing.proofs.LinesRows.{line-shown, row-page, rows-one}
 use Rattle.ariadne_drawing.proofs.LinesWalk.{names-append, some-group}
 use Rattle.ariadne_drawing.proofs.lines.push_line.Given.{Over}
 use Rattle.ariadne_drawing.proofs.lines.push_line.Goals as goal
@@ -245,7 +246,7 @@ returns-clause-beside g c = λ s own same.
     let at = at-line g (goal.at.returns-clause-beside g c).In_ok-start_margin kept some.0 some.1 (layout some.0 some.1) in
     let n : length c.new-layout.result.labels ≡ length (line_labels some.0.sheet l) = ap length
     (layout-labels some.0.sheet l c.new-layout.result at.layout) in
-    on-ok c.push_rows_below.result
+    on_ok_weaker c.push_rows_below.result
     (λ below. beside-same s some.0.sheet (l + 1) c.push_rows_below.new.gutter (own ∙ sym (drawn-labels t some.0 page listing labels some.1))
     (same ∙ sym (drawn-switches t some.0 page listing labels some.1))
     (below-beside some.0.sheet l c.push_rows_below.new.gutter at.rise (subst (λ k. IsBelow some.0.sheet l k c.push_rows_below.new.gutter) n below)))
@@ -270,7 +271,7 @@ returns-clause-drawn g c = λ s h shown.
     let rows = λ (switches : Switches) (xs : List LineLabel). joined (label_rows switches.compact l) (enumerate_from 0 xs) in
     let there : rows page.switches y.labels ≡ rows s.sheet.switches (line_labels s.sheet l) =
     λ i. rows (sym same i) (layout-labels s.sheet l y at.layout i) in
-    on-ok c.push_rows_below.result
+    on_ok_weaker c.push_rows_below.result
     (λ d.
     let below = subst (λ (p : PageFields). DrawsRows mid new (map (row_pieces t p.number_width s) (rows p.switches y.labels))) kept d in
     names-append t s page.number_width c.args.pen.now mid new (source l ∷ []) (rows page.switches y.labels) (line_rows s.sheet l)

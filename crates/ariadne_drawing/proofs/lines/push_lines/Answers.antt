@@ -12,7 +12,8 @@ use Rattle.ariadne_picture.specs.Pieces.{Section, row_pieces}
 use Rattle.ariadne_picture.specs.Ranks.{Sheet}
 use Rattle.ariadne_picture.specs.Rows.{line_rows}
 use Rattle.ariadne_drawing.proofs.LinesHidden.{drawn-labels, drawn-switches}
-use Rattle.ariadne_drawing.proofs.LinesRows.{on-ok, rows-none, rows-of, rows-page}
+use Rattle.std.proofs.lemmas.Result.{on_ok_weaker}
+use Rattle.ariadne_drawing.proofs.LinesRows.{rows-none, rows-of, rows-page}
 use Rattle.ariadne_drawing.proofs.LinesWalk.{IsStep, IsWalked, events-page, events_at-page, group-rise, last-within, names-append, run-empty, run-one}
 use Rattle.ariadne_drawing.proofs.LinesWalk.{runs-join}
 use Rattle.ariadne_drawing.proofs.LinesWalk.{some-group, step, walk-end, walk-start}
@@ -316,7 +317,7 @@ returns-clause-drawn g c = λ s h.
     let there : IsDrawnGroup t s c.loop-next.pen.page.switches source c.loop-next.lists.sheet.labels =
     subst (λ ls. IsDrawnGroup t s c.loop-next.pen.page.switches source ls) (sym inv.labels)
     (subst (λ (p : PageFields). IsDrawnGroup t s p.switches source labels) (sym inv.pen) h) in
-    on-ok c.push_hidden_lines-2.result
+    on_ok_weaker c.push_hidden_lines-2.result
     (λ d. names-append t s page.number_width c.args.pen.now c.loop-next.pen c.push_hidden_lines-2.new.pen before after whole
     (runs-join rows (group_start_line labels) l m first up ∙ ap (λ n. joined rows (range_with_len (group_start_line labels) n)) all) (inv.drawn s h)
     (subst (λ (p : PageFields). DrawsRows c.loop-next.pen c.push_hidden_lines-2.new.pen (map (row_pieces t p.number_width s) after)) inv.pen d))

@@ -5,7 +5,8 @@ use Rattle.ariadne_picture.specs.Canvas.{texts_of}
 use Rattle.ariadne_picture.specs.Pieces.{row_pieces}
 use Rattle.ariadne_picture.specs.Rows.{alternate, arrow, label_rows}
 use Rattle.ariadne_drawing.specs.Lines.{IsBelowLine}
-use Rattle.ariadne_drawing.proofs.LinesRows.{on-ok, rows-none, rows-one, rows-append, row-page, label-none, label-one, label-two, table-there}
+use Rattle.std.proofs.lemmas.Result.{on_ok_weaker}
+use Rattle.ariadne_drawing.proofs.LinesRows.{rows-none, rows-one, rows-append, row-page, label-none, label-one, label-two, table-there}
 use Rattle.ariadne_drawing.proofs.LinesRows.{bars-alternate, rows-of}
 use Rattle.ariadne_drawing.proofs.lines.push_rows_of_label.Goals as goal
 
@@ -26,7 +27,7 @@ returns-then-switches g c = λ s l h e.
     let compact : page.switches.compact ≡ true =
     ap (λ (p : PageFields). p.switches.compact) (sym c.page.ensures) ∙ ap (λ (w : Switches). w.compact) (sym c.switches.ensures.switches)
     ∙ c.if-switches.true in
-    on-ok c.push_arrow_to_message.result (λ d.
+    on_ok_weaker c.push_arrow_to_message.result (λ d.
     rows-of t s page.number_width c.args.pen.now c.push_arrow_to_message.new.pen (arrow l c.args.rank ∷ [])
     (label_rows page.switches.compact l (c.args.rank, x))
     (sym (ap (λ k. label_rows k l (c.args.rank, x)) compact ∙ label-one l c.args.rank x c.if-not-label.false))
@@ -73,7 +74,7 @@ returns g c = λ s l h e.
     (bars-alternate t s page l r y gutter table h) in
     let same : b.page ≡ page = row-page a b (row_pieces t page.number_width s (alternate l r)) d in
     let there : IsBelowLine t s b.page l r y gutter table = subst (λ p. IsBelowLine t s p l r y gutter table) (sym same) h in
-    on-ok c.push_arrow_to_message-2.result (λ f.
+    on_ok_weaker c.push_arrow_to_message-2.result (λ f.
     let z = c.push_arrow_to_message-2.new.pen in
     let k : DrawsRow b z (row_pieces t page.number_width s (arrow l r)) =
     subst (λ (p : PageFields). DrawsRow b z (row_pieces t p.number_width s (arrow l r))) same f in

@@ -2,7 +2,7 @@ use Rattle.std.proofs.Common.{◌∙◌, sym, inl, inr}
 use Rattle.ariadne_picture.proofs.Rows.BarCases.{start-side, side-starts}
 use Rattle.ariadne_rows.proofs.GutterSteps.{beside-below, beside-below_start, margin-ends}
 use Rattle.std.proofs.lemmas.Bool.{true≢false}
-use Rattle.ariadne_drawing.proofs.LinesRows.{on-ok}
+use Rattle.std.proofs.lemmas.Result.{on_ok_weaker}
 use Rattle.ariadne_drawing.proofs.lines.start_margin.Goals as goal
 
 -- there is none
@@ -12,7 +12,7 @@ returns-in-None-clause-below c = λ s l rise b e. beside-below s l c.args.gutter
 -- it starts: its bar begins
 pub returns-then-starts-clause-below : goal.returns-then-starts-clause-below
 returns-then-starts-clause-below c = λ s l rise b e.
-    on-ok c.set.result (λ h.
+    on_ok_weaker c.set.result (λ h.
     beside-below_start s l c.in-Some.margin c.args.gutter.now c.set.new.self rise b (e ∙ c.in-Some.is)
     (start-side c.in-Some.margin.side (sym c.starts.ensures ∙ c.if-starts.true)) h) c.set.ensures
 
