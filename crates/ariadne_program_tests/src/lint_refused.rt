@@ -27,7 +27,8 @@ fn a_refused_request_of_first_offence_is_its_error(rt: HostRuntime) {
     panic!(rt; "a request was refused each time")
 }
 
-/// Refuses the nth request of linting. Where there is none the picture is this, and it returns true.
+/// Refuses the nth request of linting. Where there is none the picture is this, and the result is
+/// true.
 fn is_drawn(
     rt: &(impl Files + AllocGlobal + Abort),
     words: &[String],
