@@ -149,6 +149,7 @@ pub(crate) const OTHERS: &[(&str, &str)] = &[
         "WriteError::from",
         "is handed the want of memory that it tells",
     ),
+    ("io::Error::from", "hands on what its WriteError holds"),
     ("Source::ensure", "is its own only source"),
     ("&Source::ensure", "is its own only source"),
     ("Foreground::clone", "copies what is Copy"),
@@ -159,5 +160,5 @@ pub(crate) const OTHERS: &[(&str, &str)] = &[
         "the picture is whole before its first byte is sent",
     ),
     ("Sink::take", "is the caller's own"),
-    ("Watched::read", "hands on what its reader answers"),
+    ("Watched::read", "hands on what its reader returns"),
 ];
