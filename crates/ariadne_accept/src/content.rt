@@ -89,7 +89,7 @@ impl<'a, S: Span> Content<'a, S> {
         &self.helps
     }
 
-    /// Those of its notes.
+    /// The texts of its notes.
     pub fn notes(&self) -> &[String]
         ensures { map string_bytes result.now ≡ self.now.notes }
     {

@@ -1,4 +1,4 @@
--- The labels of which a place of a line shows one, as they stand in the lists that they are taken from.
+-- The labels among which one is chosen that a place of a line shows, as they stand in their lists.
 use Rattle.std.specs.Prelude.{ℕ, ◌≡◌, ◌+◌, ◌<◌, List, ◌++◌, length, if◌then◌else◌}
 use Rattle.std.specs.Prelude.{is_some, option_copied, option_to_list}
 use Rattle.std.specs.List.{All}

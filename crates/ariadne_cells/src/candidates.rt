@@ -1,4 +1,4 @@
-//! The labels of which a place of a line shows one.
+//! The labels among which one is chosen that a place of a line shows.
 
 ghost use Rattle.std.specs.Prelude.{◌≡◌, ◌++◌, ◌+◌, ◌<◌, length};
 ghost use Rattle.std.specs.Prelude.{option_copied, option_to_list};
@@ -9,7 +9,7 @@ ghost use Rattle.ariadne_cells.specs.Choices.{IsChoice, infos_of, inline_infos, 
 use crate::choice::Choice;
 use ariadne_picture::label_info::{LabelInfo, LineLabel};
 
-/// Labels of which each place of a line shows one, and of those that tie the first.
+/// Labels among which each place of a line shows one: of those that tie the first.
 #[derive(Drop)]
 pub struct Candidates<'a> {
     /// The margin label of the line, if it is one of them.

@@ -17,7 +17,7 @@ pub(crate) struct Opening {
 }
 
 impl Opening {
-    /// That of no colour.
+    /// The opening of a text without a colour: nothing.
     pub(crate) fn new(alloc: Global) -> Opening {
         Opening {
             color: None,

@@ -9,11 +9,11 @@ use std::marker::Model;
 
 /// The colour of line numbers, and of the strokes round the lines of a group.
 const MARGIN: Color = Color::Fixed(246);
-/// That of the margins of rows without a line number.
+/// The colour of the margins of rows without a line number.
 const SKIPPED_MARGIN: Color = Color::Fixed(240);
-/// That of source text outside all labels.
+/// The colour of source text outside all labels.
 const UNIMPORTANT: Color = Color::Fixed(249);
-/// That of the word in front of a help or a note.
+/// The colour of the word in front of a help or a note.
 const NOTE: Color = Color::Fixed(115);
 
 /// The colours that the pieces of a report's picture may have.
@@ -23,7 +23,7 @@ pub struct Palette {
     pub is_on: bool,
     /// The colour of the report's kind.
     pub kind: Color,
-    /// Those of its labels, by position.
+    /// The colours of its labels, by position.
     pub labels: Vec<Option<Color>>,
 }
 

@@ -86,19 +86,19 @@ impl Glyph {
 /// Whose colour a piece of the picture has.
 #[derive(Clone, Copy, Debug, PartialEq, Eq)]
 pub enum Paint {
-    /// None.
+    /// No colour.
     Plain,
-    /// That of the report's label at this position, from 0.
+    /// The colour of the report's label at this position, from 0.
     Label(usize),
-    /// That of the report's kind.
+    /// The colour of the report's kind.
     Kind,
-    /// That of line numbers and of the strokes round the lines of a group.
+    /// The colour of line numbers and of the strokes round the lines of a group.
     Margin,
-    /// That of the margins of rows without a line number.
+    /// The colour of the margins of rows without a line number.
     SkippedMargin,
-    /// That of source text outside all labels.
+    /// The colour of source text outside all labels.
     Unimportant,
-    /// That of the word in front of a help or a note.
+    /// The colour of the word in front of a help or a note.
     Note,
 }
 

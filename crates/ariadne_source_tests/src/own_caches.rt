@@ -109,7 +109,7 @@ impl<'s> Cache<&'s str> for Stingy<'s> {
     }
 }
 
-/// Such a map, of the source `ab` of `x`.
+/// A stingy map with the source `ab` of `x`.
 fn stingy_map(rt: &(impl Abort + AllocGlobal)) -> Stingy<'static> {
     Stingy {
         map: sources(rt.alloc(), [("x", "ab")]).expect(rt, "memory"),

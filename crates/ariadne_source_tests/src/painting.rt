@@ -18,7 +18,7 @@ fn painted_char(alloc: Global, c: char, color: Option<Color>) -> Result<String, 
     c.fg(color).to_string(alloc)
 }
 
-/// So are those of a painted text.
+/// A text that is painted behind.
 fn painted_text(alloc: Global, s: &str, color: Option<Color>) -> Result<String, AllocError>
     ensures { IfOk result (λ text. string_bytes text ≡ painted_in background color s.now) }
 {

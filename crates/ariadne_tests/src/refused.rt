@@ -35,7 +35,7 @@ const LABEL: &[&str] = &[
     "   |  `-- x",
 ];
 
-/// Those of labels that say nothing.
+/// The rows of labels that say nothing.
 const SILENT: &[&str] = &["   ,-[ <unknown>:1:1 ]", "   |", " 1 | ab"];
 
 /// What is to be seen of a report over `ab`: its header, what is below it, and helps and notes.
