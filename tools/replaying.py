@@ -5,6 +5,8 @@ import subprocess
 import sys
 from pathlib import Path
 
+from cases import case_of
+
 ROOT = Path(__file__).resolve().parent.parent
 PROGRAM = ROOT / "crates/ariadne_replay/out/ariadne_replay"
 # It is built as the programs of bin/ are, and then run on no case.
@@ -19,10 +21,10 @@ def build(name):
         sys.exit(status)
 
 
-def draw(cases):
-    """What the program answers to each case: None from where it stopped."""
-    asked = "".join(json.dumps(case) + "\n" for case in cases).encode()
-    ran = subprocess.run([PROGRAM], input=asked, stdout=subprocess.PIPE)
-    lines = ran.stdout.split(b"\n")[:-1]
-    answers = [json.loads(line) for line in lines if line.startswith(b"{")]
-    return answers + [None] * (len(cases) - len(answers))
+def draw(reports):
+    """What the program answers to each report: None where it answers nothing."""
+    asked = "".join(case_of(str(number), report) for number, report in enumerate(reports)).encode()
+    ran = subprocess.run([PROGRAM, "--answer"], input=asked, stdout=subprocess.PIPE)
+    lines = (line for line in ran.stdout.split(b"\n") if line.startswith(b'{"answer": '))
+    answers = {answer["answer"]: answer for answer in map(json.loads, lines)}
+    return [answers.get(str(number)) for number in range(len(reports))]
