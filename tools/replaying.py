@@ -6,6 +6,8 @@ import subprocess
 import sys
 from pathlib import Path
 
+from cases import case_of
+
 ROOT = Path(__file__).resolve().parent.parent
 
 
@@ -18,10 +20,10 @@ def program():
     return ran.stdout.decode().removesuffix("\n")
 
 
-def draw(cases):
-    """What the program answers to each case: None from where it stopped."""
-    asked = "".join(json.dumps(case) + "\n" for case in cases).encode()
-    ran = subprocess.run([program()], input=asked, stdout=subprocess.PIPE)
-    lines = ran.stdout.split(b"\n")[:-1]
-    answers = [json.loads(line) for line in lines if line.startswith(b"{")]
-    return answers + [None] * (len(cases) - len(answers))
+def draw(reports):
+    """What the program answers to each report: None where it answers nothing."""
+    asked = "".join(case_of(str(number), report) for number, report in enumerate(reports)).encode()
+    ran = subprocess.run([program(), "--answer"], input=asked, stdout=subprocess.PIPE)
+    lines = (line for line in ran.stdout.split(b"\n") if line.startswith(b'{"answer": '))
+    answers = {answer["answer"]: answer for answer in map(json.loads, lines)}
+    return [answers.get(str(number)) for number in range(len(reports))]

@@ -1,84 +1,80 @@
-//! The members of a case: a report, what it is drawn over, and what is sent of it, or is asked for.
-//!
-//! A case is a JSON object. Its members are `name`; `kind`, and `kind_color` of a kind of the caller's
-//! own; `number` (a code that is a number, in front of one that is a text); `code`, `message`, `span`
-//! (an id, a start and an end), `labels`, `helps`, `notes` and `config`; `cache` (`source`, `sources` or
-//! `custom`), the `sources`, each with `id`, `text` and `offset`, and the id that a custom cache shows no
-//! name for, in `hidden`; `left_out` and `picture`, as in an answer, and whether that is without the
-//! blanks at the ends of its rows, `is_trimmed`. A label has `id` (null where its source is the only
-//! one), `start`, `end`, `message`, `color`, `order` and `priority`. Where a case has no picture, its
-//! answer is asked for.
+//! Which members a case has, and which sources it speaks of.
 
-use serde::Serialize;
-use serde_json::Value;
-use std::io;
-use std::io::ErrorKind;
+use crate::members::{has_only, list, table_of, text, text_if_any, text_of};
+use crate::mistake::{Mistake, Read};
+use toml::{Table, Value};
 
-/// What a report answers.
-#[derive(Drop, Serialize)]
-pub struct Answer {
-    /// What is sent.
-    pub picture: String,
-    /// The positions of the labels that are left out, from 0, each with its reason.
-    pub left_out: Vec<(usize, &'static str)>,
-}
+/// The members of a case.
+const MEMBERS: [&str; 26] = [
+    "name",
+    "kind",
+    "kind_color",
+    "number",
+    "code",
+    "message",
+    "id",
+    "at",
+    "source",
+    "line_offset",
+    "sources",
+    "missing",
+    "hidden",
+    "cache",
+    "labels",
+    "helps",
+    "notes",
+    "painted",
+    "settings",
+    "builder",
+    "call",
+    "takes",
+    "worked",
+    "left_out",
+    "fails",
+    "picture",
+];
 
-/// What is answered for a case that has a member too few, or an odd one.
-pub fn odd_case() -> io::Error {
-    io::Error::from(ErrorKind::InvalidData)
-}
+/// The members of a source that has an id.
+const SOURCE: [&str; 3] = ["id", "text", "line_offset"];
 
-/// A member that is a text, if it is there and not null.
-pub fn text_if_any<'c>(value: &'c Value, name: &str) -> Option<&'c str> {
-    value.get(name).and_then(Value::as_str)
-}
-
-/// A member that is a text.
-pub fn text<'c>(value: &'c Value, name: &str) -> io::Result<&'c str> {
-    match text_if_any(value, name) {
-        Some(text) => Ok(text),
-        None => Err(odd_case()),
+/// Refuses a case that has a member of another name.
+pub fn has_known_members(case: &Table) -> Read<'_, ()> {
+    has_only(case, &MEMBERS)?;
+    for told in list(case, "sources")? {
+        has_only(table_of(told, "sources")?, &SOURCE)?;
     }
+    Ok(())
 }
 
-/// A member that is a switch. One that is not there is off.
-pub fn is_on(value: &Value, name: &str) -> bool {
-    value.get(name).and_then(Value::as_bool) == Some(true)
+/// The text of the only source of a case.
+pub fn only_source(case: &Table) -> Read<'_, &str> {
+    text(case, "source")
 }
 
-/// A value that is an offset, if it is there.
-fn offset_of(value: Option<&Value>) -> io::Result<usize> {
-    match value.and_then(Value::as_u64) {
-        Some(offset) => Ok(offset as usize),
-        None => Err(odd_case()),
+/// Whether a list of a case has this id.
+fn has_id(items: &[Value], id: &str) -> bool {
+    items.iter().any(|item| match item {
+        Value::String(text) => text.as_str() == id,
+        Value::Table(told) => match text(told, "id") {
+            Ok(text) => text == id,
+            Err(_) => false,
+        },
+        _ => false,
+    })
+}
+
+/// The id that a case tells: that of its first source where it tells none.
+pub fn id_of<'c>(case: &'c Table, told: &'c Table) -> Read<'c, &'c str> {
+    let sources = list(case, "sources")?;
+    match text_if_any(told, "id")? {
+        Some(id) if has_id(sources, id) || has_id(list(case, "missing")?, id) => Ok(id),
+        Some(id) => Err(Mistake::Odd(
+            id,
+            "not the id of a source of the case, nor of a missing one",
+        )),
+        None => match sources.first() {
+            Some(first) => text(table_of(first, "sources")?, "id"),
+            None => Ok(""),
+        },
     }
-}
-
-/// A member that is an offset or a count.
-pub fn offset(value: &Value, name: &str) -> io::Result<usize> {
-    offset_of(value.get(name))
-}
-
-/// A member that is a number of either sign.
-pub fn number(value: &Value, name: &str) -> io::Result<i32> {
-    let number = value.get(name).and_then(Value::as_i64);
-    match number.map(i32::try_from) {
-        Some(Ok(number)) => Ok(number),
-        _ => Err(odd_case()),
-    }
-}
-
-/// A member that is a list. One that is not there is empty.
-pub fn list<'c>(value: &'c Value, name: &str) -> &'c [Value] {
-    match value.get(name).and_then(Value::as_array) {
-        Some(items) => items.as_slice(),
-        None => &[],
-    }
-}
-
-/// The id, the start and the end of the report's own span.
-pub fn own_span(case: &Value) -> io::Result<(Option<&str>, usize, usize)> {
-    let span = list(case, "span");
-    let id = span.first().and_then(Value::as_str);
-    Ok((id, offset_of(span.get(1))?, offset_of(span.get(2))?))
 }

@@ -1,104 +1,62 @@
-//! Replays reports: reads a case from each line of standard input, as JSON, and writes its report.
+//! Draws the cases of files, and compares what is drawn with what they store. docs/CASES.md says what
+//! a case is.
 //!
-//! A case with a picture is compared: a line names it where it is not drawn as it is stored. For a
-//! case without one its answer is printed as a line of JSON, for instance
+//! - `ariadne_replay FILE..` names each case that can't be read or is drawn otherwise, and shows both
+//!   pictures. The last line tells how many cases there are, and how many of them were named.
+//! - `ariadne_replay --accept NAME FILE..` prints the case of a name with what was drawn.
+//! - `ariadne_replay --answer` reads cases from standard input, and prints the answer to each:
 //!
-//!     {"picture":"Error: m\n","left_out":[[0,"PastSource"]]}
+//!       {"answer": "a label", "left_out": [[0, "PastSource"]], "fails": "", "picture": "Error: m\n"}
 //!
-//! The last line tells how many were compared, and how many of them differ.
+//! The status is 0 where no case was named, and the case to accept was found.
 #![tactic(auto)]
 
 mod case;
+mod colors;
 mod discreet;
+mod forgetful;
 mod making;
+mod members;
+mod mistake;
+mod offsets;
+mod pieces;
 mod replaying;
+mod running;
+mod seen;
+mod sending;
+mod stored;
+mod telling;
 
-use case::{Answer, is_on, list, odd_case, text_if_any};
-use replaying::answer_of;
-use serde_json::Value;
-use std::alloc::{AllocError, Global};
-use std::io;
-use std::io::ErrorKind;
+use running::{Run, Task};
 use std::process::ExitCode;
+use std::{env, io};
 
-/// The case on a line.
-fn read_case(alloc: Global, line: &str) -> io::Result<Value> {
-    match Value::from_str(alloc, line) {
-        Ok(case) => Ok(case),
-        Err(_) => Err(odd_case()),
+/// The task that words ask for, and the files that they name.
+fn task_of(words: &[String]) -> (Task<'_>, &[String]) {
+    match words {
+        [first, name, files @ ..] if first.as_str() == "--accept" => {
+            (Task::Accept(name.as_str()), files)
+        }
+        [first, files @ ..] if first.as_str() == "--answer" => (Task::Answer, files),
+        files => (Task::Compare, files),
     }
-}
-
-/// An answer as a line of JSON.
-fn line_of(alloc: Global, answer: &Answer) -> io::Result<String> {
-    match serde_json::to_string(alloc, answer) {
-        Ok(line) => Ok(line),
-        Err(_) => Err(io::Error::from(ErrorKind::OutOfMemory)),
-    }
-}
-
-/// A picture without the blanks at the ends of its rows.
-fn trimmed(alloc: Global, picture: &str) -> Result<String, AllocError> {
-    let mut text = String::new(alloc);
-    for row in picture.split_terminator('\n') {
-        text.push_str(row.trim_end_matches(' '))?;
-        text.push('\n')?;
-    }
-    Ok(text)
-}
-
-/// Whether these labels are left out, and for these reasons, each told as a position and a reason.
-fn are_stored(left_out: &[(usize, &'static str)], stored: &[Value]) -> bool {
-    left_out.len() == stored.len()
-        && left_out.iter().zip(stored).all(|((label, reason), told)| {
-            told.get(0).and_then(Value::as_u64) == Some(*label as u64)
-                && told.get(1).and_then(Value::as_str) == Some(*reason)
-        })
-}
-
-/// Whether an answer is the stored one of its case, whose picture is this.
-fn is_stored(
-    alloc: Global,
-    case: &Value,
-    answer: &Answer,
-    picture: &str,
-) -> Result<bool, AllocError> {
-    if !are_stored(&answer.left_out, list(case, "left_out")) {
-        return Ok(false);
-    }
-    if is_on(case, "is_trimmed") {
-        return Ok(trimmed(alloc, answer.picture.as_str())?.as_str() == picture);
-    }
-    Ok(answer.picture.as_str() == picture)
-}
-
-/// Replays the case on a line, and answers whether it is drawn as it is stored, or nothing where its
-/// answer was asked for.
-fn replay(rt: &(impl Print + AllocGlobal), line: &str) -> io::Result<Option<bool>> {
-    let case = read_case(rt.alloc(), line)?;
-    let answer = answer_of(rt.alloc(), &case)?;
-    let Some(picture) = text_if_any(&case, "picture") else {
-        println!(rt; "{}", line_of(rt.alloc(), &answer)?)?;
-        return Ok(None);
-    };
-    let is_same = is_stored(rt.alloc(), &case, &answer, picture)?;
-    if !is_same {
-        println!(rt; "{}: differs", text_if_any(&case, "name").unwrap_or(""))?;
-    }
-    Ok(Some(is_same))
 }
 
 fn main(rt: HostRuntime) -> io::Result<ExitCode> {
-    let text = io::read_to_string(rt.alloc(), rt.stdin())?;
-    let (mut count, mut different) = (0u32, 0u32);
-    for line in text.lines() {
-        if let Some(is_same) = replay(&rt, line)? {
-            count = count.saturating_add(1);
-            different = different.saturating_add(u32::from(!is_same));
-        }
+    let words: Vec<String> = env::args(&rt)?.skip(1).collect(rt.alloc())?;
+    let (task, files) = task_of(words.as_slice());
+    let mut run = Run::new(rt.alloc());
+    if matches!(task, Task::Answer) {
+        let text = io::read_to_string(rt.alloc(), rt.stdin())?;
+        run.take_all(&rt, task, "standard input", text.as_str())?;
     }
-    println!(rt; "{count} pictures, {different} differ")?;
-    if different == 0 {
+    for file in files {
+        run.take_file(&rt, task, file.as_str())?;
+    }
+    if matches!(task, Task::Compare) {
+        println!(rt; "{} cases, {} differ", run.count, run.otherwise)?;
+    }
+    if run.count > 0 && run.otherwise == 0 {
         Ok(ExitCode::SUCCESS)
     } else {
         Ok(ExitCode::FAILURE)

@@ -1,218 +1,364 @@
 //! The report and the sources of a case, made with the public calls.
 
-ghost use Rattle.std.specs.Prelude.{◌≤◌, IfOk};
+ghost use Rattle.std.specs.Prelude.{◌<◌, IfOk};
 
-use crate::case::{is_on, list, number, odd_case, offset, own_span, text, text_if_any};
-use ariadne::{
-    CharSet, Color, Config, IndexType, Label, LabelAttach, Report, ReportBuilder, ReportKind,
-    Source, Span,
+use crate::case::id_of;
+use crate::colors::color_of;
+use crate::members::{
+    count_if_any, has_only, list, number_or_zero, switch_or, table_if_any, table_of, text,
+    text_if_any, text_of,
 };
-use serde_json::Value;
+use crate::mistake::{Mistake, Read};
+use crate::offsets::{Offsets, Placed, offsets_of};
+use ariadne::{
+    CharSet, Color, Config, Fmt, IndexType, Label, LabelAttach, Report, ReportBuilder, ReportKind,
+    Source, SourceText, Span,
+};
 use std::alloc::{AllocError, Global};
-use std::io;
-use std::ops::Range;
+use toml::Table;
 
-/// A piece of the source of an id.
-pub type Piece = (String, Range<usize>);
+/// The members of the settings. They are those of `Config`.
+const SETTINGS: [&str; 9] = [
+    "cross_gap",
+    "label_attach",
+    "compact",
+    "underlines",
+    "multiline_arrows",
+    "color",
+    "tab_width",
+    "char_set",
+    "index_type",
+];
 
-/// A colour by its name, behind which its numbers stand, if it has any: `Red`, or `Rgb 1 2 3`.
-fn color_of(text: &str) -> io::Result<Color> {
-    match text {
-        "Primary" => Ok(Color::Primary),
-        "Red" => Ok(Color::Red),
-        "Blue" => Ok(Color::Blue),
-        "BrightGreen" => Ok(Color::BrightGreen),
-        _ => numbered_color(text),
-    }
-}
+/// The members of a label.
+const LABEL: [&str; 6] = ["id", "at", "message", "color", "order", "priority"];
 
-/// A colour that has numbers.
-fn numbered_color(text: &str) -> io::Result<Color> {
-    let mut words = text.split(' ');
-    match words.next() {
-        Some("Fixed") => Ok(Color::Fixed(byte(words.next())?)),
-        Some("Rgb") => {
-            let red = byte(words.next())?;
-            let green = byte(words.next())?;
-            Ok(Color::Rgb(red, green, byte(words.next())?))
-        }
-        _ => Err(odd_case()),
-    }
-}
-
-/// A number of a colour.
-fn byte(word: Option<&str>) -> io::Result<u8> {
-    match word.map(|digits| digits.parse()) {
-        Some(Ok(number)) => Ok(number),
-        _ => Err(odd_case()),
-    }
-}
-
-/// The kind of a case's report.
-fn kind_of(case: &Value) -> io::Result<ReportKind<'_>> {
-    let name = text(case, "kind")?;
-    if let Some(color) = text_if_any(case, "kind_color") {
-        return Ok(ReportKind::Custom(name, color_of(color)?));
+/// The name of a case's kind, and its colour where it is one of the case's own.
+fn kind_words(case: &Table) -> Read<'_, (&str, Option<Color>)> {
+    let name = text_if_any(case, "kind")?.unwrap_or("Error");
+    if let Some(color) = text_if_any(case, "kind_color")? {
+        return Ok((name, Some(color_of(color)?)));
     }
     match name {
-        "Error" => Ok(ReportKind::Error),
-        "Warning" => Ok(ReportKind::Warning),
-        "Advice" => Ok(ReportKind::Advice),
-        _ => Err(odd_case()),
+        "Error" | "Warning" | "Advice" => Ok((name, None)),
+        _ => Err(Mistake::Odd(name, "a kind without a kind_color")),
+    }
+}
+
+/// The kind of these words.
+fn kind_of<'c>(name: &'c str, color: Option<Color>) -> ReportKind<'c> {
+    match (name, color) {
+        (_, Some(color)) => ReportKind::Custom(name, color),
+        ("Warning", _) => ReportKind::Warning,
+        ("Advice", _) => ReportKind::Advice,
+        _ => ReportKind::Error,
     }
 }
 
 /// Where the arrows of a case's picture are attached.
-fn label_attach_of(config: &Value) -> io::Result<LabelAttach> {
-    match text(config, "label_attach")? {
+fn label_attach_of(settings: &Table) -> Read<'_, LabelAttach> {
+    match text_if_any(settings, "label_attach")?.unwrap_or("Middle") {
         "Start" => Ok(LabelAttach::Start),
         "Middle" => Ok(LabelAttach::Middle),
         "End" => Ok(LabelAttach::End),
-        _ => Err(odd_case()),
+        word => Err(Mistake::Odd(word, "not Start, Middle or End")),
     }
 }
 
 /// What the strokes of a case's picture are drawn with.
-fn char_set_of(config: &Value) -> io::Result<CharSet> {
-    match text(config, "char_set")? {
+fn char_set_of(settings: &Table) -> Read<'_, CharSet> {
+    match text_if_any(settings, "char_set")?.unwrap_or("Ascii") {
         "Unicode" => Ok(CharSet::Unicode),
         "Ascii" => Ok(CharSet::Ascii),
-        _ => Err(odd_case()),
+        word => Err(Mistake::Odd(word, "not Unicode or Ascii")),
     }
 }
 
 /// What the offsets of a case count.
-fn index_type_of(config: &Value) -> io::Result<IndexType> {
-    match text(config, "index_type")? {
+fn index_type_of(settings: &Table) -> Read<'_, IndexType> {
+    match text_if_any(settings, "index_type")?.unwrap_or("Char") {
         "Byte" => Ok(IndexType::Byte),
         "Char" => Ok(IndexType::Char),
-        _ => Err(odd_case()),
+        word => Err(Mistake::Odd(word, "not Char or Byte")),
     }
 }
 
-/// The configuration of a case.
-fn config_of(case: &Value) -> io::Result<Config> {
-    let Some(config) = case.get("config") else {
-        return Err(odd_case());
+/// The columns from one tab stop to the next.
+fn tab_width_of(settings: &Table) -> Read<'_, usize>
+    ensures { IfOk result (λ width. 0 < width) }
+{
+    match count_if_any(settings, "tab_width")? {
+        None => Ok(4),
+        Some(0) => Err(Mistake::Odd("tab_width", "0, and the least one is 1")),
+        Some(width) => Ok(width as usize),
+    }
+}
+
+/// The settings of a report.
+#[derive(Clone, Copy)]
+struct Settings {
+    cross_gap: bool,
+    label_attach: LabelAttach,
+    compact: bool,
+    underlines: bool,
+    multiline_arrows: bool,
+    color: bool,
+    tab_width: usize,
+    char_set: CharSet,
+    index_type: IndexType,
+}
+
+/// Those of a case that tells none: they are plain and in ASCII, and else the default ones.
+const DEFAULT: Settings = Settings {
+    cross_gap: true,
+    label_attach: LabelAttach::Middle,
+    compact: false,
+    underlines: true,
+    multiline_arrows: true,
+    color: false,
+    tab_width: 4,
+    char_set: CharSet::Ascii,
+    index_type: IndexType::Char,
+};
+
+/// The settings of a case.
+fn settings_of(case: &Table) -> Read<'_, Settings> {
+    let Some(told) = table_if_any(case, "settings")? else {
+        return Ok(DEFAULT);
     };
-    let (attach, char_set) = (label_attach_of(config)?, char_set_of(config)?);
-    let (index_type, tab_width) = (index_type_of(config)?, offset(config, "tab_width")?);
-    Ok(
-        Config::new()
-            .with_cross_gap(is_on(config, "cross_gap"))
-            .with_label_attach(attach)
-            .with_compact(is_on(config, "compact"))
-            .with_underlines(is_on(config, "underlines"))
-            .with_multiline_arrows(is_on(config, "multiline_arrows"))
-            .with_color(is_on(config, "color"))
-            .with_tab_width(tab_width.max(1))
-            .with_char_set(char_set)
-            .with_index_type(index_type),
-    )
+    has_only(told, &SETTINGS)?;
+    Ok(Settings {
+        cross_gap: switch_or(told, "cross_gap", DEFAULT.cross_gap)?,
+        label_attach: label_attach_of(told)?,
+        compact: switch_or(told, "compact", DEFAULT.compact)?,
+        underlines: switch_or(told, "underlines", DEFAULT.underlines)?,
+        multiline_arrows: switch_or(told, "multiline_arrows", DEFAULT.multiline_arrows)?,
+        color: switch_or(told, "color", DEFAULT.color)?,
+        tab_width: tab_width_of(told)?,
+        char_set: char_set_of(told)?,
+        index_type: index_type_of(told)?,
+    })
 }
 
-/// The report of a case at a span, without labels yet.
-fn begun<'c, S: Span + Drop>(
-    alloc: Global,
-    case: &'c Value,
-    span: S,
-) -> io::Result<ReportBuilder<'c, S>> {
-    let kind = kind_of(case)?;
-    let config = config_of(case)?;
-    let mut builder = Report::build(alloc, kind, span).with_config(config);
-    if let Some(number) = case.get("number").and_then(Value::as_u64) {
-        builder = builder.with_code(number)?;
-    }
-    if let Some(code) = text_if_any(case, "code") {
-        builder = builder.with_code_text(code)?;
-    }
-    add_texts(&mut builder, case)?;
-    Ok(builder)
-}
-
-/// Adds the message of a case, its helps and its notes.
-fn add_texts<S: Span>(builder: &mut ReportBuilder<'_, S>, case: &Value) -> Result<(), AllocError> {
-    if let Some(message) = text_if_any(case, "message") {
-        builder.set_message(message)?;
-    }
-    for help in list(case, "helps") {
-        builder.add_help(help.as_str().unwrap_or(""))?;
-    }
-    for note in list(case, "notes") {
-        builder.add_note(note.as_str().unwrap_or(""))?;
-    }
-    Ok(())
+/// The configuration of these settings.
+fn config_of(settings: Settings) -> Config {
+    Config::new()
+        .with_cross_gap(settings.cross_gap)
+        .with_label_attach(settings.label_attach)
+        .with_compact(settings.compact)
+        .with_underlines(settings.underlines)
+        .with_multiline_arrows(settings.multiline_arrows)
+        .with_color(settings.color)
+        .with_tab_width(settings.tab_width.max(1))
+        .with_char_set(settings.char_set)
+        .with_index_type(settings.index_type)
 }
 
 /// A label with all that a case tells of it beside its place.
-fn dressed<S: Span + Drop>(alloc: Global, label: Label<S>, told: &Value) -> io::Result<Label<S>> {
-    let (order, priority) = (number(told, "order")?, number(told, "priority")?);
+fn dressed<'c, S: Placed>(alloc: Global, label: Label<S>, told: &'c Table) -> Read<'c, Label<S>> {
+    let order = number_or_zero(told, "order")?;
+    let priority = number_or_zero(told, "priority")?;
     let mut label = label.with_order(order).with_priority(priority);
-    if let Some(color) = text_if_any(told, "color") {
+    if let Some(color) = text_if_any(told, "color")? {
         label = label.with_color(color_of(color)?);
     }
-    match text_if_any(told, "message") {
+    match text_if_any(told, "message")? {
         Some(message) => Ok(label.with_message(alloc, message)?),
         None => Ok(label),
     }
 }
 
-/// The range of these offsets.
-fn range_of(start: usize, end: usize) -> Range<usize>
-    ensures { result.start ≤ result.end }
-{
-    start..end.max(start)
+/// A label of a case.
+fn label_of<'c, S: Placed>(alloc: Global, case: &'c Table, told: &'c Table) -> Read<'c, Label<S>> {
+    has_only(told, &LABEL)?;
+    let offsets = offsets_of(text(told, "at")?)?;
+    let span = S::placed(alloc, id_of(case, told)?, offsets)?;
+    dressed(alloc, Label::new(span), told)
 }
 
-/// A label over the only source.
-fn plain_label(alloc: Global, told: &Value) -> io::Result<Label> {
-    let range = range_of(offset(told, "start")?, offset(told, "end")?);
-    dressed(alloc, Label::new(range), told)
+/// The report's own place.
+pub fn own_span<S: Placed>(alloc: Global, case: &Table) -> Read<'_, S> {
+    let offsets = match text_if_any(case, "at")? {
+        Some(text) => offsets_of(text)?,
+        None => Offsets {
+            start: 0,
+            end: 0,
+            is_inclusive: false,
+        },
+    };
+    Ok(S::placed(alloc, id_of(case, case)?, offsets)?)
 }
 
-/// The report of a case over one source.
-pub fn plain_report(alloc: Global, case: &Value) -> io::Result<Report<'_>> {
-    let (_, start, end) = own_span(case)?;
-    let mut builder = begun(alloc, case, range_of(start, end))?;
-    for told in list(case, "labels") {
-        builder.add_label(plain_label(alloc, told)?)?;
+/// The texts of a list of a case.
+fn texts_of<'c>(alloc: Global, case: &'c Table, name: &'static str) -> Read<'c, Vec<&'c str>> {
+    let mut texts = Vec::new(alloc);
+    for item in list(case, name)? {
+        texts.push(text_of(item, name)?)?;
     }
+    Ok(texts)
+}
+
+/// How helps and notes are given to a report.
+#[derive(Clone, Copy)]
+enum Way {
+    /// One behind the other.
+    Add,
+    /// Each in place of those before it.
+    Set,
+    /// The first one alone, and behind it the others together.
+    With,
+}
+
+/// How a case gives helps and notes to its report.
+fn way_of(case: &Table) -> Read<'_, Way> {
+    match text_if_any(case, "builder")?.unwrap_or("add") {
+        "add" => Ok(Way::Add),
+        "set" => Ok(Way::Set),
+        "with" => Ok(Way::With),
+        word => Err(Mistake::Odd(word, "not a way of the builder")),
+    }
+}
+
+/// What a case tells of its report beside its place and its labels.
+#[derive(Drop)]
+pub struct Told<'c> {
+    kind: (&'c str, Option<Color>),
+    settings: Settings,
+    number: Option<u64>,
+    code: Option<&'c str>,
+    message: Option<&'c str>,
+    way: Way,
+    helps: Vec<&'c str>,
+    notes: Vec<&'c str>,
+    painted: Vec<(&'c str, Color)>,
+}
+
+/// The colours of a case that are shown in notes, each with its name.
+fn painted_of(alloc: Global, case: &Table) -> Read<'_, Vec<(&str, Color)>> {
+    let mut painted = Vec::new(alloc);
+    for item in list(case, "painted")? {
+        let name = text_of(item, "painted")?;
+        painted.push((name, color_of(name)?))?;
+    }
+    Ok(painted)
+}
+
+/// What a case tells of its report.
+pub fn told_of(alloc: Global, case: &Table) -> Read<'_, Told<'_>> {
+    Ok(Told {
+        kind: kind_words(case)?,
+        settings: settings_of(case)?,
+        number: count_if_any(case, "number")?,
+        code: text_if_any(case, "code")?,
+        message: text_if_any(case, "message")?,
+        way: way_of(case)?,
+        helps: texts_of(alloc, case, "helps")?,
+        notes: texts_of(alloc, case, "notes")?,
+        painted: painted_of(alloc, case)?,
+    })
+}
+
+/// The labels of a case.
+pub fn labels_of<S: Placed>(alloc: Global, case: &Table) -> Read<'_, Vec<Label<S>>> {
+    let mut labels = Vec::new(alloc);
+    for told in list(case, "labels")? {
+        let label = label_of(alloc, case, table_of(told, "labels")?)?;
+        labels.push(label)?;
+    }
+    Ok(labels)
+}
+
+/// Gives a report helps.
+fn add_helps<S: Span>(
+    builder: &mut ReportBuilder<'_, S>,
+    told: &Told<'_>,
+) -> Result<(), AllocError> {
+    let mut helps = told.helps.iter().copied();
+    if let Way::With = told.way {
+        if let Some(first) = helps.next() {
+            builder.add_help(first)?;
+        }
+        return builder.with_helps(helps);
+    }
+    for help in helps {
+        match told.way {
+            Way::Set => builder.set_help(help)?,
+            _ => builder.add_help(help)?,
+        }
+    }
+    Ok(())
+}
+
+/// Gives a report notes.
+fn add_notes<S: Span>(
+    builder: &mut ReportBuilder<'_, S>,
+    told: &Told<'_>,
+) -> Result<(), AllocError> {
+    let mut notes = told.notes.iter().copied();
+    if let Way::With = told.way {
+        if let Some(first) = notes.next() {
+            builder.add_note(first)?;
+        }
+        return builder.with_notes(notes);
+    }
+    for note in notes {
+        match told.way {
+            Way::Set => builder.set_note(note)?,
+            _ => builder.add_note(note)?,
+        }
+    }
+    Ok(())
+}
+
+/// Adds a note for each colour: its name in the colour, and on it.
+fn add_painted<S: Span>(
+    alloc: Global,
+    builder: &mut ReportBuilder<'_, S>,
+    told: &Told<'_>,
+) -> Result<(), AllocError> {
+    for (name, color) in told.painted.iter() {
+        let (front, behind) = (name.fg(Some(*color)), name.bg(Some(*color)));
+        let note = format!(in alloc; "{front} {behind}")?;
+        builder.add_note(note.as_str())?;
+    }
+    Ok(())
+}
+
+/// A report of a case, at a place and with these labels.
+pub fn report<'c, S: Span + Drop>(
+    alloc: Global,
+    told: &Told<'c>,
+    span: S,
+    labels: Vec<Label<S>>,
+) -> Result<Report<'c, S>, AllocError> {
+    let kind = kind_of(told.kind.0, told.kind.1);
+    let mut builder = Report::build(alloc, kind, span).with_config(config_of(told.settings));
+    if let Some(number) = told.number {
+        builder = builder.with_code(number)?;
+    }
+    if let Some(code) = told.code {
+        builder = builder.with_code_text(code)?;
+    }
+    if let Some(message) = told.message {
+        builder.set_message(message)?;
+    }
+    add_helps(&mut builder, told)?;
+    add_notes(&mut builder, told)?;
+    add_painted(alloc, &mut builder, told)?;
+    builder.add_labels(labels)?;
     Ok(builder.finish())
 }
 
-/// A piece of the source of an id.
-fn piece_of(alloc: Global, id: Option<&str>, start: usize, end: usize) -> io::Result<Piece>
-    ensures { IfOk result (λ piece. piece.1.start ≤ piece.1.end) }
-{
-    match id {
-        Some(id) => Ok((id.to_string(alloc)?, range_of(start, end))),
-        None => Err(odd_case()),
-    }
-}
-
-/// A label over one of several sources.
-fn named_label(alloc: Global, told: &Value) -> io::Result<Label<Piece>> {
-    let (start, end) = (offset(told, "start")?, offset(told, "end")?);
-    let piece = piece_of(alloc, text_if_any(told, "id"), start, end)?;
-    dressed(alloc, Label::new(piece), told)
-}
-
-/// The report of a case over several sources.
-pub fn named_report(alloc: Global, case: &Value) -> io::Result<Report<'_, Piece>> {
-    let (id, start, end) = own_span(case)?;
-    let mut builder = begun(alloc, case, piece_of(alloc, id, start, end)?)?;
-    for told in list(case, "labels") {
-        builder.add_label(named_label(alloc, told)?)?;
-    }
-    Ok(builder.finish())
-}
-
-/// A source of a case.
-pub fn source_of(alloc: Global, told: &Value) -> io::Result<Source<String>> {
-    let source = Source::from(alloc, text(told, "text")?.to_string(alloc)?)?;
-    let offset = offset(told, "offset")?;
+/// A text as a source whose lines are counted as a case tells.
+pub fn counted<'c, I: SourceText + Drop>(
+    alloc: Global,
+    text: I,
+    told: &'c Table,
+) -> Read<'c, Source<I>> {
+    let source = Source::from(alloc, text)?;
+    let offset = count_if_any(told, "line_offset")?.unwrap_or(0) as usize;
     if source.lines().len() > usize::MAX - offset {
-        return Err(odd_case());
+        return Err(Mistake::Odd("line_offset", "too great for the lines of the source"));
     }
     Ok(source.with_display_line_offset(offset))
 }

@@ -1,49 +1,152 @@
-//! Writes the report of a case, and answers what was sent and left out.
+//! Draws the report of a case over the cache that the case names.
 
-use crate::case::{Answer, list, odd_case, offset, text};
+use crate::case::{has_known_members, only_source};
 use crate::discreet::Discreet;
-use crate::making::{named_report, plain_report, source_of};
-use ariadne::{Cache, FnCache, LeftOut, Reason, Report, Source, Span, WriteError, sources};
-use serde_json::Value;
-use std::alloc::{AllocError, Global};
+use crate::forgetful::Forgetful;
+use crate::making::{counted, labels_of, own_span, report, told_of};
+use crate::members::{list, table_of, text, text_if_any};
+use crate::mistake::{Mistake, Read};
+use crate::offsets::Placed;
+use crate::sending::{Answer, Call, call_of, sent};
+use ariadne::{FileCache, FnCache, Report, Source, Span, sources};
+use std::alloc::Global;
 use std::collections::HashMap;
-use std::io;
-use std::io::ErrorKind;
+use std::ops::{Range, RangeInclusive};
+use std::rc::RcStr;
+use std::rt::Files;
+use toml::{Table, Value};
+
+/// Whether the pieces of a case end with their last offset: `0..=4`. Either all do or none.
+fn is_inclusive(case: &Table) -> Read<'_, bool> {
+    let mut has = (false, false);
+    for told in list(case, "labels")? {
+        if text(table_of(told, "labels")?, "at")?.contains("..=") {
+            has.0 = true;
+        } else {
+            has.1 = true;
+        }
+    }
+    if has.0 && has.1 {
+        return Err(Mistake::Odd(
+            "labels",
+            "a list with '=' in some pieces and none in others",
+        ));
+    }
+    Ok(has.0)
+}
 
 /// The answer of a case's report.
-pub fn answer_of(alloc: Global, case: &Value) -> io::Result<Answer> {
-    match text(case, "cache")? {
-        "source" => over_one_source(alloc, case),
-        "sources" if has_no_offset(case) => over_map(alloc, case),
-        "sources" => over_given_sources(alloc, case),
-        "custom" => over_discreet_cache(alloc, case),
-        _ => Err(odd_case()),
+pub fn answer_of<'c, R: AllocGlobal + Files>(rt: &R, case: &'c Table) -> Read<'c, Answer> {
+    has_known_members(case)?;
+    match (case.contains_key("source"), is_inclusive(case)?) {
+        (true, false) => plain::<Range<usize>>(rt.alloc(), case),
+        (true, true) => plain::<RangeInclusive<usize>>(rt.alloc(), case),
+        (false, false) => named::<(String, Range<usize>), R>(rt, case),
+        (false, true) => named::<(String, RangeInclusive<usize>), R>(rt, case),
+    }
+}
+
+/// The answer of a case over one source without an id.
+fn plain<S: Placed + Span<SourceId = ()>>(alloc: Global, case: &Table) -> Read<'_, Answer> {
+    let told = told_of(alloc, case)?;
+    let span: S = own_span(alloc, case)?;
+    let labels = labels_of(alloc, case)?;
+    over_source(alloc, case, &report(alloc, &told, span, labels)?)
+}
+
+/// The answer of a case over sources with ids.
+fn named<'c, S: Placed + Span<SourceId = String>, R: AllocGlobal + Files>(
+    rt: &R,
+    case: &'c Table,
+) -> Read<'c, Answer> {
+    let told = told_of(rt.alloc(), case)?;
+    let span: S = own_span(rt.alloc(), case)?;
+    let labels = labels_of(rt.alloc(), case)?;
+    over_sources(rt, case, &report(rt.alloc(), &told, span, labels)?)
+}
+
+/// The answer of a report over its only source.
+fn over_source<'c, S: Span<SourceId = ()>>(
+    alloc: Global,
+    case: &'c Table,
+    report: &Report<'c, S>,
+) -> Read<'c, Answer> {
+    let call = call_of(case)?;
+    let text = only_source(case)?;
+    match text_if_any(case, "cache")?.unwrap_or("Source<String>") {
+        "Source<&str>" => Ok(sent(alloc, call, report, &mut counted(alloc, text, case)?)?),
+        "Source<RcStr>" => {
+            let text = RcStr::from_str(alloc, text)?;
+            Ok(sent(alloc, call, report, &mut counted(alloc, text, case)?)?)
+        }
+        word => {
+            let source = counted(alloc, text.to_string(alloc)?, case)?;
+            over_string(alloc, case, report, source, word)
+        }
+    }
+}
+
+/// The answer of a report over a source, in the form that a word names.
+fn over_string<'c, S: Span<SourceId = ()>>(
+    alloc: Global,
+    case: &'c Table,
+    report: &Report<'c, S>,
+    mut source: Source<String>,
+    word: &'c str,
+) -> Read<'c, Answer> {
+    let call = call_of(case)?;
+    match word {
+        "Source<String>" => Ok(sent(alloc, call, report, &mut source)?),
+        "&Source" => Ok(sent(alloc, call, report, &mut &source)?),
+        "&mut Source" => Ok(sent(alloc, call, report, &mut &mut source)?),
+        "Box<Source>" => Ok(sent(alloc, call, report, &mut Box::new(alloc, source)?)?),
+        _ => Err(Mistake::Odd(word, "not a cache of one source")),
+    }
+}
+
+/// The answer of a report over sources that have ids.
+fn over_sources<'c, S: Span<SourceId = String>, R: AllocGlobal + Files>(
+    rt: &R,
+    case: &'c Table,
+    report: &Report<'c, S>,
+) -> Read<'c, Answer> {
+    let call = call_of(case)?;
+    let alloc = rt.alloc();
+    if let Some(hidden) = text_if_any(case, "hidden")? {
+        return over_discreet_cache(alloc, case, report, hidden);
+    }
+    match text_if_any(case, "cache")? {
+        None if has_no_offset(case)? => over_map(alloc, case, report),
+        None => over_given_sources(alloc, case, report),
+        Some("(id, Source)") => over_pair(alloc, case, report, false),
+        Some("(id, &Source)") => over_pair(alloc, case, report, true),
+        Some("FnCache") => over_function(alloc, case, report),
+        Some("FileCache") => Ok(sent(alloc, call, report, &mut FileCache::new(rt, alloc))?),
+        Some("no memory") => Ok(sent(alloc, call, report, &mut Forgetful)?),
+        Some(word) => Err(Mistake::Odd(word, "not a cache of sources with ids")),
     }
 }
 
 /// Whether all its sources are counted from 1.
-fn has_no_offset(case: &Value) -> bool {
-    list(case, "sources").iter().all(|told| told.get("offset").and_then(Value::as_u64) == Some(0))
+fn has_no_offset(case: &Table) -> Read<'_, bool> {
+    let sources = list(case, "sources")?;
+    Ok(sources.iter().all(|told| told.get("line_offset").is_none()))
 }
 
-/// The answer of a case over its only source.
-fn over_one_source(alloc: Global, case: &Value) -> io::Result<Answer> {
-    let Some(told) = list(case, "sources").first() else {
-        return Err(odd_case());
-    };
-    let mut source = source_of(alloc, told)?;
-    written(alloc, &plain_report(alloc, case)?, &mut source)
-}
-
-/// The answer of a case over a map of its sources.
-fn over_map(alloc: Global, case: &Value) -> io::Result<Answer> {
+/// The answer of a report over a map of its sources.
+fn over_map<'c, S: Span<SourceId = String>>(
+    alloc: Global,
+    case: &'c Table,
+    report: &Report<'c, S>,
+) -> Read<'c, Answer> {
+    let call = call_of(case)?;
     let mut texts = Vec::new(alloc);
-    for told in list(case, "sources") {
+    for told in list(case, "sources")? {
+        let told = table_of(told, "sources")?;
         let id = text(told, "id")?.to_string(alloc)?;
         texts.push((id, text(told, "text")?.to_string(alloc)?))?;
     }
-    let mut cache = sources(alloc, texts)?;
-    written(alloc, &named_report(alloc, case)?, &mut cache)
+    Ok(sent(alloc, call, report, &mut sources(alloc, texts)?)?)
 }
 
 /// Fails for every id.
@@ -52,78 +155,90 @@ fn missing(_id: &String) -> Result<String, ()> {
 }
 
 /// The sources of a case by their ids.
-fn given_sources(alloc: Global, case: &Value) -> io::Result<HashMap<String, Source<String>>> {
+fn given_sources(alloc: Global, case: &Table) -> Read<'_, HashMap<String, Source<String>>> {
     let mut given = HashMap::new(alloc);
-    for told in list(case, "sources") {
+    for told in list(case, "sources")? {
+        let told = table_of(told, "sources")?;
         let id = text(told, "id")?.to_string(alloc)?;
-        given.insert(id, source_of(alloc, told)?)?;
+        given.insert(
+            id,
+            counted(alloc, text(told, "text")?.to_string(alloc)?, told)?,
+        )?;
     }
     Ok(given)
 }
 
-/// The answer of a case over sources that have display offsets.
-fn over_given_sources(alloc: Global, case: &Value) -> io::Result<Answer> {
+/// The answer of a report over sources that are given to a cache.
+fn over_given_sources<'c, S: Span<SourceId = String>>(
+    alloc: Global,
+    case: &'c Table,
+    report: &Report<'c, S>,
+) -> Read<'c, Answer> {
+    let call = call_of(case)?;
     let cache = FnCache::new(alloc, missing);
     let mut cache = cache.with_sources(given_sources(alloc, case)?)?;
-    written(alloc, &named_report(alloc, case)?, &mut cache)
+    Ok(sent(alloc, call, report, &mut cache)?)
 }
 
-/// The answer of a case over a cache that hides the name of one source.
-fn over_discreet_cache(alloc: Global, case: &Value) -> io::Result<Answer> {
-    let Some(hidden) = list(case, "hidden").first().and_then(Value::as_str) else {
-        return Err(odd_case());
-    };
+/// The answer of a report over a cache that hides the name of one source.
+fn over_discreet_cache<'c, S: Span<SourceId = String>>(
+    alloc: Global,
+    case: &'c Table,
+    report: &Report<'c, S>,
+    hidden: &str,
+) -> Read<'c, Answer> {
+    let call = call_of(case)?;
     let cache = FnCache::new(alloc, missing);
     let cache = cache.with_sources(given_sources(alloc, case)?)?;
     let hidden = hidden.to_string(alloc)?;
-    let mut cache = Discreet { cache, hidden };
-    written(alloc, &named_report(alloc, case)?, &mut cache)
+    Ok(sent(alloc, call, report, &mut Discreet { cache, hidden })?)
 }
 
-/// The answer of a report over a cache.
-fn written<S: Span, C: Cache<S::SourceId>>(
+/// The answer of a report over the first source alone, or over a reference to it.
+fn over_pair<'c, S: Span<SourceId = String>>(
     alloc: Global,
-    report: &Report<'_, S>,
-    cache: &mut C,
-) -> io::Result<Answer>
-    requires { C.can_fetch cache.old }
-{
-    let mut out = Vec::new(alloc);
-    match report.write(cache, &mut out) {
-        Ok(left_out) => Ok(Answer {
-            picture: text_of(out)?,
-            left_out: reasons_of(alloc, left_out.as_slice())?,
-        }),
-        Err(WriteError::Memory(_)) => Err(io::Error::from(ErrorKind::OutOfMemory)),
-        Err(WriteError::Io { fault, .. }) => Err(fault),
+    case: &'c Table,
+    report: &Report<'c, S>,
+    is_lent: bool,
+) -> Read<'c, Answer> {
+    let call = call_of(case)?;
+    let Some(told) = list(case, "sources")?.first() else {
+        return Err(Mistake::Odd("sources", "empty"));
+    };
+    let told = table_of(told, "sources")?;
+    let id = text(told, "id")?.to_string(alloc)?;
+    let source = counted(alloc, text(told, "text")?.to_string(alloc)?, told)?;
+    if is_lent {
+        Ok(sent(alloc, call, report, &mut (id, &source))?)
+    } else {
+        Ok(sent(alloc, call, report, &mut (id, source))?)
     }
 }
 
-/// The text of a picture.
-fn text_of(picture: Vec<u8>) -> io::Result<String> {
-    match String::from_utf8(picture) {
-        Ok(text) => Ok(text),
-        Err(_) => Err(odd_case()),
+/// The text of an id among these sources.
+fn answered(alloc: Global, sources: &[Value], id: &str) -> Result<String, ()> {
+    let is_named = |told: &&Value| told.get("id").and_then(Value::as_str) == Some(id);
+    let told = sources.iter().find(is_named);
+    match told
+        .and_then(|told| told.get("text"))
+        .and_then(Value::as_str)
+    {
+        Some(text) => match text.to_string(alloc) {
+            Ok(text) => Ok(text),
+            Err(_) => Err(()),
+        },
+        None => Err(()),
     }
 }
 
-/// The positions of the labels that are left out, each with its reason.
-fn reasons_of<E>(
+/// The answer of a report over a cache whose function answers the texts.
+fn over_function<'c, S: Span<SourceId = String>>(
     alloc: Global,
-    left_out: &[LeftOut<E>],
-) -> Result<Vec<(usize, &'static str)>, AllocError> {
-    let mut reasons = Vec::new(alloc);
-    for left in left_out {
-        reasons.push((left.label, reason_of(&left.reason)))?;
-    }
-    Ok(reasons)
-}
-
-/// A reason without what the cache said.
-fn reason_of<E>(reason: &Reason<E>) -> &'static str {
-    match reason {
-        Reason::Unfetched(_) => "Unfetched",
-        Reason::PastSource => "PastSource",
-        Reason::CutsCharacter => "CutsCharacter",
-    }
+    case: &'c Table,
+    report: &Report<'c, S>,
+) -> Read<'c, Answer> {
+    let call = call_of(case)?;
+    let sources = list(case, "sources")?;
+    let get = |id: &String| -> Result<String, ()> { answered(alloc, sources, id.as_str()) };
+    Ok(sent(alloc, call, report, &mut FnCache::new(alloc, get))?)
 }

@@ -1,0 +1,59 @@
+//! The cases of a file, each as it stands there.
+
+use crate::seen::is_unseen;
+use std::alloc::{AllocError, Global};
+
+/// A case of a file: its members as they stand there, and the line of the file, from 1, of the first
+/// of them.
+#[derive(Clone, Copy)]
+pub struct Piece<'t> {
+    pub file: &'t str,
+    pub line: usize,
+    pub text: &'t str,
+}
+
+impl<'t> Piece<'t> {
+    /// The line of the file that heads the case.
+    pub fn head(&self) -> usize {
+        self.line.saturating_sub(1)
+    }
+
+    /// The name of the case as it is written, or nothing. It is there though the case can't be read.
+    pub fn written_name(&self) -> &'t str {
+        match self.text.lines().find(|line| line.starts_with("name = ")) {
+            Some(line) => line.trim_start_matches("name = ").trim_matches('"'),
+            None => "",
+        }
+    }
+}
+
+/// The line, from 0, that stands behind so many bytes of a text.
+pub fn line_at(text: &str, offset: usize) -> usize {
+    text.bytes()
+        .take(offset)
+        .filter(|byte| *byte == b'\n')
+        .count()
+}
+
+/// What stands above the first case of a file, and its cases, each behind a line `[[case]]`.
+pub fn pieces_of<'t>(
+    alloc: Global,
+    file: &'t str,
+    text: &'t str,
+) -> Result<Vec<Piece<'t>>, AllocError> {
+    let mut pieces = Vec::new(alloc);
+    let mut line = 1usize;
+    for text in text.split("[[case]]\n") {
+        pieces.push(Piece { file, line, text })?;
+        line = line
+            .saturating_add(line_at(text, text.len()))
+            .saturating_add(1);
+    }
+    Ok(pieces)
+}
+
+/// The first line of a text, from 0, that holds a character that can't be seen, or ends in a blank.
+pub fn unseen_line(text: &str) -> Option<usize> {
+    text.split('\n')
+        .position(|line| line.ends_with(' ') || line.chars().any(is_unseen))
+}

@@ -1,0 +1,102 @@
+"""Cases as docs/CASES.md tells them: those that are stored, and reports written as cases."""
+
+import re
+import tomllib
+from pathlib import Path
+
+DATA = Path(__file__).resolve().parent.parent / "crates/ariadne_replay/data"
+# Escapes that TOML has since 1.1, which tomllib doesn't read, and the backslash's own.
+NEW_ESCAPE = re.compile(r"\\(?:\\|e|x[0-9a-fA-F]{2})")
+# What stands in a text as it is. (No blank ends a line, since a quote stands behind it.)
+NOT_PLAIN = re.compile(r'["\\]|[^ -~]')
+LARGEST = 2**63 - 1
+
+
+def old_escape(found):
+    """An escape that TOML 1.0 has, for one that 1.1 has."""
+    escape = found[0]
+    code = "1b" if escape == r"\e" else escape[2:]
+    return escape if escape == r"\\" else r"\u00" + code
+
+
+def cases_of(text):
+    """The cases of a file."""
+    return tomllib.loads(NEW_ESCAPE.sub(old_escape, text)).get("case", [])
+
+
+def stored_cases():
+    """The cases of all files."""
+    return [case for file in sorted(DATA.glob("*.toml")) for case in cases_of(file.read_text())]
+
+
+def text_of(text):
+    """A text as TOML, on one line."""
+    return '"' + NOT_PLAIN.sub(lambda found: f"\\U{ord(found[0]):08x}", text) + '"'
+
+
+def value_of(value):
+    """A value as TOML. A number that is past TOML's is a text."""
+    if isinstance(value, bool):
+        return str(value).lower()
+    if isinstance(value, int):
+        return str(value) if value <= LARGEST else f'"{value}"'
+    if isinstance(value, list):
+        return "[" + ", ".join(map(value_of, value)) + "]"
+    if isinstance(value, dict):
+        return "{ " + ", ".join(f"{name} = {value_of(it)}" for name, it in value.items()) + " }"
+    return text_of(value)
+
+
+def told(**members):
+    """The members that are there."""
+    return {name: value for name, value in members.items() if value not in (None, [], {})}
+
+
+def label_of(label):
+    """A label of a report, as the member of a case."""
+    return told(
+        id=label["id"],
+        at=f"{label['start']}..{label['end']}",
+        message=label["message"],
+        color=label.get("color"),
+        order=label["order"],
+        priority=label["priority"],
+    )
+
+
+def sources_of(report):
+    """The members that tell a report's sources."""
+    sources = report["sources"]
+    if report["cache"] == "source":
+        return told(source=sources[0]["text"], line_offset=sources[0]["offset"] or None)
+    ids = {source["id"] for source in sources}
+    asked = [report["span"][0], *(label["id"] for label in report["labels"])]
+    return told(
+        sources=[
+            told(id=source["id"], text=source["text"], line_offset=source["offset"] or None)
+            for source in sources
+        ],
+        missing=[it for it in dict.fromkeys(asked) if it not in ids],
+        hidden=report["hidden"][0] if report["cache"] == "custom" else None,
+    )
+
+
+def case_of(name, report):
+    """The text of a report as a case of a name, without a picture."""
+    source_id, start, end = report["span"]
+    members = told(
+        name=name,
+        kind=report.get("kind"),
+        kind_color=report.get("kind_color"),
+        code=report.get("code"),
+        message=report.get("message"),
+        id=source_id,
+        at=f"{start}..{end}",
+        **sources_of(report),
+        labels=[label_of(label) for label in report["labels"]],
+        helps=report.get("helps"),
+        notes=report.get("notes"),
+        settings=report["config"],
+    )
+    rows = (f"{member} = {value_of(value)}\n" for member, value in members.items())
+    return "[[case]]\n" + "".join(rows)
