@@ -26,5 +26,5 @@ def draw(reports):
     asked = "".join(case_of(str(number), report) for number, report in enumerate(reports)).encode()
     ran = subprocess.run([program(), "--answer"], input=asked, stdout=subprocess.PIPE)
     lines = (line for line in ran.stdout.split(b"\n") if line.startswith(b'{"answer": '))
-    answers = {answer["answer"]: answer for answer in map(json.loads, lines)}
+    answers = {answer.pop("answer"): answer for answer in map(json.loads, lines)}
     return [answers.get(str(number)) for number in range(len(reports))]

@@ -56,7 +56,8 @@ fn main(rt: HostRuntime) -> io::Result<ExitCode> {
     if matches!(task, Task::Compare) {
         println!(rt; "{} cases, {} differ", run.count, run.otherwise)?;
     }
-    if run.count > 0 && run.otherwise == 0 {
+    let is_found = run.count > 0 || !matches!(task, Task::Accept(_));
+    if is_found && run.otherwise == 0 {
         Ok(ExitCode::SUCCESS)
     } else {
         Ok(ExitCode::FAILURE)
