@@ -14,7 +14,7 @@ ROOT = Path(__file__).resolve().parent.parent
 @functools.lru_cache
 def program():
     """The file that starts the program, which is built first where that was not done: see tools/built."""
-    words = [ROOT / "tools/built", "ariadne_replay", "data/faults.toml"]
+    words = [ROOT / "tools/built", "ariadne_replay"]
     ran = subprocess.run(words, stdin=subprocess.DEVNULL, stdout=subprocess.PIPE)
     if ran.returncode:
         sys.exit(ran.returncode)
