@@ -2,9 +2,10 @@
 //! gets, so `stdout` has the first picture, and `tools/try-program` compares both.
 #![tactic(auto)]
 
-use ariadne::{CharSet, Config, Label, Report, ReportKind, Source};
+use ariadne::{CharSet, Config, Label, Report, ReportKind, Source, WriteError};
 use std::alloc::{AllocError, Global};
-use std::io;
+use std::io::Stderr;
+use std::process::ExitCode;
 
 /// A warning with this message, about the first character.
 fn warning(alloc: Global, message: &str) -> Result<Report<'static>, AllocError> {
@@ -18,9 +19,17 @@ fn warning(alloc: Global, message: &str) -> Result<Report<'static>, AllocError> 
     Ok(report.finish())
 }
 
-fn main(rt: HostRuntime) -> io::Result<()> {
+/// Prints the first report to standard output, and the second to standard error.
+fn print_both<R: Print + AllocGlobal>(rt: &R, stderr: Stderr) -> Result<(), WriteError> {
     let mut source = Source::from(rt.alloc(), "ab")?;
-    warning(rt.alloc(), "on standard output")?.print(&mut source, &rt)?;
-    warning(rt.alloc(), "on standard error")?.eprint(&mut source, rt.stderr())?;
+    warning(rt.alloc(), "on standard output")?.print(&mut source, rt)?;
+    warning(rt.alloc(), "on standard error")?.eprint(&mut source, stderr)?;
     Ok(())
+}
+
+fn main(rt: HostRuntime) -> ExitCode {
+    match print_both(&rt, rt.stderr()) {
+        Ok(()) => ExitCode::SUCCESS,
+        Err(_) => ExitCode::FAILURE,
+    }
 }

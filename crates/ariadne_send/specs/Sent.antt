@@ -2,9 +2,6 @@
 use Rattle.std.specs.Prelude.{ℕ, ◌<◌, ◌≡◌, ◌==◌, ◌&&◌, ◌||◌, ◌++◌, Bool, true, not, List, length, take}
 use Rattle.std.specs.Prelude.{Option, Result, Ok, Err, MatchResult, IfOk, codes, decimal}
 use Rattle.std.specs.Io.KnownBytes.{Appends}
-use Rattle.std.specs.IoError.{error_kind}
-use Rattle.std.specs.declared.io.Error.{Error}
-use Rattle.std.specs.declared.io.ErrorKind.TheVariants.{OutOfMemory}
 use Rattle.ariadne_send.specs.declared.send.WriteError.{WriteError}
 use Rattle.ariadne_send.specs.declared.send.WriteError.TheVariants.{Memory, Io}
 
@@ -19,11 +16,6 @@ Sends before after bytes (Err (Io sent fault)) =
 abbrev pub shown_error : WriteError → List ℕ
 shown_error (Memory _) = codes "no memory"
 shown_error (Io sent fault) = codes "write failed after " ++ decimal sent ++ codes " bytes"
-
--- what stands for it as a fault of input and output: one of the kind of refused memory, or the writer's
-abbrev pub IsFaultOf : WriteError → Error → Type 0
-IsFaultOf (Memory _) told = error_kind told ≡ OutOfMemory
-IsFaultOf (Io sent fault) told = told ≡ fault
 
 -- what a call of `take` says of a sink's faults: it has failed where it had before, where this call
 -- answers a fault, and where it took nothing of a piece that is not empty

@@ -48,21 +48,6 @@ impl From<AllocError> for WriteError {
     }
 }
 
-/// So that `report.write(..)?` serves a function that returns an `io::Result`. A writer's fault stays
-/// what it is, and how much was sent before is dropped; want of memory is of the kind `OutOfMemory`.
-impl From<WriteError> for io::Error {
-    ghost use Rattle.ariadne_send.specs.Sent.{IsFaultOf};
-
-    ghost from_gives = { λ w e. IsFaultOf w e };
-
-    fn from(error: WriteError) -> io::Error {
-        match error {
-            WriteError::Memory(refused) => io::Error::from(refused),
-            WriteError::Io { sent: _, fault } => fault,
-        }
-    }
-}
-
 /// Sends all bytes by the writer's `write`, and stops at its first fault. It takes no memory.
 pub fn send<W: Write>(out: &mut W, bytes: &[u8]) -> Result<(), WriteError>
     ensures { Sends (W.contents out.old) (W.contents out.new) bytes.now result }

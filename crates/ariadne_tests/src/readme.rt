@@ -1,12 +1,11 @@
 //! The example of README.md, which has this file from the first `use` on.
 
-use ariadne::{CharSet, Config, Label, Report, ReportKind, Source};
+use ariadne::{CharSet, Config, Label, Report, ReportKind, Source, WriteError};
 use std::alloc::Global;
-use std::io;
 use std::io::Write;
 
 /// Draws the error that types differ, over its text.
-pub fn tell<W: Write>(alloc: Global, text: &str, out: &mut W) -> io::Result<()> {
+pub fn tell<W: Write>(alloc: Global, text: &str, out: &mut W) -> Result<(), WriteError> {
     let config = Config::new()
         .with_char_set(CharSet::Ascii)
         .with_color(false);

@@ -149,7 +149,6 @@ pub(crate) const OTHERS: &[(&str, &str)] = &[
         "WriteError::from",
         "is handed the want of memory that it tells",
     ),
-    ("io::Error::from", "hands on what its WriteError holds"),
     ("Source::ensure", "is its own only source"),
     ("&Source::ensure", "is its own only source"),
     ("Foreground::clone", "copies what is Copy"),

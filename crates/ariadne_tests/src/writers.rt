@@ -252,12 +252,3 @@ fn errors_say_how_many_bytes_were_sent(rt: HostRuntime) {
         );
     }
 }
-
-#[test]
-fn an_error_is_one_of_input_and_output(rt: HostRuntime) {
-    let fault = io::Error::from(ErrorKind::BrokenPipe);
-    let broken = io::Error::from(WriteError::Io { sent: 2, fault });
-    assert_eq!(rt; broken.kind(), ErrorKind::BrokenPipe);
-    let refused = io::Error::from(WriteError::Memory(AllocError));
-    assert_eq!(rt; refused.kind(), ErrorKind::OutOfMemory);
-}
