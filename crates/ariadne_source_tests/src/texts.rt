@@ -12,34 +12,15 @@ fn assert_lines(rt: &(impl Abort + AllocGlobal), lines: &[&str]) {
         text.push_str(*line).expect(rt, "memory");
     }
     let source = Source::from(rt.alloc(), text).expect(rt, "memory");
-    assert_lines_of(rt, &source, lines)
-}
-
-/// Asserts that the lines of a source are these, each behind the characters of those before it.
-fn assert_lines_of<I: SourceText>(rt: &impl Abort, source: &Source<I>, lines: &[&str]) {
-    let mut offset = 0usize;
+    let mut found = source.lines();
     for (number, want) in lines.iter().enumerate() {
-        let line = source.line(number);
-        let len = want.chars().count();
-        let told = line.map(|line| (line.offset(), line.len()));
-        assert_eq!(rt; told, Some((offset, len)), "of {want:?}");
+        let line = found.next();
+        assert_eq!(rt; source.line(number), line, "of {want:?}");
         let text = line.and_then(|line| source.get_line_text(line));
         assert_eq!(rt; text, Some(*want));
-        offset = offset.saturating_add(len);
     }
-    assert_eq!(rt; source.len(), offset);
-    assert_eq!(rt; source.lines().len(), lines.len());
+    assert_eq!(rt; found.next(), None);
     assert_eq!(rt; source.line(lines.len()), None);
-}
-
-#[test]
-fn the_lines_of_a_source_come_in_turn(rt: HostRuntime) {
-    let source = Source::from(rt.alloc(), "a\r\nb").expect(&rt, "memory");
-    let mut lines = source.lines();
-    for number in [0, 1] {
-        assert_eq!(rt; lines.next(), source.line(number));
-    }
-    assert_eq!(rt; lines.next(), None);
 }
 
 #[test]
@@ -178,11 +159,8 @@ fn sources_of_other_texts_are_others(rt: HostRuntime) {
 
 #[test]
 fn a_text_may_be_shared(rt: HostRuntime) {
-    let lines = ["A text\n", "    of several\n", "    lines,\n", "    shared"];
-    let text = "A text\n    of several\n    lines,\n    shared";
-    let text = RcStr::from_str(rt.alloc(), text).expect(&rt, "memory");
+    let text = RcStr::from_str(rt.alloc(), "a\nb").expect(&rt, "memory");
     let source = Source::from(rt.alloc(), text).expect(&rt, "memory");
-    assert_lines_of(&rt, &source, &lines);
     let copy = source.clone().expect(&rt, "memory");
     assert_eq!(rt; copy.text(), source.text());
 }
