@@ -3,8 +3,8 @@ use Rattle.std.specs.Prelude.{ℕ, List, Option, Result, Ok, Err}
 use Rattle.std.specs.Borrow.{Bor}
 use Rattle.std.specs.Io.KnownBytes.{Keeps}
 use Rattle.std.specs.List.{AllByRecursion}
-use Rattle.ariadne_base.specs.Cache.{held}
-use Rattle.ariadne_base.specs.Listing.{Listing}
+use Rattle.ariadne.specs.Cache.{held}
+use Rattle.ariadne.specs.Listing.{Listing}
 use Rattle.ariadne_brackets.specs.Linted.{IsCut, IsCutRun, IsWhole, Prints, report_of, same_path}
 use Rattle.ariadne_brackets.specs.Outcomes.{IsOutcome}
 use Rattle.ariadne_brackets.specs.declared.checked.Checked.{Checked}
