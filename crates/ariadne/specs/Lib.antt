@@ -55,5 +55,5 @@ pub use Rattle.ariadne_accept.specs.Judging
 pub use Rattle.ariadne_accept.specs.declared.accept.LeftOut
 pub use Rattle.ariadne_accept.specs.declared.accept.Reason
 pub use Rattle.ariadne_send.specs.Sent as Sending
-pub use Rattle.ariadne_send.specs.declared.send.WriteError
+pub mod WriteErrors
 pub mod Written

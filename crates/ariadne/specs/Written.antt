@@ -6,8 +6,8 @@ use Rattle.std.specs.declared.alloc.Global.{Global}
 use Rattle.ariadne_base.specs.Listing.{Listing}
 use Rattle.ariadne_accept.specs.declared.accept.LeftOut.{LeftOut}
 use Rattle.ariadne_accept.specs.declared.accept.Reason.{Reason}
-use Rattle.ariadne_send.specs.declared.send.WriteError.{WriteError}
-use Rattle.ariadne_send.specs.declared.send.WriteError.TheVariants.{Memory, Io}
+use Rattle.ariadne.specs.declared.write_error.WriteError.{WriteError}
+use Rattle.ariadne.specs.declared.write_error.WriteError.TheVariants.{Memory, Io}
 use Rattle.ariadne_accept.specs.Judging.{AreReasons, listed}
 use Rattle.ariadne_picture.specs.declared.label_info.LabelInfo.{LabelInfo}
 use Rattle.ariadne_picture.specs.Report.{ReportFields, World}

@@ -4,6 +4,7 @@
 pub mod builder;
 pub mod report;
 pub mod write;
+pub mod write_error;
 
 pub use ariadne_base::{
     Cache, FetchError, FileCache, FileError, FnCache, Line, Source, SourceLines, SourceMap,
@@ -17,4 +18,5 @@ pub use ariadne_picture::laws;
 pub use ariadne_send::sink::Sink;
 pub use builder::ReportBuilder;
 pub use report::Report;
-pub use write::{LeftOut, Reason, WriteError};
+pub use write::{LeftOut, Reason};
+pub use write_error::WriteError;

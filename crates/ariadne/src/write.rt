@@ -5,14 +5,14 @@ ghost use Rattle.std.specs.Prelude.{◌≡◌, IfOk, None, string_bytes};
 ghost use Rattle.ariadne_accept.specs.Drawn.{world};
 ghost use Rattle.ariadne_accept.specs.Judging.{GrowsFor};
 ghost use Rattle.ariadne.specs.Written.{IsPicture, WrittenOver};
-ghost use Rattle.ariadne_send.specs.Sent.{TellsFailure};
+ghost use Rattle.ariadne.specs.WriteErrors.{TellsFailure};
 
 use crate::report::Report;
+pub use crate::write_error::WriteError;
 use ariadne_accept::accept::accept;
 pub use ariadne_accept::accept::{LeftOut, Reason};
 use ariadne_base::{Cache, Span};
 use ariadne_drawing::drawing::draw;
-pub use ariadne_send::send::WriteError;
 use ariadne_send::send::{send, send_to};
 use ariadne_send::sink::Sink;
 use std::alloc::AllocError;

@@ -12,8 +12,8 @@ use Rattle.ariadne.specs.Report.{LabelFields, ReportFields, World}
 use Rattle.ariadne.specs.Judging.{GrowsFor}
 use Rattle.ariadne.specs.Written.{IsWritten, Written}
 use Rattle.ariadne.specs.LeftOut.{LeftOut}
-use Rattle.ariadne.specs.WriteError.{WriteError}
-use Rattle.ariadne.specs.WriteError.TheVariants as write
+use Rattle.ariadne.specs.declared.write_error.WriteError.{WriteError}
+use Rattle.ariadne.specs.declared.write_error.WriteError.TheVariants as write
 use Rattle.ariadne_draw.specs.Asked.{label_asking}
 use Rattle.ariadne_draw.specs.declared.asked.AskedLabel.{AskedLabel}
 use Rattle.ariadne_draw.specs.Drawn.{Leaves, colored, labels_from}

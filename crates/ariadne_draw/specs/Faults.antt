@@ -7,8 +7,8 @@ use Rattle.ariadne.specs.LeftOut.{LeftOut}
 use Rattle.ariadne.specs.Reason.{Reason}
 use Rattle.ariadne.specs.Reason.TheVariants.{Unfetched, PastSource}
 use Rattle.ariadne.specs.Reason.TheVariants.{CutsCharacter}
-use Rattle.ariadne.specs.WriteError.{WriteError}
-use Rattle.ariadne.specs.WriteError.TheVariants as write
+use Rattle.ariadne.specs.declared.write_error.WriteError.{WriteError}
+use Rattle.ariadne.specs.declared.write_error.WriteError.TheVariants as write
 use Rattle.ariadne_draw.specs.declared.fault.Fault.{Fault}
 use Rattle.ariadne_draw.specs.declared.fault.Fault.TheVariants.{Usage, Unread, NotUtf8, Writer}
 use Rattle.ariadne_draw.specs.declared.fault.Fault.TheVariants.{Memory}

@@ -149,15 +149,14 @@ pub(crate) const OTHERS: &[(&str, &str)] = &[
         "WriteError::from",
         "is handed the want of memory that it tells",
     ),
+    (
+        "io::Error::from",
+        "is handed the want of memory that it tells",
+    ),
     ("Source::ensure", "is its own only source"),
     ("&Source::ensure", "is its own only source"),
     ("Foreground::clone", "copies what is Copy"),
     ("Background::clone", "copies what is Copy"),
-    ("send", "the picture is whole before its first byte is sent"),
-    (
-        "send_to",
-        "the picture is whole before its first byte is sent",
-    ),
     ("Sink::take", "is the caller's own"),
     ("Watched::read", "hands on what its reader returns"),
 ];
