@@ -6,6 +6,7 @@
 //! - `lexer`: offsets in bytes.
 //! - `caches`: a cache of your own.
 //! - `errors`: an enum of errors that become reports.
+//! - `one_line`: a report as one line of text.
 //! - `arithmetic`: a parser that runs out of input.
 //! - `pictures`: how tests compare pictures.
 //! - `sinks`: a buffer of your own that takes the picture.
@@ -21,6 +22,8 @@ mod errors;
 mod files;
 #[cfg(test)]
 mod lexer;
+#[cfg(test)]
+mod one_line;
 #[cfg(test)]
 mod pictures;
 #[cfg(test)]

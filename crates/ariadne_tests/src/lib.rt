@@ -16,6 +16,8 @@ mod labels;
 #[cfg(test)]
 mod laws;
 #[cfg(test)]
+mod readers;
+#[cfg(test)]
 mod readme;
 #[cfg(test)]
 mod refused;
