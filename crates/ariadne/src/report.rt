@@ -14,7 +14,7 @@ use std::marker::Model;
 use std::ops::Range;
 
 /// A diagnostic that is ready to be written.
-#[derive(Drop)]
+#[derive(Debug, Drop)]
 pub struct Report<'a, S: Span = Range<usize>> {
     pub(crate) content: Content<'a, S>,
 }

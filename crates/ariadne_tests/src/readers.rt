@@ -43,3 +43,12 @@ fn a_report_tells_what_it_was_made_of(rt: HostRuntime) {
     assert_eq!(rt; report.labels().len(), 1);
     assert!(rt; report.labels()[0] == full(rt.alloc()).expect(&rt, "memory"));
 }
+
+#[test]
+fn a_debug_text_has_what_the_report_says(rt: HostRuntime) {
+    let report = report(rt.alloc()).expect(&rt, "memory");
+    let text = format!(in rt.alloc(); "{report:?}").expect(&rt, "memory");
+    for said in ["Hint", "07", "odd", "here", "see there", "turn it"] {
+        assert!(rt; text.contains(said), "{said}");
+    }
+}
