@@ -10,14 +10,15 @@ pub use Rattle.ariadne_base.specs.Listing
 pub use Rattle.ariadne_base.specs.Cache
 pub use Rattle.ariadne_base.specs.Stored
 pub use Rattle.ariadne_base.specs.Files
+pub use Rattle.ariadne_base.specs.Numbered
 pub use Rattle.ariadne_base.specs.declared.cache.FetchError
 pub use Rattle.ariadne_base.specs.declared.cache.file.FileError
-
+pub use Rattle.ariadne_base.specs.declared.cache.table.UnknownNumber
+pub use Rattle.ariadne_base.specs.declared.span.place.Place
 -- ---- colours
 pub use Rattle.ariadne_color.specs.Colors
 pub use Rattle.ariadne_color.specs.Generator
 pub use Rattle.ariadne_color.specs.declared.color.Color
-
 -- ---- reports, and the picture of one
 pub use Rattle.ariadne_labels.specs.Kinds
 pub use Rattle.ariadne_labels.specs.Labels
@@ -47,7 +48,6 @@ pub use Rattle.ariadne_picture.specs.Causes
 pub use Rattle.ariadne_picture.specs.Readings
 pub use Rattle.ariadne_picture.specs.Variants
 pub use Rattle.ariadne_picture.specs.Headline
-
 -- ---- making a report and writing it
 pub mod Building
 pub use Rattle.ariadne_accept.specs.Drawn

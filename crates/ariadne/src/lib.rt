@@ -7,8 +7,8 @@ pub mod write;
 pub mod write_error;
 
 pub use ariadne_base::{
-    Cache, FetchError, FileCache, FileError, FnCache, Line, Source, SourceLines, SourceMap,
-    SourceName, SourceText, Span, UnknownSource, sources,
+    Cache, FetchError, FileCache, FileError, FnCache, Line, Place, Source, SourceLines, SourceMap,
+    SourceName, SourceTable, SourceText, Span, UnknownNumber, UnknownSource, sources,
 };
 pub use ariadne_color::{Background, Color, ColorGenerator, Fmt, Foreground};
 pub use ariadne_labels::config::{CharSet, Config, IndexType, LabelAttach};

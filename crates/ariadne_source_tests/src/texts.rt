@@ -1,6 +1,6 @@
 //! The lines of texts, look-ups in them, and spans.
 
-use ariadne::{Source, SourceText, Span};
+use ariadne::{Place, Source, SourceText, Span};
 use std::hash::{DefaultHasher, Hash, Hasher};
 use std::process::Abort;
 use std::rc::RcStr;
@@ -192,6 +192,16 @@ fn inclusive_ranges_end_one_past_their_last_offset(rt: HostRuntime) {
         assert_eq!(rt; told_of(&(start..=last)), want);
         assert_eq!(rt; told_of(&(7u8, start..=last)), want);
     }
+}
+
+#[test]
+fn a_place_never_runs_backwards(rt: HostRuntime) {
+    assert!(rt; Place::new(3, 2).is_none());
+    let place = Place::new(2, 5).expect(&rt, "a place");
+    assert_eq!(rt; told_of(&place), (2, 5, 3, false));
+    assert_eq!(rt; told_of(&("a", Place::at(3))), (3, 3, 0, true));
+    assert_eq!(rt; Place::at(5).to(Place::at(2)), place);
+    assert_eq!(rt; place.to(Place::at(3)), place);
 }
 
 #[test]

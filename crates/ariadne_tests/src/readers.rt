@@ -6,7 +6,12 @@ use std::alloc::{AllocError, Global};
 /// A label with all that a label may have.
 fn full(alloc: Global) -> Result<Label, AllocError> {
     let label = Label::new(1..3).with_message(alloc, "here")?;
-    Ok(label.with_color(Color::Blue).with_order(-4).with_priority(5))
+    Ok(
+        label
+            .with_color(Color::Blue)
+            .with_order(-4)
+            .with_priority(5),
+    )
 }
 
 /// A report with all that a report may have.
@@ -25,7 +30,10 @@ fn report(alloc: Global) -> Result<Report<'static>, AllocError> {
 fn a_label_tells_what_it_was_made_of(rt: HostRuntime) {
     let label = full(rt.alloc()).expect(&rt, "memory");
     assert_eq!(rt; *label.span(), 1..3);
-    assert_eq!(rt; (label.message(), label.color()), (Some("here"), Some(Color::Blue)));
+    assert_eq!(rt;
+        (label.message(), label.color()),
+        (Some("here"), Some(Color::Blue))
+    );
     assert_eq!(rt; (label.order(), label.priority()), (-4, 5));
 }
 
@@ -33,7 +41,10 @@ fn a_label_tells_what_it_was_made_of(rt: HostRuntime) {
 fn a_report_tells_what_it_was_made_of(rt: HostRuntime) {
     let report = report(rt.alloc()).expect(&rt, "memory");
     assert_eq!(rt; report.kind(), ReportKind::Custom("Hint", Color::Red));
-    assert_eq!(rt; (report.code(), report.message()), (Some("07"), Some("odd")));
+    assert_eq!(rt;
+        (report.code(), report.message()),
+        (Some("07"), Some("odd"))
+    );
     assert_eq!(rt; *report.span(), 2..2);
     assert_eq!(rt; report.config().index_type(), IndexType::Byte);
     for (texts, want) in [(report.notes(), "see there"), (report.helps(), "turn it")] {

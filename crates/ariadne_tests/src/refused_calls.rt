@@ -45,6 +45,7 @@ pub(crate) const CALLS: &[(&str, &[&str])] = &[
             "Source::clone",
             "sources",
             "FnCache::with_sources",
+            "SourceTable::add",
         ],
     ),
     (
@@ -153,6 +154,8 @@ pub(crate) const OTHERS: &[(&str, &str)] = &[
         "io::Error::from",
         "is handed the want of memory that it tells",
     ),
+    ("FileError::fault", "lends the fault that it has"),
+    ("SourceTable::ensure", "returns an error that is a number"),
     ("Source::ensure", "is its own only source"),
     ("&Source::ensure", "is its own only source"),
     ("Foreground::clone", "copies what is Copy"),
