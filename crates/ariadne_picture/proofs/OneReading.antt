@@ -2,3 +2,4 @@
 pub mod LinesFound
 pub mod MessagesFound
 pub mod StrokesFound
+pub mod TwinsFound

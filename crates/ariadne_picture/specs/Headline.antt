@@ -1,9 +1,10 @@
 -- What the headline says of a report that was drawn: what was sent is exactly the printed canvas of
 -- the accepted labels; on it each accepted message has one row of its own, and strokes lead from it
 -- to the label's attach character or gutter column, in the columns where the source row shows them;
--- in the text below a line no stroke stands elsewhere. Source rows and gutter labels are read in one
--- way. A cell takes the columns of its text, and the rows are the lines that are sent. Colours move
--- nothing, and offsets in bytes draw as the same offsets in characters.
+-- in the text below a line no stroke stands elsewhere. All of this is read in one way, but that
+-- messages of twins may change places. A cell takes the columns of its text, and the rows are the
+-- lines that are sent. Colours move nothing, and offsets in bytes draw as the same offsets in
+-- characters.
 use Rattle.std.specs.Prelude.{ℕ, ◌≡◌, Bool, true, List, Option}
 use Rattle.std.specs.Io.KnownBytes.{Appends}
 use Rattle.ariadne_picture.specs.declared.label_info.LabelInfo.{LabelInfo}
@@ -42,12 +43,12 @@ abbrev pub IsTraced : List (List Cell) → List Section → (ℕ → List ℕ) �
 IsTraced rows groups message_of =
     (placing : Placing) × IsReadBy rows groups message_of placing
 
--- they are read in one way: row numbers that they are read by agree on source rows, and on the head
--- and the message of each gutter label
+-- they are read in one way: row numbers that they are read by agree on source rows, on heads and on
+-- messages
 abbrev pub AreReadInOneWay : List (List Cell) → List Section → (ℕ → List ℕ) → Type 0
 AreReadInOneWay rows groups message_of =
     (p q : Placing) → IsReadBy rows groups message_of p → IsReadBy rows groups message_of q
-    → AgreeOnStrokes groups p q
+    → AgreeOnStrokes message_of groups p q
 
 -- what was before, and is now, in the writer; the accepted labels are infos
 pub record Headline {S Id : Type 0} (w : World S Id) (r : ReportFields S) (infos : List LabelInfo)

@@ -21,7 +21,7 @@ ghost use Rattle.ariadne_picture.specs.Blocks.{has_whole_blocks};
 ghost use Rattle.ariadne_picture.specs.Canvas.{Cell, canvas, sections, texts_of};
 ghost use Rattle.ariadne_picture.specs.Causes.{has_no_other_strokes};
 ghost use Rattle.ariadne_picture.specs.Groups.{AreGroupsOf, groups_of, ordered};
-ghost use Rattle.ariadne_picture.specs.Headline.{AreReadInOneWay, CanBeRead, IsTraced};
+ghost use Rattle.ariadne_picture.specs.Headline.{AreReadInOneWay, CanBeRead, IsReadBy, IsTraced};
 ghost use Rattle.ariadne_picture.specs.Lists.{best, in_order};
 ghost use Rattle.ariadne_picture.specs.Placing.{has_ends_of_gutter_traces, has_gutter_bars};
 ghost use Rattle.ariadne_picture.specs.Placing.{has_inline_traces, has_message_rows, is_aligned};
@@ -29,7 +29,7 @@ ghost use Rattle.ariadne_picture.specs.Placing.{Placing, is_placing};
 ghost use Rattle.ariadne_picture.specs.Ranks.{Sheet, is_before, is_hidden, is_nearer_margin};
 ghost use Rattle.ariadne_picture.specs.Ranks.{gutter_labels};
 ghost use Rattle.ariadne_picture.specs.Ranks.{span_len};
-ghost use Rattle.ariadne_picture.specs.Readings.{AgreeOnLines};
+ghost use Rattle.ariadne_picture.specs.Readings.{AgreeOnEnds, AgreeOnHeads, AgreeOnLines};
 ghost use Rattle.ariadne_picture.specs.Report.{AreForward, ConfigFields, HaveOneSource};
 ghost use Rattle.ariadne_picture.specs.Report.{LabelFields, ReportFields, World};
 ghost use Rattle.ariadne_picture.specs.Rows.{Row, source, alternate, arrow, gap, before, rows};
@@ -244,8 +244,8 @@ pub fn no_stroke_is_without_a_cause<S, Id, R>()
 
 /// Every picture can be read, under one choice of row numbers for all of this: its rows belong
 /// together, each accepted message has a row of its own, strokes lead from it to its label, in the
-/// columns where the source row shows them, and no stroke stands elsewhere. The two premises hold wherever sources are looked
-/// up by their ids, and labels start at most at their ends.
+/// columns where the source row shows them, and no stroke stands elsewhere. The two premises hold
+/// wherever sources are looked up by their ids, and labels start at most at their ends.
 pub fn every_picture_can_be_read<S, Id, R>()
     ensures { (w : World S Id) (r : ReportFields S) (reasons : List (Option R))
         → HaveOneSource w → AreForward w r
@@ -264,11 +264,31 @@ pub fn lines_are_found_in_one_way<S, Id, R>()
         → AgreeOnLines groups p q }
 {}
 
-/// Labels over several lines are read in one way: row numbers that a picture is read by agree on
-/// source rows, and on the head and the message of each such label that has one.
+/// Labels over several lines are read in one way: row numbers that a picture is read by agree on the
+/// head and the message of each such label that has one.
 pub fn gutter_labels_are_read_in_one_way<S, Id, R>()
-    ensures { (w : World S Id) (r : ReportFields S) (reasons : List (Option R))
+    ensures heads { (w : World S Id) (r : ReportFields S) (reasons : List (Option R))
         → AreForward w r
+        → let infos = drawn_labels w r.config 0 r.labels reasons in
+        let rows = canvas w r infos in let groups = sections w r infos in
+        let message_of = (texts_of r).message_of in
+        (p q : Placing) → IsReadBy rows groups message_of p → IsReadBy rows groups message_of q
+        → AgreeOnHeads groups p q }
+    ensures ends { (w : World S Id) (r : ReportFields S) (reasons : List (Option R))
+        → AreForward w r
+        → let infos = drawn_labels w r.config 0 r.labels reasons in
+        let rows = canvas w r infos in let groups = sections w r infos in
+        let message_of = (texts_of r).message_of in
+        (p q : Placing) → IsReadBy rows groups message_of p → IsReadBy rows groups message_of q
+        → AgreeOnEnds groups p q }
+{}
+
+/// Pictures are read in one way: row numbers that a picture is read by agree on source rows, on
+/// heads and on messages, but that those of twins may change places. Twins are two labels within one
+/// line, with one message, attached at one column.
+pub fn pictures_are_read_in_one_way<S, Id, R>()
+    ensures { (w : World S Id) (r : ReportFields S) (reasons : List (Option R))
+        → HaveOneSource w → AreForward w r
         → let infos = drawn_labels w r.config 0 r.labels reasons in
         AreReadInOneWay (canvas w r infos) (sections w r infos) (texts_of r).message_of }
 {}

@@ -41,19 +41,19 @@ module _ {S Id R : Type 0} (w : World S Id) (r : ReportFields S) (reasons : List
 
   module _ (law : (p q : Id) → w.is_same p q ≡ true → w.source_of p ≡ w.source_of q) where
     -- each is placed within the source of its group, as the law gives each group one source
-    placed : ArePlaced picture
-    placed g s = sections-placed w r law reasons g s forward
+    pub all-placed : ArePlaced picture
+    all-placed g s = sections-placed w r law reasons g s forward
 
     -- its labels within a line are led to their characters, its gutter labels into and out of their columns, in which their
     -- bars stand
     pub every-inline : has_inline_traces (canvas w r infos) (sections w r infos) (row_placing (texts_of r) (sections w r infos)) ≡ true
-    every-inline = of-canvas w r infos numbered has_inline_traces (inline-traces picture placed)
+    every-inline = of-canvas w r infos numbered has_inline_traces (inline-traces picture all-placed)
 
     pub every-end : has_ends_of_gutter_traces (canvas w r infos) (sections w r infos) (row_placing (texts_of r) (sections w r infos)) ≡ true
-    every-end = of-canvas w r infos numbered has_ends_of_gutter_traces (end-traces picture placed)
+    every-end = of-canvas w r infos numbered has_ends_of_gutter_traces (end-traces picture all-placed)
 
     pub every-bar : has_gutter_bars (canvas w r infos) (sections w r infos) (row_placing (texts_of r) (sections w r infos)) ≡ true
-    every-bar = of-canvas w r infos numbered has_gutter_bars (gutter-bars picture placed)
+    every-bar = of-canvas w r infos numbered has_gutter_bars (gutter-bars picture all-placed)
 
     -- the tracing promise
     pub every-traced : IsTraced (canvas w r infos) (sections w r infos) (texts_of r).message_of

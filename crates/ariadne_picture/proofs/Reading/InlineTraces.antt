@@ -31,7 +31,7 @@ use Rattle.ariadne_picture.proofs.Reading.Pictures.{Picture, placing_of, read, n
 use Rattle.ariadne_picture.proofs.Reading.ShownLine.{IsShownLine, places_of, places-are, source-at, block-row-is, every-line}
 
 -- a label within a line is no margin label
-inline-off : (m : Option LineLabel) (x : LineLabel) → x.side ≡ Inline → is_margin m x ≡ false
+pub inline-off : (m : Option LineLabel) (x : LineLabel) → x.side ≡ Inline → is_margin m x ≡ false
 unfolding is_margin is_inline
 inline-off m x e = rw e refl
 

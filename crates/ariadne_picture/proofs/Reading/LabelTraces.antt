@@ -101,7 +101,7 @@ area-at switches y ink_at k o q few e =
     ∙ inks-at switches.char_set ink_at (width switches y) (arrow_len switches y) k o q few e
 
 -- a place has as many cells as columns
-place-cells : (s : Section) (l k : ℕ) → place_cell s l (k + 1) - place_cell s l k ≡ width s.sheet.switches (layout_of s.sheet l) k
+pub place-cells : (s : Section) (l k : ℕ) → place_cell s l (k + 1) - place_cell s l k ≡ width s.sheet.switches (layout_of s.sheet l) k
 unfolding place_cell width column_of
 place-cells s l k =
     let y = layout_of s.sheet l in

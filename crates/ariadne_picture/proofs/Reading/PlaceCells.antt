@@ -111,7 +111,7 @@ module _ (v : Picture) {g : ℕ} {s : Section} {l : ℕ} where
   alternate-cell {r = r} is = place-at v s l (alternate_inks s l r) _ (alternate-text v is)
 
   -- the arrow row of line label x has its corner, its horizontal and the verticals of others
-  label-cell : {r : ℕ} {x : LineLabel} → IsArrowRow v g s l r x → (k : ℕ) → k < places_of s l → has_cell s l k ≡ true
+  pub label-cell : {r : ℕ} {x : LineLabel} → IsArrowRow v g s l r x → (k : ℕ) → k < places_of s l → has_cell s l k ≡ true
       → let y = layout_of s.sheet l in
       first_cell v s l (number v g s (arrow l r)) k
       ≡ ink_cell v s (arrow_ink s.sheet.switches r x (has_corner y.margin x k) (is_crossed x.side x.place k) (vertical_at y r k))

@@ -13,6 +13,7 @@ use Rattle.ariadne_picture.specs.Canvas.{Cell, canvas, sections, texts_of}
 use Rattle.ariadne_picture.specs.Print.{printed, erased, unescaped}
 use Rattle.ariadne_picture.specs.Sent.{HaveColumnsOfTexts, HaveNoLineFeeds, RowsAreLines}
 use Rattle.ariadne_picture.specs.Placing.{Placing}
+use Rattle.ariadne_picture.specs.Readings.{AgreeOnLines, AgreeOnHeads, AgreeOnMessages, AgreeOnStrokes}
 use Rattle.ariadne_picture.specs.Variants.{HaveNoEscapes, ColorsMoveNothing, BytesDrawAsCharacters, colorless, char_world, char_report, verdict_at}
 use Rattle.ariadne_picture.specs.Headline.{IsReadBy, IsTraced, AreReadInOneWay, Headline}
 use Rattle.ariadne_picture.proofs.Rows.RowPlacing.{is_read}
@@ -46,6 +47,11 @@ all_sentences w r labels before after h = (
   h.colors_move_nothing,
   h.bytes_draw_as_characters,
 )
+
+-- two placings that a picture is read by have the same rows for lines and heads, and the same for messages but for twins
+the_same_rows : (message_of : ℕ → List ℕ) (groups : List Section) (p q : Placing) → AgreeOnStrokes message_of groups p q
+    → AgreeOnLines groups p q × AgreeOnHeads groups p q × AgreeOnMessages message_of groups p q
+the_same_rows message_of groups p q h = (h.lines, h.heads, h.messages)
 
 -- the cells and the bytes of a report in colours are those of the same report without
 without_colors : let labels = infos sources colored in

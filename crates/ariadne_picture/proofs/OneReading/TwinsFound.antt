@@ -1,0 +1,688 @@
+-- A label within one line whose message stands, for other row numbers, in the row of another label: the two are attached at one column.
+use Rattle.std.proofs.Common.{◌≡◌, ℕ, zero, suc, ◌+◌, ◌-◌, ◌<◌, ◌≤◌, Bool, true, false, not, ◌&&◌, ◌||◌, List, [], ◌∷◌, ◌++◌, length, map, filter}
+use Rattle.std.proofs.Common.{Option, Some, None, refl, sym, ap, ◌∙◌, subst, arith, ◌==◌, inl, inr, ◌⊎◌, nat_lt, Contains, if◌then◌else◌}
+use Rattle.std.specs.Prelude.{slice_get, nat_le}
+use Rattle.std.specs.List.{AllByRecursion, list_all, list_any, enumerate_from, range_with_len}
+use Rattle.std.specs.Cmp.Derive.{both_true}
+use Rattle.std.proofs.lemmas.Bool.{cond_both, cases_Bool, cases_lt, eq-eqb, eqb-true, ne_eqb, ltb-true, leb-true, lt-ltb, le-ltb, true≢false, not-true}
+use Rattle.std.proofs.lemmas.Option.{slice_get_within, slice_get_read, get_or_from_slice_get}
+use Rattle.ariadne_base.specs.Locations.{upto}
+use Rattle.ariadne_picture.specs.declared.switches.CharSet.{CharSet}
+use Rattle.ariadne_picture.specs.declared.switches.CharSet.TheVariants.{Unicode, Ascii}
+use Rattle.ariadne_picture.specs.declared.switches.Switches.{Switches}
+use Rattle.ariadne_picture.specs.declared.label_info.LabelInfo.{LabelInfo}
+use Rattle.ariadne_picture.specs.declared.label_info.LineLabel.{LineLabel}
+use Rattle.ariadne_picture.specs.declared.label_info.Side.TheVariants.{Inline, Starts, Ends}
+use Rattle.ariadne_picture.specs.declared.cell.Glyph.{Glyph}
+use Rattle.ariadne_picture.specs.declared.cell.Glyph.TheVariants.{Blank, Hbar, Vbar, Xbar, Lbot, Rbot, Mbot, Uarrow, Underbar, Underline}
+use Rattle.ariadne_picture.specs.declared.cell.Ink.{Ink}
+use Rattle.ariadne_picture.specs.Lists.{joined}
+use Rattle.ariadne_picture.specs.Ranks.{is_start, is_on_one_line, gutter_labels, line_labels}
+use Rattle.ariadne_picture.specs.Rows.{alternate, arrow}
+use Rattle.ariadne_picture.specs.Columns.{Layout, layout_of, width, column_of}
+use Rattle.ariadne_picture.specs.Strokes.{has_corner, is_crossed, vertical_at}
+use Rattle.ariadne_picture.specs.Cells.{glyph_code, arrow_ink, corner_glyph}
+use Rattle.ariadne_picture.specs.Pieces.{Section, glyph_text}
+use Rattle.ariadne_picture.specs.Canvas.{Cell}
+use Rattle.ariadne_picture.specs.Placing.{Placing, between, is_text, is_blank, is_glyph, is_level, set_of, has_cell, place_cell, cell_at, row_at, text_cell}
+use Rattle.ariadne_picture.specs.Placing.{messages_of, is_margin_at, holds_at_places, is_inline_traced, has_inline_traces, has_underlines, block_rows}
+use Rattle.ariadne_picture.specs.Blocks.{has_whole_blocks}
+use Rattle.ariadne_picture.specs.Causes.{Trace, is_upright, is_stroke_of, inline_trace, end_trace, start_trace, gutter_traces, traces_below}
+use Rattle.ariadne_picture.specs.Causes.{is_underline_of, has_cause, is_place_caused, is_line_caused, has_no_other_strokes}
+use Rattle.ariadne_picture.specs.Accept.{drawn_labels}
+use Rattle.ariadne_picture.specs.Report.{ReportFields, World}
+use Rattle.ariadne_picture.specs.Canvas.{canvas, sections, texts_of}
+use Rattle.ariadne_picture.specs.Headline.{IsReadBy, AreReadInOneWay}
+use Rattle.ariadne_picture.specs.Readings.{attach_column, AreTwins, HasSameRow, AgreeOnStrokes}
+use Rattle.ariadne_picture.proofs.Lists.ListFacts.{all-append, all-map, all-filtered, all-joined, all-at}
+use Rattle.ariadne_picture.proofs.Lists.Elements.{Has, has-filter, all-from, all-numbered, list_any-true}
+use Rattle.ariadne_picture.proofs.Labels.LabelsAtLine.{IsHere, IsInlineHere, gutter-label-there, gutter-labels-owned}
+use Rattle.ariadne_picture.proofs.Labels.LineLabels.{multi-line}
+use Rattle.ariadne_picture.proofs.Rows.RowOrder.{shown_rows}
+use Rattle.ariadne_picture.proofs.Rows.RowsThere.{range-at, gutter-label-message}
+use Rattle.ariadne_picture.proofs.Cells.InkCells.{ink_cell, level-ink}
+use Rattle.ariadne_picture.proofs.Reading.DrawnReports.{picture_of}
+use Rattle.ariadne_picture.proofs.Reading.EveryReport.{numbered, all-placed}
+use Rattle.ariadne_picture.proofs.Reading.HeadPlaces.{IsGutterLabelOf, HeadPlace, head-place}
+use Rattle.ariadne_picture.proofs.Reading.InlineTraces.{inline-off, silent, first-alternate}
+use Rattle.ariadne_picture.proofs.Reading.LabelTraces.{place-cells}
+use Rattle.ariadne_picture.proofs.Reading.MessagePlaces.{two-true, label-here, arrow-shows}
+use Rattle.ariadne_picture.proofs.Reading.PlaceCells.{first_cell, label-cell}
+use Rattle.ariadne_picture.proofs.Reading.PlaceCounts.{ArePlaced, column-place}
+use Rattle.ariadne_picture.proofs.Reading.Pictures.{Picture, rows_of, placing_of, read, number, source_row, message_row, head_row, number-at}
+use Rattle.ariadne_picture.proofs.Reading.ShownLine.{IsShownLine, IsArrowRow, arrow-at, source-at, block-row-is, places_of, places-are, rows_above}
+use Rattle.ariadne_picture.proofs.OneReading.LinesFound.{list_all-from, same-lines}
+use Rattle.ariadne_picture.proofs.OneReading.MessagesFound.{each-line, each-group, line-row, or-cases, any-from, has-filtered, message-in, ends-of}
+use Rattle.ariadne_picture.proofs.OneReading.MessagesFound.{MessageFound, message-found, message-size, count, same-rows}
+use Rattle.ariadne_picture.proofs.OneReading.StrokesFound.{rows-apart, head-found, end-found, end-row, same-rank, read-picture}
+
+-- ---- columns
+
+module _ (switches : Switches) (y : Layout) where
+  column-next : (k : ℕ) → column_of switches y (suc k) ≡ column_of switches y k + width switches y k
+  unfolding column_of width
+  column-next k = refl
+
+  column-rises : (k d : ℕ) → column_of switches y k ≤ column_of switches y (k + d)
+  column-rises k zero = let z : k ≡ k + 0 = omega arith in let same = ap (column_of switches y) z in omega (arith, same)
+  column-rises k (suc d) =
+      let z : suc (k + d) ≡ k + suc d = omega arith in
+      let same = ap (column_of switches y) z in
+      let more = column-rises k d in
+      let next = column-next (k + d) in
+      omega (arith, same, more, next)
+
+  -- a later place begins no earlier
+  column-le : (k m : ℕ) → k ≤ m → column_of switches y k ≤ column_of switches y m
+  column-le k m h =
+      let z : k + (m - k) ≡ m = omega arith in
+      let same = ap (column_of switches y) z in
+      let rise = column-rises k (m - k) in
+      omega (arith, same, rise)
+
+  -- between two columns a place has a cell
+  record SomeCell (a b : ℕ) : Type 0 where
+    place : ℕ
+    low : a ≤ place
+    high : place < b
+    some : 0 < width switches y place
+
+  some-cell : (a n : ℕ) → column_of switches y a < column_of switches y (a + n) → SomeCell a (a + n)
+  some-cell a zero h =
+      let z : a + 0 ≡ a = omega arith in let same = ap (column_of switches y) z in absurd (omega (arith, same))
+  some-cell a (suc n) h = elim (cases_lt 0 (width switches y a)) [
+    | inl some ↦ record { place = a; low = omega arith; high = omega arith; some = some }
+    | inr none ↦
+        let z : a + suc n ≡ suc a + n = omega arith in
+        let same = ap (column_of switches y) z in
+        let next = column-next a in
+        let rest = some-cell (suc a) n (omega (arith, same, next)) in
+        let low = rest.low in
+        let high = rest.high in
+        record { place = rest.place; low = omega arith; high = omega arith; some = rest.some }
+  ]
+
+  cell-between : (a b : ℕ) → column_of switches y a < column_of switches y b → SomeCell a b
+  cell-between a b h = elim (cases_lt a b) [
+    | inl less ↦
+        let z : a + (b - a) ≡ b = omega arith in
+        subst (SomeCell a) z (some-cell a (b - a) (let same = ap (column_of switches y) z in omega (arith, same)))
+    | inr more ↦ let fall = column-le b a more in absurd (omega arith)
+  ]
+
+-- ---- glyphs
+
+abbrev shows : CharSet → Glyph → Glyph → Bool
+shows set glyph other = is_text (glyph_text set glyph) (glyph_text set other)
+
+-- what stands left of a label's corner in its row
+abbrev IsLeft : Glyph → Type 0
+IsLeft glyph = (glyph ≡ Uarrow) ⊎ ((glyph ≡ Vbar) ⊎ (glyph ≡ Blank))
+
+-- is neither a corner nor level
+record IsNoOwn (set : CharSet) (glyph : Glyph) : Type 0 where
+  no_lbot : shows set glyph Lbot ≡ false
+  no_hbar : shows set glyph Hbar ≡ false
+  no_xbar : shows set glyph Xbar ≡ false
+
+left-no-own : (set : CharSet) (glyph : Glyph) → IsLeft glyph → IsNoOwn set glyph
+unfolding glyph_text glyph_code lib.Utf8.encode
+left-no-own Unicode glyph (inl e) = subst (IsNoOwn Unicode) (sym e) (record { no_lbot = refl; no_hbar = refl; no_xbar = refl })
+left-no-own Ascii glyph (inl e) = subst (IsNoOwn Ascii) (sym e) (record { no_lbot = refl; no_hbar = refl; no_xbar = refl })
+left-no-own Unicode glyph (inr (inl e)) = subst (IsNoOwn Unicode) (sym e) (record { no_lbot = refl; no_hbar = refl; no_xbar = refl })
+left-no-own Ascii glyph (inr (inl e)) = subst (IsNoOwn Ascii) (sym e) (record { no_lbot = refl; no_hbar = refl; no_xbar = refl })
+left-no-own Unicode glyph (inr (inr e)) = subst (IsNoOwn Unicode) (sym e) (record { no_lbot = refl; no_hbar = refl; no_xbar = refl })
+left-no-own Ascii glyph (inr (inr e)) = subst (IsNoOwn Ascii) (sym e) (record { no_lbot = refl; no_hbar = refl; no_xbar = refl })
+
+-- what stands at a label's corner and behind it
+abbrev IsOwn : Glyph → Type 0
+IsOwn glyph = (glyph ≡ Lbot) ⊎ ((glyph ≡ Hbar) ⊎ (glyph ≡ Xbar))
+
+-- is no blank, no vertical and no corner of a label over several lines
+record IsOwnOnly (set : CharSet) (glyph : Glyph) : Type 0 where
+  no_blank : is_text (glyph_text set glyph) (32 ∷ []) ≡ false
+  no_vbar : shows set glyph Vbar ≡ false
+  no_uarrow : shows set glyph Uarrow ≡ false
+  no_underbar : shows set glyph Underbar ≡ false
+  no_mbot : shows set glyph Mbot ≡ false
+  no_rbot : shows set glyph Rbot ≡ false
+
+own-only : (set : CharSet) (glyph : Glyph) → IsOwn glyph → IsOwnOnly set glyph
+unfolding glyph_text glyph_code lib.Utf8.encode
+own-only Unicode glyph (inl e) = subst (IsOwnOnly Unicode) (sym e)
+    (record { no_blank = refl; no_vbar = refl; no_uarrow = refl; no_underbar = refl; no_mbot = refl; no_rbot = refl })
+own-only Ascii glyph (inl e) = subst (IsOwnOnly Ascii) (sym e)
+    (record { no_blank = refl; no_vbar = refl; no_uarrow = refl; no_underbar = refl; no_mbot = refl; no_rbot = refl })
+own-only Unicode glyph (inr (inl e)) = subst (IsOwnOnly Unicode) (sym e)
+    (record { no_blank = refl; no_vbar = refl; no_uarrow = refl; no_underbar = refl; no_mbot = refl; no_rbot = refl })
+own-only Ascii glyph (inr (inl e)) = subst (IsOwnOnly Ascii) (sym e)
+    (record { no_blank = refl; no_vbar = refl; no_uarrow = refl; no_underbar = refl; no_mbot = refl; no_rbot = refl })
+own-only Unicode glyph (inr (inr e)) = subst (IsOwnOnly Unicode) (sym e)
+    (record { no_blank = refl; no_vbar = refl; no_uarrow = refl; no_underbar = refl; no_mbot = refl; no_rbot = refl })
+own-only Ascii glyph (inr (inr e)) = subst (IsOwnOnly Ascii) (sym e)
+    (record { no_blank = refl; no_vbar = refl; no_uarrow = refl; no_underbar = refl; no_mbot = refl; no_rbot = refl })
+
+-- ---- the row of a label within the line, place by place
+
+module _ (v : Picture) {g : ℕ} {s : Section} {l r : ℕ} {x : LineLabel} (q : IsArrowRow v g s l r x) (side : x.side ≡ Inline) where
+  abbrev inline_ink : ℕ → Ink
+  inline_ink k =
+      arrow_ink s.sheet.switches r x (has_corner (layout_of s.sheet l).margin x k) (is_crossed x.side x.place k) (vertical_at (layout_of s.sheet l) r k)
+
+  -- left of its corner no stroke of its own stands
+  inline-left : (k : ℕ) → k < x.place → IsLeft (inline_ink k).first
+  unfolding has_corner is_crossed arrow_ink
+  inline-left k less =
+      let off : has_corner (layout_of s.sheet l).margin x k ≡ false = rw (ne_eqb x.place k (λ e. omega arith)) refl in
+      let free : is_crossed x.side x.place k ≡ false = ap (λ side. is_crossed side x.place k) side ∙ le-ltb x.place k (omega arith) in
+      rw (off, free) (go (vertical_at (layout_of s.sheet l) r k))
+    where
+      go : (up : Option LineLabel) → IsLeft (arrow_ink s.sheet.switches r x false false up).first
+      go None = inr (inr refl)
+      go (Some w) =
+          cond_both (not (Rattle.ariadne_picture.specs.Ranks.is_inline w.side) && (r == 0) && s.sheet.switches.compact) Uarrow Vbar IsLeft
+          (λ _. inl refl) (λ _. inr (inl refl))
+
+  -- from it on a corner or a level stands
+  inline-own : (k : ℕ) → x.place ≤ k → IsOwn (inline_ink k).first
+  unfolding has_corner is_crossed arrow_ink corner_glyph
+  inline-own k more = elim (cases_lt x.place k) [
+    | inl less ↦
+        let off : has_corner (layout_of s.sheet l).margin x k ≡ false = rw (ne_eqb x.place k (λ e. omega arith)) refl in
+        let level : is_crossed x.side x.place k ≡ true = ap (λ side. is_crossed side x.place k) side ∙ lt-ltb x.place k less in
+        rw (off, level) (inr (level-ink s.sheet.switches r x (vertical_at (layout_of s.sheet l) r k)))
+    | inr least ↦
+        let on : has_corner (layout_of s.sheet l).margin x k ≡ true =
+        both_true (eq-eqb x.place k (omega arith)) (ap not (inline-off (layout_of s.sheet l).margin x side)) in
+        rw on (inl (ap corner_glyph side))
+  ]
+
+-- ---- the strokes of a trace
+
+-- what a first cell shows of it
+data Stroke (set : CharSet) (t : Trace) (n k : ℕ) (c : Cell) : Type 0 where
+  upright : is_upright set c ≡ true → Stroke set t n k c
+  corner : t.place ≡ k → n ≡ t.row → is_glyph set t.corner c ≡ true → Stroke set t n k c
+  level : n ≡ t.row → t.reaches k ≡ true → is_level set c ≡ true → Stroke set t n k c
+
+stroke-kind : (set : CharSet) (t : Trace) (n k : ℕ) (c : Cell) → is_stroke_of set t n k true c ≡ true → Stroke set t n k c
+unfolding is_stroke_of
+stroke-kind set t n k c e = elim (or-cases _ _ e) [
+  | inl turned ↦
+      let a = two-true _ _ turned in
+      let b = two-true _ _ a.0 in
+      let d = two-true _ _ b.0 in
+      elim (or-cases _ _ a.1) [
+        | inl up ↦ upright (two-true (nat_le n t.row) (is_upright set c) up).1
+        | inr on ↦ let f = two-true (n == t.row) (is_glyph set t.corner c) on in corner (eqb-true t.place k d.1) (eqb-true n t.row f.0) f.1
+      ]
+  | inr flat ↦
+      let a = two-true _ _ flat in
+      let b = two-true (n == t.row) (t.reaches k) a.0 in
+      level (eqb-true n t.row b.0) b.1 a.1
+]
+
+-- ---- elements
+
+-- where all elements pass, each does
+passes-at : {X : Type 0} (test : X → Bool) (xs : List X) (k : ℕ) (x : X) → list_all test xs ≡ true → slice_get xs k ≡ Some x → test x ≡ true
+passes-at test xs k x e there = all-at (λ x. test x ≡ true) xs k x there (list_all-from test xs e)
+
+has-contained : {X : Type 0} (xs : List X) (x : X) → Contains xs x → Has xs x
+has-contained xs x c = record { place = c.0; there = slice_get_read xs (length xs) c.0 x refl c.1 (sym c.2) }
+
+pub contains-had : {X : Type 0} (xs : List X) (x : X) → Has xs x → Contains xs x
+contains-had xs x h = (h.place, slice_get_within xs h.place x h.there, get_or_from_slice_get xs h.place x x h.there)
+
+gutter-label-has : (s : Section) (i : ℕ) (a : LabelInfo) → slice_get (gutter_labels s.sheet) i ≡ Some a → Has (messages_of s) a
+unfolding messages_of
+gutter-label-has s i a owned =
+    let own = all-at (Has s.sheet.labels) _ i a owned (gutter-labels-owned s.sheet) in
+    has-filter (λ (a : LabelInfo). a.has_message) s.sheet.labels own.place a own.there (gutter-label-message s.sheet i a owned)
+
+-- ---- row numbers that read the picture
+
+module _ (v : Picture) (placed : ArePlaced v) (p : Placing) (h : IsReadBy (rows_of v) v.sections v.texts.message_of p) where
+  -- the cells of p are those of the picture, whatever the placing
+  same-cell : (n c : ℕ) → cell_at (rows_of v) v.sections p n c ≡ read v cell_at n c
+  unfolding cell_at row_at
+  same-cell n c = refl
+
+  -- a test that holds at places holds of the first cell of each
+  holds-from : (g : ℕ) (s : Section) (l n a b k : ℕ) (test : Cell → Bool) → holds_at_places (rows_of v) v.sections p g s l n a b test ≡ true
+      → a ≤ k → k < b → (k < p.places g l) × (has_cell s l k ≡ true → test (first_cell v s l n k) ≡ true)
+  unfolding holds_at_places
+  holds-from g s l n a b k test e low high =
+      let f : ℕ → Bool =
+      λ k. nat_lt k (p.places g l) && (not (has_cell s l k) || test (cell_at (rows_of v) v.sections p n (place_cell s l k))) in
+      let z : a + (k - a) ≡ k = omega arith in
+      let at : slice_get (between a b) (k - a) ≡ Some k = range-at a (b - a) (k - a) (omega arith) ∙ ap Some z in
+      let passes : f k ≡ true = all-at (λ k. f k ≡ true) (between a b) (k - a) k at (list_all-from f (between a b) e) in
+      let two = two-true (nat_lt k (p.places g l)) _ passes in (
+        ltb-true k (p.places g l) two.0,
+        λ some. elim (or-cases (not (has_cell s l k)) _ two.1) [
+          | inl none ↦ absurd (true≢false (sym none ∙ ap not some))
+          | inr on ↦ ap test (sym (same-cell n (place_cell s l k))) ∙ on
+        ],
+      )
+
+  -- ---- a label within one line
+
+  module _ (g : ℕ) (s : Section) (a : LabelInfo) (there : slice_get v.sections g ≡ Some s) (has : Has (messages_of s) a)
+      (one : is_on_one_line a ≡ true) where
+    -- no label over several lines has its message in that row
+    not-several : (i : ℕ) (b : LabelInfo) → slice_get (gutter_labels s.sheet) i ≡ Some b → p.message_row a.position ≡ p.message_row b.position → ⊥
+    not-several i b owned same =
+        let mine : a ≡ b = rows-apart v p h g s a b there has (gutter-label-has s i b owned) same in
+        true≢false (sym one ∙ ap is_on_one_line mine ∙ multi-line s.sheet i b owned)
+
+    line-is : a.start_line ≡ a.end_line
+    unfolding is_on_one_line
+    line-is = eqb-true a.start_line a.end_line one
+
+    -- its corner and its horizontal stand where p says
+    record IsTracedHere (l : ℕ) : Type 0 where
+      corner : holds_at_places (rows_of v) v.sections p g s l (p.message_row a.position) a.attach (a.attach + 1) (is_glyph (set_of s) Lbot) ≡ true
+      level : holds_at_places (rows_of v) v.sections p g s l (p.message_row a.position) (a.attach + 1) (p.places g l) (is_level (set_of s)) ≡ true
+
+    traced-here : IsTracedHere a.end_line
+    unfolding has_inline_traces is_inline_traced
+    traced-here =
+        let group = each-group _ v.sections g s h.strokes_lead_from_it_to_the_attach_character there in
+        let labels = two-true _ _ group in
+        let test : LabelInfo → Bool = λ a. not (is_on_one_line a) || is_inline_traced (rows_of v) v.sections p g s a in
+        let e : test a ≡ true = all-at (λ a. test a ≡ true) (messages_of s) has.place a has.there (list_all-from test (messages_of s) labels.0) in
+        subst IsTracedHere line-is (elim (or-cases (not (is_on_one_line a)) _ e) [
+          | inl off ↦ absurd (true≢false (sym off ∙ ap not one))
+          | inr on ↦ let x = two-true _ _ on in let y = two-true _ _ x.0 in record { corner = y.0; level = y.1 }
+        ])
+
+    module _ (m : MessageFound v p h g s a) where
+      l : ℕ
+      l = a.end_line
+
+      -- the row is that of a label within the line
+      found-within : IsInlineHere s.sheet a.end_line m.label
+      unfolding is_start
+      found-within = go (label-here s.sheet a.end_line m.rank m.label m.arrow_row.there)
+        where
+          go : IsHere s.sheet a.end_line m.label → IsInlineHere s.sheet a.end_line m.label
+          go (inl k) = absurd (true≢false (sym (ap is_start k.side) ∙ m.no_start))
+          go (inr (inl k)) =
+              let o : IsGutterLabelOf v g s m.label.gutter_column m.label.info = record { group = there; owned = k.owned } in
+              absurd (not-several m.label.gutter_column m.label.info k.owned
+              (sym m.row ∙ sym (arrow-shows v m.arrow_row m.no_start) ∙ sym (end-row v p h g s m.label.gutter_column m.label.info o)))
+          go (inr (inr k)) = k
+
+      -- columns and places of the line
+      abbrev column : ℕ → ℕ
+      column = column_of s.sheet.switches (layout_of s.sheet a.end_line)
+
+      -- its corner is a place of the line
+      place-few : m.label.place < places_of s a.end_line
+      place-few = column-place s.sheet (placed g s there) a.end_line m.rank m.label m.arrow_row.there (inr (inr found-within))
+
+      attach-few : a.attach < p.places g a.end_line
+      attach-few =
+          (holds-from g s a.end_line (p.message_row a.position) a.attach (a.attach + 1) a.attach (is_glyph (set_of s) Lbot) traced-here.corner
+          (omega arith) (omega arith)).0
+
+      -- p has as many columns below the line as there are
+      same-end : column (p.places g a.end_line) ≡ column (places_of s a.end_line)
+      same-end = m.same_cells ∙ ap column (places-are v m.line)
+
+      -- what the row shows
+      row-cell : (k : ℕ) → k < places_of s a.end_line → has_cell s a.end_line k ≡ true
+          → first_cell v s a.end_line (p.message_row a.position) k ≡ ink_cell v s (inline_ink v m.arrow_row found-within.side k)
+      row-cell k few some = ap (λ n. first_cell v s a.end_line n k) (sym m.row) ∙ label-cell v m.arrow_row k few some
+
+      -- no cell lies between its corner and one further right
+      not-right : column a.attach < column m.label.place → ⊥
+      unfolding is_glyph is_level has_cell
+      not-right less =
+          let c = cell-between s.sheet.switches (layout_of s.sheet a.end_line) a.attach m.label.place less in
+          let k : ℕ = c.place in
+          let low = c.low in
+          let high = c.high in
+          let few = place-few in
+          let some : has_cell s a.end_line k ≡ true = lt-ltb 0 _ c.some in
+          let cell = row-cell k (omega arith) some in
+          let left = left-no-own (set_of s) _ (inline-left v m.arrow_row found-within.side k high) in
+          elim (cases_lt a.attach k) [
+            | inr first ↦
+                let shown =
+                (holds-from g s a.end_line (p.message_row a.position) a.attach (a.attach + 1) k (is_glyph (set_of s) Lbot) traced-here.corner
+                low (omega arith)).1 some in
+                true≢false (sym shown ∙ ap (is_glyph (set_of s) Lbot) cell ∙ left.no_lbot)
+            | inl later ↦ elim (cases_lt k (p.places g a.end_line)) [
+              | inl inside ↦
+                  let shown =
+                  (holds-from g s a.end_line (p.message_row a.position) (a.attach + 1) (p.places g a.end_line) k (is_level (set_of s)) traced-here.level
+                  (omega arith) inside).1 some in
+                  elim (or-cases _ _ (sym (ap (is_level (set_of s)) cell) ∙ shown)) [
+                    | inl bar ↦ true≢false (sym bar ∙ left.no_hbar)
+                    | inr bar ↦ true≢false (sym bar ∙ left.no_xbar)
+                  ]
+              | inr outside ↦
+                  let y = layout_of s.sheet a.end_line in
+                  let one = column-le s.sheet.switches y (p.places g a.end_line) k outside in
+                  let next = column-next s.sheet.switches y k in
+                  let two = column-le s.sheet.switches y (suc k) m.label.place (omega arith) in
+                  let three = column-le s.sheet.switches y m.label.place (places_of s a.end_line) (omega arith) in
+                  let more = c.some in
+                  let end = same-end in
+                  absurd (omega (arith, one, next, two, three, more, end))
+            ]
+          ]
+
+      -- ---- nor one further left
+
+      -- the row is one of the block of p, so each cell has a cause
+      caused-here : (k : ℕ) → k < p.places g a.end_line → has_cell s a.end_line k ≡ true
+          → has_cause (rows_of v) v.sections p g s a.end_line (p.message_row a.position) k true (first_cell v s a.end_line (p.message_row a.position) k) ≡ true
+      unfolding has_no_other_strokes is_line_caused is_place_caused block_rows Rattle.ariadne_picture.specs.Placing.is_in_block has_cell
+      caused-here k few some =
+          let n : ℕ = p.message_row a.position in
+          let l : ℕ = a.end_line in
+          let line = each-line v (is_line_caused (rows_of v) v.sections p) g s l h.and_no_stroke_stands_elsewhere m.line in
+          let within =
+          two-true (nat_lt (p.source_row g l) n) (nat_le n (p.source_row g l + p.block_len g l)) (message-in v p h g s a there has) in
+          let low = ltb-true (p.source_row g l) n within.0 in
+          let high = leb-true n (p.source_row g l + p.block_len g l) within.1 in
+          let below : ℕ = p.source_row g l + 1 in
+          let row : below + (n - below) ≡ n = omega arith in
+          let places : list_all (is_place_caused (rows_of v) v.sections p g s l n) (upto (p.places g l)) ≡ true =
+          passes-at (λ n. list_all (is_place_caused (rows_of v) v.sections p g s l n) (upto (p.places g l))) (range_with_len below (p.block_len g l))
+          (n - below) n line (range-at below (p.block_len g l) (n - below) (omega arith) ∙ ap Some row) in
+          let here : 0 + k ≡ k = omega arith in
+          let place : is_place_caused (rows_of v) v.sections p g s l n k ≡ true =
+          passes-at (is_place_caused (rows_of v) v.sections p g s l n) (upto (p.places g l)) k k places
+          (range-at 0 (p.places g l) k few ∙ ap Some here) in
+          let first : ℕ = place_cell s l k in
+          let wide = place-cells s l k in
+          let more = ltb-true 0 (width s.sheet.switches (layout_of s.sheet l) k) some in
+          let start : first + 0 ≡ first = omega arith in
+          let test : ℕ → Bool =
+          λ c. has_cause (rows_of v) v.sections p g s l n k (c == first) (cell_at (rows_of v) v.sections p n c) in
+          let shown : test first ≡ true =
+          passes-at test (between first (place_cell s l (k + 1))) 0 first place
+          (range-at first (place_cell s l (k + 1) - first) 0 (omega (arith, wide, more)) ∙ ap Some start) in
+          let same : (first == first) ≡ true = eq-eqb first first refl in
+          subst (λ b. has_cause (rows_of v) v.sections p g s l n k b (first_cell v s l n k) ≡ true) same
+          (subst (λ c. has_cause (rows_of v) v.sections p g s l n k (first == first) c ≡ true) (same-cell n first) shown)
+
+      -- underlines stand in an alternate row
+      no-underline : (k : ℕ) (c : Cell) → is_underline_of (rows_of v) v.sections p g s a.end_line (p.message_row a.position) k c ≡ true → ⊥
+      unfolding is_underline_of shown_rows
+      no-underline k c e =
+          let x = two-true _ _ e in
+          let y = two-true _ _ x.0 in
+          let z = two-true _ _ y.0 in
+          let on = two-true (s.sheet.switches.underlines && not s.sheet.switches.compact) _ z.0 in
+          let form = two-true s.sheet.switches.underlines (not s.sheet.switches.compact) on.0 in
+          let open_form = not-true s.sheet.switches.compact form.1 in
+          let here = eqb-true _ _ z.1 in
+          let line = line-row v p h a.end_line m.line in
+          let own = number-at v (arrow-at v m.arrow_row) in
+          let src = source-at v m.line in
+          let row = m.row in
+          let labels = line_labels s.sheet a.end_line in
+          let some : list_any (λ (x : LineLabel). x.info.has_message) labels ≡ true =
+          list_any-true _ labels m.rank m.label m.arrow_row.there m.arrow_row.message in
+          let first : slice_get (shown_rows s.sheet a.end_line) 0 ≡ Some (alternate a.end_line (0 + silent labels)) =
+          ap (λ c. slice_get (joined (Rattle.ariadne_picture.specs.Rows.label_rows c a.end_line) (enumerate_from 0 labels)) 0) open_form
+          ∙ first-alternate a.end_line 0 labels some in
+          let top : m.arrow_row.index ≡ 0 = omega (arith, here, line, own, src, row) in
+          let same : Some (alternate a.end_line (0 + silent labels)) ≡ Some (arrow a.end_line m.rank) =
+          sym first ∙ ap (slice_get (shown_rows s.sheet a.end_line)) (sym top) ∙ m.arrow_row.row in
+          cc
+
+      -- a head of another label stands in the row of that label
+      no-head : (i : ℕ) (b : LabelInfo) → slice_get (gutter_labels s.sheet) i ≡ Some b → b.start_line ≡ a.end_line
+          → is_margin_at s b.start_line i ≡ false → p.message_row a.position ≡ p.head_row g i → ⊥
+      no-head i b owned line off same =
+          let o : IsGutterLabelOf v g s i b = record { group = there; owned = owned } in
+          let head = head-place v o off in
+          let own = subst (λ l. IsArrowRow v g s l head.rank head.label) line head.arrow_row in
+          let moved : number v g s (arrow b.start_line head.rank) ≡ number v g s (arrow a.end_line head.rank) =
+          ap (λ l. number v g s (arrow l head.rank)) line in
+          let one : m.rank ≡ head.rank =
+          same-rank v m.arrow_row own (m.row ∙ same ∙ head-found v p h g s i b o ∙ head.row ∙ moved) in
+          let mine = m.arrow_row.there in
+          let other = own.there in
+          let label : m.label ≡ head.label = cc in
+          let sides : Inline ≡ Starts = sym found-within.side ∙ ap (λ (x : LineLabel). x.side) label ∙ head.start.side in
+          cc
+
+      module _ (k : ℕ) (left : k < a.attach) (c : Cell) (glyph : Glyph) (shown : c.text ≡ glyph_text (set_of s) glyph) (own : IsOwn glyph) where
+        only : IsOwnOnly (set_of s) glyph
+        only = own-only (set_of s) glyph own
+
+        shows-it : (other : Glyph) → is_glyph (set_of s) other c ≡ shows (set_of s) glyph other
+        unfolding is_glyph
+        shows-it other = ap (λ t. is_text t (glyph_text (set_of s) other)) shown
+
+        no-upright : is_upright (set_of s) c ≡ true → ⊥
+        unfolding is_upright
+        no-upright e = elim (or-cases _ _ e) [
+          | inl two ↦ elim (or-cases _ _ two) [
+            | inl one ↦ true≢false (sym one ∙ shows-it Vbar ∙ only.no_vbar)
+            | inr one ↦ true≢false (sym one ∙ shows-it Uarrow ∙ only.no_uarrow)
+          ]
+          | inr one ↦ true≢false (sym one ∙ shows-it Underbar ∙ only.no_underbar)
+        ]
+
+        -- it is no stroke of trace t
+        abbrev IsNone : Trace → Type 0
+        IsNone t = is_stroke_of (set_of s) t (p.message_row a.position) k true c ≡ true → ⊥
+
+        none-inline : (b : LabelInfo) → Has (messages_of s) b → IsNone (inline_trace (rows_of v) v.sections p b)
+        unfolding inline_trace
+        none-inline b other e = go (stroke-kind _ _ _ _ _ e)
+          where
+            mine : p.message_row a.position ≡ p.message_row b.position → a.attach ≡ b.attach
+            mine same = ap (λ (a : LabelInfo). a.attach) (rows-apart v p h g s a b there has other same)
+
+            go : Stroke (set_of s) (inline_trace (rows_of v) v.sections p b) (p.message_row a.position) k c → ⊥
+            go (upright up) = no-upright up
+            go (corner place row on) = let same = mine row in absurd (omega (arith, left, place, same))
+            go (level row reaches on) = let same = mine row in let low = leb-true b.attach k reaches in absurd (omega (arith, left, low, same))
+
+        none-end : (l i : ℕ) (b : LabelInfo) → slice_get (gutter_labels s.sheet) i ≡ Some b → IsNone (end_trace (rows_of v) v.sections p s l i b)
+        unfolding end_trace
+        none-end l i b owned e = go (stroke-kind _ _ _ _ _ e)
+          where
+            go : Stroke (set_of s) (end_trace (rows_of v) v.sections p s l i b) (p.message_row a.position) k c → ⊥
+            go (upright up) = no-upright up
+            go (corner place row on) = not-several i b owned row
+            go (level row reaches on) = not-several i b owned row
+
+        none-start : (i : ℕ) (b : LabelInfo) → slice_get (gutter_labels s.sheet) i ≡ Some b → b.start_line ≡ a.end_line
+            → is_margin_at s b.start_line i ≡ false → IsNone (start_trace (rows_of v) v.sections p g i b)
+        unfolding start_trace
+        none-start i b owned line off e = go (stroke-kind _ _ _ _ _ e)
+          where
+            go : Stroke (set_of s) (start_trace (rows_of v) v.sections p g i b) (p.message_row a.position) k c → ⊥
+            go (upright up) = no-upright up
+            go (corner place row on) = no-head i b owned line off row
+            go (level row reaches on) = no-head i b owned line off row
+
+        none-gutter : (i : ℕ) (b : LabelInfo) → slice_get (gutter_labels s.sheet) i ≡ Some b
+            → AllByRecursion IsNone (gutter_traces (rows_of v) v.sections p g s a.end_line i b)
+        unfolding gutter_traces
+        none-gutter i b owned =
+            let l : ℕ = a.end_line in
+            let end = end_trace (rows_of v) v.sections p s l i b in
+            let start = start_trace (rows_of v) v.sections p g i b in
+            all-append IsNone (if b.end_line == l then end ∷ [] else []) (if (b.start_line == l) && not (is_margin_at s l i) then start ∷ [] else [])
+            (cond_both (b.end_line == l) (end ∷ []) [] (AllByRecursion IsNone) (λ _. (none-end l i b owned, tt)) (λ _. tt))
+            (cond_both ((b.start_line == l) && not (is_margin_at s l i)) (start ∷ []) [] (AllByRecursion IsNone)
+            (λ on.
+            let two = two-true (b.start_line == l) (not (is_margin_at s l i)) on in
+            let line = eqb-true b.start_line l two.0 in
+            (none-start i b owned line (ap (λ m. is_margin_at s m i) line ∙ not-true _ two.1), tt)) (λ _. tt))
+
+        none-below : AllByRecursion IsNone (traces_below (rows_of v) v.sections p g s a.end_line)
+        unfolding traces_below
+        none-below =
+            let test : LabelInfo → Bool = λ b. is_on_one_line b && (b.start_line == a.end_line) in
+            all-append IsNone (map (inline_trace (rows_of v) v.sections p) (filter test (messages_of s))) _
+            (all-map IsNone (inline_trace (rows_of v) v.sections p) (filter test (messages_of s))
+            (all-filtered (λ b. IsNone (inline_trace (rows_of v) v.sections p b)) test (messages_of s)
+            (all-from _ (messages_of s) (λ j b at on. none-inline b (record { place = j; there = at })))))
+            (all-joined IsNone (λ e. slice_get (gutter_labels s.sheet) e.0 ≡ Some e.1) (λ e. gutter_traces (rows_of v) v.sections p g s a.end_line e.0 e.1)
+            (enumerate_from 0 (gutter_labels s.sheet)) (λ e owned. none-gutter e.0 e.1 owned)
+            (all-numbered (λ e. slice_get (gutter_labels s.sheet) e.0 ≡ Some e.1) (gutter_labels s.sheet) (λ i b owned. owned)))
+
+        no-cause : has_cause (rows_of v) v.sections p g s a.end_line (p.message_row a.position) k true c ≡ true → ⊥
+        unfolding has_cause
+        no-cause e = elim (or-cases _ _ e) [
+          | inl blank ↦ true≢false (sym blank ∙ ap (λ t. is_text t (32 ∷ [])) shown ∙ only.no_blank)
+          | inr some ↦ elim (or-cases _ _ some) [
+            | inl traced ↦
+                let t = any-from _ (traces_below (rows_of v) v.sections p g s a.end_line) traced in
+                all-at IsNone _ t.1.place t.0 t.1.there none-below t.2
+            | inr under ↦ no-underline k c under
+          ]
+        ]
+
+      not-left : column m.label.place < column a.attach → ⊥
+      unfolding has_cell
+      not-left less =
+          let y = layout_of s.sheet a.end_line in
+          let c = cell-between s.sheet.switches y m.label.place a.attach less in
+          let k : ℕ = c.place in
+          let low = c.low in
+          let high = c.high in
+          let some : has_cell s a.end_line k ≡ true = lt-ltb 0 _ c.some in
+          let attach = attach-few in
+          elim (cases_lt k (places_of s a.end_line)) [
+            | inl few ↦
+                let ink = inline_ink v m.arrow_row found-within.side k in
+                let cell = row-cell k few some in
+                no-cause k high (first_cell v s a.end_line (p.message_row a.position) k) ink.first (ap (λ (c : Cell). c.text) cell)
+                (inline-own v m.arrow_row found-within.side k low) (caused-here k (omega arith) some)
+            | inr outside ↦
+                let one = column-le s.sheet.switches y (places_of s a.end_line) k outside in
+                let next = column-next s.sheet.switches y k in
+                let two = column-le s.sheet.switches y (suc k) a.attach (omega arith) in
+                let three = column-le s.sheet.switches y a.attach (p.places g a.end_line) (omega arith) in
+                let more = c.some in
+                let end = same-end in
+                absurd (omega (arith, one, next, two, three, more, end))
+          ]
+
+      -- so both are attached at one column
+      same-column : column a.attach ≡ column m.label.place
+      same-column = elim (cases_lt (column a.attach) (column m.label.place)) [
+        | inl less ↦ absurd (not-right less)
+        | inr no_less ↦ elim (cases_lt (column m.label.place) (column a.attach)) [
+          | inl more ↦ absurd (not-left more)
+          | inr no_more ↦ omega arith
+        ]
+      ]
+
+-- ---- two placings that read the picture
+
+module _ (v : Picture) (placed : ArePlaced v) (p q : Placing) (h : IsReadBy (rows_of v) v.sections v.texts.message_of p)
+    (k : IsReadBy (rows_of v) v.sections v.texts.message_of q) (g : ℕ) (s : Section) (there : slice_get v.sections g ≡ Some s) where
+  -- two labels of a line, one for each, whose messages stand in one row
+  twins : (a b : LabelInfo) (has : Has (messages_of s) a) (other : Has (messages_of s) b) → is_on_one_line a ≡ true → b.end_line ≡ a.end_line
+      → (m : MessageFound v p h g s a) → (n : MessageFound v q k g s b) → p.message_row a.position ≡ q.message_row b.position
+      → AreTwins v.texts.message_of s a b
+  unfolding messages_of
+  twins a b has other one line m n row =
+      let own = subst (λ l. IsArrowRow v g s l n.rank n.label) line n.arrow_row in
+      let moved : number v g s (arrow b.end_line n.rank) ≡ number v g s (arrow a.end_line n.rank) = ap (λ l. number v g s (arrow l n.rank)) line in
+      let rank : m.rank ≡ n.rank = same-rank v m.arrow_row own (m.row ∙ row ∙ sym n.row ∙ moved) in
+      let mine = m.arrow_row.there in
+      let its = own.there in
+      let label : m.label ≡ n.label = cc in
+      let within = found-within v placed p h g s a there has one m in
+      let info : m.label.info ≡ n.label.info = ap (λ (x : LineLabel). x.info) label in
+      elim (cases_Bool (is_on_one_line b)) [
+        | inl also ↦
+            let first = same-column v placed p h g s a there has one m in
+            let second = same-column v placed q k g s b there other also n in
+            let from = line-is v placed p h g s a there has one in
+            let to = line-is v placed q k g s b there other also in
+            let column : ℕ → LabelInfo → ℕ = λ l a. column_of s.sheet.switches (layout_of s.sheet l) a.attach in
+            record {
+              first_within_a_line = one;
+              second_within_a_line = also;
+              same_line = from ∙ sym line ∙ sym to;
+              same_message = m.text ∙ ap (λ (a : LabelInfo). v.texts.message_of a.position) info ∙ sym n.text;
+              same_column =
+                  ap (λ l. column l a) from ∙ first ∙ ap (λ (x : LineLabel). column_of s.sheet.switches (layout_of s.sheet a.end_line) x.place) label
+                  ∙ ap (λ l. column_of s.sheet.switches (layout_of s.sheet l) n.label.place) (sym line) ∙ sym second ∙ ap (λ l. column l b) (sym to);
+            }
+        | inr several ↦
+            let passed = has-filtered (λ (a : LabelInfo). a.has_message) s.sheet.labels b other in
+            let i = gutter-label-there s.sheet passed.0.place b passed.0.there passed.1 several in
+            let o : IsGutterLabelOf v g s i.place b = record { group = there; owned = i.there } in
+            let its_own : n.label.info ≡ b = end-found v q k g s i.place b o n in
+            absurd (true≢false (sym within.one_line ∙ ap is_on_one_line (info ∙ its_own) ∙ several))
+      ]
+
+  -- where p has the message of a label within one line, q has one too
+  inline-row : (a : LabelInfo) (has : Has (messages_of s) a) → is_on_one_line a ≡ true → HasSameRow v.texts.message_of s p q a
+  inline-row a has one =
+      let m = message-found v p h g s a there has in
+      let mine = message-found v q k g s a there has in
+      let e = ends-of v q k g s a.end_line m.line in
+      let at = number-at v (arrow-at v m.arrow_row) in
+      let source = source-at v m.line in
+      let row = m.row in
+      let long = slice_get_within (shown_rows s.sheet a.end_line) m.arrow_row.index _ m.arrow_row.row in
+      let size = message-size v m.line m.rank m.label m.arrow_row m.no_start in
+      let same = mine.same_cells in
+      elim (e.others (p.message_row a.position) (omega (arith, at, source, row)) (omega (arith, at, source, row, long))) [
+        | inl b ↦ record {
+          label = b.0;
+          there = contains-had (messages_of s) b.0 b.1;
+          same_row = sym b.3;
+          same_label = inr (twins a b.0 has b.1 one b.2 m (message-found v q k g s b.0 there b.1) (sym b.3));
+        }
+        | inr short ↦
+            let rows = ap length (same-rows v q k (p.message_row a.position)) in
+            let moved = ap (λ n. length (read v row_at n)) row in
+            absurd (omega (arith, size, short, rows, moved, same))
+      ]
+
+  -- and so of each
+  message-agrees : (a : LabelInfo) → Has (messages_of s) a → HasSameRow v.texts.message_of s p q a
+  unfolding messages_of
+  message-agrees a has = elim (cases_Bool (is_on_one_line a)) [
+    | inl one ↦ inline-row a has one
+    | inr several ↦
+        let passed = has-filtered (λ (a : LabelInfo). a.has_message) s.sheet.labels a has in
+        let i = gutter-label-there s.sheet passed.0.place a passed.0.there passed.1 several in
+        let o : IsGutterLabelOf v g s i.place a = record { group = there; owned = i.there } in
+        record {
+          label = a;
+          there = contains-had (messages_of s) a has;
+          same_row = end-row v p h g s i.place a o ∙ sym (end-row v q k g s i.place a o);
+          same_label = inl refl;
+        }
+  ]
+
+-- so they agree
+pub readings-agree : (v : Picture) (placed : ArePlaced v) (p q : Placing) → IsReadBy (rows_of v) v.sections v.texts.message_of p
+    → IsReadBy (rows_of v) v.sections v.texts.message_of q → AgreeOnStrokes v.texts.message_of v.sections p q
+readings-agree v placed p q h k = record {
+  lines = same-lines v p q h.rows_belong_together k.rows_belong_together;
+  heads = λ g s i a there owned.
+      let o : IsGutterLabelOf v g s i a = record { group = there; owned = owned } in head-found v p h g s i a o ∙ sym (head-found v q k g s i a o);
+  messages = λ g s a there has. message-agrees v placed p q h k g s there a (has-contained (messages_of s) a has);
+}
+
+-- and so do those of each report
+pub every-agree : {S Id R : Type 0} (w : World S Id) (r : ReportFields S) (reasons : List (Option R))
+    → (law : (p q : Id) → w.is_same p q ≡ true → w.source_of p ≡ w.source_of q)
+    → (forward : AllByRecursion (λ label. w.start_of label.span ≤ w.end_of label.span) r.labels)
+    → let infos = drawn_labels w r.config 0 r.labels reasons in
+    AreReadInOneWay (canvas w r infos) (sections w r infos) (texts_of r).message_of
+every-agree w r reasons law forward p q h k =
+    let infos = drawn_labels w r.config 0 r.labels reasons in
+    readings-agree (picture_of w r infos (numbered w r reasons forward)) (all-placed w r reasons forward law) p q
+    (read-picture w r reasons forward p h) (read-picture w r reasons forward q k)
