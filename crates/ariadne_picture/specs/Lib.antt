@@ -15,6 +15,7 @@ pub mod Sent
 pub mod Placing
 pub mod Blocks
 pub mod Causes
+pub mod LabelColors
 pub mod Readings
 pub mod Variants
 pub mod Headline

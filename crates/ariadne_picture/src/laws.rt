@@ -22,6 +22,7 @@ ghost use Rattle.ariadne_picture.specs.Canvas.{Cell, canvas, sections, texts_of}
 ghost use Rattle.ariadne_picture.specs.Causes.{has_no_other_strokes};
 ghost use Rattle.ariadne_picture.specs.Groups.{AreGroupsOf, groups_of, ordered};
 ghost use Rattle.ariadne_picture.specs.Headline.{AreReadInOneWay, CanBeRead, IsReadBy, IsTraced};
+ghost use Rattle.ariadne_picture.specs.LabelColors.{has_label_colors, label_color};
 ghost use Rattle.ariadne_picture.specs.Lists.{best, in_order};
 ghost use Rattle.ariadne_picture.specs.Placing.{has_ends_of_gutter_traces, has_gutter_bars};
 ghost use Rattle.ariadne_picture.specs.Placing.{has_inline_traces, has_message_rows, is_aligned};
@@ -242,15 +243,27 @@ pub fn no_stroke_is_without_a_cause<S, Id, R>()
         CanBeRead rows groups (λ placing. has_no_other_strokes rows groups placing) }
 {}
 
+/// Colours lead too: the strokes in a label's own rows, its bars, and its verticals where no other is
+/// seen, have its colour.
+pub fn strokes_have_the_colors_of_their_labels<S, Id, R>()
+    ensures { (w : World S Id) (r : ReportFields S) (reasons : List (Option R))
+        → HaveOneSource w → AreForward w r
+        → let infos = drawn_labels w r.config 0 r.labels reasons in
+        let rows = canvas w r infos in let groups = sections w r infos in
+        CanBeRead rows groups (λ placing.
+        has_label_colors rows groups placing (label_color r)) }
+{}
+
 /// Every picture can be read, under one choice of row numbers for all of this: its rows belong
 /// together, each accepted message has a row of its own, strokes lead from it to its label, in the
-/// columns where the source row shows them, and no stroke stands elsewhere. The two premises hold
-/// wherever sources are looked up by their ids, and labels start at most at their ends.
+/// columns where the source row shows them and in the label's colour, and no stroke stands
+/// elsewhere. The two premises hold wherever sources are looked up by their ids, and labels start at
+/// most at their ends.
 pub fn every_picture_can_be_read<S, Id, R>()
     ensures { (w : World S Id) (r : ReportFields S) (reasons : List (Option R))
         → HaveOneSource w → AreForward w r
         → let infos = drawn_labels w r.config 0 r.labels reasons in
-        IsTraced (canvas w r infos) (sections w r infos) (texts_of r).message_of }
+        IsTraced (canvas w r infos) (sections w r infos) (texts_of r).message_of (label_color r) }
 {}
 
 /// The source row of each line is found in one way: row numbers under which the rows of a picture

@@ -21,13 +21,14 @@
 //! | `Placing` | how a finished picture is read, clause by clause | 30 |
 //! | `Blocks` | how many rows stand below a line | 1 |
 //! | `Causes` | that no stroke in the text is none of a label's | 8 |
-//! | `Readings` | what row numbers that a picture is read by agree on | 2 |
+//! | `LabelColors` | that strokes have the colours of their labels | 6 |
+//! | `Readings` | what row numbers that a picture is read by agree on | 3 |
 //! | `Variants` | what moves nothing: colours, and what offsets count | 8 |
 //! | `Headline` | what a success of `write` means | 3 |
 //!
-//! For the headline alone `Report`, `Accept`, `Sent`, `Placing`, `Blocks`, `Causes`, `Readings`,
-//! `Variants` and `Headline` serve. `Bars` says once more, case by case, where gutter bars stand; it
-//! serves the laws in [`laws`]. What serves only the proofs of code stands in `specs/` of the crates
+//! For the headline alone `Report`, `Accept`, `Sent`, `Placing`, `Blocks`, `Causes`, `LabelColors`,
+//! `Readings`, `Variants` and `Headline` serve. `Bars` says once more, case by case, where gutter bars
+//! stand, and `RowNames` which rows a group has; they serve the laws in [`laws`]. What serves only the proofs of code stands in `specs/` of the crates
 //! above, and can be skipped.
 #![tactic(auto)]
 

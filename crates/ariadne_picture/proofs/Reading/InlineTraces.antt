@@ -62,7 +62,7 @@ module _ (v : Picture) (placed : ArePlaced v) where
   -- ---- a label within a line
 
   -- the line label that shows it lies within the line
-  shows-inline : {g : ℕ} {s : Section} {a : LabelInfo} → is_on_one_line a ≡ true → (h : MessagePlace v g s a)
+  pub shows-inline : {g : ℕ} {s : Section} {a : LabelInfo} → is_on_one_line a ≡ true → (h : MessagePlace v g s a)
       → IsInlineHere s.sheet a.end_line h.label
   shows-inline {g} {s} {a} one h = go (label-here s.sheet a.end_line h.rank h.label h.arrow_row.there)
     where

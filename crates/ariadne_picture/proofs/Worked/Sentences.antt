@@ -5,6 +5,7 @@ use Rattle.std.specs.Cmp.Derive.{both_true}
 use Rattle.std.specs.Io.KnownBytes.{Appends}
 use Rattle.std.specs.Prelude.{Some}
 use Rattle.std.specs.List.{AllByRecursion}
+use Rattle.ariadne_color.specs.declared.color.Color.{Color}
 use Rattle.ariadne_picture.specs.declared.label_info.LabelInfo.{LabelInfo}
 use Rattle.ariadne_picture.specs.declared.verdict.Verdict.TheVariants.{Accepted}
 use Rattle.ariadne_picture.specs.Report.{ReportFields, World}
@@ -13,6 +14,7 @@ use Rattle.ariadne_picture.specs.Canvas.{Cell, canvas, sections, texts_of}
 use Rattle.ariadne_picture.specs.Print.{printed, erased, unescaped}
 use Rattle.ariadne_picture.specs.Sent.{HaveColumnsOfTexts, HaveNoLineFeeds, RowsAreLines}
 use Rattle.ariadne_picture.specs.Placing.{Placing}
+use Rattle.ariadne_picture.specs.LabelColors.{label_color, has_label_colors}
 use Rattle.ariadne_picture.specs.Readings.{AgreeOnLines, AgreeOnHeads, AgreeOnMessages, AgreeOnStrokes}
 use Rattle.ariadne_picture.specs.Variants.{HaveNoEscapes, ColorsMoveNothing, BytesDrawAsCharacters, colorless, char_world, char_report, verdict_at}
 use Rattle.ariadne_picture.specs.Headline.{IsReadBy, IsTraced, AreReadInOneWay, Headline}
@@ -30,11 +32,17 @@ all_clauses rows groups t p h =
     h.strokes_lead_from_it_to_the_attach_character) h.or_to_both_ends_of_the_gutter_column) h.and_along_the_gutter_column)
     h.in_the_columns_where_the_source_row_shows_them) h.blocks_are_whole) h.and_no_stroke_stands_elsewhere
 
+-- a traced picture has such row numbers, and its colours
+traced_in_colors : (rows : List (List Cell)) (groups : List Section) (message_of : ℕ → List ℕ) (color_at : ℕ → Option Color)
+    → IsTraced rows groups message_of color_at
+    → (p : Placing) × IsReadBy rows groups message_of p × (has_label_colors rows groups p color_at ≡ true)
+traced_in_colors rows groups message_of color_at h = (h.placing, h.reads, h.strokes_have_the_colors_of_their_labels)
+
 -- the headline is all of these
 all_sentences : {S Id : Type 0} (w : World S Id) (r : ReportFields S) (labels : List LabelInfo) (before after : Option (List ℕ))
     → Headline w r labels before after
     → Appends before after (printed (canvas w r labels))
-    × IsTraced (canvas w r labels) (sections w r labels) (texts_of r).message_of
+    × IsTraced (canvas w r labels) (sections w r labels) (texts_of r).message_of (label_color r)
     × AreReadInOneWay (canvas w r labels) (sections w r labels) (texts_of r).message_of
     × HaveColumnsOfTexts (canvas w r labels) × (HaveNoEscapes w r → HaveNoLineFeeds w r → RowsAreLines (canvas w r labels))
     × ColorsMoveNothing w r labels × BytesDrawAsCharacters w r labels
