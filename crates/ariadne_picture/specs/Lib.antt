@@ -4,6 +4,7 @@ pub mod Accept
 pub mod Groups
 pub mod Ranks
 pub mod Rows
+pub mod RowNames
 pub mod Columns
 pub mod Strokes
 pub mod Bars

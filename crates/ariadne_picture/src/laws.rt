@@ -2,7 +2,8 @@
 //! nothing: calling it tells the law.
 
 ghost use Rattle.std.specs.Prelude.{◌≡◌, ◌↔◌, ◌⊎◌, ℕ, Bool, true, List, [], Option, Some, None};
-ghost use Rattle.std.specs.Prelude.{nat_lt, int_lt, length, slice_get, IsTrue, IsFalse};
+ghost use Rattle.std.specs.Prelude.{◌≤◌, nat_lt, int_lt, length, slice_get, IsTrue, IsFalse};
+ghost use Rattle.std.specs.Prelude.{◌≢◌, is_some, map, option_and_then};
 ghost use Rattle.std.specs.Prelude.{All, AllPairs, Contains, IsPermutation, IsSortedBy};
 ghost use Rattle.std.specs.Cmp.{IsStrictWeakOrder};
 ghost use Rattle.std.specs.List.{AllByRecursion, IsFirstBest};
@@ -10,17 +11,19 @@ ghost use Rattle.std.specs.List.Sorted.{IsStableBy};
 ghost use Rattle.ariadne_picture.specs.declared.cell.Glyph.TheVariants.{Blank, Hbar, Vbar, Xbar};
 ghost use Rattle.ariadne_picture.specs.declared.cell.Glyph.TheVariants.{Lbot, Lcross, Ltop};
 ghost use Rattle.ariadne_picture.specs.declared.cell.Glyph.TheVariants.{Rarrow, VbarGap};
+ghost use Rattle.ariadne_base.specs.Listing.{Listing};
 ghost use Rattle.ariadne_picture.specs.declared.label_info.LabelInfo.{LabelInfo};
+ghost use Rattle.ariadne_picture.specs.declared.verdict.Verdict.TheVariants.{Accepted};
 ghost use Rattle.ariadne_picture.specs.declared.label_info.Side.TheVariants.{Starts, Ends};
-ghost use Rattle.ariadne_picture.specs.Accept.{drawn_labels};
+ghost use Rattle.ariadne_picture.specs.Accept.{drawn_labels, verdict_in};
 ghost use Rattle.ariadne_picture.specs.Bars.{BarBesideAlternate, BarBesideArrow, BarBesideLine};
 ghost use Rattle.ariadne_picture.specs.Bars.{EndsNoEarlier, IsLineLabel, IsMarginLabel};
 ghost use Rattle.ariadne_picture.specs.Bars.{IsGutterLabel, IsOfLine};
 ghost use Rattle.ariadne_picture.specs.Bars.{IsInside, IsOutside, Shows};
 ghost use Rattle.ariadne_picture.specs.Blocks.{has_whole_blocks};
-ghost use Rattle.ariadne_picture.specs.Canvas.{Cell, canvas, sections, texts_of};
+ghost use Rattle.ariadne_picture.specs.Canvas.{Cell, canvas, group_id, groups, sections, texts_of};
 ghost use Rattle.ariadne_picture.specs.Causes.{has_no_other_strokes};
-ghost use Rattle.ariadne_picture.specs.Groups.{AreGroupsOf, groups_of, ordered};
+ghost use Rattle.ariadne_picture.specs.Groups.{AreGroupsOf, group_start_line, groups_of, ordered};
 ghost use Rattle.ariadne_picture.specs.Headline.{AreReadInOneWay, CanBeRead, IsReadBy, IsTraced};
 ghost use Rattle.ariadne_picture.specs.LabelColors.{has_label_colors, label_color};
 ghost use Rattle.ariadne_picture.specs.Lists.{best, in_order};
@@ -33,6 +36,7 @@ ghost use Rattle.ariadne_picture.specs.Ranks.{span_len};
 ghost use Rattle.ariadne_picture.specs.Readings.{AgreeOnEnds, AgreeOnHeads, AgreeOnLines};
 ghost use Rattle.ariadne_picture.specs.Report.{AreForward, ConfigFields, HaveOneSource};
 ghost use Rattle.ariadne_picture.specs.Report.{LabelFields, ReportFields, World};
+ghost use Rattle.ariadne_picture.specs.RowNames.{HasRow};
 ghost use Rattle.ariadne_picture.specs.Rows.{Row, source, alternate, arrow, gap, before, rows};
 ghost use Rattle.ariadne_picture.specs.Sent.{HaveColumnsOfTexts, HaveNoLineFeeds, RowsAreLines};
 ghost use Rattle.ariadne_picture.specs.Strokes.{bar_at, first_row, is_preferred, last_row};
@@ -80,6 +84,41 @@ pub fn groups_are_the_only_cutting()
         → AreGroupsOf same_source labels groups → groups ≡ groups_of same_source labels }
 {}
 
+/// A label with a reason beside it is not drawn, and an accepted one without a reason is. Which
+/// labels are drawn hangs on the positions alone that have a reason.
+pub fn labels_are_drawn_or_listed<S, Id, R>()
+    ensures never_both { (w : World S Id) (r : ReportFields S) (reasons : List (Option R)) (k : ℕ)
+        (reason : R) (a : LabelInfo)
+        → AreForward w r → slice_get reasons k ≡ Some (Some reason)
+        → Contains (drawn_labels w r.config 0 r.labels reasons) a → a.position ≢ k }
+    ensures drawn { (w : World S Id) (r : ReportFields S) (reasons : List (Option R)) (k : ℕ)
+        (label : LabelFields S) (source : Listing) (a : LabelInfo)
+        → slice_get r.labels k ≡ Some label → slice_get reasons k ≡ Some None
+        → w.source_of (w.id_of label.span) ≡ Some source
+        → verdict_in w r.config k label source ≡ Accepted a
+        → Contains (drawn_labels w r.config 0 r.labels reasons) a }
+    ensures determined { (w : World S Id) (r : ReportFields S) (reasons others : List (Option R))
+        → map is_some reasons ≡ map is_some others
+        → drawn_labels w r.config 0 r.labels reasons ≡ drawn_labels w r.config 0 r.labels others }
+{}
+
+/// A group begins at the least line where one of its labels starts: none starts on an earlier line,
+/// and one starts there.
+pub fn groups_begin_at_their_least_line()
+    ensures least { (group : List LabelInfo) (a : LabelInfo)
+        → Contains group a → group_start_line group ≤ a.start_line }
+    ensures reached { (group : List LabelInfo) (a : LabelInfo)
+        → Contains group a → All EndsNoEarlier group
+        → (b : LabelInfo) × Contains group b × (b.start_line ≡ group_start_line group) }
+{}
+
+/// The source of each group is held, so `group_source` never takes its default.
+pub fn groups_have_their_sources<S, Id, R>()
+    ensures { (w : World S Id) (r : ReportFields S) (reasons : List (Option R)) → AreForward w r
+        → AllByRecursion (λ group. is_some (option_and_then w.source_of (group_id w r group)) ≡ true)
+        (groups w r (drawn_labels w r.config 0 r.labels reasons)) }
+{}
+
 /// Each label that is drawn ends on the line where it starts or on a later one, and so does each
 /// that owns a gutter column of a group of such labels.
 pub fn labels_end_no_earlier<S, Id, R>()
@@ -101,6 +140,17 @@ pub fn rows_stand_in_order()
     ensures not_itself { (a : Row) → IsFalse (before a a) }
     ensures chain { (a b c : Row)
         → IsTrue (before a b) → IsTrue (before b c) → IsTrue (before a c) }
+{}
+
+/// The rows of a group are the only list in that order whose members are those that it has, case by
+/// case.
+pub fn rows_are_the_only_list()
+    ensures members { (s : Sheet) (is_last : Bool) (helps notes : List (List ℕ)) (x : Row)
+        → Contains (rows s is_last helps notes) x ↔ HasRow s is_last helps notes x }
+    ensures only { (s : Sheet) (is_last : Bool) (helps notes : List (List ℕ)) (xs : List Row)
+        → AllPairs (λ a b. IsTrue (before a b)) xs
+        → ((x : Row) → Contains xs x ↔ HasRow s is_last helps notes x)
+        → xs ≡ rows s is_last helps notes }
 {}
 
 /// A gutter label starts as the margin label of its start line or as a line label there, and ends

@@ -1,5 +1,5 @@
 -- A label within one line whose message stands, for other row numbers, in the row of another label: the two are attached at one column.
-use Rattle.std.proofs.Common.{◌≡◌, ℕ, zero, suc, ◌+◌, ◌-◌, ◌<◌, ◌≤◌, Bool, true, false, not, ◌&&◌, ◌||◌, List, [], ◌∷◌, ◌++◌, length, map, filter}
+use Rattle.std.proofs.Common.{◌≡◌, ℕ, zero, suc, ◌+◌, ◌-◌, ◌<◌, ◌≤◌, Bool, true, false, not, ◌&&◌, ◌||◌, List, [], ◌∷◌, length, map, filter}
 use Rattle.std.proofs.Common.{Option, Some, None, refl, sym, ap, ◌∙◌, subst, arith, ◌==◌, inl, inr, ◌⊎◌, nat_lt, Contains, if◌then◌else◌}
 use Rattle.std.specs.Prelude.{slice_get, nat_le}
 use Rattle.std.specs.List.{AllByRecursion, list_all, list_any, enumerate_from, range_with_len}
@@ -12,9 +12,9 @@ use Rattle.ariadne_picture.specs.declared.switches.CharSet.TheVariants.{Unicode,
 use Rattle.ariadne_picture.specs.declared.switches.Switches.{Switches}
 use Rattle.ariadne_picture.specs.declared.label_info.LabelInfo.{LabelInfo}
 use Rattle.ariadne_picture.specs.declared.label_info.LineLabel.{LineLabel}
-use Rattle.ariadne_picture.specs.declared.label_info.Side.TheVariants.{Inline, Starts, Ends}
+use Rattle.ariadne_picture.specs.declared.label_info.Side.TheVariants.{Inline, Starts}
 use Rattle.ariadne_picture.specs.declared.cell.Glyph.{Glyph}
-use Rattle.ariadne_picture.specs.declared.cell.Glyph.TheVariants.{Blank, Hbar, Vbar, Xbar, Lbot, Rbot, Mbot, Uarrow, Underbar, Underline}
+use Rattle.ariadne_picture.specs.declared.cell.Glyph.TheVariants.{Blank, Hbar, Vbar, Xbar, Lbot, Rbot, Mbot, Uarrow, Underbar}
 use Rattle.ariadne_picture.specs.declared.cell.Ink.{Ink}
 use Rattle.ariadne_picture.specs.Lists.{joined}
 use Rattle.ariadne_picture.specs.Ranks.{is_start, is_on_one_line, gutter_labels, line_labels}
@@ -26,14 +26,13 @@ use Rattle.ariadne_picture.specs.Pieces.{Section, glyph_text}
 use Rattle.ariadne_picture.specs.Canvas.{Cell}
 use Rattle.ariadne_picture.specs.Placing.{Placing, between, is_text, is_blank, is_glyph, is_level, set_of, has_cell, place_cell, cell_at, row_at, text_cell}
 use Rattle.ariadne_picture.specs.Placing.{messages_of, is_margin_at, holds_at_places, is_inline_traced, has_inline_traces, has_underlines, block_rows}
-use Rattle.ariadne_picture.specs.Blocks.{has_whole_blocks}
 use Rattle.ariadne_picture.specs.Causes.{Trace, is_upright, is_stroke_of, inline_trace, end_trace, start_trace, gutter_traces, traces_below}
 use Rattle.ariadne_picture.specs.Causes.{is_underline_of, has_cause, is_place_caused, is_line_caused, has_no_other_strokes}
 use Rattle.ariadne_picture.specs.Accept.{drawn_labels}
 use Rattle.ariadne_picture.specs.Report.{ReportFields, World}
 use Rattle.ariadne_picture.specs.Canvas.{canvas, sections, texts_of}
 use Rattle.ariadne_picture.specs.Headline.{IsReadBy, AreReadInOneWay}
-use Rattle.ariadne_picture.specs.Readings.{attach_column, AreTwins, HasSameRow, AgreeOnStrokes}
+use Rattle.ariadne_picture.specs.Readings.{AreTwins, HasSameRow, AgreeOnStrokes}
 use Rattle.ariadne_picture.proofs.Lists.ListFacts.{all-append, all-map, all-filtered, all-joined, all-at}
 use Rattle.ariadne_picture.proofs.Lists.Elements.{Has, has-filter, all-from, all-numbered, list_any-true}
 use Rattle.ariadne_picture.proofs.Labels.LabelsAtLine.{IsHere, IsInlineHere, gutter-label-there, gutter-labels-owned}
@@ -43,17 +42,17 @@ use Rattle.ariadne_picture.proofs.Rows.RowsThere.{range-at, gutter-label-message
 use Rattle.ariadne_picture.proofs.Cells.InkCells.{ink_cell, level-ink}
 use Rattle.ariadne_picture.proofs.Reading.DrawnReports.{picture_of}
 use Rattle.ariadne_picture.proofs.Reading.EveryReport.{numbered, all-placed}
-use Rattle.ariadne_picture.proofs.Reading.HeadPlaces.{IsGutterLabelOf, HeadPlace, head-place}
+use Rattle.ariadne_picture.proofs.Reading.HeadPlaces.{IsGutterLabelOf, head-place}
 use Rattle.ariadne_picture.proofs.Reading.InlineTraces.{inline-off, silent, first-alternate}
 use Rattle.ariadne_picture.proofs.Reading.LabelTraces.{place-cells}
 use Rattle.ariadne_picture.proofs.Reading.MessagePlaces.{two-true, label-here, arrow-shows}
 use Rattle.ariadne_picture.proofs.Reading.PlaceCells.{first_cell, label-cell}
 use Rattle.ariadne_picture.proofs.Reading.PlaceCounts.{ArePlaced, column-place}
-use Rattle.ariadne_picture.proofs.Reading.Pictures.{Picture, rows_of, placing_of, read, number, source_row, message_row, head_row, number-at}
-use Rattle.ariadne_picture.proofs.Reading.ShownLine.{IsShownLine, IsArrowRow, arrow-at, source-at, block-row-is, places_of, places-are, rows_above}
+use Rattle.ariadne_picture.proofs.Reading.Pictures.{Picture, rows_of, read, number, number-at}
+use Rattle.ariadne_picture.proofs.Reading.ShownLine.{IsArrowRow, arrow-at, source-at, places_of, places-are}
 use Rattle.ariadne_picture.proofs.OneReading.LinesFound.{list_all-from, same-lines}
 use Rattle.ariadne_picture.proofs.OneReading.MessagesFound.{each-line, each-group, line-row, or-cases, any-from, has-filtered, message-in, ends-of}
-use Rattle.ariadne_picture.proofs.OneReading.MessagesFound.{MessageFound, message-found, message-size, count, same-rows}
+use Rattle.ariadne_picture.proofs.OneReading.MessagesFound.{MessageFound, message-found, message-size, same-rows}
 use Rattle.ariadne_picture.proofs.OneReading.StrokesFound.{rows-apart, head-found, end-found, end-row, same-rank, read-picture}
 
 -- ---- columns

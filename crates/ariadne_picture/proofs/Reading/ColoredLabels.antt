@@ -1,10 +1,10 @@
 -- The strokes of each label have its colour: those of its own rows, its bars, and its verticals where no other is seen.
-use Rattle.std.proofs.Common.{◌≡◌, ℕ, zero, suc, ◌+◌, ◌<◌, ◌≤◌, Bool, true, false, not, ◌&&◌, ◌||◌, List, [], ◌∷◌, length}
-use Rattle.std.proofs.Common.{Option, Some, None, refl, sym, ap, ◌∙◌, subst, arith, ◌==◌, inl, inr, ◌⊎◌}
+use Rattle.std.proofs.Common.{◌≡◌, ℕ, ◌+◌, ◌<◌, ◌≤◌, Bool, true, false, not, ◌&&◌, ◌||◌, length}
+use Rattle.std.proofs.Common.{Option, Some, None, refl, ap, ◌∙◌, subst, arith, ◌==◌, inl, inr, ◌⊎◌}
 use Rattle.std.specs.Prelude.{slice_get, unwrap_or, option_map}
-use Rattle.std.specs.List.{AllByRecursion, list_all}
+use Rattle.std.specs.List.{AllByRecursion}
 use Rattle.std.specs.Cmp.Derive.{both_true}
-use Rattle.std.proofs.lemmas.Bool.{cond_both, cases_Bool, cases_lt, eq-eqb, eqb-true, ne_eqb, lt-ltb, le-ltb, le-leb, true≢false}
+use Rattle.std.proofs.lemmas.Bool.{cases_Bool, cases_lt, eq-eqb, eqb-true, ne_eqb, lt-ltb, le-ltb, le-leb}
 use Rattle.ariadne_picture.specs.declared.switches.CharSet.{CharSet}
 use Rattle.ariadne_picture.specs.declared.switches.CharSet.TheVariants.{Unicode, Ascii}
 use Rattle.ariadne_picture.specs.declared.label_info.LabelInfo.{LabelInfo}
@@ -18,9 +18,8 @@ use Rattle.ariadne_picture.specs.Ranks.{Sheet, is_inline, is_on_one_line, is_mar
 use Rattle.ariadne_picture.specs.Rows.{Row, source, alternate, arrow, gap}
 use Rattle.ariadne_picture.specs.Columns.{layout_of}
 use Rattle.ariadne_picture.specs.Strokes.{has_corner, is_crossed, is_at_margin, bar_at}
-use Rattle.ariadne_picture.specs.Cells.{glyph_code, ink, ink_of, paint_of, gutter_label_paint, margin_ink, beside_ink, below_ink, turn_ink, column_ink}
-use Rattle.ariadne_picture.specs.Cells.{margin_glyph}
-use Rattle.ariadne_picture.specs.Pieces.{Section, glyph_text, gutter_len}
+use Rattle.ariadne_picture.specs.Cells.{glyph_code, ink, paint_of, gutter_label_paint, margin_ink, beside_ink, below_ink, turn_ink, column_ink}
+use Rattle.ariadne_picture.specs.Pieces.{Section, glyph_text}
 use Rattle.ariadne_picture.specs.Placing.{is_text, is_blank, is_glyph, is_level, set_of, is_margin_at, column_cell, cell_at, gutter_cell, gutter_rows}
 use Rattle.ariadne_picture.specs.LabelColors.{is_steep, is_pointer, all_gutter_cells, all_place_cells, has_color, is_vertical_colored, is_inline_colored}
 use Rattle.ariadne_picture.specs.LabelColors.{is_end_colored, is_start_colored, is_pointer_colored, is_bar_colored, is_gutter_label_colored, has_label_colors}
@@ -31,7 +30,7 @@ use Rattle.ariadne_picture.proofs.Rows.BarCases.{at-margin, at-margin-label}
 use Rattle.ariadne_picture.proofs.Cells.GutterStrokes.{turn-owned}
 use Rattle.ariadne_picture.proofs.Cells.GutterInks.{no-bar-beside, own-arrow, behind-arrow}
 use Rattle.ariadne_picture.proofs.Cells.InkCells.{IsLevel, glyph_cell, ink_cell, shows-blank, shows-level}
-use Rattle.ariadne_picture.proofs.Reading.ColoredStrokes.{IsInkOf, IsInkCell, color_at, colored-cell, places-colored, gutter-cells, columns-colored}
+use Rattle.ariadne_picture.proofs.Reading.ColoredStrokes.{IsInkOf, color_at, colored-cell, places-colored, gutter-cells, columns-colored}
 use Rattle.ariadne_picture.proofs.Reading.ColoredStrokes.{arrow-own, turn-own, vertical-colored}
 use Rattle.ariadne_picture.proofs.Reading.EndTraces.{its-message, its-end, its-margin}
 use Rattle.ariadne_picture.proofs.Reading.GutterCells.{gutter-cell, few, column-few}

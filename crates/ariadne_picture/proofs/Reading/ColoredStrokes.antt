@@ -1,6 +1,6 @@
 -- The cells of a row that have a label's colour, by the inks of its places and of its gutter columns; and the verticals above it.
-use Rattle.std.proofs.Common.{◌≡◌, ℕ, zero, suc, ◌+◌, ◌-◌, ◌*◌, ◌<◌, ◌≤◌, Bool, true, false, not, ◌&&◌, ◌||◌, List, [], ◌∷◌, ◌++◌, drop}
-use Rattle.std.proofs.Common.{Option, Some, None, refl, sym, ap, ◌∙◌, subst, arith, ◌==◌, inl, inr, ◌⊎◌, if◌then◌else◌}
+use Rattle.std.proofs.Common.{◌≡◌, ℕ, zero, suc, ◌+◌, ◌-◌, ◌*◌, ◌<◌, ◌≤◌, Bool, true, false, not, ◌&&◌, List, [], ◌∷◌, ◌++◌, drop}
+use Rattle.std.proofs.Common.{Option, Some, None, refl, sym, ap, ◌∙◌, subst, arith, ◌==◌, inl, inr, ◌⊎◌}
 use Rattle.std.specs.Prelude.{slice_get, slice_index_or, find}
 use Rattle.std.specs.Cmp.Derive.{both_true}
 use Rattle.std.specs.Cmp.Lexicographic.{options_equiv}
@@ -11,17 +11,15 @@ use Rattle.ariadne_color.specs.contracts.color.ColorEq.TheImpl.Laws as equality
 use Rattle.ariadne_picture.specs.declared.switches.Switches.{Switches}
 use Rattle.ariadne_picture.specs.declared.label_info.LabelInfo.{LabelInfo}
 use Rattle.ariadne_picture.specs.declared.label_info.LineLabel.{LineLabel}
-use Rattle.ariadne_picture.specs.declared.cell.Glyph.{Glyph}
 use Rattle.ariadne_picture.specs.declared.cell.Glyph.TheVariants.{Blank, Hbar, Vbar, Xbar, Uarrow}
 use Rattle.ariadne_picture.specs.declared.cell.Ink.{Ink}
-use Rattle.ariadne_picture.specs.declared.cell.Paint.{Paint}
 use Rattle.ariadne_picture.specs.declared.cell.Paint.TheVariants.{Label}
 use Rattle.ariadne_picture.specs.Ranks.{is_inline, is_margin, margin_label, line_labels}
 use Rattle.ariadne_picture.specs.Rows.{Row, alternate, arrow, row_part, row_line, row_step}
 use Rattle.ariadne_picture.specs.Columns.{Layout, layout_of, width}
 use Rattle.ariadne_picture.specs.Strokes.{has_vertical, vertical_at, underline_at, has_corner, is_crossed, bar_at}
-use Rattle.ariadne_picture.specs.Cells.{paint_of, ink_of, arrow_ink, arrow_place, alternate_ink, alternate_place, turn_glyph, turn_ink, column_ink}
-use Rattle.ariadne_picture.specs.Pieces.{Piece, Section, ink_pieces, column_size, gutter_len}
+use Rattle.ariadne_picture.specs.Cells.{paint_of, ink_of, arrow_ink, arrow_place, alternate_ink, alternate_place, turn_ink, column_ink}
+use Rattle.ariadne_picture.specs.Pieces.{Piece, Section, column_size, gutter_len}
 use Rattle.ariadne_picture.specs.Canvas.{Cell, cell_of, color_of}
 use Rattle.ariadne_picture.specs.Placing.{is_blank, is_level, set_of, column_cell, place_cell, has_cell, cell_at}
 use Rattle.ariadne_picture.specs.LabelColors.{is_color, is_steep, all_gutter_cells, all_place_cells, has_color, is_covered, is_vertical_colored_in}
@@ -31,16 +29,16 @@ use Rattle.ariadne_picture.proofs.Lists.Elements.{all-range, list_all-true, list
 use Rattle.ariadne_picture.proofs.Rows.LineBlock.{IsBlockRow, block-rows-are}
 use Rattle.ariadne_picture.proofs.Rows.RowOrder.{shown_rows}
 use Rattle.ariadne_picture.proofs.Cells.RowCells.{ink-head, ink-tail, column-at}
-use Rattle.ariadne_picture.proofs.Cells.InkCells.{IsLevel, glyph_cell, ink_cell, shows-level, level-ink}
+use Rattle.ariadne_picture.proofs.Cells.InkCells.{glyph_cell, ink_cell, shows-level, level-ink}
 use Rattle.ariadne_picture.proofs.Cells.GutterInks.{own-arrow}
 use Rattle.ariadne_picture.proofs.Reading.InOrder.{in-order}
 use Rattle.ariadne_picture.proofs.Reading.LabelTraces.{drop-get, place-cells, place-cell-is, trace-of}
 use Rattle.ariadne_picture.proofs.Reading.MessagePlaces.{two-true}
 use Rattle.ariadne_picture.proofs.Reading.OtherStrokes.{not-below}
 use Rattle.ariadne_picture.proofs.Reading.PlaceCells.{drop-at, step-rises, first_cell, label-cell, alternate-cell, above-it}
-use Rattle.ariadne_picture.proofs.Reading.Pictures.{Picture, RowAt, placing_of, read, number, source_row, number-at}
-use Rattle.ariadne_picture.proofs.Reading.ShownLine.{IsShownLine, IsArrowRow, arrow-row, arrow-at, places_of, source-at, block-row-is}
-use Rattle.ariadne_picture.proofs.Reading.TextRows.{IsTextRow, area, arrow_inks, alternate_inks, front-at}
+use Rattle.ariadne_picture.proofs.Reading.Pictures.{Picture, RowAt, read, number, source_row, number-at}
+use Rattle.ariadne_picture.proofs.Reading.ShownLine.{IsArrowRow, arrow-row, arrow-at, places_of, source-at, block-row-is}
+use Rattle.ariadne_picture.proofs.Reading.TextRows.{IsTextRow, area, arrow_inks, front-at}
 
 -- ---- colours of cells
 

@@ -7,7 +7,7 @@ use Rattle.ariadne_picture.specs.Report.{ConfigFields, LabelFields, ReportFields
 use Rattle.ariadne_picture.specs.Canvas.{Cell, texts_of}
 use Rattle.ariadne_picture.specs.LabelColors.{label_color, has_label_colors}
 use Rattle.ariadne_picture.proofs.Rows.RowPlacing.{row_placing}
-use Rattle.ariadne_picture.proofs.Worked.Sample.{Span, Entry, one, label, silent_label, report, configured, ascii_config, color_config, compact_config}
+use Rattle.ariadne_picture.proofs.Worked.Sample.{Span, Entry, one, label, silent_label, configured, ascii_config, color_config, compact_config}
 use Rattle.ariadne_picture.proofs.Worked.Sample.{unicode_config}
 use Rattle.ariadne_picture.proofs.Worked.Readings.{cells_of, parts_of}
 use Rattle.ariadne_picture.proofs.Worked.Changes.{Rows, as_drawn, on_row, on_cell, further_verdicts, judged}
