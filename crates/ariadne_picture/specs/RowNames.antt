@@ -9,9 +9,9 @@ use Rattle.ariadne_picture.specs.Rows.{Aside, help, note, Row, group_header, spa
 use Rattle.ariadne_picture.specs.Rows.{arrow, gap, bare, blank, piece, tail, is_inside}
 
 -- the texts of one kind
-abbrev pub texts_of : Aside → List (List ℕ) → List (List ℕ) → List (List ℕ)
-texts_of help helps notes = helps
-texts_of note helps notes = notes
+abbrev pub asides_of : Aside → List (List ℕ) → List (List ℕ) → List (List ℕ)
+asides_of help helps notes = helps
+asides_of note helps notes = notes
 
 -- a group has line l
 abbrev pub HasLine : Sheet → ℕ → Type 0
@@ -35,7 +35,7 @@ module _ (s : Sheet) (is_last : Bool) (helps notes : List (List ℕ)) where
   pub record HasAside (a : Aside) (k : ℕ) : Type 0 where
     pub last : is_last ≡ true
     pub text : List ℕ
-    pub there : slice_get (texts_of a helps notes) k ≡ Some text
+    pub there : slice_get (asides_of a helps notes) k ≡ Some text
 
   -- the group has this row
   abbrev pub HasRow : Row → Type 0

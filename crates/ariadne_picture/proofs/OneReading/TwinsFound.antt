@@ -1,243 +1,47 @@
 -- A label within one line whose message stands, for other row numbers, in the row of another label: the two are attached at one column.
-use Rattle.std.proofs.Common.{◌≡◌, ℕ, zero, suc, ◌+◌, ◌-◌, ◌<◌, ◌≤◌, Bool, true, false, not, ◌&&◌, ◌||◌, List, [], ◌∷◌, length, map, filter}
-use Rattle.std.proofs.Common.{Option, Some, None, refl, sym, ap, ◌∙◌, subst, arith, ◌==◌, inl, inr, ◌⊎◌, nat_lt, Contains, if◌then◌else◌}
+use Rattle.std.proofs.Common.{◌≡◌, ℕ, suc, ◌+◌, ◌-◌, ◌<◌, ◌≤◌, Bool, true, false, not, ◌&&◌, ◌||◌, [], ◌∷◌, map, filter}
+use Rattle.std.proofs.Common.{Some, refl, sym, ap, ◌∙◌, subst, arith, ◌==◌, inl, inr, nat_lt, if◌then◌else◌}
 use Rattle.std.specs.Prelude.{slice_get, nat_le}
 use Rattle.std.specs.List.{AllByRecursion, list_all, list_any, enumerate_from, range_with_len}
-use Rattle.std.specs.Cmp.Derive.{both_true}
-use Rattle.std.proofs.lemmas.Bool.{cond_both, cases_Bool, cases_lt, eq-eqb, eqb-true, ne_eqb, ltb-true, leb-true, lt-ltb, le-ltb, true≢false, not-true}
-use Rattle.std.proofs.lemmas.Option.{slice_get_within, slice_get_read, get_or_from_slice_get}
+use Rattle.std.proofs.lemmas.Bool.{cond_both, cases_lt, eq-eqb, eqb-true, ltb-true, leb-true, lt-ltb, true≢false, not-true}
 use Rattle.ariadne_base.specs.Locations.{upto}
-use Rattle.ariadne_picture.specs.declared.switches.CharSet.{CharSet}
-use Rattle.ariadne_picture.specs.declared.switches.CharSet.TheVariants.{Unicode, Ascii}
-use Rattle.ariadne_picture.specs.declared.switches.Switches.{Switches}
 use Rattle.ariadne_picture.specs.declared.label_info.LabelInfo.{LabelInfo}
 use Rattle.ariadne_picture.specs.declared.label_info.LineLabel.{LineLabel}
 use Rattle.ariadne_picture.specs.declared.label_info.Side.TheVariants.{Inline, Starts}
 use Rattle.ariadne_picture.specs.declared.cell.Glyph.{Glyph}
-use Rattle.ariadne_picture.specs.declared.cell.Glyph.TheVariants.{Blank, Hbar, Vbar, Xbar, Lbot, Rbot, Mbot, Uarrow, Underbar}
-use Rattle.ariadne_picture.specs.declared.cell.Ink.{Ink}
+use Rattle.ariadne_picture.specs.declared.cell.Glyph.TheVariants.{Vbar, Lbot, Uarrow, Underbar}
 use Rattle.ariadne_picture.specs.Lists.{joined}
 use Rattle.ariadne_picture.specs.Ranks.{is_start, is_on_one_line, gutter_labels, line_labels}
 use Rattle.ariadne_picture.specs.Rows.{alternate, arrow}
-use Rattle.ariadne_picture.specs.Columns.{Layout, layout_of, width, column_of}
-use Rattle.ariadne_picture.specs.Strokes.{has_corner, is_crossed, vertical_at}
-use Rattle.ariadne_picture.specs.Cells.{glyph_code, arrow_ink, corner_glyph}
+use Rattle.ariadne_picture.specs.Columns.{layout_of, width, column_of}
 use Rattle.ariadne_picture.specs.Pieces.{Section, glyph_text}
 use Rattle.ariadne_picture.specs.Canvas.{Cell}
 use Rattle.ariadne_picture.specs.Placing.{Placing, between, is_text, is_blank, is_glyph, is_level, set_of, has_cell, place_cell, cell_at, row_at, text_cell}
 use Rattle.ariadne_picture.specs.Placing.{messages_of, is_margin_at, holds_at_places, is_inline_traced, has_inline_traces, has_underlines, block_rows}
 use Rattle.ariadne_picture.specs.Causes.{Trace, is_upright, is_stroke_of, inline_trace, end_trace, start_trace, gutter_traces, traces_below}
 use Rattle.ariadne_picture.specs.Causes.{is_underline_of, has_cause, is_place_caused, is_line_caused, has_no_other_strokes}
-use Rattle.ariadne_picture.specs.Accept.{drawn_labels}
-use Rattle.ariadne_picture.specs.Report.{ReportFields, World}
-use Rattle.ariadne_picture.specs.Canvas.{canvas, sections, texts_of}
-use Rattle.ariadne_picture.specs.Headline.{IsReadBy, AreReadInOneWay}
-use Rattle.ariadne_picture.specs.Readings.{AreTwins, HasSameRow, AgreeOnStrokes}
+use Rattle.ariadne_picture.specs.Headline.{IsReadBy}
 use Rattle.ariadne_picture.proofs.Lists.ListFacts.{all-append, all-map, all-filtered, all-joined, all-at}
-use Rattle.ariadne_picture.proofs.Lists.Elements.{Has, has-filter, all-from, all-numbered, list_any-true}
-use Rattle.ariadne_picture.proofs.Labels.LabelsAtLine.{IsHere, IsInlineHere, gutter-label-there, gutter-labels-owned}
+use Rattle.ariadne_picture.proofs.Lists.Elements.{Has, all-from, all-numbered, list_any-true}
+use Rattle.ariadne_picture.proofs.Labels.LabelsAtLine.{IsHere, IsInlineHere}
 use Rattle.ariadne_picture.proofs.Labels.LineLabels.{multi-line}
 use Rattle.ariadne_picture.proofs.Rows.RowOrder.{shown_rows}
-use Rattle.ariadne_picture.proofs.Rows.RowsThere.{range-at, gutter-label-message}
-use Rattle.ariadne_picture.proofs.Cells.InkCells.{ink_cell, level-ink}
-use Rattle.ariadne_picture.proofs.Reading.DrawnReports.{picture_of}
-use Rattle.ariadne_picture.proofs.Reading.EveryReport.{numbered, all-placed}
+use Rattle.ariadne_picture.proofs.Rows.RowsThere.{range-at}
+use Rattle.ariadne_picture.proofs.Cells.InkCells.{ink_cell}
 use Rattle.ariadne_picture.proofs.Reading.HeadPlaces.{IsGutterLabelOf, head-place}
-use Rattle.ariadne_picture.proofs.Reading.InlineTraces.{inline-off, silent, first-alternate}
+use Rattle.ariadne_picture.proofs.Reading.InlineTraces.{silent, first-alternate}
 use Rattle.ariadne_picture.proofs.Reading.LabelTraces.{place-cells}
 use Rattle.ariadne_picture.proofs.Reading.MessagePlaces.{two-true, label-here, arrow-shows}
 use Rattle.ariadne_picture.proofs.Reading.PlaceCells.{first_cell, label-cell}
 use Rattle.ariadne_picture.proofs.Reading.PlaceCounts.{ArePlaced, column-place}
 use Rattle.ariadne_picture.proofs.Reading.Pictures.{Picture, rows_of, read, number, number-at}
 use Rattle.ariadne_picture.proofs.Reading.ShownLine.{IsArrowRow, arrow-at, source-at, places_of, places-are}
-use Rattle.ariadne_picture.proofs.OneReading.LinesFound.{list_all-from, same-lines}
-use Rattle.ariadne_picture.proofs.OneReading.MessagesFound.{each-line, each-group, line-row, or-cases, any-from, has-filtered, message-in, ends-of}
-use Rattle.ariadne_picture.proofs.OneReading.MessagesFound.{MessageFound, message-found, message-size, same-rows}
-use Rattle.ariadne_picture.proofs.OneReading.StrokesFound.{rows-apart, head-found, end-found, end-row, same-rank, read-picture}
-
--- ---- columns
-
-module _ (switches : Switches) (y : Layout) where
-  column-next : (k : ℕ) → column_of switches y (suc k) ≡ column_of switches y k + width switches y k
-  unfolding column_of width
-  column-next k = refl
-
-  column-rises : (k d : ℕ) → column_of switches y k ≤ column_of switches y (k + d)
-  column-rises k zero = let z : k ≡ k + 0 = omega arith in let same = ap (column_of switches y) z in omega (arith, same)
-  column-rises k (suc d) =
-      let z : suc (k + d) ≡ k + suc d = omega arith in
-      let same = ap (column_of switches y) z in
-      let more = column-rises k d in
-      let next = column-next (k + d) in
-      omega (arith, same, more, next)
-
-  -- a later place begins no earlier
-  column-le : (k m : ℕ) → k ≤ m → column_of switches y k ≤ column_of switches y m
-  column-le k m h =
-      let z : k + (m - k) ≡ m = omega arith in
-      let same = ap (column_of switches y) z in
-      let rise = column-rises k (m - k) in
-      omega (arith, same, rise)
-
-  -- between two columns a place has a cell
-  record SomeCell (a b : ℕ) : Type 0 where
-    place : ℕ
-    low : a ≤ place
-    high : place < b
-    some : 0 < width switches y place
-
-  some-cell : (a n : ℕ) → column_of switches y a < column_of switches y (a + n) → SomeCell a (a + n)
-  some-cell a zero h =
-      let z : a + 0 ≡ a = omega arith in let same = ap (column_of switches y) z in absurd (omega (arith, same))
-  some-cell a (suc n) h = elim (cases_lt 0 (width switches y a)) [
-    | inl some ↦ record { place = a; low = omega arith; high = omega arith; some = some }
-    | inr none ↦
-        let z : a + suc n ≡ suc a + n = omega arith in
-        let same = ap (column_of switches y) z in
-        let next = column-next a in
-        let rest = some-cell (suc a) n (omega (arith, same, next)) in
-        let low = rest.low in
-        let high = rest.high in
-        record { place = rest.place; low = omega arith; high = omega arith; some = rest.some }
-  ]
-
-  cell-between : (a b : ℕ) → column_of switches y a < column_of switches y b → SomeCell a b
-  cell-between a b h = elim (cases_lt a b) [
-    | inl less ↦
-        let z : a + (b - a) ≡ b = omega arith in
-        subst (SomeCell a) z (some-cell a (b - a) (let same = ap (column_of switches y) z in omega (arith, same)))
-    | inr more ↦ let fall = column-le b a more in absurd (omega arith)
-  ]
-
--- ---- glyphs
-
-abbrev shows : CharSet → Glyph → Glyph → Bool
-shows set glyph other = is_text (glyph_text set glyph) (glyph_text set other)
-
--- what stands left of a label's corner in its row
-abbrev IsLeft : Glyph → Type 0
-IsLeft glyph = (glyph ≡ Uarrow) ⊎ ((glyph ≡ Vbar) ⊎ (glyph ≡ Blank))
-
--- is neither a corner nor level
-record IsNoOwn (set : CharSet) (glyph : Glyph) : Type 0 where
-  no_lbot : shows set glyph Lbot ≡ false
-  no_hbar : shows set glyph Hbar ≡ false
-  no_xbar : shows set glyph Xbar ≡ false
-
-left-no-own : (set : CharSet) (glyph : Glyph) → IsLeft glyph → IsNoOwn set glyph
-unfolding glyph_text glyph_code lib.Utf8.encode
-left-no-own Unicode glyph (inl e) = subst (IsNoOwn Unicode) (sym e) (record { no_lbot = refl; no_hbar = refl; no_xbar = refl })
-left-no-own Ascii glyph (inl e) = subst (IsNoOwn Ascii) (sym e) (record { no_lbot = refl; no_hbar = refl; no_xbar = refl })
-left-no-own Unicode glyph (inr (inl e)) = subst (IsNoOwn Unicode) (sym e) (record { no_lbot = refl; no_hbar = refl; no_xbar = refl })
-left-no-own Ascii glyph (inr (inl e)) = subst (IsNoOwn Ascii) (sym e) (record { no_lbot = refl; no_hbar = refl; no_xbar = refl })
-left-no-own Unicode glyph (inr (inr e)) = subst (IsNoOwn Unicode) (sym e) (record { no_lbot = refl; no_hbar = refl; no_xbar = refl })
-left-no-own Ascii glyph (inr (inr e)) = subst (IsNoOwn Ascii) (sym e) (record { no_lbot = refl; no_hbar = refl; no_xbar = refl })
-
--- what stands at a label's corner and behind it
-abbrev IsOwn : Glyph → Type 0
-IsOwn glyph = (glyph ≡ Lbot) ⊎ ((glyph ≡ Hbar) ⊎ (glyph ≡ Xbar))
-
--- is no blank, no vertical and no corner of a label over several lines
-record IsOwnOnly (set : CharSet) (glyph : Glyph) : Type 0 where
-  no_blank : is_text (glyph_text set glyph) (32 ∷ []) ≡ false
-  no_vbar : shows set glyph Vbar ≡ false
-  no_uarrow : shows set glyph Uarrow ≡ false
-  no_underbar : shows set glyph Underbar ≡ false
-  no_mbot : shows set glyph Mbot ≡ false
-  no_rbot : shows set glyph Rbot ≡ false
-
-own-only : (set : CharSet) (glyph : Glyph) → IsOwn glyph → IsOwnOnly set glyph
-unfolding glyph_text glyph_code lib.Utf8.encode
-own-only Unicode glyph (inl e) = subst (IsOwnOnly Unicode) (sym e)
-    (record { no_blank = refl; no_vbar = refl; no_uarrow = refl; no_underbar = refl; no_mbot = refl; no_rbot = refl })
-own-only Ascii glyph (inl e) = subst (IsOwnOnly Ascii) (sym e)
-    (record { no_blank = refl; no_vbar = refl; no_uarrow = refl; no_underbar = refl; no_mbot = refl; no_rbot = refl })
-own-only Unicode glyph (inr (inl e)) = subst (IsOwnOnly Unicode) (sym e)
-    (record { no_blank = refl; no_vbar = refl; no_uarrow = refl; no_underbar = refl; no_mbot = refl; no_rbot = refl })
-own-only Ascii glyph (inr (inl e)) = subst (IsOwnOnly Ascii) (sym e)
-    (record { no_blank = refl; no_vbar = refl; no_uarrow = refl; no_underbar = refl; no_mbot = refl; no_rbot = refl })
-own-only Unicode glyph (inr (inr e)) = subst (IsOwnOnly Unicode) (sym e)
-    (record { no_blank = refl; no_vbar = refl; no_uarrow = refl; no_underbar = refl; no_mbot = refl; no_rbot = refl })
-own-only Ascii glyph (inr (inr e)) = subst (IsOwnOnly Ascii) (sym e)
-    (record { no_blank = refl; no_vbar = refl; no_uarrow = refl; no_underbar = refl; no_mbot = refl; no_rbot = refl })
-
--- ---- the row of a label within the line, place by place
-
-module _ (v : Picture) {g : ℕ} {s : Section} {l r : ℕ} {x : LineLabel} (q : IsArrowRow v g s l r x) (side : x.side ≡ Inline) where
-  abbrev inline_ink : ℕ → Ink
-  inline_ink k =
-      arrow_ink s.sheet.switches r x (has_corner (layout_of s.sheet l).margin x k) (is_crossed x.side x.place k) (vertical_at (layout_of s.sheet l) r k)
-
-  -- left of its corner no stroke of its own stands
-  inline-left : (k : ℕ) → k < x.place → IsLeft (inline_ink k).first
-  unfolding has_corner is_crossed arrow_ink
-  inline-left k less =
-      let off : has_corner (layout_of s.sheet l).margin x k ≡ false = rw (ne_eqb x.place k (λ e. omega arith)) refl in
-      let free : is_crossed x.side x.place k ≡ false = ap (λ side. is_crossed side x.place k) side ∙ le-ltb x.place k (omega arith) in
-      rw (off, free) (go (vertical_at (layout_of s.sheet l) r k))
-    where
-      go : (up : Option LineLabel) → IsLeft (arrow_ink s.sheet.switches r x false false up).first
-      go None = inr (inr refl)
-      go (Some w) =
-          cond_both (not (Rattle.ariadne_picture.specs.Ranks.is_inline w.side) && (r == 0) && s.sheet.switches.compact) Uarrow Vbar IsLeft
-          (λ _. inl refl) (λ _. inr (inl refl))
-
-  -- from it on a corner or a level stands
-  inline-own : (k : ℕ) → x.place ≤ k → IsOwn (inline_ink k).first
-  unfolding has_corner is_crossed arrow_ink corner_glyph
-  inline-own k more = elim (cases_lt x.place k) [
-    | inl less ↦
-        let off : has_corner (layout_of s.sheet l).margin x k ≡ false = rw (ne_eqb x.place k (λ e. omega arith)) refl in
-        let level : is_crossed x.side x.place k ≡ true = ap (λ side. is_crossed side x.place k) side ∙ lt-ltb x.place k less in
-        rw (off, level) (inr (level-ink s.sheet.switches r x (vertical_at (layout_of s.sheet l) r k)))
-    | inr least ↦
-        let on : has_corner (layout_of s.sheet l).margin x k ≡ true =
-        both_true (eq-eqb x.place k (omega arith)) (ap not (inline-off (layout_of s.sheet l).margin x side)) in
-        rw on (inl (ap corner_glyph side))
-  ]
-
--- ---- the strokes of a trace
-
--- what a first cell shows of it
-data Stroke (set : CharSet) (t : Trace) (n k : ℕ) (c : Cell) : Type 0 where
-  upright : is_upright set c ≡ true → Stroke set t n k c
-  corner : t.place ≡ k → n ≡ t.row → is_glyph set t.corner c ≡ true → Stroke set t n k c
-  level : n ≡ t.row → t.reaches k ≡ true → is_level set c ≡ true → Stroke set t n k c
-
-stroke-kind : (set : CharSet) (t : Trace) (n k : ℕ) (c : Cell) → is_stroke_of set t n k true c ≡ true → Stroke set t n k c
-unfolding is_stroke_of
-stroke-kind set t n k c e = elim (or-cases _ _ e) [
-  | inl turned ↦
-      let a = two-true _ _ turned in
-      let b = two-true _ _ a.0 in
-      let d = two-true _ _ b.0 in
-      elim (or-cases _ _ a.1) [
-        | inl up ↦ upright (two-true (nat_le n t.row) (is_upright set c) up).1
-        | inr on ↦ let f = two-true (n == t.row) (is_glyph set t.corner c) on in corner (eqb-true t.place k d.1) (eqb-true n t.row f.0) f.1
-      ]
-  | inr flat ↦
-      let a = two-true _ _ flat in
-      let b = two-true (n == t.row) (t.reaches k) a.0 in
-      level (eqb-true n t.row b.0) b.1 a.1
-]
-
--- ---- elements
-
--- where all elements pass, each does
-passes-at : {X : Type 0} (test : X → Bool) (xs : List X) (k : ℕ) (x : X) → list_all test xs ≡ true → slice_get xs k ≡ Some x → test x ≡ true
-passes-at test xs k x e there = all-at (λ x. test x ≡ true) xs k x there (list_all-from test xs e)
-
-has-contained : {X : Type 0} (xs : List X) (x : X) → Contains xs x → Has xs x
-has-contained xs x c = record { place = c.0; there = slice_get_read xs (length xs) c.0 x refl c.1 (sym c.2) }
-
-pub contains-had : {X : Type 0} (xs : List X) (x : X) → Has xs x → Contains xs x
-contains-had xs x h = (h.place, slice_get_within xs h.place x h.there, get_or_from_slice_get xs h.place x x h.there)
-
-gutter-label-has : (s : Section) (i : ℕ) (a : LabelInfo) → slice_get (gutter_labels s.sheet) i ≡ Some a → Has (messages_of s) a
-unfolding messages_of
-gutter-label-has s i a owned =
-    let own = all-at (Has s.sheet.labels) _ i a owned (gutter-labels-owned s.sheet) in
-    has-filter (λ (a : LabelInfo). a.has_message) s.sheet.labels own.place a own.there (gutter-label-message s.sheet i a owned)
+use Rattle.ariadne_picture.proofs.OneReading.LinesFound.{list_all-from}
+use Rattle.ariadne_picture.proofs.OneReading.MessagesFound.{each-line, each-group, line-row, or-cases, any-from, message-in}
+use Rattle.ariadne_picture.proofs.OneReading.MessagesFound.{MessageFound}
+use Rattle.ariadne_picture.proofs.OneReading.StrokesFound.{rows-apart, head-found, end-row, same-rank}
+use Rattle.ariadne_picture.proofs.OneReading.InlineRows.{column-next, column-le, cell-between, shows, left-no-own, IsOwn, IsOwnOnly, own-only}
+use Rattle.ariadne_picture.proofs.OneReading.InlineRows.{inline_ink, inline-left, inline-own, Stroke, upright, corner, level, stroke-kind, passes-at, gutter-label-has}
 
 -- ---- row numbers that read the picture
 
@@ -275,7 +79,7 @@ module _ (v : Picture) (placed : ArePlaced v) (p : Placing) (h : IsReadBy (rows_
         let mine : a ≡ b = rows-apart v p h g s a b there has (gutter-label-has s i b owned) same in
         true≢false (sym one ∙ ap is_on_one_line mine ∙ multi-line s.sheet i b owned)
 
-    line-is : a.start_line ≡ a.end_line
+    pub line-is : a.start_line ≡ a.end_line
     unfolding is_on_one_line
     line-is = eqb-true a.start_line a.end_line one
 
@@ -301,7 +105,7 @@ module _ (v : Picture) (placed : ArePlaced v) (p : Placing) (h : IsReadBy (rows_
       l = a.end_line
 
       -- the row is that of a label within the line
-      found-within : IsInlineHere s.sheet a.end_line m.label
+      pub found-within : IsInlineHere s.sheet a.end_line m.label
       unfolding is_start
       found-within = go (label-here s.sheet a.end_line m.rank m.label m.arrow_row.there)
         where
@@ -314,7 +118,7 @@ module _ (v : Picture) (placed : ArePlaced v) (p : Placing) (h : IsReadBy (rows_
           go (inr (inr k)) = k
 
       -- columns and places of the line
-      abbrev column : ℕ → ℕ
+      abbrev pub column : ℕ → ℕ
       column = column_of s.sheet.switches (layout_of s.sheet a.end_line)
 
       -- its corner is a place of the line
@@ -572,7 +376,7 @@ module _ (v : Picture) (placed : ArePlaced v) (p : Placing) (h : IsReadBy (rows_
           ]
 
       -- so both are attached at one column
-      same-column : column a.attach ≡ column m.label.place
+      pub same-column : column a.attach ≡ column m.label.place
       same-column = elim (cases_lt (column a.attach) (column m.label.place)) [
         | inl less ↦ absurd (not-right less)
         | inr no_less ↦ elim (cases_lt (column m.label.place) (column a.attach)) [
@@ -580,108 +384,3 @@ module _ (v : Picture) (placed : ArePlaced v) (p : Placing) (h : IsReadBy (rows_
           | inr no_more ↦ omega arith
         ]
       ]
-
--- ---- two placings that read the picture
-
-module _ (v : Picture) (placed : ArePlaced v) (p q : Placing) (h : IsReadBy (rows_of v) v.sections v.texts.message_of p)
-    (k : IsReadBy (rows_of v) v.sections v.texts.message_of q) (g : ℕ) (s : Section) (there : slice_get v.sections g ≡ Some s) where
-  -- two labels of a line, one for each, whose messages stand in one row
-  twins : (a b : LabelInfo) (has : Has (messages_of s) a) (other : Has (messages_of s) b) → is_on_one_line a ≡ true → b.end_line ≡ a.end_line
-      → (m : MessageFound v p h g s a) → (n : MessageFound v q k g s b) → p.message_row a.position ≡ q.message_row b.position
-      → AreTwins v.texts.message_of s a b
-  unfolding messages_of
-  twins a b has other one line m n row =
-      let own = subst (λ l. IsArrowRow v g s l n.rank n.label) line n.arrow_row in
-      let moved : number v g s (arrow b.end_line n.rank) ≡ number v g s (arrow a.end_line n.rank) = ap (λ l. number v g s (arrow l n.rank)) line in
-      let rank : m.rank ≡ n.rank = same-rank v m.arrow_row own (m.row ∙ row ∙ sym n.row ∙ moved) in
-      let mine = m.arrow_row.there in
-      let its = own.there in
-      let label : m.label ≡ n.label = cc in
-      let within = found-within v placed p h g s a there has one m in
-      let info : m.label.info ≡ n.label.info = ap (λ (x : LineLabel). x.info) label in
-      elim (cases_Bool (is_on_one_line b)) [
-        | inl also ↦
-            let first = same-column v placed p h g s a there has one m in
-            let second = same-column v placed q k g s b there other also n in
-            let from = line-is v placed p h g s a there has one in
-            let to = line-is v placed q k g s b there other also in
-            let column : ℕ → LabelInfo → ℕ = λ l a. column_of s.sheet.switches (layout_of s.sheet l) a.attach in
-            record {
-              first_within_a_line = one;
-              second_within_a_line = also;
-              same_line = from ∙ sym line ∙ sym to;
-              same_message = m.text ∙ ap (λ (a : LabelInfo). v.texts.message_of a.position) info ∙ sym n.text;
-              same_column =
-                  ap (λ l. column l a) from ∙ first ∙ ap (λ (x : LineLabel). column_of s.sheet.switches (layout_of s.sheet a.end_line) x.place) label
-                  ∙ ap (λ l. column_of s.sheet.switches (layout_of s.sheet l) n.label.place) (sym line) ∙ sym second ∙ ap (λ l. column l b) (sym to);
-            }
-        | inr several ↦
-            let passed = has-filtered (λ (a : LabelInfo). a.has_message) s.sheet.labels b other in
-            let i = gutter-label-there s.sheet passed.0.place b passed.0.there passed.1 several in
-            let o : IsGutterLabelOf v g s i.place b = record { group = there; owned = i.there } in
-            let its_own : n.label.info ≡ b = end-found v q k g s i.place b o n in
-            absurd (true≢false (sym within.one_line ∙ ap is_on_one_line (info ∙ its_own) ∙ several))
-      ]
-
-  -- where p has the message of a label within one line, q has one too
-  inline-row : (a : LabelInfo) (has : Has (messages_of s) a) → is_on_one_line a ≡ true → HasSameRow v.texts.message_of s p q a
-  inline-row a has one =
-      let m = message-found v p h g s a there has in
-      let mine = message-found v q k g s a there has in
-      let e = ends-of v q k g s a.end_line m.line in
-      let at = number-at v (arrow-at v m.arrow_row) in
-      let source = source-at v m.line in
-      let row = m.row in
-      let long = slice_get_within (shown_rows s.sheet a.end_line) m.arrow_row.index _ m.arrow_row.row in
-      let size = message-size v m.line m.rank m.label m.arrow_row m.no_start in
-      let same = mine.same_cells in
-      elim (e.others (p.message_row a.position) (omega (arith, at, source, row)) (omega (arith, at, source, row, long))) [
-        | inl b ↦ record {
-          label = b.0;
-          there = contains-had (messages_of s) b.0 b.1;
-          same_row = sym b.3;
-          same_label = inr (twins a b.0 has b.1 one b.2 m (message-found v q k g s b.0 there b.1) (sym b.3));
-        }
-        | inr short ↦
-            let rows = ap length (same-rows v q k (p.message_row a.position)) in
-            let moved = ap (λ n. length (read v row_at n)) row in
-            absurd (omega (arith, size, short, rows, moved, same))
-      ]
-
-  -- and so of each
-  message-agrees : (a : LabelInfo) → Has (messages_of s) a → HasSameRow v.texts.message_of s p q a
-  unfolding messages_of
-  message-agrees a has = elim (cases_Bool (is_on_one_line a)) [
-    | inl one ↦ inline-row a has one
-    | inr several ↦
-        let passed = has-filtered (λ (a : LabelInfo). a.has_message) s.sheet.labels a has in
-        let i = gutter-label-there s.sheet passed.0.place a passed.0.there passed.1 several in
-        let o : IsGutterLabelOf v g s i.place a = record { group = there; owned = i.there } in
-        record {
-          label = a;
-          there = contains-had (messages_of s) a has;
-          same_row = end-row v p h g s i.place a o ∙ sym (end-row v q k g s i.place a o);
-          same_label = inl refl;
-        }
-  ]
-
--- so they agree
-pub readings-agree : (v : Picture) (placed : ArePlaced v) (p q : Placing) → IsReadBy (rows_of v) v.sections v.texts.message_of p
-    → IsReadBy (rows_of v) v.sections v.texts.message_of q → AgreeOnStrokes v.texts.message_of v.sections p q
-readings-agree v placed p q h k = record {
-  lines = same-lines v p q h.rows_belong_together k.rows_belong_together;
-  heads = λ g s i a there owned.
-      let o : IsGutterLabelOf v g s i a = record { group = there; owned = owned } in head-found v p h g s i a o ∙ sym (head-found v q k g s i a o);
-  messages = λ g s a there has. message-agrees v placed p q h k g s there a (has-contained (messages_of s) a has);
-}
-
--- and so do those of each report
-pub every-agree : {S Id R : Type 0} (w : World S Id) (r : ReportFields S) (reasons : List (Option R))
-    → (law : (p q : Id) → w.is_same p q ≡ true → w.source_of p ≡ w.source_of q)
-    → (forward : AllByRecursion (λ label. w.start_of label.span ≤ w.end_of label.span) r.labels)
-    → let infos = drawn_labels w r.config 0 r.labels reasons in
-    AreReadInOneWay (canvas w r infos) (sections w r infos) (texts_of r).message_of
-every-agree w r reasons law forward p q h k =
-    let infos = drawn_labels w r.config 0 r.labels reasons in
-    readings-agree (picture_of w r infos (numbered w r reasons forward)) (all-placed w r reasons forward law) p q
-    (read-picture w r reasons forward p h) (read-picture w r reasons forward q k)

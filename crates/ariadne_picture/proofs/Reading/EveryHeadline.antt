@@ -7,7 +7,7 @@ use Rattle.ariadne_picture.specs.Accept.{drawn_labels}
 use Rattle.ariadne_picture.specs.Canvas.{canvas}
 use Rattle.ariadne_picture.specs.Print.{printed}
 use Rattle.ariadne_picture.specs.Headline.{Headline}
-use Rattle.ariadne_picture.proofs.OneReading.TwinsFound.{every-agree}
+use Rattle.ariadne_picture.proofs.OneReading.ReadingsAgree.{every-agree}
 use Rattle.ariadne_picture.proofs.Reading.EveryReport.{every-traced}
 use Rattle.ariadne_picture.proofs.Sent.CellColumns.{columns-of-texts}
 use Rattle.ariadne_picture.proofs.Sent.LinesSent.{rows-are-lines}

@@ -13,7 +13,7 @@ use Rattle.ariadne_picture.specs.Groups.{group_start_line, group_lines}
 use Rattle.ariadne_picture.specs.Ranks.{Sheet, is_hidden, line_labels}
 use Rattle.ariadne_picture.specs.Rows.{Aside, help, note, Row, group_header, spacer, source, alternate, arrow, gap, bare, blank, piece, tail}
 use Rattle.ariadne_picture.specs.Rows.{before, label_rows, is_inside, line_rows, aside_rows, asides, rows}
-use Rattle.ariadne_picture.specs.RowNames.{texts_of, HasLine, BeginsHidden, HasMessage, HasAside, HasRow}
+use Rattle.ariadne_picture.specs.RowNames.{asides_of, HasLine, BeginsHidden, HasMessage, HasAside, HasRow}
 use Rattle.ariadne_picture.proofs.Lists.ListFacts.{none≢some, all-append, all-joined, all-map, all-at, Increasing}
 use Rattle.ariadne_picture.proofs.Lists.Elements.{Has, has-first, has-later, has-front, has-back, has-joined, has-map, all-from, all-range, all-numbered}
 use Rattle.ariadne_picture.proofs.Labels.GroupLines.{has-place, contained}
@@ -116,10 +116,10 @@ module _ (s : Sheet) (is_last : Bool) (helps notes : List (List ℕ)) where
             ]
       ]
 
-  aside-has : (a : Aside) → is_last ≡ true → All (asides s.switches.compact a (texts_of a helps notes))
+  aside-has : (a : Aside) → is_last ≡ true → All (asides s.switches.compact a (asides_of a helps notes))
   unfolding asides aside_rows
   aside-has a last =
-      let texts = texts_of a helps notes in
+      let texts = asides_of a helps notes in
       all-joined (HasRow s is_last helps notes) (λ e. slice_get texts e.0 ≡ Some e.1) (aside_rows s.switches.compact a) (enumerate_from 0 texts)
       (λ e there.
       let has : HasAside s is_last helps notes a e.0 = record { last = last; text = e.1; there = there } in
@@ -178,7 +178,7 @@ module _ (s : Sheet) (is_last : Bool) (helps notes : List (List ℕ)) where
   unfolding rows
   of-aside x h = has-front (first_rows ++ all_lines ++ all_asides) end_rows x (has-back (first_rows ++ all_lines) all_asides x h)
 
-  of-kind : (a : Aside) (x : Row) → is_last ≡ true → Has (asides s.switches.compact a (texts_of a helps notes)) x → Has all_asides x
+  of-kind : (a : Aside) (x : Row) → is_last ≡ true → Has (asides s.switches.compact a (asides_of a helps notes)) x → Has all_asides x
   of-kind help x last h = rw last (has-front (asides s.switches.compact help helps) _ x h)
   of-kind note x last h = rw last (has-back (asides s.switches.compact help helps) _ x h)
 
@@ -187,7 +187,7 @@ module _ (s : Sheet) (is_last : Bool) (helps notes : List (List ℕ)) where
   unfolding asides
   of-text a k x h has =
       of-aside x (of-kind a x h.last
-      (has-joined (aside_rows s.switches.compact a) (enumerate_from 0 (texts_of a helps notes)) k (k, h.text) x (numbered-at _ k h.text h.there) has))
+      (has-joined (aside_rows s.switches.compact a) (enumerate_from 0 (asides_of a helps notes)) k (k, h.text) x (numbered-at _ k h.text h.there) has))
 
   -- a run of hidden lines begins there
   no-later : (l : ℕ) → BeginsHidden s l → (nat_lt (group_start_line s.labels) l && is_hidden s (l - 1)) ≡ false
