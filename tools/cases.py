@@ -78,6 +78,7 @@ def sources_of(report):
         ],
         missing=[it for it in dict.fromkeys(asked) if it not in ids],
         hidden=report["hidden"][0] if report["cache"] == "custom" else None,
+        cache="FileCache" if report["cache"] == "files" else None,
     )
 
 
@@ -97,6 +98,7 @@ def case_of(name, report):
         helps=report.get("helps"),
         notes=report.get("notes"),
         settings=report["config"],
+        takes=report.get("takes"),
     )
     rows = (f"{member} = {value_of(value)}\n" for member, value in members.items())
     return "[[case]]\n" + "".join(rows)
