@@ -3,9 +3,9 @@
 --help, and the pictures of docs/GALLERY.md. Python tools import it. Others write a page to it, and get
 a part: tools/pages.py input|picture|example|commands < README.md
 
-`input` is what the page's first command hands to its program, `picture` the rows that stand below it,
-`example` the page's code in Rust, and `commands` each command and its picture, with a NUL behind each
-of both. The status is 0, or 2 where the words are not understood, and 1 where a page has no such part.
+`input` is what the page's first command hands to its program, and `picture` the rows that stand below
+it. `example` is the page's code in Rust, and `commands` each command and its picture, with a NUL behind
+each of both. The status is 0, or 2 where the words are not understood, and 1 where a page has no such part.
 """
 
 import re

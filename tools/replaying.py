@@ -22,7 +22,7 @@ def program():
 
 
 def draw(reports):
-    """What the program answers to each report: None where it answers nothing."""
+    """What the program says of each report: None where it says nothing."""
     asked = "".join(case_of(str(number), report) for number, report in enumerate(reports)).encode()
     ran = subprocess.run([program(), "--answer"], input=asked, stdout=subprocess.PIPE)
     lines = (line for line in ran.stdout.split(b"\n") if line.startswith(b'{"answer": '))
