@@ -64,7 +64,7 @@ fn a_map_shows_the_name_of_an_id_that_it_lacks(rt: HostRuntime) {
     assert_eq!(rt; map.display(&"z"), Some("z"));
 }
 
-/// Answers the same text for every id.
+/// Returns the same text for every id.
 fn got(_id: &&'static str) -> Result<&'static str, ()> {
     Ok("got")
 }
