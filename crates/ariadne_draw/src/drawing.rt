@@ -34,9 +34,9 @@ use std::rt::Files;
 /// they name, and returns how the program ends.
 ///
 /// The words are those of the command line without the program's name. They are judged first, then
-/// the input is read, if no file is named, then the report is written to `out`, then `faults` gets
-/// a line for each label that was left out, or the one line that says why nothing could be drawn. A
-/// failure of `faults` is passed over. What `out` got is told by the status. Words that ask for a
+/// the input is read, if no file is named, then the report is written to `out`. At last `faults`
+/// gets a line for each label that was left out, or the one line that says why nothing could be
+/// drawn. A failure of `faults` is passed over. What `out` got is told by the status. Words that ask for a
 /// report are refused only where a read of the input has failed, or what it gave is no text.
 ///
 /// Where the only word is `--help` or `--version` nothing is drawn or read: `out` gets that text.

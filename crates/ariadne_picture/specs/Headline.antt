@@ -1,7 +1,7 @@
--- What the headline says of a report that was drawn: what was sent is exactly the printed canvas of
--- the accepted labels; on it each accepted message has one row of its own, and strokes lead from it
--- to the label's attach character or gutter column, in the columns where the source row shows them;
--- in the text below a line no stroke stands elsewhere. Source rows and gutter labels are read in one
+-- What the headline says of a report that was drawn. What was sent is exactly the printed canvas of
+-- the accepted labels. On it each accepted message has one row of its own, and strokes lead from it
+-- to the label's attach character or gutter column, in the columns where the source row shows them.
+-- In the text below a line no stroke stands elsewhere. Source rows and gutter labels are read in one
 -- way. A cell takes the columns of its text, and the rows are the lines that are sent. Colours move
 -- nothing, and offsets in bytes draw as the same offsets in characters.
 use Rattle.std.specs.Prelude.{ℕ, ◌≡◌, Bool, true, List, Option}

@@ -38,8 +38,8 @@ ghost use Rattle.ariadne_picture.specs.Strokes.{bar_at, first_row, is_preferred,
 ghost use Rattle.ariadne_picture.specs.Variants.{BytesDrawAsCharacters, ColorsMoveNothing};
 ghost use Rattle.ariadne_picture.specs.Variants.{HasNoEscape, HaveNoEscapes};
 
-/// `in_order` is a stable sort by any strict weak order: it keeps the elements, leaves none less
-/// than the one before it, and keeps those of which neither is less in the order that they had.
+/// `in_order` is a stable sort by any strict weak order. It keeps the elements, and leaves none less
+/// than the one before it. Those of which neither is less stay in the order that they had.
 pub fn in_order_is_a_stable_sort<T>()
     ensures permutation { (less : T → T → Bool) (xs : List T)
         → IsPermutation xs (in_order less xs) }
@@ -58,9 +58,9 @@ pub fn best_is_the_first_unbeaten<T>()
     ensures none { (beats : T → T → Bool) (xs : List T) → best beats xs ≡ None → xs ≡ [] }
 {}
 
-/// The orders that a picture sorts and chooses by are strict weak orders: those of the labels, of
-/// the gutter labels by falling length, of the line labels, of the margin label, and of the
-/// underline that is seen.
+/// The orders that a picture sorts and chooses by are strict weak orders. They are those of the
+/// labels, of the gutter labels by falling length, of the line labels, of the margin label, and of
+/// the underline that is seen.
 pub fn orders_of_a_picture()
     ensures labels { IsStrictWeakOrder (λ (a b : LabelInfo). int_lt a.order b.order) }
     ensures lengths { IsStrictWeakOrder (λ (a b : LabelInfo). nat_lt (span_len b) (span_len a)) }
@@ -130,9 +130,9 @@ pub fn gutter_labels_have_a_first_and_a_last_row()
 /// The gutter bar of a gutter label stands in the rows where a reader of the picture follows it,
 /// and in no others. Beside a source row, or the gap row of a hidden line: where the gutter label
 /// covers the line, is not its margin label and does not start there. Beside the rows of a line
-/// label: where the gutter label starts on an earlier line and ends on a later one, starts on this
-/// line as the margin label or as a line label of a lower number, or ends on this line as a line
-/// label whose arrow row is further down.
+/// label there are three cases. The gutter label starts on an earlier line and ends on a later one.
+/// Or it starts on this line as the margin label, or as a line label of a lower number. Or it ends
+/// on this line as a line label whose arrow row is further down.
 pub fn bars_stand_case_by_case()
     ensures source { (s : Sheet) (i l : ℕ) (a : LabelInfo) → IsGutterLabel s i a
         → (IsTrue (bar_at s (source l) i) ↔ BarBesideLine s i a l) }
@@ -147,8 +147,8 @@ pub fn bars_stand_case_by_case()
 {}
 
 /// What the column of a gutter label shows, row by row: its head in its first row and its corner in
-/// its last; between these a bar, a tee, a broken bar beside hidden lines, or a horizontal that
-/// crosses it; and outside of these nothing but a horizontal that crosses it.
+/// its last. Between these it shows a bar, a tee, a broken bar beside hidden lines, or a horizontal
+/// that crosses it. Outside of these it shows nothing but a horizontal that crosses it.
 pub fn gutter_columns_show_their_strokes()
     ensures head { (s : Sheet) (i : ℕ) (a : LabelInfo) → IsGutterLabel s i a
         → Shows s (first_row s i a) i Ltop }
@@ -242,10 +242,10 @@ pub fn no_stroke_is_without_a_cause<S, Id, R>()
         CanBeRead rows groups (λ placing. has_no_other_strokes rows groups placing) }
 {}
 
-/// Every picture can be read, under one choice of row numbers for all of this: its rows belong
-/// together, each accepted message has a row of its own, strokes lead from it to its label, in the
-/// columns where the source row shows them, and no stroke stands elsewhere. The two premises hold wherever sources are looked
-/// up by their ids, and labels start at most at their ends.
+/// Every picture can be read, under one choice of row numbers for all of this. Its rows belong
+/// together. Each accepted message has a row of its own, and strokes lead from it to its label, in
+/// the columns where the source row shows them. No stroke stands elsewhere. The two premises hold
+/// wherever sources are looked up by their ids, and each label's start is at most its end.
 pub fn every_picture_can_be_read<S, Id, R>()
     ensures { (w : World S Id) (r : ReportFields S) (reasons : List (Option R))
         → HaveOneSource w → AreForward w r
@@ -280,9 +280,9 @@ pub fn cells_take_the_columns_of_their_texts<S, Id>()
         → HaveColumnsOfTexts (canvas w r infos) }
 {}
 
-/// The rows of a picture are the lines that are sent, where no text that was handed in has the byte
-/// that begins an escape sequence, and none that a row shows whole has a line feed. Behind the last
-/// line feed stands nothing.
+/// The rows of a picture are the lines that are sent, and behind the last line feed stands nothing.
+/// For that no text that was handed in may have the byte that begins an escape sequence, and none
+/// that a row shows whole may have a line feed.
 pub fn rows_are_lines<S, Id>()
     ensures { (w : World S Id) (r : ReportFields S) (infos : List LabelInfo)
         → HaveNoEscapes w r → HaveNoLineFeeds w r → RowsAreLines (canvas w r infos) }

@@ -5,7 +5,7 @@ use Rattle.std.specs.Io.KnownBytes.{Appends}
 use Rattle.ariadne_send.specs.declared.send.WriteError.{WriteError}
 use Rattle.ariadne_send.specs.declared.send.WriteError.TheVariants.{Memory, Io}
 
--- what sending these bytes leaves, by its answer
+-- what sending these bytes leaves, by its result
 abbrev pub Sends : Option (List ℕ) → Option (List ℕ) → List ℕ → Result Unit WriteError → Type 0
 Sends before after bytes (Ok _) = Appends before after bytes
 Sends before after bytes (Err (Memory _)) = ⊥
@@ -18,7 +18,7 @@ shown_error (Memory _) = codes "no memory"
 shown_error (Io sent fault) = codes "write failed after " ++ decimal sent ++ codes " bytes"
 
 -- what a call of `take` says of a sink's faults: it has failed where it had before, where this call
--- answers a fault, and where it took nothing of a piece that is not empty
+-- returns a fault, and where it took nothing of a piece that is not empty
 abbrev pub TellsFault : {E : Type 0} → Bool → Bool → Result ℕ E → List ℕ → Type 0
 TellsFault old new told bytes =
     MatchResult told (λ n. new ≡ (old || ((n == 0) && not (length bytes == 0)))) (λ e. new ≡ true)
@@ -29,7 +29,7 @@ TellsFailure old new (Ok _) = new ≡ old
 TellsFailure old new (Err (Memory _)) = new ≡ old
 TellsFailure old new (Err (Io _ _)) = new ≡ true
 
--- what the answer to a piece that is not empty means, when so many bytes were sent before it: some
+-- what the result of a piece that is not empty means, when so many bytes were sent before it: some
 -- were taken, or no more is sent
 abbrev pub GoesOn : {E : Type 0} → ℕ → Result ℕ E → Result ℕ WriteError → Type 0
 GoesOn sent told (Ok n) = (0 < n) × (told ≡ Ok n)
