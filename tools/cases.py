@@ -52,6 +52,12 @@ def told(**members):
     return {name: value for name, value in members.items() if value not in (None, [], {})}
 
 
+def text_of_case(case):
+    """A case as TOML."""
+    rows = (f"{member} = {value_of(value)}\n" for member, value in case.items())
+    return "[[case]]\n" + "".join(rows)
+
+
 def label_of(label):
     """A label of a report, as the member of a case."""
     return told(
@@ -98,5 +104,4 @@ def case_of(name, report):
         notes=report.get("notes"),
         settings=report["config"],
     )
-    rows = (f"{member} = {value_of(value)}\n" for member, value in members.items())
-    return "[[case]]\n" + "".join(rows)
+    return text_of_case(members)

@@ -21,7 +21,8 @@ GALLERY = ROOT / "docs/GALLERY.md"
 # A command, an empty line, and the picture that it draws, which all stand as far from the left.
 COMMAND = re.compile(r"^( +)(printf '(.*)' \| (\S+) (.*))\n\n((?:\1.*\n)+)", re.M)
 CODE = "```{}\n(.*?\n)```\n"
-PICTURE = re.compile(r"\*\*(.*?)\*\*\n\n```text\n(.*?)\n```\n", re.S)
+# A picture of the gallery: its name, the call that draws it, and its rows.
+PICTURE = re.compile(r"^\*\*(.*?)\*\*\n\n(?:```rust\n(.*?)\n```\n\n)?```text\n(.*?)\n```\n", re.S | re.M)
 
 
 def trimmed(rows):
@@ -61,8 +62,16 @@ def code_of(page, language):
 
 
 def pictures_of(page):
-    """The pictures of a page: the name above each, and its rows."""
-    return [(name, rows_of(picture)) for name, picture in PICTURE.findall(page)]
+    """The pictures of a page: the name above each, the call that draws it, and its rows."""
+    return [(name, call, rows_of(picture)) for name, call, picture in PICTURE.findall(page)]
+
+
+def with_calls(page, call_of):
+    """The page with the call above each picture that the function gives for its name."""
+    def whole(found):
+        return f"**{found[1]}**\n\n```rust\n{call_of(found[1])}\n```\n\n```text\n{found[3]}\n```\n"
+
+    return PICTURE.sub(whole, page)
 
 
 def part_of(page, name):
