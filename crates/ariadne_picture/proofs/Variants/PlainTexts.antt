@@ -2,7 +2,7 @@
 -- no cell has a control byte where none of these texts shows it: neither the byte that begins an escape sequence nor, where
 -- rows show texts whole, a line feed.
 use Rattle.std.proofs.Common.{◌≡◌, ◌≢◌, ℕ, zero, suc, true, List, [], ◌∷◌, ◌++◌, length, map, Option, Some, None, refl, sym, ap, ◌∙◌, subst, arith}
-use Rattle.std.specs.Prelude.{nat_le, IfSome, slice_get, codes, unwrap_or, option_map, option_and_then}
+use Rattle.std.specs.Prelude.{IfSome, slice_get, codes, unwrap_or, option_map, option_and_then}
 use Rattle.std.specs.List.{AllByRecursion, list_all, enumerate_from}
 use Rattle.std.specs.Char.{is_whitespace}
 use Rattle.std.specs.Str.Lines.{lines}
