@@ -52,6 +52,12 @@ def told(**members):
     return {name: value for name, value in members.items() if value not in (None, [], {})}
 
 
+def text_of_case(case):
+    """A case as TOML."""
+    rows = (f"{member} = {value_of(value)}\n" for member, value in case.items())
+    return "[[case]]\n" + "".join(rows)
+
+
 def label_of(label):
     """A label of a report, as the member of a case."""
     return told(
@@ -78,6 +84,7 @@ def sources_of(report):
         ],
         missing=[it for it in dict.fromkeys(asked) if it not in ids],
         hidden=report["hidden"][0] if report["cache"] == "custom" else None,
+        cache="FileCache" if report["cache"] == "files" else None,
     )
 
 
@@ -97,6 +104,6 @@ def case_of(name, report):
         helps=report.get("helps"),
         notes=report.get("notes"),
         settings=report["config"],
+        takes=report.get("takes"),
     )
-    rows = (f"{member} = {value_of(value)}\n" for member, value in members.items())
-    return "[[case]]\n" + "".join(rows)
+    return text_of_case(members)

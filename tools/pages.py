@@ -3,9 +3,9 @@
 --help, and the pictures of docs/GALLERY.md. Python tools import it. Others write a page to it, and get
 a part: tools/pages.py input|picture|example|commands < README.md
 
-`input` is what the page's first command hands to its program, `picture` the rows that stand below it,
-`example` the page's code in Rust, and `commands` each command and its picture, with a NUL behind each
-of both. The status is 0, or 2 where the words are not understood, and 1 where a page has no such part.
+`input` is what the page's first command hands to its program, and `picture` the rows that stand below
+it. `example` is the page's code in Rust, and `commands` each command and its picture, with a NUL behind
+each of both. The status is 0, or 2 where the words are not understood, and 1 where a page has no such part.
 """
 
 import re
@@ -21,7 +21,8 @@ GALLERY = ROOT / "docs/GALLERY.md"
 # A command, an empty line, and the picture that it draws, which all stand as far from the left.
 COMMAND = re.compile(r"^( +)(printf '(.*)' \| (\S+) (.*))\n\n((?:\1.*\n)+)", re.M)
 CODE = "```{}\n(.*?\n)```\n"
-PICTURE = re.compile(r"\*\*(.*?)\*\*\n\n```text\n(.*?)\n```\n", re.S)
+# A picture of the gallery: its name, the call that draws it, and its rows.
+PICTURE = re.compile(r"^\*\*(.*?)\*\*\n\n(?:```rust\n(.*?)\n```\n\n)?```text\n(.*?)\n```\n", re.S | re.M)
 
 
 def trimmed(rows):
@@ -61,8 +62,16 @@ def code_of(page, language):
 
 
 def pictures_of(page):
-    """The pictures of a page: the name above each, and its rows."""
-    return [(name, rows_of(picture)) for name, picture in PICTURE.findall(page)]
+    """The pictures of a page: the name above each, the call that draws it, and its rows."""
+    return [(name, call, rows_of(picture)) for name, call, picture in PICTURE.findall(page)]
+
+
+def with_calls(page, call_of):
+    """The page with the call above each picture that the function gives for its name."""
+    def whole(found):
+        return f"**{found[1]}**\n\n```rust\n{call_of(found[1])}\n```\n\n```text\n{found[3]}\n```\n"
+
+    return PICTURE.sub(whole, page)
 
 
 def part_of(page, name):

@@ -21,10 +21,14 @@ def program():
     return ran.stdout.decode().removesuffix("\n")
 
 
-def draw(reports):
-    """What the program answers to each report: None where it answers nothing."""
-    asked = "".join(case_of(str(number), report) for number, report in enumerate(reports)).encode()
-    ran = subprocess.run([program(), "--answer"], input=asked, stdout=subprocess.PIPE)
+def answers_to(cases):
+    """What the program says of each of these cases, by name."""
+    ran = subprocess.run([program(), "--answer"], input=cases.encode(), stdout=subprocess.PIPE)
     lines = (line for line in ran.stdout.split(b"\n") if line.startswith(b'{"answer": '))
-    answers = {answer.pop("answer"): answer for answer in map(json.loads, lines)}
+    return {answer.pop("answer"): answer for answer in map(json.loads, lines)}
+
+
+def draw(reports):
+    """What the program says of each report: None where it says nothing."""
+    answers = answers_to("".join(case_of(str(number), report) for number, report in enumerate(reports)))
     return [answers.get(str(number)) for number in range(len(reports))]

@@ -1,4 +1,4 @@
--- What `write` ensures, by its answer: which labels it left out and why, and what of the picture of
+-- What `write` ensures, by its result: which labels it left out and why, and what of the picture of
 -- the others has reached the writer.
 use Rattle.std.specs.Prelude.{ℕ, ◌<◌, ◌≡◌, List, length, take, Option, Result, Ok, Err, Vec}
 use Rattle.std.specs.Io.KnownBytes.{Appends, Keeps}
@@ -6,8 +6,8 @@ use Rattle.std.specs.declared.alloc.Global.{Global}
 use Rattle.ariadne_base.specs.Listing.{Listing}
 use Rattle.ariadne_accept.specs.declared.accept.LeftOut.{LeftOut}
 use Rattle.ariadne_accept.specs.declared.accept.Reason.{Reason}
-use Rattle.ariadne_send.specs.declared.send.WriteError.{WriteError}
-use Rattle.ariadne_send.specs.declared.send.WriteError.TheVariants.{Memory, Io}
+use Rattle.ariadne.specs.declared.write_error.WriteError.{WriteError}
+use Rattle.ariadne.specs.declared.write_error.WriteError.TheVariants.{Memory, Io}
 use Rattle.ariadne_accept.specs.Judging.{AreReasons, listed}
 use Rattle.ariadne_picture.specs.declared.label_info.LabelInfo.{LabelInfo}
 use Rattle.ariadne_picture.specs.Report.{ReportFields, World}
@@ -51,7 +51,7 @@ module _ {S Id E : Type 0} (fails : Id → E → Type 0) (old w : World S Id) (r
     pub has_more : len < length (picture reasons)
     pub sent : Appends before after (take len (picture reasons))
 
-  -- what has reached the writer, by the answer
+  -- what has reached the writer, by the result
   abbrev pub Written : Option (List ℕ) → Option (List ℕ)
       → Result (Vec (LeftOut E) Global) WriteError → Type 0
   Written before after (Ok list) = IsWritten list.items before after

@@ -21,7 +21,7 @@ use std::ops::Range;
 ///
 /// A call by value that is refused memory drops the report. A call by reference that is refused
 /// leaves it as it was; where it adds several texts or labels, those before stay added.
-#[derive(Drop)]
+#[derive(Debug, Drop)]
 pub struct ReportBuilder<'a, S: Span = Range<usize>> {
     report: Content<'a, S>,
 }

@@ -4,10 +4,11 @@
 pub mod builder;
 pub mod report;
 pub mod write;
+pub mod write_error;
 
 pub use ariadne_base::{
-    Cache, FetchError, FileCache, FileError, FnCache, Line, Source, SourceLines, SourceMap,
-    SourceName, SourceText, Span, UnknownSource, sources,
+    Cache, FetchError, FileCache, FileError, FnCache, Line, Place, Source, SourceLines, SourceMap,
+    SourceName, SourceTable, SourceText, Span, UnknownNumber, UnknownSource, sources,
 };
 pub use ariadne_color::{Background, Color, ColorGenerator, Fmt, Foreground};
 pub use ariadne_labels::config::{CharSet, Config, IndexType, LabelAttach};
@@ -17,4 +18,5 @@ pub use ariadne_picture::laws;
 pub use ariadne_send::sink::Sink;
 pub use builder::ReportBuilder;
 pub use report::Report;
-pub use write::{LeftOut, Reason, WriteError};
+pub use write::{LeftOut, Reason};
+pub use write_error::WriteError;

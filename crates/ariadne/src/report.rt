@@ -1,17 +1,20 @@
 //! Reports: what is said of which pieces of sources.
 
-ghost use Rattle.std.specs.Prelude.{◌≡◌};
+ghost use Rattle.std.specs.Prelude.{◌≡◌, map, string_bytes};
+ghost use Rattle.std.specs.Option.{option_copied};
 
 use crate::builder::ReportBuilder;
 use ariadne_accept::content::Content;
 use ariadne_base::Span;
+use ariadne_labels::config::Config;
 use ariadne_labels::kind::ReportKind;
+use ariadne_labels::label::Label;
 use std::alloc::Global;
 use std::marker::Model;
 use std::ops::Range;
 
 /// A diagnostic that is ready to be written.
-#[derive(Drop)]
+#[derive(Debug, Drop)]
 pub struct Report<'a, S: Span = Range<usize>> {
     pub(crate) content: Content<'a, S>,
 }
@@ -37,5 +40,63 @@ impl<'a, S: Span> Report<'a, S> {
         ensures { result ≡ new_report (kind_of kind.entry) span }
     {
         ReportBuilder::new(alloc, kind, span)
+    }
+
+    /// What kind of report it is.
+    pub fn kind(&self) -> ReportKind<'a>
+        ensures kind { kind_of result ≡ self.now.kind }
+    {
+        self.content.kind
+    }
+
+    /// Its code, as it stands in brackets in front of the kind, if it has one: that of a number has at
+    /// least two digits, and that of a text is filled to two characters.
+    pub fn code(&self) -> Option<&str>
+        ensures code { option_copied result ≡ self.now.code }
+    {
+        self.content.code()
+    }
+
+    /// What its header says, if it has a message.
+    pub fn message(&self) -> Option<&str>
+        ensures message { option_copied result ≡ self.now.message }
+    {
+        self.content.message()
+    }
+
+    /// What it points at: the place that its header names.
+    pub fn span(&self) -> &S
+        ensures span { result.now ≡ self.now.span }
+    {
+        self.content.span()
+    }
+
+    /// Its labels, in the order in which they were added. The list of those that `write` leaves out
+    /// counts them from 0.
+    pub fn labels(&self) -> &[Label<S>]
+        ensures labels { result.now ≡ self.now.labels }
+    {
+        self.content.labels()
+    }
+
+    /// The texts of its notes, in the order in which they were added.
+    pub fn notes(&self) -> &[String]
+        ensures notes { map string_bytes result.now ≡ self.now.notes }
+    {
+        self.content.notes()
+    }
+
+    /// The texts of its helps, in the order in which they were added.
+    pub fn helps(&self) -> &[String]
+        ensures helps { map string_bytes result.now ≡ self.now.helps }
+    {
+        self.content.helps()
+    }
+
+    /// How it is drawn, and what its offsets count.
+    pub fn config(&self) -> Config
+        ensures config { result ≡ self.now.config }
+    {
+        self.content.config()
     }
 }

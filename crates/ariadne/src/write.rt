@@ -5,14 +5,14 @@ ghost use Rattle.std.specs.Prelude.{◌≡◌, IfOk, None, string_bytes};
 ghost use Rattle.ariadne_accept.specs.Drawn.{world};
 ghost use Rattle.ariadne_accept.specs.Judging.{GrowsFor};
 ghost use Rattle.ariadne.specs.Written.{IsPicture, WrittenOver};
-ghost use Rattle.ariadne_send.specs.Sent.{TellsFailure};
+ghost use Rattle.ariadne.specs.WriteErrors.{TellsFailure};
 
 use crate::report::Report;
+pub use crate::write_error::WriteError;
 use ariadne_accept::accept::accept;
 pub use ariadne_accept::accept::{LeftOut, Reason};
 use ariadne_base::{Cache, Span};
 use ariadne_drawing::drawing::draw;
-pub use ariadne_send::send::WriteError;
 use ariadne_send::send::{send, send_to};
 use ariadne_send::sink::Sink;
 use std::alloc::AllocError;
@@ -31,7 +31,7 @@ impl<'a, S: Span> Report<'a, S> {
     ///
     /// The source of each label is fetched, in the order of the labels, and no other is. A label is
     /// left out where its source can't be had, where it begins past its source or ends more than
-    /// one past it, and where one of its ends lies inside a character; the result lists these
+    /// one past it, and where one of its ends lies inside a character. The result lists these
     /// labels by their positions, from 0, each with its reason. The picture is drawn whole before
     /// its first byte is sent, and sending takes no memory.
     ///
@@ -40,7 +40,7 @@ impl<'a, S: Span> Report<'a, S> {
     /// taken exactly the first `sent` bytes of the picture, which has more. After each result the
     /// cache holds what it held, and beyond that at most sources of labels.
     ///
-    /// After `Ok` every message can be found: it has a row of its own, and strokes lead from it to
+    /// After `Ok` every message can be found. It has a row of its own, and strokes lead from it to
     /// the characters that its label points at, in the columns where the source row shows them.
     pub fn write<C: Cache<S::SourceId>, W: Write>(
         &self,

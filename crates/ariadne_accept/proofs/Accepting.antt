@@ -121,7 +121,7 @@ module _ {S : Type 0} (config : ConfigFields) (source : Listing) (k : ℕ) (labe
         ends_in_order forward =
             offset-order index text first stop n m (omega arith) (omega arith) (sym some) (sym also)
 
--- ---- answers of calls
+-- ---- results of calls
 
 -- a fact of a value that is there
 pub some_holds : {A : Type 0} (P : A → Type 0) (o : Option A) (v : A) → o ≡ Some v → IfSome o P → P v

@@ -16,6 +16,7 @@ use Rattle.std.proofs.lemmas.Str.{IsUtf8-take}
 use Rattle.ariadne_base.specs.Lines.{lines_of}
 use Rattle.ariadne_base.specs.Locations.{byte_len, char_offset, column_at, line_at, line_offset, line_text}
 use Rattle.ariadne_base.specs.Table.{LineExtent, location_of}
+use Rattle.ariadne_base.proofs.CutOut.{scalars_behind}
 use Rattle.ariadne_base.proofs.LineLaws.{joined_byte_len, lines_byte_len, lines_joined, some_line}
 use Rattle.ariadne_base.proofs.LocationLemmas.{line_at_is}
 use Rattle.ariadne_accept.proofs.Locating.{in_line, line_begins, line_length, place_column, place_line, place_number}
@@ -97,11 +98,6 @@ scalars_front [] ys h = refl
 scalars_front (x ∷ xs) ys h =
     let both = and_parts (scalar x) (scalars (xs ++ ys)) h in
     ap (λ b. b && scalars xs) both.0 ∙ scalars_front xs ys both.1
-
--- and so are the last
-scalars_behind : (xs ys : List ℕ) → scalars (xs ++ ys) ≡ true → scalars ys ≡ true
-scalars_behind [] ys h = h
-scalars_behind (x ∷ xs) ys h = scalars_behind xs ys (and_parts _ _ h).1
 
 module _ (text : List ℕ) (b : ℕ) where
   -- the lines of the text
@@ -263,7 +259,7 @@ module _ (text : List ℕ) (b : ℕ) where
         counted_within k is =
             let few = length-le-encodes (chars before) in let bytes = before_bytes in counted_fits k (omega arith)
 
--- ---- the same from what a look-up of the offset and of the text of its line answers
+-- ---- the same from what a look-up of the offset and of the text of its line returns
 
 module _ (text : List ℕ) (b : ℕ) (utf8 : IsUtf8 text) (within : b ≤ length text) (r : LineExtent) (n c : ℕ)
     (at : (r, n, c) ≡ location_of byte_len (lines_of (chars text)) b) (t : List ℕ) (own : t ≡ encodes (line_text (lines_of (chars text)) n)) where

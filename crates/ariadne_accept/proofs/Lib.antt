@@ -3,3 +3,4 @@ pub mod CharOffsets
 pub mod Judging
 pub mod Locating
 pub mod Messages
+pub mod Worked

@@ -1,4 +1,4 @@
--- Where an offset lies: its line, the place in it, and what a look-up of it answers.
+-- Where an offset lies: its line, the place in it, and what a look-up of it returns.
 use Rattle.std.proofs.Common.{◌≡◌, ℕ, ◌+◌, ◌-◌, ◌<◌, ◌≤◌, List, length, sum_by, sym, ◌∙◌, ap, arith, inl, inr}
 use Rattle.std.proofs.lemmas.Bool.{cases_lt}
 use Rattle.ariadne_base.specs.Locations.{line_at, column_at, line_offset, line_text}
@@ -64,7 +64,7 @@ module _ (ls : List (List ℕ)) (r : LineExtent) (n o : ℕ) (there : n < length
   unfolding column_at
   later_place = ap (λ b. o - b) (line_begins ls r n is ∙ ap (line_offset length ls) later_line)
 
--- ---- what a look-up answers
+-- ---- what a look-up returns
 
 -- the line of a location
 pub place_line : (size : List ℕ → ℕ) (ls : List (List ℕ)) (o : ℕ) (r : LineExtent) (n c : ℕ) → (r, n, c) ≡ location_of size ls o

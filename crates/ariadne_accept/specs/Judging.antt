@@ -32,9 +32,9 @@ is_unfetched (Some CutsCharacter) = false
 
 module _ {S Id E : Type 0} (fails : Id → E → Type 0) (before after : World S Id)
     (config : ConfigFields) where
-  -- the label at position k has this reason, or none: it is drawn, or left out by the verdict over
-  -- its source, which is held; or its source was not held and could not be had, and that error may
-  -- be answered for its id
+  -- the label at position k has this reason, or none. It is drawn, or left out by the verdict over
+  -- its source, which is held. Or its source was not held and could not be had, and that error may
+  -- be returned for its id.
   abbrev pub IsJudged : ℕ → LabelFields S → Option (Reason E) → Type 0
   IsJudged k label None =
       IsSomeAnd (after.source_of (after.id_of label.span))

@@ -13,7 +13,7 @@ use std::ops::Range;
 
 /// What a report says of which pieces of sources, and the allocator that it is drawn with. The
 /// builder of reports sets its fields; what draws it reads it by its calls.
-#[derive(Drop)]
+#[derive(Debug, Drop)]
 pub struct Content<'a, S: Span = Range<usize>> {
     pub kind: ReportKind<'a>,
     pub code: Option<String>,

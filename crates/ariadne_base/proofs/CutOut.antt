@@ -15,7 +15,7 @@ use Rattle.ariadne_base.specs.Table.{line_extent}
 use Rattle.ariadne_base.proofs.LineLaws.{lines_joined, joined_byte_len}
 
 -- the last characters of a text are characters
-scalars_behind : (xs ys : List ℕ) → scalars (xs ++ ys) ≡ true → scalars ys ≡ true
+pub scalars_behind : (xs ys : List ℕ) → scalars (xs ++ ys) ≡ true → scalars ys ≡ true
 scalars_behind [] ys h = h
 scalars_behind (x ∷ xs) ys h = scalars_behind xs ys (and_parts _ _ h).1
 

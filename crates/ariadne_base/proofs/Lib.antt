@@ -9,3 +9,4 @@ pub mod Scanning
 -- Caches.
 pub mod Lookups
 pub mod Paths
+pub mod Numbers

@@ -15,7 +15,7 @@ use Rattle.ariadne_base.proofs.LineLaws.{some_line, lines_length}
 
 -- ---- the last number that passes
 
--- an answer that is a number from low to before high that passes
+-- a result that is a number from low to before high that passes
 record LastOf (p : ℕ → Bool) (low high : ℕ) (o : Option ℕ) : Type 0 where
   at : ℕ
   is : o ≡ Some at
@@ -198,7 +198,7 @@ length_from_last t rows n r e m at =
 pub some_row : (t : List ℕ) (rows : List LineExtent) → rows ≡ line_table (lines_of t) → 0 < length rows
 some_row t rows e = let count = ap length e ∙ length-line_table (lines_of t) in let some = some_line t in omega arith
 
--- what a look-up in the table of a text answers: i is the number of lines that begin at o or before it
+-- what a look-up in the table of a text returns: i is the number of lines that begin at o or before it
 module _ (size : List ℕ → ℕ) (begin : LineExtent → ℕ) (is_offset : (ls : List (List ℕ)) (n : ℕ) → begin (line_extent ls n) ≡ line_offset size ls n)
     (t : List ℕ) (rows : List LineExtent) (o i : ℕ) (e : rows ≡ line_table (lines_of t)) (low : i ≤ length rows)
     (parts : IsPartitionPoint (λ r. nat_le (begin r) o ≡ true) (λ r. nat_le (begin r) o ≡ false) rows i) where

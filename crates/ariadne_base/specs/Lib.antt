@@ -5,4 +5,5 @@ pub mod Ranges
 pub mod Listing
 pub mod Cache
 pub mod Stored
+pub mod Numbered
 pub mod Files

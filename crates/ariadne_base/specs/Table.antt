@@ -1,5 +1,5 @@
 -- What is kept of each line of a text: where it lies and how long it is, in characters and in
--- bytes, and what a look-up of an offset gives: the line of its location, that line's number, and
+-- bytes. And what a look-up of an offset gives: the line of its location, that line's number, and
 -- the column.
 use Rattle.std.specs.Prelude.{ℕ, ◌+◌, List, map, length}
 use Rattle.ariadne_base.specs.Locations.{byte_len, upto, line_text, line_offset, line_at, column_at}

@@ -15,6 +15,7 @@ pub mod map;
 pub mod named;
 mod put;
 pub mod single;
+pub mod table;
 
 use crate::source::Source;
 use crate::text::SourceText;

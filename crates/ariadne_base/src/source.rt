@@ -115,9 +115,9 @@ impl<I: SourceText> Source<I> {
         self.lines.get(number).copied()
     }
 
-    /// The lines, in order: the only list of texts that join to this text, in which each but the
-    /// last ends in a terminator, no separator stands elsewhere, no CR LF is cut, and none is
-    /// empty, unless the text is.
+    /// The lines, in order. They join to this text, and each but the last ends in a terminator. No
+    /// separator stands elsewhere, no CR LF is cut, and none is empty, unless the text is. There is
+    /// one such list.
     pub fn lines(&self) -> SourceLines<'_>
         ensures table { result ≡ line_table (listed_lines self.now) }
         ensures number { length result ≡ length (listed_lines self.now) }
@@ -192,9 +192,9 @@ impl<I: SourceText> Source<I> {
         Some((line, number, byte_offset - line.byte_offset))
     }
 
-    /// The numbers of the lines that a span of characters runs across: from the line of its start
-    /// to the line of its last offset, or to the last line where that offset is past the source.
-    /// A start past the source counts as line 0.
+    /// The numbers of the lines that a span of characters runs across. They begin with the line of
+    /// its start, and end with the line of its last offset, or with the last line where that offset
+    /// is past the source. A start past the source counts as line 0.
     ///
     /// The range has a line for every span, also where the span is reversed or past the source.
     pub fn get_line_range<S: Span>(&self, span: &S) -> Range<usize>

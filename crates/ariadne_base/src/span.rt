@@ -2,8 +2,11 @@
 
 ghost use Rattle.std.specs.Prelude.{◌≡◌, ℕ, ◌-◌, ◌<◌, ◌≤◌, IsTrue, ◌↔◌};
 
+pub mod place;
 mod range;
 mod range_inclusive;
+
+pub use place::Place;
 
 /// A piece of a source, from its start to before its end.
 ///

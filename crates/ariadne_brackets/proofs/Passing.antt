@@ -8,8 +8,8 @@ use Rattle.std.proofs.Math.Seq.{drop-cons}
 use Rattle.std.proofs.lemmas.Cmp.{nat_list_eq_equiv}
 use Rattle.std.proofs.lemmas.List.{map-append}
 use Rattle.std.proofs.lemmas.List.Folds.{list_any-append}
-use Rattle.ariadne_base.specs.Cache.{held, KeepsOtherIds}
-use Rattle.ariadne_base.specs.Listing.{Listing}
+use Rattle.ariadne.specs.Cache.{held, KeepsOtherIds}
+use Rattle.ariadne.specs.Listing.{Listing}
 use Rattle.ariadne_brackets.specs.Linted.{named_after, same_path}
 use Rattle.ariadne_brackets.specs.Linting.{AreOutcomes}
 use Rattle.ariadne_brackets.specs.Outcomes.{IsOutcome}

@@ -3,7 +3,7 @@ use Rattle.std.proofs.Common.{◌≡◌, refl}
 use Rattle.std.specs.Prelude.{ℕ, List, [], ◌∷◌, codes, slice_get, Some, option_map}
 use Rattle.std.specs.Borrow.{Bor}
 use Rattle.std.specs.declared.ops.Range.{Range}
-use Rattle.ariadne_picture.specs.Report.{LabelFields, ReportFields, error, new_report}
+use Rattle.ariadne.specs.Report.{LabelFields, ReportFields, error, new_report}
 use Rattle.ariadne_brackets.specs.Linted.{plain_config, report_with}
 
 -- a report with these labels, which points at what the first one does

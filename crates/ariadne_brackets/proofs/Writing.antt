@@ -8,19 +8,19 @@ use Rattle.std.specs.List.{AllByRecursion, flat_map, list_any}
 use Rattle.std.specs.Map.{lookup}
 use Rattle.std.specs.Str.{bytes_eq}
 use Rattle.std.specs.declared.ops.Range.{Range}
-use Rattle.ariadne_base.specs.Cache.{held}
-use Rattle.ariadne_base.specs.Listing.{Listing, listed_lines}
-use Rattle.ariadne_base.specs.declared.cache.file.FileError.{FileError}
-use Rattle.ariadne_picture.specs.Accept.{info_of, offset_in_chars, text_len, verdict, within}
-use Rattle.ariadne_picture.specs.Report.{ConfigFields, LabelFields, ReportFields, error, new_report}
-use Rattle.ariadne_picture.specs.declared.switches.IndexType.TheVariants.{Char}
-use Rattle.ariadne_picture.specs.declared.label_info.LabelInfo.{LabelInfo}
-use Rattle.ariadne_picture.specs.declared.verdict.Verdict.TheVariants.{Accepted, CutsCharacter as cuts, PastSource as past}
-use Rattle.ariadne_accept.specs.Judging.{AreJudged, GrowsFor, IsJudged, listed}
+use Rattle.ariadne.specs.Cache.{held}
+use Rattle.ariadne.specs.Listing.{Listing, listed_lines}
+use Rattle.ariadne.specs.FileError.{FileError}
+use Rattle.ariadne.specs.Accept.{info_of, offset_in_chars, text_len, verdict, within}
+use Rattle.ariadne.specs.Report.{ConfigFields, LabelFields, ReportFields, error, new_report}
+use Rattle.ariadne.specs.IndexType.TheVariants.{Char}
+use Rattle.ariadne.specs.LabelInfo.{LabelInfo}
+use Rattle.ariadne.specs.Verdict.TheVariants.{Accepted, CutsCharacter as cuts, PastSource as past}
+use Rattle.ariadne.specs.Judging.{AreJudged, GrowsFor, IsJudged, listed}
 use Rattle.ariadne.specs.Written.{IsCutOff, IsWritten}
-use Rattle.ariadne_accept.specs.declared.accept.LeftOut.{LeftOut}
-use Rattle.ariadne_accept.specs.declared.accept.Reason.{Reason}
-use Rattle.ariadne_accept.specs.declared.accept.Reason.TheVariants.{Unfetched, PastSource, CutsCharacter}
+use Rattle.ariadne.specs.LeftOut.{LeftOut}
+use Rattle.ariadne.specs.Reason.{Reason}
+use Rattle.ariadne.specs.Reason.TheVariants.{Unfetched, PastSource, CutsCharacter}
 use Rattle.ariadne_brackets.specs.Brackets.{IsFirstOffence}
 use Rattle.ariadne_brackets.specs.Linted.{IsCut, Prints, files, labels_of, labels_of_offence, labels_of_outcome, plain_config, report_of, report_with, same_path}
 use Rattle.ariadne_brackets.specs.Linting.{AreOutcomes}

@@ -1,6 +1,6 @@
 -- The status that a fault ends with, and why a file is not checked.
-use Rattle.ariadne_base.specs.declared.cache.file.FileError.{FileError}
-use Rattle.ariadne_base.specs.declared.cache.file.FileError.TheVariants as of_cache
+use Rattle.ariadne.specs.FileError.{FileError}
+use Rattle.ariadne.specs.FileError.TheVariants as of_cache
 use Rattle.ariadne_brackets.specs.declared.fault.Fault.{Fault}
 use Rattle.ariadne_brackets.specs.declared.fault.Fault.TheVariants.{Usage, Writer, Memory}
 use Rattle.ariadne_brackets.specs.declared.fault.FileFault.{FileFault}

@@ -6,13 +6,13 @@ use Rattle.std.specs.Io.KnownBytes.{Keeps}
 use Rattle.std.specs.List.{AllByRecursion, flat_map, list_all, list_any}
 use Rattle.std.specs.Str.{bytes_eq}
 use Rattle.std.specs.declared.ops.Range.{Range}
-use Rattle.ariadne_base.specs.Cache.{held}
-use Rattle.ariadne_base.specs.Listing.{Listing}
-use Rattle.ariadne_base.specs.declared.cache.file.FileError.{FileError}
-use Rattle.ariadne_picture.specs.Report.{ConfigFields, LabelFields, ReportFields, World}
-use Rattle.ariadne_picture.specs.Report.{default_config, error, new_label, new_report}
-use Rattle.ariadne_picture.specs.declared.switches.CharSet.TheVariants.{Ascii}
-use Rattle.ariadne_accept.specs.Drawn.{world}
+use Rattle.ariadne.specs.Cache.{held}
+use Rattle.ariadne.specs.Listing.{Listing}
+use Rattle.ariadne.specs.FileError.{FileError}
+use Rattle.ariadne.specs.Report.{ConfigFields, LabelFields, ReportFields, World}
+use Rattle.ariadne.specs.Report.{default_config, error, new_label, new_report}
+use Rattle.ariadne.specs.CharSet.TheVariants.{Ascii}
+use Rattle.ariadne.specs.Drawn.{world}
 use Rattle.ariadne.specs.Written.{IsCutOff, IsWritten}
 use Rattle.ariadne_brackets.specs.Outcomes.{IsOutcome, offends, was_read}
 use Rattle.ariadne_brackets.specs.declared.checked.Checked.{Checked}

@@ -3,8 +3,8 @@ use Rattle.std.specs.Prelude.{ℕ, List, Option, Result, Ok, Err}
 use Rattle.std.specs.Borrow.{Bor}
 use Rattle.std.specs.Io.KnownBytes.{Keeps}
 use Rattle.std.specs.List.{AllByRecursion}
-use Rattle.ariadne_base.specs.Cache.{held}
-use Rattle.ariadne_base.specs.Listing.{Listing}
+use Rattle.ariadne.specs.Cache.{held}
+use Rattle.ariadne.specs.Listing.{Listing}
 use Rattle.ariadne_brackets.specs.Linted.{IsCut, IsCutRun, IsWhole, Prints, report_of, same_path}
 use Rattle.ariadne_brackets.specs.Outcomes.{IsOutcome}
 use Rattle.ariadne_brackets.specs.declared.checked.Checked.{Checked}
@@ -17,7 +17,7 @@ abbrev pub AreOutcomes : List (Bor (List ℕ) × Listing) → List Checked → T
 AreOutcomes contents checked =
     AllByRecursion (λ c. IsOutcome (held same_path contents c.path) c.outcome) checked
 
--- what the writing of the report leaves, by its answer
+-- what the writing of the report leaves, by its result
 abbrev pub Wrote : List (Bor (List ℕ) × Listing) → List Checked → Option (List ℕ)
     → Option (List ℕ) → Result Unit Fault → Type 0
 Wrote contents checked before after (Ok done) = Prints contents before after (report_of checked)
@@ -26,7 +26,7 @@ Wrote contents checked before after (Err (Writer sent)) =
     IsCut contents before after (report_of checked)
 Wrote contents checked before after (Err (Memory refused)) = Keeps before after
 
--- what a run over files leaves, by its answer
+-- what a run over files leaves, by its result
 abbrev pub RanOver : List (List ℕ) → Option (List ℕ) → Option (List ℕ) → Result Status Fault
     → Type 0
 RanOver words before after (Ok status) = IsWhole words before after status

@@ -1,6 +1,6 @@
 -- What was found of a file.
 use Rattle.std.specs.Prelude.{ℕ, ◌≡◌, Bool, true, false, List, Option, Some, None, chars}
-use Rattle.ariadne_base.specs.Listing.{Listing}
+use Rattle.ariadne.specs.Listing.{Listing}
 use Rattle.ariadne_brackets.specs.Brackets.{IsFirstOffence}
 use Rattle.ariadne_brackets.specs.declared.checked.Outcome.{Outcome}
 use Rattle.ariadne_brackets.specs.declared.checked.Outcome.TheVariants.{Balanced, Offends, Unread}

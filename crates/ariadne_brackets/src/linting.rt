@@ -3,9 +3,9 @@
 ghost use Rattle.std.specs.Prelude.{◌≡◌, ◌≤◌, ◌<◌, ◌+◌, ◌^◌, ◌++◌, [], ◌∷◌, map, string_bytes};
 ghost use Rattle.std.specs.Prelude.{IfOk, IsSome, Some, None, chars, codes, option_map, slice_get};
 ghost use Rattle.std.specs.List.{flat_map, list_all, list_any};
-ghost use Rattle.ariadne_base.specs.Cache.{held, KeepsOtherIds};
-ghost use Rattle.ariadne_base.specs.Files.{by_text};
-ghost use Rattle.ariadne_picture.specs.Report.{error, new_report};
+ghost use Rattle.ariadne.specs.Cache.{held, KeepsOtherIds};
+ghost use Rattle.ariadne.specs.Files.{by_text};
+ghost use Rattle.ariadne.specs.Report.{error, new_report};
 ghost use Rattle.ariadne_brackets.specs.Outcomes.{IsOutcome, IsOutcomeIn, offends, outcome_first};
 ghost use Rattle.ariadne_brackets.specs.Outcomes.{outcome_last, was_read};
 ghost use Rattle.ariadne_brackets.specs.Linted.{AreChecked, Ended, labels_of, plain_config};

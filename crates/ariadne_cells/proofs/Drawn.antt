@@ -92,6 +92,10 @@ draws_rows-append a b c xs ys first then =
     adds_same a c _ _ (sym (rows_bytes-append a.page.palette xs ys))
     (adds-append a b c (rows_bytes a.page.palette xs) (rows_bytes a.page.palette ys) first later)
 
+-- the page stays
+pub rows_page : (a b : PenFields) (rows : List (List Piece)) → DrawsRows a b rows → b.page ≡ a.page
+rows_page a b rows h = page_kept a b (rows_bytes a.page.palette rows) h
+
 -- a row behind rows
 pub draws_rows_more : (a b c : PenFields) (rows : List (List Piece)) (row : List Piece) → DrawsRows a b rows → DrawsRow b c row
     → DrawsRows a c (rows ++ row ∷ [])

@@ -161,7 +161,7 @@ column_of-bound s y k = let sum = column_of-sum s y k in let tabs = tabs-le s y 
 -- ---- a line of printable ASCII
 
 -- the element at a place of a list has what all elements have
-get_or-all : (P : ℕ → Type 0) (xs : List ℕ) (k : ℕ) → AllByRecursion P xs → k < length xs → P (get_or xs k 0)
+pub get_or-all : (P : ℕ → Type 0) (xs : List ℕ) (k : ℕ) → AllByRecursion P xs → k < length xs → P (get_or xs k 0)
 get_or-all P [] k a h = absurd (omega arith)
 get_or-all P (x ∷ xs) zero a h = a.0
 get_or-all P (x ∷ xs) (suc k) a h = get_or-all P xs k a.1 (omega arith)

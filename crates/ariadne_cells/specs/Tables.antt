@@ -1,4 +1,4 @@
--- What is seen at the places of one line, found once for the line: the column of each place, the
+-- What is seen at the places of one line, found once for the line. Each place has its column, the
 -- vertical that is seen there in the rows of a line label, the label whose underline is seen there,
 -- and the label that colours the character there. It is held in stretches, and read by place.
 use Rattle.std.specs.Prelude.{ℕ, ◌≡◌, ◌<◌, ◌≤◌, ◌==◌, nat_lt, false, if◌then◌else◌, List}

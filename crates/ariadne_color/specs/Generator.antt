@@ -1,6 +1,6 @@
 -- The colour generator. It keeps three numbers below 65536, for red, green and blue, and a
--- brightness in thousandths. Each call adds to each number a step of its own, modulo 65536, and
--- answers a colour of the cube of 6 * 6 * 6 colours that begins at number 16 of the 256-colour
+-- brightness in thousandths. Each call adds to each number a step of its own, modulo 65536. It
+-- returns a colour of the cube of 6 * 6 * 6 colours that begins at number 16 of the 256-colour
 -- palette.
 use Rattle.std.specs.Prelude.{◌≡◌, ℕ, zero, suc, ◌+◌, ◌-◌, ◌*◌, ◌/◌, ◌%◌, ◌<◌}
 use Rattle.ariadne_color.specs.declared.color.Color.{Color}

@@ -5,10 +5,10 @@ use Rattle.std.specs.Borrow.{Bor}
 use Rattle.std.specs.Io.KnownBytes.{Keeps}
 use Rattle.std.specs.Str.{IsUtf8, bytes_eq}
 use Rattle.std.specs.declared.ops.Range.{Range}
-use Rattle.ariadne_picture.specs.Report.{World}
-use Rattle.ariadne_base.specs.Cache.{Grows, KeepsOtherIds, held, listing_of}
-use Rattle.ariadne_base.specs.Listing.{Listing}
-use Rattle.ariadne_base.specs.declared.cache.file.FileError.{FileError}
+use Rattle.ariadne.specs.Report.{World}
+use Rattle.ariadne.specs.Cache.{Grows, KeepsOtherIds, held, listing_of}
+use Rattle.ariadne.specs.Listing.{Listing}
+use Rattle.ariadne.specs.FileError.{FileError}
 use Rattle.ariadne_draw.specs.declared.fault.Fault.{Fault}
 use Rattle.ariadne_draw.specs.declared.fault.Fault.TheVariants.{Writer, Memory, Usage, Unread, NotUtf8}
 use Rattle.ariadne_draw.specs.declared.fault.Status.{Status}

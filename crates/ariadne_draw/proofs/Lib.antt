@@ -5,6 +5,7 @@ mod Options
 mod Threes
 mod PlainWords
 mod PageWords
+mod SentPages
 -- The report.
 mod Writing
 mod Ending

@@ -5,15 +5,15 @@ use Rattle.std.proofs.lemmas.List.{drop_more}
 use Rattle.std.specs.List.{list_any}
 use Rattle.std.specs.declared.alloc.Global.{Global}
 use Rattle.std.specs.declared.ops.Range.{Range}
-use Rattle.ariadne_base.specs.Cache.{held}
-use Rattle.ariadne_color.specs.Generator.{GeneratorState, color_of, stepped, usual_start}
-use Rattle.ariadne_base.specs.Listing.{Listing}
-use Rattle.ariadne_picture.specs.Report.{LabelFields, ReportFields, World}
-use Rattle.ariadne_accept.specs.Judging.{GrowsFor}
+use Rattle.ariadne.specs.Cache.{held}
+use Rattle.ariadne.specs.Generator.{GeneratorState, color_of, stepped, usual_start}
+use Rattle.ariadne.specs.Listing.{Listing}
+use Rattle.ariadne.specs.Report.{LabelFields, ReportFields, World}
+use Rattle.ariadne.specs.Judging.{GrowsFor}
 use Rattle.ariadne.specs.Written.{IsWritten, Written}
-use Rattle.ariadne_accept.specs.declared.accept.LeftOut.{LeftOut}
-use Rattle.ariadne_send.specs.declared.send.WriteError.{WriteError}
-use Rattle.ariadne_send.specs.declared.send.WriteError.TheVariants as write
+use Rattle.ariadne.specs.LeftOut.{LeftOut}
+use Rattle.ariadne.specs.declared.write_error.WriteError.{WriteError}
+use Rattle.ariadne.specs.declared.write_error.WriteError.TheVariants as write
 use Rattle.ariadne_draw.specs.Asked.{label_asking}
 use Rattle.ariadne_draw.specs.declared.asked.AskedLabel.{AskedLabel}
 use Rattle.ariadne_draw.specs.Drawn.{Leaves, colored, labels_from}

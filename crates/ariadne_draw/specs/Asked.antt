@@ -1,4 +1,4 @@
--- What the program holds of the words that it has read, and what it answers to them.
+-- What the program holds of the words that it has read, and what it is to do with them.
 use Rattle.std.specs.Prelude.{◌≡◌, ⊤, List, map, Option, Some, None, Result, Ok, Err, Vec}
 use Rattle.std.specs.Option.{option_copied}
 use Rattle.std.specs.declared.alloc.Global.{Global}

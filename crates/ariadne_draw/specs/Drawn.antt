@@ -6,18 +6,18 @@ use Rattle.std.specs.Borrow.{Bor}
 use Rattle.std.specs.Io.KnownBytes.{Keeps}
 use Rattle.std.specs.Str.{IsUtf8, bytes_eq}
 use Rattle.std.specs.declared.ops.Range.{Range}
-use Rattle.ariadne_base.specs.Cache.{held, listing_of}
-use Rattle.ariadne_color.specs.Generator.{GeneratorState, color_of, stepped, usual_start}
-use Rattle.ariadne_base.specs.Listing.{Listing}
-use Rattle.ariadne_color.specs.declared.color.Color.{Color}
-use Rattle.ariadne_base.specs.declared.cache.file.FileError.{FileError}
-use Rattle.ariadne_picture.specs.Report.{ConfigFields, LabelFields, ReportFields, World}
-use Rattle.ariadne_picture.specs.Report.{default_config, error, new_label, new_report}
-use Rattle.ariadne_picture.specs.declared.switches.CharSet.TheVariants.{Ascii, Unicode}
-use Rattle.ariadne_picture.specs.declared.switches.IndexType.TheVariants.{Byte, Char}
-use Rattle.ariadne_accept.specs.Drawn.{world}
+use Rattle.ariadne.specs.Cache.{held, listing_of}
+use Rattle.ariadne.specs.Generator.{GeneratorState, color_of, stepped, usual_start}
+use Rattle.ariadne.specs.Listing.{Listing}
+use Rattle.ariadne.specs.Color.{Color}
+use Rattle.ariadne.specs.FileError.{FileError}
+use Rattle.ariadne.specs.Report.{ConfigFields, LabelFields, ReportFields, World}
+use Rattle.ariadne.specs.Report.{default_config, error, new_label, new_report}
+use Rattle.ariadne.specs.CharSet.TheVariants.{Ascii, Unicode}
+use Rattle.ariadne.specs.IndexType.TheVariants.{Byte, Char}
+use Rattle.ariadne.specs.Drawn.{world}
 use Rattle.ariadne.specs.Written.{IsCutOff, IsWritten}
-use Rattle.ariadne_accept.specs.declared.accept.LeftOut.{LeftOut}
+use Rattle.ariadne.specs.LeftOut.{LeftOut}
 use Rattle.ariadne_draw.specs.Faults.{IsNoText}
 use Rattle.ariadne_draw.specs.Words.{Asking, AskingLabel, AskingOptions}
 use Rattle.ariadne_draw.specs.declared.fault.Status.{Status}

@@ -3,12 +3,12 @@ use Rattle.std.specs.Prelude.{ℕ, ◌≡◌, Bool, true, List, [], ◌∷◌, c
 use Rattle.std.specs.Prelude.{Result, Ok, Err, Vec, ⊤}
 use Rattle.std.specs.Str.{IsUtf8}
 use Rattle.std.specs.declared.alloc.Global.{Global}
-use Rattle.ariadne_accept.specs.declared.accept.LeftOut.{LeftOut}
-use Rattle.ariadne_accept.specs.declared.accept.Reason.{Reason}
-use Rattle.ariadne_accept.specs.declared.accept.Reason.TheVariants.{Unfetched, PastSource}
-use Rattle.ariadne_accept.specs.declared.accept.Reason.TheVariants.{CutsCharacter}
-use Rattle.ariadne_send.specs.declared.send.WriteError.{WriteError}
-use Rattle.ariadne_send.specs.declared.send.WriteError.TheVariants as write
+use Rattle.ariadne.specs.LeftOut.{LeftOut}
+use Rattle.ariadne.specs.Reason.{Reason}
+use Rattle.ariadne.specs.Reason.TheVariants.{Unfetched, PastSource}
+use Rattle.ariadne.specs.Reason.TheVariants.{CutsCharacter}
+use Rattle.ariadne.specs.declared.write_error.WriteError.{WriteError}
+use Rattle.ariadne.specs.declared.write_error.WriteError.TheVariants as write
 use Rattle.ariadne_draw.specs.declared.fault.Fault.{Fault}
 use Rattle.ariadne_draw.specs.declared.fault.Fault.TheVariants.{Usage, Unread, NotUtf8, Writer}
 use Rattle.ariadne_draw.specs.declared.fault.Fault.TheVariants.{Memory}

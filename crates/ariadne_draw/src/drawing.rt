@@ -4,7 +4,7 @@ ghost use Rattle.std.specs.Prelude.{◌≡◌, ◌++◌, [], ◌∷◌, None, fa
 ghost use Rattle.std.specs.Prelude.{◌≢◌, ◌⊎◌, alloc_error, map, string_bytes, true};
 ghost use Rattle.std.specs.IoError.{error_kind};
 ghost use Rattle.std.specs.Str.{IsUtf8};
-ghost use Rattle.ariadne_base.specs.Cache.{Grows, KeepsOtherIds};
+ghost use Rattle.ariadne.specs.Cache.{Grows, KeepsOtherIds};
 ghost use Rattle.ariadne_draw.specs.Asked.{asking, label_asking, options_asking};
 ghost use Rattle.ariadne_draw.specs.Drawn.{colored, config_of, own_span, reads_input, report_of};
 ghost use Rattle.ariadne_draw.specs.Drawn.{sources, Ended, EndedOver, Leaves, OverFile};
@@ -16,14 +16,13 @@ ghost use Rattle.ariadne_draw.specs.declared.fault.Fault.TheVariants.{Memory, Un
 
 use super::asked::{Asked, AskedLabel, AskedOptions};
 use super::fault::{Fault, Status, tell_fault};
-use super::pages::{Page, asked_page};
+use super::pages::{asked_page, show};
 use super::watched::Watched;
 use super::words::read_words;
 use ariadne::{
     Cache, CharSet, Color, ColorGenerator, Config, FileCache, IndexType, Label, LeftOut, Reason,
     Report, ReportBuilder, ReportKind, Source, WriteError,
 };
-use ariadne_send::send::send;
 use std::alloc::{AllocError, Global};
 use std::io;
 use std::io::{ErrorKind, Read, Write};
@@ -34,9 +33,9 @@ use std::rt::Files;
 /// they name, and returns how the program ends.
 ///
 /// The words are those of the command line without the program's name. They are judged first, then
-/// the input is read, if no file is named, then the report is written to `out`, then `faults` gets
-/// a line for each label that was left out, or the one line that says why nothing could be drawn. A
-/// failure of `faults` is passed over. What `out` got is told by the status. Words that ask for a
+/// the input is read, if no file is named, then the report is written to `out`. At last `faults`
+/// gets a line for each label that was left out, or the one line that says why nothing could be
+/// drawn. A failure of `faults` is passed over. What `out` got is told by the status. Words that ask for a
 /// report are refused only where a read of the input has failed, or what it gave is no text.
 ///
 /// Where the only word is `--help` or `--version` nothing is drawn or read: `out` gets that text.
@@ -59,16 +58,6 @@ pub fn draw<R: Files, I: Read, W: Write, F: Write>(
     match asked_page(words) {
         Some(page) => show(page, out, faults),
         None => draw_report(files, alloc, words, input, out, faults),
-    }
-}
-
-/// Writes a page to `out`, tells why it could not be written whole, and returns how the program ends.
-fn show<W: Write, F: Write>(page: Page, out: &mut W, faults: &mut F) -> Status
-    ensures { IsShown (page_text page) (W.contents out.old) (W.contents out.new) result }
-{
-    match send(out, page.text().as_bytes()) {
-        Ok(()) => Status::Drawn,
-        Err(error) => tell_fault(faults, &Fault::from(error)),
     }
 }
 

@@ -9,6 +9,7 @@ use Rattle.std.proofs.lemmas.Option.{slice_get-get_or}
 use Rattle.ariadne_base.specs.Lines.{lines_of}
 use Rattle.ariadne_base.specs.Listing.{Listing, listed_lines}
 use Rattle.ariadne_cells.specs.Pages.{DrawsRows, PageFields, PenFields}
+use Rattle.ariadne_cells.proofs.Drawn.{draws_rows-append}
 use Rattle.ariadne_picture.specs.declared.label_info.LabelInfo.{LabelInfo}
 use Rattle.ariadne_picture.specs.declared.verdict.Verdict.TheVariants.{Accepted}
 use Rattle.ariadne_picture.specs.Accept.{info_of, offset_in_chars, text_len, verdict, within}
@@ -24,7 +25,6 @@ use Rattle.ariadne_rows.specs.Gutters.{GutterFields, IsOfSheet}
 use Rattle.ariadne_rows.specs.Headers.{IsOnPage}
 use Rattle.ariadne_accept.specs.Drawn.{AreDrawn, IsDrawn}
 use Rattle.ariadne_drawing.specs.Lines.{IsDrawnGroup}
-use Rattle.ariadne_drawing.proofs.GroupRows.{rows_both}
 use Rattle.ariadne_drawing.proofs.Grouping.{all_at}
 use Rattle.ariadne_drawing.proofs.GroupingSources.{drawn_there, found_source, id_is, label_there, source_is}
 
@@ -222,7 +222,7 @@ module _ (t : Texts) (g : Section) where
       ((if last then asides p.switches.compact help t.helps ++ asides p.switches.compact note t.notes else [])
       ++ (if p.switches.compact then [] else tail ∷ []))) page_two) below in
       let all : DrawsRows old new (map f a ++ (map f b ++ map f d)) =
-      rows_both old one new (map f a) (map f b ++ map f d) above (rows_both one two new (map f b) (map f d) second third) in
+      draws_rows-append old one new (map f a) (map f b ++ map f d) above (draws_rows-append one two new (map f b) (map f d) second third) in
       let joins : section_rows t old.page.number_width g ≡ map f a ++ (map f b ++ map f d) =
       parts_are old.page.number_width ∙ (λ i. map f (parts (sw i).compact (ls i) (el i))) ∙ ap (map f) (parts_split compact labels last)
       ∙ map-append f a (b ++ d) ∙ ap (λ z. map f a ++ z) (map-append f b d) in

@@ -1,44 +1,15 @@
 -- Rows of a group, one after another, as a pen writes them.
-use Rattle.std.proofs.Common.{◌≡◌, ℕ, Bool, true, false, List, [], ◌∷◌, ◌++◌, map, refl, sym, ap, ◌∙◌, subst, append_assoc}
+use Rattle.std.proofs.Common.{◌≡◌, ℕ, Bool, true, false, List, [], ◌∷◌, ◌++◌, map, refl, sym, ap, ◌∙◌, subst}
 use Rattle.std.specs.Prelude.{if◌then◌else◌}
 use Rattle.std.proofs.lemmas.List.{append-nil, map-append}
 use Rattle.ariadne_cells.specs.Pages.{DrawsRow, DrawsRows, PageFields, PenFields}
-use Rattle.ariadne_picture.specs.Print.{row_bytes, rows_bytes}
+use Rattle.ariadne_cells.proofs.Drawn.{draws_rows-append, draws_rows_none, draws_rows_one}
 use Rattle.ariadne_picture.specs.declared.switches.Switches.{Switches}
-use Rattle.ariadne_picture.specs.Lists.{joined}
 use Rattle.ariadne_picture.specs.Pieces.{Piece, Section, Texts, group_header_pieces, row_pieces, spacer_pieces, tail_pieces}
 use Rattle.ariadne_picture.specs.Rows.{Row, asides, group_header, help, note, spacer, tail}
 use Rattle.ariadne_picture.specs.Canvas.{texts_of}
 use Rattle.ariadne_picture.specs.Report.{ReportFields}
 use Rattle.ariadne_rows.specs.Headers.{IsOnPage}
-use Rattle.ariadne_picture.proofs.Lists.Joined.{joined-append}
-
--- no rows
-pub rows_none : (a : PenFields) → DrawsRows a a []
-unfolding rows_bytes joined
-rows_none a = ap (λ (t : List ℕ). record a { bytes = t }) (sym (append-nil a.bytes))
-
--- one row
-pub rows_one : (a b : PenFields) (x : List Piece) → DrawsRow a b x → DrawsRows a b (x ∷ [])
-unfolding rows_bytes joined
-rows_one a b x d = d ∙ ap (λ (t : List ℕ). record a { bytes = a.bytes ++ t }) (sym (append-nil (row_bytes a.page.palette x)))
-
--- the page stays
-pub rows_page : (a b : PenFields) (xs : List (List Piece)) → DrawsRows a b xs → b.page ≡ a.page
-rows_page a b xs d = ap (λ (q : PenFields). q.page) d
-
--- rows behind rows
-pub rows_both : (a b c : PenFields) (xs ys : List (List Piece)) → DrawsRows a b xs → DrawsRows b c ys → DrawsRows a c (xs ++ ys)
-unfolding rows_bytes
-rows_both a b c xs ys d e =
-    let p : b.page ≡ a.page = ap (λ (q : PenFields). q.page) d in
-    let t : b.bytes ≡ a.bytes ++ rows_bytes a.page.palette xs = ap (λ (q : PenFields). q.bytes) d in
-    let u : b.bytes ++ rows_bytes b.page.palette ys ≡ a.bytes ++ rows_bytes a.page.palette (xs ++ ys) =
-    (λ i. t i ++ rows_bytes (p i).palette ys) ∙ append_assoc a.bytes (rows_bytes a.page.palette xs) (rows_bytes a.page.palette ys)
-    ∙ ap (λ z. a.bytes ++ z) (sym (joined-append (row_bytes a.page.palette) xs ys)) in
-    let v : record b { bytes = b.bytes ++ rows_bytes b.page.palette ys } ≡ record a { bytes = a.bytes ++ rows_bytes a.page.palette (xs ++ ys) } =
-    (λ i. record { page = p i; bytes = u i }) in
-    e ∙ v
 
 -- the helps of a report
 pub helps_is : {S : Type 0} (r : ReportFields S) → (texts_of r).helps ≡ r.helps
@@ -69,7 +40,7 @@ module _ (t : Texts) (g : Section) where
       let behind : DrawsRows mid new (map f notes) =
       subst (DrawsRows mid new) (ap (λ (x : PageFields). map (row_pieces t x.number_width g) (asides x.switches.compact note t.notes)) page) e in
       subst (λ b. DrawsRows old new (map f (if b then helps ++ notes else []))) (sym h)
-      (subst (DrawsRows old new) (sym (map-append f helps notes)) (rows_both old mid new (map f helps) (map f notes) d behind))
+      (subst (DrawsRows old new) (sym (map-append f helps notes)) (draws_rows-append old mid new (map f helps) (map f notes) d behind))
 
   -- any other group has none
   pub no_asides : (old new : PenFields) (last : Bool) → last ≡ false → new ≡ old → DrawsRows old new (map (row_pieces t old.page.number_width g)
@@ -78,7 +49,7 @@ module _ (t : Texts) (g : Section) where
       let f = row_pieces t old.page.number_width g in
       let helps = asides old.page.switches.compact help t.helps in
       let notes = asides old.page.switches.compact note t.notes in
-      subst (λ b. DrawsRows old new (map f (if b then helps ++ notes else []))) (sym h) (e ∙ rows_none old)
+      subst (λ b. DrawsRows old new (map f (if b then helps ++ notes else []))) (sym h) (e ∙ draws_rows_none old)
 
   -- the rows above the lines, in a compact picture
   pub head_short : (old new : PenFields) (p : PageFields) (sw : Switches) → DrawsRow old new (group_header_pieces g old.page.number_width)
@@ -90,7 +61,7 @@ module _ (t : Texts) (g : Section) where
       let k : old.page.switches.compact ≡ true =
       ap (λ (x : PageFields). x.switches.compact) (sym q) ∙ ap (λ (s : Switches). s.compact) (sym es) ∙ h in
       subst (λ b. DrawsRows old new (map (row_pieces t old.page.number_width g) (group_header ∷ (if b then [] else spacer ∷ [])))) (sym k)
-      (rows_one old new (group_header_pieces g old.page.number_width) d)
+      (draws_rows_one old new (group_header_pieces g old.page.number_width) d)
 
   -- and in any other
   pub head_long : (old mid new : PenFields) (p : PageFields) (sw : Switches) → DrawsRow old mid (group_header_pieces g old.page.number_width)
@@ -108,9 +79,9 @@ module _ (t : Texts) (g : Section) where
       ∙ ap (λ (s : Switches). spacer_pieces s.char_set old.page.number_width) (sym gs) in
       let below : DrawsRow mid new (spacer_pieces g.sheet.switches.char_set old.page.number_width) = subst (DrawsRow mid new) same e in
       subst (λ b. DrawsRows old new (map (row_pieces t old.page.number_width g) (group_header ∷ (if b then [] else spacer ∷ [])))) (sym k)
-      (rows_both old mid new (group_header_pieces g old.page.number_width ∷ []) (spacer_pieces g.sheet.switches.char_set old.page.number_width ∷ [])
-      (rows_one old mid (group_header_pieces g old.page.number_width) d)
-      (rows_one mid new (spacer_pieces g.sheet.switches.char_set old.page.number_width) below))
+      (draws_rows-append old mid new (group_header_pieces g old.page.number_width ∷ []) (spacer_pieces g.sheet.switches.char_set old.page.number_width ∷ [])
+      (draws_rows_one old mid (group_header_pieces g old.page.number_width) d)
+      (draws_rows_one mid new (spacer_pieces g.sheet.switches.char_set old.page.number_width) below))
 
   -- the tail behind some rows, in a compact picture
   pub foot_short : (old new : PenFields) (rows : List Row) (p : PageFields) (sw : Switches)
@@ -144,5 +115,5 @@ module _ (t : Texts) (g : Section) where
       let f = row_pieces t old.page.number_width g in
       subst (λ b. DrawsRows old new (map f (rows ++ (if b then [] else tail ∷ [])))) (sym k)
       (subst (DrawsRows old new) (sym (map-append f rows (tail ∷ [])))
-      (rows_both old mid new (map f rows) (tail_pieces g.sheet.switches.char_set old.page.number_width g.is_last ∷ []) d
-      (rows_one mid new (tail_pieces g.sheet.switches.char_set old.page.number_width g.is_last) below)))
+      (draws_rows-append old mid new (map f rows) (tail_pieces g.sheet.switches.char_set old.page.number_width g.is_last ∷ []) d
+      (draws_rows_one mid new (tail_pieces g.sheet.switches.char_set old.page.number_width g.is_last) below)))

@@ -1,51 +1,25 @@
 -- The rows of a line's labels, as they are written one after another.
 use Rattle.std.proofs.Common.{◌≡◌, ◌∙◌, ℕ, zero, suc, ◌+◌, ◌<◌, Bool, true, false, List, [], ◌∷◌, ◌++◌, length, map, get_or, take, refl, sym, ap}
-use Rattle.std.proofs.Common.{subst, arith, append_assoc, Some}
+use Rattle.std.proofs.Common.{subst, arith, Some}
 use Rattle.std.specs.Prelude.{slice_get}
 use Rattle.std.specs.List.{enumerate_from}
-use Rattle.std.proofs.lemmas.List.{append-nil, map-append}
+use Rattle.std.proofs.lemmas.List.{map-append}
 use Rattle.std.proofs.lemmas.Option.{slice_get-get_or, slice_get_within, get_or_from_slice_get}
 use Rattle.ariadne_cells.specs.Pages.{PageFields, PenFields, DrawsRow, DrawsRows}
-use Rattle.ariadne_picture.specs.Print.{row_bytes, rows_bytes}
 use Rattle.ariadne_cells.specs.Tables.{IsTable, AreVerticals}
 use Rattle.ariadne_cells.specs.declared.table.LineTable.{LineTable}
 use Rattle.ariadne_cells.specs.declared.verticals.Vertical.{Vertical}
+use Rattle.ariadne_cells.proofs.Drawn.{draws_rows-append}
 use Rattle.ariadne_picture.specs.declared.label_info.LineLabel.{LineLabel}
 use Rattle.ariadne_picture.specs.Columns.{Layout, layout_of}
 use Rattle.ariadne_picture.specs.Lists.{joined}
 use Rattle.ariadne_picture.specs.Pieces.{Piece, Section, Texts, row_pieces}
 use Rattle.ariadne_picture.specs.Ranks.{Sheet, is_hidden, line_labels, margin_label, is_inline}
 use Rattle.ariadne_picture.specs.Rows.{Row, label_rows, arrow, alternate, line_rows, source}
-use Rattle.ariadne_picture.proofs.Lists.Joined.{joined-append, joined-one}
 use Rattle.ariadne_rows.specs.Gutters.{GutterFields, IsBelow, HasBarsOf}
 use Rattle.ariadne_rows.proofs.Listing.{joined-more}
 use Rattle.ariadne_rows.proofs.GutterSteps.{below-alternate, below-arrow, column-within}
 use Rattle.ariadne_drawing.specs.Lines.{IsBelowLine}
-
--- ---- rows written one after another
-
--- no rows
-pub rows-none : (a : PenFields) → DrawsRows a a []
-unfolding rows_bytes joined
-rows-none a = ap (λ (t : List ℕ). record a { bytes = t }) (sym (append-nil a.bytes))
-
--- one row
-pub rows-one : (a b : PenFields) (x : List Piece) → DrawsRow a b x → DrawsRows a b (x ∷ [])
-unfolding rows_bytes
-rows-one a b x d = d ∙ ap (λ (t : List ℕ). record a { bytes = a.bytes ++ t }) (sym (joined-one (row_bytes a.page.palette) x))
-
--- rows behind others
-pub rows-append : (a b c : PenFields) (xs ys : List (List Piece)) → DrawsRows a b xs → DrawsRows b c ys → DrawsRows a c (xs ++ ys)
-unfolding rows_bytes
-rows-append a b c xs ys d e =
-    let f = row_bytes a.page.palette in
-    e ∙ ap (λ (q : PenFields). record q { bytes = q.bytes ++ joined (row_bytes q.page.palette) ys }) d
-    ∙ ap (λ (t : List ℕ). record a { bytes = t })
-    (append_assoc a.bytes (joined f xs) (joined f ys) ∙ ap (λ t. a.bytes ++ t) (sym (joined-append f xs ys)))
-
--- the page stays
-pub rows-page : (a b : PenFields) (xs : List (List Piece)) → DrawsRows a b xs → b.page ≡ a.page
-rows-page a b xs d = ap (λ (q : PenFields). q.page) d
 
 -- ---- the rows of one label
 
@@ -166,7 +140,7 @@ labels-more t g w l r compact a b c xs x there d e =
     (joined f (take (r + 1) (enumerate_from 0 xs))) =
     sym (map-append (row_pieces t w g) so_far (f (r, x)))
     ∙ ap (map (row_pieces t w g)) (ap (λ z. so_far ++ f (r, z)) (sym same) ∙ more) in
-    subst (DrawsRows a c) both (rows-append a b c (map (row_pieces t w g) so_far) (map (row_pieces t w g) (f (r, x))) d e)
+    subst (DrawsRows a c) both (draws_rows-append a b c (map (row_pieces t w g) so_far) (map (row_pieces t w g) (f (r, x))) d e)
 
 -- ---- rows by name
 

@@ -8,6 +8,7 @@ use Rattle.std.proofs.lemmas.List.{append-nil, map-append}
 use Rattle.std.proofs.lemmas.Option.{slice_get_within}
 use Rattle.ariadne_base.specs.Listing.{Listing, listed_lines}
 use Rattle.ariadne_cells.specs.Pages.{PenFields, DrawsRows}
+use Rattle.ariadne_cells.proofs.Drawn.{draws_rows-append}
 use Rattle.ariadne_picture.specs.declared.label_info.LabelInfo.{LabelInfo}
 use Rattle.ariadne_picture.specs.declared.switches.Switches.{Switches}
 use Rattle.ariadne_picture.specs.Bars.{EndsNoEarlier}
@@ -27,7 +28,6 @@ use Rattle.ariadne_rows.proofs.Events.{none-above, none-between, still-above}
 use Rattle.ariadne_rows.proofs.GutterSteps.{first-line, hidden-run}
 use Rattle.ariadne_drawing.specs.Lines.{AreOverLines, IsDrawnGroup, IsOverLines, begins_run}
 use Rattle.ariadne_drawing.proofs.LinesHidden.{over-rise}
-use Rattle.ariadne_drawing.proofs.LinesRows.{rows-append}
 use Rattle.ariadne_drawing.proofs.LinesShown.{first-label}
 
 -- ---- the event of a number
@@ -241,7 +241,7 @@ pub names-append : (t : Texts) (g : Section) (w : ℕ) (a b c : PenFields) (xs y
 names-append t g w a b c xs ys zs same d e =
     let both : map (row_pieces t w g) xs ++ map (row_pieces t w g) ys ≡ map (row_pieces t w g) zs =
     sym (map-append (row_pieces t w g) xs ys) ∙ ap (map (row_pieces t w g)) same in
-    subst (DrawsRows a c) both (rows-append a b c (map (row_pieces t w g) xs) (map (row_pieces t w g) ys) d e)
+    subst (DrawsRows a c) both (draws_rows-append a b c (map (row_pieces t w g) xs) (map (row_pieces t w g) ys) d e)
 
 -- ---- a group that is drawn
 

@@ -7,6 +7,7 @@ use Rattle.std.proofs.lemmas.Bool.{cases_eq, eq-eqb, ne_eqb}
 use Rattle.std.proofs.lemmas.List.{drop_all}
 use Rattle.std.proofs.Math.ListN.{length-drop}
 use Rattle.ariadne_cells.specs.Pages.{DrawsRow, DrawsRows, PageFields, PenFields}
+use Rattle.ariadne_cells.proofs.Drawn.{draws_rows-append, draws_rows_none, draws_rows_one, rows_page}
 use Rattle.ariadne_picture.specs.Print.{line_bytes, pieces_bytes, printed, row_bytes, rows_bytes}
 use Rattle.ariadne_picture.specs.declared.label_info.LabelInfo.{LabelInfo}
 use Rattle.ariadne_picture.specs.Canvas.{Palette, canvas, cell_of, code_text, groups, header_pieces, kind_name, number_width, outline, palette_of}
@@ -20,7 +21,6 @@ use Rattle.ariadne_picture.proofs.Labels.Cutting.{groups-exist}
 use Rattle.ariadne_picture.proofs.Lists.ListFacts.{all-in_order}
 use Rattle.ariadne_rows.proofs.Listing.{put-back}
 use Rattle.ariadne_accept.specs.Drawn.{AreDrawn, IsDrawn}
-use Rattle.ariadne_drawing.proofs.GroupRows.{rows_both, rows_none, rows_one, rows_page}
 
 -- ---- one group after another
 
@@ -56,7 +56,7 @@ module _ {S Id : Type 0} (w : World S Id) (r : ReportFields S) (width : ℕ) whe
     all_drawn start new past so_far =
         let n = length (groups_of (same_source w r) infos) in
         let none : groups_of (same_source w r) (drop start infos) ≡ [] = ap (groups_of (same_source w r)) (drop_all start infos past) in
-        so_far.goes_on new (subst (λ gs. DrawsRows new new (rows_from n so_far.count gs)) (sym none) (rows_none new))
+        so_far.goes_on new (subst (λ gs. DrawsRows new new (rows_from n so_far.count gs)) (sym none) (draws_rows_none new))
 
     module _ (start end : ℕ) (new : PenFields) (after : start < end) (within : end ≤ length infos)
         (cut : groups_of (same_source w r) (drop start infos) ≡ slice_range infos start end ∷ groups_of (same_source w r) (drop end infos))
@@ -112,7 +112,7 @@ module _ {S Id : Type 0} (w : World S Id) (r : ReportFields S) (width : ℕ) whe
               first = ne_eqb end 0 (λ z. omega arith) ∙ sym (ne_eqb (k + 1) 0 (λ z. omega arith));
               goes_on = λ last below.
                   so_far.goes_on last (subst (λ gs. DrawsRows new last (rows_from n k gs)) (sym cut)
-                  (rows_both new next last rows (rows_from n (k + 1) rest) above below));
+                  (draws_rows-append new next last rows (rows_from n (k + 1) rest) above below));
             }
 
 -- ---- the labels in order
@@ -173,7 +173,7 @@ module _ {S Id : Type 0} (w : World S Id) (r : ReportFields S) (infos sorted : L
       let rest = rows_from w r width (length (groups_of (same_source w r) sorted)) 0 (groups_of (same_source w r) sorted) in
       let first = header_pieces (texts_of r) in
       subst (DrawsRows start end) (sym (outline_is width wide))
-      (rows_both start behind end (first ∷ []) rest (rows_one start behind first header) below)
+      (draws_rows-append start behind end (first ∷ []) rest (draws_rows_one start behind first header) below)
 
 -- a pen that wrote the outline from the start of its page on has written the picture
 pub outline_bytes : {S Id : Type 0} (w : World S Id) (r : ReportFields S) (infos : List LabelInfo) (page : PageFields) (start end : PenFields)

@@ -1,20 +1,10 @@
 //! Offsets in bytes: a lexer over `char_indices`, which stops at an unknown character. Copy
-//! `with_index_type(IndexType::Byte)`, and `Place`: its invariant says that it starts at most at
-//! its end, which is what `Label::new` asks for. `errors` shows a test in its place.
-
-ghost use Rattle.std.specs.Prelude.{◌≤◌};
+//! `with_index_type(IndexType::Byte)`, and how a `Place` is made: it starts at most at its end, which
+//! is what `Label::new` asks for. `errors` shows a test instead.
 
 use crate::pictures::{assert_rows, picture_of, plain};
-use ariadne::{IndexType, Label, Report, ReportKind, Source};
+use ariadne::{IndexType, Label, Place, Report, ReportKind, Source};
 use std::alloc::{AllocError, Global};
-
-/// A piece of a text, by its bytes from 0. Its end is exclusive.
-#[derive(Clone, Copy)]
-struct Place {
-    start: usize,
-    end: usize,
-    ghost forward: { start ≤ end },
-}
 
 /// What a character is part of.
 #[derive(Clone, Copy, PartialEq, Eq)]
@@ -51,7 +41,7 @@ fn lex(tokens: &mut Vec<Token>, text: &str) -> Result<Option<Place>, AllocError>
         }
         let Some(next) = next else {
             let end = at.saturating_add(c.len_utf8());
-            return Ok(Some(Place { start: at, end }));
+            return Ok(Some(Place::at(at).to(Place::at(end))));
         };
         kind = next;
     }
@@ -68,9 +58,9 @@ fn push(tokens: &mut Vec<Token>, kind: Kind, start: usize, end: usize) -> Result
 }
 
 /// The report of an unknown character.
-fn unknown(alloc: Global, place: Place) -> Result<Report<'static>, AllocError> {
-    let label = Label::new(place.start..place.end).with_message(alloc, "no token has it")?;
-    let report = Report::build(alloc, ReportKind::Error, place.start..place.end)
+fn unknown(alloc: Global, place: Place) -> Result<Report<'static, Place>, AllocError> {
+    let label = Label::new(place).with_message(alloc, "no token has it")?;
+    let report = Report::build(alloc, ReportKind::Error, place)
         .with_config(plain().with_index_type(IndexType::Byte))
         .with_message("unknown character")?
         .with_label(label)?;

@@ -3,9 +3,11 @@
 //!
 //! - `simple`: a report with a label, a code and a help.
 //! - `files`: labels in several files.
-//! - `lexer`: offsets in bytes.
+//! - `lexer`: offsets in bytes, and places that ask for no proof.
+//! - `numbers`: files by number.
 //! - `caches`: a cache of your own.
 //! - `errors`: an enum of errors that become reports.
+//! - `one_line`: a report as one line of text.
 //! - `arithmetic`: a parser that runs out of input.
 //! - `pictures`: how tests compare pictures.
 //! - `sinks`: a buffer of your own that takes the picture.
@@ -21,6 +23,10 @@ mod errors;
 mod files;
 #[cfg(test)]
 mod lexer;
+#[cfg(test)]
+mod numbers;
+#[cfg(test)]
+mod one_line;
 #[cfg(test)]
 mod pictures;
 #[cfg(test)]

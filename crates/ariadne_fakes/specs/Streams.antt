@@ -1,4 +1,4 @@
--- What a reader and a writer of the tests answer when they stop.
+-- What a reader and a writer of the tests return when they stop.
 use Rattle.std.specs.Prelude.{ℕ, ◌≡◌, Option, Some, None, Result, MatchResult}
 use Rattle.std.specs.IoError.{error_kind}
 use Rattle.std.specs.declared.io.Error.{Error}

@@ -62,8 +62,8 @@ impl Config {
     ghost use Rattle.ariadne_picture.specs.Report.{default_config};
 
     /// The default switches: gaps where arrows cross, arrows attached to the middle, not compact,
-    /// underlines, arrows at the ends of labels over several lines, colours, a tab stop every
-    /// 4 columns, box drawing characters, offsets in characters.
+    /// underlines, and arrows at the ends of labels over several lines. Colours, a tab stop every
+    /// 4 columns, box drawing characters, and offsets in characters.
     pub const fn new() -> Config
         ensures { result ≡ default_config }
     {

@@ -16,7 +16,7 @@ use std::ops::Range;
 ///
 /// The offsets of its span count from 0, in characters of the source, or in bytes of its text where
 /// the report's index type says so. Its end is exclusive, and not less than its start.
-#[derive(Drop)]
+#[derive(Debug, Drop)]
 pub struct Label<S: Span = Range<usize>> {
     span: S,
     message: Option<String>,

@@ -1,5 +1,5 @@
 //! Labels, kinds of reports and configurations. `ariadne` gives out the types; what else is public
-//! here, as the calls that read a label, serves the crates above, and is no part of its surface.
+//! here, as `Config::switches`, serves the crates above, and is no part of its surface.
 #![tactic(auto)]
 
 pub mod config;

@@ -2,7 +2,9 @@
 pub mod Orders
 pub mod Cutting
 pub mod Accepted
+pub mod GroupLines
 pub mod LineLabels
 pub mod LabelPlaces
 pub mod DrawnLabels
+pub mod DrawnOrListed
 pub mod LabelsAtLine

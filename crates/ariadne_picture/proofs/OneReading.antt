@@ -2,3 +2,6 @@
 pub mod LinesFound
 pub mod MessagesFound
 pub mod StrokesFound
+pub mod InlineRows
+pub mod TwinsFound
+pub mod ReadingsAgree

@@ -21,6 +21,8 @@ pub mod GutterFree
 pub mod WholeBlocks
 pub mod LabelTraces
 pub mod OtherStrokes
+pub mod ColoredStrokes
+pub mod ColoredLabels
 pub mod DrawnReports
 pub mod EveryReport
 pub mod EveryHeadline

@@ -6,3 +6,4 @@ pub mod RowsThere
 pub mod RowNumbers
 pub mod LineBlock
 pub mod RowPlacing
+pub mod OnlyRows

@@ -17,6 +17,7 @@ mod WrongPictures
 mod WrongUnicodePictures
 mod WrongPlacings
 mod StrayStrokes
+mod WrongColors
 mod TwoReadings
 mod OddReports
 pub mod Premises

@@ -1,6 +1,6 @@
--- The rows where a gutter bar stands, case by case, as a reader of a picture finds them: beside a
--- source row, by the lines that the gutter label covers; beside the rows of a line label, by what
--- the gutter label does at that line. `bar_at` says the same by two rows: the cases are those
+-- The rows where a gutter bar stands, case by case, as a reader of a picture finds them. Beside a
+-- source row it is by the lines that the gutter label covers. Beside the rows of a line label it is
+-- by what the gutter label does at that line. `bar_at` says the same by two rows: the cases are those
 -- strictly between.
 use Rattle.std.specs.Prelude.{true, ◌⊎◌, ◌≡◌, ◌≢◌, ℕ, ◌<◌, ◌≤◌, false, Some, slice_get}
 use Rattle.ariadne_picture.specs.declared.label_info.LabelInfo.{LabelInfo}

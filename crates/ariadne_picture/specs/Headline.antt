@@ -1,11 +1,13 @@
--- What the headline says of a report that was drawn: what was sent is exactly the printed canvas of
--- the accepted labels; on it each accepted message has one row of its own, and strokes lead from it
--- to the label's attach character or gutter column, in the columns where the source row shows them;
--- in the text below a line no stroke stands elsewhere. Source rows and gutter labels are read in one
--- way. A cell takes the columns of its text, and the rows are the lines that are sent. Colours move
--- nothing, and offsets in bytes draw as the same offsets in characters.
+-- What the headline says of a report that was drawn. What was sent is exactly the printed canvas of
+-- the accepted labels. On it each accepted message has one row of its own, and strokes lead from it
+-- to the label's attach character or gutter column, in the columns where the source row shows them.
+-- In the text below a line no stroke stands elsewhere, and strokes have the colours of their labels.
+-- All of this is read in one way, but that the messages of twins may change places. A cell takes the
+-- columns of its text, and the rows are the lines that are sent. Colours move nothing, and offsets in
+-- bytes draw as the same offsets in characters.
 use Rattle.std.specs.Prelude.{ℕ, ◌≡◌, Bool, true, List, Option}
 use Rattle.std.specs.Io.KnownBytes.{Appends}
+use Rattle.ariadne_color.specs.declared.color.Color.{Color}
 use Rattle.ariadne_picture.specs.declared.label_info.LabelInfo.{LabelInfo}
 use Rattle.ariadne_picture.specs.Report.{ReportFields, World}
 use Rattle.ariadne_picture.specs.Pieces.{Section}
@@ -16,6 +18,7 @@ use Rattle.ariadne_picture.specs.Placing.{Placing, is_placing, has_message_rows,
 use Rattle.ariadne_picture.specs.Placing.{has_ends_of_gutter_traces, has_gutter_bars, is_aligned}
 use Rattle.ariadne_picture.specs.Blocks.{has_whole_blocks}
 use Rattle.ariadne_picture.specs.Causes.{has_no_other_strokes}
+use Rattle.ariadne_picture.specs.LabelColors.{label_color, has_label_colors}
 use Rattle.ariadne_picture.specs.Readings.{AgreeOnStrokes}
 use Rattle.ariadne_picture.specs.Variants.{HaveNoEscapes, ColorsMoveNothing}
 use Rattle.ariadne_picture.specs.Variants.{BytesDrawAsCharacters}
@@ -37,24 +40,27 @@ pub record IsReadBy (rows : List (List Cell)) (groups : List Section) (message_o
   pub in_the_columns_where_the_source_row_shows_them : is_aligned rows groups placing ≡ true
   pub and_no_stroke_stands_elsewhere : has_no_other_strokes rows groups placing ≡ true
 
--- they can be read: there are such row numbers
-abbrev pub IsTraced : List (List Cell) → List Section → (ℕ → List ℕ) → Type 0
-IsTraced rows groups message_of =
-    (placing : Placing) × IsReadBy rows groups message_of placing
+-- they can be read: there are such row numbers, under which the strokes of each label, which has
+-- colour color_at k where its position is k, have its colour
+pub record IsTraced (rows : List (List Cell)) (groups : List Section) (message_of : ℕ → List ℕ)
+    (color_at : ℕ → Option Color) : Type 0 where
+  pub placing : Placing
+  pub reads : IsReadBy rows groups message_of placing
+  pub strokes_have_the_colors_of_their_labels : has_label_colors rows groups placing color_at ≡ true
 
--- they are read in one way: row numbers that they are read by agree on source rows, and on the head
--- and the message of each gutter label
+-- they are read in one way: row numbers that they are read by agree on source rows, on heads and on
+-- messages
 abbrev pub AreReadInOneWay : List (List Cell) → List Section → (ℕ → List ℕ) → Type 0
 AreReadInOneWay rows groups message_of =
     (p q : Placing) → IsReadBy rows groups message_of p → IsReadBy rows groups message_of q
-    → AgreeOnStrokes groups p q
+    → AgreeOnStrokes message_of groups p q
 
 -- what was before, and is now, in the writer; the accepted labels are infos
 pub record Headline {S Id : Type 0} (w : World S Id) (r : ReportFields S) (infos : List LabelInfo)
     (before after : Option (List ℕ)) : Type 0 where
   pub exactly_the_printed_canvas_was_sent : Appends before after (printed (canvas w r infos))
   pub each_message_is_traced : IsTraced (canvas w r infos) (sections w r infos)
-      (texts_of r).message_of
+      (texts_of r).message_of (label_color r)
   pub in_one_way : AreReadInOneWay (canvas w r infos) (sections w r infos) (texts_of r).message_of
   pub each_cell_takes_the_columns_of_its_text : HaveColumnsOfTexts (canvas w r infos)
   pub its_rows_are_the_lines_that_are_sent : HaveNoEscapes w r → HaveNoLineFeeds w r

@@ -4,6 +4,7 @@ pub mod Accept
 pub mod Groups
 pub mod Ranks
 pub mod Rows
+pub mod RowNames
 pub mod Columns
 pub mod Strokes
 pub mod Bars
@@ -15,6 +16,7 @@ pub mod Sent
 pub mod Placing
 pub mod Blocks
 pub mod Causes
+pub mod LabelColors
 pub mod Readings
 pub mod Variants
 pub mod Headline

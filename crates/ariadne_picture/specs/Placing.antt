@@ -1,6 +1,6 @@
--- How a finished picture is read. A placing says which of its rows belong together; with it each
--- clause of the tracing promise is a test of the canvas alone: of row numbers, cell texts and
--- columns, and of what the labels are, but of no row name and no stroke. Rows, cells, lines and
+-- How a finished picture is read. A placing says which of its rows belong together. With it each
+-- clause of the tracing promise is a test of the canvas alone. It reads row numbers, cell texts and
+-- columns, and what the labels are, but no row name and no stroke. Rows, cells, lines and
 -- places count from 0.
 use Rattle.std.specs.Prelude.{ℕ, ◌+◌, ◌-◌, ◌*◌, Bool, true, not, ◌&&◌, ◌||◌, ◌==◌, nat_eq}
 use Rattle.std.specs.Prelude.{nat_le, nat_lt, if◌then◌else◌, List, [], ◌∷◌, ◌++◌, length, map, take}

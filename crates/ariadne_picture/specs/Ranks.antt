@@ -1,7 +1,7 @@
 -- The labels of one group, by what they do beside and below a line. A label over several lines with
 -- a message owns a gutter column, the longest one the leftmost. At each line one of those that
--- start or end there may be the margin label, whose arrow leaves the gutter beside the source row;
--- the other labels of the line are its line labels, which have rows below it.
+-- start or end there may be the margin label, whose arrow leaves the gutter beside the source row.
+-- The other labels of the line are its line labels, which have rows below it.
 use Rattle.std.specs.Prelude.{ℕ, ◌-◌, Bool, true, false, not, ◌&&◌, ◌||◌, ◌==◌, nat_lt, int_lt}
 use Rattle.std.specs.Prelude.{if◌then◌else◌, List, [], ◌∷◌, ◌++◌, length, map, Option, Some, None}
 use Rattle.std.specs.Prelude.{filter, is_some}

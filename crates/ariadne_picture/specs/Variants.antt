@@ -53,9 +53,8 @@ pub record HaveNoEscapes {S Id : Type 0} (w : World S Id) (r : ReportFields S) :
   pub sources : AllByRecursion (λ label. IfSome (w.source_of (w.id_of label.span))
       (λ source. HasNoEscape (chars source.text))) r.labels
 
--- colours move nothing: what is left of the canvas without its colours is the canvas of the report
--- without colours, and what is left of the bytes without escape sequences is the print of that
--- canvas
+-- Colours move nothing. What is left of the canvas without its colours is the canvas of the report
+-- without colours. What is left of the bytes without escape sequences is the print of that canvas.
 pub record ColorsMoveNothing {S Id : Type 0} (w : World S Id) (r : ReportFields S)
     (infos : List LabelInfo) : Type 0 where
   pub cells : erased (canvas w r infos) ≡ canvas w (colorless r) infos

@@ -2,7 +2,8 @@
 //! nothing: calling it tells the law.
 
 ghost use Rattle.std.specs.Prelude.{◌≡◌, ◌↔◌, ◌⊎◌, ℕ, Bool, true, List, [], Option, Some, None};
-ghost use Rattle.std.specs.Prelude.{nat_lt, int_lt, length, slice_get, IsTrue, IsFalse};
+ghost use Rattle.std.specs.Prelude.{◌≤◌, nat_lt, int_lt, length, slice_get, IsTrue, IsFalse};
+ghost use Rattle.std.specs.Prelude.{◌≢◌, is_some, map, option_and_then};
 ghost use Rattle.std.specs.Prelude.{All, AllPairs, Contains, IsPermutation, IsSortedBy};
 ghost use Rattle.std.specs.Cmp.{IsStrictWeakOrder};
 ghost use Rattle.std.specs.List.{AllByRecursion, IsFirstBest};
@@ -10,18 +11,21 @@ ghost use Rattle.std.specs.List.Sorted.{IsStableBy};
 ghost use Rattle.ariadne_picture.specs.declared.cell.Glyph.TheVariants.{Blank, Hbar, Vbar, Xbar};
 ghost use Rattle.ariadne_picture.specs.declared.cell.Glyph.TheVariants.{Lbot, Lcross, Ltop};
 ghost use Rattle.ariadne_picture.specs.declared.cell.Glyph.TheVariants.{Rarrow, VbarGap};
+ghost use Rattle.ariadne_base.specs.Listing.{Listing};
 ghost use Rattle.ariadne_picture.specs.declared.label_info.LabelInfo.{LabelInfo};
+ghost use Rattle.ariadne_picture.specs.declared.verdict.Verdict.TheVariants.{Accepted};
 ghost use Rattle.ariadne_picture.specs.declared.label_info.Side.TheVariants.{Starts, Ends};
-ghost use Rattle.ariadne_picture.specs.Accept.{drawn_labels};
+ghost use Rattle.ariadne_picture.specs.Accept.{drawn_labels, verdict_in};
 ghost use Rattle.ariadne_picture.specs.Bars.{BarBesideAlternate, BarBesideArrow, BarBesideLine};
 ghost use Rattle.ariadne_picture.specs.Bars.{EndsNoEarlier, IsLineLabel, IsMarginLabel};
 ghost use Rattle.ariadne_picture.specs.Bars.{IsGutterLabel, IsOfLine};
 ghost use Rattle.ariadne_picture.specs.Bars.{IsInside, IsOutside, Shows};
 ghost use Rattle.ariadne_picture.specs.Blocks.{has_whole_blocks};
-ghost use Rattle.ariadne_picture.specs.Canvas.{Cell, canvas, sections, texts_of};
+ghost use Rattle.ariadne_picture.specs.Canvas.{Cell, canvas, group_id, groups, sections, texts_of};
 ghost use Rattle.ariadne_picture.specs.Causes.{has_no_other_strokes};
-ghost use Rattle.ariadne_picture.specs.Groups.{AreGroupsOf, groups_of, ordered};
-ghost use Rattle.ariadne_picture.specs.Headline.{AreReadInOneWay, CanBeRead, IsTraced};
+ghost use Rattle.ariadne_picture.specs.Groups.{AreGroupsOf, group_start_line, groups_of, ordered};
+ghost use Rattle.ariadne_picture.specs.Headline.{AreReadInOneWay, CanBeRead, IsReadBy, IsTraced};
+ghost use Rattle.ariadne_picture.specs.LabelColors.{has_label_colors, label_color};
 ghost use Rattle.ariadne_picture.specs.Lists.{best, in_order};
 ghost use Rattle.ariadne_picture.specs.Placing.{has_ends_of_gutter_traces, has_gutter_bars};
 ghost use Rattle.ariadne_picture.specs.Placing.{has_inline_traces, has_message_rows, is_aligned};
@@ -29,17 +33,18 @@ ghost use Rattle.ariadne_picture.specs.Placing.{Placing, is_placing};
 ghost use Rattle.ariadne_picture.specs.Ranks.{Sheet, is_before, is_hidden, is_nearer_margin};
 ghost use Rattle.ariadne_picture.specs.Ranks.{gutter_labels};
 ghost use Rattle.ariadne_picture.specs.Ranks.{span_len};
-ghost use Rattle.ariadne_picture.specs.Readings.{AgreeOnLines};
+ghost use Rattle.ariadne_picture.specs.Readings.{AgreeOnEnds, AgreeOnHeads, AgreeOnLines};
 ghost use Rattle.ariadne_picture.specs.Report.{AreForward, ConfigFields, HaveOneSource};
 ghost use Rattle.ariadne_picture.specs.Report.{LabelFields, ReportFields, World};
+ghost use Rattle.ariadne_picture.specs.RowNames.{HasRow};
 ghost use Rattle.ariadne_picture.specs.Rows.{Row, source, alternate, arrow, gap, before, rows};
 ghost use Rattle.ariadne_picture.specs.Sent.{HaveColumnsOfTexts, HaveNoLineFeeds, RowsAreLines};
 ghost use Rattle.ariadne_picture.specs.Strokes.{bar_at, first_row, is_preferred, last_row};
 ghost use Rattle.ariadne_picture.specs.Variants.{BytesDrawAsCharacters, ColorsMoveNothing};
 ghost use Rattle.ariadne_picture.specs.Variants.{HasNoEscape, HaveNoEscapes};
 
-/// `in_order` is a stable sort by any strict weak order: it keeps the elements, leaves none less
-/// than the one before it, and keeps those of which neither is less in the order that they had.
+/// `in_order` is a stable sort by any strict weak order. It keeps the elements, and leaves none less
+/// than the one before it. Those of which neither is less stay in the order that they had.
 pub fn in_order_is_a_stable_sort<T>()
     ensures permutation { (less : T → T → Bool) (xs : List T)
         → IsPermutation xs (in_order less xs) }
@@ -58,9 +63,9 @@ pub fn best_is_the_first_unbeaten<T>()
     ensures none { (beats : T → T → Bool) (xs : List T) → best beats xs ≡ None → xs ≡ [] }
 {}
 
-/// The orders that a picture sorts and chooses by are strict weak orders: those of the labels, of
-/// the gutter labels by falling length, of the line labels, of the margin label, and of the
-/// underline that is seen.
+/// The orders that a picture sorts and chooses by are strict weak orders. They are those of the
+/// labels, of the gutter labels by falling length, of the line labels, of the margin label, and of
+/// the underline that is seen.
 pub fn orders_of_a_picture()
     ensures labels { IsStrictWeakOrder (λ (a b : LabelInfo). int_lt a.order b.order) }
     ensures lengths { IsStrictWeakOrder (λ (a b : LabelInfo). nat_lt (span_len b) (span_len a)) }
@@ -77,6 +82,41 @@ pub fn groups_are_the_only_cutting()
     ensures only { (same_source : ℕ → ℕ → Bool) (labels : List LabelInfo)
         (groups : List (List LabelInfo))
         → AreGroupsOf same_source labels groups → groups ≡ groups_of same_source labels }
+{}
+
+/// A label with a reason beside it is not drawn, and an accepted one without a reason is. Which
+/// labels are drawn hangs on the positions alone that have a reason.
+pub fn labels_are_drawn_or_listed<S, Id, R>()
+    ensures never_both { (w : World S Id) (r : ReportFields S) (reasons : List (Option R)) (k : ℕ)
+        (reason : R) (a : LabelInfo)
+        → AreForward w r → slice_get reasons k ≡ Some (Some reason)
+        → Contains (drawn_labels w r.config 0 r.labels reasons) a → a.position ≢ k }
+    ensures drawn { (w : World S Id) (r : ReportFields S) (reasons : List (Option R)) (k : ℕ)
+        (label : LabelFields S) (source : Listing) (a : LabelInfo)
+        → slice_get r.labels k ≡ Some label → slice_get reasons k ≡ Some None
+        → w.source_of (w.id_of label.span) ≡ Some source
+        → verdict_in w r.config k label source ≡ Accepted a
+        → Contains (drawn_labels w r.config 0 r.labels reasons) a }
+    ensures determined { (w : World S Id) (r : ReportFields S) (reasons others : List (Option R))
+        → map is_some reasons ≡ map is_some others
+        → drawn_labels w r.config 0 r.labels reasons ≡ drawn_labels w r.config 0 r.labels others }
+{}
+
+/// A group begins at the least line where one of its labels starts: none starts on an earlier line,
+/// and one starts there.
+pub fn groups_begin_at_their_least_line()
+    ensures least { (group : List LabelInfo) (a : LabelInfo)
+        → Contains group a → group_start_line group ≤ a.start_line }
+    ensures reached { (group : List LabelInfo) (a : LabelInfo)
+        → Contains group a → All EndsNoEarlier group
+        → (b : LabelInfo) × Contains group b × (b.start_line ≡ group_start_line group) }
+{}
+
+/// The source of each group is held, so `group_source` never takes its default.
+pub fn groups_have_their_sources<S, Id, R>()
+    ensures { (w : World S Id) (r : ReportFields S) (reasons : List (Option R)) → AreForward w r
+        → AllByRecursion (λ group. is_some (option_and_then w.source_of (group_id w r group)) ≡ true)
+        (groups w r (drawn_labels w r.config 0 r.labels reasons)) }
 {}
 
 /// Each label that is drawn ends on the line where it starts or on a later one, and so does each
@@ -100,6 +140,17 @@ pub fn rows_stand_in_order()
     ensures not_itself { (a : Row) → IsFalse (before a a) }
     ensures chain { (a b c : Row)
         → IsTrue (before a b) → IsTrue (before b c) → IsTrue (before a c) }
+{}
+
+/// The rows of a group are the only list in that order whose members are those that it has, case by
+/// case.
+pub fn rows_are_the_only_list()
+    ensures members { (s : Sheet) (is_last : Bool) (helps notes : List (List ℕ)) (x : Row)
+        → Contains (rows s is_last helps notes) x ↔ HasRow s is_last helps notes x }
+    ensures only { (s : Sheet) (is_last : Bool) (helps notes : List (List ℕ)) (xs : List Row)
+        → AllPairs (λ a b. IsTrue (before a b)) xs
+        → ((x : Row) → Contains xs x ↔ HasRow s is_last helps notes x)
+        → xs ≡ rows s is_last helps notes }
 {}
 
 /// A gutter label starts as the margin label of its start line or as a line label there, and ends
@@ -130,9 +181,9 @@ pub fn gutter_labels_have_a_first_and_a_last_row()
 /// The gutter bar of a gutter label stands in the rows where a reader of the picture follows it,
 /// and in no others. Beside a source row, or the gap row of a hidden line: where the gutter label
 /// covers the line, is not its margin label and does not start there. Beside the rows of a line
-/// label: where the gutter label starts on an earlier line and ends on a later one, starts on this
-/// line as the margin label or as a line label of a lower number, or ends on this line as a line
-/// label whose arrow row is further down.
+/// label there are three cases. The gutter label starts on an earlier line and ends on a later one.
+/// Or it starts on this line as the margin label, or as a line label of a lower number. Or it ends
+/// on this line as a line label whose arrow row is further down.
 pub fn bars_stand_case_by_case()
     ensures source { (s : Sheet) (i l : ℕ) (a : LabelInfo) → IsGutterLabel s i a
         → (IsTrue (bar_at s (source l) i) ↔ BarBesideLine s i a l) }
@@ -147,8 +198,8 @@ pub fn bars_stand_case_by_case()
 {}
 
 /// What the column of a gutter label shows, row by row: its head in its first row and its corner in
-/// its last; between these a bar, a tee, a broken bar beside hidden lines, or a horizontal that
-/// crosses it; and outside of these nothing but a horizontal that crosses it.
+/// its last. Between these it shows a bar, a tee, a broken bar beside hidden lines, or a horizontal
+/// that crosses it. Outside of these it shows nothing but a horizontal that crosses it.
 pub fn gutter_columns_show_their_strokes()
     ensures head { (s : Sheet) (i : ℕ) (a : LabelInfo) → IsGutterLabel s i a
         → Shows s (first_row s i a) i Ltop }
@@ -242,15 +293,27 @@ pub fn no_stroke_is_without_a_cause<S, Id, R>()
         CanBeRead rows groups (λ placing. has_no_other_strokes rows groups placing) }
 {}
 
-/// Every picture can be read, under one choice of row numbers for all of this: its rows belong
-/// together, each accepted message has a row of its own, strokes lead from it to its label, in the
-/// columns where the source row shows them, and no stroke stands elsewhere. The two premises hold wherever sources are looked
-/// up by their ids, and labels start at most at their ends.
+/// Colours lead too: the strokes in a label's own rows, its bars, and its verticals where no other is
+/// seen, have its colour.
+pub fn strokes_have_the_colors_of_their_labels<S, Id, R>()
+    ensures { (w : World S Id) (r : ReportFields S) (reasons : List (Option R))
+        → HaveOneSource w → AreForward w r
+        → let infos = drawn_labels w r.config 0 r.labels reasons in
+        let rows = canvas w r infos in let groups = sections w r infos in
+        CanBeRead rows groups (λ placing.
+        has_label_colors rows groups placing (label_color r)) }
+{}
+
+/// Every picture can be read, under one choice of row numbers for all of this. Its rows belong
+/// together. Each accepted message has a row of its own, and strokes lead from it to its label, in
+/// the columns where the source row shows them and in the label's colour. No stroke stands elsewhere.
+/// The two premises hold wherever sources are looked up by their ids, and each label's start is at
+/// most its end.
 pub fn every_picture_can_be_read<S, Id, R>()
     ensures { (w : World S Id) (r : ReportFields S) (reasons : List (Option R))
         → HaveOneSource w → AreForward w r
         → let infos = drawn_labels w r.config 0 r.labels reasons in
-        IsTraced (canvas w r infos) (sections w r infos) (texts_of r).message_of }
+        IsTraced (canvas w r infos) (sections w r infos) (texts_of r).message_of (label_color r) }
 {}
 
 /// The source row of each line is found in one way: row numbers under which the rows of a picture
@@ -264,11 +327,31 @@ pub fn lines_are_found_in_one_way<S, Id, R>()
         → AgreeOnLines groups p q }
 {}
 
-/// Labels over several lines are read in one way: row numbers that a picture is read by agree on
-/// source rows, and on the head and the message of each such label that has one.
+/// Labels over several lines are read in one way: row numbers that a picture is read by agree on the
+/// head and the message of each such label that has one.
 pub fn gutter_labels_are_read_in_one_way<S, Id, R>()
-    ensures { (w : World S Id) (r : ReportFields S) (reasons : List (Option R))
+    ensures heads { (w : World S Id) (r : ReportFields S) (reasons : List (Option R))
         → AreForward w r
+        → let infos = drawn_labels w r.config 0 r.labels reasons in
+        let rows = canvas w r infos in let groups = sections w r infos in
+        let message_of = (texts_of r).message_of in
+        (p q : Placing) → IsReadBy rows groups message_of p → IsReadBy rows groups message_of q
+        → AgreeOnHeads groups p q }
+    ensures ends { (w : World S Id) (r : ReportFields S) (reasons : List (Option R))
+        → AreForward w r
+        → let infos = drawn_labels w r.config 0 r.labels reasons in
+        let rows = canvas w r infos in let groups = sections w r infos in
+        let message_of = (texts_of r).message_of in
+        (p q : Placing) → IsReadBy rows groups message_of p → IsReadBy rows groups message_of q
+        → AgreeOnEnds groups p q }
+{}
+
+/// Pictures are read in one way: row numbers that a picture is read by agree on source rows, on
+/// heads and on messages, but that those of twins may change places. Twins are two labels within one
+/// line, with one message, attached at one column.
+pub fn pictures_are_read_in_one_way<S, Id, R>()
+    ensures { (w : World S Id) (r : ReportFields S) (reasons : List (Option R))
+        → HaveOneSource w → AreForward w r
         → let infos = drawn_labels w r.config 0 r.labels reasons in
         AreReadInOneWay (canvas w r infos) (sections w r infos) (texts_of r).message_of }
 {}
@@ -280,9 +363,9 @@ pub fn cells_take_the_columns_of_their_texts<S, Id>()
         → HaveColumnsOfTexts (canvas w r infos) }
 {}
 
-/// The rows of a picture are the lines that are sent, where no text that was handed in has the byte
-/// that begins an escape sequence, and none that a row shows whole has a line feed. Behind the last
-/// line feed stands nothing.
+/// The rows of a picture are the lines that are sent, and behind the last line feed stands nothing.
+/// For that no text that was handed in may have the byte that begins an escape sequence, and none
+/// that a row shows whole may have a line feed.
 pub fn rows_are_lines<S, Id>()
     ensures { (w : World S Id) (r : ReportFields S) (infos : List LabelInfo)
         → HaveNoEscapes w r → HaveNoLineFeeds w r → RowsAreLines (canvas w r infos) }

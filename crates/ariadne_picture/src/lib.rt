@@ -3,32 +3,32 @@
 //!
 //! The definitions stand in `specs/`. Read in this order, each file builds on those above it:
 //!
-//! | File | What it says | Minutes |
-//! |---|---|---|
-//! | `Lists` | a stable order, the best element, lists joined | 2 |
-//! | `Report` | a report as its calls set it, and what is read of ids, names and sources | 5 |
-//! | `Accept` | which labels are drawn, and where their ends lie | 6 |
-//! | `Groups` | how the labels are cut into groups, and which lines these show | 6 |
-//! | `Ranks` | what the labels of a group do in the gutter, and at each line | 6 |
-//! | `Columns` | how wide each character is shown, and where it begins | 5 |
-//! | `Rows` | the rows of a group, each by a name | 8 |
-//! | `Strokes` | which places, rows and columns each stroke covers | 8 |
-//! | `Cells` | which of the strokes that meet in a cell is seen | 10 |
-//! | `Pieces` | the texts of each row | 12 |
-//! | `Canvas` | the whole picture, in colours | 10 |
-//! | `Print` | the bytes that are sent | 4 |
-//! | `Sent` | what columns and lines are in what is sent | 3 |
-//! | `Placing` | how a finished picture is read, clause by clause | 30 |
-//! | `Blocks` | how many rows stand below a line | 1 |
-//! | `Causes` | that no stroke in the text is none of a label's | 8 |
-//! | `Readings` | what row numbers that a picture is read by agree on | 2 |
-//! | `Variants` | what moves nothing: colours, and what offsets count | 8 |
-//! | `Headline` | what a success of `write` means | 3 |
+//! | File | What it says |
+//! |---|---|
+//! | `Lists` | a stable order, the best element, lists joined |
+//! | `Report` | a report as its calls set it, and what is read of ids, names and sources |
+//! | `Accept` | which labels are drawn, and where their ends lie |
+//! | `Groups` | how the labels are cut into groups, and which lines these show |
+//! | `Ranks` | what the labels of a group do in the gutter, and at each line |
+//! | `Columns` | how wide each character is shown, and where it begins |
+//! | `Rows` | the rows of a group, each by a name |
+//! | `Strokes` | which places, rows and columns each stroke covers |
+//! | `Cells` | which of the strokes that meet in a cell is seen |
+//! | `Pieces` | the texts of each row |
+//! | `Canvas` | the whole picture, in colours |
+//! | `Print` | the bytes that are sent |
+//! | `Sent` | what columns and lines are in what is sent |
+//! | `Placing` | how a finished picture is read, clause by clause |
+//! | `Blocks` | how many rows stand below a line |
+//! | `Causes` | that no stroke in the text is none of a label's |
+//! | `LabelColors` | that strokes have the colours of their labels |
+//! | `Readings` | what row numbers that a picture is read by agree on |
+//! | `Variants` | what moves nothing: colours, and what offsets count |
+//! | `Headline` | what a success of `write` means |
 //!
-//! For the headline alone `Report`, `Accept`, `Sent`, `Placing`, `Blocks`, `Causes`, `Readings`,
-//! `Variants` and `Headline` serve. `Bars` says once more, case by case, where gutter bars stand; it
-//! serves the laws in [`laws`]. What serves only the proofs of code stands in `specs/` of the crates
-//! above, and can be skipped.
+//! `Bars` says once more, case by case, where gutter bars stand, and `RowNames` which rows a group
+//! has; they serve the laws in [`laws`]. What serves only the proofs of code stands in `specs/` of the
+//! crates above, and can be skipped.
 #![tactic(auto)]
 
 pub mod cell;

@@ -2,10 +2,9 @@
 //! gets, so `stdout` has the first picture, and `tools/try-program` compares both.
 #![tactic(auto)]
 
-use ariadne::{CharSet, Config, Label, Report, ReportKind, Source, WriteError};
+use ariadne::{CharSet, Config, Label, Report, ReportKind, Source};
 use std::alloc::{AllocError, Global};
-use std::io::Stderr;
-use std::process::ExitCode;
+use std::io;
 
 /// A warning with this message, about the first character.
 fn warning(alloc: Global, message: &str) -> Result<Report<'static>, AllocError> {
@@ -19,17 +18,9 @@ fn warning(alloc: Global, message: &str) -> Result<Report<'static>, AllocError> 
     Ok(report.finish())
 }
 
-/// Prints the first report to standard output, and the second to standard error.
-fn print_both<R: Print + AllocGlobal>(rt: &R, stderr: Stderr) -> Result<(), WriteError> {
+fn main(rt: HostRuntime) -> io::Result<()> {
     let mut source = Source::from(rt.alloc(), "ab")?;
-    warning(rt.alloc(), "on standard output")?.print(&mut source, rt)?;
-    warning(rt.alloc(), "on standard error")?.eprint(&mut source, stderr)?;
+    warning(rt.alloc(), "on standard output")?.print(&mut source, &rt)?;
+    warning(rt.alloc(), "on standard error")?.eprint(&mut source, rt.stderr())?;
     Ok(())
-}
-
-fn main(rt: HostRuntime) -> ExitCode {
-    match print_both(&rt, rt.stderr()) {
-        Ok(()) => ExitCode::SUCCESS,
-        Err(_) => ExitCode::FAILURE,
-    }
 }

@@ -69,9 +69,13 @@ fn a_writer_that_fails_is_told_with_what_it_took(rt: HostRuntime) {
 #[test]
 fn the_first_offence_of_a_text(rt: HostRuntime) {
     let cases = [
-        ("a(b)[]\n", None),
+        ("", None),
+        ("a(b)[]", None),
+        (")(", Some(Offence::Unopened(0))),
         ("\u{e9})", Some(Offence::Unopened(1))),
         ("([)]", Some(Offence::Mismatched(1, 2))),
+        ("([", Some(Offence::Unclosed(1))),
+        ("(()", Some(Offence::Unclosed(0))),
         ("{[()]}{", Some(Offence::Unclosed(6))),
     ];
     for (text, want) in cases {

@@ -37,9 +37,31 @@ const MEMBERS: [&str; 26] = [
 /// The members of a source that has an id.
 const SOURCE: [&str; 3] = ["id", "text", "line_offset"];
 
-/// Refuses a case that has a member of another name.
+/// The members that stand beside `sources` alone.
+const OF_SEVERAL: [&str; 4] = ["sources", "missing", "hidden", "id"];
+
+/// Refuses a case that tells of one source and of several, or of none.
+fn has_one_form(case: &Table) -> Read<'_, ()> {
+    if !case.contains_key("source") {
+        return match (
+            case.contains_key("sources"),
+            case.contains_key("line_offset"),
+        ) {
+            (false, _) => Err(Mistake::Odd("source", "missing")),
+            (true, true) => Err(Mistake::Odd("line_offset", "a member of each of the 'sources'")),
+            (true, false) => Ok(()),
+        };
+    }
+    match OF_SEVERAL.iter().find(|name| case.contains_key(**name)) {
+        Some(name) => Err(Mistake::Odd(name, "no member beside 'source'")),
+        None => Ok(()),
+    }
+}
+
+/// Refuses a case that has a member of another name, or members that don't go together.
 pub fn has_known_members(case: &Table) -> Read<'_, ()> {
     has_only(case, &MEMBERS)?;
+    has_one_form(case)?;
     for told in list(case, "sources")? {
         has_only(table_of(told, "sources")?, &SOURCE)?;
     }

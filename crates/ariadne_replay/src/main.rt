@@ -14,7 +14,6 @@
 mod case;
 mod colors;
 mod discreet;
-mod forgetful;
 mod making;
 mod members;
 mod mistake;

@@ -198,18 +198,19 @@ fn texts_of<'c>(alloc: Global, case: &'c Table, name: &'static str) -> Read<'c, 
     Ok(texts)
 }
 
-/// How helps and notes are given to a report.
+/// How helps, notes and labels are given to a report.
 #[derive(Clone, Copy)]
 enum Way {
     /// One behind the other.
     Add,
-    /// Each in place of those before it.
+    /// Each help or note in place of those before it.
     Set,
-    /// The first one alone, and behind it the others together.
+    /// The first by a call that adds it, the second by one that returns the builder, and the others
+    /// together.
     With,
 }
 
-/// How a case gives helps and notes to its report.
+/// How a case gives helps, notes and labels to its report.
 fn way_of(case: &Table) -> Read<'_, Way> {
     match text_if_any(case, "builder")?.unwrap_or("add") {
         "add" => Ok(Way::Add),
@@ -268,46 +269,88 @@ pub fn labels_of<S: Placed>(alloc: Global, case: &Table) -> Read<'_, Vec<Label<S
     Ok(labels)
 }
 
-/// Gives a report helps.
-fn add_helps<S: Span>(
-    builder: &mut ReportBuilder<'_, S>,
-    told: &Told<'_>,
-) -> Result<(), AllocError> {
-    let mut helps = told.helps.iter().copied();
-    if let Way::With = told.way {
-        if let Some(first) = helps.next() {
-            builder.add_help(first)?;
-        }
-        return builder.with_helps(helps);
+/// A report with helps behind those that are there: the first by `add_help`, the second by `with_help`,
+/// and the others by `with_helps`.
+fn with_helps<'c, S: Span + Drop>(
+    mut builder: ReportBuilder<'c, S>,
+    helps: &[&str],
+) -> Result<ReportBuilder<'c, S>, AllocError> {
+    let mut helps = helps.iter().copied();
+    if let Some(help) = helps.next() {
+        builder.add_help(help)?;
     }
-    for help in helps {
+    if let Some(help) = helps.next() {
+        builder = builder.with_help(help)?;
+    }
+    builder.with_helps(helps)?;
+    Ok(builder)
+}
+
+/// A report with the helps of its case.
+fn helped<'c, S: Span + Drop>(
+    mut builder: ReportBuilder<'c, S>,
+    told: &Told<'_>,
+) -> Result<ReportBuilder<'c, S>, AllocError> {
+    if let Way::With = told.way {
+        return with_helps(builder, told.helps.as_slice());
+    }
+    for help in told.helps.iter().copied() {
         match told.way {
             Way::Set => builder.set_help(help)?,
             _ => builder.add_help(help)?,
         }
     }
-    Ok(())
+    Ok(builder)
 }
 
-/// Gives a report notes.
-fn add_notes<S: Span>(
-    builder: &mut ReportBuilder<'_, S>,
-    told: &Told<'_>,
-) -> Result<(), AllocError> {
-    let mut notes = told.notes.iter().copied();
-    if let Way::With = told.way {
-        if let Some(first) = notes.next() {
-            builder.add_note(first)?;
-        }
-        return builder.with_notes(notes);
+/// A report with notes behind those that are there: the first by `add_note`, the second by `with_note`,
+/// and the others by `with_notes`.
+fn with_notes<'c, S: Span + Drop>(
+    mut builder: ReportBuilder<'c, S>,
+    notes: &[&str],
+) -> Result<ReportBuilder<'c, S>, AllocError> {
+    let mut notes = notes.iter().copied();
+    if let Some(note) = notes.next() {
+        builder.add_note(note)?;
     }
-    for note in notes {
+    if let Some(note) = notes.next() {
+        builder = builder.with_note(note)?;
+    }
+    builder.with_notes(notes)?;
+    Ok(builder)
+}
+
+/// A report with the notes of its case.
+fn noted<'c, S: Span + Drop>(
+    mut builder: ReportBuilder<'c, S>,
+    told: &Told<'_>,
+) -> Result<ReportBuilder<'c, S>, AllocError> {
+    if let Way::With = told.way {
+        return with_notes(builder, told.notes.as_slice());
+    }
+    for note in told.notes.iter().copied() {
         match told.way {
             Way::Set => builder.set_note(note)?,
             _ => builder.add_note(note)?,
         }
     }
-    Ok(())
+    Ok(builder)
+}
+
+/// A report with labels: the first by `add_label`, the second by `with_label`, and the others by
+/// `with_labels`.
+fn with_labels<'c, S: Span + Drop>(
+    mut builder: ReportBuilder<'c, S>,
+    labels: Vec<Label<S>>,
+) -> Result<ReportBuilder<'c, S>, AllocError> {
+    let mut labels = labels.into_iter();
+    if let Some(label) = labels.next() {
+        builder.add_label(label)?;
+    }
+    if let Some(label) = labels.next() {
+        builder = builder.with_label(label)?;
+    }
+    builder.with_labels(labels)
 }
 
 /// Adds a note for each colour: its name in the colour, and on it.
@@ -342,9 +385,11 @@ pub fn report<'c, S: Span + Drop>(
     if let Some(message) = told.message {
         builder.set_message(message)?;
     }
-    add_helps(&mut builder, told)?;
-    add_notes(&mut builder, told)?;
+    builder = noted(helped(builder, told)?, told)?;
     add_painted(alloc, &mut builder, told)?;
+    if let Way::With = told.way {
+        return Ok(with_labels(builder, labels)?.finish());
+    }
     builder.add_labels(labels)?;
     Ok(builder.finish())
 }

@@ -2,7 +2,6 @@
 
 use crate::case::{has_known_members, only_source};
 use crate::discreet::Discreet;
-use crate::forgetful::Forgetful;
 use crate::making::{counted, labels_of, own_span, report, told_of};
 use crate::members::{list, table_of, text, text_if_any};
 use crate::mistake::{Mistake, Read};
@@ -38,40 +37,48 @@ fn is_inclusive(case: &Table) -> Read<'_, bool> {
 /// The answer of a case's report.
 pub fn answer_of<'c, R: AllocGlobal + Files>(rt: &R, case: &'c Table) -> Read<'c, Answer> {
     has_known_members(case)?;
+    let call = call_of(case)?;
     match (case.contains_key("source"), is_inclusive(case)?) {
-        (true, false) => plain::<Range<usize>>(rt.alloc(), case),
-        (true, true) => plain::<RangeInclusive<usize>>(rt.alloc(), case),
-        (false, false) => named::<(String, Range<usize>), R>(rt, case),
-        (false, true) => named::<(String, RangeInclusive<usize>), R>(rt, case),
+        (true, false) => plain::<Range<usize>>(rt.alloc(), call, case),
+        (true, true) => plain::<RangeInclusive<usize>>(rt.alloc(), call, case),
+        (false, false) => named::<(String, Range<usize>), R>(rt, call, case),
+        (false, true) => named::<(String, RangeInclusive<usize>), R>(rt, call, case),
     }
 }
 
-/// The answer of a case over one source without an id.
-fn plain<S: Placed + Span<SourceId = ()>>(alloc: Global, case: &Table) -> Read<'_, Answer> {
+/// The report of a case, over spans of a type.
+fn report_of<S: Placed>(alloc: Global, case: &Table) -> Read<'_, Report<'_, S>> {
     let told = told_of(alloc, case)?;
-    let span: S = own_span(alloc, case)?;
+    let span = own_span(alloc, case)?;
     let labels = labels_of(alloc, case)?;
-    over_source(alloc, case, &report(alloc, &told, span, labels)?)
+    Ok(report(alloc, &told, span, labels)?)
+}
+
+/// The answer of a case over one source without an id.
+fn plain<S: Placed + Span<SourceId = ()>>(
+    alloc: Global,
+    call: Call,
+    case: &Table,
+) -> Read<'_, Answer> {
+    over_source::<S>(alloc, call, case, &report_of(alloc, case)?)
 }
 
 /// The answer of a case over sources with ids.
 fn named<'c, S: Placed + Span<SourceId = String>, R: AllocGlobal + Files>(
     rt: &R,
+    call: Call,
     case: &'c Table,
 ) -> Read<'c, Answer> {
-    let told = told_of(rt.alloc(), case)?;
-    let span: S = own_span(rt.alloc(), case)?;
-    let labels = labels_of(rt.alloc(), case)?;
-    over_sources(rt, case, &report(rt.alloc(), &told, span, labels)?)
+    over_sources::<S, R>(rt, call, case, &report_of(rt.alloc(), case)?)
 }
 
 /// The answer of a report over its only source.
 fn over_source<'c, S: Span<SourceId = ()>>(
     alloc: Global,
+    call: Call,
     case: &'c Table,
     report: &Report<'c, S>,
 ) -> Read<'c, Answer> {
-    let call = call_of(case)?;
     let text = only_source(case)?;
     match text_if_any(case, "cache")?.unwrap_or("Source<String>") {
         "Source<&str>" => Ok(sent(alloc, call, report, &mut counted(alloc, text, case)?)?),
@@ -81,7 +88,7 @@ fn over_source<'c, S: Span<SourceId = ()>>(
         }
         word => {
             let source = counted(alloc, text.to_string(alloc)?, case)?;
-            over_string(alloc, case, report, source, word)
+            over_string(alloc, call, report, source, word)
         }
     }
 }
@@ -89,12 +96,11 @@ fn over_source<'c, S: Span<SourceId = ()>>(
 /// The answer of a report over a source, in the form that a word names.
 fn over_string<'c, S: Span<SourceId = ()>>(
     alloc: Global,
-    case: &'c Table,
+    call: Call,
     report: &Report<'c, S>,
     mut source: Source<String>,
     word: &'c str,
 ) -> Read<'c, Answer> {
-    let call = call_of(case)?;
     match word {
         "Source<String>" => Ok(sent(alloc, call, report, &mut source)?),
         "&Source" => Ok(sent(alloc, call, report, &mut &source)?),
@@ -107,23 +113,24 @@ fn over_string<'c, S: Span<SourceId = ()>>(
 /// The answer of a report over sources that have ids.
 fn over_sources<'c, S: Span<SourceId = String>, R: AllocGlobal + Files>(
     rt: &R,
+    call: Call,
     case: &'c Table,
     report: &Report<'c, S>,
 ) -> Read<'c, Answer> {
-    let call = call_of(case)?;
     let alloc = rt.alloc();
-    if let Some(hidden) = text_if_any(case, "hidden")? {
-        return over_discreet_cache(alloc, case, report, hidden);
-    }
-    match text_if_any(case, "cache")? {
-        None if has_no_offset(case)? => over_map(alloc, case, report),
-        None => over_given_sources(alloc, case, report),
-        Some("(id, Source)") => over_pair(alloc, case, report, false),
-        Some("(id, &Source)") => over_pair(alloc, case, report, true),
-        Some("FnCache") => over_function(alloc, case, report),
-        Some("FileCache") => Ok(sent(alloc, call, report, &mut FileCache::new(rt, alloc))?),
-        Some("no memory") => Ok(sent(alloc, call, report, &mut Forgetful)?),
-        Some(word) => Err(Mistake::Odd(word, "not a cache of sources with ids")),
+    match (text_if_any(case, "hidden")?, text_if_any(case, "cache")?) {
+        (Some(hidden), None) => over_own_cache(alloc, call, case, report, hidden, true),
+        (Some(_), Some(word)) => Err(Mistake::Odd(word, "a cache beside 'hidden'")),
+        (None, None) if has_no_offset(case)? => over_map(alloc, call, case, report),
+        (None, None) => over_given_sources(alloc, call, case, report),
+        (None, Some("(id, Source)")) => over_pair(alloc, call, case, report, false),
+        (None, Some("(id, &Source)")) => over_pair(alloc, call, case, report, true),
+        (None, Some("FnCache")) => over_function(alloc, call, case, report),
+        (None, Some("FileCache")) => {
+            Ok(sent(alloc, call, report, &mut FileCache::new(rt, alloc))?)
+        }
+        (None, Some("no memory")) => over_own_cache(alloc, call, case, report, "", false),
+        (None, Some(word)) => Err(Mistake::Odd(word, "not a cache of sources with ids")),
     }
 }
 
@@ -133,20 +140,31 @@ fn has_no_offset(case: &Table) -> Read<'_, bool> {
     Ok(sources.iter().all(|told| told.get("line_offset").is_none()))
 }
 
+/// The id of a source, and its text.
+fn text_by_id(alloc: Global, told: &Value) -> Read<'_, (String, String)> {
+    let told = table_of(told, "sources")?;
+    let id = text(told, "id")?.to_string(alloc)?;
+    Ok((id, text(told, "text")?.to_string(alloc)?))
+}
+
 /// The answer of a report over a map of its sources.
 fn over_map<'c, S: Span<SourceId = String>>(
     alloc: Global,
+    call: Call,
     case: &'c Table,
     report: &Report<'c, S>,
 ) -> Read<'c, Answer> {
-    let call = call_of(case)?;
     let mut texts = Vec::new(alloc);
     for told in list(case, "sources")? {
-        let told = table_of(told, "sources")?;
-        let id = text(told, "id")?.to_string(alloc)?;
-        texts.push((id, text(told, "text")?.to_string(alloc)?))?;
+        texts.push(text_by_id(alloc, told)?)?;
     }
     Ok(sent(alloc, call, report, &mut sources(alloc, texts)?)?)
+}
+
+/// The id of a source, and the source.
+fn source_by_id(alloc: Global, told: &Value) -> Read<'_, (String, Source<String>)> {
+    let (id, text) = text_by_id(alloc, told)?;
+    Ok((id, counted(alloc, text, table_of(told, "sources")?)?))
 }
 
 /// Fails for every id.
@@ -158,12 +176,8 @@ fn missing(_id: &String) -> Result<String, ()> {
 fn given_sources(alloc: Global, case: &Table) -> Read<'_, HashMap<String, Source<String>>> {
     let mut given = HashMap::new(alloc);
     for told in list(case, "sources")? {
-        let told = table_of(told, "sources")?;
-        let id = text(told, "id")?.to_string(alloc)?;
-        given.insert(
-            id,
-            counted(alloc, text(told, "text")?.to_string(alloc)?, told)?,
-        )?;
+        let (id, source) = source_by_id(alloc, told)?;
+        given.insert(id, source)?;
     }
     Ok(given)
 }
@@ -171,43 +185,47 @@ fn given_sources(alloc: Global, case: &Table) -> Read<'_, HashMap<String, Source
 /// The answer of a report over sources that are given to a cache.
 fn over_given_sources<'c, S: Span<SourceId = String>>(
     alloc: Global,
+    call: Call,
     case: &'c Table,
     report: &Report<'c, S>,
 ) -> Read<'c, Answer> {
-    let call = call_of(case)?;
     let cache = FnCache::new(alloc, missing);
     let mut cache = cache.with_sources(given_sources(alloc, case)?)?;
     Ok(sent(alloc, call, report, &mut cache)?)
 }
 
-/// The answer of a report over a cache that hides the name of one source.
-fn over_discreet_cache<'c, S: Span<SourceId = String>>(
+/// The answer of a report over a cache of the program's own, which hides the name of one source, and
+/// may have no memory for any.
+fn over_own_cache<'c, S: Span<SourceId = String>>(
     alloc: Global,
+    call: Call,
     case: &'c Table,
     report: &Report<'c, S>,
     hidden: &str,
+    has_memory: bool,
 ) -> Read<'c, Answer> {
-    let call = call_of(case)?;
     let cache = FnCache::new(alloc, missing);
     let cache = cache.with_sources(given_sources(alloc, case)?)?;
-    let hidden = hidden.to_string(alloc)?;
-    Ok(sent(alloc, call, report, &mut Discreet { cache, hidden })?)
+    let mut cache = Discreet {
+        cache,
+        hidden: hidden.to_string(alloc)?,
+        has_memory,
+    };
+    Ok(sent(alloc, call, report, &mut cache)?)
 }
 
 /// The answer of a report over the first source alone, or over a reference to it.
 fn over_pair<'c, S: Span<SourceId = String>>(
     alloc: Global,
+    call: Call,
     case: &'c Table,
     report: &Report<'c, S>,
     is_lent: bool,
 ) -> Read<'c, Answer> {
-    let call = call_of(case)?;
     let Some(told) = list(case, "sources")?.first() else {
         return Err(Mistake::Odd("sources", "empty"));
     };
-    let told = table_of(told, "sources")?;
-    let id = text(told, "id")?.to_string(alloc)?;
-    let source = counted(alloc, text(told, "text")?.to_string(alloc)?, told)?;
+    let (id, source) = source_by_id(alloc, told)?;
     if is_lent {
         Ok(sent(alloc, call, report, &mut (id, &source))?)
     } else {
@@ -231,13 +249,13 @@ fn answered(alloc: Global, sources: &[Value], id: &str) -> Result<String, ()> {
     }
 }
 
-/// The answer of a report over a cache whose function answers the texts.
+/// The answer of a report over a cache whose function returns the texts.
 fn over_function<'c, S: Span<SourceId = String>>(
     alloc: Global,
+    call: Call,
     case: &'c Table,
     report: &Report<'c, S>,
 ) -> Read<'c, Answer> {
-    let call = call_of(case)?;
     let sources = list(case, "sources")?;
     let get = |id: &String| -> Result<String, ()> { answered(alloc, sources, id.as_str()) };
     Ok(sent(alloc, call, report, &mut FnCache::new(alloc, get))?)

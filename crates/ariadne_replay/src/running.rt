@@ -58,7 +58,7 @@ fn judged<'c>(rt: &(impl AllocGlobal + Files), case: &'c Table) -> Read<'c, (Sto
     Ok((stored_of(rt.alloc(), case)?, answer))
 }
 
-/// Compares a case with what it stores, tells where they differ, and answers whether they are the
+/// Compares a case with what it stores, tells where they differ, and returns whether they are the
 /// same.
 fn compare(
     rt: &(impl Print + AllocGlobal + Files),
@@ -86,7 +86,7 @@ fn compare(
     }
 }
 
-/// Prints the answer to a case, or else the case with what was drawn. Answers whether it could be
+/// Prints the answer to a case, or else the case with what was drawn. Returns whether it could be
 /// read.
 fn print(
     rt: &(impl Print + AllocGlobal + Files),

@@ -1,4 +1,4 @@
-//! Sends the picture of a case's report by the call that it names, and answers what was sent.
+//! Sends the picture of a case's report by the call that it names, and tells what was sent.
 
 ghost use Rattle.std.specs.Prelude.{Some};
 
@@ -55,7 +55,7 @@ impl End {
     }
 }
 
-/// What a report answers.
+/// What comes of writing a report.
 #[derive(Drop)]
 pub struct Answer {
     /// What is sent.
@@ -77,14 +77,13 @@ pub enum Call {
 
 /// The call that a case names.
 pub fn call_of(case: &Table) -> Read<'_, Call> {
-    if let Some(room) = count_if_any(case, "takes")? {
-        return Ok(Call::WriteInPart(room as usize));
-    }
-    match text_if_any(case, "call")?.unwrap_or("write") {
-        "write" => Ok(Call::Write),
-        "write_for_stdout" => Ok(Call::WriteForStdout),
-        "write_to" => Ok(Call::WriteTo),
-        word => Err(Mistake::Odd(word, "not a call that writes")),
+    match (count_if_any(case, "takes")?, text_if_any(case, "call")?) {
+        (Some(room), None) => Ok(Call::WriteInPart(room as usize)),
+        (Some(_), Some(word)) => Err(Mistake::Odd(word, "a call beside 'takes'")),
+        (None, None | Some("write")) => Ok(Call::Write),
+        (None, Some("write_for_stdout")) => Ok(Call::WriteForStdout),
+        (None, Some("write_to")) => Ok(Call::WriteTo),
+        (None, Some(word)) => Err(Mistake::Odd(word, "not a call that writes")),
     }
 }
 

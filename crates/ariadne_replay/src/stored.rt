@@ -6,7 +6,7 @@ use crate::sending::Answer;
 use std::alloc::Global;
 use toml::{Table, Value};
 
-/// What a case wants to be answered.
+/// What has to come of a case.
 #[derive(Drop)]
 pub struct Stored<'c> {
     pub picture: &'c str,

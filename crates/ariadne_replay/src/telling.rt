@@ -71,7 +71,7 @@ pub fn tell_answer(rt: &(impl Print + AllocGlobal), name: &str, answer: &Answer)
 /// `picture` stand as they are.
 pub fn tell_case(rt: &(impl Print + AllocGlobal), text: &str, answer: &Answer) -> io::Result<()> {
     println!(rt; "[[case]]")?;
-    for line in text.lines() {
+    for line in text.trim_end_matches('\n').lines() {
         if ENDS.iter().any(|end| line.starts_with(*end)) {
             break;
         }

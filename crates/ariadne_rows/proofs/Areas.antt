@@ -68,7 +68,7 @@ one_run set g p w (x ∷ xs) =
     (λ i. ink_copies set g p (w x) i ++ one_run set g p w xs i) ∙ replicate-append-replicate (w x) (total w xs) c
 
 -- a plain blank is a blank
-blank_text : (set : CharSet) → glyph_text set Blank ≡ 32 ∷ []
+pub blank_text : (set : CharSet) → glyph_text set Blank ≡ 32 ∷ []
 unfolding glyph_text glyph_code
 blank_text set = encode_ascii 32 (lit< tt)
 

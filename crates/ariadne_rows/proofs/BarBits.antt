@@ -1,4 +1,4 @@
--- Whether the bar of one gutter label stands, as `is_beside` and `is_below` tell it: the rows of a line show the bar so, and from one row to the next it
+-- Whether the bar of one gutter label stands, as `is_beside` and `is_below` tell it. The rows of a line show the bar so, and from one row to the next it
 -- changes where the gutter label starts or ends, and nowhere else.
 use Rattle.std.proofs.Common.{◌≡◌, ◌≢◌, ℕ, ◌+◌, ◌*◌, ◌<◌, true, false, not, ◌==◌, Some, is_some, length, refl, sym, ap, ◌∙◌, subst, arith}
 use Rattle.std.proofs.Common.{Decides, ◌⊎◌, inl, inr}

@@ -20,13 +20,13 @@ use Rattle.ariadne_picture.specs.Ranks.{Sheet, gutter_labels, gutter_label_ends,
 use Rattle.ariadne_picture.specs.Ranks.{line_labels, is_hidden}
 use Rattle.ariadne_picture.proofs.Labels.Orders.{best-none}
 use Rattle.ariadne_picture.proofs.Lists.Elements.{all-from, all-numbered}
-use Rattle.ariadne_picture.proofs.Lists.Joined.{joined-append, joined-joined}
+use Rattle.ariadne_picture.proofs.Lists.Joined.{filter-joined, joined-append, joined-joined}
 use Rattle.ariadne_picture.proofs.Lists.ListFacts.{none≢some, all-weaker, all-append, all-at, all-filter, all-in_order, all-joined, filter-none, length-in_order, increasing-pairs}
 use Rattle.ariadne_picture.proofs.Lists.StableOrder.{in_order-stable}
 use Rattle.ariadne_picture.proofs.Rows.RowsThere.{all-gutter-labels, starts-within, ends-within}
 use Rattle.ariadne_rows.specs.declared.sheet.Event.{Event}
 use Rattle.ariadne_rows.specs.Sheets.{gutter_events, inline_events, events_of, event_label, labels_of, events_at, IsLineEnd}
-use Rattle.ariadne_rows.proofs.Rising.{RisesBy, in_order-rises, below-prefix, part-between, reached, filter-joined, filter-shorter}
+use Rattle.ariadne_rows.proofs.Rising.{RisesBy, in_order-rises, below-prefix, part-between, reached, filter-shorter}
 
 -- ---- lists
 

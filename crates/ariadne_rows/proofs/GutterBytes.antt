@@ -2,7 +2,7 @@
 use Rattle.std.proofs.Common.{◌≡◌, ℕ, zero, suc, ◌+◌, ◌-◌, ◌*◌, ◌≤◌, List, [], ◌∷◌, ◌++◌, map, replicate, None, Some}
 use Rattle.std.proofs.Common.{Option, drop, lit≤, subst, lit<, refl, sym, ap, ◌∙◌, arith, append_assoc}
 use Rattle.std.specs.List.{range_with_len}
-use Rattle.std.proofs.lemmas.List.{append-nil, map-append, replicate_more, replicate-append-replicate}
+use Rattle.std.proofs.lemmas.List.{append-nil, replicate_more}
 use Rattle.std.proofs.lemmas.Bool.{cond_both}
 use Rattle.std.proofs.lemmas.Str.{encode_ascii}
 use Rattle.std.proofs.Math.Utf8.{encode}
@@ -15,32 +15,19 @@ use Rattle.ariadne_picture.specs.declared.switches.Switches.{Switches}
 use Rattle.ariadne_picture.specs.declared.cell.Glyph.{Glyph}
 use Rattle.ariadne_picture.specs.declared.cell.Glyph.TheVariants.{Blank, Vbar}
 use Rattle.ariadne_picture.specs.declared.cell.Ink.{Ink}
-use Rattle.ariadne_picture.specs.declared.cell.Paint.TheVariants.{Plain, Label}
-use Rattle.ariadne_picture.specs.Canvas.{Palette, color_of, paint_color, cell_of}
+use Rattle.ariadne_picture.specs.declared.cell.Paint.TheVariants.{Label}
+use Rattle.ariadne_picture.specs.Canvas.{Palette, color_of, cell_of}
 use Rattle.ariadne_picture.specs.Cells.{blanks, glyph_code}
 use Rattle.ariadne_picture.specs.Lists.{joined}
 use Rattle.ariadne_picture.specs.Pieces.{Piece, glyph_text, ink_pieces, stroke, spaces, column_size}
 use Rattle.ariadne_picture.specs.Print.{cell_bytes, pieces_bytes}
-use Rattle.ariadne_picture.proofs.Lists.Joined.{joined-append, joined-joined, map-joined}
+use Rattle.ariadne_picture.proofs.Lists.Joined.{joined-joined, map-joined}
+use Rattle.ariadne_cells.proofs.Bytes.{pieces_bytes_first, spaces-append}
 use Rattle.ariadne_rows.specs.Gutters.{column_bytes, bar_ink}
+use Rattle.ariadne_rows.proofs.Areas.{blank_text, spaces_bytes}
 use Rattle.ariadne_rows.proofs.GutterText.{IsHeaded}
 
 -- ---- pieces
-
--- no pieces have no bytes
-pub bytes-none : (p : Palette) → pieces_bytes p [] ≡ []
-unfolding pieces_bytes joined
-bytes-none p = refl
-
--- the first piece, and those behind it
-pub bytes-first : (p : Palette) (x : Piece) (xs : List Piece) → pieces_bytes p (x ∷ xs) ≡ painted (color_of p x.paint) x.text ++ pieces_bytes p xs
-unfolding pieces_bytes joined cell_bytes
-bytes-first p x xs = refl
-
--- pieces one after another
-pub bytes-append : (p : Palette) (xs ys : List Piece) → pieces_bytes p (xs ++ ys) ≡ pieces_bytes p xs ++ pieces_bytes p ys
-unfolding pieces_bytes
-bytes-append p xs ys = ap (joined cell_bytes) (map-append (cell_of p) xs ys) ∙ joined-append cell_bytes (map (cell_of p) xs) (map (cell_of p) ys)
 
 -- joined pieces
 pub bytes-joined : {X : Type 0} (p : Palette) (f : X → List Piece) (xs : List X) → pieces_bytes p (joined f xs) ≡ joined (λ x. pieces_bytes p (f x)) xs
@@ -59,33 +46,6 @@ pub blanks-more : (old b : List ℕ) (n : ℕ) → b ≡ old ++ spaces n → b +
 unfolding spaces
 blanks-more old b n e = ap (λ t. t ++ 32 ∷ []) e ∙ append_assoc old (replicate n 32) (32 ∷ []) ∙ ap (λ t. old ++ t) (replicate_more n 32)
 
--- blanks and more blanks
-pub spaces-append : (m n : ℕ) → spaces m ++ spaces n ≡ spaces (m + n)
-unfolding spaces
-spaces-append m n = replicate-append-replicate m n 32
-
--- a plain piece has no colour
-color-plain : (p : Palette) → color_of p Plain ≡ None
-unfolding color_of paint_color
-color-plain p = cond_both p.is_on None None (λ c. c ≡ None) (λ e. refl) (λ e. refl)
-
--- a plain text is itself
-plain-bytes : (p : Palette) (text : List ℕ) → painted (color_of p Plain) text ≡ text
-plain-bytes p text = ap (λ c. painted c text) (color-plain p)
-
--- a blank is one byte, whatever the character set
-pub blank-text : (set : CharSet) → glyph_text set Blank ≡ 32 ∷ []
-unfolding glyph_text glyph_code
-blank-text set = encode_ascii 32 (lit< tt)
-
--- plain blanks, one piece each
-plain-blanks : (p : Palette) (set : CharSet) (n : ℕ) → pieces_bytes p (replicate n (stroke set Blank Plain)) ≡ spaces n
-unfolding spaces
-plain-blanks p set zero = bytes-none p
-plain-blanks p set (suc n) =
-    bytes-first p (stroke set Blank Plain) (replicate n (stroke set Blank Plain))
-    ∙ (λ i. (plain-bytes p (glyph_text set Blank) ∙ blank-text set) i ++ plain-blanks p set n i)
-
 -- ---- the cells of a column
 
 -- the first cell, and those behind it
@@ -96,7 +56,7 @@ unfolding ink_pieces
 ink-bytes p set ink zero h = absurd (omega arith)
 ink-bytes p set ink (suc n) h =
     let e : n ≡ suc n - 1 = omega arith in
-    bytes-first p (stroke set ink.first ink.first_paint) (replicate n (stroke set ink.rest ink.rest_paint))
+    pieces_bytes_first p (stroke set ink.first ink.first_paint) (replicate n (stroke set ink.rest ink.rest_paint))
     ∙ ap (λ k. painted (color_of p ink.first_paint) (glyph_text set ink.first) ++ pieces_bytes p (replicate k (stroke set ink.rest ink.rest_paint))) e
 
 -- alike cells
@@ -117,7 +77,7 @@ unfolding column_bytes
 blank-column page =
     let set = page.switches.char_set in
     let n = column_size page.switches in
-    ap (pieces_bytes page.palette) (ink-alike set blanks n refl refl) ∙ plain-blanks page.palette set n
+    ap (pieces_bytes page.palette) (ink-alike set blanks n refl refl) ∙ spaces_bytes page.palette set n
 
 -- a column with a bar
 pub bar-column : (page : PageFields) (glyph : Glyph) (position : ℕ) → column_bytes page (bar_ink glyph (Some position))
@@ -127,7 +87,7 @@ bar-column page glyph position =
     let set = page.switches.char_set in
     let n = column_size page.switches in
     ink-bytes page.palette set (bar_ink glyph (Some position)) n (column-some page.switches).0
-    ∙ ap (λ t. painted (color_of page.palette (Label position)) (glyph_text set glyph) ++ t) (plain-blanks page.palette set (n - 1))
+    ∙ ap (λ t. painted (color_of page.palette (Label position)) (glyph_text set glyph) ++ t) (spaces_bytes page.palette set (n - 1))
 
 -- ---- what a column begins with
 
@@ -144,7 +104,7 @@ headed-bar Ascii = record { first = 124; rest = []; is = encode_ascii 124 (lit< 
 
 -- and a blank is one byte
 headed-blank : (set : CharSet) → IsHeaded (glyph_text set Blank)
-headed-blank set = record { first = 32; rest = []; is = blank-text set; lead = λ low. absurd (omega arith) }
+headed-blank set = record { first = 32; rest = []; is = blank_text set; lead = λ low. absurd (omega arith) }
 
 -- what begins so does with anything behind it
 headed-append : (xs ys : List ℕ) → IsHeaded xs → IsHeaded (xs ++ ys)

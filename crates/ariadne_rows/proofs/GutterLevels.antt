@@ -16,7 +16,8 @@ use Rattle.ariadne_picture.specs.Cells.{ink_of, margin_glyph, margin_ink, paint_
 use Rattle.ariadne_picture.specs.Pieces.{column_size, glyph_text, stroke}
 use Rattle.ariadne_picture.specs.Print.{pieces_bytes}
 use Rattle.ariadne_rows.specs.Gutters.{GutterFields, bar_in, bar_of, bar_ink, bars_ink, column_bytes, columns_bytes, margin_row_ink, turn_row_ink}
-use Rattle.ariadne_rows.proofs.GutterBytes.{bytes-none, bytes-append, ink-bytes, ink-alike, column-some}
+use Rattle.ariadne_cells.proofs.Bytes.{pieces_bytes_none, pieces_bytes-append}
+use Rattle.ariadne_rows.proofs.GutterBytes.{ink-bytes, ink-alike, column-some}
 use Rattle.ariadne_cells.proofs.Drawn.{adds-append, adds_same, page_kept}
 use Rattle.ariadne_rows.proofs.GutterPen.{columns-more}
 use Rattle.ariadne_rows.proofs.GutterText.{joined-range_same}
@@ -32,7 +33,7 @@ pub run-append : (page : PageFields) (glyph : Glyph) (paint : Paint) (m n : ℕ)
     → run_bytes page glyph paint m ++ run_bytes page glyph paint n ≡ run_bytes page glyph paint (m + n)
 run-append page glyph paint m n =
     let cell = stroke page.switches.char_set glyph paint in
-    sym (bytes-append page.palette (replicate m cell) (replicate n cell)) ∙ ap (pieces_bytes page.palette) (replicate-append-replicate m n cell)
+    sym (pieces_bytes-append page.palette (replicate m cell) (replicate n cell)) ∙ ap (pieces_bytes page.palette) (replicate-append-replicate m n cell)
 
 -- a column of alike cells is a run
 pub run-column : (page : PageFields) (glyph : Glyph) (a : LabelInfo)
@@ -178,7 +179,7 @@ owes-same a b run owed bytes done e f h =
 
 -- no cell is owed
 run-none : (page : PageFields) (paint : Paint) → [] ≡ run_bytes page Hbar paint 0
-run-none page paint = sym (bytes-none page.palette)
+run-none page paint = sym (pieces_bytes_none page.palette)
 
 -- columns that show the same are written alike
 columns-same : (page : PageFields) (f g : ℕ → Ink) (n : ℕ) → ((i : ℕ) → i < n → f i ≡ g i) → columns_bytes page f n ≡ columns_bytes page g n

@@ -1,4 +1,4 @@
--- The bars of a gutter as the lines of its group are gone through: none stands above the first line; the rows of a line show those that stand; and from
+-- The bars of a gutter as the lines of its group are gone through. None stands above the first line. The rows of a line show those that stand. From
 -- one row to the next a bar is set where its gutter label starts, and taken out where it ends.
 use Rattle.std.proofs.Common.{◌≡◌, ◌≢◌, ℕ, zero, suc, ◌+◌, ◌-◌, ◌<◌, ◌≤◌, Bool, true, false, not, ◌==◌, length, replicate, Some, None}
 use Rattle.std.proofs.Common.{refl, sym, ap, ◌∙◌, subst, arith, ◌⊎◌, inl, inr}

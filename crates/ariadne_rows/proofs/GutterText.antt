@@ -8,6 +8,7 @@ use Rattle.std.proofs.lemmas.Bool.{cases_lt}
 use Rattle.ariadne_base.specs.Locations.{upto}
 use Rattle.ariadne_picture.specs.Lists.{joined}
 use Rattle.ariadne_picture.proofs.Lists.Joined.{joined-append, joined-upto_more}
+use Rattle.ariadne_picture.proofs.Rows.LineBlock.{range-append}
 
 -- ---- parts by number
 
@@ -21,14 +22,6 @@ joined-range_same f g a (suc n) h =
     let here = h a (omega arith) (omega arith) in
     λ i. here i ++ more i
 
--- numbers in a row are those of two such lists
-range-split : (a m n : ℕ) → range_with_len a (m + n) ≡ range_with_len a m ++ range_with_len (a + m) n
-range-split a zero n = let e : 0 + n ≡ n = omega arith in let d : a ≡ a + 0 = omega arith in λ i. range_with_len (d i) (e i)
-range-split a (suc m) n =
-    let e : suc m + n ≡ suc (m + n) = omega arith in
-    let d : (a + 1) + m ≡ a + suc m = omega arith in
-    ap (range_with_len a) e ∙ ap (λ t. a ∷ t) (range-split (a + 1) m n) ∙ ap (λ k. a ∷ (range_with_len (a + 1) m ++ range_with_len k n)) d
-
 -- the parts below n are those below i, part i, and those behind it
 pub joined-split : {X : Type 0} (f : ℕ → List X) (i n : ℕ) → i < n
     → joined f (upto n) ≡ joined f (upto i) ++ (f i ++ joined f (range_with_len (i + 1) (n - i - 1)))
@@ -36,7 +29,7 @@ unfolding joined
 joined-split f i n h =
     let e : n ≡ i + suc (n - i - 1) = omega arith in
     let z : 0 + i ≡ i = omega arith in
-    ap (λ k. joined f (upto k)) e ∙ ap (joined f) (range-split 0 i (suc (n - i - 1)))
+    ap (λ k. joined f (upto k)) e ∙ ap (joined f) (range-append 0 i (suc (n - i - 1)))
     ∙ joined-append f (upto i) (range_with_len (0 + i) (suc (n - i - 1)))
     ∙ ap (λ k. joined f (upto i) ++ (f k ++ joined f (range_with_len (k + 1) (n - i - 1)))) z
 

@@ -7,7 +7,7 @@ use Rattle.std.proofs.lemmas.Bool.{cond_both, cases_lt, ltb-true, ltb-false, lt-
 use Rattle.std.proofs.lemmas.List.{length-append, take_at, drop_at}
 use Rattle.std.proofs.lemmas.List.Elements.{filter-append}
 use Rattle.std.proofs.lemmas.List.Sums.{prefix_len_is, prefix_len_passes}
-use Rattle.ariadne_picture.specs.Lists.{inserted, in_order, joined}
+use Rattle.ariadne_picture.specs.Lists.{inserted, in_order}
 use Rattle.ariadne_picture.proofs.Lists.ListFacts.{Increasing, all-weaker, all-filter, all-kept, all-inserted, filter-all, filter-none}
 
 -- ---- filters
@@ -21,12 +21,6 @@ filter-both p q (x ∷ xs) =
       | true ↦ ap (λ t. cond (p x) (x ∷ t) t) (filter-both p q xs)
       | false ↦ filter-both p q xs
     ]
-
--- what a filter keeps of lists that are joined
-pub filter-joined : {X Y : Type 0} (p : Y → Bool) (f : X → List Y) (xs : List X) → filter p (joined f xs) ≡ joined (λ x. filter p (f x)) xs
-unfolding joined
-filter-joined p f [] = refl
-filter-joined p f (x ∷ xs) = filter-append p (f x) (joined f xs) ∙ ap (λ t. filter p (f x) ++ t) (filter-joined p f xs)
 
 -- a filter leaves no more than there was
 pub filter-shorter : {X : Type 0} (p : X → Bool) (xs : List X) → length (filter p xs) ≤ length xs

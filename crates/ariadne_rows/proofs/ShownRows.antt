@@ -32,7 +32,7 @@ use Rattle.ariadne_cells.specs.Tables.{position_paint, shown_at, tab_columns}
 use Rattle.ariadne_cells.proofs.Bytes.{painted_parts, plain_bytes, pieces_bytes-append, pieces_bytes_first, pieces_bytes_none, pieces_bytes_one, run_bytes}
 use Rattle.ariadne_cells.proofs.Drawn.{adds_same, draws_one, draws_places_more, page_kept}
 use Rattle.ariadne_picture.proofs.Cells.LineColumns.{total-upto_more}
-use Rattle.ariadne_cells.proofs.PlaceColumns.{width-shown}
+use Rattle.ariadne_cells.proofs.PlaceColumns.{get_or-all, width-shown}
 use Rattle.ariadne_rows.specs.ShownTexts.{blank_of, place_in, shown_in}
 
 -- ---- single characters
@@ -216,12 +216,6 @@ printable_bytes p s k c low high =
     let other : (c == 9) ≡ false = ne_eqb c 9 (λ e. omega (arith, e)) in
     (λ i. pieces_bytes p (cond (other i) (replicate n (blank_of Plain)) (one ∷ [])))
     ∙ pieces_bytes_one p one ∙ plain_bytes p (shown_text c) ∙ printable_text c low high
-
--- the element at a place of a list has what all elements have
-get_or-all : (P : ℕ → Type 0) (xs : List ℕ) (k : ℕ) → AllByRecursion P xs → k < length xs → P (get_or xs k 0)
-get_or-all P [] k a h = absurd (omega arith)
-get_or-all P (x ∷ xs) zero a h = a.0
-get_or-all P (x ∷ xs) (suc k) a h = get_or-all P xs k a.1 (omega arith)
 
 -- the first places are written as they are
 printable_places : (p : Palette) (s : Switches) (y : Layout) (n : ℕ) → AllByRecursion (λ c. (32 ≤ c) × (c ≤ 126)) (shown y) → n ≤ length (shown y)

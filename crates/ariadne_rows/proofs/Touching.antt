@@ -11,7 +11,7 @@ use Rattle.ariadne_picture.specs.Lists.{inserted, in_order, mapped_numbered, tot
 use Rattle.ariadne_picture.specs.Ranks.{Sheet, multi_line_labels}
 use Rattle.ariadne_picture.proofs.Lists.Elements.{all-numbered}
 use Rattle.ariadne_picture.proofs.Lists.ListFacts.{all-weaker, increasing-pairs}
-use Rattle.ariadne_picture.proofs.Lists.Occurrences.{occurrences, total-inserted, total-in_order}
+use Rattle.ariadne_picture.proofs.Lists.Occurrences.{occurrences, total-inserted, total-in_order, total-map, total-same}
 use Rattle.ariadne_rows.specs.declared.group_lists.Begin.{Begin}
 use Rattle.ariadne_rows.specs.GroupLists.{begins_of, ends_from, reaching}
 use Rattle.ariadne_rows.specs.Sheets.{touches, touching}
@@ -105,18 +105,6 @@ total-kept f t (x ∷ xs) =
       | false ↦ total-kept f t xs ∙ omega arith
     ]
 
--- over a map
-total-map : {X Y : Type 0} (f : Y → ℕ) (g : X → Y) (xs : List X) → total f (map g xs) ≡ total (λ x. f (g x)) xs
-unfolding total
-total-map f g [] = refl
-total-map f g (x ∷ xs) = ap (λ n. f (g x) + n) (total-map f g xs)
-
--- of two functions that agree
-total-same : {X : Type 0} (f g : X → ℕ) → ((x : X) → f x ≡ g x) → (xs : List X) → total f xs ≡ total g xs
-unfolding total
-total-same f g e [] = refl
-total-same f g e (x ∷ xs) = λ i. e x i + total-same f g e xs i
-
 -- two sums are one of what both give
 total-both : {X : Type 0} (P : X → Type 0) (f g h : X → ℕ) → ((x : X) → P x → f x + g x ≡ h x) → (xs : List X) → AllByRecursion P xs
     → total f xs + total g xs ≡ total h xs
@@ -161,8 +149,8 @@ module _ (labels : List LabelInfo) (l : ℕ) where
 
 -- ---- from one line to a later one
 
--- a label that starts above line b and ends on line m or below, or that starts from line b to line l, and that ends on line l or below, starts above
--- the line behind l and ends on line l or below
+-- A label may start above line b and end on line m or below, or start from line b to line l. Where it ends on line l or below besides, it is one that
+-- starts above the line behind l and ends on line l or below.
 one-counts : (start end b m l n : ℕ) → b ≤ l + 1 → m ≤ l
     → cond {A = ℕ} (nat_lt start b && nat_le m end) (cond (nat_le l end) n 0) 0
     + cond (nat_le b start && nat_lt start (l + 1)) (cond (nat_le l end) n 0) 0

@@ -1,5 +1,5 @@
--- The labels of a group by line: a list of events, in the order of their lines, each of which tells
--- that a gutter label starts or ends there, or that a label within one line stands there. With it
+-- The labels of a group by line: a list of events, in the order of their lines. Each tells that a
+-- gutter label starts or ends there, or that a label within one line stands there. With it
 -- the lines of a group are walked once, and those without an event are the hidden ones.
 use Rattle.std.specs.Prelude.{ℕ, ◌≡◌, ◌+◌, ◌<◌, ◌≤◌, Bool, true, ◌&&◌, ◌==◌, nat_le, nat_lt}
 use Rattle.std.specs.Prelude.{if◌then◌else◌, List, [], ◌∷◌, ◌++◌, length, map, filter, slice_get}

@@ -1,5 +1,5 @@
-//! Sending a picture that is whole. `ariadne` gives out `WriteError`; what else is public here
-//! serves the crates above, and is no part of its surface.
+//! Sending a picture that is whole. `ariadne` gives out `Sink`; what else is public here serves the
+//! crates above, and is no part of its surface.
 #![tactic(auto)]
 
 pub mod send;

@@ -1,7 +1,7 @@
 //! What sources and caches hold, return and show, by their own calls. What is not here is tried where
 //! memory is refused.
 
-use ariadne::{Cache, FetchError, FileCache, FnCache, Source, sources};
+use ariadne::{Cache, FetchError, FileCache, FnCache, Source, SourceTable, sources};
 use ariadne_fakes::Folder;
 use std::collections::HashMap;
 use std::fs;
@@ -64,7 +64,29 @@ fn a_map_shows_the_name_of_an_id_that_it_lacks(rt: HostRuntime) {
     assert_eq!(rt; map.display(&"z"), Some("z"));
 }
 
-/// Answers the same text for every id.
+#[test]
+fn a_table_has_its_sources_by_number(rt: HostRuntime) {
+    let mut table = SourceTable::new(rt.alloc());
+    for (number, text) in [(0, "x"), (1, "y")] {
+        let added = table.add("a.txt", text).expect(&rt, "memory");
+        assert_eq!(rt; added, number);
+        assert!(rt; fetches(&mut table, &number, text));
+    }
+    assert_eq!(rt;
+        (table.display(&1), table.display(&2)),
+        (Some("a.txt"), None)
+    );
+    let Err(FetchError::Failed(error)) = table.ensure(&2) else {
+        panic!(rt; "no error of the table's own");
+    };
+    let told = error.to_string(rt.alloc()).expect(&rt, "memory");
+    assert_eq!(rt;
+        (error.number, told.as_str()),
+        (2, "Failed to fetch source 2")
+    );
+}
+
+/// Returns the same text for every id.
 fn got(_id: &&'static str) -> Result<&'static str, ()> {
     Ok("got")
 }
@@ -83,6 +105,8 @@ fn sources_that_are_given_replace_those_that_are_held(rt: HostRuntime) {
     assert!(rt; fetches(&mut cache, &"a", "got"));
     assert!(rt; fetches(&mut cache, &"b", "got"));
     let mut cache = cache.with_sources(given(&rt)).expect(&rt, "memory");
+    let told = format!(in rt.alloc(); "{cache:?}").expect(&rt, "memory");
+    assert!(rt; told.contains("given"));
     assert!(rt; fetches(&mut cache, &"a", "given"));
     assert!(rt; fetches(&mut cache, &"b", "got"));
 }
@@ -123,6 +147,19 @@ fn what_can_not_be_read_is_an_error(rt: HostRuntime) {
     assert_no_text(&rt, &mut cache, ".", "file can't be read");
     assert_no_text(&rt, &mut cache, "no such file", "file can't be read");
     assert_no_text(&rt, &mut cache, "a\0b", "file can't be read")
+}
+
+#[test]
+fn the_system_tells_why_a_file_can_not_be_read(rt: HostRuntime) {
+    let mut cache = FileCache::new(&rt, rt.alloc());
+    let Err(FetchError::Failed(error)) = cache.ensure(&"no such file") else {
+        panic!(rt; "no error of the cache's own");
+    };
+    let fault = error.fault().expect(&rt, "a fault");
+    let told = fault.to_string(rt.alloc()).expect(&rt, "memory");
+    assert_eq!(rt; told.as_str(), "No such file or directory (os error 2)");
+    let held = format!(in rt.alloc(); "{cache:?}").expect(&rt, "memory");
+    assert!(rt; held.starts_with("FileCache"));
 }
 
 #[test]

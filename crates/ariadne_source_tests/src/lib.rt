@@ -1,4 +1,4 @@
-//! Tests of sources, caches and painted texts, by public names alone.
+//! Tests of sources, caches, painted texts and those that are made visible, by public names alone.
 #![tactic(auto)]
 
 #[cfg(test)]
@@ -15,3 +15,5 @@ mod own_caches;
 mod painting;
 #[cfg(test)]
 mod texts;
+#[cfg(test)]
+mod visible_texts;

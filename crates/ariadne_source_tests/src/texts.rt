@@ -1,26 +1,51 @@
 //! The lines of texts, look-ups in them, and spans.
 
-use ariadne::{Source, SourceText, Span};
+use ariadne::{Line, Place, Source, SourceText, Span};
 use std::hash::{DefaultHasher, Hash, Hasher};
 use std::process::Abort;
 use std::rc::RcStr;
 
-/// Asserts that the lines of the text that these join to are these.
-fn assert_lines(rt: &(impl Abort + AllocGlobal), lines: &[&str]) {
+/// Asserts that a line stands at an offset of its source, and is this.
+fn assert_line<I: SourceText>(
+    rt: &impl Abort,
+    source: &Source<I>,
+    line: Line,
+    offset: usize,
+    want: &str,
+) {
+    let numbers = (line.offset(), line.len());
+    assert_eq!(rt; numbers, (offset, want.chars().count()), "of {want:?}");
+    assert_eq!(rt; source.get_line_text(line), Some(want));
+}
+
+/// Asserts that the lines of a source are these, each behind those before it, and no other.
+fn assert_lines_of<I: SourceText>(rt: &impl Abort, source: &Source<I>, lines: &[&str]) {
+    assert_eq!(rt; source.lines().len(), lines.len());
+    let mut offset = 0usize;
+    let mut found = source.lines();
+    for (number, want) in lines.iter().enumerate() {
+        let line = found.next().expect(rt, "a line");
+        assert_eq!(rt; source.line(number), Some(line), "of {want:?}");
+        assert_line(rt, source, line, offset, *want);
+        offset = offset.saturating_add(line.len());
+    }
+    assert_eq!(rt; source.len(), offset);
+    assert_eq!(rt; source.line(lines.len()), None);
+}
+
+/// The text of these lines.
+fn joined(rt: &(impl Abort + AllocGlobal), lines: &[&str]) -> String {
     let mut text = String::new(rt.alloc());
     for line in lines {
         text.push_str(*line).expect(rt, "memory");
     }
-    let source = Source::from(rt.alloc(), text).expect(rt, "memory");
-    let mut found = source.lines();
-    for (number, want) in lines.iter().enumerate() {
-        let line = found.next();
-        assert_eq!(rt; source.line(number), line, "of {want:?}");
-        let text = line.and_then(|line| source.get_line_text(line));
-        assert_eq!(rt; text, Some(*want));
-    }
-    assert_eq!(rt; found.next(), None);
-    assert_eq!(rt; source.line(lines.len()), None);
+    text
+}
+
+/// Asserts that the lines of the text that these join to are these.
+fn assert_lines(rt: &(impl Abort + AllocGlobal), lines: &[&str]) {
+    let source = Source::from(rt.alloc(), joined(rt, lines)).expect(rt, "memory");
+    assert_lines_of(rt, &source, lines)
 }
 
 #[test]
@@ -157,12 +182,28 @@ fn sources_of_other_texts_are_others(rt: HostRuntime) {
     assert!(rt; source.clone().expect(&rt, "memory") == source);
 }
 
+/// A text of four lines.
+const FOUR: [&str; 4] = [
+    "A text\n",
+    "    of four lines\n",
+    "    that some\n",
+    "    may share",
+];
+
 #[test]
 fn a_text_may_be_shared(rt: HostRuntime) {
-    let text = RcStr::from_str(rt.alloc(), "a\nb").expect(&rt, "memory");
+    let text = RcStr::from_str(rt.alloc(), joined(&rt, &FOUR).as_str()).expect(&rt, "memory");
     let source = Source::from(rt.alloc(), text).expect(&rt, "memory");
+    assert_lines_of(&rt, &source, &FOUR);
     let copy = source.clone().expect(&rt, "memory");
     assert_eq!(rt; copy.text(), source.text());
+}
+
+#[test]
+fn a_text_may_be_lent(rt: HostRuntime) {
+    let text = joined(&rt, &FOUR);
+    let source = Source::from(rt.alloc(), text.as_str()).expect(&rt, "memory");
+    assert_lines_of(&rt, &source, &FOUR);
 }
 
 /// The start of a span, its end, its length, and whether it is empty.
@@ -192,6 +233,16 @@ fn inclusive_ranges_end_one_past_their_last_offset(rt: HostRuntime) {
         assert_eq!(rt; told_of(&(start..=last)), want);
         assert_eq!(rt; told_of(&(7u8, start..=last)), want);
     }
+}
+
+#[test]
+fn a_place_never_runs_backwards(rt: HostRuntime) {
+    assert!(rt; Place::new(3, 2).is_none());
+    let place = Place::new(2, 5).expect(&rt, "a place");
+    assert_eq!(rt; told_of(&place), (2, 5, 3, false));
+    assert_eq!(rt; told_of(&("a", Place::at(3))), (3, 3, 0, true));
+    assert_eq!(rt; Place::at(5).to(Place::at(2)), place);
+    assert_eq!(rt; place.to(Place::at(3)), place);
 }
 
 #[test]

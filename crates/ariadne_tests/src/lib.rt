@@ -1,6 +1,6 @@
-//! Tests of the calls that make a report, of the laws, and of the example of README.md; of the greatest
-//! numbers; and of what stands where memory is refused, and where a writer or a sink fails. Pictures
-//! are stored cases of `ariadne_replay`, or reckoned by `tools/try-reckoned`.
+//! Tests of the calls that make a report, of the laws, and of the example of README.md. The greatest
+//! numbers are tried, and what stands where memory is refused, and where a writer or a sink fails.
+//! Pictures are stored cases of `ariadne_replay`, or reckoned by `tools/try-reckoned`.
 #![tactic(auto)]
 
 #[cfg(test)]
@@ -15,6 +15,8 @@ mod extremes;
 mod labels;
 #[cfg(test)]
 mod laws;
+#[cfg(test)]
+mod readers;
 #[cfg(test)]
 mod readme;
 #[cfg(test)]

@@ -45,6 +45,7 @@ pub(crate) const CALLS: &[(&str, &[&str])] = &[
             "Source::clone",
             "sources",
             "FnCache::with_sources",
+            "SourceTable::add",
         ],
     ),
     (
@@ -66,6 +67,7 @@ pub(crate) const CALLS: &[(&str, &[&str])] = &[
         &["first_offence"],
     ),
     ("a_refused_word_is_an_error", &["without_colors"]),
+    ("a_refused_sign_is_an_error", &["visible"]),
     (
         "a_refused_picture_sends_nothing_and_the_next_is_whole",
         &[
@@ -149,15 +151,16 @@ pub(crate) const OTHERS: &[(&str, &str)] = &[
         "WriteError::from",
         "is handed the want of memory that it tells",
     ),
+    (
+        "io::Error::from",
+        "is handed the want of memory that it tells",
+    ),
+    ("FileError::fault", "lends the fault that it has"),
+    ("SourceTable::ensure", "returns an error that is a number"),
     ("Source::ensure", "is its own only source"),
     ("&Source::ensure", "is its own only source"),
     ("Foreground::clone", "copies what is Copy"),
     ("Background::clone", "copies what is Copy"),
-    ("send", "the picture is whole before its first byte is sent"),
-    (
-        "send_to",
-        "the picture is whole before its first byte is sent",
-    ),
     ("Sink::take", "is the caller's own"),
     ("Watched::read", "hands on what its reader returns"),
 ];

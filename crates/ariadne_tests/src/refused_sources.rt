@@ -3,7 +3,7 @@
 ghost use Rattle.std.specs.Prelude.{◌<◌};
 
 use crate::refused::{MOST_REQUESTS, assert_refused};
-use ariadne::{Cache, FetchError, FileCache, FnCache, Source, sources};
+use ariadne::{Cache, FetchError, FileCache, FnCache, Source, SourceTable, sources};
 use ariadne_fakes::{Folder, refuse};
 use std::cell::Cell;
 use std::collections::HashMap;
@@ -86,15 +86,29 @@ fn try_given(rt: &(impl Abort + AllocGlobal), nth: usize) -> bool
     is_refused
 }
 
+/// Refuses the nth request of adding a source to a table, which then has none.
+fn try_table(rt: &(impl Abort + AllocGlobal), nth: usize) -> bool
+    requires { nth < 100000 }
+{
+    let mut table = SourceTable::new(rt.alloc());
+    refuse(rt.alloc(), nth);
+    let number = table.add("abc.txt", "a\nb\nc");
+    let is_refused = assert_refused(rt, "add", nth, number.is_err());
+    let text = table.get(&0).map(|source| source.text());
+    assert_eq!(rt; text, if is_refused { None } else { Some("a\nb\nc") });
+    is_refused
+}
+
 #[test]
 fn a_refused_source_is_an_error(rt: HostRuntime) {
-    for made in 0..4 {
+    for made in 0..5 {
         for nth in 1..MOST_REQUESTS {
             let is_refused = match made {
                 0 => try_source(&rt, nth),
                 1 => try_copy(&rt, nth),
                 2 => try_sources(&rt, nth),
-                _ => try_given(&rt, nth),
+                3 => try_given(&rt, nth),
+                _ => try_table(&rt, nth),
             };
             if !is_refused {
                 break;

@@ -3,6 +3,7 @@
 ghost use Rattle.std.specs.Prelude.{◌≡◌, List, [], Some, ⊤, string_bytes, OnOk, OnErr, IsSome};
 ghost use Rattle.std.specs.Prelude.{None};
 ghost use Rattle.std.specs.Cmp.Lexicographic.{bytes_decides};
+ghost use Rattle.std.specs.Option.{option_copied};
 ghost use Rattle.std.specs.Str.{bytes_eq};
 ghost use Rattle.std.proofs.Common.{ap};
 ghost use Rattle.std.specs.Prelude.{◌≢◌, alloc_error};
@@ -10,7 +11,7 @@ ghost use Rattle.std.specs.IoError.{error_kind};
 ghost use Rattle.ariadne_base.specs.declared.cache.FetchError.TheVariants.{Memory, Failed};
 ghost use Rattle.ariadne_base.specs.declared.cache.file.FileError.TheVariants.{Read, NotUtf8};
 ghost use Rattle.ariadne_base.specs.Cache.{Fetched, held, Grows, SameHeld, KeepsOtherIds};
-ghost use Rattle.ariadne_base.specs.Files.{by_path, by_text, file_error_text};
+ghost use Rattle.ariadne_base.specs.Files.{by_path, by_text, file_error_text, file_fault};
 
 use crate::cache::put::put;
 use crate::cache::{Cache, FetchError};
@@ -32,6 +33,20 @@ pub enum FileError {
     NotUtf8,
 }
 
+impl FileError {
+    /// The system's reason, where the file can't be opened or read: printed, it says as much as `No
+    /// such file or directory (os error 2)`. A file that isn't UTF-8 has none.
+    pub fn fault(&self) -> Option<&io::Error>
+        ensures fault { option_copied result ≡ file_fault self.now }
+    {
+        match self {
+            FileError::Read(fault) => Some(fault),
+            FileError::NotUtf8 => None,
+        }
+    }
+}
+
+/// `file can't be read`, or `file isn't UTF-8`. What the system says of a file is told by `fault`.
 impl fmt::Display for FileError {
     ghost output = { λ e. Some (file_error_text e) };
 
@@ -51,7 +66,9 @@ impl Error for FileError {}
 /// at its first fetch, and its text is taken as it is: a byte order mark is a character of it. What
 /// is held stays, also where the file changes later.
 #[derive(Drop)]
+#[derive_where(Debug)]
 pub struct FileCache<R: Files + Drop> {
+    #[derive_where(skip)]
     files: R,
     sources: HashMap<String, Source<String>>,
     alloc: Global,

@@ -23,8 +23,10 @@ use std::marker::Model;
 /// the next fetch of that id calls it again; its text becomes the source that is held for good. A
 /// fetch of a held id never calls it.
 #[derive(Drop)]
+#[derive_where(Debug; Id, I)]
 pub struct FnCache<Id: SourceName + Hash + Clone, F, I: SourceText> {
     sources: HashMap<Id, Source<I>>,
+    #[derive_where(skip)]
     get: F,
     alloc: Global,
 }

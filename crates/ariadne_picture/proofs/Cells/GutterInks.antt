@@ -49,7 +49,7 @@ module _ (s : Sheet) where
     bar-beside bar = rw bar refl
 
     -- without bar the margin label's stroke is there
-    no-bar-beside : (m : LineLabel) → bar_at s (source l) i ≡ false → margin_label s l ≡ Some m
+    pub no-bar-beside : (m : LineLabel) → bar_at s (source l) i ≡ false → margin_label s l ≡ Some m
         → column_ink s (source l) i ≡ margin_ink last i (Some m)
     unfolding column_ink beside_ink
     no-bar-beside m no_bar e = rw no_bar (ap (margin_ink last i) e)

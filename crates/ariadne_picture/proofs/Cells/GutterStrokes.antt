@@ -28,7 +28,7 @@ not-both : (x y : Row) → IsBefore x y → IsBefore y x → ⊥
 not-both x y h k = true≢false (sym (before-chain x y x h k) ∙ before-irreflexive x)
 
 -- a line label that is not within its line is a start or an end, and these are of the gutter label of their number
-turn-owned : (s : Sheet) (l : ℕ) (x : LineLabel) → IsHere s l x → is_inline x.side ≡ false
+pub turn-owned : (s : Sheet) (l : ℕ) (x : LineLabel) → IsHere s l x → is_inline x.side ≡ false
     → slice_get (gutter_labels s) x.gutter_column ≡ Some x.info
 unfolding is_inline
 turn-owned s l x (inl h) out = h.owned

@@ -22,6 +22,7 @@ use Rattle.ariadne_picture.specs.Pieces.{blank_piece, Piece, Section, spaces, gl
 use Rattle.ariadne_picture.specs.Pieces.{shown_pieces, margin_text, margin_paint, margin_pieces}
 use Rattle.ariadne_picture.specs.Placing.{unindented, char_texts}
 use Rattle.ariadne_picture.proofs.Lists.Joined.{joined-numbered, map-joined, joined-same}
+use Rattle.ariadne_picture.proofs.Lists.ListFacts.{map-replicate}
 use Rattle.ariadne_picture.proofs.Cells.RowCells.{front_pieces}
 
 -- ---- texts without the blanks in front
@@ -122,10 +123,6 @@ unfolding margin_text
 arrow-margin set w display_offset l r = unindented-spaces (w + 1) (glyph_text set Vbar) (vbar-bare set)
 
 -- ---- the texts of a source row
-
-map-replicate : {X Y : Type 0} (f : X → Y) (n : ℕ) (x : X) → map f (replicate n x) ≡ replicate n (f x)
-map-replicate f zero x = refl
-map-replicate f (suc n) x = ap (λ t. f x ∷ t) (map-replicate f n x)
 
 -- the texts of a character's cells
 char-texts : (switches : Switches) (paint : Paint) (x c : ℕ)

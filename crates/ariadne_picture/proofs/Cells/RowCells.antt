@@ -20,6 +20,7 @@ use Rattle.ariadne_picture.specs.Pieces.{gutter_pieces, shown_pieces, message_pi
 use Rattle.ariadne_picture.specs.Canvas.{Cell}
 use Rattle.ariadne_picture.specs.Placing.{Placing, column_cell, text_cell}
 use Rattle.ariadne_picture.proofs.Lists.ListFacts.{all-joined, all-every}
+use Rattle.ariadne_picture.proofs.Lists.Occurrences.{total-same}
 use Rattle.ariadne_picture.proofs.Rows.RowsThere.{range-at}
 use Rattle.ariadne_picture.proofs.Rows.RowNumbers.{at-back, at-part, length-joined}
 use Rattle.ariadne_picture.proofs.Rows.LineBlock.{range-append}
@@ -71,10 +72,6 @@ take-upto k n h =
     let e : n ≡ k + (n - k) = omega arith in
     ap (λ m. take k (upto m)) e ∙ ap (take k) (range-append 0 k (n - k))
     ∙ take_at (upto k) (range_with_len (0 + k) (n - k)) k (length-range_with_len 0 k)
-
--- sums of two functions that agree
-pub total-same : {X : Type 0} (f g : X → ℕ) → ((x : X) → f x ≡ g x) → (xs : List X) → total f xs ≡ total g xs
-total-same f g e xs = λ i. total (λ x. e x i) xs
 
 -- a sum of equal numbers
 pub total-const : (c a n : ℕ) → total (λ (i : ℕ). c) (range_with_len a n) ≡ n * c

@@ -1,7 +1,7 @@
 -- Each drawn label lies in the lines of its group's sheet, and no two have one number.
 use Rattle.std.proofs.Common.{◌≢◌, map, ◌≡◌, ℕ, zero, suc, ◌+◌, ◌<◌, ◌≤◌, min, Bool, true, false, not, ◌||◌, List, [], ◌∷◌, ◌++◌, Option, Some}
 use Rattle.std.proofs.Common.{None, length, take, slice_get, refl, sym, ap, ◌∙◌, subst, arith, ◌==◌, nat_lt, inl, inr, chars, unwrap_or}
-use Rattle.std.proofs.Common.{option_and_then, option_to_list, find}
+use Rattle.std.proofs.Common.{option_and_then, option_to_list, find, is_some}
 use Rattle.std.specs.List.{AllByRecursion, range_with_len, enumerate_from}
 use Rattle.std.proofs.lemmas.Bool.{cond_both, cases_Bool, cases_lt, cases_eq, true≢false, eqb-true, eq-eqb, or_parts}
 use Rattle.std.proofs.lemmas.Bool.{ltb-false, not-false}
@@ -140,14 +140,14 @@ module _ {S Id : Type 0} (w : World S Id) (r : ReportFields S) where
       (verdict-placed w r.config source k label forward)
 
   -- one that may have a reason beside it
-  one-drawn : {R : Type 0} (k : ℕ) (label : LabelFields S) (reason : Option R) → slice_get r.labels k ≡ Some label
+  pub one-drawn : {R : Type 0} (k : ℕ) (label : LabelFields S) (reason : Option R) → slice_get r.labels k ≡ Some label
       → w.start_of label.span ≤ w.end_of label.span → AllByRecursion (λ a. IsDrawn a × (a.position ≡ k)) (drawn_label w r.config k label reason)
   unfolding drawn_label
   one-drawn k label (Some reason) there forward = tt
   one-drawn k label None there forward = source-drawn k label there forward (w.source_of (w.id_of label.span)) refl
 
   -- all
-  drawn-from : {R : Type 0} (k : ℕ) (labels : List (LabelFields S)) (reasons : List (Option R))
+  pub drawn-from : {R : Type 0} (k : ℕ) (labels : List (LabelFields S)) (reasons : List (Option R))
       → ((j : ℕ) → slice_get labels j ≡ slice_get r.labels (k + j)) → AllByRecursion (λ label. w.start_of label.span ≤ w.end_of label.span) labels
       → AllByRecursion (λ a. IsDrawn a × (k ≤ a.position)) (drawn_labels w r.config k labels reasons)
   unfolding drawn_labels
@@ -221,12 +221,56 @@ group-uncut same ((b ∷ g) ∷ (d ∷ next) ∷ gs) zero a group c e =
     let one : b ≡ a = cc in let two : g ≡ group = cc in subst (HasNoCut same a) two (subst (λ x. HasNoCut same x g) one c.0)
 group-uncut same ((b ∷ g) ∷ (d ∷ next) ∷ gs) (suc k) a group c e = group-uncut same ((d ∷ next) ∷ gs) k a group c.2 e
 
-module _ {S Id : Type 0} (w : World S Id) (r : ReportFields S) (law : (p q : Id) → w.is_same p q ≡ true → w.source_of p ≡ w.source_of q) where
+-- no group is empty
+group-some : (same : ℕ → ℕ → Bool) (gs : List (List LabelInfo)) (k : ℕ) → AreCut same gs → slice_get gs k ≡ Some [] → ⊥
+group-some same [] k c e = none≢some [] e
+group-some same ([] ∷ gs) k c e = c
+group-some same ((b ∷ g) ∷ []) zero c e = cc
+group-some same ((b ∷ g) ∷ []) (suc k) c e = none≢some [] e
+group-some same ((b ∷ g) ∷ [] ∷ gs) k c e = c
+group-some same ((b ∷ g) ∷ (d ∷ next) ∷ gs) zero c e = cc
+group-some same ((b ∷ g) ∷ (d ∷ next) ∷ gs) (suc k) c e = group-some same ((d ∷ next) ∷ gs) k c.2 e
+
+module _ {S Id : Type 0} (w : World S Id) (r : ReportFields S) where
   -- the id of a drawn label
   drawn-id : (a : LabelInfo) (d : IsDrawn w r a) → label_id w r a.position ≡ Some (w.id_of d.label.span)
   unfolding label_id
   drawn-id a d = let e = d.there in rw e
 
+  -- the labels of groups of drawn labels are drawn
+  groups-drawn : {R : Type 0} (reasons : List (Option R))
+      → AllByRecursion (λ label. w.start_of label.span ≤ w.end_of label.span) r.labels
+      → AllByRecursion (AllByRecursion (IsDrawn w r)) (groups w r (drawn_labels w r.config 0 r.labels reasons))
+  unfolding groups ordered
+  groups-drawn reasons forward =
+      let infos = drawn_labels w r.config 0 r.labels reasons in
+      let exist = groups-exist (same_source w r) (ordered infos) in
+      let drawn : AllByRecursion (IsDrawn w r) infos = all-weaker (λ a. IsDrawn w r a × (0 ≤ a.position)) (IsDrawn w r) infos (λ a d. d.0)
+      (drawn-from w r 0 r.labels reasons (λ j. let z : j ≡ 0 + j = omega arith in ap (slice_get r.labels) z) forward) in
+      all-groups (IsDrawn w r) (groups_of (same_source w r) (ordered infos))
+      (subst (AllByRecursion (IsDrawn w r)) (sym exist.joins)
+      (all-in_order (IsDrawn w r) (λ a b. Rattle.std.specs.Prelude.int_lt a.order b.order) infos drawn))
+
+  -- so the source of a group is held
+  group-held : (group : List LabelInfo) → (group ≡ [] → ⊥) → AllByRecursion (IsDrawn w r) group
+      → is_some (option_and_then w.source_of (group_id w r group)) ≡ true
+  unfolding group_id
+  group-held [] some all = absurd (some refl)
+  group-held (a ∷ group) some all = ap is_some (ap (option_and_then w.source_of) (drawn-id a all.0) ∙ all.0.held)
+
+  pub groups-held : {R : Type 0} (reasons : List (Option R)) → AllByRecursion (λ label. w.start_of label.span ≤ w.end_of label.span) r.labels
+      → AllByRecursion (λ group. is_some (option_and_then w.source_of (group_id w r group)) ≡ true)
+      (groups w r (drawn_labels w r.config 0 r.labels reasons))
+  unfolding groups
+  groups-held reasons forward =
+      let infos = drawn_labels w r.config 0 r.labels reasons in
+      let exist = groups-exist (same_source w r) (ordered infos) in
+      let drawn = groups-drawn reasons forward in
+      Rattle.ariadne_picture.proofs.Lists.Elements.all-from _ (groups w r infos) (λ k group e.
+      group-held group (λ none. group-some (same_source w r) (groups w r infos) k exist.cut (e ∙ ap Some none))
+      (all-at (AllByRecursion (IsDrawn w r)) (groups w r infos) k group e drawn))
+
+module _ {S Id : Type 0} (w : World S Id) (r : ReportFields S) (law : (p q : Id) → w.is_same p q ≡ true → w.source_of p ≡ w.source_of q) where
   -- two drawn labels without a cut between them are over one source
   one-source : (a b : LabelInfo) (d : IsDrawn w r a) (e : IsDrawn w r b) → is_cut (same_source w r) a b ≡ false → d.source ≡ e.source
   unfolding is_cut same_source is_same_id
@@ -234,7 +278,7 @@ module _ {S Id : Type 0} (w : World S Id) (r : ReportFields S) (law : (p q : Id)
       let two = or_parts (not (is_same_id w r (label_id w r a.position) (label_id w r b.position))) (nat_lt b.end_line a.end_line) uncut in
       let same : is_same_id w r (label_id w r a.position) (label_id w r b.position) ≡ true = not-false
       (is_same_id w r (label_id w r a.position) (label_id w r b.position)) two.0 in
-      let ids : w.is_same (w.id_of d.label.span) (w.id_of e.label.span) ≡ true = rw (drawn-id a d, drawn-id b e) at same in
+      let ids : w.is_same (w.id_of d.label.span) (w.id_of e.label.span) ≡ true = rw (drawn-id w r a d, drawn-id w r b e) at same in
       let sources = law (w.id_of d.label.span) (w.id_of e.label.span) ids in
       let p = d.held in
       let q = e.held in
@@ -257,7 +301,7 @@ module _ {S Id : Type 0} (w : World S Id) (r : ReportFields S) (law : (p q : Id)
   sheet-placed [] all uncut = tt
   sheet-placed (a ∷ group) all uncut =
       let d : IsDrawn w r a = all.0 in
-      let held : option_and_then w.source_of (label_id w r a.position) ≡ Some d.source = ap (option_and_then w.source_of) (drawn-id a d) ∙ d.held in
+      let held : option_and_then w.source_of (label_id w r a.position) ≡ Some d.source = ap (option_and_then w.source_of) (drawn-id w r a d) ∙ d.held in
       let is : unwrap_or (option_and_then w.source_of (label_id w r a.position)) (record { text = []; display_offset = 0 }) ≡ d.source = ap
       (λ o. unwrap_or o (record { text = []; display_offset = 0 })) held in
       subst (λ s. AllByRecursion (IsPlaced (listed_lines s)) (a ∷ group)) (sym is) (group-placed a group d.source d refl all.1 (uncut a group refl))
@@ -271,12 +315,7 @@ module _ {S Id : Type 0} (w : World S Id) (r : ReportFields S) (law : (p q : Id)
   groups-placed reasons k group forward e =
       let infos = drawn_labels w r.config 0 r.labels reasons in
       let exist = groups-exist (same_source w r) (ordered infos) in
-      let drawn : AllByRecursion (IsDrawn w r) infos = all-weaker (λ a. IsDrawn w r a × (0 ≤ a.position)) (IsDrawn w r) infos (λ a d. d.0)
-      (drawn-from w r 0 r.labels reasons (λ j. let z : j ≡ 0 + j = omega arith in ap (slice_get r.labels) z) forward) in
-      let each : AllByRecursion (AllByRecursion (IsDrawn w r)) (groups_of (same_source w r) (ordered infos)) =
-      all-groups (IsDrawn w r) (groups_of (same_source w r) (ordered infos))
-      (subst (AllByRecursion (IsDrawn w r)) (sym exist.joins)
-      (all-in_order (IsDrawn w r) (λ a b. Rattle.std.specs.Prelude.int_lt a.order b.order) infos drawn)) in
+      let each : AllByRecursion (AllByRecursion (IsDrawn w r)) (groups_of (same_source w r) (ordered infos)) = groups-drawn w r reasons forward in
       sheet-placed group (all-at (AllByRecursion (IsDrawn w r)) (groups_of (same_source w r) (ordered infos)) k group e each)
       (λ a rest same. group-uncut (same_source w r) (groups_of (same_source w r) (ordered infos)) k a rest exist.cut (e ∙ ap Some same))
 

@@ -1,7 +1,8 @@
 -- Facts on lists that are joined from parts, and on the parts by number.
-use Rattle.std.proofs.Common.{slice_index, ◌≡◌, ℕ, zero, suc, ◌+◌, List, [], ◌∷◌, ◌++◌, length, map, refl, sym, ap, ◌∙◌, arith, append_assoc}
+use Rattle.std.proofs.Common.{slice_index, ◌≡◌, ℕ, zero, suc, ◌+◌, Bool, List, [], ◌∷◌, ◌++◌, length, map, filter, refl, sym, ap, ◌∙◌, arith, append_assoc}
 use Rattle.std.proofs.Common.{zero-add, add-zero}
 use Rattle.std.proofs.lemmas.List.{append-nil, map-append}
+use Rattle.std.proofs.lemmas.List.Elements.{filter-append}
 use Rattle.std.specs.List.{AllByRecursion, range_with_len, enumerate_from}
 use Rattle.ariadne_base.specs.Locations.{upto}
 use Rattle.ariadne_picture.specs.Lists.{joined}
@@ -28,6 +29,12 @@ pub map-joined : {X Y Z : Type 0} (f : Y → Z) (g : X → List Y) (xs : List X)
 unfolding joined
 map-joined f g [] = refl
 map-joined f g (x ∷ xs) = map-append f (g x) (joined g xs) ∙ ap (λ t. map f (g x) ++ t) (map-joined f g xs)
+
+-- a filter of parts
+pub filter-joined : {X Y : Type 0} (test : Y → Bool) (f : X → List Y) (xs : List X) → filter test (joined f xs) ≡ joined (λ x. filter test (f x)) xs
+unfolding joined
+filter-joined test f [] = refl
+filter-joined test f (x ∷ xs) = filter-append test (f x) (joined f xs) ∙ ap (λ t. filter test (f x) ++ t) (filter-joined test f xs)
 
 -- parts that are joined themselves
 pub joined-joined : {X Y Z : Type 0} (f : Y → List Z) (g : X → List Y) (xs : List X) → joined f (joined g xs) ≡ joined (λ x. joined f (g x)) xs

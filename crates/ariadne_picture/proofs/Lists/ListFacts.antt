@@ -1,7 +1,7 @@
 -- Facts on lists: what holds of each element of a list that is made of others, how many elements a sort or a filter leaves, and lists whose elements
 -- each stand before the later ones.
 use Rattle.std.proofs.Common.{◌≡◌, ℕ, zero, suc, ◌+◌, Bool, true, false, cond, List, [], ◌∷◌, ◌++◌, length, Some, None, map, refl, sym, ap, ◌∙◌}
-use Rattle.std.proofs.Common.{subst, arith, AllPairs}
+use Rattle.std.proofs.Common.{subst, arith, AllPairs, replicate}
 use Rattle.std.specs.Prelude.{slice_get, filter}
 use Rattle.std.specs.List.{AllByRecursion, enumerate_from, best_of}
 use Rattle.std.proofs.lemmas.Bool.{cond_both, cond-true, cond-false}
@@ -121,6 +121,11 @@ filter-all test (x ∷ xs) a = cond-true (test x) (x ∷ filter test xs) (filter
 pub filter-none : {X : Type 0} (test : X → Bool) (xs : List X) → AllByRecursion (λ x. test x ≡ false) xs → filter test xs ≡ []
 filter-none test [] a = refl
 filter-none test (x ∷ xs) a = cond-false (test x) (x ∷ filter test xs) (filter test xs) a.0 ∙ filter-none test xs a.1
+
+-- a map of equal elements
+pub map-replicate : {X Y : Type 0} (f : X → Y) (n : ℕ) (x : X) → map f (replicate n x) ≡ replicate n (f x)
+map-replicate f zero x = refl
+map-replicate f (suc n) x = ap (λ t. f x ∷ t) (map-replicate f n x)
 
 -- ---- each element and each later one
 

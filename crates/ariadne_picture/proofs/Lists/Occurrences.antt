@@ -54,6 +54,16 @@ unfolding total
 total-zero f g [] e = refl
 total-zero f g (x ∷ xs) e = let h = e x in let more = total-zero f g xs e in omega arith
 
+-- of a map
+pub total-map : {X Y : Type 0} (f : Y → ℕ) (g : X → Y) (xs : List X) → total f (map g xs) ≡ total (λ x. f (g x)) xs
+unfolding total
+total-map f g [] = refl
+total-map f g (x ∷ xs) = ap (λ n. f (g x) + n) (total-map f g xs)
+
+-- of two functions that agree
+pub total-same : {X : Type 0} (f g : X → ℕ) → ((x : X) → f x ≡ g x) → (xs : List X) → total f xs ≡ total g xs
+total-same f g e xs = λ i. total (λ x. e x i) xs
+
 -- of a function that gives no more
 pub total-le : {X : Type 0} (f g : X → ℕ) (xs : List X) → ((x : X) → f x ≤ g x) → total f xs ≤ total g xs
 unfolding total

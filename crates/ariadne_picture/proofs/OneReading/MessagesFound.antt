@@ -91,9 +91,9 @@ has-filtered test (y ∷ xs) x h =
 
 -- ---- a message row, and what a row of a block is
 
-record IsMessageRow (rows : List (List Cell)) (groups : List Section) (p : Placing) (s : Section) (cells : ℕ) (message : List ℕ) (n : ℕ) : Type 0 where
-  size : length (row_at rows groups p n) ≡ text_cell s + cells + 2
-  text : (slice_index_or (row_at rows groups p n) (text_cell s + cells + 1) no_cell).text ≡ message
+pub record IsMessageRow (rows : List (List Cell)) (groups : List Section) (p : Placing) (s : Section) (cells : ℕ) (message : List ℕ) (n : ℕ) : Type 0 where
+  pub size : length (row_at rows groups p n) ≡ text_cell s + cells + 2
+  pub text : (slice_index_or (row_at rows groups p n) (text_cell s + cells + 1) no_cell).text ≡ message
 
 message-row-from : (rows : List (List Cell)) (groups : List Section) (p : Placing) (s : Section) (cells : ℕ) (message : List ℕ) (n : ℕ)
     → is_message_row rows groups p s cells message n ≡ true → IsMessageRow rows groups p s cells message n
@@ -145,7 +145,7 @@ module _ (v : Picture) {g : ℕ} {s : Section} {l : ℕ} (h : IsShownLine v g s 
       let long = area-length v h ink in
       omega (arith, size, long, length-append (area s l ink) [])
 
-  message-size : (r : ℕ) (x : LineLabel) → IsArrowRow v g s l r x → is_start x.side ≡ false
+  pub message-size : (r : ℕ) (x : LineLabel) → IsArrowRow v g s l r x → is_start x.side ≡ false
       → length (read v row_at (number v g s (arrow l r))) ≡ text_cell s + count v h + 2
   unfolding layout_of
   message-size r x q off =
@@ -222,7 +222,7 @@ module _ (v : Picture) (p : Placing) (h : IsReadBy (rows_of v) v.sections v.text
   cells g s l = cells_of_places (rows_of v) v.sections p g s l
 
   -- the message of a label stands in its block
-  message-in : (g : ℕ) (s : Section) (a : LabelInfo) → slice_get v.sections g ≡ Some s → Has (messages_of s) a
+  pub message-in : (g : ℕ) (s : Section) (a : LabelInfo) → slice_get v.sections g ≡ Some s → Has (messages_of s) a
       → is_in_block (rows_of v) v.sections p g a.end_line (p.message_row a.position) ≡ true
   unfolding is_placing is_group_placed
   message-in g s a there has =
@@ -235,14 +235,14 @@ module _ (v : Picture) (p : Placing) (h : IsReadBy (rows_of v) v.sections v.text
       (list_all-from _ _ w.1)
 
   -- the rows of a block end as they should
-  record Ends (g : ℕ) (s : Section) (l : ℕ) : Type 0 where
-    messages : (a : LabelInfo) → Has (messages_of s) a → a.end_line ≡ l
+  pub record Ends (g : ℕ) (s : Section) (l : ℕ) : Type 0 where
+    pub messages : (a : LabelInfo) → Has (messages_of s) a → a.end_line ≡ l
         → IsMessageRow (rows_of v) v.sections p s (cells g s l) (v.texts.message_of a.position) (p.message_row a.position)
-    others : (n : ℕ) → source_row v g l < n → n ≤ source_row v g l + length (shown_rows s.sheet l)
+    pub others : (n : ℕ) → source_row v g l < n → n ≤ source_row v g l + length (shown_rows s.sheet l)
         → ((a : LabelInfo) × Has (messages_of s) a × (a.end_line ≡ l) × (p.message_row a.position ≡ n))
         ⊎ (length (row_at (rows_of v) v.sections p n) ≡ text_cell s + cells g s l)
 
-  ends-of : (g : ℕ) (s : Section) (l : ℕ) → IsShownLine v g s l → Ends g s l
+  pub ends-of : (g : ℕ) (s : Section) (l : ℕ) → IsShownLine v g s l → Ends g s l
   unfolding has_message_rows are_block_ends block_rows
   ends-of g s l k =
       let e = each-line v (are_block_ends (rows_of v) v.sections p v.texts.message_of) g s l h.each_message_has_one_row_of_its_own k in
@@ -284,7 +284,7 @@ module _ (v : Picture) (p : Placing) (h : IsReadBy (rows_of v) v.sections v.text
     pub same_cells : cells g s a.end_line ≡ count v line
 
   -- the rows of p are those of the picture, whatever the placing
-  same-rows : (n : ℕ) → row_at (rows_of v) v.sections p n ≡ read v row_at n
+  pub same-rows : (n : ℕ) → row_at (rows_of v) v.sections p n ≡ read v row_at n
   unfolding row_at
   same-rows n = refl
 

@@ -43,7 +43,7 @@ use Rattle.ariadne_picture.proofs.Cells.CanvasRows.{canvas-rows}
 use Rattle.ariadne_picture.proofs.Reading.DrawnReports.{picture_of}
 use Rattle.ariadne_picture.proofs.Lists.Elements.{has-filter}
 use Rattle.ariadne_picture.proofs.Rows.RowsThere.{gutter-label-message}
-use Rattle.ariadne_picture.specs.Readings.{AgreeOnLines, AgreeOnStrokes}
+use Rattle.ariadne_picture.specs.Readings.{AgreeOnLines, AgreeOnHeads, AgreeOnEnds}
 use Rattle.ariadne_picture.specs.Headline.{IsReadBy}
 use Rattle.ariadne_picture.proofs.Reading.LabelTraces.{head-shows}
 use Rattle.ariadne_picture.proofs.Reading.EveryReport.{numbered}
@@ -323,39 +323,42 @@ module _ (v : Picture) (p : Placing) (h : IsReadBy (rows_of v) v.sections v.text
       let same = end-found g s i a o m in
       sym m.row ∙ sym (arrow-shows v m.arrow_row m.no_start) ∙ ap (λ (a : LabelInfo). message_row v a.position) same
 
--- two that read it agree
-pub strokes-agree : (v : Picture) (p q : Placing) → IsReadBy (rows_of v) v.sections v.texts.message_of p
-    → IsReadBy (rows_of v) v.sections v.texts.message_of q → AgreeOnStrokes v.sections p q
-strokes-agree v p q h k = record {
-  lines = same-lines v p q h.rows_belong_together k.rows_belong_together;
-  heads = λ g s i a there owned.
-      let o : IsGutterLabelOf v g s i a = record { group = there; owned = owned } in head-found v p h g s i a o ∙ sym (head-found v q k g s i a o);
-  ends = λ g s i a there owned.
-      let o : IsGutterLabelOf v g s i a = record { group = there; owned = owned } in end-row v p h g s i a o ∙ sym (end-row v q k g s i a o);
-}
-
 -- ---- every report
 
 module _ {S Id R : Type 0} (w : World S Id) (r : ReportFields S) (reasons : List (Option R))
     (forward : AllByRecursion (λ label. w.start_of label.span ≤ w.end_of label.span) r.labels) where
-  pub every-agree : let infos = drawn_labels w r.config 0 r.labels reasons in
-      let groups = sections w r infos in
-      (p q : Placing) → IsReadBy (canvas w r infos) groups (texts_of r).message_of p → IsReadBy (canvas w r infos) groups (texts_of r).message_of q
-      → AgreeOnStrokes groups p q
-  every-agree p q h k =
-      let infos = drawn_labels w r.config 0 r.labels reasons in
-      let v = picture_of w r infos (numbered w r reasons forward) in
-      let read : (p : Placing) → IsReadBy (canvas w r infos) (sections w r infos) (texts_of r).message_of p → IsReadBy (rows_of v) v.sections v.texts.message_of p =
-      λ p h. subst (λ c. IsReadBy c (sections w r infos) (texts_of r).message_of p) (canvas-rows w r infos) h in
-      strokes-agree v p q (read p h) (read q k)
+  -- its labels
+  abbrev infos : List LabelInfo
+  infos = drawn_labels w r.config 0 r.labels reasons
+
+  -- its picture
+  abbrev picture : Picture
+  picture = picture_of w r infos (numbered w r reasons forward)
+
+  -- row numbers that its canvas is read by read its picture
+  pub read-picture : (p : Placing) → IsReadBy (canvas w r infos) (sections w r infos) (texts_of r).message_of p
+      → IsReadBy (rows_of picture) (sections w r infos) (texts_of r).message_of p
+  read-picture p h = subst (λ c. IsReadBy c (sections w r infos) (texts_of r).message_of p) (canvas-rows w r infos) h
+
+  -- they agree on heads
+  pub every-head-agrees : (p q : Placing) → IsReadBy (canvas w r infos) (sections w r infos) (texts_of r).message_of p
+      → IsReadBy (canvas w r infos) (sections w r infos) (texts_of r).message_of q → AgreeOnHeads (sections w r infos) p q
+  every-head-agrees p q h k g s i a there owned =
+      let o : IsGutterLabelOf picture g s i a = record { group = there; owned = owned } in
+      head-found picture p (read-picture p h) g s i a o ∙ sym (head-found picture q (read-picture q k) g s i a o)
+
+  -- and on the messages of gutter labels
+  pub every-end-agrees : (p q : Placing) → IsReadBy (canvas w r infos) (sections w r infos) (texts_of r).message_of p
+      → IsReadBy (canvas w r infos) (sections w r infos) (texts_of r).message_of q → AgreeOnEnds (sections w r infos) p q
+  every-end-agrees p q h k g s i a there owned =
+      let o : IsGutterLabelOf picture g s i a = record { group = there; owned = owned } in
+      end-row picture p (read-picture p h) g s i a o ∙ sym (end-row picture q (read-picture q k) g s i a o)
 
   -- source rows need no other clause than that the rows belong together
-  pub every-line-agrees : let infos = drawn_labels w r.config 0 r.labels reasons in
-      let groups = sections w r infos in
-      (p q : Placing) → is_placing (canvas w r infos) groups p ≡ true → is_placing (canvas w r infos) groups q ≡ true → AgreeOnLines groups p q
+  pub every-line-agrees : (p q : Placing) → is_placing (canvas w r infos) (sections w r infos) p ≡ true
+      → is_placing (canvas w r infos) (sections w r infos) q ≡ true → AgreeOnLines (sections w r infos) p q
   every-line-agrees p q h k =
-      let infos = drawn_labels w r.config 0 r.labels reasons in
-      let v = picture_of w r infos (numbered w r reasons forward) in
-      let read : (p : Placing) → is_placing (canvas w r infos) (sections w r infos) p ≡ true → is_placing (rows_of v) v.sections p ≡ true =
+      let read : (p : Placing) → is_placing (canvas w r infos) (sections w r infos) p ≡ true
+      → is_placing (rows_of picture) (sections w r infos) p ≡ true =
       λ p h. subst (λ c. is_placing c (sections w r infos) p ≡ true) (canvas-rows w r infos) h in
-      same-lines v p q (read p h) (read q k)
+      same-lines picture p q (read p h) (read q k)

@@ -1,5 +1,5 @@
 -- The text of a source row and of the rows below it begins at one column, and takes the columns of the line.
-use Rattle.std.proofs.Common.{◌≡◌, ℕ, zero, suc, ◌+◌, Bool, true, List, [], ◌∷◌, ◌++◌, map, take, length, replicate, refl, sym, ap, ◌∙◌, arith, ◌==◌}
+use Rattle.std.proofs.Common.{◌≡◌, ℕ, ◌+◌, Bool, true, List, [], ◌∷◌, ◌++◌, map, take, length, refl, sym, ap, ◌∙◌, arith, ◌==◌}
 use Rattle.std.proofs.Common.{inl, inr}
 use Rattle.std.specs.Prelude.{slice_index}
 use Rattle.std.specs.List.{AllByRecursion, list_all}
@@ -22,8 +22,8 @@ use Rattle.ariadne_picture.specs.Placing.{is_aligned}
 use Rattle.ariadne_picture.proofs.Cells.CanvasRows.{map-map}
 use Rattle.ariadne_picture.proofs.Lists.Elements.{list_all-true, pointwise-equal}
 use Rattle.ariadne_picture.proofs.Lists.Joined.{joined-numbered, map-joined, joined-same}
-use Rattle.ariadne_picture.proofs.Lists.ListFacts.{all-map, all-weaker}
-use Rattle.ariadne_picture.proofs.Lists.Occurrences.{total-append}
+use Rattle.ariadne_picture.proofs.Lists.ListFacts.{all-map, all-weaker, map-replicate}
+use Rattle.ariadne_picture.proofs.Lists.Occurrences.{total-append, total-map}
 use Rattle.ariadne_picture.proofs.Cells.RowCells.{front_pieces, area-columns, gutter-columns, length-gutter}
 use Rattle.ariadne_picture.proofs.Reading.Pictures.{Picture, read, number, source_row}
 use Rattle.ariadne_picture.proofs.Reading.ShownLine.{IsShownLine, source-row-is, source-is, every-shown-line, every-block-row, arrow-at}
@@ -37,11 +37,6 @@ abbrev cell_columns : Cell → ℕ
 cell_columns c = c.columns
 
 -- ---- the source row
-
--- a map of equal elements is its value at one of them, as often
-map-replicate : {X Y : Type 0} (f : X → Y) (n : ℕ) (x : X) → map f (replicate n x) ≡ replicate n (f x)
-map-replicate f zero x = refl
-map-replicate f (suc n) x = ap (λ t. f x ∷ t) (map-replicate f n x)
 
 -- a tab has as many cells as columns, of one column each; another character has one cell
 char-columns : (switches : Switches) (paint : Paint) (x c : ℕ)
@@ -65,12 +60,6 @@ shown-columns switches labels y =
     (λ k. let z : k ≡ 0 + k = omega arith in ap (slice_index (shown y)) z)
 
 -- ---- the margin and the gutter
-
--- a sum over a map sums the values
-total-map : {X Y : Type 0} (g : Y → ℕ) (f : X → Y) (xs : List X) → total g (map f xs) ≡ total (λ x. g (f x)) xs
-unfolding total
-total-map g f [] = refl
-total-map g f (x ∷ xs) = ap (λ n. g (f x) + n) (total-map g f xs)
 
 -- a sum of ones is their number
 total-ones : (xs : List Piece) → AllByRecursion (λ q. columns q ≡ 1) xs → total columns xs ≡ length xs

@@ -71,7 +71,7 @@ module _ (v : Picture) {g : ℕ} {s : Section} {i : ℕ} {a : LabelInfo} (o : Is
       go (inr (inr k)) = absurd (true≢false (sym k.one_line ∙ ap is_on_one_line h.shows.info ∙ multi-line s.sheet i a o.owned))
 
   -- its start or end is the margin label where the margin label is of it
-  its-margin : (l : ℕ) (x : LineLabel) → is_inline x.side ≡ false → x.gutter_column ≡ i
+  pub its-margin : (l : ℕ) (x : LineLabel) → is_inline x.side ≡ false → x.gutter_column ≡ i
       → is_margin (margin_label s.sheet l) x ≡ is_margin_at s l i
   unfolding is_margin
   its-margin l x out same = rw out (ap (is_of_gutter_label (margin_label s.sheet l)) same)

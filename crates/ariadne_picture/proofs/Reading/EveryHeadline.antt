@@ -7,7 +7,7 @@ use Rattle.ariadne_picture.specs.Accept.{drawn_labels}
 use Rattle.ariadne_picture.specs.Canvas.{canvas}
 use Rattle.ariadne_picture.specs.Print.{printed}
 use Rattle.ariadne_picture.specs.Headline.{Headline}
-use Rattle.ariadne_picture.proofs.OneReading.StrokesFound.{every-agree}
+use Rattle.ariadne_picture.proofs.OneReading.ReadingsAgree.{every-agree}
 use Rattle.ariadne_picture.proofs.Reading.EveryReport.{every-traced}
 use Rattle.ariadne_picture.proofs.Sent.CellColumns.{columns-of-texts}
 use Rattle.ariadne_picture.proofs.Sent.LinesSent.{rows-are-lines}
@@ -25,7 +25,7 @@ module _ {S Id R : Type 0} (w : World S Id) (r : ReportFields S) (reasons : List
   every-headline law forward before after sent = record {
     exactly_the_printed_canvas_was_sent = sent;
     each_message_is_traced = every-traced w r reasons forward law;
-    in_one_way = every-agree w r reasons forward;
+    in_one_way = every-agree w r reasons law forward;
     each_cell_takes_the_columns_of_its_text = columns-of-texts w r infos;
     its_rows_are_the_lines_that_are_sent = rows-are-lines w r infos;
     colors_move_nothing = colors-move-nothing w r infos;

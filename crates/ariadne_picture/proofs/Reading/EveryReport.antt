@@ -17,8 +17,10 @@ use Rattle.ariadne_picture.proofs.Reading.GutterFree.{gutter-bars}
 use Rattle.ariadne_picture.proofs.Reading.InlineTraces.{inline-traces}
 use Rattle.ariadne_picture.proofs.Reading.EndTraces.{end-traces}
 use Rattle.ariadne_picture.proofs.Reading.OtherStrokes.{no-other-strokes}
+use Rattle.ariadne_picture.proofs.Reading.ColoredLabels.{label-colors}
 use Rattle.ariadne_picture.proofs.Reading.WholeBlocks.{whole-blocks}
 use Rattle.ariadne_picture.specs.Causes.{has_no_other_strokes}
+use Rattle.ariadne_picture.specs.LabelColors.{label_color, has_label_colors}
 use Rattle.ariadne_picture.proofs.Reading.Pictures.{Picture}
 use Rattle.ariadne_picture.proofs.Rows.RowPlacing.{row_placing}
 
@@ -41,25 +43,30 @@ module _ {S Id R : Type 0} (w : World S Id) (r : ReportFields S) (reasons : List
 
   module _ (law : (p q : Id) → w.is_same p q ≡ true → w.source_of p ≡ w.source_of q) where
     -- each is placed within the source of its group, as the law gives each group one source
-    placed : ArePlaced picture
-    placed g s = sections-placed w r law reasons g s forward
+    pub all-placed : ArePlaced picture
+    all-placed g s = sections-placed w r law reasons g s forward
 
     -- its labels within a line are led to their characters, its gutter labels into and out of their columns, in which their
     -- bars stand
     pub every-inline : has_inline_traces (canvas w r infos) (sections w r infos) (row_placing (texts_of r) (sections w r infos)) ≡ true
-    every-inline = of-canvas w r infos numbered has_inline_traces (inline-traces picture placed)
+    every-inline = of-canvas w r infos numbered has_inline_traces (inline-traces picture all-placed)
 
     pub every-end : has_ends_of_gutter_traces (canvas w r infos) (sections w r infos) (row_placing (texts_of r) (sections w r infos)) ≡ true
-    every-end = of-canvas w r infos numbered has_ends_of_gutter_traces (end-traces picture placed)
+    every-end = of-canvas w r infos numbered has_ends_of_gutter_traces (end-traces picture all-placed)
 
     pub every-bar : has_gutter_bars (canvas w r infos) (sections w r infos) (row_placing (texts_of r) (sections w r infos)) ≡ true
-    every-bar = of-canvas w r infos numbered has_gutter_bars (gutter-bars picture placed)
+    every-bar = of-canvas w r infos numbered has_gutter_bars (gutter-bars picture all-placed)
+
+    -- their strokes have their colours
+    pub every-color : has_label_colors (canvas w r infos) (sections w r infos) (row_placing (texts_of r) (sections w r infos)) (label_color r) ≡ true
+    every-color =
+        of-canvas w r infos numbered (λ rows groups p. has_label_colors rows groups p (label_color r)) (label-colors picture all-placed)
 
     -- the tracing promise
-    pub every-traced : IsTraced (canvas w r infos) (sections w r infos) (texts_of r).message_of
-    every-traced = (
-      row_placing (texts_of r) (sections w r infos),
-      record {
+    pub every-traced : IsTraced (canvas w r infos) (sections w r infos) (texts_of r).message_of (label_color r)
+    every-traced = record {
+      placing = row_placing (texts_of r) (sections w r infos);
+      reads = record {
         rows_belong_together = canvas-placed w r infos numbered;
         blocks_are_whole = whole-blocks picture;
         each_message_has_one_row_of_its_own = canvas-messages w r infos numbered;
@@ -68,5 +75,6 @@ module _ {S Id R : Type 0} (w : World S Id) (r : ReportFields S) (reasons : List
         and_along_the_gutter_column = every-bar;
         in_the_columns_where_the_source_row_shows_them = canvas-aligned w r infos numbered;
         and_no_stroke_stands_elsewhere = of-canvas w r infos numbered has_no_other_strokes (no-other-strokes picture);
-      },
-    )
+      };
+      strokes_have_the_colors_of_their_labels = every-color;
+    }

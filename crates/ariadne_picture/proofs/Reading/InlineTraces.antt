@@ -31,7 +31,7 @@ use Rattle.ariadne_picture.proofs.Reading.Pictures.{Picture, placing_of, read, n
 use Rattle.ariadne_picture.proofs.Reading.ShownLine.{IsShownLine, places_of, places-are, source-at, block-row-is, every-line}
 
 -- a label within a line is no margin label
-inline-off : (m : Option LineLabel) (x : LineLabel) → x.side ≡ Inline → is_margin m x ≡ false
+pub inline-off : (m : Option LineLabel) (x : LineLabel) → x.side ≡ Inline → is_margin m x ≡ false
 unfolding is_margin is_inline
 inline-off m x e = rw e refl
 
@@ -62,7 +62,7 @@ module _ (v : Picture) (placed : ArePlaced v) where
   -- ---- a label within a line
 
   -- the line label that shows it lies within the line
-  shows-inline : {g : ℕ} {s : Section} {a : LabelInfo} → is_on_one_line a ≡ true → (h : MessagePlace v g s a)
+  pub shows-inline : {g : ℕ} {s : Section} {a : LabelInfo} → is_on_one_line a ≡ true → (h : MessagePlace v g s a)
       → IsInlineHere s.sheet a.end_line h.label
   shows-inline {g} {s} {a} one h = go (label-here s.sheet a.end_line h.rank h.label h.arrow_row.there)
     where

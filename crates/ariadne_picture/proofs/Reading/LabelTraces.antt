@@ -59,7 +59,7 @@ found test (y ∷ xs) x e = elim (cases_Bool (test y)) [
 ]
 
 -- behind r others it stands r places further on
-drop-get : {X : Type 0} (xs : List X) (r k : ℕ) → slice_get (drop r xs) k ≡ slice_get xs (r + k)
+pub drop-get : {X : Type 0} (xs : List X) (r k : ℕ) → slice_get (drop r xs) k ≡ slice_get xs (r + k)
 drop-get xs zero k = let z : k ≡ 0 + k = omega arith in ap (slice_get xs) z
 drop-get [] (suc r) k = refl
 drop-get (x ∷ xs) (suc r) k = let z : suc r + k ≡ suc (r + k) = omega arith in drop-get xs r k ∙ ap (slice_get (x ∷ xs)) (sym z)
@@ -101,7 +101,7 @@ area-at switches y ink_at k o q few e =
     ∙ inks-at switches.char_set ink_at (width switches y) (arrow_len switches y) k o q few e
 
 -- a place has as many cells as columns
-place-cells : (s : Section) (l k : ℕ) → place_cell s l (k + 1) - place_cell s l k ≡ width s.sheet.switches (layout_of s.sheet l) k
+pub place-cells : (s : Section) (l k : ℕ) → place_cell s l (k + 1) - place_cell s l k ≡ width s.sheet.switches (layout_of s.sheet l) k
 unfolding place_cell width column_of
 place-cells s l k =
     let y = layout_of s.sheet l in
@@ -159,14 +159,14 @@ module _ (v : Picture) {g : ℕ} {s : Section} {l : ℕ} (h : IsShownLine v g s 
 -- ---- the trace of a line label
 
 -- it turns where the label has its place, in its arrow row
-record IsTraceOf (v : Picture) (g : ℕ) (s : Section) (l r : ℕ) (x : LineLabel) : Type 0 where
-  trace : Trace
-  there : Has (read v traces_below g s l) trace
-  place : trace.place ≡ x.place
-  row : trace.row ≡ number v g s (arrow l r)
-  turns : is_margin (layout_of s.sheet l).margin x ≡ false → trace.turns ≡ true
-  corner : trace.corner ≡ corner_glyph x.side
-  reaches : (k : ℕ) → (is_crossed x.side x.place k ≡ true) ⊎ (x.place ≡ k) → trace.reaches k ≡ true
+pub record IsTraceOf (v : Picture) (g : ℕ) (s : Section) (l r : ℕ) (x : LineLabel) : Type 0 where
+  pub trace : Trace
+  pub there : Has (read v traces_below g s l) trace
+  pub place : trace.place ≡ x.place
+  pub row : trace.row ≡ number v g s (arrow l r)
+  pub turns : is_margin (layout_of s.sheet l).margin x ≡ false → trace.turns ≡ true
+  pub corner : trace.corner ≡ corner_glyph x.side
+  pub reaches : (k : ℕ) → (is_crossed x.side x.place k ≡ true) ⊎ (x.place ≡ k) → trace.reaches k ≡ true
 
 module _ (v : Picture) {g : ℕ} {s : Section} {l r : ℕ} {x : LineLabel} (q : IsArrowRow v g s l r x) where
   inline-there : IsInlineHere s.sheet l x → Has (read v traces_below g s l) (read v inline_trace x.info)
@@ -219,7 +219,7 @@ module _ (v : Picture) {g : ℕ} {s : Section} {l r : ℕ} {x : LineLabel} (q : 
       let line = h.line in
       cc (head.row)
 
-  trace-of : IsTraceOf v g s l r x
+  pub trace-of : IsTraceOf v g s l r x
   unfolding is_margin is_inline is_start is_crossed corner_glyph layout_of inline_trace end_trace start_trace
   trace-of = go (label-here s.sheet l r x q.there)
     where

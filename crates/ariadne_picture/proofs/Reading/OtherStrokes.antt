@@ -55,7 +55,7 @@ shows-upright v s glyph paint (inr (inl e)) = left-true _ _ (right-true _ _ (sho
 shows-upright v s glyph paint (inr (inr e)) = right-true _ _ (shows-glyph v s glyph paint e)
 
 -- a row of the line stands no further down than the arrow row of a label that has no lower rank
-not-below : (v : Picture) {g : ℕ} {s : Section} {l : ℕ} (r : ℕ) (x : LineLabel) (q : IsArrowRow v g s l r x) (j : ℕ) (y : Row) → RowAt v g s j y
+pub not-below : (v : Picture) {g : ℕ} {s : Section} {l : ℕ} (r : ℕ) (x : LineLabel) (q : IsArrowRow v g s l r x) (j : ℕ) (y : Row) → RowAt v g s j y
     → row_part y ≡ 2 → row_line y ≡ l → row_step y ≤ 2 * r + 2 → number v g s y ≤ number v g s (arrow l r)
 unfolding row_part row_line row_step
 not-below v {l = l} r x q j y is part line step =

@@ -42,7 +42,7 @@ find-some test (z ∷ xs) (suc k) x e h = elim (cases_Bool (test z)) [
 ]
 
 -- an element behind r others is there without them
-drop-at : {X : Type 0} (xs : List X) (r k : ℕ) → r ≤ k → slice_get (drop r xs) (k - r) ≡ slice_get xs k
+pub drop-at : {X : Type 0} (xs : List X) (r k : ℕ) → r ≤ k → slice_get (drop r xs) (k - r) ≡ slice_get xs k
 drop-at xs zero k h = let z : k - 0 ≡ k = omega arith in ap (slice_get xs) z
 drop-at [] (suc r) k h = refl
 drop-at (x ∷ xs) (suc r) zero h = absurd (omega arith)
@@ -111,7 +111,7 @@ module _ (v : Picture) {g : ℕ} {s : Section} {l : ℕ} where
   alternate-cell {r = r} is = place-at v s l (alternate_inks s l r) _ (alternate-text v is)
 
   -- the arrow row of line label x has its corner, its horizontal and the verticals of others
-  label-cell : {r : ℕ} {x : LineLabel} → IsArrowRow v g s l r x → (k : ℕ) → k < places_of s l → has_cell s l k ≡ true
+  pub label-cell : {r : ℕ} {x : LineLabel} → IsArrowRow v g s l r x → (k : ℕ) → k < places_of s l → has_cell s l k ≡ true
       → let y = layout_of s.sheet l in
       first_cell v s l (number v g s (arrow l r)) k
       ≡ ink_cell v s (arrow_ink s.sheet.switches r x (has_corner y.margin x k) (is_crossed x.side x.place k) (vertical_at y r k))
@@ -147,7 +147,7 @@ module _ (v : Picture) {g : ℕ} {s : Section} {l : ℕ} where
     -- ---- the rows of the block above it
 
     -- each is of a line label of no greater rank
-    above-it : (i : ℕ) (y : Row) → i < q.index → slice_get (shown_rows s.sheet l) i ≡ Some y → (b : IsBlockRow s.sheet l y) → b.rank ≤ r
+    pub above-it : (i : ℕ) (y : Row) → i < q.index → slice_get (shown_rows s.sheet l) i ≡ Some y → (b : IsBlockRow s.sheet l y) → b.rank ≤ r
     unfolding row_part row_line row_step
     above-it i y less e b =
         let order = in-order v (block-row-is v q.line i y e) (arrow-at v q) (omega arith) in

@@ -22,9 +22,8 @@ use Rattle.ariadne_picture.specs.Placing.{char_texts, are_distinct, is_placing, 
 use Rattle.ariadne_picture.proofs.Cells.CanvasRows.{map-map, row_cells}
 use Rattle.ariadne_picture.proofs.Cells.MarginTexts.{margin-blank, margin-gap, margin-cell, source-margin, alternate-margin, arrow-margin, shown-texts}
 use Rattle.ariadne_picture.proofs.Lists.Elements.{all-from, all-numbered, left-true, right-true, list_all-true, pointwise-equal, texts-same}
-use Rattle.ariadne_picture.proofs.Lists.Joined.{map-joined}
+use Rattle.ariadne_picture.proofs.Lists.Joined.{filter-joined, map-joined}
 use Rattle.ariadne_picture.proofs.Lists.ListFacts.{all-joined, Increasing}
-use Rattle.ariadne_picture.proofs.Rows.LineBlock.{filter-append}
 use Rattle.ariadne_picture.proofs.Rows.RowNumbers.{start-first, start-next, start-last, row-in-group}
 use Rattle.ariadne_picture.proofs.Rows.RowOrder.{by-line, shown_rows}
 use Rattle.ariadne_picture.proofs.Reading.HeadPlaces.{IsGutterLabelOf, margin-line, head-at-margin, head-place}
@@ -36,13 +35,6 @@ use Rattle.ariadne_picture.proofs.Reading.ShownLine.{IsArrowRow, arrow-at, IsSho
 use Rattle.ariadne_picture.proofs.Reading.ShownLine.{source-row-is}
 use Rattle.ariadne_picture.proofs.Reading.TextRows.{IsTextRow, source-text, arrow-text, alternate-text, text-cells, front-at}
 use Rattle.ariadne_picture.proofs.Rows.RowPlacing.{row_placing}
-
--- a filter of lists joined filters each
-filter-joined : {X Y : Type 0} (test : Y → Bool) (f : X → List Y) (xs : List X)
-    → filter test (joined f xs) ≡ joined (λ x. filter test (f x)) xs
-unfolding joined
-filter-joined test f [] = refl
-filter-joined test f (x ∷ xs) = filter-append test (f x) (joined f xs) ∙ ap (λ t. filter test (f x) ++ t) (filter-joined test f xs)
 
 module _ (v : Picture) where
   -- a row of a group is in its range

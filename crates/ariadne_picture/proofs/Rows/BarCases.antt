@@ -197,6 +197,7 @@ pub record AtMargin (s : Sheet) (l i : ℕ) (a : LabelInfo) : Type 0 where
   pub label : LineLabel
   pub there : margin_label s l ≡ Some label
   pub owner : label.gutter_column ≡ i
+  pub info : label.info ≡ a
   pub is : (label.side ≡ Starts) × (a.start_line ≡ l) ⊎ (label.side ≡ Ends) × (a.end_line ≡ l)
 
 -- a margin label that is of gutter label i is of a, where a is gutter label i
@@ -212,6 +213,7 @@ at-margin-label s l i a e (Some x) m t =
       label = x;
       there = m;
       owner = owner;
+      info = info;
       is = elim edge.there [
         | inl h ↦ inl (h.0, ap (λ b. b.start_line) (sym info) ∙ h.1)
         | inr h ↦ inr (h.0, ap (λ b. b.end_line) (sym info) ∙ h.1)

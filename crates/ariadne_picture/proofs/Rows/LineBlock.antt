@@ -3,8 +3,9 @@ use Rattle.std.proofs.Common.{◌≡◌, ℕ, zero, suc, ◌+◌, ◌-◌, ◌<�
 use Rattle.std.proofs.Common.{arith, ◌==◌, nat_lt, ◌⊎◌, inl, inr, if◌then◌else◌, append_assoc}
 use Rattle.std.specs.Prelude.{slice_get, filter}
 use Rattle.std.specs.List.{AllByRecursion, enumerate_from, range_with_len}
-use Rattle.std.proofs.lemmas.Bool.{cond_both, cond-true, cond-false, eq-eqb, ne_eqb}
+use Rattle.std.proofs.lemmas.Bool.{cond_both, cond-false, eq-eqb, ne_eqb}
 use Rattle.std.proofs.lemmas.List.{length-append}
+use Rattle.std.proofs.lemmas.List.Elements.{filter-append}
 use Rattle.ariadne_picture.specs.declared.label_info.LineLabel.{LineLabel}
 use Rattle.ariadne_picture.specs.Lists.{joined}
 use Rattle.ariadne_picture.specs.Groups.{group_start_line, group_end_line, group_lines}
@@ -44,13 +45,6 @@ this-block p n k l e f h = rw (eq-eqb p 2 e, eq-eqb n l f, Rattle.std.proofs.lem
 no-step : (l : ℕ) → of_block l (source l) ≡ false
 unfolding row_part row_line row_step
 no-step l = rw (eq-eqb l l refl) refl
-
--- a filter of two lists joined
-pub filter-append : {X : Type 0} (test : X → Bool) (xs ys : List X) → filter test (xs ++ ys) ≡ filter test xs ++ filter test ys
-filter-append test [] ys = refl
-filter-append test (x ∷ xs) ys = cond_both (test x) (x ∷ filter test xs) (filter test xs) (λ t. filter test (x ∷ (xs ++ ys)) ≡ t ++ filter test ys)
-    (λ h. cond-true (test x) (x ∷ filter test (xs ++ ys)) (filter test (xs ++ ys)) h ∙ ap (λ t. x ∷ t) (filter-append test xs ys))
-    (λ h. cond-false (test x) (x ∷ filter test (xs ++ ys)) (filter test (xs ++ ys)) h ∙ filter-append test xs ys)
 
 -- six lists in two groupings
 regroup : {X : Type 0} (a b c d e f : List X) → a ++ (b ++ (c ++ d)) ++ e ++ f ≡ (a ++ b) ++ (c ++ (d ++ e ++ f))

@@ -1,7 +1,7 @@
--- The pieces of every row are without a control byte, where the texts that the row shows are.
-use Rattle.std.proofs.Common.{◌≡◌, ◌≢◌, ℕ, zero, suc, ◌+◌, Bool, true, false, List, [], ◌∷◌, ◌++◌, length, replicate, Option, Some, None, refl, arith}
+-- What holds of every text of a picture holds of the pieces of every row, where it does of the texts that the row shows.
+use Rattle.std.proofs.Common.{◌≡◌, ℕ, zero, suc, ◌+◌, Bool, true, false, List, [], ◌∷◌, ◌++◌, length, replicate, Option, Some, None, refl, arith}
 use Rattle.std.proofs.Common.{◌==◌, if◌then◌else◌}
-use Rattle.std.specs.Prelude.{nat_le, slice_index, slice_index_or, decimal, codes, unwrap_or}
+use Rattle.std.specs.Prelude.{slice_index, slice_index_or, decimal, codes, unwrap_or}
 use Rattle.std.specs.List.{AllByRecursion, list_all}
 use Rattle.std.specs.Str.Lines.{lines}
 use Rattle.std.proofs.lemmas.Bool.{cond_both}
@@ -25,201 +25,198 @@ use Rattle.ariadne_picture.specs.Pieces.{Texts, Section, location_text, group_he
 use Rattle.ariadne_picture.specs.Pieces.{aside_texts, aside_name, aside_prefix, aside_line, aside_pieces, rest_pieces, row_pieces}
 use Rattle.ariadne_picture.proofs.Lists.ListFacts.{all-append}
 use Rattle.ariadne_picture.proofs.Cells.RowCells.{all-replicate}
-use Rattle.ariadne_picture.proofs.Variants.CleanTexts.{IsClean, IsControl, all-or, all-parts, all-trimmed}
-use Rattle.ariadne_picture.proofs.Variants.CleanTexts.{clean-append as append-clean, clean-printable as printable-clean, clean-spaces as spaces-clean}
-use Rattle.ariadne_picture.proofs.Variants.CleanTexts.{clean-decimal as decimal-clean, clean-glyph as glyph-clean, clean-shown}
+use Rattle.ariadne_picture.proofs.Variants.CleanTexts.{IsKept, is_plain, kept-nil, kept-spaces, kept-decimal, kept-joined}
+use Rattle.ariadne_picture.proofs.Variants.CleanTexts.{all-below, all-in, all-or, all-parts, all-trimmed}
 
--- a piece without that byte
-abbrev pub IsCleanPiece : ℕ → Piece → Type 0
-IsCleanPiece b p = IsClean b p.text
+-- of the text of a piece
+abbrev pub IsCleanPiece : (List ℕ → Type 0) → Piece → Type 0
+IsCleanPiece P p = P p.text
 
--- pieces without it
-abbrev pub AreClean : ℕ → List Piece → Type 0
-AreClean b pieces = AllByRecursion (IsCleanPiece b) pieces
+-- of those of all pieces
+abbrev pub AreClean : (List ℕ → Type 0) → List Piece → Type 0
+AreClean P pieces = AllByRecursion (IsCleanPiece P) pieces
 
--- texts that are cut into lines, none of which has it
-abbrev pub HaveCleanLines : ℕ → List (List ℕ) → Type 0
-HaveCleanLines b texts = AllByRecursion (λ t. AllByRecursion (IsClean b) (lines t)) texts
+-- of the lines that texts are cut into
+abbrev pub HaveCleanLines : (List ℕ → Type 0) → List (List ℕ) → Type 0
+HaveCleanLines P texts = AllByRecursion (λ t. AllByRecursion P (lines t)) texts
 
--- lines whose characters are all shown without it
-abbrev pub AreShownClean : ℕ → List (List ℕ) → Type 0
-AreShownClean b ls = AllByRecursion (AllByRecursion (λ c. IsClean b (shown_text c))) ls
+-- of the characters of lines, as they are shown
+abbrev pub AreShownClean : (List ℕ → Type 0) → List (List ℕ) → Type 0
+AreShownClean P ls = AllByRecursion (AllByRecursion (λ c. P (shown_text c))) ls
 
--- no text of a report has it
-pub record AreCleanTexts (b : ℕ) (t : Texts) : Type 0 where
-  pub kind_text : IsClean b t.kind_text
-  pub message : IsClean b (unwrap_or t.message [])
-  pub helps : HaveCleanLines b t.helps
-  pub notes : HaveCleanLines b t.notes
-  pub message_of : (k : ℕ) → IsClean b (t.message_of k)
+-- of the texts of a report
+pub record AreCleanTexts (P : List ℕ → Type 0) (t : Texts) : Type 0 where
+  pub kind_text : P t.kind_text
+  pub message : P (unwrap_or t.message [])
+  pub helps : HaveCleanLines P t.helps
+  pub notes : HaveCleanLines P t.notes
+  pub message_of : (k : ℕ) → P (t.message_of k)
 
--- neither the name of a group's source nor its lines, as they are shown, have it
-pub record IsCleanSection (b : ℕ) (g : Section) : Type 0 where
-  pub name : IsClean b g.name
-  pub lines : AreShownClean b g.sheet.lines
+-- of the name of a group's source, and of its lines as they are shown
+pub record IsCleanSection (P : List ℕ → Type 0) (g : Section) : Type 0 where
+  pub name : P g.name
+  pub lines : AreShownClean P g.sheet.lines
 
-module _ (b : ℕ) (control : IsControl b) where
-  clean-append : (s t : List ℕ) → IsClean b s → IsClean b t → IsClean b (s ++ t)
-  clean-append = append-clean b
+module _ (P : List ℕ → Type 0) (kept : IsKept P) where
+  clean-append : (s t : List ℕ) → P s → P t → P (s ++ t)
+  clean-append = kept.append
 
-  clean-printable : (t : List ℕ) → list_all (λ c. nat_le 32 c) t ≡ true → IsClean b t
-  clean-printable = printable-clean b control
+  clean-printable : (t : List ℕ) → list_all is_plain t ≡ true → P t
+  clean-printable = kept.plain
 
-  clean-spaces : (n : ℕ) → IsClean b (spaces n)
-  clean-spaces = spaces-clean b control
+  clean-spaces : (n : ℕ) → P (spaces n)
+  clean-spaces = kept-spaces P kept
 
-  clean-decimal : (n : ℕ) → IsClean b (decimal n)
-  clean-decimal = decimal-clean b control
+  clean-decimal : (n : ℕ) → P (decimal n)
+  clean-decimal = kept-decimal P kept
 
-  clean-glyph : (set : CharSet) (glyph : Glyph) → IsClean b (glyph_text set glyph)
-  clean-glyph = glyph-clean b control
+  clean-glyph : (set : CharSet) (glyph : Glyph) → P (glyph_text set glyph)
+  clean-glyph = kept.glyph
 
   -- ---- the cells of inks
 
   -- one ink: strokes and blanks
-  clean-ink : (set : CharSet) (ink : Ink) (n : ℕ) → AreClean b (ink_pieces set ink n)
+  clean-ink : (set : CharSet) (ink : Ink) (n : ℕ) → AreClean P (ink_pieces set ink n)
   unfolding ink_pieces
   clean-ink set ink zero = tt
   clean-ink set ink (suc n) =
-      (clean-glyph set ink.first, all-replicate (IsCleanPiece b) n (stroke set ink.rest ink.rest_paint) (clean-glyph set ink.rest))
+      (clean-glyph set ink.first, all-replicate (IsCleanPiece P) n (stroke set ink.rest ink.rest_paint) (clean-glyph set ink.rest))
 
   -- those of many places
   clean-inks : (set : CharSet) (ink_at : ℕ → Ink) (size : ℕ → ℕ) (n : ℕ)
-      → AreClean b (joined (λ k. ink_pieces set (ink_at k) (size k)) (upto n))
+      → AreClean P (joined (λ k. ink_pieces set (ink_at k) (size k)) (upto n))
   clean-inks set ink_at size n =
-      all-parts (IsCleanPiece b) (λ k. ink_pieces set (ink_at k) (size k)) (λ k. clean-ink set (ink_at k) (size k)) (upto n)
+      all-parts (IsCleanPiece P) (λ k. ink_pieces set (ink_at k) (size k)) (λ k. clean-ink set (ink_at k) (size k)) (upto n)
 
   -- a text area
-  clean-area : (switches : Switches) (y : Layout) (ink_at : ℕ → Ink) → AreClean b (area_pieces switches y ink_at)
+  clean-area : (switches : Switches) (y : Layout) (ink_at : ℕ → Ink) → AreClean P (area_pieces switches y ink_at)
   unfolding area_pieces
   clean-area switches y ink_at = clean-inks switches.char_set ink_at (width switches y) (arrow_len switches y)
 
   -- a gutter
-  clean-gutter : (s : Sheet) (x : Row) → AreClean b (gutter_pieces s x)
+  clean-gutter : (s : Sheet) (x : Row) → AreClean P (gutter_pieces s x)
   unfolding gutter_pieces
   clean-gutter s x = clean-inks s.switches.char_set (column_ink s x) (λ i. column_size s.switches) (gutter_len s)
 
   -- ---- source rows
 
   -- a character that is shown
-  clean-char : (switches : Switches) (paint : Paint) (x c : ℕ) → IsClean b (shown_text c) → AreClean b (char_pieces switches paint x c)
+  clean-char : (switches : Switches) (paint : Paint) (x c : ℕ) → P (shown_text c) → AreClean P (char_pieces switches paint x c)
   unfolding char_pieces
   clean-char switches paint x c h =
       let n = shown_columns switches.tab_width x c in
       let blank : Piece = record { text = 32 ∷ []; paint = paint; columns = 1 } in
-      cond_both (c == 9) (replicate n blank) (record { text = shown_text c; paint = paint; columns = n } ∷ []) (AreClean b)
-      (λ _. all-replicate (IsCleanPiece b) n blank (clean-printable (32 ∷ []) refl)) (λ _. (h, tt))
+      cond_both (c == 9) (replicate n blank) (record { text = shown_text c; paint = paint; columns = n } ∷ []) (AreClean P)
+      (λ _. all-replicate (IsCleanPiece P) n blank (clean-printable (32 ∷ []) refl)) (λ _. (h, tt))
 
   -- the characters of a line
-  clean-line : (switches : Switches) (labels : List LabelInfo) (y : Layout) → AllByRecursion (λ c. IsClean b (shown_text c)) y.text → AreClean b (shown_pieces switches labels y)
+  clean-line : (switches : Switches) (labels : List LabelInfo) (y : Layout) → AllByRecursion (λ c. P (shown_text c)) y.text → AreClean P (shown_pieces switches labels y)
   unfolding shown_pieces place_pieces shown
   clean-line switches labels y a =
-      let some = control.some in
-      let IsShown : ℕ → Type 0 = λ c. IsClean b (shown_text c) in
-      let none : IsShown 0 = clean-shown b control 0 (λ _ e. omega arith) in
-      let char : (k : ℕ) → IsShown (slice_index (shown y) k) = λ k. all-or IsShown (shown y) k 0 none (all-trimmed IsShown y.text a) in
-      all-parts (IsCleanPiece b) (place_pieces switches labels y)
-      (λ k. clean-char switches (char_paint labels y k) (column_of switches y k) (slice_index (shown y) k) (char k)) (upto (length (shown y)))
+      let IsShown : ℕ → Type 0 = λ c. P (shown_text c) in
+      all-below (IsCleanPiece P) (place_pieces switches labels y) 0 (length (shown y))
+      (λ k less. clean-char switches (char_paint labels y k) (column_of switches y k) (slice_index (shown y) k)
+      (all-in IsShown (shown y) k 0 (omega (arith, less)) (all-trimmed IsShown y.text a)))
 
   -- line number l of a sheet
-  clean-source : (switches : Switches) (s : Sheet) (l : ℕ) → AreShownClean b s.lines
-      → AreClean b (shown_pieces switches (multi_line_labels s) (layout_of s l))
+  clean-source : (switches : Switches) (s : Sheet) (l : ℕ) → AreShownClean P s.lines
+      → AreClean P (shown_pieces switches (multi_line_labels s) (layout_of s l))
   unfolding layout_of
-  clean-source switches s l a = clean-line switches (multi_line_labels s) (layout_of s l) (all-or (AllByRecursion (λ c. IsClean b (shown_text c))) s.lines l [] tt a)
+  clean-source switches s l a = clean-line switches (multi_line_labels s) (layout_of s l) (all-or (AllByRecursion (λ c. P (shown_text c))) s.lines l [] tt a)
 
   -- ---- margins, headers and tails
 
   -- a line number, or blanks, and a vertical
-  clean-margin_text : (set : CharSet) (w display_offset : ℕ) (x : Row) → IsClean b (margin_text set w display_offset x)
+  clean-margin_text : (set : CharSet) (w display_offset : ℕ) (x : Row) → P (margin_text set w display_offset x)
   unfolding margin_text
   clean-margin_text set w display_offset (source l) = search (clean-append, clean-spaces, clean-decimal, clean-glyph, clean-printable)
   clean-margin_text set w display_offset x = search (clean-append, clean-spaces, clean-glyph)
 
   -- the margin of a row
-  clean-margin : (switches : Switches) (w display_offset : ℕ) (x : Row) → AreClean b (margin_pieces switches w display_offset x)
+  clean-margin : (switches : Switches) (w display_offset : ℕ) (x : Row) → AreClean P (margin_pieces switches w display_offset x)
   unfolding margin_pieces
   clean-margin switches w display_offset x =
       let blank = clean-printable (32 ∷ []) refl in
-      let gap = cond_both switches.compact [] (blank_piece ∷ []) (AreClean b) (λ _. tt) (λ _. (blank, tt)) in
+      let gap = cond_both switches.compact [] (blank_piece ∷ []) (AreClean P) (λ _. tt) (λ _. (blank, tt)) in
       (blank, (clean-margin_text switches.char_set w display_offset x, gap))
 
   -- the line and the column that a group header names
-  clean-location : (ls : List (List ℕ)) (display_offset : ℕ) (place : Option ℕ) → IsClean b (location_text ls display_offset place)
+  clean-location : (ls : List (List ℕ)) (display_offset : ℕ) (place : Option ℕ) → P (location_text ls display_offset place)
   unfolding location_text
   clean-location ls display_offset None = clean-printable (codes "?:?") refl
   clean-location ls display_offset (Some o) = search (clean-append, clean-decimal, clean-printable)
 
   -- a group header
-  clean-header : (g : Section) (w : ℕ) → IsCleanSection b g → AreClean b (group_header_pieces g w)
+  clean-header : (g : Section) (w : ℕ) → IsCleanSection P g → AreClean P (group_header_pieces g w)
   unfolding group_header_pieces
   clean-header g w h =
       let name = h.name in let place = clean-location g.sheet.lines g.display_offset g.header_offset in
       search (clean-append, clean-spaces, clean-glyph, clean-printable)
 
   -- the row below it
-  clean-spacer : (set : CharSet) (w : ℕ) → AreClean b (spacer_pieces set w)
+  clean-spacer : (set : CharSet) (w : ℕ) → AreClean P (spacer_pieces set w)
   unfolding spacer_pieces
   clean-spacer set w = search (clean-spaces, clean-glyph)
 
   -- the row at the group's end
-  clean-tail : (set : CharSet) (w : ℕ) (is_last : Bool) → AreClean b (tail_pieces set w is_last)
+  clean-tail : (set : CharSet) (w : ℕ) (is_last : Bool) → AreClean P (tail_pieces set w is_last)
   unfolding tail_pieces repeated
   clean-tail set w false = clean-spacer set w
   clean-tail set w true =
-      let bar = all-parts (λ c. c ≢ b) (λ k. glyph_text set Hbar) (λ k. clean-glyph set Hbar) (upto (w + 2)) in
+      let bar = kept-joined P kept (λ (k : ℕ). glyph_text set Hbar) (λ k. clean-glyph set Hbar) (upto (w + 2)) in
       search (clean-append, clean-glyph)
 
   -- ---- messages, helps and notes
 
-  module _ (t : Texts) (clean : AreCleanTexts b t) where
+  module _ (t : Texts) (clean : AreCleanTexts P t) where
     -- the message of a label
-    clean-message : (x : Option LineLabel) → AreClean b (message_pieces t x)
+    clean-message : (x : Option LineLabel) → AreClean P (message_pieces t x)
     unfolding message_pieces
     clean-message None = tt
     clean-message (Some x) =
         let message = t.message_of x.info.position in
-        cond_both (is_start x.side) [] (blank_piece ∷ plain_text message ∷ []) (AreClean b)
+        cond_both (is_start x.side) [] (blank_piece ∷ plain_text message ∷ []) (AreClean P)
         (λ _. tt) (λ _. (clean-printable (32 ∷ []) refl, (clean.message_of x.info.position, tt)))
 
     -- the word in front of a help or a note
-    clean-name : (a : Aside) → IsClean b (aside_name a)
+    clean-name : (a : Aside) → P (aside_name a)
     unfolding aside_name
     clean-name help = clean-printable (codes "Help") refl
     clean-name note = clean-printable (codes "Note") refl
 
     -- that word with its number, where it has one
-    clean-prefix : (a : Aside) (k : ℕ) → IsClean b (aside_prefix t a k)
+    clean-prefix : (a : Aside) (k : ℕ) → P (aside_prefix t a k)
     unfolding aside_prefix
     clean-prefix a k =
         let is_one = length (aside_texts t a) == 1 in let number = codes " " ++ decimal (k + 1) in
-        let clean : IsClean b number = search (clean-append, clean-decimal, clean-printable) in
+        let clean : P number = search (clean-append, clean-decimal, clean-printable) in
         clean-append (aside_name a) (if is_one then [] else number) (clean-name a)
-        (cond_both is_one [] number (IsClean b) (λ _. tt) (λ _. clean))
+        (cond_both is_one [] number P (λ _. kept-nil P kept) (λ _. clean))
 
     -- the helps, or the notes
-    clean-texts : (a : Aside) → HaveCleanLines b (aside_texts t a)
+    clean-texts : (a : Aside) → HaveCleanLines P (aside_texts t a)
     unfolding aside_texts
     clean-texts help = clean.helps
     clean-texts note = clean.notes
 
     -- a line of one
-    clean-aside_line : (a : Aside) (k p : ℕ) → IsClean b (aside_line t a k p)
+    clean-aside_line : (a : Aside) (k p : ℕ) → P (aside_line t a k p)
     unfolding aside_line
     clean-aside_line a k p =
         let text = slice_index_or (aside_texts t a) k [] in
-        all-or (IsClean b) (lines text) p [] tt (all-or (λ t. AllByRecursion (IsClean b) (lines t)) (aside_texts t a) k [] tt (clean-texts a))
+        all-or P (lines text) p [] (kept-nil P kept) (all-or (λ t. AllByRecursion P (lines t)) (aside_texts t a) k [] tt (clean-texts a))
 
     -- a row of one
-    clean-aside : (a : Aside) (k p : ℕ) → AreClean b (aside_pieces t a k p)
+    clean-aside : (a : Aside) (k p : ℕ) → AreClean P (aside_pieces t a k p)
     unfolding aside_pieces
     clean-aside a k zero = let line = clean-aside_line a k 0 in search (clean-append, clean-prefix, clean-printable)
     clean-aside a k (suc p) = search (clean-append, clean-spaces, clean-aside_line)
 
     -- ---- rows
 
-    module _ (w : ℕ) (g : Section) (named : IsCleanSection b g) where
+    module _ (w : ℕ) (g : Section) (named : IsCleanSection P g) where
       -- what follows the margin
-      clean-rest : (x : Row) → AreClean b (rest_pieces t g x)
+      clean-rest : (x : Row) → AreClean P (rest_pieces t g x)
       unfolding rest_pieces
       clean-rest (source l) = search (all-append, clean-gutter, clean-source)
       clean-rest (alternate l r) = search (all-append, clean-gutter, clean-area)
@@ -230,7 +227,7 @@ module _ (b : ℕ) (control : IsControl b) where
       clean-rest x = tt
 
       -- a row
-      pub clean-row : (x : Row) → AreClean b (row_pieces t w g x)
+      pub clean-row : (x : Row) → AreClean P (row_pieces t w g x)
       unfolding row_pieces
       clean-row group_header = clean-header g w named
       clean-row spacer = clean-spacer g.sheet.switches.char_set w

@@ -1,14 +1,14 @@
--- Texts without a control byte, as the one is that begins an escape sequence, and a line feed: which texts have none, and that
--- no part of such a text has it.
-use Rattle.std.proofs.Common.{◌≡◌, ◌≢◌, ℕ, zero, suc, ◌+◌, ◌-◌, ◌/◌, ◌%◌, ◌<◌, Bool, true, false, not, ◌&&◌, cond, List, [], ◌∷◌, ◌++◌, take, length}
+-- What holds of the texts of a picture: of those that are written beside the texts that are handed in, and of texts that are
+-- joined. Such is that a text has no control byte, as the one that begins an escape sequence, or a line feed.
+use Rattle.std.proofs.Common.{◌≡◌, ◌≢◌, ℕ, zero, suc, ◌+◌, ◌-◌, ◌/◌, ◌%◌, ◌<◌, ◌≤◌, Bool, true, false, not, ◌&&◌, cond, List, [], ◌∷◌, ◌++◌, take, length, replicate}
 use Rattle.std.proofs.Common.{refl, sym, ap, ◌∙◌, subst, arith, ◌==◌, nat_lt, nat_le}
 use Rattle.std.specs.Prelude.{slice_index, slice_index_or, decimal, flat_map, encode_utf8}
 use Rattle.std.specs.Char.{is_whitespace}
 use Rattle.std.specs.Fmt.{digits, digits_onto, digit_glyph}
-use Rattle.std.specs.List.{AllByRecursion, list_all, slice_split, onto_first}
+use Rattle.std.specs.List.{AllByRecursion, list_all, range_with_len, slice_split, onto_first}
 use Rattle.std.specs.Str.{drop_trailing_whitespace}
 use Rattle.std.specs.Str.Lines.{lines, lines_of_parts, strip_carriage_return}
-use Rattle.std.proofs.lemmas.Bool.{cond_both, cond-true, true≢false, and_parts, eq-eqb, ne_eqb, lt-ltb, leb-true}
+use Rattle.std.proofs.lemmas.Bool.{cond_both, cond-true, true≢false, and_from, and_parts, eq-eqb, ne_eqb, le-leb, lt-ltb, leb-true}
 use Rattle.ariadne_base.specs.Lines.{lines_of}
 use Rattle.ariadne_base.proofs.LineLaws.{lines_joined}
 use Rattle.ariadne_picture.specs.declared.switches.CharSet.{CharSet}
@@ -41,6 +41,12 @@ module _ {X : Type 0} (P : X → Type 0) where
   all-take (suc n) [] a = tt
   all-take (suc n) (x ∷ xs) a = (a.0, all-take n xs a.1)
 
+  -- an element that there is
+  pub all-in : (xs : List X) (k : ℕ) (d : X) → k < length xs → AllByRecursion P xs → P (slice_index_or xs k d)
+  all-in [] k d h a = absurd (omega arith)
+  all-in (x ∷ xs) zero d h a = a.0
+  all-in (x ∷ xs) (suc k) d h a = all-in xs k d (omega (arith, h)) a.1
+
   -- an element, or what stands for one past the end
   pub all-or : (xs : List X) (k : ℕ) (d : X) → P d → AllByRecursion P xs → P (slice_index_or xs k d)
   all-or [] k d h a = h
@@ -53,6 +59,14 @@ module _ {X : Type 0} (P : X → Type 0) where
   unfolding joined
   all-parts f h [] = tt
   all-parts f h (y ∷ ys) = all-append P (f y) (joined f ys) (h y) (all-parts f h ys)
+
+  -- lists that each number below an end gives, joined
+  pub all-below : (f : ℕ → List X) (a n : ℕ) → ((k : ℕ) → k < a + n → AllByRecursion P (f k))
+      → AllByRecursion P (joined f (range_with_len a n))
+  unfolding joined
+  all-below f a zero h = tt
+  all-below f a (suc n) h =
+      all-append P (f a) (joined f (range_with_len (a + 1) n)) (h a (omega arith)) (all-below f (a + 1) n (λ k less. h k (omega (arith, less))))
 
   -- lists whose joined elements it holds of
   pub all-flat : (ls : List (List X)) → AllByRecursion P (flat_map (λ l. l) ls) → AllByRecursion (AllByRecursion P) ls
@@ -72,6 +86,63 @@ module _ {X : Type 0} (P : X → Type 0) where
       let rest = all-split test xs a.1 in
       cond_both (test x) ([] ∷ slice_split test xs) (onto_first x (slice_split test xs)) (AllByRecursion (AllByRecursion P))
       (λ _. (tt, rest)) (λ _. all-onto_first x (slice_split test xs) a.0 rest)
+
+-- ---- what holds of every text of a picture
+
+-- printable ASCII
+abbrev pub is_plain : ℕ → Bool
+is_plain c = nat_le 32 c && nat_lt c 127
+
+-- it holds of printable ASCII, of strokes, and of texts that are joined
+pub record IsKept (P : List ℕ → Type 0) : Type 0 where
+  pub append : (s t : List ℕ) → P s → P t → P (s ++ t)
+  pub plain : (t : List ℕ) → list_all is_plain t ≡ true → P t
+  pub glyph : (set : CharSet) (glyph : Glyph) → P (glyph_text set glyph)
+
+-- between 32 and 126
+plain-from : (c : ℕ) → 32 ≤ c → c < 127 → is_plain c ≡ true
+plain-from c least less = and_from (nat_le 32 c) (nat_lt c 127) (le-leb 32 c least) (lt-ltb c 127 less)
+
+-- blanks
+plain-spaces : (n : ℕ) → list_all is_plain (spaces n) ≡ true
+unfolding spaces
+plain-spaces n = list_all-true is_plain (replicate n 32) (all-replicate (λ c. is_plain c ≡ true) n 32 refl)
+
+-- digits in front of others
+plain-digits : (k n : ℕ) (t : List ℕ) → AllByRecursion (λ c. is_plain c ≡ true) t
+    → AllByRecursion (λ c. is_plain c ≡ true) (digits_onto k 10 false n t)
+plain-digits zero n t a = a
+plain-digits (suc k) n t a =
+    let d = digit_glyph false (n % 10) in
+    let small : n % 10 < 10 = omega arith in
+    let is : d ≡ 48 + n % 10 = cond-true (nat_lt (n % 10) 10) (48 + n % 10) (87 + n % 10) (lt-ltb (n % 10) 10 small) in
+    let h : is_plain d ≡ true = plain-from d (omega (arith, is, small)) (omega (arith, is, small)) in
+    cond_both (n / 10 == 0) (d ∷ t) (digits_onto k 10 false (n / 10) (d ∷ t)) (AllByRecursion (λ c. is_plain c ≡ true))
+    (λ _. (h, a)) (λ _. plain-digits k (n / 10) (d ∷ t) (h, a))
+
+-- a number
+plain-decimal : (n : ℕ) → list_all is_plain (decimal n) ≡ true
+unfolding digits
+plain-decimal n = list_all-true is_plain (decimal n) (plain-digits 64 n [] tt)
+
+module _ (P : List ℕ → Type 0) (kept : IsKept P) where
+  -- no text
+  pub kept-nil : P []
+  kept-nil = kept.plain [] refl
+
+  -- blanks
+  pub kept-spaces : (n : ℕ) → P (spaces n)
+  kept-spaces n = kept.plain (spaces n) (plain-spaces n)
+
+  -- a number
+  pub kept-decimal : (n : ℕ) → P (decimal n)
+  kept-decimal n = kept.plain (decimal n) (plain-decimal n)
+
+  -- texts that every element gives
+  pub kept-joined : {X : Type 0} (f : X → List ℕ) → ((x : X) → P (f x)) → (xs : List X) → P (joined f xs)
+  unfolding joined
+  kept-joined f h [] = kept-nil
+  kept-joined f h (x ∷ xs) = kept.append (f x) (joined f xs) (h x) (kept-joined f h xs)
 
 -- ---- texts without a byte
 
@@ -108,8 +179,8 @@ module _ (b : ℕ) where
 module _ (b : ℕ) (control : IsControl b) where
   -- ---- what is written beside the texts that are handed in
 
-  -- printable texts
-  pub clean-printable : (t : List ℕ) → list_all (λ c. nat_le 32 c) t ≡ true → IsClean b t
+  -- bytes from 32 on
+  clean-printable : (t : List ℕ) → list_all (λ c. nat_le 32 c) t ≡ true → IsClean b t
   clean-printable [] h = tt
   clean-printable (c ∷ t) h =
       let low = control.low in
@@ -117,30 +188,18 @@ module _ (b : ℕ) (control : IsControl b) where
       let least = leb-true 32 c p.0 in
       (λ e. omega arith, clean-printable t p.1)
 
-  -- blanks
-  pub clean-spaces : (n : ℕ) → IsClean b (spaces n)
-  unfolding spaces
-  clean-spaces n = let low = control.low in all-replicate (λ c. c ≢ b) n 32 (λ e. omega arith)
-
-  -- digits in front of a text
-  clean-digits : (k n : ℕ) (t : List ℕ) → IsClean b t → IsClean b (digits_onto k 10 false n t)
-  clean-digits zero n t a = a
-  clean-digits (suc k) n t a =
+  -- printable ASCII
+  clean-plain : (t : List ℕ) → list_all is_plain t ≡ true → IsClean b t
+  clean-plain [] h = tt
+  clean-plain (c ∷ t) h =
       let low = control.low in
-      let d = digit_glyph false (n % 10) in
-      let small : n % 10 < 10 = omega arith in
-      let is : d ≡ 48 + n % 10 = cond-true (nat_lt (n % 10) 10) (48 + n % 10) (87 + n % 10) (lt-ltb (n % 10) 10 small) in
-      let h : d ≢ b = λ e. omega (arith, is, e) in
-      cond_both (n / 10 == 0) (d ∷ t) (digits_onto k 10 false (n / 10) (d ∷ t)) (IsClean b)
-      (λ _. (h, a)) (λ _. clean-digits k (n / 10) (d ∷ t) (h, a))
-
-  -- a number
-  pub clean-decimal : (n : ℕ) → IsClean b (decimal n)
-  unfolding digits
-  clean-decimal n = clean-digits 64 n [] tt
+      let p = and_parts (is_plain c) (list_all is_plain t) h in
+      let q = and_parts (nat_le 32 c) (nat_lt c 127) p.0 in
+      let least = leb-true 32 c q.0 in
+      (λ e. omega arith, clean-plain t p.1)
 
   -- a stroke, in either set of characters
-  pub clean-glyph : (set : CharSet) (glyph : Glyph) → IsClean b (glyph_text set glyph)
+  clean-glyph : (set : CharSet) (glyph : Glyph) → IsClean b (glyph_text set glyph)
   unfolding glyph_text glyph_code lib.Utf8.encode
   clean-glyph set glyph = clean-printable (glyph_text set glyph) (test set glyph)
     where
@@ -150,10 +209,14 @@ module _ (b : ℕ) (control : IsControl b) where
       test Unicode glyph = refl
       test Ascii glyph = refl
 
+  -- so texts without it are kept
+  pub clean-kept : IsKept (IsClean b)
+  clean-kept = record { append = clean-append b; plain = clean-plain; glyph = clean-glyph }
+
   -- ---- characters
 
   -- a character's bytes: its own below 128, and else none below 128
-  clean-encode : (c : ℕ) → c ≢ b → IsClean b (encode_utf8 c)
+  pub clean-encode : (c : ℕ) → c ≢ b → IsClean b (encode_utf8 c)
   unfolding lib.Utf8.encode
   clean-encode c h =
       let low = control.low in
@@ -185,8 +248,8 @@ all-trimmed P (c ∷ cs) a =
 -- ---- lines
 
 -- the lines of a source, which join to its characters
-pub clean-lines_of : (b : ℕ) (t : List ℕ) → IsClean b t → AllByRecursion (IsClean b) (lines_of t)
-clean-lines_of b t a = all-flat (λ c. c ≢ b) (lines_of t) (subst (IsClean b) (sym (lines_joined t)) a)
+pub all-lines_of : (P : ℕ → Type 0) (t : List ℕ) → AllByRecursion P t → AllByRecursion (AllByRecursion P) (lines_of t)
+all-lines_of P t a = all-flat P (lines_of t) (subst (AllByRecursion P) (sym (lines_joined t)) a)
 
 -- a line without its carriage return
 clean-stripped : (b : ℕ) (l : List ℕ) → IsClean b l → IsClean b (strip_carriage_return l)

@@ -1,7 +1,8 @@
--- No cell of a picture has a control byte, where no text that was handed in shows one: neither the byte that begins an escape
--- sequence nor, where rows show texts whole, a line feed.
+-- What holds of every text of a picture holds of each cell, where it does of the texts that were handed in as they are shown. So
+-- no cell has a control byte where none of these texts shows it: neither the byte that begins an escape sequence nor, where
+-- rows show texts whole, a line feed.
 use Rattle.std.proofs.Common.{◌≡◌, ◌≢◌, ℕ, zero, suc, true, List, [], ◌∷◌, ◌++◌, length, map, Option, Some, None, refl, sym, ap, ◌∙◌, subst, arith}
-use Rattle.std.specs.Prelude.{nat_le, IfSome, slice_get, codes, unwrap_or, option_map, option_and_then}
+use Rattle.std.specs.Prelude.{IfSome, slice_get, codes, unwrap_or, option_map, option_and_then}
 use Rattle.std.specs.List.{AllByRecursion, list_all, enumerate_from}
 use Rattle.std.specs.Char.{is_whitespace}
 use Rattle.std.specs.Str.Lines.{lines}
@@ -18,8 +19,8 @@ use Rattle.ariadne_picture.specs.Canvas.{group_name, sheet_of, section_of, group
 use Rattle.ariadne_picture.specs.Sent.{HaveNoLineFeeds}
 use Rattle.ariadne_picture.specs.Variants.{HasNoEscape, HaveNoEscapes}
 use Rattle.ariadne_picture.proofs.Lists.ListFacts.{all-weaker, all-map, all-every}
-use Rattle.ariadne_picture.proofs.Variants.CleanTexts.{IsClean, HasNo, IsControl, clean-from, clean-test, clean-append, clean-printable, clean-shown}
-use Rattle.ariadne_picture.proofs.Variants.CleanTexts.{all-parts, clean-lines_of, clean-lines, fed-lines}
+use Rattle.ariadne_picture.proofs.Variants.CleanTexts.{IsKept, is_plain, kept-nil, IsClean, HasNo, IsControl, clean-from, clean-test, clean-kept, clean-shown}
+use Rattle.ariadne_picture.proofs.Variants.CleanTexts.{all-parts, all-lines_of, clean-lines, fed-lines}
 use Rattle.ariadne_picture.proofs.Variants.CleanPieces.{AreClean, HaveCleanLines, AreShownClean, AreCleanTexts, IsCleanSection, clean-row}
 
 -- ---- what is looked up
@@ -45,16 +46,16 @@ some-weaker : {X : Type 0} (P Q : X → Type 0) → ((x : X) → P x → Q x) �
 some-weaker P Q f None h = tt
 some-weaker P Q f (Some x) h = f x h
 
--- no text of a report, and none of those that it is drawn with, shows this byte
-pub record ShowNone {S Id : Type 0} (b : ℕ) (w : World S Id) (r : ReportFields S) : Type 0 where
-  pub kind : HasNo b (kind_name r.kind)
-  pub code : IfSome r.code (HasNo b)
-  pub message : IfSome r.message (HasNo b)
-  pub labels : AllByRecursion (λ label. IfSome label.message (HasNo b)) r.labels
-  pub notes : HaveCleanLines b r.notes
-  pub helps : HaveCleanLines b r.helps
-  pub names : AllByRecursion (λ label. IfSome (w.name_of (w.id_of label.span)) (HasNo b)) r.labels
-  pub sources : AllByRecursion (λ label. IfSome (w.source_of (w.id_of label.span)) (λ source. AreShownClean b (listed_lines source))) r.labels
+-- it holds of each text of a report, and of those that it is drawn with, as they are shown
+pub record Shows {S Id : Type 0} (P : List ℕ → Type 0) (w : World S Id) (r : ReportFields S) : Type 0 where
+  pub kind : P (kind_name r.kind)
+  pub code : IfSome r.code P
+  pub message : IfSome r.message P
+  pub labels : AllByRecursion (λ label. IfSome label.message P) r.labels
+  pub notes : HaveCleanLines P r.notes
+  pub helps : HaveCleanLines P r.helps
+  pub names : AllByRecursion (λ label. IfSome (w.name_of (w.id_of label.span)) P) r.labels
+  pub sources : AllByRecursion (λ label. IfSome (w.source_of (w.id_of label.span)) (λ source. AreShownClean P (listed_lines source))) r.labels
 
 module _ {S Id : Type 0} (w : World S Id) (r : ReportFields S) where
   -- what is held under the id of a group's first label
@@ -72,136 +73,143 @@ module _ {S Id : Type 0} (w : World S Id) (r : ReportFields S) where
       given f g None = refl
       given f g (Some x) = refl
 
-  module _ (b : ℕ) (control : IsControl b) (h : ShowNone b w r) where
-    append : (s t : List ℕ) → IsClean b s → IsClean b t → IsClean b (s ++ t)
-    append = clean-append b
+  module _ (P : List ℕ → Type 0) (kept : IsKept P) (h : Shows P w r) where
+    append : (s t : List ℕ) → P s → P t → P (s ++ t)
+    append = kept.append
 
-    from : (t : List ℕ) → HasNo b t → IsClean b t
-    from = clean-from b
+    printable : (t : List ℕ) → list_all is_plain t ≡ true → P t
+    printable = kept.plain
 
-    printable : (t : List ℕ) → list_all (λ c. nat_le 32 c) t ≡ true → IsClean b t
-    printable = clean-printable b control
+    nil : P []
+    nil = kept-nil P kept
 
     -- ---- what a report shows
 
     -- its code in brackets
-    clean-code : (code : Option (List ℕ)) → IfSome code (HasNo b) → IsClean b (code_text code)
-    clean-code None h = tt
-    clean-code (Some code) h = let name = from code h in search (append, printable)
+    clean-code : (code : Option (List ℕ)) → IfSome code P → P (code_text code)
+    clean-code None h = nil
+    clean-code (Some code) h = let name : P code = h in search (append, printable)
 
     -- its texts
-    clean-texts_of : AreCleanTexts b (texts_of r)
+    clean-texts_of : AreCleanTexts P (texts_of r)
     unfolding texts_of
     clean-texts_of = record {
       kind_text =
-          let code = clean-code r.code h.code in let kind = from (kind_name r.kind) h.kind in
+          let code = clean-code r.code h.code in let kind = h.kind in
           search (append, printable);
-      message = from (unwrap_or r.message []) (some-or (HasNo b) r.message [] h.message refl);
+      message = some-or P r.message [] h.message nil;
       helps = h.helps;
       notes = h.notes;
-      message_of = λ k. from (unwrap_or (option_and_then (λ label. label.message) (slice_get r.labels k)) [])
-          (all-given (HasNo b) (λ label. label.message) r.labels k [] refl h.labels);
+      message_of = λ k. all-given P (λ label. label.message) r.labels k [] nil h.labels;
     }
 
     -- the name of a group's source
-    clean-group_name : (group : List LabelInfo) → IsClean b (group_name w r group)
+    clean-group_name : (group : List LabelInfo) → P (group_name w r group)
     unfolding group_name
     clean-group_name group =
-        from (unwrap_or (option_and_then w.name_of (group_id w r group)) (codes "<unknown>"))
-        (all-held (HasNo b) w.name_of (codes "<unknown>") group (clean-test b (codes "<unknown>") (printable (codes "<unknown>") refl)) h.names)
+        all-held P w.name_of (codes "<unknown>") group (printable (codes "<unknown>") refl) h.names
 
     -- the lines of that source
-    clean-group_lines : (group : List LabelInfo) → AreShownClean b (listed_lines (group_source w r group))
+    clean-group_lines : (group : List LabelInfo) → AreShownClean P (listed_lines (group_source w r group))
     unfolding group_source chars lines_of full_lines_of
     clean-group_lines group =
         let none : Listing = record { text = []; display_offset = 0 } in
-        all-held (λ source. AreShownClean b (listed_lines source)) w.source_of none group (tt, tt) h.sources
+        all-held (λ source. AreShownClean P (listed_lines source)) w.source_of none group (tt, tt) h.sources
 
     -- a group within the picture
-    clean-section : (n : ℕ) (e : ℕ × List LabelInfo) → IsCleanSection b (section_of w r n e)
+    clean-section : (n : ℕ) (e : ℕ × List LabelInfo) → IsCleanSection P (section_of w r n e)
     unfolding section_of sheet_of
     clean-section n e = record { name = clean-group_name e.1; lines = clean-group_lines e.1 }
 
     -- ---- the picture
 
     -- its rows
-    clean-rows : (m n : ℕ) (e : ℕ × List LabelInfo) → AllByRecursion (AreClean b) (section_rows (texts_of r) m (section_of w r n e))
+    clean-rows : (m n : ℕ) (e : ℕ × List LabelInfo) → AllByRecursion (AreClean P) (section_rows (texts_of r) m (section_of w r n e))
     unfolding section_rows
     clean-rows m n e =
         let t = texts_of r in let g = section_of w r n e in let row = row_pieces t m g in
         let names = rows g.sheet g.is_last t.helps t.notes in
-        all-map (AreClean b) row names (all-every (λ x. AreClean b (row x)) (clean-row b control t clean-texts_of m g (clean-section n e)) names)
+        all-map (AreClean P) row names (all-every (λ x. AreClean P (row x)) (clean-row P kept t clean-texts_of m g (clean-section n e)) names)
 
     -- the header, and the rows of all groups
-    clean-outline : (infos : List LabelInfo) → AllByRecursion (AreClean b) (outline w r infos)
+    clean-outline : (infos : List LabelInfo) → AllByRecursion (AreClean P) (outline w r infos)
     unfolding outline header_pieces
     clean-outline infos =
         let gs = groups w r infos in
         let t = texts_of r in let m = number_width w r gs in let n = length gs in
         let message = append (codes " ") (unwrap_or t.message []) (printable (codes " ") refl) clean-texts_of.message in
-        let parts = all-parts (AreClean b) (λ e. section_rows t m (section_of w r n e)) (clean-rows m n) (enumerate_from 0 gs) in
+        let parts = all-parts (AreClean P) (λ e. section_rows t m (section_of w r n e)) (clean-rows m n) (enumerate_from 0 gs) in
         ((clean-texts_of.kind_text, (message, tt)), parts)
 
-    -- no cell has that byte: its text is that of a piece
-    pub no-cell-has : (infos : List LabelInfo) → AllByRecursion (AllByRecursion (λ (c : Cell). IsClean b c.text)) (canvas w r infos)
+    -- so of each cell, whose text is that of a piece
+    pub every-cell : (infos : List LabelInfo) → AllByRecursion (AllByRecursion (λ (c : Cell). P c.text)) (canvas w r infos)
     unfolding canvas
-    no-cell-has infos =
+    every-cell infos =
         let cell = cell_of (palette_of r) in
-        let IsPlain : Cell → Type 0 = λ c. IsClean b c.text in
+        let IsPlain : Cell → Type 0 = λ c. P c.text in
         all-map (AllByRecursion IsPlain) (map cell) (outline w r infos)
-        (all-weaker (AreClean b) (λ ps. AllByRecursion IsPlain (map cell ps)) (outline w r infos) (λ ps a. all-map IsPlain cell ps a) (clean-outline infos))
+        (all-weaker (AreClean P) (λ ps. AllByRecursion IsPlain (map cell ps)) (outline w r infos) (λ ps a. all-map IsPlain cell ps a) (clean-outline infos))
 
 -- ---- the byte that begins an escape sequence
 
 -- texts without it have lines without it
-escape-lines : (ts : List (List ℕ)) → AllByRecursion HasNoEscape ts → HaveCleanLines 27 ts
+escape-lines : (ts : List (List ℕ)) → AllByRecursion HasNoEscape ts → HaveCleanLines (IsClean 27) ts
 escape-lines ts a = all-weaker HasNoEscape (λ t. AllByRecursion (IsClean 27) (lines t)) ts (λ t h. clean-lines 27 t (clean-from 27 t h)) a
+
+-- what there is of them
+escape-some : (o : Option (List ℕ)) → IfSome o HasNoEscape → IfSome o (IsClean 27)
+escape-some o h = some-weaker HasNoEscape (IsClean 27) (clean-from 27) o h
 
 -- so no cell has it
 pub no-cell-escapes : {S Id : Type 0} (w : World S Id) (r : ReportFields S) (infos : List LabelInfo) → HaveNoEscapes w r
     → AllByRecursion (AllByRecursion (λ (c : Cell). HasNoEscape c.text)) (canvas w r infos)
 no-cell-escapes w r infos h =
     let control : IsControl 27 = record { some = omega arith; low = omega arith } in
-    let shown : (source : Listing) → HasNoEscape (chars source.text) → AreShownClean 27 (listed_lines source) =
+    let shown : (source : Listing) → HasNoEscape (chars source.text) → AreShownClean (IsClean 27) (listed_lines source) =
     λ source none. all-weaker (IsClean 27) (AllByRecursion (λ c. IsClean 27 (shown_text c))) (listed_lines source)
     (λ l a. all-weaker (λ c. c ≢ 27) (λ c. IsClean 27 (shown_text c)) l (λ c ne. clean-shown 27 control c (λ _. ne)) a)
-    (clean-lines_of 27 (chars source.text) (clean-from 27 (chars source.text) none)) in
+    (all-lines_of (λ c. c ≢ 27) (chars source.text) (clean-from 27 (chars source.text) none)) in
     let IsPlain : Cell → Type 0 = λ c. HasNoEscape c.text in
     let IsCleanCell : Cell → Type 0 = λ c. IsClean 27 c.text in
     all-weaker (AllByRecursion IsCleanCell) (AllByRecursion IsPlain) (canvas w r infos)
     (λ row a. all-weaker IsCleanCell IsPlain row (λ c. clean-test 27 c.text) a)
-    (no-cell-has w r 27 control (record {
-      kind = h.kind;
-      code = h.code;
-      message = h.message;
-      labels = h.labels;
+    (every-cell w r (IsClean 27) (clean-kept 27 control) (record {
+      kind = clean-from 27 (kind_name r.kind) h.kind;
+      code = escape-some r.code h.code;
+      message = escape-some r.message h.message;
+      labels = all-weaker _ _ r.labels (λ label o. escape-some label.message o) h.labels;
       notes = escape-lines r.notes h.notes;
       helps = escape-lines r.helps h.helps;
-      names = h.names;
+      names = all-weaker _ _ r.labels (λ label o. escape-some (w.name_of (w.id_of label.span)) o) h.names;
       sources = all-weaker _ _ r.labels (λ label o. some-weaker (λ (source : Listing). HasNoEscape (chars source.text))
-          (λ source. AreShownClean 27 (listed_lines source)) shown (w.source_of (w.id_of label.span)) o) h.sources;
+          (λ source. AreShownClean (IsClean 27) (listed_lines source)) shown (w.source_of (w.id_of label.span)) o) h.sources;
     }) infos)
 
 -- ---- line feeds
 
 -- a character that is no blank is none
-fed-shown : (ls : List (List ℕ)) → AreShownClean 10 ls
+fed-shown : (ls : List (List ℕ)) → AreShownClean (IsClean 10) ls
 fed-shown ls =
     let control : IsControl 10 = record { some = omega arith; low = omega arith } in
     all-every _ (λ l. all-every (λ c. IsClean 10 (shown_text c)) (λ c. clean-shown 10 control c (λ black e.
     true≢false (sym (ap is_whitespace e) ∙ black))) l) ls
 
+-- what there is of texts without one
+fed-some : (o : Option (List ℕ)) → IfSome o (HasNo 10) → IfSome o (IsClean 10)
+fed-some o h = some-weaker (HasNo 10) (IsClean 10) (clean-from 10) o h
+
 -- so no cell has one, whatever sources, helps and notes have
 pub no-cell-feeds : {S Id : Type 0} (w : World S Id) (r : ReportFields S) (infos : List LabelInfo) → HaveNoLineFeeds w r
     → AllByRecursion (AllByRecursion (λ (c : Cell). IsClean 10 c.text)) (canvas w r infos)
 no-cell-feeds w r infos h =
-    no-cell-has w r 10 (record { some = omega arith; low = omega arith }) (record {
-      kind = h.kind;
-      code = h.code;
-      message = h.message;
-      labels = h.labels;
+    let control : IsControl 10 = record { some = omega arith; low = omega arith } in
+    every-cell w r (IsClean 10) (clean-kept 10 control) (record {
+      kind = clean-from 10 (kind_name r.kind) h.kind;
+      code = fed-some r.code h.code;
+      message = fed-some r.message h.message;
+      labels = all-weaker _ _ r.labels (λ label o. fed-some label.message o) h.labels;
       notes = all-every (λ t. AllByRecursion (IsClean 10) (lines t)) fed-lines r.notes;
       helps = all-every (λ t. AllByRecursion (IsClean 10) (lines t)) fed-lines r.helps;
-      names = h.names;
+      names = all-weaker _ _ r.labels (λ label o. fed-some (w.name_of (w.id_of label.span)) o) h.names;
       sources = all-every _ (λ label. some-every _ (λ (source : Listing). fed-shown (listed_lines source)) (w.source_of (w.id_of label.span))) r.labels;
     }) infos

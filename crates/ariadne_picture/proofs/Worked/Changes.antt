@@ -1,5 +1,5 @@
 -- Finished pictures that are changed by hand, and the verdicts of all clauses on them. Rows and cells count from 0.
-use Rattle.std.specs.Prelude.{ℕ, Bool, true, false, [], ◌∷◌, Some, None, List, slice_set, slice_index_or}
+use Rattle.std.specs.Prelude.{ℕ, ◌+◌, ◌-◌, ◌==◌, Bool, true, false, if◌then◌else◌, [], ◌∷◌, ◌++◌, Some, None, List, take, drop, slice_set, slice_index_or}
 use Rattle.std.specs.List.{list_all}
 use Prim.Native.String.{String}
 use Rattle.ariadne_color.specs.declared.color.Color.TheVariants.{Blue}
@@ -10,7 +10,7 @@ use Rattle.ariadne_picture.specs.Placing.{is_aligned}
 use Rattle.ariadne_picture.specs.Blocks.{has_whole_blocks}
 use Rattle.ariadne_picture.specs.Causes.{has_no_other_strokes}
 use Rattle.ariadne_picture.proofs.Rows.RowPlacing.{row_placing}
-use Rattle.ariadne_picture.proofs.Worked.Sample.{Span, Entry, utf8, drawn}
+use Rattle.ariadne_picture.proofs.Worked.Sample.{Span, Entry, utf8, nameless, silent_label_in, drawn}
 use Rattle.ariadne_picture.proofs.Worked.Readings.{infos, cells_of, parts_of}
 
 -- ---- rows that are changed
@@ -92,7 +92,40 @@ further_verdicts_by p entries r change =
 unfoldable pub further_verdicts : List Entry → ReportFields Span → (Rows → Rows) → List Bool
 further_verdicts entries r = further_verdicts_by (row_placing (texts_of r) (parts_of entries r)) entries r
 
+-- ---- the same behind a group of one line, over a source of its own, that takes four rows
+
+unfoldable pub sources_behind : List Entry → List Entry
+sources_behind entries = entries ++ nameless "front" "f" ∷ []
+
+unfoldable pub report_behind : ReportFields Span → ReportFields Span
+report_behind r = record r { labels = silent_label_in "front" 0 1 ∷ r.labels }
+
+-- rows and labels that have these numbers without it
+unfoldable pub placing_behind : Placing → Placing
+placing_behind p = record {
+  start = λ g. if g == 0 then 1 else p.start (g - 1) + 4;
+  source_row = λ g l. if g == 0 then 3 else p.source_row (g - 1) l + 4;
+  block_len = λ g l. if g == 0 then 0 else p.block_len (g - 1) l;
+  places = λ g l. if g == 0 then 0 else p.places (g - 1) l;
+  message_row = λ k. p.message_row (k - 1) + 4;
+  head_row = λ g i. p.head_row (g - 1) i + 4;
+}
+
+-- a change of rows that have these numbers without it
+unfoldable pub change_behind : (Rows → Rows) → Rows → Rows
+change_behind change rows = take 4 rows ++ change (drop 4 rows)
+
+unfoldable pub verdicts_behind_by : Placing → List Entry → ReportFields Span → (Rows → Rows) → List Bool
+verdicts_behind_by p entries r change = verdicts_by (placing_behind p) (sources_behind entries) (report_behind r) (change_behind change)
+
+unfoldable pub verdicts_behind : List Entry → ReportFields Span → (Rows → Rows) → List Bool
+verdicts_behind entries r change = verdicts (sources_behind entries) (report_behind r) (change_behind change)
+
+unfoldable pub further_verdicts_behind : List Entry → ReportFields Span → (Rows → Rows) → List Bool
+further_verdicts_behind entries r change = further_verdicts (sources_behind entries) (report_behind r) (change_behind change)
+
 -- `unfolding judged` lets `refl` compute them
 unfoldable pub judged : Unit {0}
 unfolding drawn infos cells_of parts_of as_drawn on_row on_cell shows is_blue takes plain verdicts_by verdicts further_verdicts_by further_verdicts
+    sources_behind report_behind placing_behind change_behind verdicts_behind_by verdicts_behind further_verdicts_behind
 judged = tt

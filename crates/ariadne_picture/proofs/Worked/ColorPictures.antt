@@ -1,6 +1,6 @@
 -- Pictures in colour, and those of the Unicode set. In rows with colours a ~ stands for the escape byte.
-use Rattle.std.specs.Prelude.{◌≡◌, refl, ◌∷◌, [], Some, false, pos}
-use Rattle.ariadne_color.specs.declared.color.Color.TheVariants.{Fixed, Red, Blue}
+use Rattle.std.specs.Prelude.{◌≡◌, refl, ◌∷◌, [], Some, false, pos, negsuc}
+use Rattle.ariadne_color.specs.declared.color.Color.TheVariants.{Fixed, Red, Blue, BrightGreen}
 use Rattle.ariadne_picture.specs.declared.switches.CharSet.TheVariants.{Unicode}
 use Rattle.ariadne_picture.specs.Report.{warning, advice, custom}
 use Rattle.ariadne_picture.proofs.Worked.Sample.{drawn, picture, rows, rows_in_color, one, silent_label, label, ascii_config, color_config}
@@ -99,6 +99,66 @@ colors_of_a_label_over_lines :
     "~[38;5;246m---'~[0m" ∷ [])
 unfolding drawn
 colors_of_a_label_over_lines = refl
+
+-- ---- which of the labels that are alike is seen
+
+-- two labels as long as each other: the one whose arrow stands beside the line colours the text that both hold
+margin_label_colors_before_other_long_labels :
+    picture (one "a\naa") (configured color_config
+    (record (label 0 3 "m") { order = pos 1 } ∷ record (silent_label 1 4) { color = Some Blue } ∷ [])) ≡ rows_in_color (
+    "~[31mError:~[0m " ∷
+    "   ~[38;5;246m,~[0m~[38;5;246m-~[0m~[38;5;246m[~[0m <unknown>:1:1 ~[38;5;246m]~[0m" ∷
+    "   ~[38;5;246m|~[0m" ∷
+    " ~[38;5;246m1 |~[0m ,-> a" ∷
+    " ~[38;5;246m2 |~[0m |-> a~[34ma~[0m" ∷
+    " ~[38;5;240m  |~[0m |       " ∷
+    " ~[38;5;240m  |~[0m `------- m" ∷
+    "~[38;5;246m---'~[0m" ∷ [])
+unfolding drawn
+margin_label_colors_before_other_long_labels = refl
+
+-- a label over several lines colours before one that lies within the line
+long_label_colors_before_one_within_the_line :
+    picture (one "\naa") (configured color_config
+    (silent_label 1 3 ∷ record (silent_label 0 2) { color = Some BrightGreen } ∷ [])) ≡ rows_in_color (
+    "~[31mError:~[0m " ∷
+    "   ~[38;5;246m,~[0m~[38;5;246m-~[0m~[38;5;246m[~[0m <unknown>:1:1 ~[38;5;246m]~[0m" ∷
+    "   ~[38;5;246m|~[0m" ∷
+    " ~[38;5;240m  :~[0m " ∷
+    " ~[38;5;246m2 |~[0m ~[92ma~[0ma" ∷
+    "~[38;5;246m---'~[0m" ∷ [])
+unfolding drawn
+long_label_colors_before_one_within_the_line = refl
+
+-- behind a vertical in the arrow row of another label the blank has that label's colour
+blank_behind_a_crossed_vertical :
+    picture (one "漢😀") (configured color_config
+    (label 0 0 "m" ∷ record (label 0 2 "m") { color = Some (Fixed 200); order = negsuc 0 } ∷ [])) ≡ rows_in_color (
+    "~[31mError:~[0m " ∷
+    "   ~[38;5;246m,~[0m~[38;5;246m-~[0m~[38;5;246m[~[0m <unknown>:1:1 ~[38;5;246m]~[0m" ∷
+    "   ~[38;5;246m|~[0m" ∷
+    " ~[38;5;246m1 |~[0m ~[38;5;200m漢~[0m~[38;5;200m😀~[0m" ∷
+    " ~[38;5;240m  |~[0m |^~[38;5;200m|~[0m~[38;5;200m^~[0m  " ∷
+    " ~[38;5;240m  |~[0m |~[38;5;200m ~[0m~[38;5;200m`~[0m~[38;5;200m-~[0m~[38;5;200m-~[0m~[38;5;200m-~[0m m" ∷
+    " ~[38;5;240m  |~[0m |     " ∷
+    " ~[38;5;240m  |~[0m `----- m" ∷
+    "~[38;5;246m---'~[0m" ∷ [])
+unfolding drawn
+blank_behind_a_crossed_vertical = refl
+
+-- behind a vertical in an underline the rest of its place has the colour of the vertical
+underline_behind_a_vertical :
+    picture (one "\tb") (configured color_config
+    (label 0 0 "m" ∷ record (silent_label 0 1) { color = Some Red } ∷ [])) ≡ rows_in_color (
+    "~[31mError:~[0m " ∷
+    "   ~[38;5;246m,~[0m~[38;5;246m-~[0m~[38;5;246m[~[0m <unknown>:1:1 ~[38;5;246m]~[0m" ∷
+    "   ~[38;5;246m|~[0m" ∷
+    " ~[38;5;246m1 |~[0m ~[31m ~[0m~[31m ~[0m~[31m ~[0m~[31m ~[0m~[38;5;249mb~[0m" ∷
+    " ~[38;5;240m  |~[0m |^^^  " ∷
+    " ~[38;5;240m  |~[0m `----- m" ∷
+    "~[38;5;246m---'~[0m" ∷ [])
+unfolding drawn
+underline_behind_a_vertical = refl
 
 unicode_strokes :
     picture (one "ab") (configured unicode_config (label 0 2 "x" ∷ [])) ≡ rows (

@@ -220,6 +220,19 @@ place_inside_a_character_is_unknown :
 unfolding drawn
 place_inside_a_character_is_unknown = refl
 
+-- the length of a source counts its characters, of which this has one in two bytes
+place_past_the_characters_is_unknown :
+    picture (one "é") (record (report (label 0 1 "m" ∷ [])) { span = span 2 2 }) ≡ rows (
+    "Error: " ∷
+    "   ,-[ <unknown>:?:? ]" ∷
+    "   |" ∷
+    " 1 | é" ∷
+    "   | |  " ∷
+    "   | `-- m" ∷
+    "---'" ∷ [])
+unfolding drawn
+place_past_the_characters_is_unknown = refl
+
 -- 0..3 over two bytes is drawn as 0..2
 end_one_byte_past_the_source_is_its_end :
     picture (one "é") (configured byte_config (label 0 3 "m" ∷ [])) ≡ rows (

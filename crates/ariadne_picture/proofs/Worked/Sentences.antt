@@ -3,21 +3,26 @@
 use Rattle.std.proofs.Common.{◌≡◌, ℕ, true, List, Option}
 use Rattle.std.specs.Cmp.Derive.{both_true}
 use Rattle.std.specs.Io.KnownBytes.{Appends}
-use Rattle.std.specs.Prelude.{Some}
+use Rattle.std.specs.Prelude.{Some, [], ◌∷◌, slice_get, Contains}
 use Rattle.std.specs.List.{AllByRecursion}
+use Rattle.ariadne_color.specs.declared.color.Color.{Color}
 use Rattle.ariadne_picture.specs.declared.label_info.LabelInfo.{LabelInfo}
 use Rattle.ariadne_picture.specs.declared.verdict.Verdict.TheVariants.{Accepted}
 use Rattle.ariadne_picture.specs.Report.{ReportFields, World}
 use Rattle.ariadne_picture.specs.Pieces.{Section, Texts}
 use Rattle.ariadne_picture.specs.Canvas.{Cell, canvas, sections, texts_of}
 use Rattle.ariadne_picture.specs.Print.{printed, erased, unescaped}
-use Rattle.ariadne_picture.specs.Sent.{HaveColumnsOfTexts, HaveNoLineFeeds, RowsAreLines}
-use Rattle.ariadne_picture.specs.Placing.{Placing}
+use Rattle.ariadne_picture.specs.Sent.{HaveColumnsOfTexts, HaveNoLineFeeds, RowsAreLines, row_text}
+use Rattle.ariadne_picture.specs.Ranks.{gutter_labels}
+use Rattle.ariadne_picture.specs.Placing.{Placing, messages_of, shown_lines}
+use Rattle.ariadne_picture.specs.LabelColors.{label_color, has_label_colors}
+use Rattle.ariadne_picture.specs.Readings.{HasSameRow}
 use Rattle.ariadne_picture.specs.Variants.{HaveNoEscapes, ColorsMoveNothing, BytesDrawAsCharacters, colorless, char_world, char_report, verdict_at}
 use Rattle.ariadne_picture.specs.Headline.{IsReadBy, IsTraced, AreReadInOneWay, Headline}
 use Rattle.ariadne_picture.proofs.Rows.RowPlacing.{is_read}
-use Rattle.ariadne_picture.proofs.Worked.Sample.{world, one}
+use Rattle.ariadne_picture.proofs.Worked.Sample.{world, one, drawn}
 use Rattle.ariadne_picture.proofs.Worked.Readings.{infos}
+use Rattle.ariadne_picture.proofs.Worked.Changes.{plain}
 use Rattle.ariadne_picture.proofs.Worked.Premises.{sources, colored, no_text_has_an_escape, no_row_is_cut, in_bytes, its_own_start_is_a_boundary}
 
 -- row numbers that a picture is read by meet every clause
@@ -33,7 +38,7 @@ all_clauses rows groups t p h =
 all_sentences : {S Id : Type 0} (w : World S Id) (r : ReportFields S) (labels : List LabelInfo) (before after : Option (List ℕ))
     → Headline w r labels before after
     → Appends before after (printed (canvas w r labels))
-    × IsTraced (canvas w r labels) (sections w r labels) (texts_of r).message_of
+    × IsTraced (canvas w r labels) (sections w r labels) (texts_of r).message_of (label_color r)
     × AreReadInOneWay (canvas w r labels) (sections w r labels) (texts_of r).message_of
     × HaveColumnsOfTexts (canvas w r labels) × (HaveNoEscapes w r → HaveNoLineFeeds w r → RowsAreLines (canvas w r labels))
     × ColorsMoveNothing w r labels × BytesDrawAsCharacters w r labels
@@ -67,3 +72,32 @@ in_characters : let w = world (one "éb") in
     → AllByRecursion (λ (a : LabelInfo). verdict_at (char_world w) (char_report w in_bytes labels) a.position ≡ Some (Accepted a)) labels
     × (canvas w in_bytes labels ≡ canvas (char_world w) (char_report w in_bytes labels) labels)
 in_characters h = (h.labels, h.cells its_own_start_is_a_boundary)
+
+-- a picture that can be read has row numbers that meet every clause, and the colours of its labels
+row_numbers : (rows : List (List Cell)) (groups : List Section) (t : Texts) (color_at : ℕ → Option Color)
+    → IsTraced rows groups t.message_of color_at
+    → (p : Placing) × (is_read rows groups t p ≡ true) × (has_label_colors rows groups p color_at ≡ true)
+row_numbers rows groups t color_at h = (h.placing, all_clauses rows groups t h.placing h.reads, h.strokes_have_the_colors_of_their_labels)
+
+-- two readings of a picture have one row for each line, for the head of each gutter label, and for each message but those of twins
+module _ (rows : List (List Cell)) (groups : List Section) (message_of : ℕ → List ℕ) (one : AreReadInOneWay rows groups message_of) (p q : Placing)
+    (by_p : IsReadBy rows groups message_of p) (by_q : IsReadBy rows groups message_of q) where
+  one_row_of_a_line : (g : ℕ) (s : Section) (l : ℕ) → slice_get groups g ≡ Some s → Contains (shown_lines s) l → p.source_row g l ≡ q.source_row g l
+  one_row_of_a_line = (one p q by_p by_q).lines
+
+  one_row_of_a_head : (g : ℕ) (s : Section) (i : ℕ) (a : LabelInfo) → slice_get groups g ≡ Some s → slice_get (gutter_labels s.sheet) i ≡ Some a
+      → p.head_row g i ≡ q.head_row g i
+  one_row_of_a_head = (one p q by_p by_q).heads
+
+  one_row_of_a_message : (g : ℕ) (s : Section) (a : LabelInfo) → slice_get groups g ≡ Some s → Contains (messages_of s) a
+      → HasSameRow message_of s p q a
+  one_row_of_a_message = (one p q by_p by_q).messages
+
+-- rows whose cells don't take the columns of their texts, and that are no lines
+a_wide_character_in_one_column : HaveColumnsOfTexts ((plain "漢" ∷ []) ∷ []) → ⊥
+unfolding drawn plain
+a_wide_character_in_one_column h = let e = h.0.0 in cc
+
+a_row_with_a_line_feed : RowsAreLines ((plain "a\nb" ∷ []) ∷ []) → ⊥
+unfolding drawn plain row_text
+a_row_with_a_line_feed h = cc

@@ -1,8 +1,8 @@
--- A finished picture that all clauses but that on blocks let be read in two ways, by computation.
+-- Finished pictures that can be read in two ways, by computation: one but for the clause on blocks, and one of twins.
 use Rattle.std.specs.Prelude.{ℕ, ◌≡◌, ◌==◌, Bool, true, false, if◌then◌else◌, refl, [], ◌∷◌, List}
 use Rattle.ariadne_picture.specs.Report.{ReportFields}
 use Rattle.ariadne_picture.specs.Placing.{Placing}
-use Rattle.ariadne_picture.proofs.Worked.Sample.{Span, Entry, one, label, configured, compact_config}
+use Rattle.ariadne_picture.proofs.Worked.Sample.{Span, Entry, one, label, report, configured, compact_config}
 use Rattle.ariadne_picture.proofs.Worked.Readings.{choose}
 use Rattle.ariadne_picture.proofs.Worked.Changes.{as_drawn, further_verdicts_by, judged}
 
@@ -27,8 +27,30 @@ placing n block places = record {
 unfoldable reads : Placing → List Bool
 reads p = further_verdicts_by p source blank_message as_drawn
 
+-- two labels on one character with one message
+unfoldable twins : ReportFields Span
+twins = report (label 0 1 "m" ∷ label 0 1 "m" ∷ [])
+
+-- the same with two messages
+unfoldable no_twins : ReportFields Span
+no_twins = report (label 0 1 "m" ∷ label 0 1 "n" ∷ [])
+
+-- the message of the first label in row n, that of the second in row m
+unfoldable both_at : ℕ → ℕ → Placing
+both_at n m = record {
+  start = λ g. if g == 0 then 1 else 9;
+  source_row = λ g l. 3;
+  block_len = λ g l. 4;
+  places = λ g l. 3;
+  message_row = choose n m;
+  head_row = λ g i. 0;
+}
+
+unfoldable reads_both : ReportFields Span → Placing → List Bool
+reads_both r p = further_verdicts_by p (one "ab") r as_drawn
+
 unfoldable computed : Unit {0}
-unfolding judged choose blank_message source placing reads
+unfolding judged choose blank_message source placing reads twins no_twins both_at reads_both
 computed = tt
 
 the_reading_of_its_names : reads (placing 4 2 4) ≡ true ∷ true ∷ true ∷ []
@@ -39,3 +61,21 @@ the_reading_of_its_names = refl
 another_reading : reads (placing 3 1 2) ≡ true ∷ false ∷ true ∷ []
 unfolding computed
 another_reading = refl
+
+-- ---- twins may change places, and no other labels
+
+twins_in_their_order : reads_both twins (both_at 5 7) ≡ true ∷ true ∷ true ∷ []
+unfolding computed
+twins_in_their_order = refl
+
+twins_in_the_other_order : reads_both twins (both_at 7 5) ≡ true ∷ true ∷ true ∷ []
+unfolding computed
+twins_in_the_other_order = refl
+
+two_messages_in_their_order : reads_both no_twins (both_at 5 7) ≡ true ∷ true ∷ true ∷ []
+unfolding computed
+two_messages_in_their_order = refl
+
+two_messages_in_the_other_order : reads_both no_twins (both_at 7 5) ≡ false ∷ true ∷ true ∷ []
+unfolding computed
+two_messages_in_the_other_order = refl

@@ -33,6 +33,8 @@ use Rattle.ariadne_picture.specs.Placing.{is_last_column_free, has_gutter_bars, 
 use Rattle.ariadne_picture.specs.Blocks.{block_size, has_whole_blocks}
 use Rattle.ariadne_picture.specs.Causes.{is_upright, is_stroke_of, inline_trace, end_trace, start_trace, gutter_traces, traces_below, is_underline_of}
 use Rattle.ariadne_picture.specs.Causes.{has_cause, is_place_caused, is_line_caused, has_no_other_strokes}
+use Rattle.ariadne_picture.specs.LabelColors.{has_color, is_covered, is_vertical_colored_in, is_vertical_colored, is_inline_colored, is_end_colored}
+use Rattle.ariadne_picture.specs.LabelColors.{is_start_colored, is_pointer_colored, is_bar_colored, is_gutter_label_colored, has_label_colors}
 
 unfoldable pub evaluated : Unit {0}
 unfolding digits is_separator begins_with_line_feed ends_line in_front full_lines_of lines_of line_offset line_at column_at char_offset inserted
@@ -53,5 +55,6 @@ unfolding digits is_separator begins_with_line_feed ends_line in_front full_line
     is_placing is_message_row are_block_ends has_message_rows is_inline_traced is_underlined has_inline_traces is_end_traced is_start_traced
     is_pointed has_ends_of_gutter_traces gutter_rows is_gap_row is_bar is_column_traced is_last_column_free has_gutter_bars columns_before
     is_line_aligned is_aligned block_size has_whole_blocks is_upright is_stroke_of inline_trace end_trace start_trace gutter_traces traces_below
-    is_underline_of has_cause is_place_caused is_line_caused has_no_other_strokes
+    is_underline_of has_cause is_place_caused is_line_caused has_no_other_strokes has_color is_covered is_vertical_colored_in is_vertical_colored
+    is_inline_colored is_end_colored is_start_colored is_pointer_colored is_bar_colored is_gutter_label_colored has_label_colors
 evaluated = tt

@@ -4,14 +4,15 @@
 use Rattle.std.specs.Prelude.{◌≡◌, Bool, true, false, refl, [], ◌∷◌, ◌++◌, List, take, drop}
 use Rattle.ariadne_picture.proofs.Worked.Sample.{one, label, report}
 use Rattle.ariadne_picture.proofs.Worked.Readings.{nested, apart, wide}
-use Rattle.ariadne_picture.proofs.Worked.Changes.{Rows, as_drawn, on_row, shows, is_blue, takes, plain, verdicts, all_hold, not_placed}
+use Rattle.ariadne_picture.proofs.Worked.Changes.{Rows, as_drawn, on_row, shows, is_blue, takes, plain, verdicts, verdicts_behind, all_hold, not_placed}
 use Rattle.ariadne_picture.proofs.Worked.Changes.{no_message_rows, no_inline_traces, no_ends, no_bars, not_aligned, judged}
 
 -- ---- the pictures
 
--- a label over two lines within one over three
+-- a label over two lines within one over three; here, and for two labels on one line, a group of one line stands in front
+-- that isn't counted
 unfoldable of_nested : (Rows → Rows) → List Bool
-of_nested = verdicts (one "aa\nbb\ncc") nested
+of_nested = verdicts_behind (one "aa\nbb\ncc") nested
 
 -- the same in two groups; lines without labels stand behind the first line of one
 unfoldable of_apart : (Rows → Rows) → List Bool
@@ -23,7 +24,7 @@ of_wide = verdicts (one "\t漢x") wide
 
 -- two labels on one line
 unfoldable of_fruit : (Rows → Rows) → List Bool
-of_fruit = verdicts (one "apple == orange;") (report (label 0 5 "apple" ∷ label 9 15 "orange" ∷ []))
+of_fruit = verdicts_behind (one "apple == orange;") (report (label 0 5 "apple" ∷ label 9 15 "orange" ∷ []))
 
 -- a bare row between a label over two lines and another line
 unfoldable of_far : (Rows → Rows) → List Bool

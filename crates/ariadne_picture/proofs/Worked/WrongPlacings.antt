@@ -4,7 +4,7 @@ use Rattle.std.specs.Prelude.{ℕ, ◌≡◌, Bool, true, false, refl, [], ◌�
 use Rattle.ariadne_picture.specs.Placing.{Placing}
 use Rattle.ariadne_picture.proofs.Worked.Sample.{one, label, silent_label, report}
 use Rattle.ariadne_picture.proofs.Worked.Readings.{choose, nested, nested_placing}
-use Rattle.ariadne_picture.proofs.Worked.Changes.{Rows, as_drawn, on_row, shows, verdicts_by, further_verdicts_by, all_hold, not_placed, judged}
+use Rattle.ariadne_picture.proofs.Worked.Changes.{Rows, as_drawn, on_row, shows, verdicts_by, verdicts_behind_by, further_verdicts_by, all_hold, not_placed, judged}
 
 -- the starts of the groups, the source rows of each, the length of the block of each line, and the message rows; no label
 -- is over several lines, and a row below a line has three places
@@ -54,10 +54,11 @@ the_first_label_and_the_third_in_one_row : of_three_equal_labels (numbers (1 ∷
 unfolding computed of_three_equal_labels
 the_first_label_and_the_third_in_one_row = refl
 
--- ---- two lines with one text, and labels on them with one message
+-- ---- two lines with one text, and labels on them with one message. From here on a group of one line stands in front, whose
+-- rows and label aren't counted; but for lines whose labels have no message
 
 unfoldable of_equal_lines : Placing → (Rows → Rows) → List Bool
-of_equal_lines p = verdicts_by p (one "a\na") (report (label 0 1 "m" ∷ label 2 3 "m" ∷ []))
+of_equal_lines p = verdicts_behind_by p (one "a\na") (report (label 0 1 "m" ∷ label 2 3 "m" ∷ []))
 
 each_line_has_its_own_row : of_equal_lines (numbers (1 ∷ 10 ∷ []) ((3 ∷ 6 ∷ []) ∷ []) (2 ∷ 2 ∷ []) (5 ∷ 8 ∷ [])) as_drawn ≡ all_hold
 unfolding computed of_equal_lines
@@ -78,7 +79,7 @@ lines_that_change_places = refl
 
 unfoldable of_equal_groups : Placing → List Bool
 of_equal_groups p =
-    verdicts_by p (one "a\nb") (report (label 0 1 "m" ∷ label 2 3 "n" ∷ label 0 1 "m" ∷ label 2 3 "n" ∷ [])) as_drawn
+    verdicts_behind_by p (one "a\nb") (report (label 0 1 "m" ∷ label 2 3 "n" ∷ label 0 1 "m" ∷ label 2 3 "n" ∷ [])) as_drawn
 
 each_group_has_its_own_rows : of_equal_groups
     (numbers (1 ∷ 10 ∷ 19 ∷ []) ((3 ∷ 6 ∷ []) ∷ (12 ∷ 15 ∷ []) ∷ []) (2 ∷ 2 ∷ []) (5 ∷ 8 ∷ 14 ∷ 17 ∷ [])) ≡ all_hold
@@ -130,7 +131,7 @@ its_later_block_is_the_bare_row = refl
 -- the second line and the third, of one text, change places
 unfoldable of_three_lines : List ℕ → List ℕ → (Rows → Rows) → List Bool
 of_three_lines source_rows message_rows =
-    verdicts_by (numbers (1 ∷ 13 ∷ []) (source_rows ∷ []) (2 ∷ 2 ∷ 2 ∷ []) message_rows) (one "a\na\na")
+    verdicts_behind_by (numbers (1 ∷ 13 ∷ []) (source_rows ∷ []) (2 ∷ 2 ∷ 2 ∷ []) message_rows) (one "a\na\na")
     (report (label 0 1 "m" ∷ label 2 3 "m" ∷ label 4 5 "m" ∷ []))
 
 each_of_three_lines_has_its_own_row : of_three_lines (3 ∷ 6 ∷ 9 ∷ []) (5 ∷ 8 ∷ 11 ∷ []) as_drawn ≡ all_hold
@@ -161,7 +162,7 @@ a_group_that_begins_in_a_block_of_the_other = refl
 -- the same where the first line of the second group has no block
 unfoldable of_silent_group : ℕ → List Bool
 of_silent_group start =
-    verdicts_by
+    verdicts_behind_by
     (record (numbers (1 ∷ start ∷ 17 ∷ []) ((3 ∷ 6 ∷ []) ∷ (12 ∷ 13 ∷ []) ∷ []) [] (5 ∷ 8 ∷ 0 ∷ 15 ∷ [])) {
       block_len = λ g l. if g == 1 then slice_index_or (0 ∷ 2 ∷ []) l 0 else 2;
     })
@@ -175,13 +176,26 @@ a_line_without_block_before_its_group : of_silent_group 13 ≡ not_placed
 unfolding computed of_silent_group
 a_line_without_block_before_its_group = refl
 
+-- two groups that show no line, of which the second ends before it begins
+unfoldable of_hidden_groups : ℕ → List Bool
+of_hidden_groups start =
+    verdicts_behind_by (numbers (1 ∷ start ∷ 9 ∷ []) [] [] []) (one "a\nb\nc") (report (silent_label 2 5 ∷ silent_label 0 3 ∷ [])) as_drawn
+
+groups_that_show_no_line : of_hidden_groups 5 ≡ all_hold
+unfolding computed of_hidden_groups
+groups_that_show_no_line = refl
+
+a_group_that_ends_before_it_begins : of_hidden_groups 10 ≡ not_placed
+unfolding computed of_hidden_groups
+a_group_that_ends_before_it_begins = refl
+
 -- a message below its block, and one in rows that were moved above its line
 a_message_below_its_block : of_equal_lines (numbers (1 ∷ 10 ∷ []) ((3 ∷ 6 ∷ []) ∷ []) (2 ∷ 1 ∷ []) (5 ∷ 8 ∷ [])) as_drawn ≡ not_placed
 unfolding computed of_equal_lines
 a_message_below_its_block = refl
 
 unfoldable of_silent_above : Placing → (Rows → Rows) → List Bool
-of_silent_above p = verdicts_by p (one "a\na") (report (silent_label 0 1 ∷ label 2 3 "m" ∷ []))
+of_silent_above p = verdicts_behind_by p (one "a\na") (report (silent_label 0 1 ∷ label 2 3 "m" ∷ []))
 
 a_message_below_its_line : of_silent_above (numbers (1 ∷ 8 ∷ []) ((3 ∷ 4 ∷ []) ∷ []) (0 ∷ 2 ∷ []) (0 ∷ 6 ∷ [])) as_drawn ≡ all_hold
 unfolding computed of_silent_above
@@ -193,13 +207,13 @@ unfolding computed of_silent_above
 a_message_above_its_line = refl
 
 -- a head below its block, and one of a label that starts at the margin, moved from its line into the gap row below
-a_head_below_its_block : verdicts_by (record nested_placing { block_len = λ g l. if l == 0 then 1 else 2 }) (one "aa\nbb\ncc") nested as_drawn ≡ not_placed
+a_head_below_its_block : verdicts_behind_by (record nested_placing { block_len = λ g l. if l == 0 then 1 else 2 }) (one "aa\nbb\ncc") nested as_drawn ≡ not_placed
 unfolding computed
 a_head_below_its_block = refl
 
 unfoldable of_gap : ℕ → (Rows → Rows) → List Bool
 of_gap head =
-    verdicts_by (record (numbers (1 ∷ 9 ∷ []) ((3 ∷ 0 ∷ 5 ∷ []) ∷ []) (0 ∷ 0 ∷ 2 ∷ []) (7 ∷ [])) { places = λ g l. 4; head_row = λ g i. head })
+    verdicts_behind_by (record (numbers (1 ∷ 9 ∷ []) ((3 ∷ 0 ∷ 5 ∷ []) ∷ []) (0 ∷ 0 ∷ 2 ∷ []) (7 ∷ [])) { places = λ g l. 4; head_row = λ g i. head })
     (one "ab\ncd\nef")
     (report (label 0 8 "over" ∷ []))
 
@@ -215,7 +229,7 @@ a_head_in_the_gap_row_below_its_line = refl
 -- rows below a line that end before the place of a label, which has no cell: the text is e, U+0301, x
 unfoldable of_accent : ℕ → (Rows → Rows) → List Bool
 of_accent places =
-    verdicts_by (record (numbers (1 ∷ 7 ∷ []) ((3 ∷ []) ∷ []) (2 ∷ []) (5 ∷ [])) { places = λ g l. places }) (one "éx")
+    verdicts_behind_by (record (numbers (1 ∷ 7 ∷ []) ((3 ∷ []) ∷ []) (2 ∷ []) (5 ∷ [])) { places = λ g l. places }) (one "éx")
     (report (label 1 2 "m" ∷ []))
 
 a_place_without_cell_in_its_row : of_accent 4 as_drawn ≡ all_hold

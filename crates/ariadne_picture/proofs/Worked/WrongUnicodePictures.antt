@@ -1,13 +1,15 @@
 -- Finished pictures in box-drawing characters that were changed by hand and can't be read, by computation: the verdicts
 -- of all six clauses, by the placing that the names of the rows give. In ASCII a tee, a bar and the stroke below an
 -- underline are one character, and so are an underline and the corner below a last character: here they are told apart.
+-- What is refused stands in a second group or a later one.
 use Rattle.std.specs.Prelude.{◌≡◌, Bool, true, false, refl, [], ◌∷◌, ◌++◌, List, take}
 use Rattle.ariadne_picture.proofs.Worked.Sample.{one, label, silent_label, configured, unicode_config}
-use Rattle.ariadne_picture.proofs.Worked.Changes.{Rows, as_drawn, on_row, shows, plain, verdicts, all_hold, not_placed, no_message_rows}
-use Rattle.ariadne_picture.proofs.Worked.Changes.{no_inline_traces, no_ends, no_bars, judged}
+use Rattle.ariadne_picture.proofs.Worked.Changes.{Rows, as_drawn, on_row, shows, plain, verdicts, verdicts_behind, all_hold, not_placed}
+use Rattle.ariadne_picture.proofs.Worked.Changes.{no_message_rows, no_inline_traces, no_ends, no_bars, judged}
 
 -- ---- the pictures, with the numbers of their rows. Cell 1 is the margin and cell 3 the first of the gutter or, where
--- there is none, of the text; a gutter column has two cells
+-- there is none, of the text; a gutter column has two cells. A group of one line stands in front of all but one of them,
+-- and isn't counted
 
 --     3   1 │ ╭───▶ aa
 --     4     │ │      ▲
@@ -19,7 +21,7 @@ use Rattle.ariadne_picture.proofs.Worked.Changes.{no_inline_traces, no_ends, no_
 --    10     │ │      │
 --    11     │ ╰──────┴── far
 unfoldable of_crossed : (Rows → Rows) → List Bool
-of_crossed = verdicts (one "aa\nbb\ncc") (configured unicode_config (label 0 8 "far" ∷ label 1 7 "near" ∷ []))
+of_crossed = verdicts_behind (one "aa\nbb\ncc") (configured unicode_config (label 0 8 "far" ∷ label 1 7 "near" ∷ []))
 
 -- a second group, with a label within a line
 --
@@ -37,7 +39,7 @@ of_two = verdicts (one "ab\ncd\nef") (configured unicode_config (label 0 8 "over
 --     4     │ ── ─┬
 --     5     │     ╰── n
 unfoldable of_silent : (Rows → Rows) → List Bool
-of_silent = verdicts (one "ab cd") (configured unicode_config (silent_label 0 2 ∷ label 3 5 "n" ∷ []))
+of_silent = verdicts_behind (one "ab cd") (configured unicode_config (silent_label 0 2 ∷ label 3 5 "n" ∷ []))
 
 -- a label within the line where one over several lines ends
 --
@@ -48,7 +50,7 @@ of_silent = verdicts (one "ab cd") (configured unicode_config (silent_label 0 2 
 --     7     │         │
 --     8     │         ╰── n
 unfoldable of_mixed : (Rows → Rows) → List Bool
-of_mixed = verdicts (one "ab\ncd ef") (configured unicode_config (label 0 5 "over" ∷ label 6 8 "n" ∷ []))
+of_mixed = verdicts_behind (one "ab\ncd ef") (configured unicode_config (label 0 5 "over" ∷ label 6 8 "n" ∷ []))
 
 -- two labels over several lines of which the first ends within the second
 --
@@ -57,7 +59,7 @@ of_mixed = verdicts (one "ab\ncd ef") (configured unicode_config (label 0 5 "ove
 --     6     │ │ │
 --     7     │ ╰─────── first
 unfoldable of_chained : (Rows → Rows) → List Bool
-of_chained = verdicts (one "ab\ncd\nef\ngh") (configured unicode_config (label 0 8 "first" ∷ label 4 10 "second" ∷ []))
+of_chained = verdicts_behind (one "ab\ncd\nef\ngh") (configured unicode_config (label 0 8 "first" ∷ label 4 10 "second" ∷ []))
 
 unfoldable computed : Unit {0}
 unfolding judged of_crossed of_two of_silent of_mixed of_chained
@@ -239,6 +241,14 @@ a_crossing_before_the_head_of_a_bar = refl
 a_broken_bar_beside_a_line : of_crossed (shows 7 3 "┆") ≡ no_bars
 unfolding computed
 a_broken_bar_beside_a_line = refl
+
+an_unbroken_bar_in_a_gap_row : of_crossed (shows 6 3 "│") ≡ no_bars
+unfolding computed
+an_unbroken_bar_in_a_gap_row = refl
+
+a_gap_row_that_ends_in_the_gutter : of_crossed (on_row 6 (λ row. take 6 row)) ≡ no_bars
+unfolding computed
+a_gap_row_that_ends_in_the_gutter = refl
 
 -- ---- two clauses refuse these
 

@@ -5,7 +5,7 @@ use Rattle.std.specs.Prelude.{◌++◌, [], ℕ, List}
 use Rattle.std.specs.Borrow.{Bor}
 use Rattle.std.specs.HashSet.{contains}
 use Rattle.std.specs.List.{list_any}
-use Rattle.ariadne_base.specs.Files.{by_text}
+use Rattle.ariadne.specs.Files.{by_text}
 use Rattle.ariadne_brackets.specs.Linted.{named_after, same_path}
 use Rattle.ariadne_brackets.specs.Linting.{AreOutcomes}
 use Rattle.ariadne_brackets.proofs.linting.check_files.Given as goal

@@ -1,6 +1,6 @@
 -- What was written is the picture of all offences, or its first bytes.
 use Rattle.std.proofs.Common.{rules}
-use Rattle.ariadne_base.specs.Files.{by_text}
+use Rattle.ariadne.specs.Files.{by_text}
 use Rattle.ariadne_brackets.proofs.Writing.{outcomes_after, wrote_part, wrote_whole}
 use Rattle.ariadne_brackets.proofs.linting.write_offences.Goals as goal
 use Rattle.ariadne_brackets.proofs.linting.write_offences.Goals.{in-Ok, in-Err-Memory, in-Err-Io}

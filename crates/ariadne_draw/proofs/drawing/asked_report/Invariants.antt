@@ -1,6 +1,6 @@
 use Rattle.std.proofs.Common.{◌≡◌, map, drop}
 use Rattle.std.specs.Prelude.{◌++◌}
-use Rattle.ariadne_color.specs.Generator.{usual_start}
+use Rattle.ariadne.specs.Generator.{usual_start}
 use Rattle.ariadne_draw.specs.Asked.{asking, label_asking}
 use Rattle.ariadne_draw.specs.Drawn.{labels_from, report_of}
 use Rattle.ariadne_draw.proofs.drawing.asked_report.Given as goal

@@ -1,6 +1,6 @@
 -- Only the file at the path is held.
 use Rattle.std.proofs.Common.{ap}
-use Rattle.ariadne_base.specs.Files.{by_text}
+use Rattle.ariadne.specs.Files.{by_text}
 use Rattle.ariadne_draw.proofs.Ending.{over_file}
 use Rattle.ariadne_draw.proofs.drawing.draw_file.Goals as goal
 

@@ -3,10 +3,11 @@ use Rattle.std.proofs.Common.{◌++◌, [], map, sym, ◌∙◌}
 use Rattle.std.specs.Prelude.{if◌then◌else◌}
 use Rattle.std.proofs.lemmas.Result.{on_ok_weaker}
 use Rattle.ariadne_cells.specs.Pages.{DrawsRows}
+use Rattle.ariadne_cells.proofs.Drawn.{rows_page}
 use Rattle.ariadne_picture.specs.Canvas.{texts_of}
 use Rattle.ariadne_picture.specs.Pieces.{row_pieces}
 use Rattle.ariadne_picture.specs.Rows.{asides, help, note}
-use Rattle.ariadne_drawing.proofs.GroupRows.{both_asides, foot_long, foot_short, helps_is, no_asides, notes_is, on_page, rows_page}
+use Rattle.ariadne_drawing.proofs.GroupRows.{both_asides, foot_long, foot_short, helps_is, no_asides, notes_is, on_page}
 use Rattle.ariadne_drawing.proofs.drawing.push_foot.Goals as goal
 use Rattle.ariadne_drawing.proofs.drawing.push_foot.Goals.{then-is_last+in_ok-push_helps+in_ok-push_notes, else-is_last}
 

@@ -3,11 +3,11 @@ use Rattle.std.proofs.Common.{◌≡◌, ◌∙◌, ap, sym, subst}
 use Rattle.std.proofs.lemmas.Result.{on_ok_weaker}
 use Rattle.ariadne_base.specs.Listing.{Listing, listed_lines}
 use Rattle.ariadne_cells.specs.Pages.{PageFields}
+use Rattle.ariadne_cells.proofs.Drawn.{rows_page}
 use Rattle.ariadne_picture.specs.Canvas.{section_of, texts_of}
 use Rattle.ariadne_rows.specs.Gutters.{GutterFields}
 use Rattle.ariadne_accept.specs.Drawn.{world}
 use Rattle.ariadne_drawing.specs.Lines.{AreOverLines}
-use Rattle.ariadne_drawing.proofs.GroupRows.{rows_page}
 use Rattle.ariadne_drawing.proofs.GroupParts.{section_gutter, section_labels, section_last, section_page, section_source, section_switches, texts_switches}
 use Rattle.ariadne_drawing.proofs.GroupParts.{whole_group}
 use Rattle.ariadne_drawing.proofs.drawing.push_group.Goals as goal

@@ -1,10 +1,10 @@
 -- The id, the source and the name of the first label are those of the group.
 use Rattle.std.proofs.Common.{◌∙◌, ℕ, ap, refl, sym}
 use Rattle.std.specs.Option.{option_copied}
+use Rattle.ariadne_cells.proofs.Drawn.{rows_page}
 use Rattle.ariadne_picture.specs.Canvas.{section_of, texts_of}
 use Rattle.ariadne_rows.specs.Headers.{location_numbers}
 use Rattle.ariadne_accept.specs.Drawn.{world}
-use Rattle.ariadne_drawing.proofs.GroupRows.{rows_page}
 use Rattle.ariadne_drawing.proofs.GroupParts.{first_is, section_first, section_location, section_name, section_switches}
 use Rattle.ariadne_drawing.proofs.drawing.push_group_head.Goals as goal
 

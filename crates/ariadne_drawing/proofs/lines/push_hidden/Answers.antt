@@ -10,7 +10,8 @@ use Rattle.ariadne_drawing.specs.Lines.{AreOverLines}
 use Rattle.ariadne_drawing.proofs.LinesHidden.{drawn-page, drawn-switches, drawn-over, inside-told, over-rise}
 use Rattle.ariadne_drawing.proofs.LinesHidden.{hidden-none, line-there, run-gap, run-none, run-bare}
 use Rattle.std.proofs.lemmas.Result.{on_ok_weaker}
-use Rattle.ariadne_drawing.proofs.LinesRows.{rows-none, rows-one, rows-of}
+use Rattle.ariadne_cells.proofs.Drawn.{draws_rows_none, draws_rows_one}
+use Rattle.ariadne_drawing.proofs.LinesRows.{rows-of}
 use Rattle.ariadne_drawing.proofs.lines.push_hidden.Goals as goal
 
 -- the line is there
@@ -32,7 +33,7 @@ returns-then-is_inside-clause-drawn g c = λ t s h over some beside hidden run.
     let inside : is_inside s.sheet l ≡ true = sym told ∙ c.if-is_inside.true in
     on_ok_weaker c.push_gap_row.result (λ d.
     rows-of t s page.number_width c.args.pen.now c.push_gap_row.new.pen (gap l ∷ []) (line_rows s.sheet l) (run-gap s.sheet l hidden run inside)
-    (rows-one c.args.pen.now c.push_gap_row.new.pen (row_pieces t page.number_width s (gap l)) d))
+    (draws_rows_one c.args.pen.now c.push_gap_row.new.pen (row_pieces t page.number_width s (gap l)) d))
     (c.push_gap_row.ensures t s l (drawn-page t s page source labels h)
     (beside-gap s.sheet l c.args.gutter.now (over-rise s.sheet.lines s.sheet.labels own) beside) (hidden-none s.sheet l hidden))
 
@@ -51,7 +52,7 @@ returns-then-switches-clause-drawn g c = λ t s h over some beside hidden run.
     ap (λ (z : Switches). z.compact) (drawn-switches t s page source labels h) ∙ ap (λ (p : PageFields). p.switches.compact) (sym c.page.ensures)
     ∙ ap (λ (w : Switches). w.compact) (sym c.switches.ensures.switches) ∙ c.if-switches.true in
     rows-of t s page.number_width c.args.pen.now c.args.pen.now [] (line_rows s.sheet l) (run-none s.sheet l hidden run outside compact)
-    (rows-none c.args.pen.now)
+    (draws_rows_none c.args.pen.now)
 
 -- it does not
 pub returns-clause-drawn : goal.returns-clause-drawn
@@ -70,5 +71,5 @@ returns-clause-drawn g c = λ t s h over some beside hidden run.
     on_ok_weaker c.push_bare_row.result (λ d.
     rows-of t s page.number_width c.args.pen.now c.push_bare_row.new.pen (bare l ∷ []) (line_rows s.sheet l)
     (run-bare s.sheet l hidden run outside full)
-    (rows-one c.args.pen.now c.push_bare_row.new.pen (row_pieces t page.number_width s (bare l)) d))
+    (draws_rows_one c.args.pen.now c.push_bare_row.new.pen (row_pieces t page.number_width s (bare l)) d))
     (c.push_bare_row.ensures t s l (drawn-page t s page source labels h))

@@ -6,7 +6,8 @@ use Rattle.ariadne_picture.specs.Rows.{line_rows}
 use Rattle.std.specs.List.{range_with_len}
 use Rattle.ariadne_drawing.proofs.LinesHidden.{drawn-labels, drawn-lines, drawn-over}
 use Rattle.std.proofs.lemmas.Result.{on_ok_weaker}
-use Rattle.ariadne_drawing.proofs.LinesRows.{rows-none, rows-of}
+use Rattle.ariadne_cells.proofs.Drawn.{draws_rows_none}
+use Rattle.ariadne_drawing.proofs.LinesRows.{rows-of}
 use Rattle.ariadne_drawing.proofs.LinesShown.{hidden-some}
 use Rattle.ariadne_drawing.proofs.LinesWalk.{run-empty, run-hidden}
 use Rattle.ariadne_drawing.proofs.lines.push_hidden_lines.Goals as goal
@@ -37,4 +38,4 @@ returns-else-line-next-clause-drawn g c = λ t s h over some low beside run hidd
     let m = c.args.next in
     let page = c.args.pen.now.page in
     rows-of t s page.number_width c.args.pen.now c.args.pen.now [] (joined (line_rows s.sheet) (range_with_len l (m - l)))
-    (run-empty (line_rows s.sheet) l m c.if-line-next.false) (rows-none c.args.pen.now)
+    (run-empty (line_rows s.sheet) l m c.if-line-next.false) (draws_rows_none c.args.pen.now)

@@ -1,13 +1,14 @@
 use Rattle.std.proofs.Common.{◌≡◌, ◌∙◌, ◌+◌, ◌<◌, ◌≤◌, length, map, take, refl, sym, ap, subst, arith}
 use Rattle.std.specs.List.{enumerate_from}
 use Rattle.ariadne_cells.specs.Pages.{PageFields, DrawsRows}
+use Rattle.ariadne_cells.proofs.Drawn.{draws_rows_none, rows_page}
 use Rattle.ariadne_picture.specs.Canvas.{texts_of}
 use Rattle.ariadne_picture.specs.Lists.{joined}
 use Rattle.ariadne_picture.specs.Pieces.{row_pieces}
 use Rattle.ariadne_picture.specs.Rows.{label_rows}
 use Rattle.ariadne_rows.proofs.Listing.{all-enumerated}
 use Rattle.ariadne_drawing.specs.Lines.{IsBelowLine}
-use Rattle.ariadne_drawing.proofs.LinesRows.{labels-more, rows-none, rows-page, some-label}
+use Rattle.ariadne_drawing.proofs.LinesRows.{labels-more, some-label}
 use Rattle.ariadne_drawing.proofs.lines.push_label_rows.Goals as goal
 
 -- no row is written
@@ -16,7 +17,7 @@ unfolding joined
 loop-rank-init g c = record {
   page = refl;
   positions = refl;
-  drawn = λ s n h. rows-none c.args.pen.now;
+  drawn = λ s n h. draws_rows_none c.args.pen.now;
   below = λ s n h. h;
 }
 
@@ -37,7 +38,7 @@ loop-rank-preserved g c =
       positions = c.in_ok-push_label.ensures.positions ∙ c.loop-rank.invariant.positions;
       drawn = λ s n h.
           let d = c.loop-rank.invariant.drawn s n h in
-          let same : b.page ≡ page = rows-page a b (map (row_pieces t page.number_width s)
+          let same : b.page ≡ page = rows_page a b (map (row_pieces t page.number_width s)
           (joined (label_rows page.switches.compact n) (take r (enumerate_from 0 y.labels)))) d in
           let there : IsBelowLine t s b.page n r y c.loop-rank.gutter c.loop-rank.table =
           subst (λ p. IsBelowLine t s p n r y c.loop-rank.gutter c.loop-rank.table) (sym same) (c.loop-rank.invariant.below s n h) in
@@ -48,7 +49,7 @@ loop-rank-preserved g c =
           labels-more t s page.number_width n r page.switches.compact a b z y.labels some.0 some.1 d f;
       below = λ s n h.
           let d = c.loop-rank.invariant.drawn s n h in
-          let same : b.page ≡ page = rows-page a b (map (row_pieces t page.number_width s)
+          let same : b.page ≡ page = rows_page a b (map (row_pieces t page.number_width s)
           (joined (label_rows page.switches.compact n) (take r (enumerate_from 0 y.labels)))) d in
           let there : IsBelowLine t s b.page n r y c.loop-rank.gutter c.loop-rank.table =
           subst (λ p. IsBelowLine t s p n r y c.loop-rank.gutter c.loop-rank.table) (sym same) (c.loop-rank.invariant.below s n h) in

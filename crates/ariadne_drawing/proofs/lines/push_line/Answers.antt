@@ -28,7 +28,8 @@ use Rattle.ariadne_drawing.proofs.LinesHidden.{over-rise}
 use Rattle.ariadne_drawing.proofs.LinesLayout.{beside-same, labels-there, layout-is, len-is, line-chars, margin-column, of-some, places-fit, some-and}
 use Rattle.ariadne_drawing.proofs.LinesQuiet.{layout-labels}
 use Rattle.std.proofs.lemmas.Result.{on_ok_weaker}
-use Rattle.ariadne_drawing.proofs.LinesRows.{line-shown, row-page, rows-one}
+use Rattle.ariadne_cells.proofs.Drawn.{draws_rows_one}
+use Rattle.ariadne_drawing.proofs.LinesRows.{line-shown, row-page}
 use Rattle.ariadne_drawing.proofs.LinesWalk.{names-append, some-group}
 use Rattle.ariadne_drawing.proofs.lines.push_line.Given.{Over}
 use Rattle.ariadne_drawing.proofs.lines.push_line.Goals as goal
@@ -276,5 +277,5 @@ returns-clause-drawn g c = λ s h shown.
     let below = subst (λ (p : PageFields). DrawsRows mid new (map (row_pieces t p.number_width s) (rows p.switches y.labels))) kept d in
     names-append t s page.number_width c.args.pen.now mid new (source l ∷ []) (rows page.switches y.labels) (line_rows s.sheet l)
     (ap (λ xs. source l ∷ xs) there ∙ line-shown s.sheet l shown)
-    (rows-one c.args.pen.now mid (row_pieces t page.number_width s (source l)) (source-drawn g r s h (layout s h))) below)
+    (draws_rows_one c.args.pen.now mid (row_pieces t page.number_width s (source l)) (source-drawn g r s h (layout s h))) below)
     (c.push_rows_below.ensures.drawn s l at)

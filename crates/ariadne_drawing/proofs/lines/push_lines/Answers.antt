@@ -13,7 +13,8 @@ use Rattle.ariadne_picture.specs.Ranks.{Sheet}
 use Rattle.ariadne_picture.specs.Rows.{line_rows}
 use Rattle.ariadne_drawing.proofs.LinesHidden.{drawn-labels, drawn-switches}
 use Rattle.std.proofs.lemmas.Result.{on_ok_weaker}
-use Rattle.ariadne_drawing.proofs.LinesRows.{rows-none, rows-of, rows-page}
+use Rattle.ariadne_cells.proofs.Drawn.{draws_rows_none, rows_page}
+use Rattle.ariadne_drawing.proofs.LinesRows.{rows-of}
 use Rattle.ariadne_drawing.proofs.LinesWalk.{IsStep, IsWalked, events-page, events_at-page, group-rise, last-within, names-append, run-empty, run-one}
 use Rattle.ariadne_drawing.proofs.LinesWalk.{runs-join}
 use Rattle.ariadne_drawing.proofs.LinesWalk.{some-group, step, walk-end, walk-start}
@@ -56,7 +57,7 @@ loop-next-init g c =
       drawn = λ s h.
           rows-of (texts_of c.args.report.now) s c.args.pen.now.page.number_width c.args.pen.now c.args.pen.now []
           (joined (line_rows s.sheet) (range_with_len (group_start_line labels) (c.first_line-line.result - group_start_line labels)))
-          (run-empty (line_rows s.sheet) (group_start_line labels) c.first_line-line.result (omega (arith, first))) (rows-none c.args.pen.now);
+          (run-empty (line_rows s.sheet) (group_start_line labels) c.first_line-line.result (omega (arith, first))) (draws_rows_none c.args.pen.now);
     }
 
 -- ---- the hidden lines before the line of the next event
@@ -124,7 +125,7 @@ hidden-page : (g : Over) (c : In_ok-push_hidden_lines g) → c.push_hidden_lines
 hidden-page g c =
     let t = texts_of c.args.report.now in
     let some = some-group t c.args.pen.now.page.switches c.args.source.now c.args.lists.now.sheet.labels c.requires.texts in
-    rows-page c.loop-next.pen c.push_hidden_lines.new.pen (map (row_pieces t c.args.pen.now.page.number_width some.0)
+    rows_page c.loop-next.pen c.push_hidden_lines.new.pen (map (row_pieces t c.args.pen.now.page.number_width some.0)
     (joined (line_rows some.0.sheet) (range_with_len c.loop-next.line (c.in-Some.next - c.loop-next.line)))) (hidden-drawn g c some.0 some.1)
     ∙ c.loop-next.invariant.pen
 
@@ -240,7 +241,7 @@ loop-next-preserved g c =
     let reached = c.in_ok-push_line.ensures.onward in
     record {
       pen =
-          rows-page c.push_hidden_lines.new.pen c.push_line.new.pen (map (row_pieces t page.number_width some.0) (line_rows some.0.sheet n))
+          rows_page c.push_hidden_lines.new.pen c.push_line.new.pen (map (row_pieces t page.number_width some.0) (line_rows some.0.sheet n))
           (line-drawn g c some.0 some.1) ∙ hidden-page g b;
       page = c.in_ok-push_line.ensures.page ∙ inv.page;
       positions = c.in_ok-push_line.ensures.positions ∙ inv.positions;

@@ -6,7 +6,8 @@ use Rattle.ariadne_picture.specs.Pieces.{row_pieces}
 use Rattle.ariadne_picture.specs.Rows.{alternate, arrow, label_rows}
 use Rattle.ariadne_drawing.specs.Lines.{IsBelowLine}
 use Rattle.std.proofs.lemmas.Result.{on_ok_weaker}
-use Rattle.ariadne_drawing.proofs.LinesRows.{rows-none, rows-one, rows-append, row-page, label-none, label-one, label-two, table-there}
+use Rattle.ariadne_cells.proofs.Drawn.{draws_rows-append, draws_rows_none, draws_rows_one}
+use Rattle.ariadne_drawing.proofs.LinesRows.{row-page, label-none, label-one, label-two, table-there}
 use Rattle.ariadne_drawing.proofs.LinesRows.{bars-alternate, rows-of}
 use Rattle.ariadne_drawing.proofs.lines.push_rows_of_label.Goals as goal
 
@@ -16,7 +17,7 @@ returns-then-not-label g c = λ s l h e.
     let page = c.args.pen.now.page in
     rows-of (texts_of c.args.report.now) s page.number_width c.args.pen.now c.args.pen.now []
     (label_rows page.switches.compact l (c.args.rank, c.args.label.now))
-    (sym (label-none page.switches.compact l c.args.rank c.args.label.now c.if-not-label.true)) (rows-none c.args.pen.now)
+    (sym (label-none page.switches.compact l c.args.rank c.args.label.now c.if-not-label.true)) (draws_rows_none c.args.pen.now)
 
 -- in the compact form the arrow row is the only one
 pub returns-then-switches : goal.returns-then-switches
@@ -31,7 +32,7 @@ returns-then-switches g c = λ s l h e.
     rows-of t s page.number_width c.args.pen.now c.push_arrow_to_message.new.pen (arrow l c.args.rank ∷ [])
     (label_rows page.switches.compact l (c.args.rank, x))
     (sym (ap (λ k. label_rows k l (c.args.rank, x)) compact ∙ label-one l c.args.rank x c.if-not-label.false))
-    (rows-one c.args.pen.now c.push_arrow_to_message.new.pen (row_pieces t page.number_width s (arrow l c.args.rank)) d))
+    (draws_rows_one c.args.pen.now c.push_arrow_to_message.new.pen (row_pieces t page.number_width s (arrow l c.args.rank)) d))
     (c.push_arrow_to_message.ensures s l h e)
 
 -- the page is that of the pen
@@ -80,6 +81,6 @@ returns g c = λ s l h e.
     subst (λ (p : PageFields). DrawsRow b z (row_pieces t p.number_width s (arrow l r))) same f in
     rows-of t s page.number_width a z (alternate l r ∷ arrow l r ∷ []) (label_rows page.switches.compact l (r, x))
     (sym (ap (λ k. label_rows k l (r, x)) full ∙ label-two l r x c.if-not-label.false))
-    (rows-append a b z (row_pieces t page.number_width s (alternate l r) ∷ []) (row_pieces t page.number_width s (arrow l r) ∷ [])
-    (rows-one a b (row_pieces t page.number_width s (alternate l r)) d) (rows-one b z (row_pieces t page.number_width s (arrow l r)) k)))
+    (draws_rows-append a b z (row_pieces t page.number_width s (alternate l r) ∷ []) (row_pieces t page.number_width s (arrow l r) ∷ [])
+    (draws_rows_one a b (row_pieces t page.number_width s (alternate l r)) d) (draws_rows_one b z (row_pieces t page.number_width s (arrow l r)) k)))
     (c.push_arrow_to_message-2.ensures s l there e)

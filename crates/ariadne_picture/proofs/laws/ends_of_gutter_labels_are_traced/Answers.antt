@@ -5,4 +5,4 @@ use Rattle.ariadne_picture.proofs.laws.ends_of_gutter_labels_are_traced.Goals as
 pub returns : goal.returns
 returns g c w r reasons law forward =
     let all = every-traced w r reasons forward law in
-    (all.0, all.1.rows_belong_together, all.1.or_to_both_ends_of_the_gutter_column)
+    (all.placing, all.reads.rows_belong_together, all.reads.or_to_both_ends_of_the_gutter_column)

@@ -5,4 +5,4 @@ use Rattle.ariadne_picture.proofs.laws.gutter_bars_are_whole.Goals as goal
 pub returns : goal.returns
 returns g c w r reasons law forward =
     let all = every-traced w r reasons forward law in
-    (all.0, all.1.rows_belong_together, all.1.and_along_the_gutter_column)
+    (all.placing, all.reads.rows_belong_together, all.reads.and_along_the_gutter_column)

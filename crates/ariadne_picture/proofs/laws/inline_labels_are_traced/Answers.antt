@@ -5,4 +5,4 @@ use Rattle.ariadne_picture.proofs.laws.inline_labels_are_traced.Goals as goal
 pub returns : goal.returns
 returns g c w r reasons law forward =
     let all = every-traced w r reasons forward law in
-    (all.0, all.1.rows_belong_together, all.1.strokes_lead_from_it_to_the_attach_character)
+    (all.placing, all.reads.rows_belong_together, all.reads.strokes_lead_from_it_to_the_attach_character)

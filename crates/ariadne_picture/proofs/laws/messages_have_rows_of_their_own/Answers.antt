@@ -5,4 +5,4 @@ use Rattle.ariadne_picture.proofs.laws.messages_have_rows_of_their_own.Goals as 
 pub returns : goal.returns
 returns g c w r reasons law forward =
     let all = every-traced w r reasons forward law in
-    (all.0, all.1.rows_belong_together, all.1.each_message_has_one_row_of_its_own)
+    (all.placing, all.reads.rows_belong_together, all.reads.each_message_has_one_row_of_its_own)

@@ -5,4 +5,4 @@ use Rattle.ariadne_picture.proofs.laws.no_stroke_is_without_a_cause.Goals as goa
 pub returns : goal.returns
 returns g c w r reasons law forward =
     let all = every-traced w r reasons forward law in
-    (all.0, all.1.rows_belong_together, all.1.and_no_stroke_stands_elsewhere)
+    (all.placing, all.reads.rows_belong_together, all.reads.and_no_stroke_stands_elsewhere)

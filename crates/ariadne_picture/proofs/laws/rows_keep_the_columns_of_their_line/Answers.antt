@@ -5,4 +5,4 @@ use Rattle.ariadne_picture.proofs.laws.rows_keep_the_columns_of_their_line.Goals
 pub returns : goal.returns
 returns g c w r reasons law forward =
     let all = every-traced w r reasons forward law in
-    (all.0, all.1.rows_belong_together, all.1.in_the_columns_where_the_source_row_shows_them)
+    (all.placing, all.reads.rows_belong_together, all.reads.in_the_columns_where_the_source_row_shows_them)

@@ -1,0 +1,51 @@
+//! Files by number, as compilers keep them, and spans that are a number and a `Place`. Copy
+//! `Spot`, and `SourceTable` in `drawn`: `add` returns the number of a file, and headers show its
+//! name. No place asks for a proof.
+
+use crate::pictures::{assert_rows, picture_of, plain};
+use ariadne::{Label, Place, Report, ReportKind, SourceTable};
+use std::alloc::{AllocError, Global};
+
+/// A place in the file with a number.
+type Spot = (usize, Place);
+
+/// The error that a name was declared before, at another spot.
+fn again(alloc: Global, here: Spot, before: Spot) -> Result<Report<'static, Spot>, AllocError> {
+    let report = Report::build(alloc, ReportKind::Error, here)
+        .with_config(plain())
+        .with_message("declared twice")?
+        .with_label(Label::new(here).with_message(alloc, "again here")?)?
+        .with_label(Label::new(before).with_message(alloc, "first here")?)?;
+    Ok(report.finish())
+}
+
+#[test]
+fn labels_in_files_by_number(rt: HostRuntime) {
+    let alloc = rt.alloc();
+    let mut files = SourceTable::new(alloc);
+    let fruit = files
+        .add("fruit.txt", "let apple = 3;\n")
+        .expect(&rt, "memory");
+    let pie = files
+        .add("pie.txt", "let crust = 1;\nlet apple = 4;\n")
+        .expect(&rt, "memory");
+    let here = (pie, Place::at(19).to(Place::at(24)));
+    let before = (fruit, Place::at(4).to(Place::at(9)));
+    let report = again(alloc, here, before).expect(&rt, "memory");
+    let rows = [
+        "Error: declared twice",
+        "   ,-[ pie.txt:2:5 ]",
+        "   |",
+        " 2 | let apple = 4;",
+        "   |     ^^|^^",
+        "   |       `---- again here",
+        "   |",
+        "   |-[ fruit.txt:1:5 ]",
+        "   |",
+        " 1 | let apple = 3;",
+        "   |     ^^|^^",
+        "   |       `---- first here",
+        "---'",
+    ];
+    assert_rows(&rt, picture_of(&rt, &report, &mut files).as_str(), &rows)
+}

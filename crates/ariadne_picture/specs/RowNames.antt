@@ -1,0 +1,51 @@
+-- Which rows a group has, case by case: whether there is a row of this name. `rows` lists them, in
+-- their order.
+use Rattle.std.specs.Prelude.{ℕ, ◌≡◌, ◌⊎◌, ◌-◌, ◌<◌, ◌≤◌, Bool, true, false, List, Some, length, slice_get}
+use Rattle.std.specs.Str.Lines.{lines}
+use Rattle.ariadne_picture.specs.declared.label_info.LineLabel.{LineLabel}
+use Rattle.ariadne_picture.specs.Groups.{group_start_line, group_end_line}
+use Rattle.ariadne_picture.specs.Ranks.{Sheet, line_labels, is_hidden}
+use Rattle.ariadne_picture.specs.Rows.{Aside, help, note, Row, group_header, spacer, source, alternate}
+use Rattle.ariadne_picture.specs.Rows.{arrow, gap, bare, blank, piece, tail, is_inside}
+
+-- the texts of one kind
+abbrev pub asides_of : Aside → List (List ℕ) → List (List ℕ) → List (List ℕ)
+asides_of help helps notes = helps
+asides_of note helps notes = notes
+
+-- a group has line l
+abbrev pub HasLine : Sheet → ℕ → Type 0
+HasLine s l = (group_start_line s.labels ≤ l) × (l ≤ group_end_line s.labels)
+
+-- line l is hidden, and the line before it is not, or is none of the group
+pub record BeginsHidden (s : Sheet) (l : ℕ) : Type 0 where
+  pub line : HasLine s l
+  pub hidden : is_hidden s l ≡ true
+  pub first : (l ≡ group_start_line s.labels) ⊎ (is_hidden s (l - 1) ≡ false)
+
+-- line label r of line l has a message
+pub record HasMessage (s : Sheet) (l r : ℕ) : Type 0 where
+  pub line : HasLine s l
+  pub label : LineLabel
+  pub there : slice_get (line_labels s l) r ≡ Some label
+  pub message : label.info.has_message ≡ true
+
+module _ (s : Sheet) (is_last : Bool) (helps notes : List (List ℕ)) where
+  -- the group has help or note number k
+  pub record HasAside (a : Aside) (k : ℕ) : Type 0 where
+    pub last : is_last ≡ true
+    pub text : List ℕ
+    pub there : slice_get (asides_of a helps notes) k ≡ Some text
+
+  -- the group has this row
+  abbrev pub HasRow : Row → Type 0
+  HasRow group_header = Unit {0}
+  HasRow spacer = s.switches.compact ≡ false
+  HasRow (source l) = HasLine s l × (is_hidden s l ≡ false)
+  HasRow (alternate l r) = (s.switches.compact ≡ false) × HasMessage s l r
+  HasRow (arrow l r) = HasMessage s l r
+  HasRow (gap l) = BeginsHidden s l × (is_inside s l ≡ true)
+  HasRow (bare l) = (s.switches.compact ≡ false) × BeginsHidden s l × (is_inside s l ≡ false)
+  HasRow (blank a k) = (s.switches.compact ≡ false) × HasAside a k
+  HasRow (piece a k p) = (aside : HasAside a k) × (p < length (lines aside.text))
+  HasRow tail = s.switches.compact ≡ false

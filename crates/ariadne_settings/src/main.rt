@@ -1,0 +1,97 @@
+//! A whole program: it checks a file of settings, as `width = 80` a line, and draws each fault to
+//! standard error, in colours only where that is a terminal. Status 0: the file has no fault; 1: it has
+//! some; 2: no file is named, or it can't be read; 3: a report could not be drawn.
+//!
+//! Copy `main`, `check` and `colors`, and put a search of your own in place of `faults`.
+#![tactic(auto)]
+
+ghost use Rattle.std.specs.Prelude.{◌≤◌};
+
+mod faults;
+
+use ariadne::{CharSet, Config, IndexType, Label, Report, ReportKind, Source, WriteError};
+use faults::{Fault, Place, faults_of};
+use std::alloc::{AllocError, Global};
+use std::io::{IsTerminal, Write};
+use std::ops::Range;
+use std::process::ExitCode;
+use std::{env, fs};
+
+/// A report over the file at a path.
+type FileReport<'p> = Report<'static, (&'p str, Range<usize>)>;
+
+/// Colours where standard error is a terminal, unless `NO_COLOR` asks for none.
+fn colors(rt: &HostRuntime) -> bool {
+    let asks_for_none = match env::var(rt, "NO_COLOR") {
+        Ok(value) => !value.as_str().is_empty(),
+        Err(_) => false,
+    };
+    rt.stderr().is_terminal() && !asks_for_none
+}
+
+/// The report of a fault, over the file at a path.
+fn report<'p>(
+    alloc: Global,
+    config: Config,
+    path: &'p str,
+    fault: &Fault,
+) -> Result<FileReport<'p>, AllocError> {
+    let mut builder = Report::build(alloc, ReportKind::Error, span(path, fault.place))
+        .with_config(config)
+        .with_message(fault.message)?;
+    if let Some(before) = fault.before {
+        builder.add_label(Label::new(span(path, before)).with_message(alloc, "set here before")?)?;
+    }
+    builder.add_label(Label::new(span(path, fault.place)).with_message(alloc, fault.hint)?)?;
+    Ok(builder.finish())
+}
+
+/// A place of the file at a path.
+fn span(path: &str, place: Place) -> (&str, Range<usize>)
+    ensures forward { result.1.start ≤ result.1.end }
+{
+    let Place { start, len } = place;
+    (path, start..start.saturating_add(len))
+}
+
+/// Draws each fault of a text that stands in the file at a path, and returns how many there are.
+fn check(rt: &HostRuntime, path: &str, text: &str) -> Result<usize, WriteError> {
+    let config = Config::new()
+        .with_char_set(CharSet::Ascii)
+        .with_color(colors(rt))
+        .with_index_type(IndexType::Byte);
+    let faults = faults_of(rt.alloc(), text)?;
+    let mut cache = (path, Source::from(rt.alloc(), text)?);
+    for fault in &faults {
+        report(rt.alloc(), config, path, fault)?.eprint(&mut cache, rt.stderr())?;
+    }
+    Ok(faults.len())
+}
+
+/// Tells a line, and returns the status beside it. (A line that can't be told is passed over.)
+fn told(rt: &HostRuntime, line: &str, status: u8) -> ExitCode {
+    let _ = writeln!(rt.stderr(), "settings: {line}");
+    ExitCode::from(status)
+}
+
+/// Checks the file at a path.
+fn check_file(rt: &HostRuntime, path: &str) -> ExitCode {
+    let Ok(text) = fs::read_to_string(rt, path) else {
+        return told(rt, "the file can't be read", 2);
+    };
+    match check(rt, path, text.as_str()) {
+        Ok(0) => ExitCode::SUCCESS,
+        Ok(_) => ExitCode::from(1),
+        Err(_) => told(rt, "a report could not be drawn", 3),
+    }
+}
+
+fn main(rt: HostRuntime) -> ExitCode {
+    let Ok(mut words) = env::args(&rt) else {
+        return told(&rt, "the words can't be read", 2);
+    };
+    match words.nth(1) {
+        Some(path) => check_file(&rt, path.as_str()),
+        None => told(&rt, "no file is named", 2),
+    }
+}

@@ -1,0 +1,39 @@
+//! Texts that are made visible, with memory and without.
+
+use ariadne_fakes::{refuse, was_refused};
+use ariadne_visible::{TextKind, is_seen, visible};
+use std::process::Abort;
+
+/// More than one text takes.
+const MOST_REQUESTS: usize = 1000;
+
+/// Asserts what is shown of a text.
+fn assert_shown(rt: &(impl Abort + AllocGlobal), text: &str, kind: TextKind, want: &str) {
+    let shown = visible(rt.alloc(), text, kind).expect(rt, "memory");
+    assert_eq!(rt; shown.as_str(), want)
+}
+
+#[test]
+fn hidden_characters_have_signs(rt: HostRuntime) {
+    assert_shown(&rt, "a\u{1b}[8mb\t\n", TextKind::OneRow, "a␛[8mb␉␊");
+    assert_shown(&rt, "look\u{7f}\nbelow", TextKind::Aside, "look␡\nbelow");
+    assert_shown(&rt, "é\u{202e}\tx\r\n", TextKind::Lines, "é\u{fffd}\tx\r\n");
+    assert_shown(&rt, "a\u{85}b\r\nc\r", TextKind::CompilerLines, "a␤b\r\nc␍");
+    assert!(rt; is_seen("é漢"));
+    assert!(rt; !is_seen("a\u{200d}b"));
+}
+
+#[test]
+fn a_refused_sign_is_an_error(rt: HostRuntime) {
+    for nth in 1..MOST_REQUESTS {
+        refuse(rt.alloc(), nth);
+        let told = visible(rt.alloc(), "a\u{1b}b", TextKind::OneRow);
+        let is_refused = was_refused(rt.alloc());
+        assert_eq!(rt; told.is_err(), is_refused, "at request {nth}");
+        if let Ok(shown) = told {
+            assert_eq!(rt; shown.as_str(), "a␛b");
+            return;
+        }
+    }
+    panic!(rt; "every request was refused")
+}

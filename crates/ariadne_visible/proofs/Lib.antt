@@ -1,0 +1,4 @@
+pub mod Signs
+pub mod SeenTexts
+pub mod SafePictures
+pub mod VisibleLaws

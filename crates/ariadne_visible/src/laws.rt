@@ -1,0 +1,51 @@
+//! Laws of safe texts and of the pictures that are drawn of them. Each is the contract of a function
+//! that does nothing.
+
+ghost use Rattle.std.specs.Prelude.{◌≡◌, ◌≢◌, ℕ, true, not, List, length, chars};
+ghost use Rattle.std.specs.List.{list_all};
+ghost use Rattle.ariadne_picture.specs.declared.label_info.LabelInfo.{LabelInfo};
+ghost use Rattle.ariadne_picture.specs.Report.{ReportFields, World};
+ghost use Rattle.ariadne_picture.specs.Canvas.{canvas};
+ghost use Rattle.ariadne_picture.specs.Print.{printed};
+ghost use Rattle.ariadne_visible.specs.declared.text.TextKind.{TextKind};
+ghost use Rattle.ariadne_visible.specs.Visible.{is_hidden, is_seen_in, symbol_of, visible_text};
+ghost use Rattle.ariadne_visible.specs.Pictures.{HideNothing, HidesNothing, HasNoControl};
+
+/// Each character has one sign, so offsets in characters stay.
+pub fn signs_stand_one_for_one()
+    ensures { (kind : TextKind) (t : List ℕ) → length (visible_text kind t) ≡ length t }
+{}
+
+/// A text of which nothing is hidden is shown as it is.
+pub fn what_is_seen_stays()
+    ensures { (kind : TextKind) (t : List ℕ) → list_all (λ c. not (is_hidden c)) t ≡ true
+        → visible_text kind t ≡ t }
+{}
+
+/// A text that was made visible is visible: once more changes nothing.
+pub fn visible_twice_is_visible_once()
+    ensures { (kind : TextKind) (t : List ℕ) → visible_text kind (visible_text kind t)
+        ≡ visible_text kind t }
+{}
+
+/// Hidden characters that have symbols are told apart by them.
+pub fn symbols_tell_characters_apart()
+    ensures { (c d : ℕ) → symbol_of c ≡ symbol_of d → symbol_of c ≢ 0xFFFD → c ≡ d }
+{}
+
+/// Whatever a text has, what is shown of it hides nothing but what lays it out.
+pub fn visible_texts_are_seen()
+    ensures { (kind : TextKind) (t : List ℕ) → list_all (is_seen_in kind) (visible_text kind t) ≡ true }
+{}
+
+/// Where no text that was handed in hides anything, no picture does: outside of the sequences `ESC [
+/// digits and semicolons m` its only hidden characters are the line feeds at the ends of rows.
+pub fn pictures_hide_nothing<S, Id>()
+    ensures { (w : World S Id) (r : ReportFields S) (infos : List LabelInfo) → HideNothing w r
+        → HidesNothing (printed (canvas w r infos)) }
+{}
+
+/// So no byte of it is a control but these, and those of the sequences.
+pub fn such_bytes_have_no_control()
+    ensures { (picture : List ℕ) → HidesNothing picture → HasNoControl picture }
+{}

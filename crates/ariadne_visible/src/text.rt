@@ -1,0 +1,140 @@
+//! Texts as they can be shown: a sign for each character that a terminal obeys, or shows nothing of.
+
+ghost use Rattle.std.specs.Prelude.{◌≡◌, IfOk, IsTrue, string_bytes, chars, true};
+ghost use Rattle.ariadne_base.specs.Lines.{begins_with_line_feed as begins_in_line_feed};
+ghost use Rattle.ariadne_visible.specs.declared.text.TextKind.TheVariants.{OneRow};
+ghost use Rattle.ariadne_visible.specs.Visible.{is_control as controls, is_direction_mark as turns};
+ghost use Rattle.ariadne_visible.specs.Visible.{is_joiner as joins, is_tag as tags};
+ghost use Rattle.ariadne_visible.specs.Visible.{is_hidden as hides, stays as is_kept};
+ghost use Rattle.ariadne_visible.specs.Visible.{symbol_of as sign, shown_code, visible_bytes, is_shown};
+
+use std::alloc::{AllocError, Global};
+
+/// Where a text is shown, which decides what stays in it.
+#[derive(Clone, Copy, Debug, PartialEq, Eq)]
+pub enum TextKind {
+    /// A text that a row shows whole: a message, a name, a code, a kind. Nothing stays.
+    OneRow,
+    /// A help or a note, which is cut at its line feeds. They stay.
+    Aside,
+    /// A source whose lines end where the library ends them. Tabs and the ends of lines stay: CR,
+    /// LF, U+000B, U+000C, U+0085, U+2028 and U+2029.
+    Lines,
+    /// A source whose lines end where compilers end them. Tabs, LF and CR LF stay.
+    CompilerLines,
+}
+
+/// Whether a character is a control: of ASCII, DEL, or of the second page.
+fn is_control(c: char) -> bool
+    ensures { result ≡ controls c }
+{
+    c < ' ' || '\u{7f}' <= c && c <= '\u{9f}'
+}
+
+/// Whether a character turns the direction of a text.
+fn is_direction_mark(c: char) -> bool
+    ensures { result ≡ turns c }
+{
+    c == '\u{61c}'
+        || '\u{200e}' <= c && c <= '\u{200f}'
+        || '\u{202a}' <= c && c <= '\u{202e}'
+        || '\u{2066}' <= c && c <= '\u{2069}'
+}
+
+/// Whether a character joins, parts or operates without being seen.
+fn is_joiner(c: char) -> bool
+    ensures { result ≡ joins c }
+{
+    '\u{200b}' <= c && c <= '\u{200d}'
+        || '\u{2028}' <= c && c <= '\u{2029}'
+        || '\u{2060}' <= c && c <= '\u{2065}'
+}
+
+/// Whether a character is a deprecated format character, the byte order mark, or a tag.
+fn is_tag(c: char) -> bool
+    ensures { result ≡ tags c }
+{
+    '\u{206a}' <= c && c <= '\u{206f}' || c == '\u{feff}' || '\u{e0000}' <= c && c <= '\u{e007f}'
+}
+
+/// Whether a terminal obeys a character, or shows nothing of it.
+#[tactic(auto, unfolding(crate::specs::Visible::is_hidden))]
+fn is_hidden(c: char) -> bool
+    ensures { result ≡ hides c }
+{
+    is_control(c) || is_direction_mark(c) || is_joiner(c) || is_tag(c)
+}
+
+/// The sign of a hidden character: its symbol, or the replacement character where it has none.
+fn symbol_of(c: char) -> char
+    ensures { result ≡ sign c }
+{
+    if c < ' ' {
+        char::from_u32(0x2400 + c as u32).unwrap()
+    } else if c == '\u{7f}' {
+        '\u{2421}'
+    } else if c == '\u{85}' {
+        '\u{2424}'
+    } else {
+        '\u{fffd}'
+    }
+}
+
+/// Whether a text begins with LF.
+fn begins_with_line_feed(text: &str) -> bool
+    ensures { result ≡ begins_in_line_feed (chars text.now) }
+{
+    text.starts_with('\n')
+}
+
+/// Whether a hidden character stays in a text of this kind, before the rest of it.
+fn stays(kind: TextKind, c: char, rest: &str) -> bool
+    ensures { result ≡ is_kept kind c (begins_in_line_feed (chars rest.now)) }
+{
+    match kind {
+        TextKind::OneRow => false,
+        TextKind::Aside => c == '\n',
+        TextKind::Lines => c.is_whitespace(),
+        TextKind::CompilerLines => {
+            c == '\t' || c == '\n' || c == '\r' && begins_with_line_feed(rest)
+        }
+    }
+}
+
+/// The character that stands for `c`, before the rest of its text.
+pub fn shown_char(kind: TextKind, c: char, rest: &str) -> char
+    ensures { result ≡ shown_code kind c (begins_in_line_feed (chars rest.now)) }
+{
+    if !is_hidden(c) || stays(kind, c, rest) {
+        c
+    } else {
+        symbol_of(c)
+    }
+}
+
+/// The text with a sign for each hidden character, character for character.
+///
+/// On `Err` there was no memory for it.
+pub fn visible(alloc: Global, text: &str, kind: TextKind) -> Result<String, AllocError>
+    ensures signs { IfOk result (λ shown. string_bytes shown ≡ visible_bytes kind text.now) }
+    ensures seen { IfOk result (λ shown. is_shown kind (string_bytes shown) ≡ true) }
+{
+    let mut shown = String::new(alloc);
+    let mut rest = text.chars();
+    while let Some(c) = rest.next() {
+        shown.push(shown_char(kind, c, rest.as_str()))?;
+    }
+    Ok(shown)
+}
+
+/// Whether a text can be shown in one row as it is: nothing in it is hidden.
+pub fn is_seen(text: &str) -> bool
+    ensures { IsTrue result → is_shown OneRow text.now ≡ true }
+{
+    for c in text.chars() {
+        if is_hidden(c) {
+            return false;
+        }
+    }
+    true
+}
