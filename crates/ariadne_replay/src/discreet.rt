@@ -1,4 +1,4 @@
-//! A cache that shows no name for one of its ids, and may have no memory for any source.
+//! A cache that shows no name for one of its ids.
 
 ghost use Rattle.std.specs.Prelude.{None, cond, string_bytes};
 ghost use Rattle.std.specs.Str.{bytes_eq};
@@ -6,15 +6,12 @@ ghost use Rattle.std.specs.Cmp.Lexicographic.{bytes_decides};
 ghost use Rattle.std.proofs.Common.{ap₂};
 
 use ariadne::{Cache, FetchError, Source};
-use std::alloc::AllocError;
 
-/// A cache that shows no name for one of its ids, and may have no memory for any source. It is in all
-/// else the cache that it holds.
+/// A cache that shows no name for one of its ids, and is in all else the cache that it holds.
 #[derive(Drop)]
 pub struct Discreet<C: Cache<String>> {
     pub cache: C,
     pub hidden: String,
-    pub has_memory: bool,
 }
 
 impl<C: Cache<String>> Cache<String> for Discreet<C> {
@@ -37,9 +34,6 @@ impl<C: Cache<String>> Cache<String> for Discreet<C> {
         (C.names_respect_eq c.cache p q h) };
 
     fn ensure(&mut self, id: &String) -> Result<(), FetchError<C::Error>> {
-        if !self.has_memory {
-            return Err(FetchError::Memory(AllocError));
-        }
         self.cache.ensure(id)
     }
 

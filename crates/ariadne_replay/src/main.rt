@@ -14,6 +14,7 @@
 mod case;
 mod colors;
 mod discreet;
+mod forgetful;
 mod making;
 mod members;
 mod mistake;

@@ -2,6 +2,7 @@
 
 use crate::case::{has_known_members, only_source};
 use crate::discreet::Discreet;
+use crate::forgetful::Forgetful;
 use crate::making::{counted, labels_of, own_span, report, told_of};
 use crate::members::{list, table_of, text, text_if_any};
 use crate::mistake::{Mistake, Read};
@@ -119,7 +120,7 @@ fn over_sources<'c, S: Span<SourceId = String>, R: AllocGlobal + Files>(
 ) -> Read<'c, Answer> {
     let alloc = rt.alloc();
     match (text_if_any(case, "hidden")?, text_if_any(case, "cache")?) {
-        (Some(hidden), None) => over_own_cache(alloc, call, case, report, hidden, true),
+        (Some(hidden), None) => over_own_cache(alloc, call, case, report, hidden),
         (Some(_), Some(word)) => Err(Mistake::Odd(word, "a cache beside 'hidden'")),
         (None, None) if has_no_offset(case)? => over_map(alloc, call, case, report),
         (None, None) => over_given_sources(alloc, call, case, report),
@@ -129,7 +130,7 @@ fn over_sources<'c, S: Span<SourceId = String>, R: AllocGlobal + Files>(
         (None, Some("FileCache")) => {
             Ok(sent(alloc, call, report, &mut FileCache::new(rt, alloc))?)
         }
-        (None, Some("no memory")) => over_own_cache(alloc, call, case, report, "", false),
+        (None, Some("no memory")) => Ok(sent(alloc, call, report, &mut Forgetful)?),
         (None, Some(word)) => Err(Mistake::Odd(word, "not a cache of sources with ids")),
     }
 }
@@ -194,24 +195,18 @@ fn over_given_sources<'c, S: Span<SourceId = String>>(
     Ok(sent(alloc, call, report, &mut cache)?)
 }
 
-/// The answer of a report over a cache of the program's own, which hides the name of one source, and
-/// may have no memory for any.
+/// The answer of a report over a cache of the program's own, which hides the name of one source.
 fn over_own_cache<'c, S: Span<SourceId = String>>(
     alloc: Global,
     call: Call,
     case: &'c Table,
     report: &Report<'c, S>,
     hidden: &str,
-    has_memory: bool,
 ) -> Read<'c, Answer> {
     let cache = FnCache::new(alloc, missing);
     let cache = cache.with_sources(given_sources(alloc, case)?)?;
-    let mut cache = Discreet {
-        cache,
-        hidden: hidden.to_string(alloc)?,
-        has_memory,
-    };
-    Ok(sent(alloc, call, report, &mut cache)?)
+    let hidden = hidden.to_string(alloc)?;
+    Ok(sent(alloc, call, report, &mut Discreet { cache, hidden })?)
 }
 
 /// The answer of a report over the first source alone, or over a reference to it.
