@@ -12,6 +12,7 @@ ghost use Rattle.ariadne_picture.specs.Accept.{text_len as counted_len, verdict}
 ghost use Rattle.ariadne_picture.specs.Report.{AreForward};
 
 use crate::content::Content;
+use ariadne_base::blocks::count::count_chars;
 use ariadne_base::{Cache, FetchError, Line, Source, SourceText, Span};
 use ariadne_labels::config::{Config, IndexType, LabelAttach};
 use ariadne_labels::label::Label;
@@ -192,7 +193,7 @@ fn char_offset<I: SourceText>(source: &Source<I>, byte_offset: usize) -> Option<
     if text.len() == line.len() {
         return Some(line.offset() + byte_column);
     }
-    Some(line.offset() + text[..byte_column].chars().count())
+    Some(line.offset() + count_chars(&text[..byte_column]))
 }
 
 /// A label over characters that the source has.

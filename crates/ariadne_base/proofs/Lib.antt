@@ -10,3 +10,9 @@ pub mod Scanning
 pub mod Lookups
 pub mod Paths
 pub mod Numbers
+-- Text in blocks: characters and their bytes, lanes and masks.
+pub mod CharStarts
+pub mod CharPlaces
+pub mod SeparatorBytes
+pub mod Lanes
+pub mod BlockMarks

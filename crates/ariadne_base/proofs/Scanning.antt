@@ -1,14 +1,14 @@
 -- The scan of a text: the lines that it has closed, the one that is open, and what is left of the text.
-use Rattle.std.proofs.Common.{◌≡◌, ◌≢◌, ℕ, ◌+◌, ◌-◌, ◌<◌, ◌≤◌, true, false, cond, List, [], ◌∷◌, ◌++◌, length, refl, sym, ap, ◌∙◌, arith, get_or}
+use Rattle.std.proofs.Common.{◌≡◌, ◌≢◌, ℕ, suc, subst, take, drop, take-append-drop, ◌+◌, ◌-◌, ◌<◌, ◌≤◌, true, false, cond, List, [], ◌∷◌, ◌++◌, length, refl, sym, ap, ◌∙◌, arith, get_or}
 use Rattle.std.proofs.Common.{sum_by, ◌==◌, inl, inr, ◌⊎◌, length-append}
-use Rattle.std.specs.Str.{chars, IsUtf8, encode_utf8_all}
+use Rattle.std.specs.Str.{chars, IsUtf8, IsCharBoundary, NonePass, encode_utf8_all}
 use Rattle.std.specs.Char.{encode_utf8, len_utf8}
 use Rattle.std.proofs.lemmas.Bool.{cond-true, cond-false, cases_Bool, eq-eqb, eqb-true, false_from_ne_true}
 use Rattle.std.proofs.lemmas.List.{append_assoc, append-nil, length_push, nil_from_length}
 use Rattle.std.proofs.lemmas.List.Sums.{sum_by_push}
 use Rattle.std.proofs.lemmas.Str.{chars_past_char, IsUtf8-past_char, chars_from_encodes, encodes-append, length-encode, len_utf8_bounds}
-use Rattle.std.proofs.lemmas.Str.{byte_from_char, char_from_byte, chars-nil}
-use Rattle.ariadne_base.specs.Lines.{ends_line, begins_with_line_feed, in_front, full_lines_of, lines_of}
+use Rattle.std.proofs.lemmas.Str.{byte_from_char, char_from_byte, chars-nil, encodes-chars, IsUtf8-take}
+use Rattle.ariadne_base.specs.Lines.{is_separator, ends_line, begins_with_line_feed, in_front, full_lines_of, lines_of}
 use Rattle.ariadne_base.specs.Locations.{byte_len}
 use Rattle.ariadne_base.specs.Table.{LineExtent, line_table}
 use Rattle.ariadne_base.proofs.TableLemmas.{row, same_row, line_table_push, line_table-nil, length-line_table}
@@ -100,6 +100,11 @@ full_lines-cons : (c : ℕ) (t : List ℕ) → full_lines_of (c ∷ t) ≡ cond 
 unfolding full_lines_of
 full_lines-cons c t = refl
 
+-- what is no separator ends no line
+no_end : (c : ℕ) (t : List ℕ) → is_separator c ≡ false → ends_line c t ≡ false
+unfolding ends_line
+no_end c t h = rw h refl
+
 module _ (text rest left : List ℕ) (c : ℕ) (table : List LineExtent) (offset byte_offset at : ℕ) (s : IsScanned text rest table offset byte_offset at)
     (e : rest ≡ encode_utf8 c ++ left) where
   -- what a character takes of the rest
@@ -171,6 +176,28 @@ module _ (text rest left : List ℕ) (c : ℕ) (table : List LineExtent) (offset
         count = omega arith;
         utf8 = IsUtf8-past_char rest left c s.utf8 e;
       }
+
+-- characters that are no separators make the open line longer
+pub scan_run : (text rest left run : List ℕ) (table : List LineExtent) (offset byte_offset at : ℕ) → IsScanned text rest table offset byte_offset at
+    → rest ≡ encode_utf8_all run ++ left → NonePass (λ c. is_separator c) run → IsScanned text left table offset byte_offset (at + length run)
+scan_run text rest left [] table offset byte_offset at s e none = rw (← e) (let same : at + 0 ≡ at = omega arith in rw same s)
+scan_run text rest left (c ∷ run) table offset byte_offset at s e none =
+    let behind = encode_utf8_all run ++ left in
+    let first : rest ≡ encode_utf8 c ++ behind = e ∙ append_assoc (encode_utf8 c) (encode_utf8_all run) left in
+    let stays : ends_line c (chars behind) ≡ false = no_end c (chars behind) none.0 in
+    let next = scan_run text behind left run table offset byte_offset (at + 1) (scan_open text rest behind c table offset byte_offset at s first stays) refl none.1 in
+    let same : at + 1 + length run ≡ at + suc (length run) = omega arith in
+    subst (λ n. IsScanned text left table offset byte_offset n) same next
+
+-- so does a first part of the rest without separators
+pub scan_jump : (text rest : List ℕ) (table : List LineExtent) (offset byte_offset at n m : ℕ) → IsScanned text rest table offset byte_offset at
+    → IsCharBoundary rest n → NonePass (λ c. is_separator c) (chars (take n rest)) → m ≡ length (chars (take n rest))
+    → IsScanned text (drop n rest) table offset byte_offset (at + m)
+scan_jump text rest table offset byte_offset at n m s cut none count =
+    let parts : rest ≡ encode_utf8_all (chars (take n rest)) ++ drop n rest =
+    sym (take-append-drop n rest) ∙ ap (λ bs. bs ++ drop n rest) (sym (encodes-chars (take n rest) (IsUtf8-take rest n s.utf8 cut))) in
+    subst (λ k. IsScanned text (drop n rest) table offset byte_offset (at + k)) (sym count)
+    (scan_run text rest (drop n rest) (chars (take n rest)) table offset byte_offset at s parts none)
 
 -- a text that is not empty has full lines
 lines_of-full : (t : List ℕ) → full_lines_of t ≢ [] → lines_of t ≡ full_lines_of t

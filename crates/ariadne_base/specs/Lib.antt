@@ -1,4 +1,5 @@
 pub mod Lines
+pub mod Separators
 pub mod Locations
 pub mod Table
 pub mod Ranges

@@ -2,6 +2,7 @@
 //! is public here serves the crates above, and is no part of its surface.
 #![tactic(auto)]
 
+pub mod blocks;
 pub mod cache;
 pub mod source;
 pub mod span;

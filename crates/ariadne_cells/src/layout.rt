@@ -6,6 +6,7 @@ ghost use Rattle.ariadne_picture.specs.Columns.{arrow_len, places_to_end, shown}
 ghost use Rattle.ariadne_picture.specs.Groups.{greatest};
 ghost use Rattle.ariadne_picture.specs.Ranks.{is_inline, is_margin};
 
+use ariadne_base::blocks::count::count_chars;
 use ariadne_picture::label_info::LineLabel;
 use ariadne_picture::switches::Switches;
 use std::marker::Model;
@@ -73,7 +74,7 @@ impl<'a> LineLayout<'a> {
         let shown_len = if text.len() == len {
             shown.len()
         } else {
-            shown.chars().count()
+            count_chars(shown)
         };
         let is_plain = is_printable(shown);
         LineLayout {

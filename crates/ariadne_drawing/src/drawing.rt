@@ -37,6 +37,9 @@ use ariadne_rows::headers::{push_group_header, push_header, push_spacer, push_ta
 use ariadne_rows::sheet::GroupSheet;
 use std::alloc::{AllocError, Global};
 
+/// The room that a picture's text begins with, in bytes: most pictures of a few lines fit.
+const FIRST_ROOM: usize = 2048;
+
 /// Draws the picture of accepted labels, whose sources the cache holds.
 ///
 /// On `Err` there was no memory for it.
@@ -79,6 +82,7 @@ fn picture<S: Span, C: Cache<S::SourceId>>(
 {
     let page = page(report, cache, infos)?;
     let mut pen = Pen::new(report.alloc, &page);
+    pen.reserve(FIRST_ROOM)?;
     push_picture(&mut pen, &page, report, cache, infos)?;
     Ok(pen.into_text())
 }

@@ -1,8 +1,11 @@
-//! Tests of sources, caches, painted texts and those that are made visible, by public names alone.
+//! Tests of sources, caches, painted texts and those that are made visible, by public names
+//! alone; and of characters that are counted.
 #![tactic(auto)]
 
 #[cfg(test)]
 mod caches;
+#[cfg(test)]
+mod characters;
 #[cfg(test)]
 mod files;
 #[cfg(test)]

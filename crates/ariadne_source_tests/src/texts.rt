@@ -70,6 +70,44 @@ fn seven_characters_end_a_line_and_cr_lf_ends_one(rt: HostRuntime) {
     assert_lines(&rt, &others)
 }
 
+/// 63 characters, in as many bytes.
+const LONG: &str = "a line of some sixty characters that ends just before its next.";
+
+/// Asserts that a separator ends its line behind a long text and a short one, and stands in a line
+/// of its own.
+fn assert_ended(rt: &(impl Abort + AllocGlobal), fill: &str, separator: &str) {
+    let text = joined(
+        rt,
+        &[LONG, fill, separator, "é", separator, separator, LONG],
+    );
+    let source = Source::from(rt.alloc(), text).expect(rt, "memory");
+    let filled = fill.chars().count().saturating_add(63);
+    let width = separator.chars().count();
+    let lens = [
+        filled.saturating_add(width),
+        width.saturating_add(1),
+        width,
+        63,
+    ];
+    assert_eq!(rt; source.lines().len(), 4, "of {separator:?}");
+    for (number, len) in lens.iter().enumerate() {
+        let found = source.line(number).map(|line| line.len());
+        assert_eq!(rt; found, Some(*len), "of {separator:?} behind {fill:?}");
+    }
+}
+
+#[test]
+fn a_separator_ends_a_line_wherever_it_stands(rt: HostRuntime) {
+    let separators = [
+        "\n", "\u{b}", "\u{c}", "\r", "\r\n", "\u{85}", "\u{2028}", "\u{2029}",
+    ];
+    for separator in separators {
+        for fill in ["", "b", "bc", "bcd", "é", "漢"] {
+            assert_ended(&rt, fill, separator)
+        }
+    }
+}
+
 #[test]
 fn a_line_tells_where_it_is_and_how_long(rt: HostRuntime) {
     let source = Source::from(rt.alloc(), "\u{e9}b\r\nc").expect(&rt, "memory");

@@ -7,6 +7,7 @@ ghost use Rattle.ariadne_base.specs.Lines.{begins_with_line_feed as begins_in_li
 ghost use Rattle.ariadne_base.specs.Table.{line_table};
 
 use super::line::Line;
+use crate::blocks::run::plain_run;
 use std::alloc::{AllocError, Global};
 
 /// Whether a character ends a line.
@@ -57,6 +58,11 @@ pub(super) fn line_table_of(alloc: Global, text: &str) -> Result<Vec<Line>, Allo
             })?;
             offset = at;
             byte_offset = byte_at;
+        } else {
+            // No line ends before the next separator.
+            let run = plain_run(rest.as_str());
+            at += run.chars;
+            rest = rest.as_str()[run.bytes..].chars();
         }
     }
     if offset < at || lines.is_empty() {

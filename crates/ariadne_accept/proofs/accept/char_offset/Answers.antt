@@ -1,8 +1,7 @@
 -- An offset that is a boundary lies in its line, behind as many characters as are counted there.
-use Rattle.std.proofs.Common.{◌≡◌, true, length, refl, sym, ◌∙◌, subst, arith, rules}
+use Rattle.std.proofs.Common.{◌≡◌, true, length, refl, sym, ◌∙◌, subst, arith}
 use Rattle.std.specs.Prelude.{slice_range}
 use Rattle.std.specs.Str.{chars, IsUtf8, IsCharBoundary}
-use Rattle.std.proofs.lemmas.Str.{chars_from_encodes}
 use Rattle.ariadne_accept.proofs.Locating.{place_row}
 use Rattle.ariadne_accept.proofs.CharOffsets.{cut_offset, narrow_found, narrow_found_fits, boundary_found, counted_found, counted_found_fits}
 use Rattle.ariadne_accept.proofs.accept.char_offset.Goals as goal
@@ -52,9 +51,9 @@ overflow_add-result-2 g c =
     let at = c.in_ok-line.ensures in
     let own = c.in_ok-text.ensures.own _ at.number (place_row _ _ _ _ _ _ at.location) in
     let whole = subst (λ t. IsCharBoundary t c.args.byte_offset) c.text.ensures (c.if-not-is_char_boundary.ensures.test.0 (refl {a = true})) in
-    let counted : c.count.result ≡ length (chars c.range.result.now) = search (rules, chars_from_encodes) in
+    let counted : c.count_chars.result ≡ length (chars c.range.result.now) = c.count_chars.ensures in
     let cut : c.range.result.now ≡ slice_range c.in_ok-text.text.now 0 c.in_ok-line.byte_column = c.range.ensures.value in
-    let count : c.count.result ≡ length (chars (slice_range c.in_ok-text.text.now 0 c.in_ok-line.byte_column)) = rw cut at counted in
+    let count : c.count_chars.result ≡ length (chars (slice_range c.in_ok-text.text.now 0 c.in_ok-line.byte_column)) = rw cut at counted in
     let fits = counted_found_fits _ c.args.byte_offset utf8 (at.found.0 (refl {a = true})) _ _ _ at.location _ own whole _ count in
     omega arith
 
@@ -65,8 +64,8 @@ returns g c =
     let at = c.in_ok-line.ensures in
     let own = c.in_ok-text.ensures.own _ at.number (place_row _ _ _ _ _ _ at.location) in
     let whole = subst (λ t. IsCharBoundary t c.args.byte_offset) c.text.ensures (c.if-not-is_char_boundary.ensures.test.0 (refl {a = true})) in
-    let counted : c.count.result ≡ length (chars c.range.result.now) = search (rules, chars_from_encodes) in
+    let counted : c.count_chars.result ≡ length (chars c.range.result.now) = c.count_chars.ensures in
     let cut : c.range.result.now ≡ slice_range c.in_ok-text.text.now 0 c.in_ok-line.byte_column = c.range.ensures.value in
-    let count : c.count.result ≡ length (chars (slice_range c.in_ok-text.text.now 0 c.in_ok-line.byte_column)) = rw cut at counted in
+    let count : c.count_chars.result ≡ length (chars (slice_range c.in_ok-text.text.now 0 c.in_ok-line.byte_column)) = rw cut at counted in
     rw c.offset-2.ensures
     (counted_found _ c.args.byte_offset utf8 (at.found.0 (refl {a = true})) _ _ _ at.location _ own whole _ count)

@@ -1,7 +1,7 @@
-use Rattle.std.proofs.Common.{◌≡◌, sym, ap, ◌∙◌, inl, inr, ◌⊎◌, ◌<◌, length, rules}
+use Rattle.std.proofs.Common.{◌≡◌, ◌+◌, sym, ap, ◌∙◌, inl, inr, ◌⊎◌, ◌<◌, length, rules}
 use Rattle.std.specs.Str.{chars}
 use Rattle.ariadne_base.specs.Lines.{ends_line}
-use Rattle.ariadne_base.proofs.Scanning.{scan_start, scan_closed, scan_open, scan_whole, scan_last}
+use Rattle.ariadne_base.proofs.Scanning.{IsScanned, scan_start, scan_closed, scan_open, scan_jump, scan_whole, scan_last}
 use Rattle.ariadne_base.proofs.source.scan.line_table_of.Goals as goal
 use Rattle.ariadne_base.proofs.source.scan.line_table_of.Goals.{then-offset-at+in_ok-push-2, then-offset-at-via-then-offset-at}
 use Rattle.ariadne_base.proofs.source.scan.line_table_of.Goals.{then-offset-at-via-else-offset-at+then-is_empty, else-offset-at+else-is_empty}
@@ -16,11 +16,24 @@ loop-c-preserved-then-ends_line c =
     let ends = ap (λ bs. ends_line c.in-Some.c (chars bs)) (sym c.as_str.ensures) ∙ sym c.ends_line.ensures ∙ c.if-ends_line.true in
     rw (c.in_ok-push.ensures.items, c.as_str-then-ends_line.ensures) (scan_closed _ _ _ _ _ _ _ _ c.loop-c.invariant c.in-Some.ensures.steps.0 ends)
 
--- any other makes the open line longer
+-- any other makes the open line longer, and so do the characters up to the next separator
+pub overflow_add-at-else-ends_line : goal.overflow_add-at-else-ends_line
+overflow_add-at-else-ends_line c =
+    let stays = ap (λ bs. ends_line c.in-Some.c (chars bs)) (sym c.as_str.ensures) ∙ sym c.ends_line.ensures ∙ c.if-ends_line.false in
+    let scanned : IsScanned c.args.text.now c.as_str-else-ends_line.result.now c.loop-c.lines.items c.loop-c.offset c.loop-c.byte_offset (c.loop-c.at + 1) =
+    rw c.as_str-else-ends_line.ensures (scan_open _ _ _ _ _ _ _ _ c.loop-c.invariant c.in-Some.ensures.steps.0 stays) in
+    let run = c.plain_run-run.ensures in
+    let within = (scan_jump _ _ _ _ _ _ _ _ scanned run.cut run.plain run.count).count in
+    search rules
+
 pub loop-c-preserved : goal.loop-c-preserved
 loop-c-preserved c =
     let stays = ap (λ bs. ends_line c.in-Some.c (chars bs)) (sym c.as_str.ensures) ∙ sym c.ends_line.ensures ∙ c.if-ends_line.false in
-    scan_open _ _ _ _ _ _ _ _ c.loop-c.invariant c.in-Some.ensures.steps.0 stays
+    let scanned : IsScanned c.args.text.now c.as_str-else-ends_line.result.now c.loop-c.lines.items c.loop-c.offset c.loop-c.byte_offset (c.loop-c.at + 1) =
+    rw c.as_str-else-ends_line.ensures (scan_open _ _ _ _ _ _ _ _ c.loop-c.invariant c.in-Some.ensures.steps.0 stays) in
+    let run = c.plain_run-run.ensures in
+    rw (c.chars-rest-else-ends_line.ensures.rest, c.range_from.ensures.value, c.as_str-else-ends_line-2.ensures, ← c.as_str-else-ends_line.ensures)
+    (scan_jump _ _ _ _ _ _ _ _ scanned run.cut run.plain run.count)
 
 -- what is open at the end is the last line, unless it is empty and some line is closed
 pub returns : goal.returns

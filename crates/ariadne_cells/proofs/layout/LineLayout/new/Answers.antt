@@ -1,7 +1,5 @@
 use Rattle.std.proofs.Common.{◌≡◌, length, ◌∙◌, sym, ap}
 use Rattle.std.specs.Str.{chars, drop_trailing_whitespace}
-use Rattle.std.proofs.lemmas.Iterator.{YieldsList-from_chars}
-use Rattle.std.proofs.lemmas.Iterator.Consumers.{count_from_yields_List}
 use Rattle.ariadne_cells.proofs.Layouts.{chars-trim_end, length-trim_end}
 use Rattle.ariadne_cells.proofs.layout.LineLayout.new.Goals as goal
 use Rattle.ariadne_cells.proofs.layout.LineLayout.new.Goals.{then-text-len, else-text-len}
@@ -18,8 +16,6 @@ invariant_of-result c =
       | then-text-len w ↦
           let ascii = length-trim_end text c.utf8.text (w.if-text-len.true ∙ c.requires.len) in
           w.shown_len-is ∙ ap length trim ∙ ascii ∙ sym (ap (λ t. length (chars t)) trim)
-      | else-text-len w ↦
-          let read = YieldsList-from_chars {s = w.chars.result} shown c.trim_end-shown.utf8 w.chars.ensures.rest in
-          w.shown_len-is ∙ count_from_yields_List w.chars.result w.count-shown_len.result w.count-shown_len.ensures.ran read
+      | else-text-len w ↦ w.shown_len-is ∙ w.count_chars-shown_len.ensures
     ] in
     (c.requires.len, trimmed, counted, c.is_printable-is_plain.ensures)

@@ -1,0 +1,28 @@
+//! Characters that are counted, and found, in texts of many bytes.
+
+use ariadne_base::blocks::count::count_chars;
+use ariadne_base::blocks::place::byte_of_char;
+
+/// 66 characters of one to four bytes in turn: sixteen times four, in ten bytes, and two more.
+const MIXED: &str = "aé漢😀aé漢😀aé漢😀aé漢😀aé漢😀aé漢😀aé漢😀aé漢😀aé漢😀aé漢😀aé漢😀aé漢😀aé漢😀aé漢😀aé漢😀aé漢😀aé";
+
+#[test]
+fn characters_are_counted_and_found(rt: HostRuntime) {
+    assert_eq!(rt;
+        (count_chars(""), count_chars("é漢"), count_chars(MIXED)),
+        (0, 2, 66)
+    );
+    let places = [
+        (0, 0),
+        (1, 1),
+        (3, 6),
+        (4, 10),
+        (64, 160),
+        (65, 161),
+        (66, 163),
+        (67, 163),
+    ];
+    for (number, place) in places {
+        assert_eq!(rt; byte_of_char(MIXED, number), place, "of character {number}");
+    }
+}
