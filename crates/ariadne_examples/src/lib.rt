@@ -9,6 +9,7 @@
 //! - `errors`: an enum of errors that become reports.
 //! - `one_line`: a report as one line of text.
 //! - `arithmetic`: a parser that runs out of input.
+//! - `calling`: what a caller can prove of the picture that it writes.
 //! - `pictures`: how tests compare pictures.
 //! - `sinks`: a buffer of your own that takes the picture.
 #![tactic(auto)]
@@ -17,6 +18,7 @@
 mod arithmetic;
 #[cfg(test)]
 mod caches;
+pub mod calling;
 #[cfg(test)]
 mod errors;
 #[cfg(test)]
