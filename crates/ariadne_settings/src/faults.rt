@@ -1,16 +1,11 @@
-//! What is wrong in a text of settings. It knows nothing of reports.
+//! What is wrong in a text of settings, and where. It draws nothing.
 
+use ariadne::Place;
 use std::alloc::{AllocError, Global};
 use std::collections::HashMap;
 
-/// A piece of the text, by its bytes from 0.
-#[derive(Clone, Copy)]
-pub(crate) struct Place {
-    pub(crate) start: usize,
-    pub(crate) len: usize,
-}
-
-/// A fault: what it is, what is said of its place, and where the same name was set before.
+/// A fault: what it is, what is said of its place, and where the same name was set before. Places are
+/// told by the bytes of the text.
 #[derive(Clone, Copy)]
 pub(crate) struct Fault {
     pub(crate) message: &'static str,
@@ -42,8 +37,7 @@ fn add_faults<'t>(
     start: usize,
 ) -> Result<(), AllocError> {
     let Some((name, value)) = line.split_once('=') else {
-        let len = line.len();
-        let place = Place { start, len };
+        let place = place_of(line, start);
         return push(faults, "no setting", "`=` is missing", place, None);
     };
     let (name, place) = trimmed(name, start);
@@ -63,8 +57,12 @@ fn trimmed(piece: &str, start: usize) -> (&str, Place) {
     let blanks = piece.len().saturating_sub(piece.trim_start().len());
     let start = start.saturating_add(blanks);
     let piece = piece.trim();
-    let len = piece.len();
-    (piece, Place { start, len })
+    (piece, place_of(piece, start))
+}
+
+/// The place of a piece that begins at an offset.
+fn place_of(piece: &str, start: usize) -> Place {
+    Place::at(start).to(Place::at(start.saturating_add(piece.len())))
 }
 
 /// Adds a fault.

@@ -5,20 +5,17 @@
 //! Copy `main`, `check` and `colors`, and put a search of your own in place of `faults`.
 #![tactic(auto)]
 
-ghost use Rattle.std.specs.Prelude.{◌≤◌};
-
 mod faults;
 
-use ariadne::{CharSet, Config, IndexType, Label, Report, ReportKind, Source, WriteError};
-use faults::{Fault, Place, faults_of};
+use ariadne::{CharSet, Config, IndexType, Label, Place, Report, ReportKind, Source, WriteError};
+use faults::{Fault, faults_of};
 use std::alloc::{AllocError, Global};
 use std::io::{IsTerminal, Write};
-use std::ops::Range;
 use std::process::ExitCode;
 use std::{env, fs};
 
 /// A report over the file at a path.
-type FileReport<'p> = Report<'static, (&'p str, Range<usize>)>;
+type FileReport<'p> = Report<'static, (&'p str, Place)>;
 
 /// Colours where standard error is a terminal, unless `NO_COLOR` asks for none.
 fn colors(rt: &HostRuntime) -> bool {
@@ -36,22 +33,14 @@ fn report<'p>(
     path: &'p str,
     fault: &Fault,
 ) -> Result<FileReport<'p>, AllocError> {
-    let mut builder = Report::build(alloc, ReportKind::Error, span(path, fault.place))
+    let mut builder = Report::build(alloc, ReportKind::Error, (path, fault.place))
         .with_config(config)
         .with_message(fault.message)?;
     if let Some(before) = fault.before {
-        builder.add_label(Label::new(span(path, before)).with_message(alloc, "set here before")?)?;
+        builder.add_label(Label::new((path, before)).with_message(alloc, "set here before")?)?;
     }
-    builder.add_label(Label::new(span(path, fault.place)).with_message(alloc, fault.hint)?)?;
+    builder.add_label(Label::new((path, fault.place)).with_message(alloc, fault.hint)?)?;
     Ok(builder.finish())
-}
-
-/// A place of the file at a path.
-fn span(path: &str, place: Place) -> (&str, Range<usize>)
-    ensures forward { result.1.start ≤ result.1.end }
-{
-    let Place { start, len } = place;
-    (path, start..start.saturating_add(len))
 }
 
 /// Draws each fault of a text that stands in the file at a path, and returns how many there are.
