@@ -1,14 +1,17 @@
 -- Texts without a hidden character: what a picture is made of beside the texts that are handed in, and which texts that hide
 -- nothing are such as they are shown.
-use Rattle.std.proofs.Common.{◌≡◌, ℕ, ◌-◌, true, false, List, [], ◌∷◌, ◌++◌, take, length}
+use Rattle.std.proofs.Common.{◌≡◌, ℕ, ◌-◌, ◌<◌, Bool, true, false, List, [], ◌∷◌, ◌++◌, take, length}
 use Rattle.std.proofs.Common.{refl, sym, ap, ◌∙◌, subst, arith, ◌==◌, nat_lt, nat_le, inl, inr}
 use Rattle.std.specs.Prelude.{encode_utf8, encode_utf8_all, slice_index}
 use Rattle.std.specs.Char.{is_whitespace}
-use Rattle.std.specs.List.{AllByRecursion, list_all, slice_split, onto_first}
+use Rattle.std.specs.Bool.{MatchBool}
+use Rattle.std.specs.List.{AllByRecursion, AllWithin, HoldsAt, list_all, slice_split, onto_first}
 use Rattle.std.specs.Str.{chars, is_utf8, NonePass, NoCharPasses}
 use Rattle.std.specs.Str.Lines.{lines, lines_of_parts, strip_carriage_return}
 use Rattle.std.proofs.lemmas.Bool.{cond_both, and_parts, cases_Bool, eqb-true, ne_eqb, eq-eqb, leb-true, ltb-true, true≢false}
 use Rattle.std.proofs.lemmas.List.{append-nil}
+use Rattle.std.proofs.lemmas.List.Folds.{list_all_at}
+use Rattle.std.proofs.lemmas.List.Sums.{list_all-from_AllPass}
 use Rattle.std.proofs.lemmas.Str.{encode_ascii, encodes-chars, IsUtf8-from_is_utf8, NoCharPasses-nil, NoCharPasses-append, NoCharPasses-byte}
 use Rattle.ariadne_base.specs.Listing.{Listing, listed_lines}
 use Rattle.ariadne_picture.specs.declared.switches.CharSet.{CharSet}
@@ -22,6 +25,13 @@ use Rattle.ariadne_picture.proofs.Variants.CleanPieces.{AreShownClean}
 use Rattle.ariadne_visible.specs.declared.text.TextKind.TheVariants.{OneRow, Aside, Lines}
 use Rattle.ariadne_visible.specs.Visible.{is_hidden, is_seen_in, is_shown}
 use Rattle.ariadne_visible.proofs.Signs.{plain_is_seen, not_hidden}
+
+-- what an iterator answers of all characters is the answer for the text
+pub all_decide : (p : ℕ → Bool) (t : List ℕ) (r : Bool)
+    → MatchBool r (AllWithin (λ c. p c ≡ true) t 0 (length t)) ((k : ℕ) × (k < length t) × HoldsAt (λ c. p c ≡ false) t k)
+    → r ≡ list_all p t
+all_decide p t true h = sym (list_all-from_AllPass p t (λ k d less. h k d (omega arith) less))
+all_decide p t false h = sym (list_all_at p t h.0 0 h.1 (h.2 0))
 
 -- no character of these bytes is hidden
 abbrev pub IsSeen : List ℕ → Type 0

@@ -1,6 +1,6 @@
 //! Texts as they can be shown: a sign for each character that a terminal obeys, or shows nothing of.
 
-ghost use Rattle.std.specs.Prelude.{◌≡◌, IfOk, IsTrue, string_bytes, chars, true};
+ghost use Rattle.std.specs.Prelude.{◌≡◌, IfOk, string_bytes, chars, true};
 ghost use Rattle.ariadne_base.specs.Lines.{begins_with_line_feed as begins_in_line_feed};
 ghost use Rattle.ariadne_visible.specs.declared.text.TextKind.TheVariants.{OneRow};
 ghost use Rattle.ariadne_visible.specs.Visible.{is_control as controls, is_direction_mark as turns};
@@ -129,12 +129,7 @@ pub fn visible(alloc: Global, text: &str, kind: TextKind) -> Result<String, Allo
 
 /// Whether a text can be shown in one row as it is: nothing in it is hidden.
 pub fn is_seen(text: &str) -> bool
-    ensures { IsTrue result → is_shown OneRow text.now ≡ true }
+    ensures { result ≡ is_shown OneRow text.now }
 {
-    for c in text.chars() {
-        if is_hidden(c) {
-            return false;
-        }
-    }
-    true
+    text.chars().all(|c| !is_hidden(c))
 }
