@@ -1,0 +1,6 @@
+-- By its letters.
+use Rattle.ariadne_safe.proofs.ShownReports.{warning_shown}
+use Rattle.ariadne_safe.proofs.report.SafeKind.warning.Goals as goal
+
+pub invariant_of-result : goal.invariant_of-result
+invariant_of-result c = record { name_is_shown = warning_shown }

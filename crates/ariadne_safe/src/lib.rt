@@ -1,0 +1,11 @@
+//! Safe reports: whatever sources, names and messages hold, every escape of a picture is the library's
+//! own, and what a reader sees is what the source holds.
+#![tactic(auto)]
+
+mod places;
+pub mod report;
+pub mod sources;
+
+pub use ariadne_visible::{TextKind, is_seen, laws, visible};
+pub use report::{SafeBuilder, SafeKind, SafeReport};
+pub use sources::{LineEnds, NoSource, SafeSource, SafeSources};
