@@ -1,5 +1,5 @@
-//! Tests of sources, caches, painted texts and those that are made visible, by public names
-//! alone; and of characters that are counted.
+//! Tests of sources, caches, painted texts, visible and safe ones, by public names alone; and of
+//! characters that are counted.
 #![tactic(auto)]
 
 #[cfg(test)]
@@ -16,6 +16,10 @@ mod held_sources;
 mod own_caches;
 #[cfg(test)]
 mod painting;
+#[cfg(test)]
+mod safe_example;
+#[cfg(test)]
+mod safe_texts;
 #[cfg(test)]
 mod texts;
 #[cfg(test)]

@@ -69,6 +69,21 @@ pub(crate) const CALLS: &[(&str, &[&str])] = &[
     ("a_refused_word_is_an_error", &["without_colors"]),
     ("a_refused_sign_is_an_error", &["visible"]),
     (
+        "a_refused_request_of_a_safe_report_is_its_error",
+        &[
+            "SafeSource::new",
+            "SafeSource::with_name",
+            "SafeSources::add",
+            "SafeBuilder::with_code_text",
+            "SafeBuilder::with_message",
+            "SafeBuilder::with_label",
+            "SafeBuilder::with_help",
+            "SafeBuilder::with_note",
+            "SafeReport::write",
+            "shown_label", // (with_label calls it)
+        ],
+    ),
+    (
         "a_refused_picture_sends_nothing_and_the_next_is_whole",
         &[
             "Report::write",
@@ -157,6 +172,7 @@ pub(crate) const OTHERS: &[(&str, &str)] = &[
     ),
     ("FileError::fault", "lends the fault that it has"),
     ("SourceTable::ensure", "returns an error that is a number"),
+    ("&SafeSources::ensure", "returns an error that is a number"),
     ("Source::ensure", "is its own only source"),
     ("&Source::ensure", "is its own only source"),
     ("Foreground::clone", "copies what is Copy"),
