@@ -44,7 +44,7 @@ impl Job {
     /// The job of a workload that writes a report over one source.
     pub fn of(alloc: Global, workload: Workload) -> Result<Option<Job>, AllocError> {
         let job = match workload {
-            Workload::Two => two(alloc, false)?,
+            Workload::Two | Workload::TwoSafe => two(alloc, false)?,
             Workload::TwoColored => two(alloc, true)?,
             Workload::Nested(times) => nested(alloc, times, false)?,
             Workload::NestedColored => nested(alloc, 1, true)?,

@@ -13,6 +13,7 @@ mod pictures;
 mod texts;
 
 use ariadne::Source;
+use ariadne_safe::{LineEnds, SafeSource, SafeSources};
 use jobs::Job;
 use order::{Order, Workload};
 use std::alloc::{AllocError, Global};
@@ -70,6 +71,18 @@ fn measure_job(rt: &(impl AllocGlobal + Clock), job: Job, rounds: u32) -> io::Re
     Ok(outcome_of(&out, nanoseconds))
 }
 
+/// Measures the safe writing of a report over one source.
+fn measure_safe(rt: &(impl AllocGlobal + Clock), job: Job, rounds: u32) -> io::Result<Outcome> {
+    let mut sources = SafeSources::new(rt.alloc());
+    sources.add(SafeSource::new(rt.alloc(), job.text.as_str(), LineEnds::All)?)?;
+    let report = pictures::safe_report_of(rt.alloc(), &job, &sources)?;
+    let mut out = Vec::new(rt.alloc());
+    let start = Instant::now(rt)?;
+    pictures::draw_safely(&report, rounds, &mut out)?;
+    let nanoseconds = start.elapsed(rt)?.as_nanos();
+    Ok(outcome_of(&out, nanoseconds))
+}
+
 /// Measures the writing of a report over so many sources.
 fn measure_sources(
     rt: &(impl AllocGlobal + Clock),
@@ -102,6 +115,7 @@ fn measure(rt: &(impl AllocGlobal + Clock), order: &Order<'_>) -> io::Result<Out
         Workload::IndexBytes => measure_index(rt, texts::wide(alloc, LARGE)?, order.rounds),
         Workload::Sources(count) => measure_sources(rt, count, order.rounds),
         workload => match Job::of(alloc, workload)? {
+            Some(job) if workload == Workload::TwoSafe => measure_safe(rt, job, order.rounds),
             Some(job) => measure_job(rt, job, order.rounds),
             None => Err(io::Error::from(ErrorKind::InvalidInput)),
         },

@@ -12,6 +12,8 @@ pub enum Workload {
     Two,
     /// The same in colours.
     TwoColored,
+    /// The same without colours, drawn safely.
+    TwoSafe,
     /// Labels nested over many lines, with labels within the lines.
     Nested(u16),
     /// The same in colours.
@@ -46,6 +48,7 @@ impl Workload {
             "index-bytes" => Some(Workload::IndexBytes),
             "two" => Some(Workload::Two),
             "two-colour" => Some(Workload::TwoColored),
+            "two-safe" => Some(Workload::TwoSafe),
             "nested" => Some(Workload::Nested(1)),
             "nested-colour" => Some(Workload::NestedColored),
             "wide" => Some(Workload::Wide(200)),

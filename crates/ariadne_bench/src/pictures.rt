@@ -5,12 +5,11 @@ ghost use Rattle.std.specs.Prelude.{◌≤◌};
 use crate::jobs::{Job, Mark};
 use crate::texts::line;
 use ariadne::{
-    Cache, CharSet, Color, Config, IndexType, Label, Report, ReportKind, SourceMap, Span,
-    WriteError, sources,
+    Cache, CharSet, Color, Config, IndexType, Label, Report, ReportKind, SourceMap, Span, sources,
 };
+use ariadne_safe::{SafeBuilder, SafeKind, SafeReport, SafeSources};
 use std::alloc::{AllocError, Global};
 use std::io;
-use std::io::ErrorKind;
 use std::ops::Range;
 
 /// The first of the 200 colours that labels have in turn.
@@ -42,8 +41,8 @@ fn label_of(
     }
 }
 
-/// The report of a job. Its own span is that of its first label.
-pub fn report_of(alloc: Global, job: &Job) -> Result<Report<'static>, AllocError> {
+/// How a job is drawn.
+fn config_of(job: &Job) -> Config {
     let config = if job.is_colored {
         Config::new()
     } else {
@@ -51,17 +50,45 @@ pub fn report_of(alloc: Global, job: &Job) -> Result<Report<'static>, AllocError
             .with_color(false)
             .with_char_set(CharSet::Ascii)
     };
-    let config = if job.in_bytes {
+    if job.in_bytes {
         config.with_index_type(IndexType::Byte)
     } else {
         config
-    };
+    }
+}
+
+/// The report of a job. Its own span is that of its first label.
+pub fn report_of(alloc: Global, job: &Job) -> Result<Report<'static>, AllocError> {
     let span = job.marks.first().map_or(0..0, span_of);
     let mut report = Report::build(alloc, ReportKind::Error, span)
-        .with_config(config)
+        .with_config(config_of(job))
         .with_message(job.message)?;
     for (number, mark) in job.marks.iter().enumerate() {
         report.add_label(label_of(alloc, mark, number, job.is_colored)?)?;
+    }
+    Ok(report.finish())
+}
+
+/// The safe report of a job that has no colours, over the first of these sources.
+pub fn safe_report_of<'s>(
+    alloc: Global,
+    job: &Job,
+    sources: &'s SafeSources,
+) -> Result<SafeReport<'s>, AllocError> {
+    let place = (0, job.marks.first().map_or(0..0, span_of));
+    let mut report = SafeBuilder::new(
+        alloc,
+        sources,
+        SafeKind::error(),
+        place,
+        config_of(job),
+    ).with_message(job.message)?;
+    for mark in job.marks.iter() {
+        let label = Label::new((0, span_of(mark)));
+        report = match &mark.message {
+            Some(message) => report.with_label(label.with_message(alloc, message.as_str())?)?,
+            None => report.with_label(label)?,
+        };
     }
     Ok(report.finish())
 }
@@ -108,11 +135,16 @@ pub fn draw<S: Span, C: Cache<S::SourceId>>(
 {
     for _ in 0..rounds {
         out.clear();
-        match report.write(cache, out) {
-            Ok(_) => {}
-            Err(WriteError::Memory(_)) => return Err(io::Error::from(ErrorKind::OutOfMemory)),
-            Err(WriteError::Io { fault, .. }) => return Err(fault),
-        }
+        report.write(cache, out)?;
+    }
+    Ok(())
+}
+
+/// Writes a safe report `rounds` times, each time into the same room.
+pub fn draw_safely(report: &SafeReport<'_>, rounds: u32, out: &mut Vec<u8>) -> io::Result<()> {
+    for _ in 0..rounds {
+        out.clear();
+        report.write(out)?;
     }
     Ok(())
 }
