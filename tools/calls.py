@@ -5,18 +5,23 @@ ESCAPES = {'"': '\\"', "\\": "\\\\", "\n": "\\n", "\t": "\\t", "\r": "\\r", "\x1
 # What a case of the gallery may have. A case with another member has no call here.
 MEMBERS = {
     "name", "kind", "kind_color", "number", "code", "message", "at", "id", "source", "line_offset",
-    "sources", "missing", "labels", "helps", "notes", "settings", "worked", "left_out", "picture",
+    "sources", "missing", "labels", "helps", "notes", "settings", "worked", "left_out", "picture", "safe",
 }
 ENUMS = {"label_attach": "LabelAttach", "char_set": "CharSet", "index_type": "IndexType"}
 
 
 def literal(text):
-    """A text as a literal."""
-    return '"' + "".join(ESCAPES.get(it, it) for it in text) + '"'
+    """A text as a literal. What can't be seen is written by its number."""
+    seen = (it if it.isprintable() else f"\\u{{{ord(it):x}}}" for it in text)
+    return '"' + "".join(ESCAPES.get(it, shown) for it, shown in zip(text, seen)) + '"'
 
 
 def over_of(case):
-    """What makes the cache of a case."""
+    """What makes the cache of a case, or the only source of one that is drawn safely."""
+    if "safe" in case:
+        (source,) = case["sources"]
+        made = f"SafeSource::new(alloc, {literal(source['text'])}, LineEnds::{case['safe']})?"
+        return made + f".with_name({literal(source['id'])})?"
     if "source" in case:
         source = f"Source::from(alloc, {literal(case['source'])})?"
         offset = case.get("line_offset")
@@ -29,10 +34,14 @@ def span_of(case, it, at):
     """The span of a report or a label, with the id of its source where sources have ids."""
     if "source" in case:
         return at
+    if "safe" in case:
+        return f"(0, {at})"
     return f"({literal(it.get('id', case['sources'][0]['id']))}, {at})"
 
 
 def kind_of(case):
+    if "safe" in case:
+        return f"SafeKind::{case.get('kind', 'Error').lower()}()"
     if "kind_color" in case:
         return f"ReportKind::Custom({literal(case['kind'])}, Color::{case['kind_color']})"
     return f"ReportKind::{case.get('kind', 'Error')}"
@@ -68,6 +77,8 @@ def call_of(case):
     calls += [f".with_help({literal(it)})?" for it in case.get("helps", [])]
     calls += [f".with_note({literal(it)})?" for it in case.get("notes", [])]
     head = f"Report::build(alloc, {kind_of(case)}, {place}).with_config({config})"
+    if "safe" in case:
+        head = f"SafeBuilder::new(alloc, &sources, {kind_of(case)}, {place}, {config})"
     return over_of(case), [head, *calls]
 
 

@@ -105,5 +105,6 @@ def case_of(name, report):
         notes=report.get("notes"),
         settings=report["config"],
         takes=report.get("takes"),
+        safe=report.get("safe"),
     )
     return text_of_case(members)

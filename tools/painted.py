@@ -4,6 +4,8 @@ as a terminal shows them on a dark ground."""
 import re
 
 TEXT, PAPER = "#d4d4d4", "#1e1e1e"
+# What sets a colour, or takes it back; else a piece of text.
+COLOR_OR_TEXT = re.compile(r"\x1b\[(0|[39][0-7]|38;5;[0-9]+)m|([^\x1b]+|\x1b)")
 # The first eight colours of a terminal, and the same bright.
 NAMED = ["#000000", "#cd3131", "#0dbc79", "#e5e510", "#2472c8", "#bc3fbc", "#11a8cd", "#e5e5e5"]
 BRIGHT = ["#666666", "#f14c4c", "#23d18b", "#f5f543", "#3b8eea", "#d670d6", "#29b8db", "#ffffff"]
@@ -31,11 +33,13 @@ def color_of(words):
 
 
 def runs_of(picture):
-    """The rows of a picture, each as runs of a colour and a text."""
+    """The rows of a picture, each as runs of a colour and a text. An escape that is no colour's stands as
+    it is written."""
     color = TEXT
     for row in picture.removesuffix("\n").split("\n"):
         runs = []
-        for words, text in re.findall(r"\x1b\[([0-9;]+)m|([^\x1b]+)", row):
+        for words, text in COLOR_OR_TEXT.findall(row):
+            text = text.replace("\x1b", r"\x1b")
             if words:
                 color = color_of([int(word) for word in words.split(";")])
             elif runs and runs[-1][0] == color:

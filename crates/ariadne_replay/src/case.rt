@@ -5,7 +5,7 @@ use crate::mistake::{Mistake, Read};
 use toml::{Table, Value};
 
 /// The members of a case.
-const MEMBERS: [&str; 26] = [
+const MEMBERS: [&str; 27] = [
     "name",
     "kind",
     "kind_color",
@@ -27,6 +27,7 @@ const MEMBERS: [&str; 26] = [
     "settings",
     "builder",
     "call",
+    "safe",
     "takes",
     "worked",
     "left_out",

@@ -22,6 +22,7 @@ mod offsets;
 mod pieces;
 mod replaying;
 mod running;
+mod safely;
 mod seen;
 mod sending;
 mod stored;

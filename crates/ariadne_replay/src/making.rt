@@ -46,7 +46,7 @@ fn kind_words(case: &Table) -> Read<'_, (&str, Option<Color>)> {
 }
 
 /// The kind of these words.
-fn kind_of<'c>(name: &'c str, color: Option<Color>) -> ReportKind<'c> {
+pub fn kind_of<'c>(name: &'c str, color: Option<Color>) -> ReportKind<'c> {
     match (name, color) {
         (_, Some(color)) => ReportKind::Custom(name, color),
         ("Warning", _) => ReportKind::Warning,
@@ -96,7 +96,7 @@ fn tab_width_of(settings: &Table) -> Read<'_, usize>
 
 /// The settings of a report.
 #[derive(Clone, Copy)]
-struct Settings {
+pub struct Settings {
     cross_gap: bool,
     label_attach: LabelAttach,
     compact: bool,
@@ -141,7 +141,7 @@ fn settings_of(case: &Table) -> Read<'_, Settings> {
 }
 
 /// The configuration of these settings.
-fn config_of(settings: Settings) -> Config {
+pub fn config_of(settings: Settings) -> Config {
     Config::new()
         .with_cross_gap(settings.cross_gap)
         .with_label_attach(settings.label_attach)
@@ -169,7 +169,11 @@ fn dressed<'c, S: Placed>(alloc: Global, label: Label<S>, told: &'c Table) -> Re
 }
 
 /// A label of a case.
-fn label_of<'c, S: Placed>(alloc: Global, case: &'c Table, told: &'c Table) -> Read<'c, Label<S>> {
+pub fn label_of<'c, S: Placed>(
+    alloc: Global,
+    case: &'c Table,
+    told: &'c Table,
+) -> Read<'c, Label<S>> {
     has_only(told, &LABEL)?;
     let offsets = offsets_of(text(told, "at")?)?;
     let span = S::placed(alloc, id_of(case, told)?, offsets)?;
@@ -223,14 +227,14 @@ fn way_of(case: &Table) -> Read<'_, Way> {
 /// What a case tells of its report beside its place and its labels.
 #[derive(Drop)]
 pub struct Told<'c> {
-    kind: (&'c str, Option<Color>),
-    settings: Settings,
+    pub kind: (&'c str, Option<Color>),
+    pub settings: Settings,
     number: Option<u64>,
-    code: Option<&'c str>,
-    message: Option<&'c str>,
+    pub code: Option<&'c str>,
+    pub message: Option<&'c str>,
     way: Way,
-    helps: Vec<&'c str>,
-    notes: Vec<&'c str>,
+    pub helps: Vec<&'c str>,
+    pub notes: Vec<&'c str>,
     painted: Vec<(&'c str, Color)>,
 }
 

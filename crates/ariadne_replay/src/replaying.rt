@@ -7,6 +7,7 @@ use crate::making::{counted, labels_of, own_span, report, told_of};
 use crate::members::{list, table_of, text, text_if_any};
 use crate::mistake::{Mistake, Read};
 use crate::offsets::Placed;
+use crate::safely::answer_safely;
 use crate::sending::{Answer, Call, call_of, sent};
 use ariadne::{FileCache, FnCache, Report, Source, Span, sources};
 use std::alloc::Global;
@@ -38,6 +39,9 @@ fn is_inclusive(case: &Table) -> Read<'_, bool> {
 /// The answer of a case's report.
 pub fn answer_of<'c, R: AllocGlobal + Files>(rt: &R, case: &'c Table) -> Read<'c, Answer> {
     has_known_members(case)?;
+    if let Some(word) = text_if_any(case, "safe")? {
+        return answer_safely(rt.alloc(), case, word);
+    }
     let call = call_of(case)?;
     match (case.contains_key("source"), is_inclusive(case)?) {
         (true, false) => plain::<Range<usize>>(rt.alloc(), call, case),

@@ -150,7 +150,7 @@ pub fn sent<S: Span, C: Cache<S::SourceId>>(
 }
 
 /// The answer, of the bytes that were sent and of what the call told.
-fn answer_to<E: Drop>(
+pub fn answer_to<E: Drop>(
     alloc: Global,
     bytes: Vec<u8>,
     told: Result<Vec<LeftOut<E>>, WriteError>,

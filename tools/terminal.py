@@ -1,0 +1,187 @@
+"""A small terminal: what a reader sees of some bytes, and what else they did.
+
+It obeys what terminals in use obey, as far as a picture could misuse it: moves of the cursor, erasing,
+scrolling back, hidden text, titles, clipboards and links, strings that swallow what follows, backspaces,
+tabs and carriage returns, the controls of the second page, and marks that turn the direction of a text.
+A line feed begins the next row, as on a terminal in its usual mode. Columns aren't told apart by width.
+"""
+
+import re
+from dataclasses import dataclass, field
+
+# ESC [ with its parameters, or what begins a string that lasts to BEL, ESC \ or U+009C.
+SEQUENCE = re.compile(r"(?:\x1b\[|\x9b)([0-?]*)[ -/]*([@-~])")
+STRING = re.compile(r"(?:\x1b[\]PX^_]|[\x90\x98\x9d-\x9f])(.*?)(?:\x07|\x1b\\|\x9c|\Z)", re.DOTALL)
+DIRECTION_MARKS = "\u061c\u200e\u200f\u202a\u202b\u202c\u202d\u202e\u2066\u2067\u2068\u2069"
+UNSEEN = (
+    "\u200b\u200c\u200d\u2028\u2029\u2060\u2061\u2062\u2063\u2064\u2065"
+    "\u206a\u206b\u206c\u206d\u206e\u206f\ufeff\U000e0001\U000e0041"
+)
+TITLES, LINK, CLIPBOARD = ("0", "1", "2"), "8", "52"
+
+
+@dataclass
+class Screen:
+    """The rows of a terminal, from the top, and what was done beside showing text."""
+
+    rows: list = field(default_factory=lambda: [[]])
+    row: int = 0
+    column: int = 0
+    is_hidden: bool = False
+    misused: list = field(default_factory=list)
+
+    def text(self):
+        """What is seen, row by row, without the blanks at the ends of rows."""
+        return ["".join(row).rstrip(" ") for row in self.rows]
+
+    def put(self, character):
+        """Shows a character where the cursor is, in place of what stands there."""
+        row = self.rows[self.row]
+        row.extend(" " * (self.column + 1 - len(row)))
+        row[self.column] = " " if self.is_hidden else character
+        self.column += 1
+
+    def move(self, row, column):
+        """Moves the cursor, and makes the rows above it."""
+        self.row, self.column = max(row, 0), max(column, 0)
+        while len(self.rows) <= self.row:
+            self.rows.append([])
+
+    def erase(self, way):
+        """Erases from the cursor on, up to it, or all."""
+        self.erase_row(way)
+        if way == 0:
+            del self.rows[self.row + 1 :]
+            return
+        end = self.row if way == 1 else len(self.rows)
+        self.rows[:end] = [[] for _ in self.rows[:end]]
+
+    def erase_row(self, way):
+        """Erases the row of the cursor: from there on, up to there, or all of it."""
+        row = self.rows[self.row]
+        if way == 0:
+            del row[self.column :]
+        else:
+            end = self.column + 1 if way == 1 else len(row)
+            row[:end] = " " * len(row[:end])
+
+    def obey(self, parameters, final):
+        """Obeys a sequence."""
+        numbers = [int(number) if number.isdigit() else 0 for number in parameters.split(";")]
+        first, count = numbers[0], max(numbers[0], 1)
+        if final == "m":
+            self.paint(numbers)
+            return
+        self.misused.append(f"sequence {final}")
+        moves = {"A": (-count, 0), "B": (count, 0), "C": (0, count), "D": (0, -count)}
+        if final in moves:
+            self.move(self.row + moves[final][0], self.column + moves[final][1])
+        elif final in "EF":
+            self.move(self.row + (count if final == "E" else -count), 0)
+        elif final in "Gd":
+            self.move(*((self.row, count - 1) if final == "G" else (count - 1, self.column)))
+        elif final in "Hf":
+            self.move(count - 1, max(numbers[1] if len(numbers) > 1 else 1, 1) - 1)
+        elif final == "J":
+            self.erase(first)
+        elif final == "K":
+            self.erase_row(first)
+        elif final in "LM":
+            place = slice(self.row, self.row + (count if final == "M" else 0))
+            self.rows[place] = [] if final == "M" else [[] for _ in range(count)]
+            self.move(self.row, 0)
+        elif final in "PX":
+            row, end = self.rows[self.row], self.column + count
+            row[self.column : end] = "" if final == "P" else " " * len(row[self.column : end])
+
+    def reset(self):
+        """Begins anew, on an empty screen."""
+        self.rows, self.row, self.column, self.is_hidden = [[]], 0, 0, False
+
+    def paint(self, numbers):
+        """Obeys the numbers of a colour. Of all that they may ask for, hidden text alone is a misuse."""
+        left = list(numbers)
+        while left:
+            number = left.pop(0)
+            if number in (38, 48):  # (5 and one number follow, or 2 and three)
+                del left[: 2 if left[:1] == [5] else 4]
+            elif number in (0, 28):
+                self.is_hidden = False
+            elif number == 8:
+                self.is_hidden = True
+                self.misused.append("hidden text")
+
+    def obey_string(self, text):
+        """Obeys a string that is not shown."""
+        number = text.split(";")[0]
+        names = {**dict.fromkeys(TITLES, "title"), LINK: "link", CLIPBOARD: "clipboard"}
+        self.misused.append(names.get(number, "string"))
+
+    def control(self, character):
+        """Obeys a control of one character."""
+        if character == "\n":
+            self.move(self.row + 1, 0)
+            return
+        self.misused.append(f"control {ord(character):#04x}")
+        if character in "\v\f\x84":
+            self.move(self.row + 1, self.column)
+        elif character == "\x85":
+            self.move(self.row + 1, 0)
+        elif character == "\x8d":
+            self.move(self.row - 1, self.column)
+        elif character == "\r":
+            self.move(self.row, 0)
+        elif character == "\b":
+            self.move(self.row, self.column - 1)
+        elif character == "\t":
+            self.move(self.row, self.column // 8 * 8 + 8)
+
+
+def shown(text):
+    """The screen after a text was sent to it."""
+    screen, at = Screen(), 0
+    while at < len(text):
+        sequence, string = SEQUENCE.match(text, at), STRING.match(text, at)
+        if sequence or string:
+            if sequence:
+                screen.obey(sequence[1], sequence[2])
+            else:
+                screen.obey_string(string[1])
+            at = (sequence or string).end()
+            continue
+        character = text[at]
+        at += 1
+        if character == "\x1b":
+            obey_short(screen, text[at : at + 1])
+            at += 1
+        elif ord(character) < 32 or 0x7F <= ord(character) < 0xA0:
+            screen.control(character)
+        elif character in DIRECTION_MARKS:
+            screen.misused.append(f"mark {ord(character):#06x}")
+        elif character in UNSEEN:
+            screen.misused.append(f"unseen {ord(character):#06x}")
+        else:
+            screen.put(character)
+    return screen
+
+
+def obey_short(screen, letter):
+    """Obeys ESC and a letter: a reset, or a move by a row."""
+    screen.misused.append(f"escape {letter}")
+    if letter == "c":
+        screen.reset()
+    elif letter in ("D", "E", "M"):
+        screen.move(screen.row + (-1 if letter == "M" else 1), 0 if letter == "E" else screen.column)
+
+
+COLORS = re.compile("\x1b\\[[0-9;]*m")
+
+
+def faults_of(picture):
+    """What is wrong with a picture on a terminal: what it did beside showing text, and the first row that
+    is not seen as it is sent. A picture that hides nothing has none."""
+    screen = shown(picture)
+    rows = [row.rstrip(" ") for row in COLORS.sub("", picture).split("\n")]
+    seen = screen.text()
+    different = [(number, row) for number, row in enumerate(rows) if seen[number : number + 1] != [row]]
+    return screen.misused + [f"row {number + 1} is not seen: {row!r}" for number, row in different[:1]]
