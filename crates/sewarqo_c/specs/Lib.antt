@@ -1,0 +1,6 @@
+pub mod Colors
+pub mod Given
+pub mod Asked
+pub mod Faults
+pub mod Shown
+pub mod Ending
