@@ -1,0 +1,175 @@
+/* Compiler diagnostics, drawn over their sources by one call.
+
+   The call keeps no state. Any number of threads may call it at once, over memory that none of them
+   writes meanwhile. It may not be called from a signal handler. Each pointer that a struct or the
+   call is handed is the caller's before, during and after it: the library keeps none.
+
+   Texts are drawn as they are: an escape character in one reaches the terminal.
+
+   A pointer may be null where its length is 0. With a length it must point to so many values, and
+   `len` and `count` must point to one. What the call writes overlaps nothing else that it is given. */
+#ifndef SEWARQO_H
+#define SEWARQO_H
+
+#include <stddef.h>
+#include <stdint.h>
+#include <string.h>
+
+#ifdef __cplusplus
+extern "C" {
+#endif
+
+/* A text in UTF-8. It has no zero at its end, and may have some within. */
+typedef struct {
+    const uint8_t *bytes;
+    size_t len; /* in bytes */
+} sewarqo_text;
+
+/* A text, or none. `text` counts only where `is_given` is not 0, so a struct of zeros is none. */
+typedef struct {
+    sewarqo_text text;
+    uint32_t is_given;
+} sewarqo_optional;
+
+/* A source. Sources have numbers, from 0, in the order in which the call is handed them. */
+typedef struct {
+    sewarqo_optional name; /* shown in front of its lines; none is shown as <unknown> */
+    sewarqo_text text;
+    size_t line_offset; /* in lines: added to each line's number. An excerpt has the number of lines
+                           above it here */
+} sewarqo_source;
+
+/* A colour is SEWARQO_NO_COLOR, or one with a name, or one of the palette of 256, or red, green and
+   blue of 0 to 255. */
+enum {
+    SEWARQO_NO_COLOR = 0,
+    SEWARQO_PRIMARY = 1, /* the terminal's own */
+    SEWARQO_BLACK = 2, SEWARQO_RED = 3, SEWARQO_GREEN = 4, SEWARQO_YELLOW = 5,
+    SEWARQO_BLUE = 6, SEWARQO_MAGENTA = 7, SEWARQO_CYAN = 8, SEWARQO_WHITE = 9,
+    SEWARQO_BRIGHT_BLACK = 10, SEWARQO_BRIGHT_RED = 11, SEWARQO_BRIGHT_GREEN = 12,
+    SEWARQO_BRIGHT_YELLOW = 13, SEWARQO_BRIGHT_BLUE = 14, SEWARQO_BRIGHT_MAGENTA = 15,
+    SEWARQO_BRIGHT_CYAN = 16, SEWARQO_BRIGHT_WHITE = 17
+};
+#define SEWARQO_FIXED(number) (256u + (uint8_t)(number))
+#define SEWARQO_RGB(red, green, blue) \
+    (1u << 24 | (uint32_t)(uint8_t)(red) << 16 | (uint32_t)(uint8_t)(green) << 8 | (uint8_t)(blue))
+
+/* A label: a piece of a source, and what is said of it. */
+typedef struct {
+    size_t source;            /* the number of its source */
+    size_t start, end;        /* offsets into that source's text from 0, the end exclusive: in
+                                 characters, or in bytes under SEWARQO_BYTE_OFFSETS. One past the text
+                                 counts as its end */
+    sewarqo_optional message; /* a label without one is only marked */
+    uint32_t color;           /* SEWARQO_NO_COLOR for none of its own */
+    int32_t order;            /* labels of lower order are drawn first */
+    int32_t priority;         /* where labels overlap, the higher one is seen */
+} sewarqo_label;
+
+/* What a report is. */
+enum { SEWARQO_ERROR = 0, SEWARQO_WARNING = 1, SEWARQO_ADVICE = 2, SEWARQO_CUSTOM = 3 };
+
+/* Flags, which may be joined by |. */
+enum {
+    SEWARQO_PLAIN = 1,               /* no colours */
+    SEWARQO_ASCII = 2,               /* strokes of ASCII */
+    SEWARQO_COMPACT = 4,             /* no rows between */
+    SEWARQO_BYTE_OFFSETS = 8,        /* offsets count bytes, not characters */
+    SEWARQO_NO_UNDERLINES = 16,
+    SEWARQO_NO_MULTILINE_ARROWS = 32,
+    SEWARQO_NO_CROSS_GAP = 64        /* a crossing where strokes cross, and no gap */
+};
+
+/* Where the stroke of a label within a line is attached. */
+enum { SEWARQO_ATTACH_MIDDLE = 0, SEWARQO_ATTACH_START = 1, SEWARQO_ATTACH_END = 2 };
+
+/* A report. One of zeros is an error that says nothing, with the usual settings. */
+typedef struct {
+    uint32_t kind;           /* SEWARQO_ERROR .. SEWARQO_CUSTOM */
+    uint32_t kind_color;     /* of a custom kind: not SEWARQO_NO_COLOR. Others don't read it */
+    sewarqo_text kind_name;  /* of a custom kind. Others don't read it */
+    sewarqo_optional code;   /* stands in brackets in front of the kind, filled by blanks to two
+                                characters */
+    sewarqo_text message;
+    size_t source, start;    /* the place that the header names: the number of a source, and an offset
+                                as those of labels. Where no label is drawn over that source, the
+                                header names the place of a label */
+    const sewarqo_label *labels;
+    size_t labels_len;
+    const sewarqo_text *helps;
+    size_t helps_len;
+    const sewarqo_text *notes;
+    size_t notes_len;
+    uint32_t flags;          /* SEWARQO_PLAIN .. */
+    uint32_t attach;         /* SEWARQO_ATTACH_MIDDLE .. */
+    size_t tab_width;        /* in columns; 0 is the usual 4 */
+} sewarqo_report;
+
+/* A label that is not in the picture. */
+typedef struct {
+    size_t label;    /* its number in the report, from 0 */
+    uint32_t reason; /* SEWARQO_PAST_SOURCE or SEWARQO_CUTS_CHARACTER */
+} sewarqo_left_out;
+
+enum {
+    SEWARQO_PAST_SOURCE = 1,   /* it begins past its source, or ends more than one past it */
+    SEWARQO_CUTS_CHARACTER = 2 /* in bytes: one of its ends is inside a character */
+};
+
+/* What sewarqo_draw returns. */
+enum {
+    SEWARQO_DRAWN = 0,          /* the picture has all labels */
+    SEWARQO_LEFT_OUT = 1,       /* the picture is there, without `*count` of the labels */
+    SEWARQO_TOO_SHORT = 2,      /* the picture takes `*len` bytes, and `out` has less */
+    SEWARQO_NO_MEMORY = 3,
+    /* What follows tells the first thing that is wrong, in the order in which it stands here; of
+       labels, texts and sources the one with the lowest number, which is `*count`. */
+    SEWARQO_BAD_KIND = 4,
+    SEWARQO_BAD_KIND_COLOR = 5,
+    SEWARQO_BAD_KIND_NAME = 6,   /* not UTF-8 */
+    SEWARQO_BAD_FLAGS = 7,
+    SEWARQO_BAD_ATTACH = 8,
+    SEWARQO_BAD_CODE = 9,        /* not UTF-8 */
+    SEWARQO_BAD_MESSAGE = 10,    /* not UTF-8 */
+    SEWARQO_LABEL_SOURCE = 11,   /* the label `*count` names a source that was not given */
+    SEWARQO_LABEL_BACKWARDS = 12,/* it ends before it starts */
+    SEWARQO_LABEL_COLOR = 13,    /* its colour is none */
+    SEWARQO_LABEL_MESSAGE = 14,  /* its message is not UTF-8 */
+    SEWARQO_BAD_HELP = 15,       /* the help `*count` is not UTF-8 */
+    SEWARQO_BAD_NOTE = 16,       /* the note `*count` is not UTF-8 */
+    SEWARQO_SOURCE_NAME = 17,    /* the name of the source `*count` is not UTF-8 */
+    SEWARQO_SOURCE_TEXT = 18,    /* its text is not UTF-8 */
+    SEWARQO_SOURCE_LINES = 19    /* its line_offset and the number of its lines exceed SIZE_MAX */
+};
+
+/* Draws a report over its sources.
+ *
+ * After SEWARQO_DRAWN and SEWARQO_LEFT_OUT the first `*len` bytes of `out` are the picture, and those
+ * behind it are as they were. `left` holds the labels that are left out, in their order, as far as it
+ * has room, and `*count` tells how many there are. After any other status `out` and `left` are as they
+ * were. */
+uint32_t sewarqo_draw(const sewarqo_report *report, const sewarqo_source *sources, size_t sources_len,
+                      uint8_t *out, size_t out_len, size_t *len,
+                      sewarqo_left_out *left, size_t left_len, size_t *count);
+
+/* The text of a string that ends in a zero; a null pointer is the empty text. */
+static inline sewarqo_text sewarqo_str(const char *string) {
+    sewarqo_text text;
+    text.bytes = (const uint8_t *)(string ? string : "");
+    text.len = string ? strlen(string) : 0;
+    return text;
+}
+
+/* The same, where a null pointer is none. */
+static inline sewarqo_optional sewarqo_some(const char *string) {
+    sewarqo_optional optional;
+    optional.text = sewarqo_str(string);
+    optional.is_given = string != 0;
+    return optional;
+}
+
+#ifdef __cplusplus
+}
+#endif
+
+#endif

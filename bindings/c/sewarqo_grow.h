@@ -1,0 +1,61 @@
+/* A picture in memory that grows as far as it takes: sewarqo_draw over malloc's heap. */
+#ifndef SEWARQO_GROW_H
+#define SEWARQO_GROW_H
+
+#include "sewarqo.h"
+#include <stdlib.h>
+
+#ifdef __cplusplus
+extern "C" {
+#endif
+
+/* A picture. One of zeros is empty, and may be drawn into as often as one likes. */
+typedef struct {
+    char *bytes; /* `len` bytes, and a zero behind them; null where nothing was drawn */
+    size_t len;  /* in bytes */
+    size_t room; /* in bytes, with the zero's */
+} sewarqo_picture;
+
+/* Draws as sewarqo_draw does, in room that grows. It never returns SEWARQO_TOO_SHORT. After a refusal
+   `picture` is empty, and keeps its room. */
+static inline uint32_t sewarqo_draw_grown(const sewarqo_report *report, const sewarqo_source *sources,
+                                          size_t sources_len, sewarqo_picture *picture,
+                                          sewarqo_left_out *left, size_t left_len, size_t *count) {
+    size_t needed = 4095; /* enough for most pictures */
+    uint32_t status;
+    do {
+        if (picture->room <= needed) {
+            char *bytes = (char *)realloc(picture->bytes, needed + 1);
+            if (bytes == NULL) {
+                picture->len = 0;
+                *count = 0;
+                if (picture->room > 0)
+                    picture->bytes[0] = 0;
+                return SEWARQO_NO_MEMORY;
+            }
+            picture->bytes = bytes;
+            picture->room = needed + 1;
+        }
+        status = sewarqo_draw(report, sources, sources_len, (uint8_t *)picture->bytes, picture->room - 1,
+                              &picture->len, left, left_len, count);
+        needed = picture->len;
+    } while (status == SEWARQO_TOO_SHORT);
+    if (status > SEWARQO_LEFT_OUT)
+        picture->len = 0;
+    picture->bytes[picture->len] = 0;
+    return status;
+}
+
+/* Frees the picture's memory, and leaves it empty. */
+static inline void sewarqo_picture_free(sewarqo_picture *picture) {
+    free(picture->bytes);
+    picture->bytes = NULL;
+    picture->len = 0;
+    picture->room = 0;
+}
+
+#ifdef __cplusplus
+}
+#endif
+
+#endif

@@ -1,0 +1,252 @@
+/* Has sewarqo_draw return each of its statuses, and looks at what it leaves. The heap is this file's, and
+   refuses one request after another. The last line is 'N calls, M faults', and the status 1 where M > 0. */
+#include "sewarqo.h"
+#include <stdbool.h>
+#include <stdio.h>
+#include <stdlib.h>
+
+/* ---- a heap that refuses a request */
+
+struct block { bool is_there; void *bytes; };
+
+static char nowhere[16];
+static size_t asked, refused = SIZE_MAX, held; /* requests so far, the one to refuse, blocks in use */
+
+void rattle_dealloc(void *bytes) { held--; free(bytes); }
+
+struct block rattle_alloc(size_t size, size_t align) {
+    if (asked++ == refused)
+        return (struct block){false, nowhere};
+    held++;
+    return (struct block){true, malloc(size ? size : align)};
+}
+
+struct block rattle_realloc(void *bytes, size_t kept, size_t size, size_t align) {
+    (void)kept;
+    if (asked++ == refused)
+        return (struct block){false, nowhere};
+    return (struct block){true, realloc(bytes, size ? size : align)};
+}
+
+/* ---- one call, with all that it is handed */
+
+enum { ROOM = 8192, LABELS = 3 };
+
+static struct {
+    sewarqo_report report;
+    sewarqo_source sources[2];
+    sewarqo_label labels[LABELS];
+    sewarqo_text helps[2], notes[2];
+    size_t sources_len, room, left_room;
+    /* what it left */
+    uint8_t out[ROOM];
+    sewarqo_left_out left[LABELS];
+    size_t len, count;
+    uint32_t status;
+} call;
+
+static const uint8_t NOT_TEXT[] = {'a', 0xff};
+static size_t calls, faults;
+
+/* A call that draws three labels over two sources, of which none is left out. */
+static void prepare(void) {
+    memset(&call, 0, sizeof call);
+    call.sources[0] = (sewarqo_source){sewarqo_some("a"), sewarqo_str("apple == orange;\n"), 0};
+    call.sources[1] = (sewarqo_source){sewarqo_some("b"), sewarqo_str("d\xc3\xa9j\xc3\xa0\n"), 7};
+    call.labels[0] = (sewarqo_label){.start = 0, .end = 5, .message = sewarqo_some("one")};
+    call.labels[1] = (sewarqo_label){.start = 9, .end = 15, .message = sewarqo_some("two"), .color = SEWARQO_RED};
+    call.labels[2] = (sewarqo_label){.source = 1, .start = 1, .end = 3, .message = sewarqo_some("three")};
+    for (int at = 0; at < 2; at++)
+        call.helps[at] = call.notes[at] = sewarqo_str("text");
+    call.report = (sewarqo_report){
+        .message = sewarqo_str("m"), .code = sewarqo_some("E1"), .labels = call.labels, .labels_len = LABELS,
+        .helps = call.helps, .helps_len = 2, .notes = call.notes, .notes_len = 2,
+        .flags = SEWARQO_PLAIN | SEWARQO_ASCII,
+    };
+    call.sources_len = 2;
+    call.room = ROOM;
+    call.left_room = LABELS;
+}
+
+static void fault(const char *what, const char *why) {
+    faults++;
+    printf("%s: %s (status %u, len %zu, count %zu)\n", what, why, call.status, call.len, call.count);
+}
+
+/* Makes the call, and looks at its buffers: behind the picture, or where there is none, they are as they
+   were, and no memory is kept. */
+static void make(const char *what, uint32_t status) {
+    calls++;
+    asked = 0;
+    memset(call.out, '#', ROOM);
+    memset(call.left, 0x5a, sizeof call.left);
+    call.status = sewarqo_draw(&call.report, call.sources, call.sources_len, call.out, call.room, &call.len,
+                               call.left, call.left_room, &call.count);
+    bool is_drawn = call.status <= SEWARQO_LEFT_OUT;
+    if (call.status != status)
+        fault(what, "another status");
+    for (size_t at = is_drawn ? call.len : 0; at < ROOM; at++)
+        if (call.out[at] != '#') {
+            fault(what, "the buffer has changed");
+            break;
+        }
+    size_t told = !is_drawn ? 0 : call.count < call.left_room ? call.count : call.left_room;
+    const uint8_t *left = (const uint8_t *)call.left;
+    for (size_t at = told * sizeof call.left[0]; at < sizeof call.left; at++)
+        if (left[at] != 0x5a) {
+            fault(what, "the list has changed");
+            break;
+        }
+    if (held != 0)
+        fault(what, "memory is kept");
+}
+
+/* Makes a call that is refused, with the number of what is at fault. */
+static void refuse(const char *what, uint32_t status, size_t number) {
+    make(what, status);
+    if (call.count != number)
+        fault(what, "another number");
+    prepare();
+}
+
+static const sewarqo_text BAD = {NOT_TEXT, sizeof NOT_TEXT};
+static const sewarqo_optional BAD_OPTIONAL = {{NOT_TEXT, sizeof NOT_TEXT}, 1};
+
+static void refusals(void) {
+    call.report.kind = 4;
+    refuse("no kind", SEWARQO_BAD_KIND, 0);
+    call.report.kind = SEWARQO_CUSTOM;
+    refuse("a kind without colour", SEWARQO_BAD_KIND_COLOR, 0);
+    call.report.kind = SEWARQO_CUSTOM;
+    call.report.kind_color = SEWARQO_BLUE;
+    call.report.kind_name = BAD;
+    refuse("the name of a kind", SEWARQO_BAD_KIND_NAME, 0);
+    call.report.flags = 128;
+    refuse("no flag", SEWARQO_BAD_FLAGS, 0);
+    call.report.attach = 3;
+    refuse("attached nowhere", SEWARQO_BAD_ATTACH, 0);
+    call.report.code = BAD_OPTIONAL;
+    refuse("the code", SEWARQO_BAD_CODE, 0);
+    call.report.message = BAD;
+    refuse("the message", SEWARQO_BAD_MESSAGE, 0);
+    call.labels[2].source = 2;
+    refuse("a label in no source", SEWARQO_LABEL_SOURCE, 2);
+    call.labels[1].end = 8;
+    refuse("a label backwards", SEWARQO_LABEL_BACKWARDS, 1);
+    call.labels[1].color = 18;
+    refuse("a label in no colour", SEWARQO_LABEL_COLOR, 1);
+    call.labels[0].message = BAD_OPTIONAL;
+    refuse("the message of a label", SEWARQO_LABEL_MESSAGE, 0);
+    call.helps[1] = BAD;
+    refuse("a help", SEWARQO_BAD_HELP, 1);
+    call.notes[1] = BAD;
+    refuse("a note", SEWARQO_BAD_NOTE, 1);
+    call.sources[1].name = BAD_OPTIONAL;
+    refuse("the name of a source", SEWARQO_SOURCE_NAME, 1);
+    call.sources[1].text = BAD;
+    refuse("the text of a source", SEWARQO_SOURCE_TEXT, 1);
+    call.sources[1].line_offset = SIZE_MAX;
+    refuse("the lines of a source", SEWARQO_SOURCE_LINES, 1);
+    call.labels[2].source = 2;
+    call.sources[0].text = BAD;
+    refuse("a label and then a source", SEWARQO_LABEL_SOURCE, 2);
+}
+
+/* What is near a refusal, and isn't one. */
+static void edges(void) {
+    call.sources[1].line_offset = SIZE_MAX - 1;
+    make("the greatest line number", SEWARQO_DRAWN);
+    prepare();
+    call.report.kind_name = BAD;
+    call.report.code = (sewarqo_optional){BAD, 0};
+    call.report.source = SIZE_MAX;
+    make("texts that don't count", SEWARQO_DRAWN);
+    prepare();
+    call.report = (sewarqo_report){0};
+    call.sources_len = 0;
+    make("a report of zeros", SEWARQO_DRAWN);
+    prepare();
+    call.report.tab_width = SIZE_MAX;
+    make("the widest tab", SEWARQO_DRAWN);
+    prepare();
+    call.report.labels = NULL;
+    call.report.helps = call.report.notes = NULL;
+    call.report.labels_len = call.report.helps_len = call.report.notes_len = 0;
+    call.report.message = (sewarqo_text){NULL, 0};
+    call.sources[0] = (sewarqo_source){0};
+    make("null pointers", SEWARQO_DRAWN);
+    prepare();
+    call.report.labels_len = 1;
+    call.labels[0] = (sewarqo_label){.message = {{NULL, 0}, 1}};
+    call.sources[0] = (sewarqo_source){{{NULL, 0}, 1}, {NULL, 0}, 0};
+    make("null pointers that are drawn", SEWARQO_DRAWN);
+    prepare();
+}
+
+static void left_out(void) {
+    call.report.flags |= SEWARQO_BYTE_OFFSETS;
+    call.labels[0].end = 99;
+    call.labels[2].start = 2;
+    for (call.left_room = 0; call.left_room <= LABELS; call.left_room++) {
+        make("labels left out", SEWARQO_LEFT_OUT);
+        if (call.count != 2)
+            fault("labels left out", "another count");
+        if (call.left_room > 0 && (call.left[0].label != 0 || call.left[0].reason != SEWARQO_PAST_SOURCE))
+            fault("labels left out", "another first one");
+        if (call.left_room > 1 && (call.left[1].label != 2 || call.left[1].reason != SEWARQO_CUTS_CHARACTER))
+            fault("labels left out", "another second one");
+    }
+    prepare();
+}
+
+static void rooms(void) {
+    make("a picture", SEWARQO_DRAWN);
+    size_t len = call.len;
+    call.room = len;
+    make("no byte too many", SEWARQO_DRAWN);
+    call.room = len - 1;
+    make("one byte short", SEWARQO_TOO_SHORT);
+    if (call.len != len)
+        fault("one byte short", "another length");
+    call.room = 0;
+    make("no room", SEWARQO_TOO_SHORT);
+    if (call.len != len)
+        fault("no room", "another length");
+    prepare();
+}
+
+/* Each request for memory is refused in turn, until none is. */
+static void memory(void) {
+    for (refused = 0; call.status != SEWARQO_DRAWN || refused == 0; refused++) {
+        make("memory", SEWARQO_NO_MEMORY);
+        if (call.status == SEWARQO_DRAWN && asked <= refused)
+            faults--; /* (none was refused, so it is drawn) */
+    }
+    printf("%zu requests for memory\n", asked);
+    refused = SIZE_MAX;
+    prepare();
+}
+
+static void many_labels(void) {
+    enum { MANY = 10000 };
+    sewarqo_label *labels = malloc(MANY * sizeof *labels);
+    for (size_t at = 0; at < MANY; at++)
+        labels[at] = (sewarqo_label){.start = at % 16, .end = at % 16 + 1, .order = (int32_t)at};
+    call.report.labels = labels;
+    call.report.labels_len = MANY;
+    make("10,000 labels", SEWARQO_DRAWN);
+    free(labels);
+    prepare();
+}
+
+int main(void) {
+    prepare();
+    rooms();
+    refusals();
+    edges();
+    left_out();
+    memory();
+    many_labels();
+    printf("%zu calls, %zu faults\n", calls, faults);
+    return faults != 0;
+}

@@ -1,0 +1,260 @@
+// Compiler diagnostics, drawn over their sources. C++17, over sewarqo.h and libsewarqo.
+//
+//     sewarqo::Report report(sewarqo::Kind::error(), "can't compare apples with oranges");
+//     report.label({0, 0, 5, "This is an apple"}).label({0, 9, 15, "This is an orange"});
+//     std::string picture = report.render({{"apple == orange;", "main.fruit"}});
+//
+// Texts are UTF-8. Offsets count from 0, in characters or (Config::byte_offsets) in bytes, and the end
+// of a label is exclusive. Texts are drawn as they are: an escape character in one reaches the terminal.
+// A report keeps copies of its texts; those of sources are read by the call alone. Any number of threads
+// may draw at once.
+#ifndef SEWARQO_HPP
+#define SEWARQO_HPP
+
+#include "sewarqo.h"
+#include <cstddef>
+#include <cstdint>
+#include <new>
+#include <optional>
+#include <stdexcept>
+#include <string>
+#include <string_view>
+#include <utility>
+#include <vector>
+
+namespace sewarqo {
+
+// A colour, or none: one with a name, as Color(SEWARQO_RED), or one of the palette, or of red, green and
+// blue.
+class Color {
+public:
+    constexpr Color() = default;
+    constexpr explicit Color(std::uint32_t number) : number_(number) {}
+    static constexpr Color fixed(std::uint8_t number) { return Color(SEWARQO_FIXED(number)); }
+    static constexpr Color rgb(std::uint8_t red, std::uint8_t green, std::uint8_t blue) {
+        return Color(SEWARQO_RGB(red, green, blue));
+    }
+    constexpr std::uint32_t number() const { return number_; }
+
+private:
+    std::uint32_t number_ = SEWARQO_NO_COLOR;
+};
+
+// What a report is: one of three, or of a name and a colour of its own.
+class Kind {
+public:
+    static Kind error() { return Kind(SEWARQO_ERROR, {}, Color()); }
+    static Kind warning() { return Kind(SEWARQO_WARNING, {}, Color()); }
+    static Kind advice() { return Kind(SEWARQO_ADVICE, {}, Color()); }
+    static Kind custom(std::string_view name, Color color) {
+        return Kind(SEWARQO_CUSTOM, std::string(name), color);
+    }
+
+private:
+    friend class Report;
+    Kind(std::uint32_t number, std::string name, Color color)
+        : number_(number), name_(std::move(name)), color_(color) {}
+    std::uint32_t number_;
+    std::string name_;
+    Color color_;
+};
+
+// A piece of a source, which is named by its number, and what is said of it. Without a message it is
+// only marked. Labels of lower order are drawn first; where they overlap, the one of higher priority is
+// seen.
+struct Label {
+    std::size_t source;
+    std::size_t start;
+    std::size_t end;
+    std::optional<std::string> message = std::nullopt;
+    Color color = Color();
+    std::int32_t order = 0;
+    std::int32_t priority = 0;
+};
+
+// A source. An excerpt has the number of lines above it as its line_offset.
+struct Source {
+    std::string_view text;
+    std::optional<std::string_view> name = std::nullopt;
+    std::size_t line_offset = 0;
+};
+
+enum class Attach : std::uint32_t {
+    middle = SEWARQO_ATTACH_MIDDLE,
+    start = SEWARQO_ATTACH_START,
+    end = SEWARQO_ATTACH_END
+};
+
+// How a report is drawn.
+struct Config {
+    bool color = true;
+    bool ascii = false;
+    bool compact = false;
+    bool byte_offsets = false;
+    bool underlines = true;
+    bool multiline_arrows = true;
+    bool cross_gap = true;
+    Attach attach = Attach::middle;
+    std::size_t tab_width = 4; // in columns; 0 is 4 too
+};
+
+// A picture, and the labels that are left out of it.
+struct Picture {
+    std::string text;
+    std::vector<sewarqo_left_out> left_out;
+};
+
+// Why there is no picture: a status of sewarqo.h, and the number of the label, the text or the source at
+// fault.
+struct Refusal {
+    std::uint32_t status;
+    std::size_t number;
+};
+
+// The exception of a refusal that is not for want of memory.
+class Error : public std::runtime_error {
+public:
+    explicit Error(Refusal refusal)
+        : std::runtime_error("sewarqo: status " + std::to_string(refusal.status) + " at number "
+                             + std::to_string(refusal.number)),
+          refusal_(refusal) {}
+    Refusal refusal() const noexcept { return refusal_; }
+
+private:
+    Refusal refusal_;
+};
+
+// A picture, or why there is none.
+class Result {
+public:
+    Result(Picture picture) : picture_(std::move(picture)) {}
+    Result(Refusal refusal) : refusal_(refusal) {}
+    bool has_value() const noexcept { return picture_.has_value(); }
+    explicit operator bool() const noexcept { return has_value(); }
+    // The refusal, where there is no picture.
+    Refusal error() const noexcept { return refusal_; }
+    // The picture. Without one it throws an Error, or std::bad_alloc where there was no memory.
+    Picture &value() & { return check(); }
+    Picture &&value() && { return std::move(check()); }
+
+private:
+    Picture &check() {
+        if (!picture_ && refusal_.status == SEWARQO_NO_MEMORY)
+            throw std::bad_alloc();
+        if (!picture_)
+            throw Error(refusal_);
+        return *picture_;
+    }
+    std::optional<Picture> picture_;
+    Refusal refusal_ = {SEWARQO_DRAWN, 0};
+};
+
+// What is said of which pieces of sources.
+class Report {
+public:
+    explicit Report(Kind kind, std::string_view message = {}) : kind_(std::move(kind)), message_(message) {}
+
+    Report &code(std::string_view code) { return code_ = std::string(code), *this; }
+    Report &label(Label label) { return labels_.push_back(std::move(label)), *this; }
+    Report &help(std::string_view help) { return helps_.emplace_back(help), *this; }
+    Report &note(std::string_view note) { return notes_.emplace_back(note), *this; }
+    // The place that the header names. Without it, that is the start of the first label.
+    Report &at(std::size_t source, std::size_t start) { return at_ = std::pair(source, start), *this; }
+
+    // The picture over these sources, or an exception: Error, or std::bad_alloc.
+    std::string render(const std::vector<Source> &sources, const Config &config = {}) const {
+        return draw(sources, config).value().text;
+    }
+
+    // The picture with the labels that are left out of it, or why there is none. Of exceptions it throws
+    // std::bad_alloc alone, where there is no memory for what the call is handed.
+    Result draw(const std::vector<Source> &sources, const Config &config = {}) const {
+        std::vector<sewarqo_source> given;
+        for (const Source &source : sources)
+            given.push_back({optional_of(source.name), text_of(source.text), source.line_offset});
+        std::vector<sewarqo_label> labels;
+        for (const Label &label : labels_)
+            labels.push_back({label.source, label.start, label.end, optional_of(label.message),
+                              label.color.number(), label.order, label.priority});
+        const std::vector<sewarqo_text> helps = texts_of(helps_), notes = texts_of(notes_);
+        const sewarqo_report report = report_of(config, labels, helps, notes);
+        return drawn(report, given, labels.size());
+    }
+
+private:
+    static sewarqo_text text_of(std::string_view text) {
+        return {reinterpret_cast<const std::uint8_t *>(text.empty() ? "" : text.data()), text.size()};
+    }
+
+    template <typename Text> static sewarqo_optional optional_of(const std::optional<Text> &text) {
+        return {text_of(text ? std::string_view(*text) : std::string_view()), text.has_value()};
+    }
+
+    static std::vector<sewarqo_text> texts_of(const std::vector<std::string> &texts) {
+        std::vector<sewarqo_text> given;
+        for (const std::string &text : texts)
+            given.push_back(text_of(text));
+        return given;
+    }
+
+    static std::uint32_t flags_of(const Config &config) {
+        return (config.color ? 0 : SEWARQO_PLAIN) | (config.ascii ? SEWARQO_ASCII : 0)
+               | (config.compact ? SEWARQO_COMPACT : 0) | (config.byte_offsets ? SEWARQO_BYTE_OFFSETS : 0)
+               | (config.underlines ? 0 : SEWARQO_NO_UNDERLINES)
+               | (config.multiline_arrows ? 0 : SEWARQO_NO_MULTILINE_ARROWS)
+               | (config.cross_gap ? 0 : SEWARQO_NO_CROSS_GAP);
+    }
+
+    sewarqo_report report_of(const Config &config, const std::vector<sewarqo_label> &labels,
+                             const std::vector<sewarqo_text> &helps,
+                             const std::vector<sewarqo_text> &notes) const {
+        sewarqo_report report = {};
+        report.kind = kind_.number_;
+        report.kind_color = kind_.color_.number();
+        report.kind_name = text_of(kind_.name_);
+        report.code = optional_of(code_);
+        report.message = text_of(message_);
+        report.source = at_ ? at_->first : labels.empty() ? SIZE_MAX : labels.front().source;
+        report.start = at_ ? at_->second : labels.empty() ? 0 : labels.front().start;
+        report.labels = labels.data();
+        report.labels_len = labels.size();
+        report.helps = helps.data();
+        report.helps_len = helps.size();
+        report.notes = notes.data();
+        report.notes_len = notes.size();
+        report.flags = flags_of(config);
+        report.attach = static_cast<std::uint32_t>(config.attach);
+        report.tab_width = config.tab_width;
+        return report;
+    }
+
+    // Draws, again where the first buffer was too short.
+    static Result drawn(const sewarqo_report &report, const std::vector<sewarqo_source> &sources,
+                        std::size_t labels) {
+        const std::size_t a_label = report.flags & SEWARQO_PLAIN ? 256 : 2048; // (so that few are drawn twice)
+        Picture picture{std::string(4096 + a_label * labels, '\0'), std::vector<sewarqo_left_out>(labels)};
+        std::size_t len = 0, count = 0;
+        std::uint32_t status;
+        while ((status = sewarqo_draw(&report, sources.data(), sources.size(),
+                                      reinterpret_cast<std::uint8_t *>(picture.text.data()),
+                                      picture.text.size(), &len, picture.left_out.data(), labels, &count))
+               == SEWARQO_TOO_SHORT)
+            picture.text.resize(len);
+        if (status > SEWARQO_LEFT_OUT)
+            return Refusal{status, count};
+        picture.text.resize(len);
+        picture.left_out.resize(count);
+        return picture;
+    }
+
+    Kind kind_;
+    std::string message_;
+    std::optional<std::string> code_;
+    std::optional<std::pair<std::size_t, std::size_t>> at_;
+    std::vector<Label> labels_;
+    std::vector<std::string> helps_, notes_;
+};
+
+} // namespace sewarqo
+
+#endif
