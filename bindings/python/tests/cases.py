@@ -1,0 +1,97 @@
+"""Draws stored cases (docs/CASES.md) that need no cache of their own, and compares pictures and lists. The
+cases come as JSON, a list, over standard input. The last line is 'N cases, M differ', and the status 1
+where M > 0.
+"""
+
+import json
+import sys
+
+from sewarqo import Color, Config, Label, Report, Source
+
+LARGEST = 2**64 - 1
+REASONS = {"past its source": "PastSource", "cuts a character": "CutsCharacter"}
+
+
+def number(value):
+    """A number, which is a text where it is a large one."""
+    return int(value)
+
+
+def color_of(words):
+    """A colour by its words in a case, as "Fixed 200" or "BrightBlue"."""
+    if words is None:
+        return None
+    name, *numbers = words.split()
+    if name == "Fixed":
+        return Color.fixed(*map(int, numbers))
+    if name == "Rgb":
+        return Color.rgb(*map(int, numbers))
+    return getattr(Color, name.upper().replace("BRIGHT", "BRIGHT_"))
+
+
+def ends_of(piece):
+    """The ends of a piece, as "0..5" or "0..=4"."""
+    start, _, end = piece.partition("..")
+    return int(start), min(int(end[1:]) + 1, LARGEST) if end.startswith("=") else int(end)
+
+
+class Case:
+    """A case, and how it is drawn."""
+
+    def __init__(self, case):
+        self.case = case
+        self.settings = case.get("settings", {})
+        sources = case.get("sources") or [{"id": None, "text": case["source"], **case}]
+        self.first = sources[0].get("id")
+        self.sources = {it.get("id"): self.source(it) for it in sources}
+
+    def source(self, source):
+        text = source["text"]
+        counts_bytes = self.settings.get("index_type") == "Byte"
+        return Source(text.encode() if counts_bytes else text, number(source.get("line_offset", 0)))
+
+    def label(self, label):
+        start, end = ends_of(label["at"])
+        return Label(
+            label.get("id", self.first), start, end, label.get("message"), color_of(label.get("color")),
+            label.get("order", 0), label.get("priority", 0))
+
+    def report(self):
+        case = self.case
+        kind = case.get("kind", "Error")
+        return Report(
+            kind if "kind_color" in case else kind.lower(),
+            case.get("message", ""),
+            code=case.get("code"),
+            labels=[self.label(it) for it in case.get("labels", [])],
+            helps=case.get("helps", []),
+            notes=case.get("notes", []),
+            at=(case.get("id", self.first), ends_of(case.get("at", "0..0"))[0]),
+            kind_color=color_of(case.get("kind_color")) or Color.PRIMARY,
+        )
+
+    def config(self):
+        settings = self.settings
+        return Config(
+            color=settings.get("color", False),
+            ascii=settings.get("char_set", "Ascii") == "Ascii",
+            compact=settings.get("compact", False),
+            underlines=settings.get("underlines", True),
+            multiline_arrows=settings.get("multiline_arrows", True),
+            cross_gap=settings.get("cross_gap", True),
+            attach=settings.get("label_attach", "Middle").lower(),
+            tab_width=number(settings.get("tab_width", 4)),
+        )
+
+    def is_drawn(self):
+        """Whether the picture and the list are the stored ones."""
+        drawn = self.report().draw(self.sources, self.config())
+        left_out = [[label, REASONS[reason]] for label, reason in drawn.left_out]
+        return drawn.text == self.case["picture"] and left_out == self.case.get("left_out", [])
+
+
+cases = json.load(sys.stdin)
+differing = [case["name"] for case in cases if not Case(case).is_drawn()]
+print(*differing, sep="\n", end="\n" * bool(differing))
+print(f"{len(cases)} cases, {len(differing)} differ")
+raise SystemExit(bool(differing) or not cases)
