@@ -1,0 +1,159 @@
+//! The call of libsewarqo. `sewarqo.h` tells each field, and what the call returns.
+
+use std::marker::PhantomData;
+use std::mem::MaybeUninit;
+use std::slice;
+
+/// Values that the library is lent.
+#[repr(C)]
+#[derive(Clone, Copy)]
+pub(crate) struct Lent<'a, T> {
+    values: *const T,
+    len: usize,
+    lifetime: PhantomData<&'a [T]>,
+}
+
+impl<'a, T> From<&'a [T]> for Lent<'a, T> {
+    fn from(values: &'a [T]) -> Lent<'a, T> {
+        Lent { values: values.as_ptr(), len: values.len(), lifetime: PhantomData }
+    }
+}
+
+/// A text in UTF-8.
+pub(crate) type Text<'a> = Lent<'a, u8>;
+
+impl<'a> From<&'a str> for Text<'a> {
+    fn from(text: &'a str) -> Text<'a> {
+        Text::from(text.as_bytes())
+    }
+}
+
+#[repr(C)]
+#[derive(Clone, Copy)]
+pub(crate) struct OptionalText<'a> {
+    text: Text<'a>,
+    is_given: u32,
+}
+
+impl<'a> From<Option<&'a str>> for OptionalText<'a> {
+    fn from(text: Option<&'a str>) -> OptionalText<'a> {
+        OptionalText { text: Text::from(text.unwrap_or("")), is_given: text.is_some().into() }
+    }
+}
+
+#[repr(C)]
+pub(crate) struct GivenSource<'a> {
+    pub(crate) name: OptionalText<'a>,
+    pub(crate) text: Text<'a>,
+    pub(crate) line_offset: usize,
+}
+
+#[repr(C)]
+pub(crate) struct GivenLabel<'a> {
+    pub(crate) source: usize,
+    pub(crate) start: usize,
+    pub(crate) end: usize,
+    pub(crate) message: OptionalText<'a>,
+    pub(crate) color: u32,
+    pub(crate) order: i32,
+    pub(crate) priority: i32,
+}
+
+#[repr(C)]
+pub(crate) struct GivenReport<'a> {
+    pub(crate) kind: u32,
+    pub(crate) kind_color: u32,
+    pub(crate) kind_name: Text<'a>,
+    pub(crate) code: OptionalText<'a>,
+    pub(crate) message: Text<'a>,
+    pub(crate) source: usize,
+    pub(crate) start: usize,
+    pub(crate) labels: Lent<'a, GivenLabel<'a>>,
+    pub(crate) helps: Lent<'a, Text<'a>>,
+    pub(crate) notes: Lent<'a, Text<'a>>,
+    pub(crate) flags: u32,
+    pub(crate) attach: u32,
+    pub(crate) tab_width: usize,
+}
+
+impl GivenReport<'_> {
+    /// Bytes that most pictures fit, so that few are drawn twice.
+    fn room(&self) -> usize {
+        4096 + 2048 * self.labels.len
+    }
+}
+
+#[repr(C)]
+#[derive(Clone, Copy)]
+struct ToldLeftOut {
+    label: usize,
+    reason: u32,
+}
+
+extern "C" {
+    fn sewarqo_draw(
+        report: *const GivenReport<'_>,
+        sources: *const GivenSource<'_>,
+        sources_len: usize,
+        out: *mut u8,
+        out_len: usize,
+        len: *mut usize,
+        left: *mut ToldLeftOut,
+        left_len: usize,
+        count: *mut usize,
+    ) -> u32;
+}
+
+/// Why there is no picture: the status of a refusal.
+pub(crate) struct Refusal(pub(crate) u32);
+
+/// Want of memory.
+pub(crate) const NO_MEMORY: u32 = 3;
+
+const DRAWN: u32 = 0;
+const LEFT_OUT: u32 = 1;
+const TOO_SHORT: u32 = 2;
+
+/// The picture of a report over its sources.
+pub(crate) fn draw(report: &GivenReport<'_>, sources: &[GivenSource<'_>]) -> Result<Vec<u8>, Refusal> {
+    let mut out = Vec::with_capacity(report.room());
+    let mut len = 0;
+    loop {
+        match draw_into(report, sources, out.spare_capacity_mut(), &mut len) {
+            DRAWN | LEFT_OUT => {
+                // The call has written the first `len` bytes, which the vector has room for.
+                unsafe { out.set_len(len) };
+                return Ok(out);
+            }
+            TOO_SHORT => out.reserve(len),
+            status => return Err(Refusal(status)),
+        }
+    }
+}
+
+/// Draws into a buffer, and returns the status. `len` is how many bytes the picture has.
+fn draw_into(
+    report: &GivenReport<'_>,
+    sources: &[GivenSource<'_>],
+    out: &mut [MaybeUninit<u8>],
+    len: &mut usize,
+) -> u32 {
+    let mut left: [ToldLeftOut; 0] = [];
+    let mut count = 0;
+    // Each pointer comes from a reference or a slice that lives until the call has returned, with the
+    // length of that slice; what the structs lend lives as long (`Lent`). The call writes `out`, `len`,
+    // `left` and `count` alone, which are borrowed for it, reads nothing of `out`, and keeps no pointer.
+    unsafe {
+        sewarqo_draw(
+            report,
+            sources.as_ptr(),
+            sources.len(),
+            out.as_mut_ptr().cast(),
+            out.len(),
+            len,
+            left.as_mut_ptr(),
+            left.len(),
+            slice::from_mut(&mut count).as_mut_ptr(),
+        )
+    }
+}

@@ -1,0 +1,127 @@
+//! How a report is drawn.
+
+/// Where the arrow of a label within a line is attached to it.
+#[derive(Clone, Copy, Debug, PartialEq, Eq)]
+pub enum LabelAttach {
+    /// At its first character.
+    Start,
+    /// In its middle, or as near as can be.
+    Middle,
+    /// At its last character.
+    End,
+}
+
+/// What the strokes are drawn with.
+#[derive(Clone, Copy, Debug, PartialEq, Eq)]
+pub enum CharSet {
+    /// Characters that most terminals have.
+    Unicode,
+    /// Characters of ASCII alone.
+    Ascii,
+}
+
+/// What offsets count.
+#[derive(Clone, Copy, Debug, PartialEq, Eq)]
+pub enum IndexType {
+    /// Bytes.
+    Byte,
+    /// Characters.
+    Char,
+}
+
+/// How a report is drawn.
+#[derive(Clone, Copy, Debug, PartialEq, Eq)]
+pub struct Config {
+    pub(crate) cross_gap: bool,
+    pub(crate) label_attach: LabelAttach,
+    pub(crate) compact: bool,
+    pub(crate) underlines: bool,
+    pub(crate) multiline_arrows: bool,
+    pub(crate) color: bool,
+    pub(crate) tab_width: usize,
+    pub(crate) char_set: CharSet,
+    pub(crate) index_type: IndexType,
+}
+
+impl Config {
+    /// The usual configuration.
+    pub const fn new() -> Config {
+        Config {
+            cross_gap: true,
+            label_attach: LabelAttach::Middle,
+            compact: false,
+            underlines: true,
+            multiline_arrows: true,
+            color: true,
+            tab_width: 4,
+            char_set: CharSet::Unicode,
+            index_type: IndexType::Char,
+        }
+    }
+
+    /// Whether there is a gap where strokes cross. Without one a crossing is drawn. Usually true.
+    pub const fn with_cross_gap(mut self, cross_gap: bool) -> Config {
+        self.cross_gap = cross_gap;
+        self
+    }
+
+    /// Where the arrows of labels within a line are attached. Usually in the middle.
+    pub const fn with_label_attach(mut self, label_attach: LabelAttach) -> Config {
+        self.label_attach = label_attach;
+        self
+    }
+
+    /// Whether rows that only make room are left away. Usually false.
+    pub const fn with_compact(mut self, compact: bool) -> Config {
+        self.compact = compact;
+        self
+    }
+
+    /// Whether labels within a line are underlined. Usually true.
+    pub const fn with_underlines(mut self, underlines: bool) -> Config {
+        self.underlines = underlines;
+        self
+    }
+
+    /// Whether labels over several lines have arrow heads. Usually true.
+    pub const fn with_multiline_arrows(mut self, multiline_arrows: bool) -> Config {
+        self.multiline_arrows = multiline_arrows;
+        self
+    }
+
+    /// Whether the picture has colours. Usually true. Without them no colour of a label or a kind is drawn,
+    /// whenever it was given; texts that are painted stay so.
+    pub const fn with_color(mut self, color: bool) -> Config {
+        self.color = color;
+        self
+    }
+
+    /// How many columns there are from one tab stop to the next. Usually 4.
+    ///
+    /// # Panics
+    ///
+    /// Panics where the width is 0.
+    pub const fn with_tab_width(mut self, tab_width: usize) -> Config {
+        assert!(tab_width > 0, "a tab has a width");
+        self.tab_width = tab_width;
+        self
+    }
+
+    /// What the strokes are drawn with. Usually Unicode.
+    pub const fn with_char_set(mut self, char_set: CharSet) -> Config {
+        self.char_set = char_set;
+        self
+    }
+
+    /// What the offsets of spans count. Usually characters.
+    pub const fn with_index_type(mut self, index_type: IndexType) -> Config {
+        self.index_type = index_type;
+        self
+    }
+}
+
+impl Default for Config {
+    fn default() -> Config {
+        Config::new()
+    }
+}
