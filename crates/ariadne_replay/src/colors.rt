@@ -1,57 +1,52 @@
 //! Colours by their names.
 
-use crate::mistake::{Mistake, Read};
 use ariadne::Color;
 
+/// The colours that have no numbers.
+static NAMED: [(&str, Color); 17] = [
+    ("Primary", Color::Primary),
+    ("Black", Color::Black),
+    ("Red", Color::Red),
+    ("Green", Color::Green),
+    ("Yellow", Color::Yellow),
+    ("Blue", Color::Blue),
+    ("Magenta", Color::Magenta),
+    ("Cyan", Color::Cyan),
+    ("White", Color::White),
+    ("BrightBlack", Color::BrightBlack),
+    ("BrightRed", Color::BrightRed),
+    ("BrightGreen", Color::BrightGreen),
+    ("BrightYellow", Color::BrightYellow),
+    ("BrightBlue", Color::BrightBlue),
+    ("BrightMagenta", Color::BrightMagenta),
+    ("BrightCyan", Color::BrightCyan),
+    ("BrightWhite", Color::BrightWhite),
+];
+
 /// A colour by its name, behind which its numbers stand, if it has any: `Red`, or `Rgb 1 2 3`.
-pub fn color_of(text: &str) -> Read<'_, Color> {
-    match named_color(text).or(numbered_color(text)) {
-        Some(color) => Ok(color),
-        None => Err(Mistake::Odd(text, "not a colour")),
+pub fn color_of(text: &str) -> Option<Color> {
+    for (name, color) in NAMED.iter() {
+        if *name == text {
+            return Some(*color);
+        }
     }
-}
-
-/// A colour that has no numbers.
-fn named_color(text: &str) -> Option<Color> {
-    match text {
-        "Primary" => Some(Color::Primary),
-        "Black" => Some(Color::Black),
-        "Red" => Some(Color::Red),
-        "Green" => Some(Color::Green),
-        "Yellow" => Some(Color::Yellow),
-        "Blue" => Some(Color::Blue),
-        "Magenta" => Some(Color::Magenta),
-        "Cyan" => Some(Color::Cyan),
-        "White" => Some(Color::White),
-        _ => bright_color(text),
-    }
-}
-
-/// A bright colour.
-fn bright_color(text: &str) -> Option<Color> {
-    match text {
-        "BrightBlack" => Some(Color::BrightBlack),
-        "BrightRed" => Some(Color::BrightRed),
-        "BrightGreen" => Some(Color::BrightGreen),
-        "BrightYellow" => Some(Color::BrightYellow),
-        "BrightBlue" => Some(Color::BrightBlue),
-        "BrightMagenta" => Some(Color::BrightMagenta),
-        "BrightCyan" => Some(Color::BrightCyan),
-        "BrightWhite" => Some(Color::BrightWhite),
-        _ => None,
-    }
+    numbered_color(text)
 }
 
 /// A colour that has numbers.
 fn numbered_color(text: &str) -> Option<Color> {
-    let (name, numbers) = text.split_once(' ')?;
-    match name {
-        "Fixed" => Some(Color::Fixed(numbers.parse().ok()?)),
-        "Rgb" => {
-            let (red, rest) = numbers.split_once(' ')?;
-            let (green, blue) = rest.split_once(' ')?;
-            Some(Color::Rgb(red.parse().ok()?, green.parse().ok()?, blue.parse().ok()?))
-        }
+    if let Some(number) = text.strip_prefix("Fixed ") {
+        return Some(Color::Fixed(byte_of(number)?));
+    }
+    let (red, rest) = text.strip_prefix("Rgb ")?.split_once(' ')?;
+    let (green, blue) = rest.split_once(' ')?;
+    match (byte_of(red), byte_of(green), byte_of(blue)) {
+        (Some(red), Some(green), Some(blue)) => Some(Color::Rgb(red, green, blue)),
         _ => None,
     }
+}
+
+/// A number of a colour.
+fn byte_of(digits: &str) -> Option<u8> {
+    digits.parse().ok()
 }

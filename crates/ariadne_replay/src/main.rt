@@ -15,6 +15,7 @@ mod case;
 mod colors;
 mod discreet;
 mod forgetful;
+mod forms;
 mod making;
 mod members;
 mod mistake;

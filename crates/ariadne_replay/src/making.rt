@@ -1,203 +1,153 @@
 //! The report and the sources of a case, made with the public calls.
 
-ghost use Rattle.std.specs.Prelude.{◌<◌, IfOk};
-
-use crate::case::id_of;
 use crate::colors::color_of;
-use crate::members::{
-    count_if_any, has_only, list, number_or_zero, switch_or, table_if_any, table_of, text,
-    text_if_any, text_of,
-};
+use crate::members::{color, count, list, number, switch, text, word};
 use crate::mistake::{Mistake, Read};
 use crate::offsets::{Offsets, Placed, offsets_of};
 use ariadne::{
-    CharSet, Color, Config, Fmt, IndexType, Label, LabelAttach, Report, ReportBuilder, ReportKind,
-    Source, SourceText, Span,
+    CharSet, Config, Fmt, IndexType, Label, LabelAttach, Report, ReportBuilder, ReportKind, Source,
+    SourceText, Span,
 };
 use std::alloc::{AllocError, Global};
-use toml::Table;
+use toml::Value;
 
-/// The members of the settings. They are those of `Config`.
-const SETTINGS: [&str; 9] = [
-    "cross_gap",
-    "label_attach",
-    "compact",
-    "underlines",
-    "multiline_arrows",
-    "color",
-    "tab_width",
-    "char_set",
-    "index_type",
+/// The kinds that have a colour of their own.
+const KINDS: [(&str, ReportKind<'static>); 3] = [
+    ("Error", ReportKind::Error),
+    ("Warning", ReportKind::Warning),
+    ("Advice", ReportKind::Advice),
 ];
 
-/// The members of a label.
-const LABEL: [&str; 6] = ["id", "at", "message", "color", "order", "priority"];
-
-/// The name of a case's kind, and its colour where it is one of the case's own.
-fn kind_words(case: &Table) -> Read<'_, (&str, Option<Color>)> {
-    let name = text_if_any(case, "kind")?.unwrap_or("Error");
-    if let Some(color) = text_if_any(case, "kind_color")? {
-        return Ok((name, Some(color_of(color)?)));
-    }
-    match name {
-        "Error" | "Warning" | "Advice" => Ok((name, None)),
-        _ => Err(Mistake::Odd(name, "a kind without a kind_color")),
-    }
-}
-
-/// The kind of these words.
-pub fn kind_of<'c>(name: &'c str, color: Option<Color>) -> ReportKind<'c> {
-    match (name, color) {
-        (_, Some(color)) => ReportKind::Custom(name, color),
-        ("Warning", _) => ReportKind::Warning,
-        ("Advice", _) => ReportKind::Advice,
-        _ => ReportKind::Error,
+/// The kind of a case's report.
+pub fn kind_of(case: &Value) -> Read<'_, ReportKind<'_>> {
+    match color(case, "kind_color") {
+        Some(color) => Ok(ReportKind::Custom(text(case, "kind").unwrap_or("Error"), color)),
+        None => word(
+            case,
+            "kind",
+            &KINDS,
+            ReportKind::Error,
+            "a kind without a kind_color",
+        ),
     }
 }
 
-/// Where the arrows of a case's picture are attached.
-fn label_attach_of(settings: &Table) -> Read<'_, LabelAttach> {
-    match text_if_any(settings, "label_attach")?.unwrap_or("Middle") {
-        "Start" => Ok(LabelAttach::Start),
-        "Middle" => Ok(LabelAttach::Middle),
-        "End" => Ok(LabelAttach::End),
-        word => Err(Mistake::Odd(word, "not Start, Middle or End")),
-    }
-}
+/// Where the arrows of a picture are attached.
+static LABEL_ATTACHES: [(&str, LabelAttach); 3] = [
+    ("Start", LabelAttach::Start),
+    ("Middle", LabelAttach::Middle),
+    ("End", LabelAttach::End),
+];
 
-/// What the strokes of a case's picture are drawn with.
-fn char_set_of(settings: &Table) -> Read<'_, CharSet> {
-    match text_if_any(settings, "char_set")?.unwrap_or("Ascii") {
-        "Unicode" => Ok(CharSet::Unicode),
-        "Ascii" => Ok(CharSet::Ascii),
-        word => Err(Mistake::Odd(word, "not Unicode or Ascii")),
-    }
-}
+/// What the strokes of a picture are drawn with.
+static CHAR_SETS: [(&str, CharSet); 2] = [("Unicode", CharSet::Unicode), ("Ascii", CharSet::Ascii)];
 
 /// What the offsets of a case count.
-fn index_type_of(settings: &Table) -> Read<'_, IndexType> {
-    match text_if_any(settings, "index_type")?.unwrap_or("Char") {
-        "Byte" => Ok(IndexType::Byte),
-        "Char" => Ok(IndexType::Char),
-        word => Err(Mistake::Odd(word, "not Char or Byte")),
-    }
-}
+static INDEX_TYPES: [(&str, IndexType); 2] = [("Byte", IndexType::Byte), ("Char", IndexType::Char)];
 
-/// The columns from one tab stop to the next.
-fn tab_width_of(settings: &Table) -> Read<'_, usize>
-    ensures { IfOk result (λ width. 0 < width) }
-{
-    match count_if_any(settings, "tab_width")? {
-        None => Ok(4),
-        Some(0) => Err(Mistake::Odd("tab_width", "0, and the least one is 1")),
-        Some(width) => Ok(width as usize),
-    }
-}
-
-/// The settings of a report.
-#[derive(Clone, Copy)]
-pub struct Settings {
-    cross_gap: bool,
-    label_attach: LabelAttach,
-    compact: bool,
-    underlines: bool,
-    multiline_arrows: bool,
-    color: bool,
-    tab_width: usize,
-    char_set: CharSet,
-    index_type: IndexType,
-}
-
-/// Those of a case that tells none: they are plain and in ASCII, and else the default ones.
-const DEFAULT: Settings = Settings {
-    cross_gap: true,
-    label_attach: LabelAttach::Middle,
-    compact: false,
-    underlines: true,
-    multiline_arrows: true,
-    color: false,
-    tab_width: 4,
-    char_set: CharSet::Ascii,
-    index_type: IndexType::Char,
-};
-
-/// The settings of a case.
-fn settings_of(case: &Table) -> Read<'_, Settings> {
-    let Some(told) = table_if_any(case, "settings")? else {
-        return Ok(DEFAULT);
-    };
-    has_only(told, &SETTINGS)?;
-    Ok(Settings {
-        cross_gap: switch_or(told, "cross_gap", DEFAULT.cross_gap)?,
-        label_attach: label_attach_of(told)?,
-        compact: switch_or(told, "compact", DEFAULT.compact)?,
-        underlines: switch_or(told, "underlines", DEFAULT.underlines)?,
-        multiline_arrows: switch_or(told, "multiline_arrows", DEFAULT.multiline_arrows)?,
-        color: switch_or(told, "color", DEFAULT.color)?,
-        tab_width: tab_width_of(told)?,
-        char_set: char_set_of(told)?,
-        index_type: index_type_of(told)?,
-    })
-}
-
-/// The configuration of these settings.
-pub fn config_of(settings: Settings) -> Config {
+/// The settings of a case that are switches, and its tabs. They are plain where it tells nothing else,
+/// and otherwise the default ones.
+fn switched(told: &Value) -> Config {
+    let tab_width = count(told, "tab_width").unwrap_or(4) as usize;
     Config::new()
-        .with_cross_gap(settings.cross_gap)
-        .with_label_attach(settings.label_attach)
-        .with_compact(settings.compact)
-        .with_underlines(settings.underlines)
-        .with_multiline_arrows(settings.multiline_arrows)
-        .with_color(settings.color)
-        .with_tab_width(settings.tab_width.max(1))
-        .with_char_set(settings.char_set)
-        .with_index_type(settings.index_type)
+        .with_cross_gap(switch(told, "cross_gap", true))
+        .with_compact(switch(told, "compact", false))
+        .with_underlines(switch(told, "underlines", true))
+        .with_multiline_arrows(switch(told, "multiline_arrows", true))
+        .with_color(switch(told, "color", false))
+        .with_tab_width(tab_width.max(1))
+}
+
+/// The settings of a case. Where it tells nothing else they are in ASCII. (A case has no members of
+/// the names of settings.)
+pub fn config_of(case: &Value) -> Read<'_, Config> {
+    let told = case.get("settings").unwrap_or(case);
+    let middle = LabelAttach::Middle;
+    let attach = word(
+        told,
+        "label_attach",
+        &LABEL_ATTACHES,
+        middle,
+        "not Start, Middle or End",
+    )?;
+    let set = word(
+        told,
+        "char_set",
+        &CHAR_SETS,
+        CharSet::Ascii,
+        "not Unicode or Ascii",
+    )?;
+    let index = word(
+        told,
+        "index_type",
+        &INDEX_TYPES,
+        IndexType::Char,
+        "not Char or Byte",
+    )?;
+    Ok(
+        switched(told)
+            .with_label_attach(attach)
+            .with_char_set(set)
+            .with_index_type(index),
+    )
+}
+
+/// The offsets of a case's report or of a label. Those of a report that tells none are `0..0`.
+pub fn offsets_at(told: &Value) -> Offsets {
+    match text(told, "at") {
+        Some(text) => offsets_of(text).unwrap_or(Offsets::START),
+        None => Offsets::START,
+    }
+}
+
+/// The id that a case or a label tells: that of the first source where it tells none.
+pub fn id_of<'c>(case: &'c Value, told: &'c Value) -> &'c str {
+    match (text(told, "id"), list(case, "sources")) {
+        (Some(id), _) => id,
+        (None, [first, ..]) => text(first, "id").unwrap_or(""),
+        (None, []) => "",
+    }
 }
 
 /// A label with all that a case tells of it beside its place.
-fn dressed<'c, S: Placed>(alloc: Global, label: Label<S>, told: &'c Table) -> Read<'c, Label<S>> {
-    let order = number_or_zero(told, "order")?;
-    let priority = number_or_zero(told, "priority")?;
-    let mut label = label.with_order(order).with_priority(priority);
-    if let Some(color) = text_if_any(told, "color")? {
-        label = label.with_color(color_of(color)?);
-    }
-    match text_if_any(told, "message")? {
-        Some(message) => Ok(label.with_message(alloc, message)?),
+pub fn dressed<S: Span + Drop>(
+    alloc: Global,
+    label: Label<S>,
+    told: &Value,
+) -> Result<Label<S>, AllocError> {
+    let label = label
+        .with_order(number(told, "order"))
+        .with_priority(number(told, "priority"));
+    let label = match color(told, "color") {
+        Some(color) => label.with_color(color),
+        None => label,
+    };
+    match text(told, "message") {
+        Some(message) => label.with_message(alloc, message),
         None => Ok(label),
     }
 }
 
 /// A label of a case.
-pub fn label_of<'c, S: Placed>(
-    alloc: Global,
-    case: &'c Table,
-    told: &'c Table,
-) -> Read<'c, Label<S>> {
-    has_only(told, &LABEL)?;
-    let offsets = offsets_of(text(told, "at")?)?;
-    let span = S::placed(alloc, id_of(case, told)?, offsets)?;
+fn label_of<S: Placed>(alloc: Global, case: &Value, told: &Value) -> Result<Label<S>, AllocError> {
+    let span = S::placed(alloc, id_of(case, told), offsets_at(told))?;
     dressed(alloc, Label::new(span), told)
 }
 
-/// The report's own place.
-pub fn own_span<S: Placed>(alloc: Global, case: &Table) -> Read<'_, S> {
-    let offsets = match text_if_any(case, "at")? {
-        Some(text) => offsets_of(text)?,
-        None => Offsets {
-            start: 0,
-            end: 0,
-            is_inclusive: false,
-        },
-    };
-    Ok(S::placed(alloc, id_of(case, case)?, offsets)?)
+/// The labels of a case.
+fn labels_of<S: Placed>(alloc: Global, case: &Value) -> Result<Vec<Label<S>>, AllocError> {
+    let mut labels = Vec::new(alloc);
+    for told in list(case, "labels") {
+        labels.push(label_of(alloc, case, told)?)?;
+    }
+    Ok(labels)
 }
 
 /// The texts of a list of a case.
-fn texts_of<'c>(alloc: Global, case: &'c Table, name: &'static str) -> Read<'c, Vec<&'c str>> {
+fn texts_of<'c>(alloc: Global, case: &'c Value, name: &str) -> Result<Vec<&'c str>, AllocError> {
     let mut texts = Vec::new(alloc);
-    for item in list(case, name)? {
-        texts.push(text_of(item, name)?)?;
+    for item in list(case, name) {
+        texts.push(item.as_str().unwrap_or(""))?;
     }
     Ok(texts)
 }
@@ -214,67 +164,75 @@ enum Way {
     With,
 }
 
-/// How a case gives helps, notes and labels to its report.
-fn way_of(case: &Table) -> Read<'_, Way> {
-    match text_if_any(case, "builder")?.unwrap_or("add") {
-        "add" => Ok(Way::Add),
-        "set" => Ok(Way::Set),
-        "with" => Ok(Way::With),
-        word => Err(Mistake::Odd(word, "not a way of the builder")),
+static WAYS: [(&str, Way); 3] = [("add", Way::Add), ("set", Way::Set), ("with", Way::With)];
+
+/// A report with the code of its case that is a number.
+fn numbered<'c, S: Span + Drop>(
+    builder: ReportBuilder<'c, S>,
+    case: &Value,
+) -> Result<ReportBuilder<'c, S>, AllocError> {
+    match count(case, "number") {
+        Some(number) => builder.with_code(number),
+        None => Ok(builder),
     }
 }
 
-/// What a case tells of its report beside its place and its labels.
-#[derive(Drop)]
-pub struct Told<'c> {
-    pub kind: (&'c str, Option<Color>),
-    pub settings: Settings,
-    number: Option<u64>,
-    pub code: Option<&'c str>,
-    pub message: Option<&'c str>,
+/// A report with the code of its case that is a text.
+fn coded<'c, S: Span + Drop>(
+    builder: ReportBuilder<'c, S>,
+    case: &Value,
+) -> Result<ReportBuilder<'c, S>, AllocError> {
+    match text(case, "code") {
+        Some(code) => builder.with_code_text(code),
+        None => Ok(builder),
+    }
+}
+
+/// A report with the message of its case.
+fn headed<'c, S: Span + Drop>(
+    builder: ReportBuilder<'c, S>,
+    case: &Value,
+) -> Result<ReportBuilder<'c, S>, AllocError> {
+    match text(case, "message") {
+        Some(message) => builder.with_message(message),
+        None => Ok(builder),
+    }
+}
+
+/// Adds helps, or sets each in place of those before it.
+fn add_helps<S: Span>(
+    builder: &mut ReportBuilder<'_, S>,
     way: Way,
-    pub helps: Vec<&'c str>,
-    pub notes: Vec<&'c str>,
-    painted: Vec<(&'c str, Color)>,
-}
-
-/// The colours of a case that are shown in notes, each with its name.
-fn painted_of(alloc: Global, case: &Table) -> Read<'_, Vec<(&str, Color)>> {
-    let mut painted = Vec::new(alloc);
-    for item in list(case, "painted")? {
-        let name = text_of(item, "painted")?;
-        painted.push((name, color_of(name)?))?;
+    helps: &[Value],
+) -> Result<(), AllocError> {
+    for help in helps {
+        let help = help.as_str().unwrap_or("");
+        match way {
+            Way::Set => builder.set_help(help)?,
+            _ => builder.add_help(help)?,
+        }
     }
-    Ok(painted)
+    Ok(())
 }
 
-/// What a case tells of its report.
-pub fn told_of(alloc: Global, case: &Table) -> Read<'_, Told<'_>> {
-    Ok(Told {
-        kind: kind_words(case)?,
-        settings: settings_of(case)?,
-        number: count_if_any(case, "number")?,
-        code: text_if_any(case, "code")?,
-        message: text_if_any(case, "message")?,
-        way: way_of(case)?,
-        helps: texts_of(alloc, case, "helps")?,
-        notes: texts_of(alloc, case, "notes")?,
-        painted: painted_of(alloc, case)?,
-    })
-}
-
-/// The labels of a case.
-pub fn labels_of<S: Placed>(alloc: Global, case: &Table) -> Read<'_, Vec<Label<S>>> {
-    let mut labels = Vec::new(alloc);
-    for told in list(case, "labels")? {
-        let label = label_of(alloc, case, table_of(told, "labels")?)?;
-        labels.push(label)?;
+/// Adds notes, or sets each in place of those before it.
+fn add_notes<S: Span>(
+    builder: &mut ReportBuilder<'_, S>,
+    way: Way,
+    notes: &[Value],
+) -> Result<(), AllocError> {
+    for note in notes {
+        let note = note.as_str().unwrap_or("");
+        match way {
+            Way::Set => builder.set_note(note)?,
+            _ => builder.add_note(note)?,
+        }
     }
-    Ok(labels)
+    Ok(())
 }
 
-/// A report with helps behind those that are there: the first by `add_help`, the second by `with_help`,
-/// and the others by `with_helps`.
+/// A report with helps: the first by `add_help`, the second by `with_help`, and the others by
+/// `with_helps`.
 fn with_helps<'c, S: Span + Drop>(
     mut builder: ReportBuilder<'c, S>,
     helps: &[&str],
@@ -290,25 +248,8 @@ fn with_helps<'c, S: Span + Drop>(
     Ok(builder)
 }
 
-/// A report with the helps of its case.
-fn helped<'c, S: Span + Drop>(
-    mut builder: ReportBuilder<'c, S>,
-    told: &Told<'_>,
-) -> Result<ReportBuilder<'c, S>, AllocError> {
-    if let Way::With = told.way {
-        return with_helps(builder, told.helps.as_slice());
-    }
-    for help in told.helps.iter().copied() {
-        match told.way {
-            Way::Set => builder.set_help(help)?,
-            _ => builder.add_help(help)?,
-        }
-    }
-    Ok(builder)
-}
-
-/// A report with notes behind those that are there: the first by `add_note`, the second by `with_note`,
-/// and the others by `with_notes`.
+/// A report with notes: the first by `add_note`, the second by `with_note`, and the others by
+/// `with_notes`.
 fn with_notes<'c, S: Span + Drop>(
     mut builder: ReportBuilder<'c, S>,
     notes: &[&str],
@@ -321,23 +262,6 @@ fn with_notes<'c, S: Span + Drop>(
         builder = builder.with_note(note)?;
     }
     builder.with_notes(notes)?;
-    Ok(builder)
-}
-
-/// A report with the notes of its case.
-fn noted<'c, S: Span + Drop>(
-    mut builder: ReportBuilder<'c, S>,
-    told: &Told<'_>,
-) -> Result<ReportBuilder<'c, S>, AllocError> {
-    if let Way::With = told.way {
-        return with_notes(builder, told.notes.as_slice());
-    }
-    for note in told.notes.iter().copied() {
-        match told.way {
-            Way::Set => builder.set_note(note)?,
-            _ => builder.add_note(note)?,
-        }
-    }
     Ok(builder)
 }
 
@@ -357,55 +281,124 @@ fn with_labels<'c, S: Span + Drop>(
     builder.with_labels(labels)
 }
 
-/// Adds a note for each colour: its name in the colour, and on it.
+/// A report with the helps of its case, by all calls that add helps.
+fn with_case_helps<'c, S: Span + Drop>(
+    alloc: Global,
+    builder: ReportBuilder<'c, S>,
+    case: &Value,
+) -> Result<ReportBuilder<'c, S>, AllocError> {
+    let helps = texts_of(alloc, case, "helps")?;
+    with_helps(builder, helps.as_slice())
+}
+
+/// A report with the notes of its case, by all calls that add notes.
+fn with_case_notes<'c, S: Span + Drop>(
+    alloc: Global,
+    builder: ReportBuilder<'c, S>,
+    case: &Value,
+) -> Result<ReportBuilder<'c, S>, AllocError> {
+    let notes = texts_of(alloc, case, "notes")?;
+    with_notes(builder, notes.as_slice())
+}
+
+/// Adds the helps and the notes of a case.
+fn add_texts<S: Span>(
+    builder: &mut ReportBuilder<'_, S>,
+    way: Way,
+    case: &Value,
+) -> Result<(), AllocError> {
+    add_helps(builder, way, list(case, "helps"))?;
+    add_notes(builder, way, list(case, "notes"))
+}
+
+/// A report with the helps and the notes of its case.
+fn texted<'c, S: Span + Drop>(
+    alloc: Global,
+    mut builder: ReportBuilder<'c, S>,
+    way: Way,
+    case: &Value,
+) -> Result<ReportBuilder<'c, S>, AllocError> {
+    if let Way::With = way {
+        return with_case_notes(alloc, with_case_helps(alloc, builder, case)?, case);
+    }
+    add_texts(&mut builder, way, case)?;
+    Ok(builder)
+}
+
+/// The name of a colour, in the colour and on it.
+fn painted(alloc: Global, name: &str) -> Result<String, AllocError> {
+    let color = color_of(name);
+    format!(in alloc; "{} {}", name.fg(color), name.bg(color))
+}
+
+/// Adds a note for each colour that a case paints.
 fn add_painted<S: Span>(
     alloc: Global,
     builder: &mut ReportBuilder<'_, S>,
-    told: &Told<'_>,
+    case: &Value,
 ) -> Result<(), AllocError> {
-    for (name, color) in told.painted.iter() {
-        let (front, behind) = (name.fg(Some(*color)), name.bg(Some(*color)));
-        let note = format!(in alloc; "{front} {behind}")?;
+    for item in list(case, "painted") {
+        let note = painted(alloc, item.as_str().unwrap_or(""))?;
         builder.add_note(note.as_str())?;
     }
     Ok(())
 }
 
-/// A report of a case, at a place and with these labels.
-pub fn report<'c, S: Span + Drop>(
-    alloc: Global,
-    told: &Told<'c>,
-    span: S,
+/// A report with labels.
+fn labelled<'c, S: Span + Drop>(
+    mut builder: ReportBuilder<'c, S>,
+    way: Way,
     labels: Vec<Label<S>>,
-) -> Result<Report<'c, S>, AllocError> {
-    let kind = kind_of(told.kind.0, told.kind.1);
-    let mut builder = Report::build(alloc, kind, span).with_config(config_of(told.settings));
-    if let Some(number) = told.number {
-        builder = builder.with_code(number)?;
-    }
-    if let Some(code) = told.code {
-        builder = builder.with_code_text(code)?;
-    }
-    if let Some(message) = told.message {
-        builder.set_message(message)?;
-    }
-    builder = noted(helped(builder, told)?, told)?;
-    add_painted(alloc, &mut builder, told)?;
-    if let Way::With = told.way {
-        return Ok(with_labels(builder, labels)?.finish());
+) -> Result<ReportBuilder<'c, S>, AllocError> {
+    if let Way::With = way {
+        return with_labels(builder, labels);
     }
     builder.add_labels(labels)?;
-    Ok(builder.finish())
+    Ok(builder)
+}
+
+/// A report of a kind, in the place of its case, and with its code and its message.
+fn begun<'c, S: Placed>(
+    alloc: Global,
+    case: &Value,
+    kind: ReportKind<'c>,
+) -> Result<ReportBuilder<'c, S>, AllocError> {
+    let span = S::placed(alloc, id_of(case, case), offsets_at(case))?;
+    let builder = Report::build(alloc, kind, span);
+    headed(coded(numbered(builder, case)?, case)?, case)
+}
+
+/// The report of a case, of a kind and with a configuration.
+fn made<'c, S: Placed>(
+    alloc: Global,
+    case: &Value,
+    kind: ReportKind<'c>,
+    config: Config,
+    way: Way,
+) -> Result<Report<'c, S>, AllocError> {
+    let labels = labels_of(alloc, case)?;
+    let builder = begun(alloc, case, kind)?.with_config(config);
+    let mut builder = texted(alloc, builder, way, case)?;
+    add_painted(alloc, &mut builder, case)?;
+    Ok(labelled(builder, way, labels)?.finish())
+}
+
+/// The report of a case.
+pub fn report_of<S: Placed>(alloc: Global, case: &Value) -> Read<'_, Report<'_, S>> {
+    let kind = kind_of(case)?;
+    let config = config_of(case)?;
+    let way = word(case, "builder", &WAYS, Way::Add, "not a way of the builder")?;
+    Ok(made(alloc, case, kind, config, way)?)
 }
 
 /// A text as a source whose lines are counted as a case tells.
 pub fn counted<'c, I: SourceText + Drop>(
     alloc: Global,
     text: I,
-    told: &'c Table,
+    told: &'c Value,
 ) -> Read<'c, Source<I>> {
     let source = Source::from(alloc, text)?;
-    let offset = count_if_any(told, "line_offset")?.unwrap_or(0) as usize;
+    let offset = count(told, "line_offset").unwrap_or(0) as usize;
     if source.lines().len() > usize::MAX - offset {
         return Err(Mistake::Odd("line_offset", "too great for the lines of the source"));
     }

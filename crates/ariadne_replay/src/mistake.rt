@@ -2,19 +2,12 @@
 
 use std::alloc::{AllocError, AllocFailed};
 use std::fmt;
-use toml::de::Error;
 
 /// What is wrong with a case. It borrows the words that it tells from the case.
 #[derive(Clone, Copy)]
 pub enum Mistake<'c> {
     /// A word of the case, and what is wrong with it.
-    Odd(&'c str, &'static str),
-    /// A line that is no TOML, and why.
-    Syntax(Error),
-    /// A line that holds a character that can't be seen, or ends in a blank.
-    Unseen,
-    /// Members that stand above the first case of a file.
-    Above,
+    Odd(&'c str, &'c str),
     /// There was no memory to read it.
     Memory,
 }
@@ -38,10 +31,7 @@ impl fmt::Display for Mistake<'_> {
     fn fmt<W: fmt::Write>(&self, f: &mut fmt::Formatter<W>) -> fmt::Result {
         match self {
             Mistake::Odd(word, wrong) => write!(f, "'{word}' is {wrong}"),
-            Mistake::Syntax(error) => write!(f, "{}", error.message()),
-            Mistake::Unseen => write!(f, "a character that can't be seen stands here as it is"),
-            Mistake::Above => write!(f, "what stands above the first case is no comment"),
-            Mistake::Memory => write!(f, "there is no memory to read it"),
+            Mistake::Memory => f.write_str("there is no memory to read it"),
         }
     }
 }

@@ -1,8 +1,7 @@
 //! Offsets, and spans that are made of them.
 
-ghost use Rattle.std.specs.Prelude.{◌≤◌, ◌+◌, IfOk};
+ghost use Rattle.std.specs.Prelude.{◌≤◌, IfOk};
 
-use crate::mistake::{Mistake, Read};
 use ariadne::Span;
 use std::alloc::{AllocError, Global};
 use std::ops::{Range, RangeInclusive};
@@ -16,45 +15,52 @@ pub struct Offsets {
     pub is_inclusive: bool,
 }
 
+impl Offsets {
+    /// The empty piece at the start of a source.
+    pub const START: Offsets = Offsets {
+        start: 0,
+        end: 0,
+        is_inclusive: false,
+    };
+}
+
+/// The offsets of a text: `0..5`, or `0..=4`. The start is at most the end.
+pub fn offsets_of(text: &str) -> Option<Offsets> {
+    let (start, end) = text.split_once("..")?;
+    match end.strip_prefix('=') {
+        Some(last) => piece_of(start, last, true),
+        None => piece_of(start, end, false),
+    }
+}
+
+/// The offsets of these digits.
+fn piece_of(start: &str, end: &str, is_inclusive: bool) -> Option<Offsets> {
+    match (offset_of(start), offset_of(end)) {
+        (Some(start), Some(end)) if start <= end => Some(Offsets {
+            start,
+            end,
+            is_inclusive,
+        }),
+        _ => None,
+    }
+}
+
 /// An offset.
 fn offset_of(digits: &str) -> Option<usize> {
     digits.parse().ok()
 }
 
-/// The offsets of a text: `0..5`, or `0..=4`.
-pub fn offsets_of(text: &str) -> Read<'_, Offsets>
-    ensures { IfOk result (λ told. told.start ≤ told.end) }
-{
-    let wrong = Mistake::Odd(text, "not a piece of a source, as 0..5 or 0..=4");
-    let Some((start, end)) = text.split_once("..") else {
-        return Err(wrong);
-    };
-    let (end, is_inclusive) = match end.strip_prefix('=') {
-        Some(end) => (end, true),
-        None => (end, false),
-    };
-    match (offset_of(start), offset_of(end)) {
-        (Some(start), Some(end)) if start <= end => Ok(Offsets {
-            start,
-            end,
-            is_inclusive,
-        }),
-        (Some(_), Some(_)) => Err(Mistake::Odd(text, "a piece that starts past its end")),
-        _ => Err(wrong),
-    }
-}
-
 /// A span that is made of an id and offsets.
 pub trait Placed: Span + Drop {
-    /// The span of these offsets, in the source of an id where spans of this type name one.
+    /// The span of these offsets, in the source of an id where spans of this type name one. One that
+    /// would start past its end ends at its start.
     fn placed(alloc: Global, id: &str, offsets: Offsets) -> Result<Self, AllocError>
-        requires { offsets.start ≤ offsets.end }
         ensures { IfOk result (λ span. Self.start_of span ≤ Self.end_of span) };
 }
 
 impl Placed for Range<usize> {
     fn placed(_alloc: Global, _id: &str, offsets: Offsets) -> Result<Range<usize>, AllocError> {
-        Ok(offsets.start..offsets.end)
+        Ok(offsets.start..offsets.end.max(offsets.start))
     }
 }
 
@@ -64,7 +70,7 @@ impl Placed for RangeInclusive<usize> {
         _id: &str,
         offsets: Offsets,
     ) -> Result<RangeInclusive<usize>, AllocError> {
-        Ok(offsets.start..=offsets.end)
+        Ok(offsets.start..=offsets.end.max(offsets.start))
     }
 }
 
@@ -74,7 +80,10 @@ impl Placed for (String, Range<usize>) {
         id: &str,
         offsets: Offsets,
     ) -> Result<(String, Range<usize>), AllocError> {
-        Ok((id.to_string(alloc)?, offsets.start..offsets.end))
+        Ok((
+            id.to_string(alloc)?,
+            offsets.start..offsets.end.max(offsets.start),
+        ))
     }
 }
 
@@ -84,6 +93,9 @@ impl Placed for (String, RangeInclusive<usize>) {
         id: &str,
         offsets: Offsets,
     ) -> Result<(String, RangeInclusive<usize>), AllocError> {
-        Ok((id.to_string(alloc)?, offsets.start..=offsets.end))
+        Ok((
+            id.to_string(alloc)?,
+            offsets.start..=offsets.end.max(offsets.start),
+        ))
     }
 }

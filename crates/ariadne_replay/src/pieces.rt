@@ -20,19 +20,24 @@ impl<'t> Piece<'t> {
 
     /// The name of the case as it is written, or nothing. It is there though the case can't be read.
     pub fn written_name(&self) -> &'t str {
-        match self.text.lines().find(|line| line.starts_with("name = ")) {
-            Some(line) => line.trim_start_matches("name = ").trim_matches('"'),
-            None => "",
+        for line in self.text.lines() {
+            if let Some(name) = line.strip_prefix("name = ") {
+                return name.trim_matches('"');
+            }
         }
+        ""
     }
 }
 
 /// The line, from 0, that stands behind so many bytes of a text.
 pub fn line_at(text: &str, offset: usize) -> usize {
-    text.bytes()
-        .take(offset)
-        .filter(|byte| *byte == b'\n')
-        .count()
+    let mut line = 0usize;
+    for byte in text.bytes().take(offset) {
+        if byte == b'\n' {
+            line = line.saturating_add(1);
+        }
+    }
+    line
 }
 
 /// What stands above the first case of a file, and its cases, each behind a line `[[case]]`.
@@ -52,8 +57,22 @@ pub fn pieces_of<'t>(
     Ok(pieces)
 }
 
+/// Whether a line holds a character that can't be seen, or ends in a blank.
+fn has_unseen(line: &str) -> bool {
+    for character in line.chars() {
+        if is_unseen(character) {
+            return true;
+        }
+    }
+    line.ends_with(' ')
+}
+
 /// The first line of a text, from 0, that holds a character that can't be seen, or ends in a blank.
 pub fn unseen_line(text: &str) -> Option<usize> {
-    text.split('\n')
-        .position(|line| line.ends_with(' ') || line.chars().any(is_unseen))
+    for (number, line) in text.split('\n').enumerate() {
+        if has_unseen(line) {
+            return Some(number);
+        }
+    }
+    None
 }

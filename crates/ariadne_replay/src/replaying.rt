@@ -1,175 +1,228 @@
 //! Draws the report of a case over the cache that the case names.
 
-use crate::case::{has_known_members, only_source};
+use crate::case::check_case;
 use crate::discreet::Discreet;
 use crate::forgetful::Forgetful;
-use crate::making::{counted, labels_of, own_span, report, told_of};
-use crate::members::{list, table_of, text, text_if_any};
+use crate::making::{counted, report_of};
+use crate::members::{has, list, text, word};
 use crate::mistake::{Mistake, Read};
 use crate::offsets::Placed;
 use crate::safely::answer_safely;
 use crate::sending::{Answer, Call, call_of, sent};
 use ariadne::{FileCache, FnCache, Report, Source, Span, sources};
-use std::alloc::Global;
+use std::alloc::{AllocError, Global};
 use std::collections::HashMap;
 use std::ops::{Range, RangeInclusive};
 use std::rc::RcStr;
-use std::rt::Files;
-use toml::{Table, Value};
+use toml::Value;
 
-/// Whether the pieces of a case end with their last offset: `0..=4`. Either all do or none.
-fn is_inclusive(case: &Table) -> Read<'_, bool> {
-    let mut has = (false, false);
-    for told in list(case, "labels")? {
-        if text(table_of(told, "labels")?, "at")?.contains("..=") {
-            has.0 = true;
-        } else {
-            has.1 = true;
+/// In which form a cache is that has one source.
+#[derive(Clone, Copy)]
+enum Single {
+    Owned,
+    OfStr,
+    OfRcStr,
+    Ref,
+    RefMut,
+    Boxed,
+}
+
+static SINGLES: [(&str, Single); 6] = [
+    ("Source<String>", Single::Owned),
+    ("Source<&str>", Single::OfStr),
+    ("Source<RcStr>", Single::OfRcStr),
+    ("&Source", Single::Ref),
+    ("&mut Source", Single::RefMut),
+    ("Box<Source>", Single::Boxed),
+];
+
+/// Which cache has sources with ids.
+#[derive(Clone, Copy)]
+enum Several {
+    Map,
+    Given,
+    Hiding,
+    Pair,
+    LentPair,
+    Function,
+    Files,
+    NoMemory,
+}
+
+static SEVERALS: [(&str, Several); 5] = [
+    ("(id, Source)", Several::Pair),
+    ("(id, &Source)", Several::LentPair),
+    ("FnCache", Several::Function),
+    ("FileCache", Several::Files),
+    ("no memory", Several::NoMemory),
+];
+
+/// How many pieces of labels end with their last offset: `0..=4`.
+fn count_inclusive(labels: &[Value]) -> usize {
+    let mut count = 0usize;
+    for label in labels {
+        if text(label, "at").unwrap_or("").contains('=') {
+            count = count.saturating_add(1);
         }
     }
-    if has.0 && has.1 {
+    count
+}
+
+/// Whether the pieces of a case end with their last offset. Either all do or none.
+fn is_inclusive(case: &Value) -> Read<'_, bool> {
+    let labels = list(case, "labels");
+    let count = count_inclusive(labels);
+    if count > 0 && count < labels.len() {
         return Err(Mistake::Odd(
             "labels",
             "a list with '=' in some pieces and none in others",
         ));
     }
-    Ok(has.0)
+    Ok(count > 0)
 }
 
 /// The answer of a case's report.
-pub fn answer_of<'c, R: AllocGlobal + Files>(rt: &R, case: &'c Table) -> Read<'c, Answer> {
-    has_known_members(case)?;
-    if let Some(word) = text_if_any(case, "safe")? {
-        return answer_safely(rt.alloc(), case, word);
+pub fn answer_of<'c>(rt: &HostRuntime, case: &'c Value) -> Read<'c, Answer> {
+    check_case(case)?;
+    if has(case, "safe") {
+        return answer_safely(rt.alloc(), case);
     }
     let call = call_of(case)?;
-    match (case.contains_key("source"), is_inclusive(case)?) {
+    match (has(case, "source"), is_inclusive(case)?) {
         (true, false) => plain::<Range<usize>>(rt.alloc(), call, case),
         (true, true) => plain::<RangeInclusive<usize>>(rt.alloc(), call, case),
-        (false, false) => named::<(String, Range<usize>), R>(rt, call, case),
-        (false, true) => named::<(String, RangeInclusive<usize>), R>(rt, call, case),
+        (false, false) => named::<(String, Range<usize>)>(rt, call, case),
+        (false, true) => named::<(String, RangeInclusive<usize>)>(rt, call, case),
     }
-}
-
-/// The report of a case, over spans of a type.
-fn report_of<S: Placed>(alloc: Global, case: &Table) -> Read<'_, Report<'_, S>> {
-    let told = told_of(alloc, case)?;
-    let span = own_span(alloc, case)?;
-    let labels = labels_of(alloc, case)?;
-    Ok(report(alloc, &told, span, labels)?)
 }
 
 /// The answer of a case over one source without an id.
 fn plain<S: Placed + Span<SourceId = ()>>(
     alloc: Global,
     call: Call,
-    case: &Table,
+    case: &Value,
 ) -> Read<'_, Answer> {
-    over_source::<S>(alloc, call, case, &report_of(alloc, case)?)
+    let report = report_of::<S>(alloc, case)?;
+    over_source(alloc, call, case, &report)
 }
 
 /// The answer of a case over sources with ids.
-fn named<'c, S: Placed + Span<SourceId = String>, R: AllocGlobal + Files>(
-    rt: &R,
+fn named<'c, S: Placed + Span<SourceId = String>>(
+    rt: &HostRuntime,
     call: Call,
-    case: &'c Table,
+    case: &'c Value,
 ) -> Read<'c, Answer> {
-    over_sources::<S, R>(rt, call, case, &report_of(rt.alloc(), case)?)
+    let report = report_of::<S>(rt.alloc(), case)?;
+    over_sources(rt, call, case, &report)
 }
 
 /// The answer of a report over its only source.
 fn over_source<'c, S: Span<SourceId = ()>>(
     alloc: Global,
     call: Call,
-    case: &'c Table,
+    case: &'c Value,
     report: &Report<'c, S>,
 ) -> Read<'c, Answer> {
-    let text = only_source(case)?;
-    match text_if_any(case, "cache")?.unwrap_or("Source<String>") {
-        "Source<&str>" => Ok(sent(alloc, call, report, &mut counted(alloc, text, case)?)?),
-        "Source<RcStr>" => {
-            let text = RcStr::from_str(alloc, text)?;
-            Ok(sent(alloc, call, report, &mut counted(alloc, text, case)?)?)
+    let words = text(case, "source").unwrap_or("");
+    match word(
+        case,
+        "cache",
+        &SINGLES,
+        Single::Owned,
+        "not a cache of one source",
+    )? {
+        Single::OfStr => sent(alloc, call, report, &mut counted(alloc, words, case)?),
+        Single::OfRcStr => {
+            let words = RcStr::from_str(alloc, words)?;
+            sent(alloc, call, report, &mut counted(alloc, words, case)?)
         }
-        word => {
-            let source = counted(alloc, text.to_string(alloc)?, case)?;
-            over_string(alloc, call, report, source, word)
+        form => {
+            let source = counted(alloc, words.to_string(alloc)?, case)?;
+            over_string(alloc, call, report, source, form)
         }
     }
 }
 
-/// The answer of a report over a source, in the form that a word names.
+/// The answer of a report over a source in a form.
 fn over_string<'c, S: Span<SourceId = ()>>(
     alloc: Global,
     call: Call,
     report: &Report<'c, S>,
     mut source: Source<String>,
-    word: &'c str,
+    form: Single,
 ) -> Read<'c, Answer> {
-    match word {
-        "Source<String>" => Ok(sent(alloc, call, report, &mut source)?),
-        "&Source" => Ok(sent(alloc, call, report, &mut &source)?),
-        "&mut Source" => Ok(sent(alloc, call, report, &mut &mut source)?),
-        "Box<Source>" => Ok(sent(alloc, call, report, &mut Box::new(alloc, source)?)?),
-        _ => Err(Mistake::Odd(word, "not a cache of one source")),
+    match form {
+        Single::Ref => sent(alloc, call, report, &mut &source),
+        Single::RefMut => sent(alloc, call, report, &mut &mut source),
+        Single::Boxed => sent(alloc, call, report, &mut Box::new(alloc, source)?),
+        _ => sent(alloc, call, report, &mut source),
     }
+}
+
+/// The cache of a case that names none.
+fn default_cache(case: &Value) -> Several {
+    if has(case, "hidden") {
+        return Several::Hiding;
+    }
+    for source in list(case, "sources") {
+        if has(source, "line_offset") {
+            return Several::Given;
+        }
+    }
+    Several::Map
 }
 
 /// The answer of a report over sources that have ids.
-fn over_sources<'c, S: Span<SourceId = String>, R: AllocGlobal + Files>(
-    rt: &R,
+fn over_sources<'c, S: Span<SourceId = String>>(
+    rt: &HostRuntime,
     call: Call,
-    case: &'c Table,
+    case: &'c Value,
     report: &Report<'c, S>,
 ) -> Read<'c, Answer> {
     let alloc = rt.alloc();
-    match (text_if_any(case, "hidden")?, text_if_any(case, "cache")?) {
-        (Some(hidden), None) => over_own_cache(alloc, call, case, report, hidden),
-        (Some(_), Some(word)) => Err(Mistake::Odd(word, "a cache beside 'hidden'")),
-        (None, None) if has_no_offset(case)? => over_map(alloc, call, case, report),
-        (None, None) => over_given_sources(alloc, call, case, report),
-        (None, Some("(id, Source)")) => over_pair(alloc, call, case, report, false),
-        (None, Some("(id, &Source)")) => over_pair(alloc, call, case, report, true),
-        (None, Some("FnCache")) => over_function(alloc, call, case, report),
-        (None, Some("FileCache")) => {
-            Ok(sent(alloc, call, report, &mut FileCache::new(rt, alloc))?)
-        }
-        (None, Some("no memory")) => Ok(sent(alloc, call, report, &mut Forgetful)?),
-        (None, Some(word)) => Err(Mistake::Odd(word, "not a cache of sources with ids")),
+    let default = default_cache(case);
+    match word(
+        case,
+        "cache",
+        &SEVERALS,
+        default,
+        "not a cache of sources with ids",
+    )? {
+        Several::Map => over_map(alloc, call, case, report),
+        Several::Given => over_given_sources(alloc, call, case, report),
+        Several::Hiding => over_own_cache(alloc, call, case, report),
+        Several::Pair => over_pair(alloc, call, case, report),
+        Several::LentPair => over_lent_pair(alloc, call, case, report),
+        Several::Function => over_function(alloc, call, case, report),
+        Several::Files => sent(alloc, call, report, &mut FileCache::new(rt, alloc)),
+        Several::NoMemory => sent(alloc, call, report, &mut Forgetful),
     }
 }
 
-/// Whether all its sources are counted from 1.
-fn has_no_offset(case: &Table) -> Read<'_, bool> {
-    let sources = list(case, "sources")?;
-    Ok(sources.iter().all(|told| told.get("line_offset").is_none()))
-}
-
 /// The id of a source, and its text.
-fn text_by_id(alloc: Global, told: &Value) -> Read<'_, (String, String)> {
-    let told = table_of(told, "sources")?;
-    let id = text(told, "id")?.to_string(alloc)?;
-    Ok((id, text(told, "text")?.to_string(alloc)?))
+fn text_by_id(alloc: Global, source: &Value) -> Result<(String, String), AllocError> {
+    let id = text(source, "id").unwrap_or("").to_string(alloc)?;
+    Ok((id, text(source, "text").unwrap_or("").to_string(alloc)?))
 }
 
 /// The answer of a report over a map of its sources.
 fn over_map<'c, S: Span<SourceId = String>>(
     alloc: Global,
     call: Call,
-    case: &'c Table,
+    case: &'c Value,
     report: &Report<'c, S>,
 ) -> Read<'c, Answer> {
     let mut texts = Vec::new(alloc);
-    for told in list(case, "sources")? {
-        texts.push(text_by_id(alloc, told)?)?;
+    for source in list(case, "sources") {
+        texts.push(text_by_id(alloc, source)?)?;
     }
-    Ok(sent(alloc, call, report, &mut sources(alloc, texts)?)?)
+    sent(alloc, call, report, &mut sources(alloc, texts)?)
 }
 
 /// The id of a source, and the source.
-fn source_by_id(alloc: Global, told: &Value) -> Read<'_, (String, Source<String>)> {
-    let (id, text) = text_by_id(alloc, told)?;
-    Ok((id, counted(alloc, text, table_of(told, "sources")?)?))
+fn source_by_id(alloc: Global, source: &Value) -> Read<'_, (String, Source<String>)> {
+    let (id, text) = text_by_id(alloc, source)?;
+    Ok((id, counted(alloc, text, source)?))
 }
 
 /// Fails for every id.
@@ -178,10 +231,10 @@ fn missing(_id: &String) -> Result<String, ()> {
 }
 
 /// The sources of a case by their ids.
-fn given_sources(alloc: Global, case: &Table) -> Read<'_, HashMap<String, Source<String>>> {
+fn given_sources(alloc: Global, case: &Value) -> Read<'_, HashMap<String, Source<String>>> {
     let mut given = HashMap::new(alloc);
-    for told in list(case, "sources")? {
-        let (id, source) = source_by_id(alloc, told)?;
+    for source in list(case, "sources") {
+        let (id, source) = source_by_id(alloc, source)?;
         given.insert(id, source)?;
     }
     Ok(given)
@@ -191,71 +244,78 @@ fn given_sources(alloc: Global, case: &Table) -> Read<'_, HashMap<String, Source
 fn over_given_sources<'c, S: Span<SourceId = String>>(
     alloc: Global,
     call: Call,
-    case: &'c Table,
+    case: &'c Value,
     report: &Report<'c, S>,
 ) -> Read<'c, Answer> {
-    let cache = FnCache::new(alloc, missing);
-    let mut cache = cache.with_sources(given_sources(alloc, case)?)?;
-    Ok(sent(alloc, call, report, &mut cache)?)
+    let given = given_sources(alloc, case)?;
+    let mut cache = FnCache::new(alloc, missing).with_sources(given)?;
+    sent(alloc, call, report, &mut cache)
 }
 
 /// The answer of a report over a cache of the program's own, which hides the name of one source.
 fn over_own_cache<'c, S: Span<SourceId = String>>(
     alloc: Global,
     call: Call,
-    case: &'c Table,
+    case: &'c Value,
     report: &Report<'c, S>,
-    hidden: &str,
 ) -> Read<'c, Answer> {
-    let cache = FnCache::new(alloc, missing);
-    let cache = cache.with_sources(given_sources(alloc, case)?)?;
-    let hidden = hidden.to_string(alloc)?;
-    Ok(sent(alloc, call, report, &mut Discreet { cache, hidden })?)
+    let hidden = text(case, "hidden").unwrap_or("").to_string(alloc)?;
+    let given = given_sources(alloc, case)?;
+    let cache = FnCache::new(alloc, missing).with_sources(given)?;
+    sent(alloc, call, report, &mut Discreet { cache, hidden })
 }
 
-/// The answer of a report over the first source alone, or over a reference to it.
+/// The first source of a case, which is the only one of a pair.
+fn first_source(alloc: Global, case: &Value) -> Read<'_, (String, Source<String>)> {
+    match list(case, "sources") {
+        [first, ..] => source_by_id(alloc, first),
+        [] => Err(Mistake::Odd("sources", "empty")),
+    }
+}
+
+/// The answer of a report over the first source alone.
 fn over_pair<'c, S: Span<SourceId = String>>(
     alloc: Global,
     call: Call,
-    case: &'c Table,
+    case: &'c Value,
     report: &Report<'c, S>,
-    is_lent: bool,
 ) -> Read<'c, Answer> {
-    let Some(told) = list(case, "sources")?.first() else {
-        return Err(Mistake::Odd("sources", "empty"));
-    };
-    let (id, source) = source_by_id(alloc, told)?;
-    if is_lent {
-        Ok(sent(alloc, call, report, &mut (id, &source))?)
-    } else {
-        Ok(sent(alloc, call, report, &mut (id, source))?)
-    }
+    let mut pair = first_source(alloc, case)?;
+    sent(alloc, call, report, &mut pair)
+}
+
+/// The answer of a report over a reference to the first source alone.
+fn over_lent_pair<'c, S: Span<SourceId = String>>(
+    alloc: Global,
+    call: Call,
+    case: &'c Value,
+    report: &Report<'c, S>,
+) -> Read<'c, Answer> {
+    let (id, source) = first_source(alloc, case)?;
+    sent(alloc, call, report, &mut (id, &source))
 }
 
 /// The text of an id among these sources.
 fn answered(alloc: Global, sources: &[Value], id: &str) -> Result<String, ()> {
-    let is_named = |told: &&Value| told.get("id").and_then(Value::as_str) == Some(id);
-    let told = sources.iter().find(is_named);
-    match told
-        .and_then(|told| told.get("text"))
-        .and_then(Value::as_str)
-    {
-        Some(text) => match text.to_string(alloc) {
-            Ok(text) => Ok(text),
-            Err(_) => Err(()),
-        },
-        None => Err(()),
+    for source in sources {
+        if text(source, "id") == Some(id) {
+            return text(source, "text")
+                .unwrap_or("")
+                .to_string(alloc)
+                .or(Err(()));
+        }
     }
+    Err(())
 }
 
 /// The answer of a report over a cache whose function returns the texts.
 fn over_function<'c, S: Span<SourceId = String>>(
     alloc: Global,
     call: Call,
-    case: &'c Table,
+    case: &'c Value,
     report: &Report<'c, S>,
 ) -> Read<'c, Answer> {
-    let sources = list(case, "sources")?;
+    let sources = list(case, "sources");
     let get = |id: &String| -> Result<String, ()> { answered(alloc, sources, id.as_str()) };
-    Ok(sent(alloc, call, report, &mut FnCache::new(alloc, get))?)
+    sent(alloc, call, report, &mut FnCache::new(alloc, get))
 }

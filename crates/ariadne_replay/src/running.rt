@@ -1,17 +1,23 @@
 //! What is done with each case of a file.
 
-use crate::members::text;
+use crate::members::{has, text};
 use crate::mistake::{Mistake, Read};
 use crate::pieces::{Piece, line_at, pieces_of, unseen_line};
 use crate::replaying::answer_of;
 use crate::sending::Answer;
-use crate::stored::{Stored, stored_of};
+use crate::stored::stored_of;
 use crate::telling::{tell_answer, tell_case, tell_difference, tell_mistake};
 use std::alloc::Global;
 use std::collections::HashSet;
-use std::rt::Files;
 use std::{fs, io};
-use toml::Table;
+use toml::Value;
+use toml::de::Error;
+
+/// What is wrong with a line that holds a character that can't be seen, or ends in a blank.
+const UNSEEN: &str = "a character that can't be seen stands here as it is";
+
+/// What is wrong with members that stand above the first case of a file.
+const ABOVE: &str = "what stands above the first case is no comment";
 
 /// What is done with each case.
 #[derive(Clone, Copy)]
@@ -35,80 +41,40 @@ pub struct Run {
     pub otherwise: u32,
 }
 
-/// The members of a piece, or what keeps it from being read and the line of the file.
-fn members_of<'p>(alloc: Global, piece: &Piece<'p>) -> Result<Table, (usize, Mistake<'p>)> {
-    if let Some(line) = unseen_line(piece.text) {
-        return Err((piece.line.saturating_add(line), Mistake::Unseen));
-    }
-    match toml::table_from_str(alloc, piece.text) {
-        Ok(case) => Ok(case),
-        Err(error) => match error.span() {
-            None => Err((piece.line, Mistake::Memory)),
-            Some(place) => {
-                let line = line_at(piece.text, place.start);
-                Err((piece.line.saturating_add(line), Mistake::Syntax(error)))
-            }
-        },
+/// The line of the file in which a piece is no TOML.
+fn line_of(piece: &Piece<'_>, error: &Error) -> usize {
+    match error.span() {
+        Some(place) => piece.line.saturating_add(line_at(piece.text, place.start)),
+        None => piece.line,
     }
 }
 
-/// What a case stores, and its answer.
-fn judged<'c>(rt: &(impl AllocGlobal + Files), case: &'c Table) -> Read<'c, (Stored<'c>, Answer)> {
-    let answer = answer_of(rt, case)?;
-    Ok((stored_of(rt.alloc(), case)?, answer))
+/// Compares an answer with what its case stores, tells where they differ, and returns whether they are
+/// the same.
+fn compare(rt: &HostRuntime, piece: &Piece<'_>, case: &Value, answer: &Answer) -> io::Result<bool> {
+    let stored = stored_of(rt.alloc(), case)?;
+    let is_met = stored.is_met_by(answer);
+    if !is_met {
+        tell_difference(rt, piece, &stored, answer)?;
+    }
+    Ok(is_met)
 }
 
-/// Compares a case with what it stores, tells where they differ, and returns whether they are the
-/// same.
-fn compare(
-    rt: &(impl Print + AllocGlobal + Files),
+/// Tells what the task asks of a case, and returns whether all is well.
+fn tell(
+    rt: &HostRuntime,
+    task: Task<'_>,
     piece: &Piece<'_>,
+    case: &Value,
     name: &str,
-    case: &Table,
+    answer: &Answer,
 ) -> io::Result<bool> {
-    match judged(rt, case) {
-        Ok((stored, answer)) => {
-            let is_met = stored.is_met_by(&answer);
-            if !is_met {
-                println!(rt;
-                    "{}:{}: '{name}' is drawn otherwise",
-                    piece.file,
-                    piece.head()
-                )?;
-                tell_difference(rt, &stored, &answer)?;
-            }
-            Ok(is_met)
-        }
-        Err(mistake) => {
-            tell_mistake(rt, piece.file, piece.head(), name, &mistake)?;
-            Ok(false)
-        }
+    match task {
+        Task::Compare => return compare(rt, piece, case, answer),
+        Task::Answer => tell_answer(rt, name, answer)?,
+        Task::Accept(_) => tell_case(rt, piece.text, answer)?,
     }
-}
-
-/// Prints the answer to a case, or else the case with what was drawn. Returns whether it could be
-/// read.
-fn print(
-    rt: &(impl Print + AllocGlobal + Files),
-    piece: &Piece<'_>,
-    name: &str,
-    case: &Table,
-    is_answer: bool,
-) -> io::Result<bool> {
-    match answer_of(rt, case) {
-        Ok(answer) => {
-            if is_answer {
-                tell_answer(rt, name, &answer)?;
-            } else {
-                tell_case(rt, piece.text, &answer)?;
-            }
-            Ok(true)
-        }
-        Err(mistake) => {
-            tell_mistake(rt, piece.file, piece.head(), name, &mistake)?;
-            Ok(false)
-        }
-    }
+    Ok(true)
 }
 
 impl Run {
@@ -127,75 +93,99 @@ impl Run {
         self.otherwise = self.otherwise.saturating_add(u32::from(!is_well));
     }
 
+    /// Tells what is wrong with a piece, and in which line of its file.
+    fn refuse(
+        &mut self,
+        rt: &HostRuntime,
+        piece: &Piece<'_>,
+        line: usize,
+        wrong: &str,
+    ) -> io::Result<()> {
+        self.count(false);
+        tell_mistake(rt, piece, line, wrong)
+    }
+
     /// The name of a case, which no case before it has.
-    fn name_of<'c>(&mut self, alloc: Global, case: &'c Table) -> Read<'c, &'c str> {
-        let name = text(case, "name")?;
+    fn name_of<'c>(&mut self, alloc: Global, case: &'c Value) -> Read<'c, &'c str> {
+        let Some(name) = text(case, "name") else {
+            return Err(Mistake::Odd("name", "missing, or no text"));
+        };
         if self.names.insert(name.to_string(alloc)?)? {
             return Ok(name);
         }
         Err(Mistake::Odd(name, "the name of another case too"))
     }
 
-    /// Tells that a piece can't be read.
-    fn refuse(
+    /// The name and the answer of a case, if the task speaks of it.
+    fn answered<'c>(
         &mut self,
-        rt: &impl Print,
-        piece: &Piece<'_>,
-        line: usize,
-        mistake: &Mistake<'_>,
-    ) -> io::Result<()> {
-        self.count(false);
-        tell_mistake(rt, piece.file, line, piece.written_name(), mistake)
+        rt: &HostRuntime,
+        task: Task<'_>,
+        case: &'c Value,
+    ) -> Read<'c, Option<(&'c str, Answer)>> {
+        let name = self.name_of(rt.alloc(), case)?;
+        match task {
+            Task::Accept(wanted) if wanted != name => Ok(None),
+            Task::Compare if !has(case, "picture") => Err(Mistake::Odd("picture", "missing")),
+            _ => Ok(Some((name, answer_of(rt, case)?))),
+        }
     }
 
     /// Does the task with a case.
     fn take(
         &mut self,
-        rt: &(impl Print + AllocGlobal + Files),
+        rt: &HostRuntime,
         task: Task<'_>,
         piece: &Piece<'_>,
-        case: &Table,
+        case: &Value,
     ) -> io::Result<()> {
-        let name = match self.name_of(rt.alloc(), case) {
-            Ok(name) => name,
-            Err(mistake) => return self.refuse(rt, piece, piece.head(), &mistake),
+        let (name, answer) = match self.answered(rt, task, case) {
+            Ok(Some(answered)) => answered,
+            Ok(None) => return Ok(()),
+            Err(mistake) => {
+                let wrong = mistake.to_string(rt.alloc())?;
+                return self.refuse(rt, piece, piece.head(), wrong.as_str());
+            }
         };
-        let is_well = match task {
-            Task::Compare => compare(rt, piece, name, case)?,
-            Task::Answer => print(rt, piece, name, case, true)?,
-            Task::Accept(wanted) if name != wanted => return Ok(()),
-            Task::Accept(_) => print(rt, piece, name, case, false)?,
-        };
+        let is_well = tell(rt, task, piece, case, name, &answer)?;
         self.count(is_well);
         Ok(())
     }
 
-    /// Does the task with each case of a text. What stands above the first case has no members.
+    /// Does the task with a piece of a file. What stands above the first case has no members.
+    fn take_piece(
+        &mut self,
+        rt: &HostRuntime,
+        task: Task<'_>,
+        piece: &Piece<'_>,
+    ) -> io::Result<()> {
+        if let Some(line) = unseen_line(piece.text) {
+            return self.refuse(rt, piece, piece.line.saturating_add(line), UNSEEN);
+        }
+        match toml::table_from_str(rt.alloc(), piece.text) {
+            Ok(case) if piece.line > 1 => self.take(rt, task, piece, &Value::Table(case)),
+            Ok(case) if case.is_empty() => Ok(()),
+            Ok(_) => self.refuse(rt, piece, piece.line, ABOVE),
+            Err(error) => self.refuse(rt, piece, line_of(piece, &error), error.message()),
+        }
+    }
+
+    /// Does the task with each case of a text.
     pub fn take_all(
         &mut self,
-        rt: &(impl Print + AllocGlobal + Files),
+        rt: &HostRuntime,
         task: Task<'_>,
         file: &str,
         text: &str,
     ) -> io::Result<()> {
-        for (position, piece) in pieces_of(rt.alloc(), file, text)?.iter().enumerate() {
-            match members_of(rt.alloc(), piece) {
-                Ok(case) if position > 0 => self.take(rt, task, piece, &case)?,
-                Ok(case) if case.is_empty() => (),
-                Ok(_) => self.refuse(rt, piece, piece.line, &Mistake::Above)?,
-                Err((line, mistake)) => self.refuse(rt, piece, line, &mistake)?,
-            }
+        for piece in pieces_of(rt.alloc(), file, text)?.iter() {
+            self.take_piece(rt, task, piece)?;
         }
         Ok(())
     }
 
     /// Does the task with each case of a file.
-    pub fn take_file(
-        &mut self,
-        rt: &(impl Print + AllocGlobal + Files),
-        task: Task<'_>,
-        file: &str,
-    ) -> io::Result<()> {
+    pub fn take_file(&mut self, rt: &HostRuntime, task: Task<'_>, file: &str) -> io::Result<()> {
         match fs::read_to_string(rt, file) {
             Ok(text) => self.take_all(rt, task, file, text.as_str()),
             Err(_) => {

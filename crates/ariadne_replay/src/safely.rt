@@ -1,137 +1,178 @@
 //! Draws the report of a case safely: over texts that can be shown.
 
-use crate::case::id_of;
-use crate::making::{Told, config_of, kind_of, label_of, own_span, told_of};
-use crate::members::{count_if_any, list, table_of, text, text_if_any};
+use crate::making::{config_of, dressed, id_of, kind_of, offsets_at};
+use crate::members::{count, list, text, word};
 use crate::mistake::{Mistake, Read};
 use crate::sending::{Answer, answer_to};
-use ariadne::Label;
+use ariadne::{Config, Label, ReportKind};
 use ariadne_safe::{LineEnds, SafeBuilder, SafeKind, SafeSource, SafeSources, TextKind, visible};
-use std::alloc::Global;
+use std::alloc::{AllocError, Global};
 use std::ops::Range;
-use toml::Table;
+use toml::Value;
 
-/// A piece of a source that a case names by its id.
-type Named = (String, Range<usize>);
+/// A place: the number of its source, and its offsets.
+type Numbered = (usize, Range<usize>);
 
-/// What ends a line of a case's sources.
-fn line_ends_of(word: &str) -> Read<'_, LineEnds> {
-    match word {
-        "All" => Ok(LineEnds::All),
-        "LineFeeds" => Ok(LineEnds::LineFeeds),
-        _ => Err(Mistake::Odd(word, "not All or LineFeeds")),
-    }
-}
+static LINE_ENDS: [(&str, LineEnds); 2] = [
+    ("All", LineEnds::All),
+    ("LineFeeds", LineEnds::LineFeeds),
+];
 
 /// A text of a case as a source.
 fn source_of<'c>(
     alloc: Global,
-    text: &'c str,
-    told: &'c Table,
+    text: &str,
+    told: &'c Value,
     lines: LineEnds,
 ) -> Read<'c, SafeSource> {
     let source = SafeSource::new(alloc, text, lines)?;
-    let offset = count_if_any(told, "line_offset")?.unwrap_or(0) as usize;
+    let offset = count(told, "line_offset").unwrap_or(0) as usize;
     if source.source().lines().len() > usize::MAX - offset {
         return Err(Mistake::Odd("line_offset", "too great for the lines of the source"));
     }
     Ok(source.with_display_line_offset(offset))
 }
 
-/// The sources of a case, in their order. One whose name is hidden has none.
-fn sources_of(alloc: Global, case: &Table, lines: LineEnds) -> Read<'_, SafeSources> {
-    let mut sources = SafeSources::new(alloc);
-    if let Some(only) = text_if_any(case, "source")? {
-        sources.add(source_of(alloc, only, case, lines)?)?;
-        return Ok(sources);
+/// A source of several. One whose name is hidden has none.
+fn named_source<'c>(
+    alloc: Global,
+    case: &Value,
+    told: &'c Value,
+    lines: LineEnds,
+) -> Read<'c, SafeSource> {
+    let source = source_of(alloc, text(told, "text").unwrap_or(""), told, lines)?;
+    let id = text(told, "id");
+    if text(case, "hidden") == id {
+        return Ok(source);
     }
-    let hidden = text_if_any(case, "hidden")?;
-    for told in list(case, "sources")? {
-        let told = table_of(told, "sources")?;
-        let id = text(told, "id")?;
-        let source = source_of(alloc, text(told, "text")?, told, lines)?;
-        if hidden == Some(id) {
-            sources.add(source)?;
-        } else {
-            sources.add(source.with_name(id)?)?;
-        }
+    Ok(source.with_name(id.unwrap_or(""))?)
+}
+
+/// The sources of a case, in their order.
+fn sources_of(alloc: Global, case: &Value, lines: LineEnds) -> Read<'_, SafeSources> {
+    let mut sources = SafeSources::new(alloc);
+    if let Some(only) = text(case, "source") {
+        sources.add(source_of(alloc, only, case, lines)?)?;
+    }
+    for told in list(case, "sources") {
+        sources.add(named_source(alloc, case, told, lines)?)?;
     }
     Ok(sources)
 }
 
 /// The number of the source with an id, of which the last one counts. One that is missing has the
 /// number behind them, and a case's only source without an id has the number 0.
-fn number_of<'c>(case: &'c Table, id: &str) -> Read<'c, usize> {
-    let sources = list(case, "sources")?;
+fn number_of(case: &Value, id: &str) -> usize {
+    let sources = list(case, "sources");
     let mut number = sources.len();
     for (place, told) in sources.iter().enumerate() {
-        if text(table_of(told, "sources")?, "id")? == id {
+        if text(told, "id") == Some(id) {
             number = place;
         }
     }
-    Ok(number)
+    number
+}
+
+/// The place that a case tells of its report or of a label.
+fn place_of(case: &Value, told: &Value) -> Numbered {
+    let offsets = offsets_at(told);
+    (
+        number_of(case, id_of(case, told)),
+        offsets.start..offsets.end,
+    )
 }
 
 /// A label of a case, over the numbers of its sources.
-fn numbered<'c>(
-    alloc: Global,
-    case: &'c Table,
-    told: &'c Table,
-) -> Read<'c, Label<(usize, Range<usize>)>> {
-    let label: Label<Named> = label_of(alloc, case, told)?;
-    let number = number_of(case, id_of(case, told)?)?;
-    let mut safe = Label::new((number, label.span().1.start..label.span().1.end))
-        .with_order(label.order())
-        .with_priority(label.priority());
-    if let Some(color) = label.color() {
-        safe = safe.with_color(color);
-    }
-    match label.message() {
-        Some(message) => Ok(safe.with_message(alloc, message)?),
-        None => Ok(safe),
+fn label_of(alloc: Global, case: &Value, told: &Value) -> Result<Label<Numbered>, AllocError> {
+    let (number, place) = place_of(case, told);
+    let label = Label::new((number, place.start..place.end.max(place.start)));
+    dressed(alloc, label, told)
+}
+
+/// A report with the code and the message of its case.
+fn headed<'r>(builder: SafeBuilder<'r>, case: &Value) -> Result<SafeBuilder<'r>, AllocError> {
+    let builder = match text(case, "code") {
+        Some(code) => builder.with_code_text(code)?,
+        None => builder,
+    };
+    match text(case, "message") {
+        Some(message) => builder.with_message(message),
+        None => Ok(builder),
     }
 }
 
-/// A report over sources, with the texts that a case tells.
-fn begun<'c, 'r>(
-    alloc: Global,
-    told: &Told<'c>,
-    sources: &'r SafeSources,
-    kind: SafeKind<'r>,
-    place: (usize, Range<usize>),
-) -> Read<'c, SafeBuilder<'r>> {
-    let mut builder = SafeBuilder::new(alloc, sources, kind, place, config_of(told.settings));
-    if let Some(code) = told.code {
-        builder = builder.with_code_text(code)?;
-    }
-    if let Some(message) = told.message {
-        builder = builder.with_message(message)?;
-    }
-    for help in told.helps.iter() {
-        builder = builder.with_help(*help)?;
-    }
-    for note in told.notes.iter() {
-        builder = builder.with_note(*note)?;
+/// A report with the helps of its case.
+fn helped<'r>(builder: SafeBuilder<'r>, case: &Value) -> Result<SafeBuilder<'r>, AllocError> {
+    let mut builder = builder;
+    for help in list(case, "helps") {
+        builder = builder.with_help(help.as_str().unwrap_or(""))?;
     }
     Ok(builder)
 }
 
-/// The answer of a case's report, drawn safely. The word says what ends a line of its sources.
-pub fn answer_safely<'c>(alloc: Global, case: &'c Table, word: &'c str) -> Read<'c, Answer> {
-    let sources = sources_of(alloc, case, line_ends_of(word)?)?;
-    let told = told_of(alloc, case)?;
-    let (name, color) = told.kind;
-    let name = visible(alloc, name, TextKind::OneRow)?;
-    let Some(kind) = SafeKind::new(kind_of(name.as_str(), color)) else {
-        return Err(Mistake::Odd("kind", "hidden"));
-    };
-    let own: Named = own_span(alloc, case)?;
-    let place = (number_of(case, id_of(case, case)?)?, own.1.start..own.1.end);
-    let mut builder = begun(alloc, &told, &sources, kind, place)?;
-    for item in list(case, "labels")? {
-        builder = builder.with_label(numbered(alloc, case, table_of(item, "labels")?)?)?;
+/// A report with the notes of its case.
+fn noted<'r>(builder: SafeBuilder<'r>, case: &Value) -> Result<SafeBuilder<'r>, AllocError> {
+    let mut builder = builder;
+    for note in list(case, "notes") {
+        builder = builder.with_note(note.as_str().unwrap_or(""))?;
     }
+    Ok(builder)
+}
+
+/// A report with the labels of its case.
+fn labelled<'r>(
+    alloc: Global,
+    builder: SafeBuilder<'r>,
+    case: &Value,
+) -> Result<SafeBuilder<'r>, AllocError> {
+    let mut builder = builder;
+    for told in list(case, "labels") {
+        builder = builder.with_label(label_of(alloc, case, told)?)?;
+    }
+    Ok(builder)
+}
+
+/// The answer of a report of a kind over sources.
+fn answer_over<'c, 'r>(
+    alloc: Global,
+    case: &'c Value,
+    sources: &'r SafeSources,
+    kind: SafeKind<'r>,
+    config: Config,
+) -> Read<'c, Answer> {
+    let builder = SafeBuilder::new(alloc, sources, kind, place_of(case, case), config);
+    let builder = noted(helped(headed(builder, case)?, case)?, case)?;
+    let report = labelled(alloc, builder, case)?.finish();
     let mut out = Vec::new(alloc);
-    let answered = builder.finish().write(&mut out);
-    Ok(answer_to(alloc, out, answered)?)
+    let told = report.write(&mut out);
+    answer_to(alloc, out, told)
+}
+
+/// A kind under another name, if it has a name of its own.
+fn renamed<'n>(kind: ReportKind<'_>, name: &'n str) -> ReportKind<'n> {
+    match kind {
+        ReportKind::Error => ReportKind::Error,
+        ReportKind::Warning => ReportKind::Warning,
+        ReportKind::Advice => ReportKind::Advice,
+        ReportKind::Custom(_, color) => ReportKind::Custom(name, color),
+    }
+}
+
+/// The answer of a case's report, drawn safely. The member says what ends a line of its sources.
+pub fn answer_safely(alloc: Global, case: &Value) -> Read<'_, Answer> {
+    let lines = word(
+        case,
+        "safe",
+        &LINE_ENDS,
+        LineEnds::All,
+        "not All or LineFeeds",
+    )?;
+    let kind = kind_of(case)?;
+    let config = config_of(case)?;
+    let sources = sources_of(alloc, case, lines)?;
+    let name = visible(alloc, kind.name(), TextKind::OneRow)?;
+    match SafeKind::new(renamed(kind, name.as_str())) {
+        Some(kind) => answer_over(alloc, case, &sources, kind, config),
+        None => Err(Mistake::Odd("kind", "hidden")),
+    }
 }

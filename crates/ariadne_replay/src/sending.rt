@@ -2,36 +2,17 @@
 
 ghost use Rattle.std.specs.Prelude.{Some};
 
-use crate::members::{count_if_any, text_if_any};
-use crate::mistake::{Mistake, Read};
+use crate::members::{count, word};
+use crate::mistake::Read;
 use ariadne::{Cache, LeftOut, Reason, Report, Sink, Span, WriteError};
 use ariadne_fakes::Taker;
 use std::alloc::{AllocError, Global};
 use std::io;
 use std::io::ErrorKind;
-use toml::Table;
-
-/// Why a label is left out.
-#[derive(Clone, Copy, PartialEq)]
-pub enum Why {
-    Unfetched,
-    PastSource,
-    CutsCharacter,
-}
-
-impl Why {
-    /// Its name.
-    pub fn name(self) -> &'static str {
-        match self {
-            Why::Unfetched => "Unfetched",
-            Why::PastSource => "PastSource",
-            Why::CutsCharacter => "CutsCharacter",
-        }
-    }
-}
+use toml::Value;
 
 /// What came of sending.
-#[derive(Clone, Copy, PartialEq)]
+#[derive(Clone, Copy)]
 pub enum End {
     Whole,
     Memory,
@@ -58,11 +39,12 @@ impl End {
 /// What comes of writing a report.
 #[derive(Drop)]
 pub struct Answer {
+    /// The labels that are left out, by their positions from 0, each with its reason:
+    /// `[[1, "PastSource"]]`.
+    pub left_out: String,
+    pub end: End,
     /// What is sent.
     pub picture: String,
-    /// The positions of the labels that are left out, from 0, each with its reason.
-    pub left_out: Vec<(usize, Why)>,
-    pub end: End,
 }
 
 /// By which call a report is written.
@@ -75,16 +57,18 @@ pub enum Call {
     WriteInPart(usize),
 }
 
+static CALLS: [(&str, Call); 3] = [
+    ("write", Call::Write),
+    ("write_for_stdout", Call::WriteForStdout),
+    ("write_to", Call::WriteTo),
+];
+
 /// The call that a case names.
-pub fn call_of(case: &Table) -> Read<'_, Call> {
-    match (count_if_any(case, "takes")?, text_if_any(case, "call")?) {
-        (Some(room), None) => Ok(Call::WriteInPart(room as usize)),
-        (Some(_), Some(word)) => Err(Mistake::Odd(word, "a call beside 'takes'")),
-        (None, None | Some("write")) => Ok(Call::Write),
-        (None, Some("write_for_stdout")) => Ok(Call::WriteForStdout),
-        (None, Some("write_to")) => Ok(Call::WriteTo),
-        (None, Some(word)) => Err(Mistake::Odd(word, "not a call that writes")),
+pub fn call_of(case: &Value) -> Read<'_, Call> {
+    if let Some(room) = count(case, "takes") {
+        return Ok(Call::WriteInPart(room as usize));
     }
+    word(case, "call", &CALLS, Call::Write, "not a call that writes")
 }
 
 /// A sink that takes all that it is given.
@@ -115,12 +99,12 @@ impl Sink for Keeper {
 }
 
 /// The answer of a report over a cache.
-pub fn sent<S: Span, C: Cache<S::SourceId>>(
+pub fn sent<'c, S: Span, C: Cache<S::SourceId>>(
     alloc: Global,
     call: Call,
     report: &Report<'_, S>,
     cache: &mut C,
-) -> Result<Answer, AllocError>
+) -> Read<'c, Answer>
     requires { C.can_fetch cache.old }
 {
     let mut out = Vec::new(alloc);
@@ -150,46 +134,58 @@ pub fn sent<S: Span, C: Cache<S::SourceId>>(
 }
 
 /// The answer, of the bytes that were sent and of what the call told.
-pub fn answer_to<E: Drop>(
+pub fn answer_to<'c, E: Drop>(
     alloc: Global,
     bytes: Vec<u8>,
     told: Result<Vec<LeftOut<E>>, WriteError>,
-) -> Result<Answer, AllocError> {
-    let count = bytes.len();
-    let Ok(picture) = String::from_utf8(bytes) else {
-        return Ok(Answer {
-            picture: String::new(alloc),
-            left_out: Vec::new(alloc),
+) -> Read<'c, Answer> {
+    let end = end_of(&told, bytes.len());
+    let left_out = match told {
+        Ok(left_out) => listed(alloc, left_out.as_slice())?,
+        Err(_) => String::from_str(alloc, "[]")?,
+    };
+    match String::from_utf8(bytes) {
+        Ok(picture) => Ok(Answer {
+            left_out,
+            end,
+            picture,
+        }),
+        Err(_) => Ok(Answer {
+            left_out,
             end: End::NoText,
-        });
-    };
-    let (left_out, end) = match told {
-        Ok(left_out) => (reasons_of(alloc, left_out.as_slice())?, End::Whole),
-        Err(WriteError::Memory(_)) => (Vec::new(alloc), End::Memory),
-        Err(WriteError::Io { sent, .. }) if sent == count => (Vec::new(alloc), End::Io),
-        Err(WriteError::Io { .. }) => (Vec::new(alloc), End::OtherCount),
-    };
-    Ok(Answer {
-        picture,
-        left_out,
-        end,
-    })
+            picture: String::new(alloc),
+        }),
+    }
 }
 
-/// The positions of the labels that are left out, each with its reason.
-fn reasons_of<E>(alloc: Global, left_out: &[LeftOut<E>]) -> Result<Vec<(usize, Why)>, AllocError> {
-    let mut reasons = Vec::new(alloc);
-    for left in left_out {
-        reasons.push((left.label, reason_of(&left.reason)))?;
+/// What came of a call, of which the writer took so many bytes.
+fn end_of<T>(told: &Result<T, WriteError>, count: usize) -> End {
+    match told {
+        Ok(_) => End::Whole,
+        Err(WriteError::Memory(_)) => End::Memory,
+        Err(WriteError::Io { sent, .. }) if *sent == count => End::Io,
+        Err(WriteError::Io { .. }) => End::OtherCount,
     }
-    Ok(reasons)
+}
+
+/// The labels that are left out, each with its reason, as a case writes them.
+fn listed<E>(alloc: Global, left_out: &[LeftOut<E>]) -> Result<String, AllocError> {
+    let mut list = String::from_str(alloc, "[")?;
+    let mut separator = "";
+    for left in left_out {
+        let (label, why) = (left.label, reason(&left.reason));
+        write!(list, "{separator}[{label}, \"{why}\"]")?;
+        separator = ", ";
+    }
+    list.push(']')?;
+    Ok(list)
 }
 
 /// A reason without what the cache said.
-fn reason_of<E>(reason: &Reason<E>) -> Why {
+fn reason<E>(reason: &Reason<E>) -> &'static str {
     match reason {
-        Reason::Unfetched(_) => Why::Unfetched,
-        Reason::PastSource => Why::PastSource,
-        Reason::CutsCharacter => Why::CutsCharacter,
+        Reason::Unfetched(_) => "Unfetched",
+        Reason::PastSource => "PastSource",
+        Reason::CutsCharacter => "CutsCharacter",
     }
 }
