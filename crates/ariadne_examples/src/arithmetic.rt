@@ -75,6 +75,19 @@ fn report(alloc: Global, Fault { at, opened }: Fault) -> Result<Report<'static>,
     Ok(builder.finish())
 }
 
+/// The picture of the report.
+static ROWS: [&str; 9] = [
+    "Error: unclosed bracket",
+    "   ,-[ <unknown>:1:7 ]",
+    "   |",
+    " 1 | 2*(3+4",
+    "   |   |   |",
+    "   |   `----- opened here",
+    "   |       |",
+    "   |       `- sum stops here",
+    "---'",
+];
+
 #[test]
 fn a_bracket_is_not_closed(rt: HostRuntime) {
     let closed: Vec<char> = "2*(3+4)".chars().collect(rt.alloc()).expect(&rt, "memory");
@@ -82,18 +95,7 @@ fn a_bracket_is_not_closed(rt: HostRuntime) {
     let open: Vec<char> = "2*(3+4".chars().collect(rt.alloc()).expect(&rt, "memory");
     let fault = sum(&open, 0).expect_err(&rt, "a bracket that is open");
     let mut source = Source::from(rt.alloc(), "2*(3+4").expect(&rt, "memory");
-    let rows = [
-        "Error: unclosed bracket",
-        "   ,-[ <unknown>:1:7 ]",
-        "   |",
-        " 1 | 2*(3+4",
-        "   |   |   |",
-        "   |   `----- opened here",
-        "   |       |",
-        "   |       `- sum stops here",
-        "---'",
-    ];
     let report = report(rt.alloc(), fault).expect(&rt, "memory");
     let picture = picture_of(&rt, &report, &mut source);
-    assert_rows(&rt, picture.as_str(), &rows)
+    assert_rows(&rt, picture.as_str(), &ROWS)
 }

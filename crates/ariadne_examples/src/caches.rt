@@ -53,6 +53,23 @@ impl<'s> Cache<&'s str> for Titled<'s> {
     }
 }
 
+/// The picture of the report.
+static ROWS: [&str; 13] = [
+    "Error: unknown fruit",
+    "   ,-[ <stdin>:1:5 ]",
+    "   |",
+    " 1 | use pear",
+    "   |     ^^|^",
+    "   |       `--- not among the fruit",
+    "   |",
+    "   |-[ fruit:1:1 ]",
+    "   |",
+    " 1 | apple",
+    "   | ^^|^^",
+    "   |   `---- there is only this one",
+    "---'",
+];
+
 #[test]
 fn an_id_is_shown_under_a_title(rt: HostRuntime) {
     let alloc = rt.alloc();
@@ -79,20 +96,5 @@ fn an_id_is_shown_under_a_title(rt: HostRuntime) {
         )
         .expect(&rt, "memory")
         .finish();
-    let rows = [
-        "Error: unknown fruit",
-        "   ,-[ <stdin>:1:5 ]",
-        "   |",
-        " 1 | use pear",
-        "   |     ^^|^",
-        "   |       `--- not among the fruit",
-        "   |",
-        "   |-[ fruit:1:1 ]",
-        "   |",
-        " 1 | apple",
-        "   | ^^|^^",
-        "   |   `---- there is only this one",
-        "---'",
-    ];
-    assert_rows(&rt, picture_of(&rt, &report, &mut cache).as_str(), &rows)
+    assert_rows(&rt, picture_of(&rt, &report, &mut cache).as_str(), &ROWS)
 }

@@ -70,19 +70,21 @@ fn refused(rt: &(impl Abort + AllocGlobal), text: &str) -> String {
     picture_of(rt, &report, &mut source)
 }
 
+/// The picture of the report.
+static ROWS: [&str; 7] = [
+    "[02] Error: `a` is no digit",
+    "   ,-[ <unknown>:1:3 ]",
+    "   |",
+    " 1 | 12a4",
+    "   |   |",
+    "   |   `-- no digit",
+    "---'",
+];
+
 #[test]
 fn each_refusal_is_a_report(rt: HostRuntime) {
     assert_eq!(rt; number("255").ok(), Some(255));
     assert!(rt; refused(&rt, "").starts_with("[01] Error: no number\n"));
     assert!(rt; refused(&rt, "300").starts_with("[03] Error: more than 255\n"));
-    let rows = [
-        "[02] Error: `a` is no digit",
-        "   ,-[ <unknown>:1:3 ]",
-        "   |",
-        " 1 | 12a4",
-        "   |   |",
-        "   |   `-- no digit",
-        "---'",
-    ];
-    assert_rows(&rt, refused(&rt, "12a4").as_str(), &rows)
+    assert_rows(&rt, refused(&rt, "12a4").as_str(), &ROWS)
 }

@@ -67,6 +67,17 @@ fn unknown(alloc: Global, place: Place) -> Result<Report<'static, Place>, AllocE
     Ok(report.finish())
 }
 
+/// The picture of the report.
+static ROWS: [&str; 7] = [
+    "Error: unknown character",
+    "   ,-[ <unknown>:1:11 ]",
+    "   |",
+    " 1 | äpplë = 3 € 4",
+    "   |           |",
+    "   |           `-- no token has it",
+    "---'",
+];
+
 #[test]
 fn an_unknown_character_behind_others_of_two_bytes(rt: HostRuntime) {
     let mut tokens = Vec::new(rt.alloc());
@@ -75,15 +86,6 @@ fn an_unknown_character_behind_others_of_two_bytes(rt: HostRuntime) {
     let place = place.expect(&rt, "an unknown character");
     assert_eq!(rt; (tokens.len(), place.start, place.end), (3, 12, 15));
     let report = unknown(rt.alloc(), place).expect(&rt, "memory");
-    let rows = [
-        "Error: unknown character",
-        "   ,-[ <unknown>:1:11 ]",
-        "   |",
-        " 1 | äpplë = 3 € 4",
-        "   |           |",
-        "   |           `-- no token has it",
-        "---'",
-    ];
     let mut source = Source::from(rt.alloc(), text).expect(&rt, "memory");
-    assert_rows(&rt, picture_of(&rt, &report, &mut source).as_str(), &rows)
+    assert_rows(&rt, picture_of(&rt, &report, &mut source).as_str(), &ROWS)
 }

@@ -19,6 +19,23 @@ fn again(alloc: Global, here: Spot, before: Spot) -> Result<Report<'static, Spot
     Ok(report.finish())
 }
 
+/// The picture of the report.
+static ROWS: [&str; 13] = [
+    "Error: declared twice",
+    "   ,-[ pie.txt:2:5 ]",
+    "   |",
+    " 2 | let apple = 4;",
+    "   |     ^^|^^",
+    "   |       `---- again here",
+    "   |",
+    "   |-[ fruit.txt:1:5 ]",
+    "   |",
+    " 1 | let apple = 3;",
+    "   |     ^^|^^",
+    "   |       `---- first here",
+    "---'",
+];
+
 #[test]
 fn labels_in_files_by_number(rt: HostRuntime) {
     let alloc = rt.alloc();
@@ -32,20 +49,5 @@ fn labels_in_files_by_number(rt: HostRuntime) {
     let here = (pie, Place::at(19).to(Place::at(24)));
     let before = (fruit, Place::at(4).to(Place::at(9)));
     let report = again(alloc, here, before).expect(&rt, "memory");
-    let rows = [
-        "Error: declared twice",
-        "   ,-[ pie.txt:2:5 ]",
-        "   |",
-        " 2 | let apple = 4;",
-        "   |     ^^|^^",
-        "   |       `---- again here",
-        "   |",
-        "   |-[ fruit.txt:1:5 ]",
-        "   |",
-        " 1 | let apple = 3;",
-        "   |     ^^|^^",
-        "   |       `---- first here",
-        "---'",
-    ];
-    assert_rows(&rt, picture_of(&rt, &report, &mut files).as_str(), &rows)
+    assert_rows(&rt, picture_of(&rt, &report, &mut files).as_str(), &ROWS)
 }

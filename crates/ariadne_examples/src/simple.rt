@@ -25,24 +25,23 @@ pub(crate) fn draw<W: Write>(alloc: Global, out: &mut W) -> Result<(), WriteErro
     Ok(())
 }
 
+/// The picture of the report.
+static ROWS: [&str; 9] = [
+    "[03] Error: unknown name",
+    "   ,-[ <unknown>:1:11 ]",
+    "   |",
+    " 1 | let pie = aple + 1;",
+    "   |           ^^|^",
+    "   |             `--- no such name",
+    "   |",
+    "   | Help: did you mean `apple`?",
+    "---'",
+];
+
 #[test]
 fn a_label_a_code_and_a_help(rt: HostRuntime) {
     let mut out = Vec::new(rt.alloc());
     draw(rt.alloc(), &mut out).expect(&rt, "memory");
     let picture = String::from_utf8(out).expect(&rt, "text");
-    assert_rows(
-        &rt,
-        picture.as_str(),
-        &[
-            "[03] Error: unknown name",
-            "   ,-[ <unknown>:1:11 ]",
-            "   |",
-            " 1 | let pie = aple + 1;",
-            "   |           ^^|^",
-            "   |             `--- no such name",
-            "   |",
-            "   | Help: did you mean `apple`?",
-            "---'",
-        ],
-    )
+    assert_rows(&rt, picture.as_str(), &ROWS)
 }

@@ -63,6 +63,17 @@ fn report(alloc: Global) -> Result<Report<'static>, AllocError> {
     Ok(report.finish())
 }
 
+/// The picture of the report.
+static ROWS: [&str; 7] = [
+    "Error: unknown fruit",
+    "   ,-[ <unknown>:1:1 ]",
+    "   |",
+    " 1 | pear",
+    "   | ^^|^",
+    "   |   `--- not sold here",
+    "---'",
+];
+
 #[test]
 fn a_board_holds_the_picture_or_its_first_bytes(rt: HostRuntime) {
     let alloc = rt.alloc();
@@ -73,19 +84,10 @@ fn a_board_holds_the_picture_or_its_first_bytes(rt: HostRuntime) {
         .write_to(&mut source, &mut large)
         .expect(&rt, "memory");
     assert!(rt; !large.failed());
-    let rows = [
-        "Error: unknown fruit",
-        "   ,-[ <unknown>:1:1 ]",
-        "   |",
-        " 1 | pear",
-        "   | ^^|^",
-        "   |   `--- not sold here",
-        "---'",
-    ];
     assert_rows(
         &rt,
         String::from_utf8(large.bytes).expect(&rt, "text").as_str(),
-        &rows,
+        &ROWS,
     );
     let mut small = Board::new(alloc, 14);
     let answer = report.write_to(&mut source, &mut small);
