@@ -1,0 +1,66 @@
+-- What the columns of a line count, and the characters of a text that they mean. Lines count from 1
+-- and end at line feeds alone, as compilers count them. Columns count from 1, offsets count characters
+-- from 0, and a text is a list of characters.
+use Rattle.std.specs.Prelude.{ℕ, zero, suc, ◌+◌, ◌-◌, ◌%◌, Bool, false, not, ◌&&◌, ◌||◌, ◌==◌, nat_le}
+use Rattle.std.specs.Prelude.{max, if◌then◌else◌, List, [], ◌∷◌, drop, take, length, Option, None}
+use Rattle.std.specs.Prelude.{option_map, unwrap_or, slice_get}
+use Rattle.std.specs.List.{prefix_len}
+use Rattle.std.specs.Char.{is_ascii_alphanumeric, len_utf8}
+use Rattle.unicode_width.specs.Width.{char_width}
+use Rattle.ariadne_columns.specs.declared.unit.Unit.{Unit}
+use Rattle.ariadne_columns.specs.declared.unit.Unit.TheVariants.{Byte, Char, Display}
+
+-- ---- columns
+
+-- the columns of a character that stands behind `at` columns of its line. On a terminal a tab reaches
+-- to the next multiple of 8, and what has no width of its own has one column
+unfoldable pub columns_of : Unit → ℕ → ℕ → ℕ
+columns_of Byte at c = len_utf8 c
+columns_of Char at c = 1
+columns_of Display at c = if c == 9 then 8 - at % 8 else unwrap_or (char_width false c) 1
+
+-- how many characters end at most `limit` columns behind the start of their line, of which `at` are
+-- passed; none behind the line feed that ends it
+unfoldable pub passed : Unit → ℕ → ℕ → List ℕ → ℕ
+passed unit limit at [] = 0
+passed unit limit at (c ∷ line) =
+    let behind = at + columns_of unit at c in
+    if not (c == 10) && nat_le behind limit then suc (passed unit limit behind line) else 0
+
+-- the column of the character behind the first k of a line
+unfoldable pub columns_before : Unit → ℕ → ℕ → List ℕ → ℕ
+columns_before unit at zero line = at
+columns_before unit at (suc k) [] = at
+columns_before unit at (suc k) (c ∷ line) = columns_before unit (at + columns_of unit at c) k line
+
+-- ---- lines
+
+-- where lines begin in a text that stands at an offset: behind each line feed
+unfoldable pub begins_behind : ℕ → List ℕ → List ℕ
+begins_behind at [] = []
+begins_behind at (c ∷ t) =
+    if c == 10 then (at + 1) ∷ begins_behind (at + 1) t else begins_behind (at + 1) t
+
+-- where the lines of a text begin
+abbrev pub line_begins : List ℕ → List ℕ
+line_begins t = 0 ∷ begins_behind 0 t
+
+-- where a line begins, if the text has it
+unfoldable pub line_start : List ℕ → ℕ → Option ℕ
+line_start t zero = None
+line_start t (suc line) = slice_get (line_begins t) line
+
+-- the offset of a column of a line, if the text has that line: at most the end of the line
+unfoldable pub offset_of : Unit → List ℕ → ℕ → ℕ → Option ℕ
+offset_of unit t line column =
+    option_map (λ start. start + passed unit (column - 1) 0 (drop start t)) (line_start t line)
+
+-- ---- words
+
+-- letters and digits of ASCII, the low line, and all that is not ASCII
+abbrev pub is_word : ℕ → Bool
+is_word c = is_ascii_alphanumeric c || (c == 95) || nat_le 128 c
+
+-- the end of the word at an offset: behind one character where none stands there
+unfoldable pub word_end : List ℕ → ℕ → ℕ
+word_end t start = start + max (prefix_len is_word (drop start t)) 1
