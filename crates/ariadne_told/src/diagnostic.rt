@@ -1,0 +1,120 @@
+//! What a tool tells: a diagnostic, and the places that it is about.
+
+use ariadne_columns::Unit;
+use std::alloc::{AllocError, Global};
+
+/// How bad a diagnostic is.
+#[derive(Clone, Copy, Debug, PartialEq, Eq)]
+pub enum Severity {
+    /// It stops the tool, or makes it fail.
+    Error,
+    /// It may be a mistake.
+    Warning,
+    /// It only says something.
+    Note,
+}
+
+impl Severity {
+    /// The severity that tools give this name, if it is one.
+    pub fn of(name: &str) -> Option<Severity> {
+        match name {
+            "error" | "fatal error" | "internal compiler error" => Some(Severity::Error),
+            "error: internal compiler error" | "sorry, unimplemented" => Some(Severity::Error),
+            "warning" | "pedwarn" | "anachronism" => Some(Severity::Warning),
+            "note" | "help" | "info" | "style" | "remark" | "hint" => Some(Severity::Note),
+            "failure-note" | "advice" => Some(Severity::Note),
+            _ => None,
+        }
+    }
+
+    /// The name that lines give it.
+    pub fn name(self) -> &'static str {
+        match self {
+            Severity::Error => "error",
+            Severity::Warning => "warning",
+            Severity::Note => "note",
+        }
+    }
+}
+
+/// A line of a file, and a column of it. Both count from 1. Without a column it is the line from its
+/// start.
+#[derive(Clone, Copy, Debug, PartialEq, Eq)]
+pub struct Spot {
+    /// The line.
+    pub line: usize,
+    /// The column, in the unit of the place.
+    pub column: Option<usize>,
+}
+
+/// Where a place ends.
+#[derive(Clone, Copy, Debug, PartialEq, Eq)]
+pub enum End {
+    /// In front of the character that stands there.
+    Before(Spot),
+    /// Behind the character that stands there.
+    Behind(Spot),
+    /// Behind the word that it begins with; or at the end of its line, where it has no column.
+    OfWord,
+}
+
+/// A piece of a file, and what is said of it.
+#[derive(Debug, Drop)]
+pub struct Place {
+    /// The file's path, as the tool wrote it.
+    pub file: String,
+    /// Where the tool points.
+    pub caret: Spot,
+    /// Where it begins.
+    pub start: Spot,
+    /// Where it ends.
+    pub end: End,
+    /// What its columns count.
+    pub unit: Unit,
+    /// What is said of it; nothing where it is empty.
+    pub text: String,
+    /// Whether the diagnostic is about this place.
+    pub is_primary: bool,
+}
+
+/// What a tool tells.
+#[derive(Debug, Drop)]
+pub struct Diagnostic {
+    /// How bad it is.
+    pub severity: Severity,
+    /// Its code, as `E0308` or `-Wunused`.
+    pub code: Option<String>,
+    /// What it says.
+    pub message: String,
+    /// The places that it is about.
+    pub places: Vec<Place>,
+    /// What it says beside.
+    pub notes: Vec<String>,
+    /// What it proposes.
+    pub helps: Vec<String>,
+    /// Whether it sums up others, as rustc's `aborting due to 2 previous errors`. It counts as none.
+    pub is_sum: bool,
+}
+
+impl Diagnostic {
+    /// A diagnostic that says this, and has nothing else yet.
+    pub fn new(alloc: Global, severity: Severity, message: &str) -> Result<Diagnostic, AllocError> {
+        Ok(Diagnostic {
+            severity,
+            code: None,
+            message: String::from_str(alloc, message)?,
+            places: Vec::new(alloc),
+            notes: Vec::new(alloc),
+            helps: Vec::new(alloc),
+            is_sum: false,
+        })
+    }
+
+    /// The place that it is about: the first primary one, or the first.
+    pub fn main_place(&self) -> Option<&Place> {
+        match self.places.iter().find(|place| place.is_primary) {
+            Some(place) => Some(place),
+            None => self.places.first(),
+        }
+    }
+}

@@ -1,0 +1,215 @@
+//! Diagnostics of `rustc --error-format=json`, and of `cargo --message-format=json`.
+
+ghost use Rattle.std.specs.Prelude.{◌≡◌, is_some, option_map};
+ghost use Rattle.serde_json.specs.View.{view};
+ghost use Rattle.ariadne_told.specs.Told.{is_rustc as is_of_rustc, rustc_in};
+
+use crate::diagnostic::{Diagnostic, End, Place, Severity, Spot};
+use crate::json::{copied_text, has_list, is_true, items, number, text};
+use ariadne_columns::Unit;
+use serde_json::Value;
+use std::alloc::{AllocError, Global};
+
+/// How many expansions of macros are followed to a file of the user's.
+const EXPANSIONS: u8 = 64;
+
+/// The diagnostic that a value is, or, as cargo writes it, hands on: an object with a message, a level
+/// and spans.
+pub(crate) fn rustc_message(value: &Value) -> Option<&Value>
+    ensures { option_map (λ v. view v.now) result ≡ rustc_in (view value.now) }
+{
+    let message = match text(value, "reason") {
+        Some("compiler-message") => value.get("message")?,
+        Some(_) => return None,
+        None => value,
+    };
+    if is_rustc(message) {
+        Some(message)
+    } else {
+        None
+    }
+}
+
+/// Whether a value is a diagnostic of rustc's.
+fn is_rustc(value: &Value) -> bool
+    ensures { result ≡ is_of_rustc (view value.now) }
+{
+    text(value, "message").is_some() && text(value, "level").is_some() && has_list(value, "spans")
+}
+
+/// The diagnostic of a value that is one.
+pub(crate) fn told_by_rustc(alloc: Global, value: &Value) -> Result<Diagnostic, AllocError> {
+    let message = text(value, "message").unwrap_or("");
+    let severity = text(value, "level").and_then(Severity::of);
+    let mut told = Diagnostic::new(alloc, severity.unwrap_or(Severity::Error), message)?;
+    told.is_sum = is_sum(value, message);
+    if let Some(code) = value.get("code") {
+        told.code = copied_text(alloc, code, "code")?;
+    }
+    for span in items(value, "spans") {
+        let own_text = text(span, "label").unwrap_or("");
+        push_place(
+            alloc,
+            &mut told,
+            span,
+            own_text,
+            is_true(span, "is_primary"),
+        )?;
+        push_macro_call(alloc, &mut told, span)?;
+    }
+    for child in items(value, "children") {
+        push_child(alloc, &mut told, child)?;
+    }
+    Ok(told)
+}
+
+/// Whether a diagnostic has no place, and sums up others or says where to read more.
+fn is_sum(value: &Value, message: &str) -> bool {
+    items(value, "spans").is_empty()
+        && (text(value, "level") == Some("failure-note")
+            || message.starts_with("aborting due to ")
+            || message.ends_with(" emitted"))
+}
+
+/// Whether a span lies in a file that the user has.
+fn is_own(span: &Value) -> bool {
+    match text(span, "file_name") {
+        Some(name) => !name.starts_with('<') && !name.starts_with("/rustc/"),
+        None => false,
+    }
+}
+
+/// The span itself, or that of the macro call that made it, where that is the user's own.
+fn own_span(span: &Value) -> &Value {
+    let mut at = span;
+    for _ in 0..EXPANSIONS {
+        if is_own(at) {
+            break;
+        }
+        match at.get("expansion").and_then(|it| it.get("span")) {
+            Some(outer) => at = outer,
+            None => break,
+        }
+    }
+    at
+}
+
+/// One end of a span.
+fn spot(span: &Value, line: &str, column: &str) -> Option<Spot> {
+    Some(Spot {
+        line: number(span, line)?,
+        column: number(span, column),
+    })
+}
+
+/// Adds the place of a span, and what is said of it.
+fn push_place(
+    alloc: Global,
+    told: &mut Diagnostic,
+    span: &Value,
+    said: &str,
+    is_primary: bool,
+) -> Result<(), AllocError> {
+    let own = own_span(span);
+    let Some(start) = spot(own, "line_start", "column_start") else {
+        return Ok(());
+    };
+    let end = match spot(own, "line_end", "column_end") {
+        Some(end) => End::Before(end),
+        None => End::OfWord,
+    };
+    told.places.push(Place {
+        file: String::from_str(alloc, text(own, "file_name").unwrap_or(""))?,
+        caret: start,
+        start,
+        end,
+        unit: Unit::Char,
+        text: String::from_str(alloc, said)?,
+        is_primary,
+    })?;
+    Ok(())
+}
+
+/// Adds the place of the macro call that a span of the user's was made by.
+fn push_macro_call(alloc: Global, told: &mut Diagnostic, span: &Value) -> Result<(), AllocError> {
+    match span.get("expansion").and_then(|it| it.get("span")) {
+        Some(call) if is_own(span) && is_own(call) => {
+            push_place(alloc, told, call, "in this macro invocation", false)
+        }
+        _ => Ok(()),
+    }
+}
+
+/// Adds a note or a help: as labels where it has places, and with what it puts in.
+fn push_child(alloc: Global, told: &mut Diagnostic, child: &Value) -> Result<(), AllocError> {
+    let message = text(child, "message").unwrap_or("");
+    let spans = items(child, "spans");
+    if let Some(put_in) = suggestion(alloc, spans)? {
+        told.helps.push(format!(in alloc; "{message}: {put_in}")?)?;
+        return Ok(());
+    }
+    if !spans.is_empty() {
+        return push_noted_places(alloc, told, spans, message);
+    }
+    let said = String::from_str(alloc, message)?;
+    if text(child, "level") == Some("help") {
+        told.helps.push(said)?;
+    } else {
+        told.notes.push(said)?;
+    }
+    Ok(())
+}
+
+/// Adds the places of a note: the primary ones say the note, the others what they say themselves.
+fn push_noted_places(
+    alloc: Global,
+    told: &mut Diagnostic,
+    spans: &[Value],
+    message: &str,
+) -> Result<(), AllocError> {
+    for span in spans {
+        let said = match text(span, "label") {
+            Some(label) => label,
+            None if is_true(span, "is_primary") => message,
+            None => "",
+        };
+        push_place(alloc, told, span, said, false)?;
+    }
+    let is_said = spans.iter().any(|span| is_true(span, "is_primary")
+        && text(span, "label").is_none());
+    if !is_said {
+        told.notes.push(String::from_str(alloc, message)?)?;
+    }
+    Ok(())
+}
+
+/// What is put in at each of these spans, if any is.
+fn suggestion(alloc: Global, spans: &[Value]) -> Result<Option<String>, AllocError> {
+    let mut said = String::new(alloc);
+    for span in spans {
+        if let Some(put_in) = text(span, "suggested_replacement") {
+            if !said.is_empty() {
+                said.push_str(", ")?;
+            }
+            push_part(&mut said, alloc, span, put_in)?;
+        }
+    }
+    Ok(if said.is_empty() { None } else { Some(said) })
+}
+
+/// Adds what is put in at a span; where that is nothing, what is there is removed.
+fn push_part(
+    said: &mut String,
+    alloc: Global,
+    span: &Value,
+    put_in: &str,
+) -> Result<(), AllocError> {
+    let line = number(span, "line_start").unwrap_or(0);
+    let column = number(span, "column_start").unwrap_or(0);
+    let part = if put_in.is_empty() {
+        format!(in alloc; "remove what stands at {line}:{column}")?
+    } else {
+        format!(in alloc; "put `{put_in}` at {line}:{column}")?
+    };
+    said.push_str(part.as_str())
+}
