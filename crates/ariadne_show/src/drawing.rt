@@ -1,0 +1,316 @@
+//! A diagnostic as reports over the files that it is about.
+
+ghost use Rattle.std.specs.Prelude.{OnOk};
+ghost use Rattle.ariadne_show.specs.Shown.{AreDrawn, AreSomeDrawn, IsDrawn};
+
+use crate::fault::Fault;
+use crate::options::Style;
+use crate::shelf::Shelf;
+use ariadne::{CharSet, Color, Config, Label, ReportKind};
+use ariadne_safe::{SafeBuilder, SafeKind, SafeReport};
+use ariadne_told::{Diagnostic, Place, Severity};
+use std::alloc::{AllocError, Global};
+use std::io::Write;
+use std::ops::Range;
+
+/// The colour of notes.
+const NOTE: Color = Color::Fixed(147);
+
+/// The colour of the places that a diagnostic names beside its own.
+const BESIDE: Color = Color::Blue;
+
+/// A span of the source with a number.
+type Piece = (usize, Range<usize>);
+
+/// A place that a file has.
+#[derive(Clone, Copy, Debug)]
+struct FoundPlace<'a> {
+    number: usize,
+    caret: usize,
+    start: usize,
+    end: usize,
+    place: &'a Place,
+}
+
+/// Draws a diagnostic over its files, which were read; in one line, where that is asked for; in lines
+/// where its own place can't be had, which the last of them says.
+#[tactic(auto, using(crate::proofs::Chains::one_if))]
+pub fn draw<W: Write>(
+    alloc: Global,
+    shelf: &Shelf,
+    told: &Diagnostic,
+    style: Style,
+    out: &mut W,
+) -> Result<(), Fault>
+    ensures { OnOk result (AreSomeDrawn (W.contents out.old) (W.contents out.new)) }
+{
+    let Some(main) = told.main_place() else {
+        draw_line(alloc, shelf, told, style, out)?;
+        return draw_asides(alloc, shelf, told, style, out);
+    };
+    match found_place(shelf, main) {
+        Some(it) if !style.is_short => {
+            draw_report(&report_of(alloc, shelf, told, it, style)?, out)
+        }
+        Some(_) => draw_line(alloc, shelf, told, style, out),
+        None => {
+            draw_line(alloc, shelf, told, style, out)?;
+            draw_asides(alloc, shelf, told, style, out)?;
+            let text = missing_text(alloc, shelf, main)?;
+            draw_text(alloc, shelf, note_kind(), text.as_str(), style, out)
+        }
+    }
+}
+
+/// Draws a report.
+fn draw_report<W: Write>(report: &SafeReport<'_>, out: &mut W) -> Result<(), Fault>
+    ensures { OnOk result (IsDrawn (W.contents out.old) (W.contents out.new)) }
+{
+    let _left_out = report.write(out)?;
+    Ok(())
+}
+
+/// Draws a text as a report that has no place.
+fn draw_text<W: Write>(
+    alloc: Global,
+    shelf: &Shelf,
+    kind: SafeKind<'static>,
+    text: &str,
+    style: Style,
+    out: &mut W,
+) -> Result<(), Fault>
+    ensures { OnOk result (IsDrawn (W.contents out.old) (W.contents out.new)) }
+{
+    let builder = SafeBuilder::new(alloc, shelf.sources(), kind, (0, 0..0), config_of(style));
+    draw_report(&builder.with_message(text)?.finish(), out)
+}
+
+/// Draws the code, the place and the message of a diagnostic in one line.
+fn draw_line<W: Write>(
+    alloc: Global,
+    shelf: &Shelf,
+    told: &Diagnostic,
+    style: Style,
+    out: &mut W,
+) -> Result<(), Fault>
+    ensures { OnOk result (IsDrawn (W.contents out.old) (W.contents out.new)) }
+{
+    let text = line_text(alloc, told)?;
+    let kind = kind_of(told.severity);
+    let builder = SafeBuilder::new(alloc, shelf.sources(), kind, (0, 0..0), config_of(style));
+    let builder = with_code(builder.with_message(text.as_str())?, told)?;
+    draw_report(&builder.finish(), out)
+}
+
+/// Draws each place that says something, note and help of a diagnostic in a line.
+fn draw_asides<W: Write>(
+    alloc: Global,
+    shelf: &Shelf,
+    told: &Diagnostic,
+    style: Style,
+    out: &mut W,
+) -> Result<(), Fault>
+    ensures { OnOk result (AreDrawn (W.contents out.old) (W.contents out.new)) }
+{
+    let asides = aside_texts(alloc, told)?;
+    for text in &asides {
+        draw_text(alloc, shelf, note_kind(), text.as_str(), style, out)?;
+    }
+    Ok(())
+}
+
+/// What the places of a diagnostic say, and its notes and helps.
+fn aside_texts(alloc: Global, told: &Diagnostic) -> Result<Vec<String>, AllocError> {
+    let mut texts = Vec::new(alloc);
+    for place in told.places.iter().filter(|place| !place.text.is_empty()) {
+        texts.push(spot_text(alloc, place, place.text.as_str())?)?;
+    }
+    for note in &told.notes {
+        texts.push(note.clone()?)?;
+    }
+    for help in &told.helps {
+        texts.push(help.clone()?)?;
+    }
+    Ok(texts)
+}
+
+/// Where a diagnostic is, and what it says.
+fn line_text(alloc: Global, told: &Diagnostic) -> Result<String, AllocError> {
+    match told.main_place() {
+        Some(place) => spot_text(alloc, place, told.message.as_str()),
+        None => told.message.clone(),
+    }
+}
+
+/// Where a place begins, as `FILE:LINE:COLUMN`, and what is said of it.
+fn spot_text(alloc: Global, place: &Place, said: &str) -> Result<String, AllocError> {
+    let file = place.file.as_str();
+    let line = place.start.line;
+    match place.start.column {
+        Some(column) => format!(in alloc; "{file}:{line}:{column}: {said}"),
+        None => format!(in alloc; "{file}:{line}: {said}"),
+    }
+}
+
+/// Why a place can't be drawn.
+fn missing_text(alloc: Global, shelf: &Shelf, place: &Place) -> Result<String, AllocError> {
+    let file = place.file.as_str();
+    let line = place.start.line;
+    match shelf.get(file) {
+        Some(_) => format!(in alloc; "not drawn, since {file} has no line {line}"),
+        None => format!(in alloc; "not drawn, since {file} can't be read"),
+    }
+}
+
+/// Where a place stands, if its file could be read and has it.
+fn found_place<'a>(shelf: &Shelf, place: &'a Place) -> Option<FoundPlace<'a>> {
+    let held = shelf.get(place.file.as_str())?;
+    let span = held.span(place)?;
+    Some(FoundPlace {
+        number: held.number,
+        caret: held.caret(place).unwrap_or(span.start),
+        start: span.start,
+        end: span.end,
+        place,
+    })
+}
+
+/// The report of a diagnostic whose own place was found.
+fn report_of<'s>(
+    alloc: Global,
+    shelf: &'s Shelf,
+    told: &Diagnostic,
+    main: FoundPlace<'_>,
+    style: Style,
+) -> Result<SafeReport<'s>, AllocError> {
+    let kind = kind_of(told.severity);
+    let span = (main.number, main.caret..main.end.max(main.caret));
+    let builder = SafeBuilder::new(alloc, shelf.sources(), kind, span, config_of(style));
+    let builder = with_code(builder.with_message(told.message.as_str())?, told)?;
+    let builder = with_labels(alloc, builder, shelf, told, main.number)?;
+    Ok(with_asides(alloc, builder, shelf, told)?.finish())
+}
+
+/// The report with the code of a diagnostic, if it has one.
+fn with_code<'s>(
+    builder: SafeBuilder<'s>,
+    told: &Diagnostic,
+) -> Result<SafeBuilder<'s>, AllocError> {
+    match &told.code {
+        Some(code) => builder.with_code_text(code.as_str()),
+        None => Ok(builder),
+    }
+}
+
+/// The report with a label for each place that was found: those of the main file first, and in each
+/// file by their ends, since a label that ends on an earlier line than the one before it begins a new
+/// group.
+fn with_labels<'s>(
+    alloc: Global,
+    builder: SafeBuilder<'s>,
+    shelf: &Shelf,
+    told: &Diagnostic,
+    main: usize,
+) -> Result<SafeBuilder<'s>, AllocError> {
+    let mut places = Vec::new(alloc);
+    for place in &told.places {
+        if let Some(it) = found_place(shelf, place) {
+            places.push(it)?;
+        }
+    }
+    places.sort_by_key(|it| (it.number != main, it.number, it.end, it.start))?;
+    let mut builder = builder;
+    for it in &places {
+        builder = builder.with_label(label_of(alloc, told.severity, it)?)?;
+    }
+    Ok(builder)
+}
+
+/// The label of a place.
+fn label_of(
+    alloc: Global,
+    severity: Severity,
+    it: &FoundPlace<'_>,
+) -> Result<Label<Piece>, AllocError> {
+    let color = if it.place.is_primary {
+        color_of(severity)
+    } else {
+        BESIDE
+    };
+    let label = Label::new((it.number, it.start..it.end.max(it.start))).with_color(color);
+    match place_text(it.place) {
+        "" => Ok(label),
+        said => label.with_message(alloc, said),
+    }
+}
+
+/// What the label of a place says. One without a text is drawn only beside others, so that of the
+/// diagnostic's own place has a word.
+fn place_text(place: &Place) -> &str {
+    match place.text.as_str() {
+        "" if place.is_primary => "here",
+        said => said,
+    }
+}
+
+/// The report with the notes and helps, and a note for each place that can't be drawn.
+fn with_asides<'s>(
+    alloc: Global,
+    builder: SafeBuilder<'s>,
+    shelf: &Shelf,
+    told: &Diagnostic,
+) -> Result<SafeBuilder<'s>, AllocError> {
+    let mut builder = builder;
+    for place in &told.places {
+        if found_place(shelf, place).is_none() {
+            let note = spot_text(alloc, place, place_text(place))?;
+            builder = builder.with_note(note.as_str())?;
+        }
+    }
+    for note in &told.notes {
+        builder = builder.with_note(note.as_str())?;
+    }
+    for help in &told.helps {
+        builder = builder.with_help(help.as_str())?;
+    }
+    Ok(builder)
+}
+
+/// The kind of a report.
+fn kind_of(severity: Severity) -> SafeKind<'static> {
+    match severity {
+        Severity::Error => SafeKind::error(),
+        Severity::Warning => SafeKind::warning(),
+        Severity::Note => note_kind(),
+    }
+}
+
+/// The kind of notes.
+fn note_kind() -> SafeKind<'static> {
+    match SafeKind::new(ReportKind::Custom("Note", NOTE)) {
+        Some(kind) => kind,
+        None => SafeKind::advice(),
+    }
+}
+
+/// The colour of the label at a diagnostic's own place.
+fn color_of(severity: Severity) -> Color {
+    match severity {
+        Severity::Error => Color::Red,
+        Severity::Warning => Color::Yellow,
+        Severity::Note => NOTE,
+    }
+}
+
+/// The configuration of pictures.
+fn config_of(style: Style) -> Config {
+    let char_set = if style.is_ascii {
+        CharSet::Ascii
+    } else {
+        CharSet::Unicode
+    };
+    Config::new()
+        .with_color(style.is_colored)
+        .with_compact(style.is_compact)
+        .with_char_set(char_set)
+}

@@ -1,0 +1,83 @@
+//! A file as it is held: what its columns count, and the number of its source.
+
+ghost use Rattle.std.specs.Prelude.{◌≤◌, length, IfSome};
+
+use ariadne_columns::Columns;
+use ariadne_told::{End, Place, Spot, Unit};
+use std::alloc::{AllocError, Global};
+use std::ops::Range;
+
+/// The text of a file: its bytes as UTF-8, or where they are none, a character for each byte.
+#[derive(Debug, Drop)]
+pub struct FileText {
+    /// The text.
+    pub text: String,
+    /// Whether the bytes are UTF-8.
+    pub is_utf8: bool,
+}
+
+impl FileText {
+    /// The text of these bytes. On `Err` there was no memory for it.
+    pub fn new(alloc: Global, bytes: Vec<u8>) -> Result<FileText, AllocError> {
+        let is_utf8 = std::str::from_utf8(bytes.as_slice()).is_ok();
+        let text = if is_utf8 {
+            String::from_utf8_lossy(alloc, bytes.as_slice())?
+        } else {
+            latin_text(alloc, bytes.as_slice())?
+        };
+        Ok(FileText { text, is_utf8 })
+    }
+}
+
+/// A character for each byte: those of Latin-1.
+fn latin_text(alloc: Global, bytes: &[u8]) -> Result<String, AllocError> {
+    let mut text = String::new(alloc);
+    for byte in bytes {
+        text.push(*byte as char)?;
+    }
+    Ok(text)
+}
+
+/// A file that was read.
+#[derive(Debug, Drop)]
+pub struct Held {
+    /// The number of its source.
+    pub number: usize,
+    /// Its columns.
+    pub columns: Columns,
+    /// Whether it is UTF-8. Else each byte is a character.
+    pub is_utf8: bool,
+}
+
+impl Held {
+    /// The characters of a place, if the file has it: the first, from 0, and the one behind the last.
+    pub fn span(&self, place: &Place) -> Option<Range<usize>>
+        ensures { IfSome result (λ span. span.start ≤ span.end) }
+    {
+        let start = self.offset(place.unit, place.start, 1)?;
+        let end = match place.end {
+            End::Before(spot) => self.offset(place.unit, spot, usize::MAX)?,
+            End::Behind(spot) => self.offset(place.unit, spot, usize::MAX)?.saturating_add(1),
+            End::OfWord if place.start.column.is_some() => self.columns.word_end(start),
+            End::OfWord => self.offset(place.unit, place.start, usize::MAX)?,
+        };
+        Some(start..end.max(start))
+    }
+
+    /// The character that the tool points at, if the file has it.
+    pub fn caret(&self, place: &Place) -> Option<usize> {
+        self.offset(place.unit, place.caret, 1)
+    }
+
+    /// The offset of a spot, which is at this column where it names none.
+    fn offset(&self, unit: Unit, spot: Spot, column: usize) -> Option<usize>
+        ensures { IfSome result (λ offset. offset ≤ length self.now.columns) }
+    {
+        let unit = match unit {
+            Unit::Byte if !self.is_utf8 => Unit::Char,
+            _ => unit,
+        };
+        self.columns
+            .offset(unit, spot.line, spot.column.unwrap_or(column))
+    }
+}

@@ -1,0 +1,17 @@
+//! `ariadne-show`: what compilers and linters print, drawn over the files that it is about.
+#![tactic(auto)]
+
+pub mod drawing;
+pub mod fault;
+pub mod held;
+pub mod options;
+pub mod pages;
+pub mod shelf;
+pub mod showing;
+pub mod sum;
+
+pub use fault::{Fault, Status, tell_fault};
+pub use options::{Asked, Colors, Options, Style, read_words};
+pub use pages::{Page, show_page};
+pub use showing::show;
+pub use sum::Sum;
