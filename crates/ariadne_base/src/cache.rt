@@ -91,7 +91,8 @@ pub trait Cache<Id: Eq> {
 
     /// The source of an id, which is held from here on.
     ///
-    /// The cache is then as `ensure` leaves it. An error means that the id was not held.
+    /// The cache is then as `ensure` leaves it, which no clause here says: who uses the cache again
+    /// writes `ensure` and `get`. An error means that the id was not held.
     final fn fetch(&mut self, id: &Id) -> Result<&Source<Self::Storage>, FetchError<Self::Error>>
         requires { can_fetch self.old }
         ensures known { IfSome (held Id.eq (contents self.old) id.now) (λ s.

@@ -79,7 +79,8 @@ fn wide_separators(first: u8x64, second: u8x64, third: u8x64) -> u64
 pub(super) fn starts(block: u8x64) -> u64
     ensures { result ≡ mask_l (map is_char_start block) }
 {
-    // As signed numbers the others are those below -64, so this is one comparison a vector.
+    // The bytes that begin none are 0x80 to 0xBF. With 0x80 added they are those below 0x40, so
+    // this takes one comparison a vector.
     (block + u8x64::splat(0x80))
         .simd_ge(u8x64::splat(0x40))
         .to_bitmask()

@@ -24,7 +24,7 @@ returns-in-Err-clause-step g c =
 pub returns-in-Err-clause-rests : goal.returns-in-Err-clause-rests
 returns-in-Err-clause-rests g c = nothing-there _ (rw (← c.self.view_is) (none-there _ c.if-contains_key.ensures))
 
--- the function's error is answered as it is
+-- the function's error is returned as it is
 pub returns-in-Err-clause-called : goal.returns-in-Err-clause-called
 returns-in-Err-clause-called g c = λ none. (
   c.call_mut.result,
