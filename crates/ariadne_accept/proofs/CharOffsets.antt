@@ -1,18 +1,15 @@
 -- The number of characters before an offset in bytes: those before its line, and those of its line before it, where the offset lies inside no character.
 use Rattle.std.proofs.Common.{◌≡◌, ℕ, zero, suc, ◌+◌, ◌-◌, ◌<◌, ◌≤◌, Bool, true, false, List, [], ◌∷◌, ◌++◌, Some, None, refl, sym, ap, ◌∙◌}
-use Rattle.std.proofs.Common.{subst, arith, length, take, drop, get_or, sum_by, inl, inr, ◌==◌, ◌&&◌, find}
+use Rattle.std.proofs.Common.{subst, arith, length, take, drop, sum_by, inl, inr, ◌==◌, ◌&&◌, find}
 use Rattle.std.specs.List.{range_with_len, flat_map}
-use Rattle.std.specs.Prelude.{slice_range}
 use Rattle.std.specs.Str.{chars, IsUtf8, IsCharBoundary}
 use Rattle.std.proofs.Math.Utf8.{scalar, scalars, encodes}
 use Rattle.std.proofs.lemmas.Bool.{cases_Bool, cases_eq, and_parts, eq-eqb, eqb-true}
-use Rattle.std.proofs.lemmas.List.{take-append-drop, drop_more, length-append, take-append-le, length-take, length-take-le}
-use Rattle.std.proofs.lemmas.List.{get_or-append-add, get_or_append_left}
+use Rattle.std.proofs.lemmas.List.{take-append-drop, drop_more, length-append, take-append-le}
 use Rattle.std.proofs.lemmas.List.Concat.{length-flat_map}
 use Rattle.std.proofs.lemmas.Grind.{flat_map-append}
-use Rattle.std.proofs.Math.Seq.{take-append-add, take-append_seam}
-use Rattle.std.proofs.lemmas.Str.{encodes-append, encodes-chars, scalars-chars, chars-encodes, chars-append, length-le-encodes, IsCharBoundary-at_seam}
-use Rattle.std.proofs.lemmas.Str.{IsUtf8-take}
+use Rattle.std.proofs.Math.Seq.{take-append-add}
+use Rattle.std.proofs.lemmas.Str.{encodes-append, encodes-chars, scalars-chars, length-le-encodes, IsCharBoundary-at_seam}
 use Rattle.ariadne_base.specs.Lines.{lines_of}
 use Rattle.ariadne_base.specs.Locations.{byte_len, char_offset, column_at, line_at, line_offset, line_text}
 use Rattle.ariadne_base.specs.Table.{LineExtent, location_of}
@@ -93,7 +90,7 @@ offset_inside t b never =
 -- ---- the line of an offset
 
 -- the first of some characters are characters
-scalars_front : (xs ys : List ℕ) → scalars (xs ++ ys) ≡ true → scalars xs ≡ true
+pub scalars_front : (xs ys : List ℕ) → scalars (xs ++ ys) ≡ true → scalars xs ≡ true
 scalars_front [] ys h = refl
 scalars_front (x ∷ xs) ys h =
     let both = and_parts (scalar x) (scalars (xs ++ ys)) h in
@@ -109,7 +106,7 @@ module _ (text : List ℕ) (b : ℕ) where
   number = line_at byte_len lines b
 
   -- the characters of that line
-  abbrev line : List ℕ
+  abbrev pub line : List ℕ
   line = line_text lines number
 
   -- how many characters are before it
@@ -120,20 +117,16 @@ module _ (text : List ℕ) (b : ℕ) where
   abbrev column : ℕ
   column = column_at byte_len lines b
 
-  -- the bytes of the line before the offset
-  abbrev before : List ℕ
-  before = take column (encodes line)
-
   -- the characters before the line
-  abbrev front : List ℕ
+  abbrev pub front : List ℕ
   front = flat_map (λ l. l) (take number lines)
 
   -- the characters behind it
-  abbrev back : List ℕ
+  abbrev pub back : List ℕ
   back = flat_map (λ l. l) (drop (number + 1) lines)
 
   -- the characters of the text are those before the line, its own and those behind it
-  whole : chars text ≡ front ++ (line ++ back)
+  pub whole : chars text ≡ front ++ (line ++ back)
   whole =
       let there = (line_at_is byte_len lines b (some_line (chars text))).there in
       let cut : lines ≡ take number lines ++ (line ∷ drop (number + 1) lines) =
@@ -141,7 +134,7 @@ module _ (text : List ℕ) (b : ℕ) where
       sym (lines_joined (chars text)) ∙ ap (flat_map (λ l. l)) cut ∙ flat_map-append (λ l. l) (take number lines) (line ∷ drop (number + 1) lines)
 
   -- those before the line are as many as it begins behind
-  front_length : length front ≡ begins
+  pub front_length : length front ≡ begins
   unfolding line_offset
   front_length = length-flat_map (λ l. l) (take number lines)
 
@@ -178,11 +171,6 @@ module _ (text : List ℕ) (b : ℕ) where
           let near = in_line byte_len lines b (some_line (chars text)) (omega arith) in
           omega arith
 
-      -- the line is of characters
-      line_scalars : scalars line ≡ true
-      line_scalars =
-          scalars_front line back (scalars_behind front (line ++ back) (subst (λ cs. scalars cs ≡ true) whole (scalars-chars text utf8)))
-
       -- so many characters are before the offset, if those of the line before it have as many bytes as its column
       offset_counted : (k : ℕ) → k ≤ length line → byte_len (take k line) ≡ column → Some (begins + k) ≡ char_offset (chars text) b
       offset_counted k few is =
@@ -209,62 +197,12 @@ module _ (text : List ℕ) (b : ℕ) where
       narrow_fits : begins + column ≤ b
       narrow_fits = counted_fits column (omega arith)
 
-      -- what is a boundary of the text is one of its line
-      line_boundary : IsCharBoundary text b → IsCharBoundary (encodes line) column
-      line_boundary at =
-          let near = column_within in
-          let parts : text ≡ encodes front ++ (encodes line ++ encodes back) = sym (encodes-chars text utf8) ∙ ap encodes whole
-          ∙ encodes-append front (line ++ back) ∙ ap (λ bs. encodes front ++ bs) (encodes-append line back) in (
-            near,
-            λ less many.
-                let place : byte_len front + column ≡ b = front_bytes in
-                let same : get_or text b 0 ≡ get_or (encodes line) column 0 = ap (λ bs. get_or bs b 0) parts
-                ∙ ap (λ i. get_or (encodes front ++ (encodes line ++ encodes back)) i 0) (sym place)
-                ∙ get_or-append-add (encodes front) (encodes line ++ encodes back) column 0
-                ∙ get_or_append_left (encodes line) (encodes back) 0 column less in
-                let size : length text ≡ length (encodes front) + (length (encodes line) + length (encodes back)) = ap length parts
-                ∙ length-append (encodes front) (encodes line ++ encodes back)
-                ∙ ap (λ n. length (encodes front) + n) (length-append (encodes line) (encodes back)) in
-                let high = at.1 (omega arith) (omega arith) in
-                omega arith,
-          )
-
-      module _ (at : IsCharBoundary text b) where
-        -- the bytes of the line before a boundary are whole characters
-        before_utf8 : IsUtf8 before
-        before_utf8 = IsUtf8-take (encodes line) column (line, (line_scalars, refl)) (line_boundary at)
-
-        -- the first ones of the line
-        first_chars : take (length (chars before)) line ≡ chars before
-        first_chars =
-            let e = encodes line in
-            let split : line ≡ chars before ++ chars (drop column e) = sym (chars-encodes line line_scalars)
-            ∙ ap chars (sym (take-append-drop column e)) ∙ chars-append before (drop column e) before_utf8 in
-            ap (take (length (chars before))) split ∙ take-append_seam (chars before) (chars (drop column e))
-
-        -- with as many bytes as the column counts
-        before_bytes : byte_len (chars before) ≡ column
-        before_bytes = ap length (encodes-chars before before_utf8) ∙ length-take-le column (encodes line) column_within
-
-        -- so it is enough to count these
-        counted_offset : (k : ℕ) → k ≡ length (chars before) → Some (begins + k) ≡ char_offset (chars text) b
-        counted_offset k is =
-            let split : length (take (length (chars before)) line) ≡ length (chars before) = ap length first_chars in
-            let least : length (chars before) ≤ length line = omega (arith, length-take (length (chars before)) line) in
-            let bytes : byte_len (take k line) ≡ column = ap (λ n. byte_len (take n line)) is ∙ ap byte_len first_chars ∙ before_bytes in
-            offset_counted k (omega arith) bytes
-
-        -- of which there are no more than bytes
-        counted_within : (k : ℕ) → k ≡ length (chars before) → begins + k ≤ b
-        counted_within k is =
-            let few = length-le-encodes (chars before) in let bytes = before_bytes in counted_fits k (omega arith)
-
 -- ---- the same from what a look-up of the offset and of the text of its line returns
 
 module _ (text : List ℕ) (b : ℕ) (utf8 : IsUtf8 text) (within : b ≤ length text) (r : LineExtent) (n c : ℕ)
     (at : (r, n, c) ≡ location_of byte_len (lines_of (chars text)) b) (t : List ℕ) (own : t ≡ encodes (line_text (lines_of (chars text)) n)) where
   -- where the line begins
-  row_begins : r.offset ≡ begins text b
+  pub row_begins : r.offset ≡ begins text b
   row_begins = line_begins (lines text b) r (number text b) (place_line byte_len (lines text b) b r n c at)
 
   -- how many characters it has
@@ -288,22 +226,10 @@ module _ (text : List ℕ) (b : ℕ) (utf8 : IsUtf8 text) (within : b ≤ length
   pub narrow_found_fits : r.offset + c ≤ b
   narrow_found_fits = let fits = narrow_fits text b utf8 within in let x = row_begins in let y = column_is in omega arith
 
-  module _ (whole : IsCharBoundary text b) where
-    -- the column is a boundary of the text of the line
-    pub boundary_found : IsCharBoundary t c
-    boundary_found = rw (text_is, column_is) (line_boundary text b utf8 within whole)
+  -- the line begins so many bytes before the offset
+  pub row_bytes : b - c ≡ byte_len (front text b)
+  row_bytes = let bytes = front_bytes text b in let x = column_is in omega arith
 
-    -- the text before the offset, as it is cut out
-    cut_before : slice_range t 0 c ≡ before text b
-    cut_before =
-        let all : c - 0 ≡ column text b = omega (arith, column_is) in
-        ap (λ n. take n t) all ∙ ap (take (column text b)) text_is
-
-    -- the characters before it are those before the offset
-    pub counted_found : (k : ℕ) → k ≡ length (chars (slice_range t 0 c)) → Some (r.offset + k) ≡ char_offset (chars text) b
-    counted_found k is = rw row_begins (counted_offset text b utf8 within whole k (is ∙ ap (λ s. length (chars s)) cut_before))
-
-    -- their number fits where that of bytes does
-    pub counted_found_fits : (k : ℕ) → k ≡ length (chars (slice_range t 0 c)) → r.offset + k ≤ b
-    counted_found_fits k is =
-        let fits = counted_within text b utf8 within whole k (is ∙ ap (λ s. length (chars s)) cut_before) in let x = row_begins in omega arith
+  -- and the offset is no less than the column
+  pub column_least : c ≤ b
+  column_least = let bytes = front_bytes text b in let x = column_is in omega arith

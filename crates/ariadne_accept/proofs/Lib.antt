@@ -1,6 +1,7 @@
 pub mod Accepting
 pub mod CharOffsets
 pub mod Judging
+pub mod KnownPlaces
 pub mod Locating
 pub mod Messages
 pub mod Worked

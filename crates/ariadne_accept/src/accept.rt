@@ -1,9 +1,11 @@
 //! Which labels of a report are drawn, and why the others are left out.
 
-ghost use Rattle.std.specs.Prelude.{◌≡◌, ◌≤◌, ◌<◌, ◌∷◌, List, [], Option, IfOk, chars, length};
+ghost use Rattle.std.specs.Prelude.{◌≡◌, ◌≤◌, ◌<◌, ◌∷◌, List, [], Option, IfOk, OnOk};
+ghost use Rattle.std.specs.Prelude.{chars, length};
 ghost use Rattle.ariadne_base.specs.Listing.{listed_lines};
-ghost use Rattle.ariadne_base.specs.Locations.{char_offset as chars_before, column_at, line_at};
+ghost use Rattle.ariadne_base.specs.Locations.{column_at, line_at};
 ghost use Rattle.ariadne_base.specs.Table.{line_extent};
+ghost use Rattle.ariadne_accept.specs.Counting.{IsCounted, IsKnown};
 ghost use Rattle.ariadne_accept.specs.Drawn.{world};
 ghost use Rattle.ariadne_accept.specs.Judging.{AreReasons, GrowsFor, IsOutcome, listed};
 ghost use Rattle.ariadne_picture.specs.Accept.{attach_offset as attached_offset, drawn_labels};
@@ -12,7 +14,7 @@ ghost use Rattle.ariadne_picture.specs.Accept.{text_len as counted_len, verdict}
 ghost use Rattle.ariadne_picture.specs.Report.{AreForward};
 
 use crate::content::Content;
-use ariadne_base::blocks::count::count_chars;
+use crate::counting::{Known, carried, char_offset};
 use ariadne_base::{Cache, FetchError, Line, Source, SourceText, Span};
 use ariadne_labels::config::{Config, IndexType, LabelAttach};
 use ariadne_labels::label::Label;
@@ -74,8 +76,13 @@ pub fn accept<S: Span, C: Cache<S::SourceId>>(
 {
     let mut infos = Vec::with_capacity(report.alloc, report.labels.len())?;
     let mut left_out = Vec::new(report.alloc);
+    let mut known = Known::START;
+    let mut before: Option<&S::SourceId> = None;
     for (position, label) in report.labels.iter().enumerate() {
-        match judge_fetched(report.config, cache, position, label)? {
+        let id = label.span().source();
+        known = carried::<S>(known, before, id);
+        before = Some(id);
+        match judge_fetched(report.config, cache, &mut known, position, label)? {
             Ok(info) => infos.push(info)?,
             Err(reason) => left_out.push(LeftOut {
                 label: position,
@@ -88,18 +95,24 @@ pub fn accept<S: Span, C: Cache<S::SourceId>>(
 
 /// Fetches the source of the label at `position` of a report, and judges the label over it.
 ///
-/// On `Err` the cache had no memory for the source.
+/// `known` is a place of that source, and is one afterwards. On `Err` the cache had no memory for
+/// the source.
 fn judge_fetched<S: Span, C: Cache<S::SourceId>>(
     config: Config,
     cache: &mut C,
+    known: &mut Known,
     position: usize,
     label: &Label<S>,
 ) -> Result<Result<LabelInfo, Reason<C::Error>>, AllocError>
-    requires { C.can_fetch cache.old }
+    requires can { C.can_fetch cache.old }
+    requires counted { IsCounted S.SourceId.eq (C.contents cache.old)
+        (S.source_of label.now.span) known.old }
     ensures again { C.can_fetch cache.new }
     ensures naming { (q : S.SourceId) → C.names cache.new q ≡ C.names cache.old q }
     ensures grows { GrowsFor S.source_of S.SourceId.eq (label.now ∷ [])
         (C.contents cache.old) (C.contents cache.new) }
+    ensures counted { OnOk result (IsCounted S.SourceId.eq (C.contents cache.new)
+        (S.source_of label.now.span) known.new) }
     ensures forward { S.start_of label.now.span ≤ S.end_of label.now.span }
     ensures judged { let old = world S.source_of S.start_of S.end_of S.SourceId.eq
         (C.names cache.old) (C.contents cache.old) in
@@ -116,7 +129,7 @@ fn judge_fetched<S: Span, C: Cache<S::SourceId>>(
     let Some(source) = C::get(cache, id) else {
         unreachable!();
     };
-    match judge(config, source, position, label) {
+    match judge(config, source, known, position, label) {
         Verdict::Accepted(info) => Ok(Ok(info)),
         Verdict::PastSource => Ok(Err(Reason::PastSource)),
         Verdict::CutsCharacter => Ok(Err(Reason::CutsCharacter)),
@@ -126,13 +139,16 @@ fn judge_fetched<S: Span, C: Cache<S::SourceId>>(
 /// Judges the label at `position` of a report, whose source is held.
 ///
 /// The offset one past the end of the source is taken as its end, since a parser that runs out of
-/// input points there.
+/// input points there. Characters are counted on from `known`, which is then where the label ends.
 fn judge<S: Span, I: SourceText>(
     config: Config,
     source: &Source<I>,
+    known: &mut Known,
     position: usize,
     label: &Label<S>,
 ) -> Verdict
+    requires { IsKnown source.now.text known.old }
+    ensures known { IsKnown source.now.text known.new }
     ensures verdict { result ≡ verdict config source.now position label.now
         (S.start_of label.now.span) (S.end_of label.now.span) }
 {
@@ -143,10 +159,10 @@ fn judge<S: Span, I: SourceText>(
     if start > size || end.saturating_sub(size) > 1 {
         return Verdict::PastSource;
     }
-    let Some(start) = offset_in_chars(index_type, source, start) else {
+    let Some(start) = counted_in_chars(index_type, source, known, start) else {
         return Verdict::CutsCharacter;
     };
-    let Some(end) = offset_in_chars(index_type, source, end.min(size)) else {
+    let Some(end) = counted_in_chars(index_type, source, known, end.min(size)) else {
         return Verdict::CutsCharacter;
     };
     let attach = config.label_attach();
@@ -171,29 +187,26 @@ pub fn offset_in_chars<I: SourceText>(
 ) -> Option<usize>
     ensures { result ≡ in_chars index_type (chars source.now.text) offset }
 {
-    match index_type {
-        IndexType::Byte => char_offset(source, offset),
-        IndexType::Char => Some(offset),
-    }
+    let mut known = Known::START;
+    counted_in_chars(index_type, source, &mut known, offset)
 }
 
-/// How many characters the bytes of a source before `byte_offset` are, or `None` where that offset
-/// lies inside a character or past the source.
-///
-/// On a line with as many bytes as characters this looks at no character, and else at those of the
-/// line before the offset.
-fn char_offset<I: SourceText>(source: &Source<I>, byte_offset: usize) -> Option<usize>
-    ensures { result ≡ chars_before (chars source.now.text) byte_offset }
+/// An offset in characters, as `offset_in_chars` has it, counted on from a place of the source that
+/// is known.
+fn counted_in_chars<I: SourceText>(
+    index_type: IndexType,
+    source: &Source<I>,
+    known: &mut Known,
+    offset: usize,
+) -> Option<usize>
+    requires { IsKnown source.now.text known.old }
+    ensures known { IsKnown source.now.text known.new }
+    ensures offset { result ≡ in_chars index_type (chars source.now.text) offset }
 {
-    if !source.text().is_char_boundary(byte_offset) {
-        return None;
+    match index_type {
+        IndexType::Byte => char_offset(source, known, offset),
+        IndexType::Char => Some(offset),
     }
-    let (line, _, byte_column) = source.get_byte_line(byte_offset)?;
-    let text = source.get_line_text(line)?;
-    if text.len() == line.len() {
-        return Some(line.offset() + byte_column);
-    }
-    Some(line.offset() + count_chars(&text[..byte_column]))
 }
 
 /// A label over characters that the source has.

@@ -1,0 +1,106 @@
+//! How many characters of a source are before an offset in bytes, counted on from where that is
+//! known.
+
+ghost use Rattle.std.specs.Prelude.{◌≡◌, ℕ, List, Option, Some, chars, length, take};
+ghost use Rattle.std.specs.Option.{option_copied};
+ghost use Rattle.std.specs.Str.{IsCharBoundary};
+ghost use Rattle.ariadne_base.specs.Listing.{Listing};
+ghost use Rattle.ariadne_base.specs.Locations.{char_offset as chars_before};
+ghost use Rattle.ariadne_accept.specs.Counting.{IsCounted, IsKnown};
+
+use ariadne_base::blocks::count::count_chars;
+use ariadne_base::{Source, SourceText, Span};
+
+/// A place of a source between two characters: how many bytes and how many characters are before
+/// it.
+#[derive(Clone, Copy, Debug)]
+pub(crate) struct Known {
+    pub(crate) bytes: usize,
+    pub(crate) chars: usize,
+}
+
+impl Known {
+    /// The start, which is known of each source.
+    pub(crate) const START: Known = Known { bytes: 0, chars: 0 };
+
+    /// The nearer one of two places to an offset in bytes.
+    fn nearer(self, other: Known, byte_offset: usize) -> Known
+        ensures { (text : List ℕ) → IsKnown text self → IsKnown text other → IsKnown text result }
+    {
+        if self.bytes.abs_diff(byte_offset) <= other.bytes.abs_diff(byte_offset) {
+            self
+        } else {
+            other
+        }
+    }
+}
+
+/// What is known of the source of an id: `known`, where the id before it is equal and `known` is of
+/// that one's source, else its start.
+pub(crate) fn carried<S: Span>(
+    known: Known,
+    before: Option<&S::SourceId>,
+    id: &S::SourceId,
+) -> Known
+    ensures { (contents : List (S.SourceId × Listing)) → let eq = S.SourceId.eq in
+        ((q : S.SourceId) → option_copied before.entry ≡ Some q → IsCounted eq contents q known) →
+        IsCounted eq contents id.now result }
+{
+    // (where nothing is counted no ids are compared)
+    if known.bytes == 0 {
+        return Known::START;
+    }
+    match before {
+        Some(before) if *before == *id => known,
+        _ => Known::START,
+    }
+}
+
+/// How many characters the bytes of a source before `byte_offset` are, or `None` where that offset
+/// lies inside a character or past the source.
+///
+/// On a line with as many bytes as characters this looks at no character, and else at those
+/// between the offset and the start of its line or `known`, whichever is nearer. `known` is then
+/// the offset.
+pub(crate) fn char_offset<I: SourceText>(
+    source: &Source<I>,
+    known: &mut Known,
+    byte_offset: usize,
+) -> Option<usize>
+    requires { IsKnown source.now.text known.old }
+    ensures known { IsKnown source.now.text known.new }
+    ensures offset { result ≡ chars_before (chars source.now.text) byte_offset }
+{
+    let text = source.text();
+    if !text.is_char_boundary(byte_offset) {
+        return None;
+    }
+    let (line, _, byte_column) = source.get_byte_line(byte_offset)?;
+    let own = source.get_line_text(line)?;
+    if own.len() == line.len() {
+        return Some(line.offset() + byte_column);
+    }
+    let start = Known {
+        bytes: byte_offset - byte_column,
+        chars: line.offset(),
+    };
+    let chars = count_from(text, known.nearer(start, byte_offset), byte_offset);
+    *known = Known {
+        bytes: byte_offset,
+        chars,
+    };
+    Some(chars)
+}
+
+/// How many characters of a text are before an offset in bytes, counted from a place of it.
+fn count_from(text: &str, known: Known, byte_offset: usize) -> usize
+    requires known { IsKnown text.now known }
+    requires whole { IsCharBoundary text.now byte_offset }
+    ensures { result ≡ length (chars (take byte_offset text.now)) }
+{
+    if known.bytes <= byte_offset {
+        known.chars + count_chars(&text[known.bytes..byte_offset])
+    } else {
+        known.chars - count_chars(&text[byte_offset..known.bytes])
+    }
+}
