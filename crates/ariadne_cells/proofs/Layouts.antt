@@ -1,13 +1,19 @@
 -- What is found of a line: its shown text, whether each character of it is printable ASCII, and where the last of its labels ends.
 use Rattle.std.proofs.Common.{◌≡◌, ℕ, ◌+◌, ◌-◌, ◌<◌, ◌≤◌, max, zero, suc, Bool, true, ◌&&◌, nat_le, eqb, List, [], ◌∷◌, ◌++◌, length, map, fold, take, get_or}
-use Rattle.std.proofs.Common.{encode_utf8, encode_utf8_all, refl, sym, ap, ◌∙◌, subst, arith}
+use Rattle.std.proofs.Common.{encode_utf8, encode_utf8_all, refl, sym, ap, ap₂, ◌∙◌, subst, arith, drop, cond}
+use Rattle.std.proofs.Common.{◌≢◌, ◌%◌, ◌^◌, false, not, replicate, Option, None, Some, MatchOption, Bor, inl, inr, lit≤, w8}
+use lib.Lanes.{zip2, top}
 use Rattle.std.specs.Char.{is_whitespace}
+use Rattle.std.specs.Option.{unwrap_or}
+use Rattle.std.specs.Simd.Lanes.{mask_l}
+use Rattle.std.proofs.lemmas.Simd.{bitmask_splat, get_or-chunk, length-chunk, none_from_empty_mask}
+use Rattle.std.proofs.lemmas.Bool.Decides.{nat_tests}
 use Rattle.std.specs.List.{AllByRecursion}
-use Rattle.std.specs.Str.{chars, all_scalars, drop_trailing_whitespace, trim_end, IsAscii, IsUtf8}
-use Rattle.std.proofs.lemmas.Bool.{cond_both, and_parts, and_from, le-leb, leb-true}
-use Rattle.std.proofs.lemmas.List.{take_more, map-append, length-append}
+use Rattle.std.specs.Str.{chars, all_scalars, drop_trailing_whitespace, trim_end, IsAscii, IsCharBoundary, IsUtf8}
+use Rattle.std.proofs.lemmas.Bool.{cases_lt, cond_both, and_parts, and_from, le-leb, leb-true}
+use Rattle.std.proofs.lemmas.List.{take_more, map-append, length-append, get_or-drop, length-drop, take-append-drop}
 use Rattle.std.proofs.lemmas.List.Recursion.{max_push}
-use Rattle.std.proofs.lemmas.Str.{chars-encodes, chars-IsAscii, encodes-chars, scalars-chars, length-encode, encode_ascii, length-le-encodes, len_utf8_bounds}
+use Rattle.std.proofs.lemmas.Str.{chars-append, IsUtf8-take, chars-encodes, chars-IsAscii, encodes-chars, scalars-chars, length-encode, encode_ascii, length-le-encodes, len_utf8_bounds}
 use Rattle.ariadne_picture.specs.declared.label_info.LineLabel.{LineLabel}
 use Rattle.ariadne_picture.specs.Columns.{Layout, places_to_end}
 use Rattle.ariadne_picture.specs.Groups.{greatest}
@@ -69,10 +75,97 @@ scalars-shown (c ∷ cs) e =
     cond_both (is_whitespace c && eqb (length shown) 0) [] (c ∷ shown) (λ t. all_scalars t ≡ true) (λ _. refl)
     (λ _. and_from _ (all_scalars shown) parts.0 (scalars-shown cs parts.1))
 
+-- white space at the end is dropped with what stands before it
+pub shown-append : (cs ws : List ℕ) → drop_trailing_whitespace ws ≡ [] → drop_trailing_whitespace (cs ++ ws) ≡ drop_trailing_whitespace cs
+shown-append [] ws e = e
+shown-append (c ∷ cs) ws e = ap (λ t. cond (is_whitespace c && eqb (length t) 0) [] (c ∷ t)) (shown-append cs ws e)
+
+-- blanks are ASCII
+ascii_blanks : (ws : List ℕ) → ((k : ℕ) → k < length ws → get_or ws k 0 ≡ 32) → IsAscii ws
+ascii_blanks [] h i = omega arith
+ascii_blanks (w ∷ ws) h zero = let e : w ≡ 32 = h 0 (omega arith) in omega arith
+ascii_blanks (w ∷ ws) h (suc i) = ascii_blanks ws (λ k l. h (suc k) (omega arith)) i
+
+-- and nothing of them is shown
+shown_blanks : (ws : List ℕ) → ((k : ℕ) → k < length ws → get_or ws k 0 ≡ 32) → drop_trailing_whitespace ws ≡ []
+shown_blanks [] h = refl
+shown_blanks (w ∷ ws) h =
+    ap₂ (λ c t. cond (is_whitespace c && eqb (length t) 0) [] (c ∷ t)) (h 0 (omega arith)) (shown_blanks ws (λ k l. h (suc k) (omega arith)))
+
+-- one block of blanks before others
+pub blanks_before : (bs : List ℕ) (at n : ℕ) → n ≡ 64 → 64 ≤ at → at ≤ length bs → ((k : ℕ) → k < 64 → get_or (take n (drop (at - 64) bs)) k 0 ≡ 32)
+    → ((k : ℕ) → at ≤ k → k < length bs → get_or bs k 0 ≡ 32) → (k : ℕ) → at - 64 ≤ k → k < length bs → get_or bs k 0 ≡ 32
+blanks_before bs at n e room within block behind k low high = elim (cases_lt k at) [
+  | inl before ↦
+      let j : ℕ = k - (at - 64) in
+      let here : k ≡ at - 64 + j = omega arith in
+      let there : get_or (take n (drop (at - 64) bs)) j 0 ≡ get_or bs (at - 64 + j) 0 = get_or-chunk (at - 64) n bs j 0 (omega arith) in
+      ap (λ i. get_or bs i 0) here ∙ sym there ∙ block j (omega arith)
+  | inr after ↦ behind k after high
+]
+
+-- a text can be cut where only blanks follow
+pub blanks_cut : (bs : List ℕ) (n : ℕ) → n ≤ length bs → ((k : ℕ) → n ≤ k → k < length bs → get_or bs k 0 ≡ 32) → IsCharBoundary bs n
+blanks_cut bs n le h = (le, λ l high. let e : get_or bs n 0 ≡ 32 = h n (omega arith) l in absurd (omega arith))
+
+-- and what is shown of it stays
+pub blanks_behind : (bs : List ℕ) (n : ℕ) → IsUtf8 bs → n ≤ length bs → ((k : ℕ) → n ≤ k → k < length bs → get_or bs k 0 ≡ 32)
+    → drop_trailing_whitespace (chars (take n bs)) ≡ drop_trailing_whitespace (chars bs)
+blanks_behind bs n u le h =
+    let ws : List ℕ = drop n bs in
+    let long : length ws ≡ length bs - n = length-drop n bs in
+    let each : (k : ℕ) → k < length ws → get_or ws k 0 ≡ 32 = λ k l. get_or-drop n bs k 0 ∙ h (n + k) (omega arith) (omega arith) in
+    let plain : chars ws ≡ ws = chars-IsAscii ws (ascii_blanks ws each) in
+    let parts : chars bs ≡ chars (take n bs) ++ ws =
+    ap chars (sym (take-append-drop n bs)) ∙ chars-append (take n bs) ws (IsUtf8-take bs n u (blanks_cut bs n le h))
+    ∙ ap (λ t. chars (take n bs) ++ t) plain in
+    sym (ap drop_trailing_whitespace parts ∙ shown-append (chars (take n bs)) ws (shown_blanks ws each))
+
+-- a text of one ASCII character
+one_ascii : (c : ℕ) → c < 128 → IsAscii (c ∷ [])
+one_ascii c small zero = small
+one_ascii c small (suc i) = omega arith
+
+-- what is shown of a text stays without an ASCII character of white space at its end
+pub end_dropped : (bs front : List ℕ) (c : ℕ) → IsUtf8 front → bs ≡ front ++ (c ∷ []) → c < 128 → is_whitespace c ≡ true
+    → drop_trailing_whitespace (chars front) ≡ drop_trailing_whitespace (chars bs)
+end_dropped bs front c u e small white =
+    let one : chars (c ∷ []) ≡ c ∷ [] = chars-IsAscii (c ∷ []) (one_ascii c small) in
+    let parts : chars bs ≡ chars front ++ (c ∷ []) = ap chars e ∙ chars-append front (c ∷ []) u ∙ ap (λ t. chars front ++ t) one in
+    let none : drop_trailing_whitespace (c ∷ []) ≡ [] = ap (λ t. cond (t && true) [] (c ∷ [])) white in
+    sym (ap drop_trailing_whitespace parts ∙ shown-append (chars front) (c ∷ []) none)
+
+-- the same, where that character is cut if it is there
+pub end_cut : (bs : List ℕ) (r : Option (Bor (List ℕ))) (d x : Bor (List ℕ)) (c : ℕ) → IsUtf8 x.now → x ≡ unwrap_or r d → d.now ≡ bs
+    → MatchOption r ((front : List ℕ) → bs ≢ front ++ (c ∷ [])) (λ y. bs ≡ y.now ++ (c ∷ [])) → c < 128 → is_whitespace c ≡ true
+    → drop_trailing_whitespace (chars x.now) ≡ drop_trailing_whitespace (chars bs)
+end_cut bs None d x c u e same m small white = ap (λ y. drop_trailing_whitespace (chars y.now)) e ∙ ap (λ t. drop_trailing_whitespace (chars t)) same
+end_cut bs (Some y) d x c u e same m small white = end_dropped bs x.now c u (m ∙ ap (λ z. z.now ++ (c ∷ [])) (sym e)) small white
+
+-- a byte that does not differ from a blank
+blank-not_other : (x : ℕ) → not (eqb x 32) ≡ false → x ≡ 32
+blank-not_other x e = grind (arith, nat_tests)
+
+-- where a block has no mark of a byte that is no blank, each is one
+pub blanks_from_mask : (bs : List ℕ) → length bs ≡ 64 → mask_l (map (λ x. not (eqb x 32)) (take 64 bs)) ≡ 0 → (k : ℕ) → k < 64 → get_or bs k 0 ≡ 32
+blanks_from_mask bs long none k l =
+    blank-not_other (get_or bs k 0)
+    (none_from_empty_mask (λ x. not (eqb x 32)) bs 0 64 0 (omega arith) none k (omega arith) (omega arith))
+
+-- the mask of the bytes that are no blanks, as it is found
+pub other_mask : (bs : List ℕ) → length bs ≡ 64
+    → mask_l (map (top 7) (zip2 (λ a b. cond (not (eqb a b)) 255 0) (take 64 bs) (replicate 64 32))) % 2 ^ 64 ≡ mask_l (map (λ x. not (eqb x 32)) (take 64 bs))
+other_mask bs long = bitmask_splat w8 (λ a b. not (eqb a b)) (take 64 bs) 64 32 (length-chunk 0 64 bs (omega arith)) (lit≤ tt)
+
 -- so those of the trimmed text are those that are shown
 pub chars-trim_end : (bs : List ℕ) → IsUtf8 bs → chars (trim_end bs) ≡ drop_trailing_whitespace (chars bs)
 unfolding trim_end
 chars-trim_end bs u = chars-encodes (drop_trailing_whitespace (chars bs)) (scalars-shown (chars bs) (scalars-chars bs u))
+
+-- texts of which the same is shown are trimmed to the same
+pub trim_same_end : (xs ys : List ℕ) → drop_trailing_whitespace (chars xs) ≡ drop_trailing_whitespace (chars ys) → trim_end xs ≡ trim_end ys
+unfolding trim_end
+trim_same_end xs ys e = ap encode_utf8_all e
 
 -- where a text has as many bytes as characters, so has what is shown of it
 length-shown : (cs : List ℕ) → length (encode_utf8_all cs) ≡ length cs

@@ -1,4 +1,4 @@
--- The labels among which one is chosen that a place of a line shows, as they stand in their lists.
+-- The labels that compete for a place of a line, as they stand in their lists.
 use Rattle.std.specs.Prelude.{ℕ, ◌≡◌, ◌+◌, ◌<◌, List, ◌++◌, length, if◌then◌else◌}
 use Rattle.std.specs.Prelude.{is_some, option_copied, option_to_list}
 use Rattle.std.specs.List.{All}

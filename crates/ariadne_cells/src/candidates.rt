@@ -1,4 +1,4 @@
-//! The labels among which one is chosen that a place of a line shows.
+//! The labels that compete for a place of a line.
 
 ghost use Rattle.std.specs.Prelude.{◌≡◌, ◌++◌, ◌+◌, ◌<◌, length};
 ghost use Rattle.std.specs.Prelude.{option_copied, option_to_list};
@@ -9,7 +9,7 @@ ghost use Rattle.ariadne_cells.specs.Choices.{IsChoice, infos_of, inline_infos, 
 use crate::choice::Choice;
 use ariadne_picture::label_info::{LabelInfo, LineLabel};
 
-/// Labels among which each place of a line shows one: of those that tie the first.
+/// The labels that compete for a place of a line. Of those that tie it shows the first.
 #[derive(Drop)]
 pub struct Candidates<'a> {
     /// The margin label of the line, if it is one of them.
@@ -25,7 +25,7 @@ pub struct Candidates<'a> {
 }
 
 impl<'a> Candidates<'a> {
-    /// Those of the labels of a line that lie within it.
+    /// Of the labels of a line those that lie within it compete.
     #[tactic(auto, unfolding(crate::specs::Candidates::infos_among, crate::specs::Choices::infos_of, crate::specs::Choices::numbered))]
     pub fn inline(labels: &'a [LineLabel]) -> Candidates<'a>
         ensures infos { infos_among result ≡ inline_infos labels.now }
@@ -40,8 +40,8 @@ impl<'a> Candidates<'a> {
         }
     }
 
-    /// The margin label of a line, if it has one, the labels at these indices of the multi-line
-    /// labels, and the labels of the line.
+    /// These compete: the margin label of a line, if it has one, the labels at these indices of
+    /// the multi-line labels, and the labels of the line.
     #[tactic(auto, unfolding(crate::specs::Candidates::infos_among))]
     pub fn painters(
         margin: Option<&'a LineLabel>,

@@ -31,7 +31,7 @@ impl Model for Columns {
 }
 
 impl Columns {
-    /// Those of a line on which each place is its column.
+    /// The columns of a line without tabs and wide characters: each place is its own column.
     pub fn new(alloc: Global) -> Columns
         ensures { result ≡ [] }
     {

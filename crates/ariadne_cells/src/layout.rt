@@ -1,6 +1,8 @@
 //! What is drawn at one line of a source: its labels, and its characters.
 
-ghost use Rattle.std.specs.Prelude.{◌≡◌, ◌≤◌, ◌<◌, ◌^◌, ◌↔◌, IsTrue, chars, length, map, not};
+ghost use Rattle.std.specs.Prelude.{◌≡◌, ℕ, ◌≤◌, ◌<◌, ◌^◌, ◌↔◌, IsTrue, chars, length, map, not};
+ghost use Rattle.std.specs.Prelude.{slice_index, true};
+ghost use Rattle.std.specs.Str.{drop_trailing_whitespace, trim_end};
 ghost use Rattle.std.specs.List.{AllByRecursion, list_any};
 ghost use Rattle.ariadne_picture.specs.Columns.{arrow_len, places_to_end, shown};
 ghost use Rattle.ariadne_picture.specs.Groups.{greatest};
@@ -10,6 +12,7 @@ use ariadne_base::blocks::count::count_chars;
 use ariadne_picture::label_info::LineLabel;
 use ariadne_picture::switches::Switches;
 use std::marker::Model;
+use std::simd::prelude::*;
 
 /// The labels of a line and its characters.
 #[derive(Drop)]
@@ -70,7 +73,7 @@ impl<'a> LineLayout<'a> {
           text = chars text.now;
         } }
     {
-        let shown = text.trim_end();
+        let shown = without_end(text);
         let shown_len = if text.len() == len {
             shown.len()
         } else {
@@ -190,6 +193,49 @@ impl<'a> LineLayout<'a> {
         }
         greatest
     }
+}
+
+/// A line without the white space at its end. A line feed and a carriage return are cut first, and
+/// blanks before them in blocks, since many of them may stand behind a line.
+fn without_end(line: &str) -> &str
+    ensures { result.now ≡ trim_end line.now }
+{
+    let whole = unterminated(line);
+    let front = &whole[..blocks_start(whole.as_bytes())];
+    front.trim_end()
+}
+
+/// A line without the line feed at its end and a carriage return before that.
+fn unterminated(line: &str) -> &str
+    ensures { drop_trailing_whitespace (chars result.now)
+        ≡ drop_trailing_whitespace (chars line.now) }
+{
+    let line = line.strip_suffix('\n').unwrap_or(line);
+    line.strip_suffix('\r').unwrap_or(line)
+}
+
+/// Where the blocks of 64 blanks at the end of a text begin, or its end where it has none.
+fn blocks_start(bytes: &[u8]) -> usize
+    ensures within { result ≤ length bytes.now }
+    ensures blank { (k : ℕ) → result ≤ k → k < length bytes.now → slice_index bytes.now k ≡ 32 }
+{
+    let mut start = bytes.len();
+    while start >= 64 && is_blank(&bytes[start - 64..start]) {
+        start -= 64;
+    }
+    start
+}
+
+/// Whether each byte of a block of 64 is a blank.
+#[inline(always)]
+fn is_blank(block: &[u8]) -> bool
+    requires { length block.now ≡ 64 }
+    ensures { result ≡ true → (k : ℕ) → k < 64 → slice_index block.now k ≡ 32 }
+{
+    u8x64::from_slice(block)
+        .simd_ne(u8x64::splat(b' '))
+        .to_bitmask()
+        == 0
 }
 
 /// Whether each character of a text is printable ASCII. All bytes are read, so that many of them

@@ -15,36 +15,54 @@ use ariadne_picture::cell::{Glyph, Paint};
 use ariadne_picture::switches::Switches;
 use std::alloc::{AllocError, Global};
 
-/// The margin of a row without a number, with this bar, where line numbers take `width` columns.
+/// The margin of a row without a number below a line, where line numbers take `width` columns.
 ///
 /// ```text
 ///         |       below a line
-///         :       in place of hidden lines, inside a label
 /// ```
 pub(crate) fn margin_text(
     alloc: Global,
     palette: &Palette,
     switches: &Switches,
     width: usize,
-    bar: Glyph,
 ) -> Result<String, AllocError>
-    ensures bar { let margin = margin_pieces switches.now width 0 (bare 0) in
-        bar ≡ Glyph.Vbar →
-        IfOk result (λ text. string_bytes text ≡ pieces_bytes palette.now margin) }
-    ensures gap { let margin = margin_pieces switches.now width 0 (gap 0) in
-        bar ≡ Glyph.VbarGap →
+    ensures { let margin = margin_pieces switches.now width 0 (bare 0) in
         IfOk result (λ text. string_bytes text ≡ pieces_bytes palette.now margin) }
 {
     let mut text = String::new(alloc);
-    let color = palette.color_of(Paint::SkippedMargin);
-    text.push(' ')?;
-    push_opening(&mut text, color)?;
-    push_spaces(&mut text, width)?;
-    text.push(' ')?;
-    text.push(bar.to_char(switches.char_set))?;
-    push_closing(&mut text, color)?;
-    push_margin_end(&mut text, switches)?;
+    push_bar_margin(&mut text, palette, switches, width, Glyph::Vbar)?;
     Ok(text)
+}
+
+/// Appends the margin of a row without a number, with this bar, where line numbers take `width`
+/// columns.
+///
+/// ```text
+///         |       below a line
+///         :       in place of hidden lines, inside a label
+/// ```
+pub(crate) fn push_bar_margin(
+    out: &mut String,
+    palette: &Palette,
+    switches: &Switches,
+    width: usize,
+    bar: Glyph,
+) -> Result<(), AllocError>
+    ensures bar { let margin = margin_pieces switches.now width 0 (bare 0) in
+        let written = pieces_bytes palette.now margin in
+        bar ≡ Glyph.Vbar → OnOk result (string_bytes out.new ≡ string_bytes out.old ++ written) }
+    ensures gap { let margin = margin_pieces switches.now width 0 (gap 0) in
+        let written = pieces_bytes palette.now margin in bar ≡ Glyph.VbarGap →
+        OnOk result (string_bytes out.new ≡ string_bytes out.old ++ written) }
+{
+    let color = palette.color_of(Paint::SkippedMargin);
+    out.push(' ')?;
+    push_opening(out, color)?;
+    push_spaces(out, width)?;
+    out.push(' ')?;
+    out.push(bar.to_char(switches.char_set))?;
+    push_closing(out, color)?;
+    push_margin_end(out, switches)
 }
 
 /// Appends the margin of the source row of a line, whose printed number is `number`.

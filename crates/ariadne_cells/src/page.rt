@@ -6,20 +6,19 @@ ghost use Rattle.ariadne_picture.specs.Canvas.{color_of};
 use crate::margin::margin_text;
 use crate::palette::Palette;
 use ariadne_color::Color;
-use ariadne_picture::cell::{Glyph, Paint};
+use ariadne_picture::cell::Paint;
 use ariadne_picture::switches::Switches;
 use std::alloc::{AllocError, Global};
 use std::marker::Model;
 
-/// What all rows of a picture share: its colours, its switches, and the margins of rows without a
-/// number, which are made once.
+/// What all rows of a picture share: its colours, its switches, and the margin of the rows below a
+/// line, which is made once.
 #[derive(Drop)]
 pub struct Page {
-    palette: Palette,
+    pub(crate) palette: Palette,
     switches: Switches,
     number_width: usize,
     pub(crate) bar_margin: String,
-    pub(crate) gap_margin: String,
 }
 
 impl Model for Page {
@@ -27,7 +26,7 @@ impl Model for Page {
     ghost use Rattle.ariadne_cells.specs.Pages.{PageFields};
     ghost use Rattle.ariadne_picture.specs.Pieces.{margin_pieces};
     ghost use Rattle.ariadne_picture.specs.Print.{pieces_bytes};
-    ghost use Rattle.ariadne_picture.specs.Rows.{bare, gap};
+    ghost use Rattle.ariadne_picture.specs.Rows.{bare};
 
     ghost Value = { PageFields };
 
@@ -39,9 +38,7 @@ impl Model for Page {
 
     ghost invariant = { λ a. (1 ≤ a.switches.tab_width)
         × (string_bytes a.bar_margin
-        ≡ pieces_bytes a.palette (margin_pieces a.switches a.number_width 0 (bare 0)))
-        × (string_bytes a.gap_margin
-        ≡ pieces_bytes a.palette (margin_pieces a.switches a.number_width 0 (gap 0))) };
+        ≡ pieces_bytes a.palette (margin_pieces a.switches a.number_width 0 (bare 0))) };
 }
 
 impl Page {
@@ -57,14 +54,12 @@ impl Page {
         ensures { IfOk result (λ page. page
             ≡ record { palette = palette; switches = switches; number_width = number_width }) }
     {
-        let bar_margin = margin_text(alloc, &palette, &switches, number_width, Glyph::Vbar)?;
-        let gap_margin = margin_text(alloc, &palette, &switches, number_width, Glyph::VbarGap)?;
+        let bar_margin = margin_text(alloc, &palette, &switches, number_width)?;
         Ok(Page {
             palette,
             switches,
             number_width,
             bar_margin,
-            gap_margin,
         })
     }
 

@@ -241,7 +241,10 @@ impl<'a> Pen<'a> {
             (margin_pieces page.switches page.number_width 0 (gap 0))) }
     {
         let page = self.page;
-        self.text.push_str(&page.gap_margin)
+        let switches = page.switches();
+        let width = page.number_width();
+        let text = &mut self.text;
+        margin::push_bar_margin(text, &page.palette, switches, width, Glyph::VbarGap)
     }
 
     /// Writes the margin of the source row of a line, whose printed number is `number`.

@@ -20,7 +20,7 @@ use ariadne_picture::switches::Switches;
 use std::alloc::AllocError;
 
 /// Up to so many labels are all looked at for each stretch, which takes no memory beside it.
-const FEW: usize = 256;
+const FEW: usize = 48;
 
 /// The places from the end of the stretch before it, or from 0, to its own end.
 #[derive(Clone, Copy, Debug, PartialEq, Eq)]

@@ -1,7 +1,7 @@
 -- The groups of a picture as they are drawn one after another, and the bytes of the whole picture.
-use Rattle.std.proofs.Common.{◌≡◌, ℕ, ◌+◌, ◌<◌, ◌≤◌, ◌==◌, List, [], ◌∷◌, ◌++◌, Option, drop, length, map, take}
+use Rattle.std.proofs.Common.{◌≡◌, ℕ, ◌+◌, ◌<◌, ◌≤◌, ◌==◌, Bool, true, false, List, [], ◌∷◌, ◌++◌, Option, drop, length, map, take}
 use Rattle.std.proofs.Common.{refl, sym, ap, ◌∙◌, subst, arith, inl, inr}
-use Rattle.std.specs.Prelude.{codes, int_lt}
+use Rattle.std.specs.Prelude.{codes, if◌then◌else◌, int_lt}
 use Rattle.std.specs.List.{enumerate_from, slice_range}
 use Rattle.std.proofs.lemmas.Bool.{cases_eq, eq-eqb, ne_eqb}
 use Rattle.std.proofs.lemmas.List.{drop_all}
@@ -10,7 +10,9 @@ use Rattle.ariadne_cells.specs.Pages.{DrawsRow, DrawsRows, PageFields, PenFields
 use Rattle.ariadne_cells.proofs.Drawn.{draws_rows-append, draws_rows_none, draws_rows_one, rows_page}
 use Rattle.ariadne_picture.specs.Print.{line_bytes, pieces_bytes, printed, row_bytes, rows_bytes}
 use Rattle.ariadne_picture.specs.declared.label_info.LabelInfo.{LabelInfo}
-use Rattle.ariadne_picture.specs.Canvas.{Palette, canvas, cell_of, code_text, groups, header_pieces, kind_name, number_width, outline, palette_of}
+use Rattle.ariadne_color.specs.declared.color.Color.{Color}
+use Rattle.ariadne_picture.specs.declared.cell.Paint.{Paint}
+use Rattle.ariadne_picture.specs.Canvas.{Palette, canvas, cell_of, code_text, color_of, groups, header_pieces, kind_name, number_width, outline, palette_of}
 use Rattle.ariadne_picture.specs.Canvas.{same_source, section_of, texts_of}
 use Rattle.ariadne_picture.specs.Groups.{groups_of, ordered}
 use Rattle.ariadne_picture.specs.Lists.{in_order, joined}
@@ -21,6 +23,7 @@ use Rattle.ariadne_picture.proofs.Labels.Cutting.{groups-exist}
 use Rattle.ariadne_picture.proofs.Lists.ListFacts.{all-in_order}
 use Rattle.ariadne_rows.proofs.Listing.{put-back}
 use Rattle.ariadne_accept.specs.Drawn.{AreDrawn, IsDrawn}
+use Rattle.ariadne_drawing.specs.WholePages.{shown_palette}
 
 -- ---- one group after another
 
@@ -150,6 +153,21 @@ bytes_are : (p : Palette) (rows : List (List Piece)) → rows_bytes p rows ≡ p
 unfolding rows_bytes row_bytes line_bytes printed pieces_bytes
 bytes_are p rows = sym (joined-map line_bytes (map (cell_of p)) rows)
 
+-- with colours off the colours of labels count for nothing
+shown_colors : (on : Bool) (kind : Color) (labels : List (Option Color)) (paint : Paint)
+    → color_of (record { is_on = on; kind = kind; labels = if on then labels else [] }) paint
+    ≡ color_of (record { is_on = on; kind = kind; labels = labels }) paint
+unfolding color_of
+shown_colors true kind labels paint = refl
+shown_colors false kind labels paint = refl
+
+-- so rows are printed alike without them
+shown_bytes : (p : Palette) (rows : List (List Piece)) → rows_bytes (shown_palette p) rows ≡ printed (map (map (cell_of p)) rows)
+shown_bytes p rows =
+    bytes_are (shown_palette p) rows
+    ∙ (λ i. printed (map (map (λ (piece : Piece).
+    record { text = piece.text; color = shown_colors p.is_on p.kind p.labels piece.paint i; columns = piece.columns })) rows))
+
 -- in a report over labels, which stand in order in the list `sorted`
 module _ {S Id : Type 0} (w : World S Id) (r : ReportFields S) (infos sorted : List LabelInfo) (same : sorted ≡ ordered infos) where
   -- the rows of its outline
@@ -177,10 +195,10 @@ module _ {S Id : Type 0} (w : World S Id) (r : ReportFields S) (infos sorted : L
 
 -- a pen that wrote the outline from the start of its page on has written the picture
 pub outline_bytes : {S Id : Type 0} (w : World S Id) (r : ReportFields S) (infos : List LabelInfo) (page : PageFields) (start end : PenFields)
-    → start ≡ record { page = page; bytes = [] } → page.palette ≡ palette_of r → DrawsRows start end (outline w r infos)
+    → start ≡ record { page = page; bytes = [] } → page.palette ≡ shown_palette (palette_of r) → DrawsRows start end (outline w r infos)
     → end.bytes ≡ printed (canvas w r infos)
 unfolding canvas
 outline_bytes w r infos page start end fresh palette all =
     let rows = outline w r infos in
     ap (λ (q : PenFields). q.bytes) all ∙ ap (λ (q : PenFields). q.bytes ++ rows_bytes q.page.palette rows) fresh
-    ∙ ap (λ p. rows_bytes p rows) palette ∙ bytes_are (palette_of r) rows
+    ∙ ap (λ p. rows_bytes p rows) palette ∙ shown_bytes (palette_of r) rows

@@ -1,12 +1,14 @@
 //! The picture of a report, as text: its header, and the rows of its groups.
 
 ghost use Rattle.std.specs.Prelude.{◌≡◌, ◌+◌, ◌<◌, ◌≤◌, ◌==◌, ◌++◌, ℕ, List, [], ◌∷◌, Option, Some};
+ghost use Rattle.std.specs.Prelude.{None, true};
 ghost use Rattle.std.specs.Prelude.{IfOk, OnOk, chars, drop, if◌then◌else◌, length, map, slice_get};
 ghost use Rattle.std.specs.Prelude.{slice_range, string_bytes};
 ghost use Rattle.std.specs.List.{enumerate_from};
 ghost use Rattle.ariadne_accept.specs.Drawn.{AreDrawn, world};
+ghost use Rattle.ariadne_drawing.specs.Headers.{IsOwnLocation, own_offset};
 ghost use Rattle.ariadne_drawing.specs.Lines.{AreOverLines};
-ghost use Rattle.ariadne_drawing.specs.WholePages.{page_of};
+ghost use Rattle.ariadne_drawing.specs.WholePages.{page_of, shown_palette};
 ghost use Rattle.ariadne_base.specs.Listing.{Listing, listed_lines};
 ghost use Rattle.ariadne_cells.specs.Pages.{DrawsRows};
 ghost use Rattle.ariadne_picture.specs.Canvas.{canvas, group_id, group_source, header_offset, outline};
@@ -30,6 +32,7 @@ use ariadne_cells::order::{ByOrder, put_in_order};
 use ariadne_cells::page::Page;
 use ariadne_cells::palette::Palette;
 use ariadne_cells::pen::Pen;
+use ariadne_color::Color;
 use ariadne_picture::label_info::LabelInfo;
 use ariadne_rows::asides::{push_helps, push_notes};
 use ariadne_rows::gutter::Gutter;
@@ -128,17 +131,27 @@ fn push_picture<S: Span, C: Cache<S::SourceId>>(
 
 /// The colours that the pieces of a report's picture may have.
 fn palette<S: Span>(report: &Content<'_, S>) -> Result<Palette, AllocError>
-    ensures { IfOk result (λ palette. palette ≡ palette_of report.now) }
+    ensures { IfOk result (λ palette. palette ≡ shown_palette (palette_of report.now)) }
 {
+    Ok(Palette {
+        is_on: report.config.is_colored(),
+        kind: report.kind.color(),
+        labels: shown_colors(report)?,
+    })
+}
+
+/// The colours of a report's labels, by position, if there are colours.
+fn shown_colors<S: Span>(report: &Content<'_, S>) -> Result<Vec<Option<Color>>, AllocError>
+    ensures { IfOk result (λ colors. colors.items ≡ (shown_palette (palette_of report.now)).labels) }
+{
+    if !report.config.is_colored() {
+        return Ok(Vec::new(report.alloc));
+    }
     let mut labels = Vec::with_capacity(report.alloc, report.labels.len())?;
     for label in &report.labels {
         labels.push(label.color())?;
     }
-    Ok(Palette {
-        is_on: report.config.is_colored(),
-        kind: report.kind.color(),
-        labels,
-    })
+    Ok(labels)
 }
 
 /// Writes the groups of labels in order.
@@ -160,22 +173,27 @@ fn push_groups<'a, S: Span, C: Cache<S::SourceId>>(
         (joined (λ e. section_rows (texts_of r) page.now.number_width
         (section_of w r (length gs) e)) (enumerate_from 0 gs))) }
 {
+    let own = own_location(report, cache);
     let mut lists = Lists::new(report.alloc, page);
-    push_groups_over(pen, &mut lists, report, cache, infos)
+    push_groups_over(pen, &mut lists, report, cache, own, infos)
 }
 
-/// Writes the groups of labels in order, each of which these lists are filled with in turn.
+/// Writes the groups of labels in order, each of which these lists are filled with in turn. `own`
+/// is where the report's own span starts.
 fn push_groups_over<'a, S: Span, C: Cache<S::SourceId>>(
     pen: &mut Pen<'_>,
     lists: &mut Lists<'a>,
     report: &Content<'_, S>,
     cache: &C,
+    own: Option<(usize, usize)>,
     infos: &'a [LabelInfo],
 ) -> Result<(), AllocError>
     requires page { lists.old.gutter.page ≡ pen.old.page }
     requires switches { pen.old.page.switches ≡ switches_of report.now.config }
     requires drawn { let w = world S.source_of S.start_of S.end_of S.SourceId.eq
         (C.names cache.now) (C.contents cache.now) in AreDrawn w report.now infos.now }
+    requires own { let w = world S.source_of S.start_of S.end_of S.SourceId.eq
+        (C.names cache.now) (C.contents cache.now) in IsOwnLocation w report.now own }
     ensures { let w = world S.source_of S.start_of S.end_of S.SourceId.eq
         (C.names cache.now) (C.contents cache.now) in let r = report.now in
         let gs = groups_of (same_source w r) infos.now in
@@ -185,7 +203,7 @@ fn push_groups_over<'a, S: Span, C: Cache<S::SourceId>>(
 {
     let mut start = 0;
     while start < infos.len() {
-        start = push_group_from(pen, lists, report, cache, infos, start)?;
+        start = push_group_from(pen, lists, report, cache, own, infos, start)?;
     }
     Ok(())
 }
@@ -196,6 +214,7 @@ fn push_group_from<'a, S: Span, C: Cache<S::SourceId>>(
     lists: &mut Lists<'a>,
     report: &Content<'_, S>,
     cache: &C,
+    own: Option<(usize, usize)>,
     infos: &'a [LabelInfo],
     start: usize,
 ) -> Result<usize, AllocError>
@@ -204,6 +223,8 @@ fn push_group_from<'a, S: Span, C: Cache<S::SourceId>>(
     requires start { start < length infos.now }
     requires drawn { let w = world S.source_of S.start_of S.end_of S.SourceId.eq
         (C.names cache.now) (C.contents cache.now) in AreDrawn w report.now infos.now }
+    requires own { let w = world S.source_of S.start_of S.end_of S.SourceId.eq
+        (C.names cache.now) (C.contents cache.now) in IsOwnLocation w report.now own }
     ensures page { OnOk result (lists.new.gutter.page ≡ lists.old.gutter.page) }
     ensures after { IfOk result (λ end. start < end) }
     ensures within { IfOk result (λ end. end ≤ length infos.now) }
@@ -220,7 +241,15 @@ fn push_group_from<'a, S: Span, C: Cache<S::SourceId>>(
 {
     let end = group_end(report, infos, start);
     lists.sheet.fill(&infos[start..end])?;
-    push_group(pen, lists, report, cache, start == 0, end == infos.len())?;
+    push_group(
+        pen,
+        lists,
+        report,
+        cache,
+        own,
+        start == 0,
+        end == infos.len(),
+    )?;
     Ok(end)
 }
 
@@ -230,6 +259,7 @@ fn push_group<S: Span, C: Cache<S::SourceId>>(
     lists: &mut Lists<'_>,
     report: &Content<'_, S>,
     cache: &C,
+    own: Option<(usize, usize)>,
     is_first: bool,
     is_last: bool,
 ) -> Result<(), AllocError>
@@ -240,6 +270,8 @@ fn push_group<S: Span, C: Cache<S::SourceId>>(
     requires drawn { let w = world S.source_of S.start_of S.end_of S.SourceId.eq
         (C.names cache.now) (C.contents cache.now) in
         AreDrawn w report.now lists.old.sheet.labels }
+    requires own { let w = world S.source_of S.start_of S.end_of S.SourceId.eq
+        (C.names cache.now) (C.contents cache.now) in IsOwnLocation w report.now own }
     requires over { let w = world S.source_of S.start_of S.end_of S.SourceId.eq
         (C.names cache.now) (C.contents cache.now) in let labels = lists.old.sheet.labels in
         AreOverLines (listed_lines (group_source w report.now labels)) labels }
@@ -251,7 +283,7 @@ fn push_group<S: Span, C: Cache<S::SourceId>>(
         (section_rows (texts_of r) pen.old.page.number_width
         (section_of w r n (k, lists.old.sheet.labels)))) }
 {
-    let source = push_group_head(pen, &lists.sheet, report, cache, is_first)?;
+    let source = push_group_head(pen, &lists.sheet, report, cache, own, is_first)?;
     lists.gutter.begin(lists.sheet.gutter_labels())?;
     push_lines(pen, lists, report, source)?;
     push_foot(pen, &lists.gutter, report, is_last)
@@ -263,12 +295,15 @@ fn push_group_head<'a, S: Span, C: Cache<S::SourceId>>(
     sheet: &GroupSheet<'_>,
     report: &Content<'_, S>,
     cache: &'a C,
+    own: Option<(usize, usize)>,
     is_first: bool,
 ) -> Result<&'a Source<C::Storage>, AllocError>
     requires switches { pen.old.page.switches ≡ switches_of report.now.config }
     requires labels { 0 < length sheet.now.labels }
     requires drawn { let w = world S.source_of S.start_of S.end_of S.SourceId.eq
         (C.names cache.now) (C.contents cache.now) in AreDrawn w report.now sheet.now.labels }
+    requires own { let w = world S.source_of S.start_of S.end_of S.SourceId.eq
+        (C.names cache.now) (C.contents cache.now) in IsOwnLocation w report.now own }
     ensures source { let w = world S.source_of S.start_of S.end_of S.SourceId.eq
         (C.names cache.now) (C.contents cache.now) in
         IfOk result (λ source. source.now ≡ group_source w report.now sheet.now.labels) }
@@ -284,7 +319,7 @@ fn push_group_head<'a, S: Span, C: Cache<S::SourceId>>(
     let id = report.labels()[info.position].span().source();
     let source = C::get(cache, id).unwrap();
     let name = C::display(cache, id).unwrap_or("<unknown>");
-    let location = header_location(report, id, source, &info);
+    let location = header_location(report, id, source, own, &info);
     push_head(pen, is_first, name, location)?;
     Ok(source)
 }
@@ -337,12 +372,28 @@ fn push_foot<S: Span>(
     push_tail(pen, is_last)
 }
 
-/// The numbers of the line and the column that the header of a group names: where the report's own
-/// span starts, if that is over the group's source, else where the group's first label starts.
+/// The numbers of the line and the column where the report's own span starts, or `None` where its
+/// source isn't held or has no such place.
+fn own_location<S: Span, C: Cache<S::SourceId>>(
+    report: &Content<'_, S>,
+    cache: &C,
+) -> Option<(usize, usize)>
+    ensures { let w = world S.source_of S.start_of S.end_of S.SourceId.eq
+        (C.names cache.now) (C.contents cache.now) in IsOwnLocation w report.now result }
+{
+    let source = C::get(cache, report.span().source())?;
+    let offset = offset_in_chars(report.config().index_type(), source, report.span().start())?;
+    location_at(source, offset)
+}
+
+/// The numbers of the line and the column that the header of a group names: `own`, where the
+/// report's own span starts, if that is over the group's source, else where the group's first label
+/// starts.
 fn header_location<S: Span, I: SourceText>(
     report: &Content<'_, S>,
     id: &S::SourceId,
     source: &Source<I>,
+    own: Option<(usize, usize)>,
     info: &LabelInfo,
 ) -> Option<(usize, usize)>
     requires within { info.now.start ≤ length (chars source.now.text) }
@@ -351,14 +402,26 @@ fn header_location<S: Span, I: SourceText>(
         let r = report.now in (group : List LabelInfo) →
         group_id w r group ≡ Some id.now → group_source w r group ≡ source.now →
         slice_get group 0 ≡ Some info.now →
+        (w.is_same id.now (w.id_of r.span) ≡ true →
+        location_text (listed_lines source.now) source.now.display_offset
+        (own_offset w r source.now) ≡ location_numbers own) →
         location_text (listed_lines source.now) source.now.display_offset
         (header_offset w r group) ≡ location_numbers result }
 {
-    let offset = if *id == *report.span().source() {
-        offset_in_chars(report.config().index_type(), source, report.span().start())?
+    if *id == *report.span().source() {
+        own
     } else {
-        info.start
-    };
+        location_at(source, info.start)
+    }
+}
+
+/// The numbers of the line and the column of an offset, or `None` where it is past the source.
+fn location_at<I: SourceText>(source: &Source<I>, offset: usize) -> Option<(usize, usize)>
+    ensures past { length (chars source.now.text) < offset → result ≡ None }
+    ensures found { offset ≤ length (chars source.now.text) →
+        location_text (listed_lines source.now) source.now.display_offset (Some offset)
+        ≡ location_numbers result }
+{
     let _text = source.text();
     let display_offset = source.display_line_offset();
     let (_, line, column) = source.get_offset_line(offset)?;

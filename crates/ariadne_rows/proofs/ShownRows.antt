@@ -2,9 +2,12 @@
 use Rattle.std.proofs.Common.{◌≡◌, ℕ, zero, suc, ◌+◌, ◌<◌, ◌≤◌, ◌==◌, eq-eqb, cond, Bool, true, false, List, [], ◌∷◌, ◌++◌, Option, Some, None, length, replicate, encode_utf8, encode_utf8_all, take, get_or, drop, ltb, slice_get, slice_index}
 use Rattle.std.proofs.Common.{lit<, refl, sym, ap, subst, ◌∙◌, arith, length-append}
 use Rattle.std.specs.Char.{is_whitespace}
-use Rattle.std.specs.List.{AllByRecursion}
+use Rattle.std.specs.Bool.{MatchBool}
+use Rattle.std.specs.Prelude.{IsTrue, ⊤}
+use Rattle.std.specs.List.{AllByRecursion, AllWithin, HoldsAt}
 use Rattle.std.specs.Str.{chars, IsUtf8}
 use Rattle.std.proofs.lemmas.Bool.{ne_eqb, cond_both, lt-ltb, le-ltb}
+use Rattle.std.proofs.lemmas.List.Elements.{All-from_all_within, recursion_from_All}
 use Rattle.std.proofs.lemmas.List.{append-nil, at_drop_all, at_drop_more, take_more, take_all}
 use Rattle.std.proofs.lemmas.Bool.Decides.{nat_tests}
 use Rattle.std.proofs.lemmas.Option.{get_or_from_slice_get, slice_get_within}
@@ -26,6 +29,7 @@ use Rattle.ariadne_picture.specs.Lists.{joined, total}
 use Rattle.ariadne_picture.specs.Pieces.{Piece, char_paint, char_pieces, glyph_text, place_pieces, repeated, shown_pieces, shown_text, stroke}
 use Rattle.ariadne_picture.specs.Print.{pieces_bytes}
 use Rattle.ariadne_picture.proofs.Lists.Joined.{joined-upto_more}
+use Rattle.ariadne_picture.proofs.Lists.ListFacts.{all-weaker}
 use Rattle.ariadne_cells.specs.Pages.{Adds, Draws, PenFields}
 use Rattle.ariadne_cells.specs.declared.stretches.Stretch.{Stretch}
 use Rattle.ariadne_cells.specs.Tables.{position_paint, shown_at, tab_columns}
@@ -33,7 +37,7 @@ use Rattle.ariadne_cells.proofs.Bytes.{painted_parts, plain_bytes, pieces_bytes-
 use Rattle.ariadne_cells.proofs.Drawn.{adds_same, draws_one, draws_places_more, page_kept}
 use Rattle.ariadne_picture.proofs.Cells.LineColumns.{total-upto_more}
 use Rattle.ariadne_cells.proofs.PlaceColumns.{get_or-all, width-shown}
-use Rattle.ariadne_rows.specs.ShownTexts.{blank_of, place_in, shown_in}
+use Rattle.ariadne_rows.specs.ShownTexts.{IsAsShown, blank_of, place_in, shown_in}
 
 -- ---- single characters
 
@@ -198,7 +202,7 @@ pub draws_all : (a b : PenFields) (y : Layout) (q : ℕ → Paint) (n : ℕ) →
 unfolding shown_in
 draws_all a b y q n e h = subst (λ m. Draws a b (joined (place_in a.page.switches y q) (upto m))) e h
 
--- ---- a line of printable ASCII
+-- ---- printable ASCII
 
 -- a printable character is shown as it is
 pub printable_text : (c : ℕ) → 32 ≤ c → c ≤ 126 → shown_text c ≡ encode_utf8 c
@@ -207,38 +211,51 @@ printable_text c low high =
     cond_both (is_whitespace c) (32 ∷ []) (encode_utf8 c) (λ t. t ≡ encode_utf8 c)
     (λ e. let is : c ≡ 32 = grind (arith, nat_tests) in sym (ap encode_utf8 is ∙ blank_code)) (λ e. refl)
 
--- so are its bytes
-printable_bytes : (p : Palette) (s : Switches) (k c : ℕ) → 32 ≤ c → c ≤ 126 → pieces_bytes p (char_pieces s Plain k c) ≡ encode_utf8 c
+-- so printable characters are written as they are
+pub printable_shown : (cs : List ℕ) → AllByRecursion (λ c. (32 ≤ c) × (c ≤ 126)) cs → AllByRecursion IsAsShown cs
+printable_shown cs all =
+    all-weaker (λ c. (32 ≤ c) × (c ≤ 126)) IsAsShown cs (λ c h. (λ e. omega (arith, e, h.0), printable_text c h.0 h.1)) all
+
+-- and so are those of a text of which each was asked
+pub all_shown : (cs : List ℕ) (r : Bool) → MatchBool r (AllWithin IsAsShown cs 0 (length cs)) ((k : ℕ) × (k < length cs) × HoldsAt (λ d. ⊤) cs k)
+    → IsTrue r → AllByRecursion IsAsShown cs
+all_shown cs true h on = recursion_from_All IsAsShown cs (All-from_all_within IsAsShown cs h)
+all_shown cs false h on = cc
+
+-- ---- a line whose characters are written as they are
+
+-- the bytes of such a character
+whole_bytes : (p : Palette) (s : Switches) (k c : ℕ) → IsAsShown c → pieces_bytes p (char_pieces s Plain k c) ≡ encode_utf8 c
 unfolding char_pieces
-printable_bytes p s k c low high =
+whole_bytes p s k c is =
     let n = shown_columns s.tab_width k c in
     let one : Piece = record { text = shown_text c; paint = Plain; columns = n } in
-    let other : (c == 9) ≡ false = ne_eqb c 9 (λ e. omega (arith, e)) in
+    let other : (c == 9) ≡ false = ne_eqb c 9 is.0 in
     (λ i. pieces_bytes p (cond (other i) (replicate n (blank_of Plain)) (one ∷ [])))
-    ∙ pieces_bytes_one p one ∙ plain_bytes p (shown_text c) ∙ printable_text c low high
+    ∙ pieces_bytes_one p one ∙ plain_bytes p (shown_text c) ∙ is.1
 
 -- the first places are written as they are
-printable_places : (p : Palette) (s : Switches) (y : Layout) (n : ℕ) → AllByRecursion (λ c. (32 ≤ c) × (c ≤ 126)) (shown y) → n ≤ length (shown y)
+whole_places : (p : Palette) (s : Switches) (y : Layout) (n : ℕ) → AllByRecursion IsAsShown (shown y) → n ≤ length (shown y)
     → pieces_bytes p (joined (place_in s y (λ k. Plain)) (upto n)) ≡ encode_utf8_all (take n (shown y))
 unfolding joined place_in
-printable_places p s y zero all h = pieces_bytes_none p
-printable_places p s y (suc n) all h =
+whole_places p s y zero all h = pieces_bytes_none p
+whole_places p s y (suc n) all h =
     let f = place_in s y (λ k. Plain) in
     let e : suc n ≡ n + 1 = omega arith in
-    let c = get_or-all (λ c. (32 ≤ c) × (c ≤ 126)) (shown y) n all (omega arith) in
+    let c = get_or-all IsAsShown (shown y) n all (omega arith) in
     let x = get_or (shown y) n 0 in
     ap (λ j. pieces_bytes p (joined f (upto j))) e ∙ ap (pieces_bytes p) (joined-upto_more f n) ∙ pieces_bytes-append p (joined f (upto n)) (f n)
-    ∙ (λ i. printable_places p s y n all (omega arith) i ++ printable_bytes p s (column_of s y n) x c.0 c.1 i)
+    ∙ (λ i. whole_places p s y n all (omega arith) i ++ whole_bytes p s (column_of s y n) x c i)
     ∙ sym (ap encode_utf8_all (ap (λ j. take j (shown y)) e ∙ take_more (shown y) n 0 (omega arith)) ∙ encodes-append (take n (shown y)) (x ∷ []) ∙ ap (λ t. encode_utf8_all (take n (shown y)) ++ t) (append-nil (encode_utf8 x)))
 
 -- the whole text
-pub draws_printable : (a b : PenFields) (y : Layout) (text : List ℕ) → AllByRecursion (λ c. (32 ≤ c) × (c ≤ 126)) (shown y) → IsUtf8 text
-    → chars text ≡ shown y → Adds a b text → Draws a b (shown_in a.page.switches y (λ k. Plain))
+pub draws_whole : (a b : PenFields) (y : Layout) (text : List ℕ) → AllByRecursion IsAsShown (shown y) → IsUtf8 text → chars text ≡ shown y
+    → Adds a b text → Draws a b (shown_in a.page.switches y (λ k. Plain))
 unfolding shown_in
-draws_printable a b y text all u e h =
+draws_whole a b y text all u e h =
     let p = a.page.palette in
     adds_same a b text _
-    (sym (printable_places p a.page.switches y (length (shown y)) all (omega arith)
+    (sym (whole_places p a.page.switches y (length (shown y)) all (omega arith)
     ∙ ap encode_utf8_all (take_all (length (shown y)) (shown y) (omega arith)) ∙ ap encode_utf8_all (sym e) ∙ encodes-chars text u)) h
 
 -- ---- stretches of places in one colour

@@ -1,11 +1,15 @@
 -- The text of a source row, whose characters have any colours.
-use Rattle.std.specs.Prelude.{ℕ, List, [], ◌∷◌, length, slice_index}
+use Rattle.std.specs.Prelude.{ℕ, ◌≡◌, List, [], ◌∷◌, encode_utf8, length, slice_index}
 use Rattle.ariadne_base.specs.Locations.{upto}
 use Rattle.ariadne_picture.specs.declared.cell.Paint.{Paint}
 use Rattle.ariadne_picture.specs.declared.switches.Switches.{Switches}
 use Rattle.ariadne_picture.specs.Lists.{joined}
 use Rattle.ariadne_picture.specs.Columns.{Layout, shown, column_of}
-use Rattle.ariadne_picture.specs.Pieces.{Piece, char_pieces}
+use Rattle.ariadne_picture.specs.Pieces.{Piece, char_pieces, shown_text}
+
+-- a character that is written as it is: it is no tab, and its own bytes are shown
+abbrev pub IsAsShown : ℕ → Type 0
+IsAsShown c = (c ≡ 9 → ⊥) × (shown_text c ≡ encode_utf8 c)
 
 -- a blank of a tab
 abbrev pub blank_of : Paint → Piece

@@ -1,14 +1,15 @@
 //! The text of a source row: the shown characters of its line, each in the colour of a label.
 
 ghost use Rattle.std.specs.Prelude.{◌≡◌, ◌+◌, ◌<◌, ◌≤◌, ◌^◌, ℕ, List, Some, true, OnOk, drop, encode_utf8};
-ghost use Rattle.std.specs.Prelude.{length, replicate, slice_get};
+ghost use Rattle.std.specs.Prelude.{IsTrue, length, replicate, slice_get};
+ghost use Rattle.std.specs.List.{AllByRecursion};
 ghost use Rattle.ariadne_cells.specs.Pages.{Draws};
 ghost use Rattle.ariadne_cells.specs.Tables.{ArePaints, position_paint, shown_at, tab_columns};
 ghost use Rattle.ariadne_picture.specs.declared.label_info.LabelInfo.{LabelInfo};
 ghost use Rattle.ariadne_picture.specs.Columns.{Layout, column_of, shown};
 ghost use Rattle.ariadne_picture.specs.Pieces.{char_pieces, shown_pieces, shown_text};
 ghost use Rattle.ariadne_rows.specs.Counted.{IsCounted};
-ghost use Rattle.ariadne_rows.specs.ShownTexts.{blank_of, shown_in};
+ghost use Rattle.ariadne_rows.specs.ShownTexts.{IsAsShown, blank_of, shown_in};
 
 use crate::counted::Counted;
 use ariadne_cells::columns::shown_columns;
@@ -56,11 +57,19 @@ fn push_characters(
 {
     if pen.page().is_colored() {
         push_stretches(pen, layout, paints)
-    } else if layout.is_plain() {
+    } else if is_shown_whole(layout) {
         pen.push_text(layout.shown())
     } else {
         push_stretches(pen, layout, &[])
     }
+}
+
+/// Whether the shown characters of a line are written as they are: none is a tab, and none but the
+/// blank is white space.
+fn is_shown_whole(layout: &LineLayout<'_>) -> bool
+    ensures { IsTrue result → AllByRecursion IsAsShown (shown layout.now) }
+{
+    layout.is_plain() || layout.shown().chars().all(|c| is_as_shown(c))
 }
 
 /// Writes the shown characters of a line one by one, each in the colour of its stretch.
@@ -140,6 +149,13 @@ fn push_char(
     let tab_width = pen.page().switches().tab_width;
     counted.go_to(tab_width, place)?;
     push_tab(pen, paint, shown_columns(tab_width, counted.column, c))
+}
+
+/// Whether a character is written as it is.
+fn is_as_shown(c: char) -> bool
+    ensures { IsTrue result → IsAsShown c }
+{
+    c != '\t' && shown_char(c) == c
 }
 
 /// A character as it is shown: white space as a blank.

@@ -1,11 +1,12 @@
 -- The id, the source and the name of the first label are those of the group.
-use Rattle.std.proofs.Common.{◌∙◌, ℕ, ap, refl, sym}
+use Rattle.std.proofs.Common.{◌≡◌, ◌∙◌, ℕ, ap, refl, sym, Some, true}
 use Rattle.std.specs.Option.{option_copied}
 use Rattle.ariadne_cells.proofs.Drawn.{rows_page}
 use Rattle.ariadne_picture.specs.Canvas.{section_of, texts_of}
 use Rattle.ariadne_rows.specs.Headers.{location_numbers}
 use Rattle.ariadne_accept.specs.Drawn.{world}
 use Rattle.ariadne_drawing.proofs.GroupParts.{first_is, section_first, section_location, section_name, section_switches}
+use Rattle.ariadne_drawing.proofs.GroupingSources.{one_source}
 use Rattle.ariadne_drawing.proofs.drawing.push_group_head.Goals as goal
 
 -- the first label starts within its source
@@ -38,10 +39,13 @@ returns g c =
     let name = λ (n k : ℕ).
     section_name w r n k labels c.source-id.result.now first.named c.display.result c.display.ensures _ refl c.unwrap_or-name.result
     c.unwrap_or-name.ensures in
+    let same : w.is_same c.source-id.result.now (w.id_of r.span) ≡ true → w.source_of (w.id_of r.span) ≡ Some c.unwrap-source.result.now = λ e.
+    sym (one_source g.S.SourceId.PartialEq.eq g.met.S.SourceId.Eq.laws (g.C.Cache.contents c.args.cache.now) c.source-id.result.now (w.id_of r.span) e)
+    ∙ sym c.get.ensures ∙ ap option_copied c.unwrap-source.ensures in
     let location = λ (n k : ℕ).
     section_location w r n k labels c.unwrap-source.result.now first.over (location_numbers c.header_location-location.result)
     (c.header_location-location.ensures (g.C.Cache.names c.args.cache.now) (g.C.Cache.contents c.args.cache.now) labels first.named
-    first.over first.first) in
+    first.over first.first (λ e. c.requires.own _ (same e))) in
     record {
       source = sym first.over;
       page =

@@ -2,7 +2,7 @@
 use Rattle.std.proofs.Common.{◌∙◌, ◌++◌, ◌∷◌, [], ap, sym}
 use Rattle.std.proofs.lemmas.List.{map_more}
 use Rattle.ariadne_picture.specs.Report.{LabelFields}
-use Rattle.ariadne_drawing.proofs.drawing.palette.Goals as goal
+use Rattle.ariadne_drawing.proofs.drawing.shown_colors.Goals as goal
 
 pub loop-label-preserved : goal.loop-label-preserved
 loop-label-preserved g c =

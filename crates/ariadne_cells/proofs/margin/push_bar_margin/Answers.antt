@@ -1,7 +1,7 @@
 use Rattle.std.proofs.Common.{rules, append_assoc}
 use Rattle.ariadne_picture.specs.Pieces.{glyph_text}
 use Rattle.ariadne_cells.proofs.Margins.{bare_bytes, gap_bytes}
-use Rattle.ariadne_cells.proofs.margin.margin_text.Goals as goal
+use Rattle.ariadne_cells.proofs.margin.push_bar_margin.Goals as goal
 
 -- text after text, to the bar
 pub returns-clause-bar : goal.returns-clause-bar
