@@ -1,6 +1,7 @@
-//! What the workloads draw: a text, and pieces of it with messages.
+//! What the workloads draw that have few labels, or many over many lines.
 
-use crate::order::Workload;
+use crate::job::{Job, said, silent};
+use crate::order::Shape;
 use crate::texts::{LARGE, narrow, tabbed_words, wide, words};
 use std::alloc::{AllocError, Global};
 
@@ -10,67 +11,22 @@ const WORDS: [(usize, usize); 4] = [(14, 19), (22, 26), (29, 34), (37, 42)];
 /// The lines of a large text that have a label.
 const FAR_LINES: [usize; 3] = [99, 99_999, 199_899];
 
-/// A piece of a text, by its offsets, and what is said of it.
-#[derive(Drop)]
-pub struct Mark {
-    pub start: usize,
-    pub end: usize,
-    pub message: Option<String>,
-}
-
-/// A report in the making, over one source.
-#[derive(Drop)]
-pub struct Job {
-    pub text: String,
-    pub message: &'static str,
-    /// In the order in which they are added.
-    pub marks: Vec<Mark>,
-    /// Whether it is drawn in colours, and with box drawing characters.
-    pub is_colored: bool,
-    /// Whether offsets count bytes.
-    pub in_bytes: bool,
-}
-
-/// A mark with a message.
-fn said(start: usize, end: usize, message: String) -> Mark {
-    Mark {
-        start,
-        end,
-        message: Some(message),
-    }
-}
-
-impl Job {
-    /// The job of a workload that writes a report over one source.
-    pub fn of(alloc: Global, workload: Workload) -> Result<Option<Job>, AllocError> {
-        let job = match workload {
-            Workload::Two | Workload::TwoSafe => two(alloc, false)?,
-            Workload::TwoColored => two(alloc, true)?,
-            Workload::Nested(times) => nested(alloc, times, false)?,
-            Workload::NestedColored => nested(alloc, 1, true)?,
-            Workload::Wide(count) => side_by_side(alloc, count, words(alloc, count)?)?,
-            Workload::Tabbed(count) => side_by_side(alloc, count, tabbed_words(alloc, count)?)?,
-            Workload::Large => large(alloc, false)?,
-            Workload::LargeBytes => large(alloc, true)?,
-            Workload::Lines(count) => lines(alloc, count)?,
-            Workload::Deep(count) => deep(alloc, count)?,
-            Workload::Crossing(count) => crossing(alloc, count)?,
-            Workload::Same(count) => same(alloc, count)?,
-            Workload::Silent(count) => silent(alloc, count)?,
-            Workload::Index | Workload::IndexBytes | Workload::Sources(_) => return Ok(None),
-        };
-        Ok(Some(job))
-    }
-
-    /// A job without colours, whose offsets count characters.
-    fn plain(text: String, message: &'static str, marks: Vec<Mark>) -> Job {
-        Job {
-            text,
-            message,
-            marks,
-            is_colored: false,
-            in_bytes: false,
-        }
+/// The job of a report over one source.
+pub fn job(alloc: Global, shape: Shape, number: u16) -> Result<Job, AllocError> {
+    match shape {
+        Shape::Two => two(alloc, false),
+        Shape::TwoColored => two(alloc, true),
+        Shape::Nested => nested(alloc, number, false),
+        Shape::NestedColored => nested(alloc, number, true),
+        Shape::Wide => side_by_side(alloc, number, words(alloc, u32::from(number))?),
+        Shape::Tabbed => side_by_side(alloc, number, tabbed_words(alloc, u32::from(number))?),
+        Shape::Large => large(alloc, false),
+        Shape::LargeBytes => large(alloc, true),
+        Shape::Lines => lines(alloc, number),
+        Shape::Deep => deep(alloc, number),
+        Shape::Crossing => crossing(alloc, number),
+        Shape::Same => same(alloc, number),
+        Shape::Silent => said_and_silent(alloc, number),
     }
 }
 
@@ -183,15 +139,11 @@ fn same(alloc: Global, count: u16) -> Result<Job, AllocError> {
 }
 
 /// Labels over two lines without message, and labels with one on the lines between them.
-fn silent(alloc: Global, count: u16) -> Result<Job, AllocError> {
+fn said_and_silent(alloc: Global, count: u16) -> Result<Job, AllocError> {
     let mut marks = Vec::new(alloc);
     for number in 0..count {
         let start = 200 * usize::from(number);
-        marks.push(Mark {
-            start: start + 14,
-            end: start + 60,
-            message: None,
-        })?;
+        marks.push(silent(start + 14, start + 60))?;
         let message = format!(in alloc; "said {number}")?;
         marks.push(said(start + 114, start + 119, message))?;
     }

@@ -7,17 +7,20 @@
 #![tactic(auto)]
 
 mod checksum;
+mod job;
 mod jobs;
+mod long_lines;
+mod many_labels;
+mod named;
 mod order;
 mod pictures;
 mod texts;
 
 use ariadne::Source;
 use ariadne_safe::{LineEnds, SafeSource, SafeSources};
-use jobs::Job;
-use order::{Order, Workload};
+use job::Job;
+use order::{Kind, Named, Order, Shape, Workload};
 use std::alloc::{AllocError, Global};
-use std::io::ErrorKind;
 use std::process::ExitCode;
 use std::rt::Clock;
 use std::time::Instant;
@@ -83,14 +86,15 @@ fn measure_safe(rt: &(impl AllocGlobal + Clock), job: Job, rounds: u32) -> io::R
     Ok(outcome_of(&out, nanoseconds))
 }
 
-/// Measures the writing of a report over so many sources.
-fn measure_sources(
+/// Measures the writing of a report with so many labels over sources that have names.
+fn measure_named(
     rt: &(impl AllocGlobal + Clock),
-    count: u16,
+    named: Named,
+    labels: u16,
     rounds: u32,
 ) -> io::Result<Outcome> {
-    let report = pictures::report_on_sources(rt.alloc(), count)?;
-    let mut cache = pictures::many_sources(rt.alloc(), count)?;
+    let report = named::report(rt.alloc(), named, labels)?;
+    let mut cache = named::texts(rt.alloc(), named, labels)?;
     let mut out = Vec::new(rt.alloc());
     let start = Instant::now(rt)?;
     pictures::draw(&report, &mut cache, rounds, &mut out)?;
@@ -109,16 +113,16 @@ fn outcome_of(picture: &[u8], nanoseconds: u128) -> Outcome {
 
 /// Measures a workload.
 fn measure(rt: &(impl AllocGlobal + Clock), order: &Order<'_>) -> io::Result<Outcome> {
-    let alloc = rt.alloc();
-    match order.workload {
-        Workload::Index => measure_index(rt, texts::narrow(alloc, LARGE)?, order.rounds),
-        Workload::IndexBytes => measure_index(rt, texts::wide(alloc, LARGE)?, order.rounds),
-        Workload::Sources(count) => measure_sources(rt, count, order.rounds),
-        workload => match Job::of(alloc, workload)? {
-            Some(job) if workload == Workload::TwoSafe => measure_safe(rt, job, order.rounds),
-            Some(job) => measure_job(rt, job, order.rounds),
-            None => Err(io::Error::from(ErrorKind::InvalidInput)),
-        },
+    let (alloc, rounds) = (rt.alloc(), order.rounds);
+    let Workload { kind, number } = order.workload;
+    match kind {
+        Kind::Index => measure_index(rt, texts::narrow(alloc, LARGE)?, rounds),
+        Kind::IndexBytes => measure_index(rt, texts::wide(alloc, LARGE)?, rounds),
+        Kind::TwoSafe => measure_safe(rt, jobs::job(alloc, Shape::Two, number)?, rounds),
+        Kind::Drawn(shape) => measure_job(rt, jobs::job(alloc, shape, number)?, rounds),
+        Kind::LongLine(line) => measure_job(rt, long_lines::job(alloc, line, number)?, rounds),
+        Kind::ManyLabels(many) => measure_job(rt, many_labels::job(alloc, many, number)?, rounds),
+        Kind::Named(named) => measure_named(rt, named, number, rounds),
     }
 }
 

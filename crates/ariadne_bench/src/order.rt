@@ -1,82 +1,180 @@
 //! What the words order: a workload, and how often.
 
-/// A workload. A number is that of its labels with a message, of its sources, or of the copies of
-/// its lines.
+/// How the labels of a report lie that is drawn over one source.
 #[derive(Clone, Copy, Debug, PartialEq, Eq)]
-pub enum Workload {
-    /// Indexes the lines of a large text of one-byte characters.
-    Index,
-    /// Indexes the lines of a large text of characters of one to three bytes.
-    IndexBytes,
+pub enum Shape {
     /// Two labels in one line.
     Two,
     /// The same in colours.
     TwoColored,
-    /// The same without colours, drawn safely.
-    TwoSafe,
     /// Labels nested over many lines, with labels within the lines.
-    Nested(u16),
+    Nested,
     /// The same in colours.
     NestedColored,
     /// Labels side by side in one line.
-    Wide(u16),
+    Wide,
     /// The same with tabs, wide characters and characters without columns.
-    Tabbed(u16),
+    Tabbed,
     /// Three labels far apart in a large text.
     Large,
     /// The same with offsets in bytes.
     LargeBytes,
     /// A label in every second line.
-    Lines(u16),
+    Lines,
     /// Labels nested over many lines.
-    Deep(u16),
+    Deep,
     /// Labels over many lines that cross each other.
-    Crossing(u16),
+    Crossing,
     /// Labels over one word.
-    Same(u16),
+    Same,
     /// Labels over two lines without message, and as many with one.
-    Silent(u16),
-    /// A label in each of many sources.
-    Sources(u16),
+    Silent,
+}
+
+/// What a long line has, and where its labels lie.
+#[derive(Clone, Copy, Debug, PartialEq, Eq)]
+pub enum LongLine {
+    /// The report's own span, far from its start and by bytes, beside a group for each other label.
+    Header,
+    /// Labels without message by bytes, and one with a message at its start.
+    Bytes,
+    /// Blanks behind its only word, which each second group shows.
+    Trailing,
+    /// Characters of two columns and three bytes, and one label at its end.
+    Chinese,
+    /// Letters of which each second one has two bytes, and one label at its end.
+    Latin,
+}
+
+/// How many labels lie over few or many lines.
+#[derive(Clone, Copy, Debug, PartialEq, Eq)]
+pub enum ManyLabels {
+    /// Nested ones without message, over lines of which each second one has a label.
+    Under,
+    /// Without message side by side, in each of forty lines.
+    SilentLines,
+    /// Without message side by side, in one line.
+    SilentWide,
+    /// Over one character.
+    OneCharacter,
+    /// Each in a group of its own, since each lies above the one before it.
+    Falling,
+    /// Over one line, each crossing all others.
+    CrossingInLine,
+    /// With a long message each.
+    LongMessages,
+    /// Empty ones, at each place of a line.
+    Empty,
+    /// Past the text, so that they are left out, and one that is drawn.
+    LeftOut,
+}
+
+/// Which names the sources of a report have.
+#[derive(Clone, Copy, Debug, PartialEq, Eq)]
+pub enum Named {
+    /// Each label has a source of its own.
+    Each,
+    /// All labels have one source, whose name is long.
+    Long,
+    /// The labels have two sources in turn.
+    Alternate,
+}
+
+/// What is measured.
+#[derive(Clone, Copy, Debug, PartialEq, Eq)]
+pub enum Kind {
+    /// Indexes the lines of a large text of one-byte characters.
+    Index,
+    /// Indexes the lines of a large text of characters of one to three bytes.
+    IndexBytes,
+    /// Draws two labels in one line safely.
+    TwoSafe,
+    /// Draws a report over one source.
+    Drawn(Shape),
+    /// Draws a report over a source that has a long line.
+    LongLine(LongLine),
+    /// Draws a report that has many labels over one source.
+    ManyLabels(ManyLabels),
+    /// Draws a report over sources that have names.
+    Named(Named),
+}
+
+/// The workloads whose names end in no number, each with its number.
+static NAMED: [(&str, Kind, u16); 10] = [
+    ("index", Kind::Index, 0),
+    ("index-bytes", Kind::IndexBytes, 0),
+    ("two", Kind::Drawn(Shape::Two), 2),
+    ("two-colour", Kind::Drawn(Shape::TwoColored), 2),
+    ("two-safe", Kind::TwoSafe, 2),
+    ("nested", Kind::Drawn(Shape::Nested), 1),
+    ("nested-colour", Kind::Drawn(Shape::NestedColored), 1),
+    ("wide", Kind::Drawn(Shape::Wide), 200),
+    ("large", Kind::Drawn(Shape::Large), 3),
+    ("large-bytes", Kind::Drawn(Shape::LargeBytes), 3),
+];
+
+/// What the names of the others begin with, before their number.
+static NUMBERED: [(&str, Kind); 25] = [
+    ("nested-x", Kind::Drawn(Shape::Nested)),
+    ("wide-", Kind::Drawn(Shape::Wide)),
+    ("tabbed-", Kind::Drawn(Shape::Tabbed)),
+    ("lines-", Kind::Drawn(Shape::Lines)),
+    ("deep-", Kind::Drawn(Shape::Deep)),
+    ("crossing-", Kind::Drawn(Shape::Crossing)),
+    ("same-", Kind::Drawn(Shape::Same)),
+    ("silent-", Kind::Drawn(Shape::Silent)),
+    ("byteheader-", Kind::LongLine(LongLine::Header)),
+    ("bytesilent-", Kind::LongLine(LongLine::Bytes)),
+    ("trailing-", Kind::LongLine(LongLine::Trailing)),
+    ("cjkline-", Kind::LongLine(LongLine::Chinese)),
+    ("latinline-", Kind::LongLine(LongLine::Latin)),
+    ("under-", Kind::ManyLabels(ManyLabels::Under)),
+    ("silentlines-", Kind::ManyLabels(ManyLabels::SilentLines)),
+    ("silentwide-", Kind::ManyLabels(ManyLabels::SilentWide)),
+    ("onechar-", Kind::ManyLabels(ManyLabels::OneCharacter)),
+    ("falling-", Kind::ManyLabels(ManyLabels::Falling)),
+    ("linecross-", Kind::ManyLabels(ManyLabels::CrossingInLine)),
+    ("longmsg-", Kind::ManyLabels(ManyLabels::LongMessages)),
+    ("zeroline-", Kind::ManyLabels(ManyLabels::Empty)),
+    ("leftout-", Kind::ManyLabels(ManyLabels::LeftOut)),
+    ("sources-", Kind::Named(Named::Each)),
+    ("longid-", Kind::Named(Named::Long)),
+    ("altsrc-", Kind::Named(Named::Alternate)),
+];
+
+/// A workload: what is measured, and a number. That is the number of its labels, of its sources or
+/// of the copies of its lines, or of the characters of its line.
+#[derive(Clone, Copy, Debug, PartialEq, Eq)]
+pub struct Workload {
+    pub kind: Kind,
+    pub number: u16,
 }
 
 impl Workload {
     /// The workload of a name, as `two-colour` or `wide-25`.
     fn from_name(name: &str) -> Option<Workload> {
-        match name {
-            "index" => Some(Workload::Index),
-            "index-bytes" => Some(Workload::IndexBytes),
-            "two" => Some(Workload::Two),
-            "two-colour" => Some(Workload::TwoColored),
-            "two-safe" => Some(Workload::TwoSafe),
-            "nested" => Some(Workload::Nested(1)),
-            "nested-colour" => Some(Workload::NestedColored),
-            "wide" => Some(Workload::Wide(200)),
-            "large" => Some(Workload::Large),
-            "large-bytes" => Some(Workload::LargeBytes),
-            _ => Workload::from_numbered_name(name),
+        for (known, kind, number) in NAMED.iter() {
+            if *known == name {
+                return Some(Workload {
+                    kind: *kind,
+                    number: *number,
+                });
+            }
         }
+        Workload::from_numbered_name(name)
     }
 
     /// The workload of a name that ends in a number.
     fn from_numbered_name(name: &str) -> Option<Workload> {
-        let (kind, number) = name.split_once('-')?;
-        if kind == "nested" {
-            let times = number.strip_prefix('x')?.parse().ok()?;
-            return Some(Workload::Nested(times));
+        for (start, kind) in NUMBERED.iter() {
+            if let Some(number) = name.strip_prefix(*start) {
+                return Some(Workload {
+                    kind: *kind,
+                    number: number.parse().ok()?,
+                });
+            }
         }
-        let number = number.parse().ok()?;
-        match kind {
-            "wide" => Some(Workload::Wide(number)),
-            "tabbed" => Some(Workload::Tabbed(number)),
-            "lines" => Some(Workload::Lines(number)),
-            "deep" => Some(Workload::Deep(number)),
-            "crossing" => Some(Workload::Crossing(number)),
-            "same" => Some(Workload::Same(number)),
-            "silent" => Some(Workload::Silent(number)),
-            "sources" => Some(Workload::Sources(number)),
-            _ => None,
-        }
+        None
     }
 }
 

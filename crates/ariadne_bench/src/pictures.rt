@@ -2,11 +2,8 @@
 
 ghost use Rattle.std.specs.Prelude.{◌≤◌};
 
-use crate::jobs::{Job, Mark};
-use crate::texts::line;
-use ariadne::{
-    Cache, CharSet, Color, Config, IndexType, Label, Report, ReportKind, SourceMap, Span, sources,
-};
+use crate::job::{Job, Mark};
+use ariadne::{Cache, CharSet, Color, Config, IndexType, Label, Report, ReportKind, Span};
 use ariadne_safe::{SafeBuilder, SafeKind, SafeReport, SafeSources};
 use std::alloc::{AllocError, Global};
 use std::io;
@@ -41,14 +38,19 @@ fn label_of(
     }
 }
 
+/// Without colours, and with ASCII alone.
+pub fn plain() -> Config {
+    Config::new()
+        .with_color(false)
+        .with_char_set(CharSet::Ascii)
+}
+
 /// How a job is drawn.
 fn config_of(job: &Job) -> Config {
     let config = if job.is_colored {
         Config::new()
     } else {
-        Config::new()
-            .with_color(false)
-            .with_char_set(CharSet::Ascii)
+        plain()
     };
     if job.in_bytes {
         config.with_index_type(IndexType::Byte)
@@ -91,37 +93,6 @@ pub fn safe_report_of<'s>(
         };
     }
     Ok(report.finish())
-}
-
-/// A report with a label in each of `count` sources.
-pub fn report_on_sources(
-    alloc: Global,
-    count: u16,
-) -> Result<Report<'static, (String, Range<usize>)>, AllocError> {
-    let span = (String::from_str(alloc, "name0")?, 14..19);
-    let mut report = Report::build(alloc, ReportKind::Error, span)
-        .with_config(
-            Config::new()
-                .with_color(false)
-                .with_char_set(CharSet::Ascii),
-        )
-        .with_message("sources")?;
-    for number in 0..count {
-        let id = format!(in alloc; "name{number}")?;
-        let message = format!(in alloc; "source {number}")?;
-        report.add_label(Label::new((id, 14..19)).with_message(alloc, message.as_str())?)?;
-    }
-    Ok(report.finish())
-}
-
-/// These sources: each has the line of its number.
-pub fn many_sources(alloc: Global, count: u16) -> Result<SourceMap<String, String>, AllocError> {
-    let mut texts = Vec::new(alloc);
-    for number in 0..count {
-        let id = format!(in alloc; "name{number}")?;
-        texts.push((id, line(alloc, u32::from(number))?))?;
-    }
-    sources(alloc, texts)
 }
 
 /// Writes a report `rounds` times, each time into the same room.

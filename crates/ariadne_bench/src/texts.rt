@@ -42,7 +42,7 @@ pub fn wide(alloc: Global, lines: u32) -> Result<String, AllocError> {
 }
 
 /// One line of so many numbered words of ten characters each.
-pub fn words(alloc: Global, count: u16) -> Result<String, AllocError> {
+pub fn words(alloc: Global, count: u32) -> Result<String, AllocError> {
     let mut text = String::new(alloc);
     for number in 0..count {
         write!(text, "w{number:06} +,")?;
@@ -51,7 +51,7 @@ pub fn words(alloc: Global, count: u16) -> Result<String, AllocError> {
 }
 
 /// The same with a tab, a wide character and a character without columns in each word.
-pub fn tabbed_words(alloc: Global, count: u16) -> Result<String, AllocError> {
+pub fn tabbed_words(alloc: Global, count: u32) -> Result<String, AllocError> {
     let mut text = String::new(alloc);
     for (place, c) in words(alloc, count)?.as_str().chars().enumerate() {
         text.push(match place % 10 {

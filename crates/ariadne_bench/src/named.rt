@@ -1,0 +1,74 @@
+//! The reports of the workloads over sources that have names.
+
+use crate::order::Named;
+use crate::pictures::plain;
+use crate::texts::line;
+use ariadne::{Label, Report, ReportKind, SourceMap, sources};
+use std::alloc::{AllocError, Global};
+use std::ops::Range;
+
+/// The place and the message of a report whose sources have names.
+type NamedReport = Report<'static, (String, Range<usize>)>;
+
+/// The name of a label's source.
+fn name_of(alloc: Global, named: Named, number: u16) -> Result<String, AllocError> {
+    match named {
+        Named::Each => format!(in alloc; "name{number}"),
+        Named::Long => "n".repeat(alloc, 10_000),
+        Named::Alternate => String::from_str(alloc, if number % 2 == 0 { "aa" } else { "bb" }),
+    }
+}
+
+/// The message of a label.
+fn message_of(alloc: Global, named: Named, number: u16) -> Result<String, AllocError> {
+    match named {
+        Named::Each => format!(in alloc; "source {number}"),
+        Named::Long | Named::Alternate => format!(in alloc; "m{number}"),
+    }
+}
+
+/// The message of the report.
+fn title_of(named: Named) -> &'static str {
+    match named {
+        Named::Each => "sources",
+        Named::Long => "longid",
+        Named::Alternate => "altsrc",
+    }
+}
+
+/// How many sources a report with so many labels has.
+fn count_of(named: Named, labels: u16) -> u16 {
+    match named {
+        Named::Each => labels,
+        Named::Long => 1,
+        Named::Alternate => 2,
+    }
+}
+
+/// A report with so many labels. Its own span is that of the first one.
+pub fn report(alloc: Global, named: Named, labels: u16) -> Result<NamedReport, AllocError> {
+    let span = (name_of(alloc, named, 0)?, 14..19);
+    let mut report = Report::build(alloc, ReportKind::Error, span)
+        .with_config(plain())
+        .with_message(title_of(named))?;
+    for number in 0..labels {
+        let message = message_of(alloc, named, number)?;
+        let label = Label::new((name_of(alloc, named, number)?, 14..19));
+        report.add_label(label.with_message(alloc, message.as_str())?)?;
+    }
+    Ok(report.finish())
+}
+
+/// The sources of such a report: each has the line of its number.
+pub fn texts(
+    alloc: Global,
+    named: Named,
+    labels: u16,
+) -> Result<SourceMap<String, String>, AllocError> {
+    let mut texts = Vec::new(alloc);
+    for number in 0..count_of(named, labels) {
+        let name = name_of(alloc, named, number)?;
+        texts.push((name, line(alloc, u32::from(number))?))?;
+    }
+    sources(alloc, texts)
+}
