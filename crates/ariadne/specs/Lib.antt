@@ -26,7 +26,13 @@ pub use Rattle.ariadne_labels.specs.declared.kind.ReportKind
 pub use Rattle.ariadne_picture.specs.declared.switches.CharSet
 pub use Rattle.ariadne_picture.specs.declared.switches.IndexType
 pub use Rattle.ariadne_picture.specs.declared.switches.LabelAttach
+pub use Rattle.ariadne_picture.specs.declared.switches.Switches
+pub use Rattle.ariadne_picture.specs.declared.cell.Glyph
+pub use Rattle.ariadne_picture.specs.declared.cell.Ink
+pub use Rattle.ariadne_picture.specs.declared.cell.Paint
 pub use Rattle.ariadne_picture.specs.declared.label_info.LabelInfo
+pub use Rattle.ariadne_picture.specs.declared.label_info.LineLabel
+pub use Rattle.ariadne_picture.specs.declared.label_info.Side
 pub use Rattle.ariadne_picture.specs.declared.verdict.Verdict
 pub use Rattle.ariadne_picture.specs.Lists
 pub use Rattle.ariadne_picture.specs.Report
@@ -34,6 +40,7 @@ pub use Rattle.ariadne_picture.specs.Accept
 pub use Rattle.ariadne_picture.specs.Groups
 pub use Rattle.ariadne_picture.specs.Ranks
 pub use Rattle.ariadne_picture.specs.Rows
+pub use Rattle.ariadne_picture.specs.RowNames
 pub use Rattle.ariadne_picture.specs.Columns
 pub use Rattle.ariadne_picture.specs.Strokes
 pub use Rattle.ariadne_picture.specs.Bars
@@ -45,6 +52,7 @@ pub use Rattle.ariadne_picture.specs.Sent
 pub use Rattle.ariadne_picture.specs.Placing
 pub use Rattle.ariadne_picture.specs.Blocks
 pub use Rattle.ariadne_picture.specs.Causes
+pub use Rattle.ariadne_picture.specs.GutterCauses
 pub use Rattle.ariadne_picture.specs.LabelColors
 pub use Rattle.ariadne_picture.specs.Readings
 pub use Rattle.ariadne_picture.specs.Variants
@@ -55,6 +63,7 @@ pub use Rattle.ariadne_accept.specs.Drawn
 pub use Rattle.ariadne_accept.specs.Judging
 pub use Rattle.ariadne_accept.specs.declared.accept.LeftOut
 pub use Rattle.ariadne_accept.specs.declared.accept.Reason
+pub use Rattle.ariadne_send.specs.declared.send.SendError
 pub use Rattle.ariadne_send.specs.Sent as Sending
 pub mod WriteErrors
 pub mod Written

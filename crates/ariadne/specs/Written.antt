@@ -35,13 +35,12 @@ module _ {S Id E : Type 0} (fails : Id → E → Type 0) (old w : World S Id) (r
     pub traced : (before after : Option (List ℕ)) → Appends before after (picture reasons)
         → Headline w r (drawn_labels w r.config 0 r.labels reasons) before after
 
-  -- all was written: the reasons are listed, the picture of the other labels was sent, and on it
-  -- every message can be found
+  -- all was written: the reasons are listed, and the headline holds of the other labels: their
+  -- picture was sent, and on it every message can be found
   pub record IsWritten (list : List (LeftOut E)) (before after : Option (List ℕ)) : Type 0 where
     pub reasons : List (Option (Reason E))
     pub are_reasons : AreReasons fails old w r.config r.labels reasons
     pub left_out : list ≡ listed 0 reasons
-    pub sent : Appends before after (picture reasons)
     pub traced : Headline w r (drawn reasons) before after
 
   -- only the first bytes were written, of a picture that has more

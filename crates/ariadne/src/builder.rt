@@ -109,6 +109,8 @@ impl<'a, S: Span> ReportBuilder<'a, S> {
 
     /// Gives the report this note, in place of all that it had. On `Err` there was no memory for
     /// it, and the report is as it was.
+    ///
+    /// Notes stand below the labels: a report without a label that is drawn shows none.
     pub fn set_note(&mut self, note: &str) -> Result<(), AllocError>
         ensures ok { OnOk result (self.new ≡ record self.old { notes = note.now ∷ [] }) }
         ensures err { OnErr result (self.new ≡ self.old) }
@@ -121,6 +123,8 @@ impl<'a, S: Span> ReportBuilder<'a, S> {
 
     /// Adds a note behind those that the report has. On `Err` there was no memory for it, and the
     /// report is as it was.
+    ///
+    /// Notes stand below the labels: a report without a label that is drawn shows none.
     pub fn add_note(&mut self, note: &str) -> Result<(), AllocError>
         ensures ok { OnOk result (self.new ≡ record self.old
             { notes = self.old.notes ++ note.now ∷ [] }) }
@@ -134,6 +138,8 @@ impl<'a, S: Span> ReportBuilder<'a, S> {
 
     /// Adds these notes in turn, behind those that the report has. On `Err` there was no memory
     /// for one of them: those before it stay added, and it and those behind it are dropped.
+    ///
+    /// Notes stand below the labels: a report without a label that is drawn shows none.
     pub fn with_notes<'t, T: IntoIterator<Item = &'t str>>(
         &mut self,
         notes: T,
@@ -159,6 +165,8 @@ impl<'a, S: Span> ReportBuilder<'a, S> {
 
     /// The report with one note more, behind those that it has. On `Err` there was no memory for
     /// it, and the report is dropped.
+    ///
+    /// Notes stand below the labels: a report without a label that is drawn shows none.
     pub fn with_note(mut self, note: &str) -> Result<ReportBuilder<'a, S>, AllocError>
     where
         S: Drop,
@@ -171,6 +179,8 @@ impl<'a, S: Span> ReportBuilder<'a, S> {
 
     /// Gives the report this help, in place of all that it had. On `Err` there was no memory for
     /// it, and the report is as it was.
+    ///
+    /// Helps stand below the labels: a report without a label that is drawn shows none.
     pub fn set_help(&mut self, help: &str) -> Result<(), AllocError>
         ensures ok { OnOk result (self.new ≡ record self.old { helps = help.now ∷ [] }) }
         ensures err { OnErr result (self.new ≡ self.old) }
@@ -183,6 +193,8 @@ impl<'a, S: Span> ReportBuilder<'a, S> {
 
     /// Adds a help behind those that the report has. On `Err` there was no memory for it, and the
     /// report is as it was.
+    ///
+    /// Helps stand below the labels: a report without a label that is drawn shows none.
     pub fn add_help(&mut self, help: &str) -> Result<(), AllocError>
         ensures ok { OnOk result (self.new ≡ record self.old
             { helps = self.old.helps ++ help.now ∷ [] }) }
@@ -196,6 +208,8 @@ impl<'a, S: Span> ReportBuilder<'a, S> {
 
     /// Adds these helps in turn, behind those that the report has. On `Err` there was no memory
     /// for one of them: those before it stay added, and it and those behind it are dropped.
+    ///
+    /// Helps stand below the labels: a report without a label that is drawn shows none.
     pub fn with_helps<'t, T: IntoIterator<Item = &'t str>>(
         &mut self,
         helps: T,
@@ -221,6 +235,8 @@ impl<'a, S: Span> ReportBuilder<'a, S> {
 
     /// The report with one help more, behind those that it has. On `Err` there was no memory for
     /// it, and the report is dropped.
+    ///
+    /// Helps stand below the labels: a report without a label that is drawn shows none.
     pub fn with_help(mut self, help: &str) -> Result<ReportBuilder<'a, S>, AllocError>
     where
         S: Drop,

@@ -18,6 +18,7 @@ pub mod GutterSpans
 pub mod GutterBars
 pub mod GutterRows
 pub mod GutterFree
+pub mod OtherGutterStrokes
 pub mod WholeBlocks
 pub mod LabelTraces
 pub mod OtherStrokes

@@ -17,6 +17,7 @@ mod WrongPictures
 mod WrongUnicodePictures
 mod WrongPlacings
 mod StrayStrokes
+mod StrayGutterStrokes
 mod WrongColors
 mod TwoReadings
 mod OddReports

@@ -53,22 +53,6 @@ header_pieces t =
 
 -- ---- colours
 
--- line numbers, and the strokes round the lines of a group
-abbrev pub margin_color : Color
-margin_color = Fixed 246
-
--- the margins of rows without a line number
-abbrev pub skipped_margin_color : Color
-skipped_margin_color = Fixed 240
-
--- source text outside all labels
-abbrev pub unimportant_color : Color
-unimportant_color = Fixed 249
-
--- the word in front of a help or a note
-abbrev pub note_color : Color
-note_color = Fixed 115
-
 -- the colours of a report: whether there are any, that of its kind, and those of its labels
 pub record Palette : Type 0 where
   pub is_on : Bool
@@ -84,15 +68,17 @@ palette_of r =
       labels = map (λ label. label.color) r.labels;
     }
 
--- the colour that a paint asks for
+-- the colour that a paint asks for. Margins are line numbers and the strokes round the lines of a
+-- group; those of rows without a line number are skipped ones; unimportant is source text outside of
+-- all labels, and a note's paint that of the word in front of a help or a note
 unfoldable pub paint_color : Palette → Paint → Option Color
 paint_color p Plain = None
 paint_color p (Label k) = slice_index_or p.labels k None
 paint_color p Kind = Some p.kind
-paint_color p Margin = Some margin_color
-paint_color p SkippedMargin = Some skipped_margin_color
-paint_color p Unimportant = Some unimportant_color
-paint_color p Note = Some note_color
+paint_color p Margin = Some (Fixed 246)
+paint_color p SkippedMargin = Some (Fixed 240)
+paint_color p Unimportant = Some (Fixed 249)
+paint_color p Note = Some (Fixed 115)
 
 -- with colours off nothing has one
 unfoldable pub color_of : Palette → Paint → Option Color

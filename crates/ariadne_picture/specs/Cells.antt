@@ -24,39 +24,29 @@ use Rattle.ariadne_picture.specs.Strokes.{vertical_at, underline_at, has_corner,
 
 -- ---- the characters of the strokes
 
+-- the first in Unicode, the second in ASCII
+abbrev pub in_set : CharSet → ℕ → ℕ → ℕ
+in_set Unicode c d = c
+in_set Ascii c d = d
+
 -- the character of a stroke in a character set
 unfoldable pub glyph_code : CharSet → Glyph → ℕ
 glyph_code set Blank = 32
-glyph_code Unicode Hbar = 0x2500
-glyph_code Unicode Vbar = 0x2502
-glyph_code Unicode Xbar = 0x253C
-glyph_code Unicode VbarGap = 0x2506
-glyph_code Unicode Uarrow = 0x25B2
-glyph_code Unicode Rarrow = 0x25B6
-glyph_code Unicode Ltop = 0x256D
-glyph_code Unicode Lbot = 0x2570
-glyph_code Unicode Rbot = 0x256F
-glyph_code Unicode Mbot = 0x2534
-glyph_code Unicode Lbox = 0x5B
-glyph_code Unicode Rbox = 0x5D
-glyph_code Unicode Lcross = 0x251C
-glyph_code Unicode Underbar = 0x252C
-glyph_code Unicode Underline = 0x2500
-glyph_code Ascii Hbar = 0x2D
-glyph_code Ascii Vbar = 0x7C
-glyph_code Ascii Xbar = 0x2B
-glyph_code Ascii VbarGap = 0x3A
-glyph_code Ascii Uarrow = 0x5E
-glyph_code Ascii Rarrow = 0x3E
-glyph_code Ascii Ltop = 0x2C
-glyph_code Ascii Lbot = 0x60
-glyph_code Ascii Rbot = 0x27
-glyph_code Ascii Mbot = 0x5E
-glyph_code Ascii Lbox = 0x5B
-glyph_code Ascii Rbox = 0x5D
-glyph_code Ascii Lcross = 0x7C
-glyph_code Ascii Underbar = 0x7C
-glyph_code Ascii Underline = 0x5E
+glyph_code set Hbar = in_set set 0x2500 0x2D
+glyph_code set Vbar = in_set set 0x2502 0x7C
+glyph_code set Xbar = in_set set 0x253C 0x2B
+glyph_code set VbarGap = in_set set 0x2506 0x3A
+glyph_code set Uarrow = in_set set 0x25B2 0x5E
+glyph_code set Rarrow = in_set set 0x25B6 0x3E
+glyph_code set Ltop = in_set set 0x256D 0x2C
+glyph_code set Lbot = in_set set 0x2570 0x60
+glyph_code set Rbot = in_set set 0x256F 0x27
+glyph_code set Mbot = in_set set 0x2534 0x5E
+glyph_code set Lbox = 0x5B
+glyph_code set Rbox = 0x5D
+glyph_code set Lcross = in_set set 0x251C 0x7C
+glyph_code set Underbar = in_set set 0x252C 0x7C
+glyph_code set Underline = in_set set 0x2500 0x5E
 
 -- ---- inks
 

@@ -1,7 +1,8 @@
 -- What the headline says of a report that was drawn. What was sent is exactly the printed canvas of
 -- the accepted labels. On it each accepted message has one row of its own, and strokes lead from it
 -- to the label's attach character or gutter column, in the columns where the source row shows them.
--- In the text below a line no stroke stands elsewhere, and strokes have the colours of their labels.
+-- In the text below a line and in the gutter no stroke stands elsewhere, and strokes have the colours
+-- of their labels.
 -- All of this is read in one way, but that the messages of twins may change places. A cell takes the
 -- columns of its text, and the rows are the lines that are sent. Colours move nothing, and offsets in
 -- bytes draw as the same offsets in characters.
@@ -18,6 +19,7 @@ use Rattle.ariadne_picture.specs.Placing.{Placing, is_placing, has_message_rows,
 use Rattle.ariadne_picture.specs.Placing.{has_ends_of_gutter_traces, has_gutter_bars, is_aligned}
 use Rattle.ariadne_picture.specs.Blocks.{has_whole_blocks}
 use Rattle.ariadne_picture.specs.Causes.{has_no_other_strokes}
+use Rattle.ariadne_picture.specs.GutterCauses.{has_no_other_gutter_strokes}
 use Rattle.ariadne_picture.specs.LabelColors.{label_color, has_label_colors}
 use Rattle.ariadne_picture.specs.Readings.{AgreeOnStrokes}
 use Rattle.ariadne_picture.specs.Variants.{HaveNoEscapes, ColorsMoveNothing}
@@ -39,6 +41,7 @@ pub record IsReadBy (rows : List (List Cell)) (groups : List Section) (message_o
   pub and_along_the_gutter_column : has_gutter_bars rows groups placing ≡ true
   pub in_the_columns_where_the_source_row_shows_them : is_aligned rows groups placing ≡ true
   pub and_no_stroke_stands_elsewhere : has_no_other_strokes rows groups placing ≡ true
+  pub nor_in_the_gutter : has_no_other_gutter_strokes rows groups placing ≡ true
 
 -- they can be read: there are such row numbers, under which the strokes of each label, which has
 -- colour color_at k where its position is k, have its colour

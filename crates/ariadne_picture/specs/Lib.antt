@@ -16,6 +16,7 @@ pub mod Sent
 pub mod Placing
 pub mod Blocks
 pub mod Causes
+pub mod GutterCauses
 pub mod LabelColors
 pub mod Readings
 pub mod Variants

@@ -4,7 +4,7 @@
 -- places count from 0.
 use Rattle.std.specs.Prelude.{ℕ, ◌+◌, ◌-◌, ◌*◌, Bool, true, not, ◌&&◌, ◌||◌, ◌==◌, nat_eq}
 use Rattle.std.specs.Prelude.{nat_le, nat_lt, if◌then◌else◌, List, [], ◌∷◌, ◌++◌, length, map, take}
-use Rattle.std.specs.Prelude.{drop, filter, None, is_some, slice_index_or, replicate, decimal}
+use Rattle.std.specs.Prelude.{drop, filter, None, is_some, slice_index_or, decimal}
 use Rattle.std.specs.Prelude.{codes}
 use Rattle.std.specs.List.{list_all, list_any, range_with_len, prefix_len}
 use Rattle.std.specs.Cmp.Lexicographic.{pointwise}
@@ -14,13 +14,15 @@ use Rattle.ariadne_picture.specs.declared.label_info.LineLabel.{LineLabel}
 use Rattle.ariadne_picture.specs.declared.cell.Glyph.{Glyph}
 use Rattle.ariadne_picture.specs.declared.cell.Glyph.TheVariants.{Hbar, Vbar, Xbar, VbarGap, Rarrow}
 use Rattle.ariadne_picture.specs.declared.cell.Glyph.TheVariants.{Ltop, Lbot, Rbot, Mbot, Lcross}
+use Rattle.ariadne_picture.specs.declared.cell.Paint.TheVariants.{Plain}
 use Rattle.ariadne_picture.specs.Lists.{joined, total, all_numbered, any_numbered}
 use Rattle.ariadne_picture.specs.Lists.{joined_numbered}
 use Rattle.ariadne_picture.specs.Groups.{group_lines, printed_number}
 use Rattle.ariadne_picture.specs.Ranks.{gutter_labels, margin_label, is_of_gutter_label}
 use Rattle.ariadne_picture.specs.Ranks.{is_on_one_line, is_inline, is_hidden}
-use Rattle.ariadne_picture.specs.Columns.{layout_of, shown, shown_columns, width, column_of}
-use Rattle.ariadne_picture.specs.Pieces.{Section, glyph_text, column_size, gutter_len, shown_text}
+use Rattle.ariadne_picture.specs.Columns.{layout_of, shown, width, column_of}
+use Rattle.ariadne_picture.specs.Pieces.{Piece, Section, glyph_text, column_size, gutter_len}
+use Rattle.ariadne_picture.specs.Pieces.{char_pieces}
 use Rattle.ariadne_picture.specs.Canvas.{Cell}
 
 -- the choice of row numbers: for group g, line l, the label at position k and gutter label i
@@ -76,18 +78,6 @@ unindented t = drop (prefix_len (λ c. c == 32) t) t
 unfoldable pub ends_in : List ℕ → List ℕ → Bool
 ends_in t end = is_text (drop (length t - length end) t) end
 
--- the texts of the cells of a shown character c that begins at column x: each blank of a tab has
--- its own
-abbrev pub char_texts : ℕ → ℕ → ℕ → List (List ℕ)
-char_texts tab_width x c =
-    if c == 9 then replicate (shown_columns tab_width x c) (32 ∷ []) else shown_text c ∷ []
-
--- the columns of these cells
-abbrev pub char_widths : ℕ → ℕ → ℕ → List ℕ
-char_widths tab_width x c =
-    let columns = shown_columns tab_width x c in
-    if c == 9 then replicate columns 1 else columns ∷ []
-
 -- each number is less than all that follow it
 unfoldable pub are_rising : List ℕ → Bool
 are_rising [] = true
@@ -140,19 +130,11 @@ place_cell s l k = text_cell s + column_of s.sheet.switches (layout_of s.sheet l
 unfoldable pub has_cell : Section → ℕ → ℕ → Bool
 has_cell s l k = nat_lt 0 (width s.sheet.switches (layout_of s.sheet l) k)
 
--- the texts of the cells of line l
-unfoldable pub shown_texts : Section → ℕ → List (List ℕ)
-shown_texts s l =
+-- the cells of line l, without their colours: one for each character, and one for each blank of a tab
+unfoldable pub shown_cells : Section → ℕ → List Piece
+shown_cells s l =
     let y = layout_of s.sheet l in
-    joined_numbered (λ k. char_texts s.sheet.switches.tab_width (column_of s.sheet.switches y k))
-    (shown y)
-
--- the columns of these cells
-unfoldable pub shown_widths : Section → ℕ → List ℕ
-shown_widths s l =
-    let y = layout_of s.sheet l in
-    joined_numbered (λ k. char_widths s.sheet.switches.tab_width (column_of s.sheet.switches y k))
-    (shown y)
+    joined_numbered (λ k. char_pieces s.sheet.switches Plain (column_of s.sheet.switches y k)) (shown y)
 
 module _ (canvas : List (List Cell)) (sections : List Section) (p : Placing) where
   -- row n
@@ -201,7 +183,8 @@ module _ (canvas : List (List Cell)) (sections : List Section) (p : Placing) whe
   is_source_row s l n =
       has_margin s
       (decimal (printed_number s.display_offset l) ++ codes " " ++ glyph_text (set_of s) Vbar) n
-      && pointwise is_text (map (λ c. c.text) (text_cells s n)) (shown_texts s l)
+      && pointwise is_text (map (λ c. c.text) (text_cells s n))
+      (map (λ c. c.text) (shown_cells s l))
 
   -- row n has a margin without a number
   unfoldable pub is_block_row : Section → ℕ → Bool
@@ -281,7 +264,9 @@ module _ (canvas : List (List Cell)) (sections : List Section) (p : Placing) whe
   has_message_rows message_of =
       all_groups (λ g s. list_all (are_block_ends message_of g s) (shown_lines s))
 
-  -- ---- strokes in the text; a place without a cell is passed over
+  -- ---- strokes in the text. A place without a cell is passed over: there is no corner, and the strokes
+  -- end at the first place behind it that has a cell, if the row has such a place. That nothing stands in
+  -- front of them is said in `Causes`
 
   -- place k of row n has no cell, or the test holds of its first one
   abbrev pub holds_at_place : Section → ℕ → ℕ → (Cell → Bool) → ℕ → Bool
@@ -495,7 +480,8 @@ module _ (canvas : List (List Cell)) (sections : List Section) (p : Placing) whe
   unfoldable pub is_line_aligned : ℕ → Section → ℕ → Bool
   is_line_aligned g s l =
       let m = p.source_row g l in
-      pointwise nat_eq (map (λ c. c.columns) (text_cells s m)) (shown_widths s l)
+      pointwise nat_eq (map (λ c. c.columns) (text_cells s m))
+      (map (λ c. c.columns) (shown_cells s l))
       && list_all (is_row_aligned s m (cells_of_places g s l)) (block_rows g l)
 
   -- the clause on alignment

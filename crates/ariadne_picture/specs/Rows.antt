@@ -1,9 +1,11 @@
 -- The rows of a group, each by a name, from top to bottom. A line with labels has a source row and,
 -- for each line label with a message, an alternate row (underlines and verticals) and an arrow row
 -- (the arrow to the message). A run of lines without labels has one row in its place, or none.
-use Rattle.std.specs.Prelude.{ℕ, ◌+◌, ◌-◌, ◌*◌, Bool, not, ◌&&◌, ◌||◌, ◌==◌, nat_le, nat_lt}
+use Rattle.std.specs.Prelude.{ℕ, ◌+◌, ◌-◌, ◌*◌, Bool, not, ◌&&◌, nat_le, nat_lt}
 use Rattle.std.specs.Prelude.{if◌then◌else◌, List, [], ◌∷◌, ◌++◌, map, length}
 use Rattle.std.specs.List.{list_any, enumerate_from}
+use Rattle.std.specs.Ordering.{is_lt, nat_cmp}
+use Rattle.std.specs.Cmp.Lexicographic.{slice_cmp}
 use Rattle.std.specs.Str.Lines.{lines}
 use Rattle.ariadne_base.specs.Locations.{line_offset, upto}
 use Rattle.ariadne_picture.specs.declared.label_info.LineLabel.{LineLabel}
@@ -40,51 +42,23 @@ unfoldable pub aside_part : Aside → ℕ
 aside_part help = 3
 aside_part note = 4
 
--- which part of its group a row belongs to
-unfoldable pub row_part : Row → ℕ
-row_part group_header = 0
-row_part spacer = 1
-row_part (source l) = 2
-row_part (alternate l r) = 2
-row_part (arrow l r) = 2
-row_part (gap l) = 2
-row_part (bare l) = 2
-row_part (blank a k) = aside_part a
-row_part (piece a k p) = aside_part a
-row_part tail = 5
-
--- its line, or the number of its help or note
-unfoldable pub row_line : Row → ℕ
-row_line group_header = 0
-row_line spacer = 0
-row_line (source l) = l
-row_line (alternate l r) = l
-row_line (arrow l r) = l
-row_line (gap l) = l
-row_line (bare l) = l
-row_line (blank a k) = k
-row_line (piece a k p) = k
-row_line tail = 0
-
--- which row of that line, help or note it is
-unfoldable pub row_step : Row → ℕ
-row_step group_header = 0
-row_step spacer = 0
-row_step (source l) = 0
-row_step (alternate l r) = 2 * r + 1
-row_step (arrow l r) = 2 * r + 2
-row_step (gap l) = 0
-row_step (bare l) = 0
-row_step (blank a k) = 0
-row_step (piece a k p) = p + 1
-row_step tail = 0
+-- the part of its group that a row belongs to; its line, or the number of its help or note; which row
+-- of these it is
+unfoldable pub row_key : Row → List ℕ
+row_key group_header = 0 ∷ 0 ∷ 0 ∷ []
+row_key spacer = 1 ∷ 0 ∷ 0 ∷ []
+row_key (source l) = 2 ∷ l ∷ 0 ∷ []
+row_key (alternate l r) = 2 ∷ l ∷ (2 * r + 1) ∷ []
+row_key (arrow l r) = 2 ∷ l ∷ (2 * r + 2) ∷ []
+row_key (gap l) = 2 ∷ l ∷ 0 ∷ []
+row_key (bare l) = 2 ∷ l ∷ 0 ∷ []
+row_key (blank a k) = aside_part a ∷ k ∷ 0 ∷ []
+row_key (piece a k p) = aside_part a ∷ k ∷ (p + 1) ∷ []
+row_key tail = 5 ∷ 0 ∷ 0 ∷ []
 
 -- row a stands before row b
 unfoldable pub before : Row → Row → Bool
-before a b =
-    nat_lt (row_part a) (row_part b) || ((row_part a == row_part b)
-    && (nat_lt (row_line a) (row_line b)
-    || ((row_line a == row_line b) && nat_lt (row_step a) (row_step b))))
+before a b = is_lt (slice_cmp nat_cmp (row_key a) (row_key b))
 
 -- ---- which rows there are
 

@@ -1,11 +1,10 @@
 -- Reports that draw the same picture: one without colours draws what is left where the colours are
 -- taken away, and one whose offsets count bytes draws as the one with the same offsets in
 -- characters.
-use Rattle.std.specs.Prelude.{ℕ, ◌≡◌, ◌≤◌, true, false, not, ◌==◌, List, map, Option, Some, None}
-use Rattle.std.specs.Prelude.{IfSome, find, length, unwrap_or, option_map, option_and_then, chars}
+use Rattle.std.specs.Prelude.{ℕ, ◌≡◌, true, false, not, ◌==◌, min, List, [], map, Option, Some}
+use Rattle.std.specs.Prelude.{None, IfSome, is_some, unwrap_or, option_map, option_and_then, chars}
 use Rattle.std.specs.Prelude.{slice_get}
 use Rattle.std.specs.List.{list_all, AllByRecursion}
-use Rattle.ariadne_base.specs.Listing.{Listing}
 use Rattle.ariadne_color.specs.declared.color.Color.TheVariants.{Primary}
 use Rattle.ariadne_picture.specs.declared.switches.IndexType.TheVariants.{Char}
 use Rattle.ariadne_picture.specs.declared.verdict.Verdict.{Verdict}
@@ -13,10 +12,8 @@ use Rattle.ariadne_picture.specs.declared.verdict.Verdict.TheVariants.{Accepted}
 use Rattle.ariadne_picture.specs.declared.label_info.LabelInfo.{LabelInfo}
 use Rattle.ariadne_picture.specs.Report.{Kind, error, warning, advice, custom, LabelFields}
 use Rattle.ariadne_picture.specs.Report.{ReportFields, World}
-use Rattle.ariadne_picture.specs.Lists.{mapped_numbered}
-use Rattle.ariadne_picture.specs.Accept.{offset_in_chars, verdict_in}
-use Rattle.ariadne_picture.specs.Canvas.{canvas, kind_name, is_same_id, group_id, group_source}
-use Rattle.ariadne_picture.specs.Canvas.{groups}
+use Rattle.ariadne_picture.specs.Accept.{text_len, offset_in_chars, verdict_in}
+use Rattle.ariadne_picture.specs.Canvas.{canvas, kind_name, is_same_id, group_id, groups}
 use Rattle.ariadne_picture.specs.Print.{printed, erased, unescaped}
 
 -- ---- without colours
@@ -63,23 +60,6 @@ pub record ColorsMoveNothing {S Id : Type 0} (w : World S Id) (r : ReportFields 
 
 -- ---- offsets in characters
 
--- a span of characters of the source under an id
-pub record CharSpan (Id : Type 0) : Type 0 where
-  pub id : Id
-  pub start : ℕ
-  pub end : ℕ
-
--- the same world, read by such spans
-abbrev pub char_world : {S Id : Type 0} → World S Id → World (CharSpan Id) Id
-char_world w = record {
-  id_of = λ span. span.id;
-  start_of = λ span. span.start;
-  end_of = λ span. span.end;
-  is_same = w.is_same;
-  name_of = w.name_of;
-  source_of = w.source_of;
-}
-
 -- what becomes of the label at a position, where its source is held
 abbrev pub verdict_at : {S Id : Type 0} → World S Id → ReportFields S → ℕ → Option Verdict
 verdict_at {S} w r k =
@@ -88,58 +68,38 @@ verdict_at {S} w r k =
     option_and_then over (slice_get r.labels k)
 
 module _ {S Id : Type 0} (w : World S Id) (r : ReportFields S) where
-  -- the report's own start in characters, where it has one
-  unfoldable pub own_start : Option ℕ
-  own_start =
-      let in_chars = λ (source : Listing).
-      offset_in_chars r.config.index_type (chars source.text) (w.start_of r.span) in
-      option_and_then in_chars (w.source_of (w.id_of r.span))
+  -- the text of the source that a span is of
+  unfoldable pub text_of : S → List ℕ
+  text_of span = chars (unwrap_or (option_map (λ s. s.text) (w.source_of (w.id_of span))) [])
 
-  -- the label at position k, where it is drawn, with its ends in characters
-  unfoldable pub char_label : List LabelInfo → ℕ → LabelFields S → LabelFields (CharSpan Id)
-  char_label infos k label =
-      let info = find (λ a. a.position == k) infos in
-      record {
-        span = record {
-          id = w.id_of label.span;
-          start = unwrap_or (option_map (λ a. a.start) info) (w.start_of label.span);
-          end = unwrap_or (option_map (λ a. a.end) info) (w.end_of label.span);
-        };
-        message = label.message;
-        color = label.color;
-        order = label.order;
-        priority = label.priority;
-      }
+  -- an offset of this text in characters, if it lies inside none
+  unfoldable pub in_chars : S → ℕ → Option ℕ
+  in_chars span o = offset_in_chars r.config.index_type (text_of span) o
 
-  -- the report whose offsets are in characters
-  unfoldable pub char_report : List LabelInfo → ReportFields (CharSpan Id)
-  char_report infos = record {
-    kind = r.kind;
-    code = r.code;
-    message = r.message;
-    span =
-        record {
-          id = w.id_of r.span;
-          start = unwrap_or own_start (w.start_of r.span);
-          end = w.end_of r.span;
-        };
-    labels = mapped_numbered (char_label infos) r.labels;
-    notes = r.notes;
-    helps = r.helps;
-    config = record r.config { index_type = Char };
+  -- the same world, whose offsets are in characters. An end past the end of its source is taken as
+  -- that one, and an offset inside a character stays as it is
+  abbrev pub char_world : World S Id
+  char_world = record w {
+    start_of = λ span. unwrap_or (in_chars span (w.start_of span)) (w.start_of span);
+    end_of = λ span.
+        let end = min (w.end_of span) (text_len r.config.index_type (text_of span)) in
+        unwrap_or (in_chars span end) (w.end_of span);
   }
 
-  -- wherever a group is over the source of the report's own span, the own start is a boundary of it
+  -- the report whose offsets are in characters
+  abbrev pub char_report : ReportFields S
+  char_report = record r { config = record r.config { index_type = Char } }
+
+  -- wherever a group is over the source of the report's own span, the own start lies inside no
+  -- character of it
   abbrev pub OwnStartIsBoundary : List LabelInfo → Type 0
   OwnStartIsBoundary infos =
       AllByRecursion (λ group. is_same_id w r (group_id w r group) (Some (w.id_of r.span)) ≡ true
-      → (o : ℕ) × (own_start ≡ Some o) × (o ≤ length (chars (group_source w r group).text)))
-      (groups w r infos)
+      → is_some (in_chars r.span (w.start_of r.span)) ≡ true) (groups w r infos)
 
   -- bytes draw as characters: each drawn label is accepted there as the same, and where the own
   -- start is a boundary the canvas is the same
   pub record BytesDrawAsCharacters (infos : List LabelInfo) : Type 0 where
     pub labels : AllByRecursion
-        (λ a. verdict_at (char_world w) (char_report infos) a.position ≡ Some (Accepted a)) infos
-    pub cells : OwnStartIsBoundary infos
-        → canvas w r infos ≡ canvas (char_world w) (char_report infos) infos
+        (λ a. verdict_at char_world char_report a.position ≡ Some (Accepted a)) infos
+    pub cells : OwnStartIsBoundary infos → canvas w r infos ≡ canvas char_world char_report infos

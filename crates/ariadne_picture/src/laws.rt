@@ -23,6 +23,7 @@ ghost use Rattle.ariadne_picture.specs.Bars.{IsInside, IsOutside, Shows};
 ghost use Rattle.ariadne_picture.specs.Blocks.{has_whole_blocks};
 ghost use Rattle.ariadne_picture.specs.Canvas.{Cell, canvas, group_id, groups, sections, texts_of};
 ghost use Rattle.ariadne_picture.specs.Causes.{has_no_other_strokes};
+ghost use Rattle.ariadne_picture.specs.GutterCauses.{has_no_other_gutter_strokes};
 ghost use Rattle.ariadne_picture.specs.Groups.{AreGroupsOf, group_start_line, groups_of, ordered};
 ghost use Rattle.ariadne_picture.specs.Headline.{AreReadInOneWay, CanBeRead, IsReadBy, IsTraced};
 ghost use Rattle.ariadne_picture.specs.LabelColors.{has_label_colors, label_color};
@@ -291,6 +292,17 @@ pub fn no_stroke_is_without_a_cause<S, Id, R>()
         → let infos = drawn_labels w r.config 0 r.labels reasons in
         let rows = canvas w r infos in let groups = sections w r infos in
         CanBeRead rows groups (λ placing. has_no_other_strokes rows groups placing) }
+{}
+
+/// No stroke without a cause in the gutter: each cell of a gutter column is blank, or shows a head, a
+/// corner, a tee or a bar of the column's own label, or an arrow head, or a horizontal of one that
+/// owns a column in front of it.
+pub fn no_gutter_stroke_is_without_a_cause<S, Id, R>()
+    ensures { (w : World S Id) (r : ReportFields S) (reasons : List (Option R))
+        → HaveOneSource w → AreForward w r
+        → let infos = drawn_labels w r.config 0 r.labels reasons in
+        let rows = canvas w r infos in let groups = sections w r infos in
+        CanBeRead rows groups (λ placing. has_no_other_gutter_strokes rows groups placing) }
 {}
 
 /// Colours lead too: the strokes in a label's own rows, its bars, and its verticals where no other is

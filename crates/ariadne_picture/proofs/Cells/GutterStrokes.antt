@@ -9,7 +9,7 @@ use Rattle.ariadne_picture.specs.declared.label_info.LabelInfo.{LabelInfo}
 use Rattle.ariadne_picture.specs.declared.label_info.LineLabel.{LineLabel}
 use Rattle.ariadne_picture.specs.declared.cell.Glyph.TheVariants.{Blank, Hbar, Vbar, Xbar, VbarGap, Rarrow, Ltop, Lbot, Lcross}
 use Rattle.ariadne_picture.specs.Ranks.{Sheet, is_inline, is_end, gutter_labels, margin_label, is_of_gutter_label, line_labels}
-use Rattle.ariadne_picture.specs.Rows.{Row, source, alternate, arrow, gap, row_part, row_line, row_step, before}
+use Rattle.ariadne_picture.specs.Rows.{row_key, Row, source, alternate, arrow, gap, before}
 use Rattle.ariadne_picture.specs.Strokes.{is_at_margin, rank_at, first_row, last_row, has_tee, bar_at}
 use Rattle.ariadne_picture.specs.Bars.{IsGutterLabel, Shows, IsInside, IsOutside}
 use Rattle.ariadne_picture.specs.Cells.{margin_glyph, turn_glyph, beside_ink, below_ink, turn_ink, column_ink}
@@ -222,7 +222,7 @@ module _ (s : Sheet) (i : ℕ) (a : LabelInfo) (m : IsGutterLabel s i a) where
 
   -- and so is the row in place of hidden lines, which stands where the source row would
   outside-gap : (l : ℕ) → IsOutside s i a (gap l) → IsFree (column_ink s (gap l) i)
-  unfolding before row_part row_line row_step
+  unfolding before row_key
   outside-gap l out =
       rw (gap-beside s l i (outside-no-bar (gap l) out) (outside-no-bar (source l) out)) (outside-source l out)
 

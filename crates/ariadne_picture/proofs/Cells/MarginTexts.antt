@@ -4,7 +4,7 @@ use Rattle.std.proofs.Common.{take, drop, length, replicate, Some, refl, sym, ap
 use Rattle.std.proofs.Common.{one-add}
 use Rattle.std.specs.Prelude.{slice_get, slice_index, decimal, codes}
 use Rattle.std.specs.Fmt.{digits, digits_onto, digit_glyph}
-use Rattle.std.specs.List.{prefix_len}
+use Rattle.std.specs.List.{enumerate_from, prefix_len}
 use Rattle.std.proofs.lemmas.Bool.{cond_both, cond-true, cond-false, ne_eqb, cases_Bool}
 use Rattle.ariadne_base.specs.Locations.{upto}
 use Rattle.ariadne_picture.specs.declared.switches.CharSet.{CharSet}
@@ -12,6 +12,7 @@ use Rattle.ariadne_picture.specs.declared.switches.CharSet.TheVariants.{Unicode,
 use Rattle.ariadne_picture.specs.declared.switches.Switches.{Switches}
 use Rattle.ariadne_picture.specs.declared.cell.Glyph.TheVariants.{Vbar}
 use Rattle.ariadne_picture.specs.declared.cell.Paint.{Paint}
+use Rattle.ariadne_picture.specs.declared.cell.Paint.TheVariants.{Plain}
 use Rattle.ariadne_picture.specs.declared.label_info.LabelInfo.{LabelInfo}
 use Rattle.ariadne_picture.specs.Lists.{joined_numbered}
 use Rattle.ariadne_picture.specs.Groups.{printed_number}
@@ -19,8 +20,8 @@ use Rattle.ariadne_picture.specs.Rows.{Row, source, alternate, arrow}
 use Rattle.ariadne_picture.specs.Columns.{Layout, shown, shown_columns, column_of}
 use Rattle.ariadne_picture.specs.Cells.{glyph_code}
 use Rattle.ariadne_picture.specs.Pieces.{blank_piece, Piece, Section, spaces, glyph_text, char_pieces, place_pieces, char_paint}
-use Rattle.ariadne_picture.specs.Pieces.{shown_pieces, margin_text, margin_paint, margin_pieces}
-use Rattle.ariadne_picture.specs.Placing.{unindented, char_texts}
+use Rattle.ariadne_picture.specs.Pieces.{shown_text, shown_pieces, margin_text, margin_paint, margin_pieces}
+use Rattle.ariadne_picture.specs.Placing.{unindented}
 use Rattle.ariadne_picture.proofs.Lists.Joined.{joined-numbered, map-joined, joined-same}
 use Rattle.ariadne_picture.proofs.Lists.ListFacts.{map-replicate}
 use Rattle.ariadne_picture.proofs.Cells.RowCells.{front_pieces}
@@ -124,25 +125,44 @@ arrow-margin set w display_offset l r = unindented-spaces (w + 1) (glyph_text se
 
 -- ---- the texts of a source row
 
--- the texts of a character's cells
-char-texts : (switches : Switches) (paint : Paint) (x c : ℕ)
-    → map (λ (q : Piece). q.text) (char_pieces switches paint x c) ≡ char_texts switches.tab_width x c
+-- what the cells of a character have beside their colour doesn't hang on that
+same-cells : {X : Type 0} (f : Piece → X) → ((text : List ℕ) (p q : Paint) (n : ℕ)
+    → f (record { text = text; paint = p; columns = n }) ≡ f (record { text = text; paint = q; columns = n }))
+    → (switches : Switches) (paint : Paint) (x c : ℕ) → map f (char_pieces switches paint x c) ≡ map f (char_pieces switches Plain x c)
 unfolding char_pieces
-char-texts switches paint x c = elim (cases_Bool (c == 9)) [
-  | inl tab ↦ rw tab (map-replicate (λ (q : Piece). q.text) (shown_columns switches.tab_width x c)
-      (record { text = 32 ∷ []; paint = paint; columns = 1 }))
-  | inr other ↦ rw other refl
+same-cells f same switches paint x c = elim (cases_Bool (c == 9)) [
+  | inl tab ↦
+      let n = shown_columns switches.tab_width x c in
+      rw tab (map-replicate f n (record { text = 32 ∷ []; paint = paint; columns = 1 })
+      ∙ ap (replicate n) (same (32 ∷ []) paint Plain 1)
+      ∙ sym (map-replicate f n (record { text = 32 ∷ []; paint = Plain; columns = 1 })))
+  | inr other ↦ rw other (ap (λ x. x ∷ []) (same (shown_text c) paint Plain (shown_columns switches.tab_width x c)))
 ]
 
--- those of all characters
-pub shown-texts : (switches : Switches) (labels : List LabelInfo) (y : Layout)
-    → map (λ (q : Piece). q.text) (shown_pieces switches labels y)
-    ≡ joined_numbered (λ k. char_texts switches.tab_width (column_of switches y k)) (shown y)
+-- the cells of all characters
+abbrev pub plain_cells : Switches → Layout → List Piece
+plain_cells switches y = joined_numbered (λ k. char_pieces switches Plain (column_of switches y k)) (shown y)
+
+-- so it is with those of a source row
+pub shown-alike : {X : Type 0} (f : Piece → X) → ((text : List ℕ) (p q : Paint) (n : ℕ)
+    → f (record { text = text; paint = p; columns = n }) ≡ f (record { text = text; paint = q; columns = n }))
+    → (switches : Switches) (labels : List LabelInfo) (y : Layout) → map f (shown_pieces switches labels y) ≡ map f (plain_cells switches y)
 unfolding shown_pieces place_pieces
-shown-texts switches labels y =
-    map-joined (λ (q : Piece). q.text) (place_pieces switches labels y) (upto (length (shown y)))
-    ∙ joined-same (λ (k : ℕ). map (λ (q : Piece). q.text) (place_pieces switches labels y k))
-    (λ (k : ℕ). char_texts switches.tab_width (column_of switches y k) (slice_index (shown y) k))
-    (λ k. char-texts switches (char_paint labels y k) (column_of switches y k) (slice_index (shown y) k)) (upto (length (shown y)))
-    ∙ joined-numbered (λ e. char_texts switches.tab_width (column_of switches y e.0) e.1) (shown y) 0 (shown y)
+shown-alike f same switches labels y =
+    map-joined f (place_pieces switches labels y) (upto (length (shown y)))
+    ∙ joined-same (λ (k : ℕ). map f (place_pieces switches labels y k))
+    (λ (k : ℕ). map f (char_pieces switches Plain (column_of switches y k) (slice_index (shown y) k)))
+    (λ k. same-cells f same switches (char_paint labels y k) (column_of switches y k) (slice_index (shown y) k)) (upto (length (shown y)))
+    ∙ joined-numbered (λ e. map f (char_pieces switches Plain (column_of switches y e.0) e.1)) (shown y) 0 (shown y)
     (λ k. let z : k ≡ 0 + k = omega arith in ap (slice_index (shown y)) z)
+    ∙ sym (map-joined f (λ e. char_pieces switches Plain (column_of switches y e.0) e.1) (enumerate_from 0 (shown y)))
+
+-- its texts
+pub shown-texts : (switches : Switches) (labels : List LabelInfo) (y : Layout)
+    → map (λ (q : Piece). q.text) (shown_pieces switches labels y) ≡ map (λ (q : Piece). q.text) (plain_cells switches y)
+shown-texts switches labels y = shown-alike (λ (q : Piece). q.text) (λ text p q n. refl) switches labels y
+
+-- and its columns
+pub shown-columns : (switches : Switches) (labels : List LabelInfo) (y : Layout)
+    → map (λ (q : Piece). q.columns) (shown_pieces switches labels y) ≡ map (λ (q : Piece). q.columns) (plain_cells switches y)
+shown-columns switches labels y = shown-alike (λ (q : Piece). q.columns) (λ text p q n. refl) switches labels y

@@ -1,4 +1,4 @@
--- What row numbers that read a picture say of its rows: their blocks are those of the rows' names, and each message stands in the arrow row
+-- What row numbers that read a picture say of its rows. Their blocks are those of the rows' names, and each message stands in the arrow row
 -- of a line label that shows the same text.
 use Rattle.std.proofs.Common.{◌≡◌, ℕ, zero, suc, ◌+◌, ◌-◌, ◌<◌, ◌≤◌, Bool, true, false, not, ◌||◌, List, [], ◌∷◌, ◌++◌, length, filter}
 use Rattle.std.proofs.Common.{Option, Some, refl, sym, ap, ◌∙◌, subst, arith, ◌==◌, inl, inr, ◌⊎◌, nat_lt}

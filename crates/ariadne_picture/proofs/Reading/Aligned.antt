@@ -1,28 +1,23 @@
 -- The text of a source row and of the rows below it begins at one column, and takes the columns of the line.
 use Rattle.std.proofs.Common.{◌≡◌, ℕ, ◌+◌, Bool, true, List, [], ◌∷◌, ◌++◌, map, take, length, refl, sym, ap, ◌∙◌, arith, ◌==◌}
-use Rattle.std.proofs.Common.{inl, inr}
-use Rattle.std.specs.Prelude.{slice_index}
 use Rattle.std.specs.List.{AllByRecursion, list_all}
 use Rattle.std.specs.Cmp.Derive.{both_true}
-use Rattle.std.proofs.lemmas.Bool.{eq-eqb, le-leb, cases_Bool}
+use Rattle.std.proofs.lemmas.Bool.{eq-eqb, le-leb}
 use Rattle.std.proofs.lemmas.List.{length-append, length-map, map-append, take_at}
-use Rattle.ariadne_base.specs.Locations.{upto}
 use Rattle.ariadne_picture.specs.declared.switches.Switches.{Switches}
-use Rattle.ariadne_picture.specs.declared.label_info.LabelInfo.{LabelInfo}
 use Rattle.ariadne_picture.specs.declared.cell.Ink.{Ink}
-use Rattle.ariadne_picture.specs.declared.cell.Paint.{Paint}
-use Rattle.ariadne_picture.specs.Lists.{joined_numbered, total}
+use Rattle.ariadne_picture.specs.Lists.{total}
 use Rattle.ariadne_picture.specs.Ranks.{multi_line_labels}
 use Rattle.ariadne_picture.specs.Rows.{Row, source}
-use Rattle.ariadne_picture.specs.Columns.{Layout, layout_of, shown, shown_columns, column_of}
-use Rattle.ariadne_picture.specs.Pieces.{Piece, Section, char_paint, char_pieces, place_pieces, shown_pieces, margin_pieces, gutter_pieces}
+use Rattle.ariadne_picture.specs.Columns.{layout_of}
+use Rattle.ariadne_picture.specs.Pieces.{Piece, Section, margin_pieces, gutter_pieces}
 use Rattle.ariadne_picture.specs.Canvas.{Cell, cell_of}
-use Rattle.ariadne_picture.specs.Placing.{char_widths, text_cells, cells_of_places, shown_widths, columns_before, is_row_aligned, is_line_aligned}
+use Rattle.ariadne_picture.specs.Placing.{text_cells, cells_of_places, shown_cells, columns_before, is_row_aligned, is_line_aligned}
 use Rattle.ariadne_picture.specs.Placing.{is_aligned}
 use Rattle.ariadne_picture.proofs.Cells.CanvasRows.{map-map}
+use Rattle.ariadne_picture.proofs.Cells.MarginTexts.{plain_cells, shown-columns}
 use Rattle.ariadne_picture.proofs.Lists.Elements.{list_all-true, pointwise-equal}
-use Rattle.ariadne_picture.proofs.Lists.Joined.{joined-numbered, map-joined, joined-same}
-use Rattle.ariadne_picture.proofs.Lists.ListFacts.{all-map, all-weaker, map-replicate}
+use Rattle.ariadne_picture.proofs.Lists.ListFacts.{all-map, all-weaker}
 use Rattle.ariadne_picture.proofs.Lists.Occurrences.{total-append, total-map}
 use Rattle.ariadne_picture.proofs.Cells.RowCells.{front_pieces, area-columns, gutter-columns, length-gutter}
 use Rattle.ariadne_picture.proofs.Reading.Pictures.{Picture, read, number, source_row}
@@ -35,29 +30,6 @@ columns q = q.columns
 
 abbrev cell_columns : Cell → ℕ
 cell_columns c = c.columns
-
--- ---- the source row
-
--- a tab has as many cells as columns, of one column each; another character has one cell
-char-columns : (switches : Switches) (paint : Paint) (x c : ℕ)
-    → map columns (char_pieces switches paint x c) ≡ char_widths switches.tab_width x c
-unfolding char_pieces
-char-columns switches paint x c = elim (cases_Bool (c == 9)) [
-  | inl tab ↦ rw tab (map-replicate columns (shown_columns switches.tab_width x c) _)
-  | inr other ↦ rw other refl
-]
-
--- a source row has the cells of each character in turn
-shown-columns : (switches : Switches) (labels : List LabelInfo) (y : Layout)
-    → map columns (shown_pieces switches labels y)
-    ≡ joined_numbered (λ k. char_widths switches.tab_width (column_of switches y k)) (shown y)
-unfolding shown_pieces place_pieces
-shown-columns switches labels y =
-    map-joined columns (place_pieces switches labels y) (upto (length (shown y)))
-    ∙ joined-same _ _ (λ k. char-columns switches (char_paint labels y k) (column_of switches y k) (slice_index (shown y) k))
-    (upto (length (shown y)))
-    ∙ joined-numbered (λ e. char_widths switches.tab_width (column_of switches y e.0) e.1) (shown y) 0 (shown y)
-    (λ k. let z : k ≡ 0 + k = omega arith in ap (slice_index (shown y)) z)
 
 -- ---- the margin and the gutter
 
@@ -122,15 +94,13 @@ module _ (v : Picture) where
         both_true (both_true (eq-eqb _ _ before) first) (le-leb _ _ (omega (arith, size, long)))
 
     -- a source row takes the columns of the characters of its line
-    source-aligned : map cell_columns (read v text_cells s (source_row v g l)) ≡ shown_widths s l
-    unfolding shown_widths
+    source-aligned : map cell_columns (read v text_cells s (source_row v g l)) ≡ map columns (shown_cells s l)
+    unfolding shown_cells
     source-aligned =
         ap (λ n. map cell_columns (read v text_cells s n)) (source-is v h)
         ∙ ap (map cell_columns) (text-cells v (source-text v (source-row-is v h))) ∙ map-map cell_columns (cell_of v.palette) _
         ∙ shown-columns v.texts.switches (multi_line_labels s.sheet) (layout_of s.sheet l)
-        ∙ ap (λ (switches : Switches).
-        joined_numbered (λ k. char_widths switches.tab_width (column_of switches (layout_of s.sheet l) k)) (shown (layout_of s.sheet l)))
-        (sym (v.drawn.same_switches g s h.group))
+        ∙ ap (λ (switches : Switches). map columns (plain_cells switches (layout_of s.sheet l))) (sym (v.drawn.same_switches g s h.group))
 
     -- so the rows of the line stand below its characters
     line-aligned : read v is_line_aligned g s l ≡ true

@@ -15,7 +15,8 @@ use Rattle.ariadne_picture.specs.declared.cell.Glyph.TheVariants.{Blank, Hbar, V
 use Rattle.ariadne_picture.specs.declared.cell.Ink.{Ink}
 use Rattle.ariadne_picture.specs.declared.cell.Paint.TheVariants.{Label}
 use Rattle.ariadne_picture.specs.Ranks.{is_inline, is_margin, margin_label, line_labels}
-use Rattle.ariadne_picture.specs.Rows.{Row, alternate, arrow, row_part, row_line, row_step}
+use Rattle.ariadne_picture.specs.Rows.{row_key, Row, alternate, arrow}
+use Rattle.ariadne_picture.proofs.Rows.RowPlacing.{row_part, row_line, row_step}
 use Rattle.ariadne_picture.specs.Columns.{Layout, layout_of, width}
 use Rattle.ariadne_picture.specs.Strokes.{has_vertical, vertical_at, underline_at, has_corner, is_crossed, bar_at}
 use Rattle.ariadne_picture.specs.Cells.{paint_of, ink_of, arrow_ink, arrow_place, alternate_ink, alternate_place, turn_ink, column_ink}
@@ -253,7 +254,7 @@ module _ (v : Picture) {g : ℕ} {s : Section} {l r : ℕ} {x : LineLabel} (q : 
   covers : (rank j : ℕ) (w : LineLabel) (y : Row) → slice_get (line_labels s.sheet l) rank ≡ Some w
       → has_vertical (layout_of s.sheet l).margin x.place w ≡ true → rank < r → RowAt v g s j y → row_part y ≡ 2 → row_line y ≡ l
       → row_step y ≤ 2 * rank + 2 → read v is_covered (color_at v) g s l x.place (number v g s (arrow l r)) (number v g s y) ≡ true
-  unfolding is_covered has_vertical row_part row_line row_step
+  unfolding is_covered has_vertical row_key
   covers rank j w y there on less is part line step =
       let two = two-true (w.info.has_message && not (is_margin (layout_of s.sheet l).margin w)) (w.place == x.place) on in
       let one = two-true w.info.has_message (not (is_margin (layout_of s.sheet l).margin w)) two.0 in
@@ -319,7 +320,7 @@ module _ (v : Picture) {g : ℕ} {s : Section} {l r : ℕ} {x : LineLabel} (q : 
       → (corner crossed : Bool) (up : Option LineLabel) → has_corner (layout_of s.sheet l).margin z x.place ≡ corner
       → is_crossed z.side z.place x.place ≡ crossed → vertical_at (layout_of s.sheet l) rank x.place ≡ up
       → vertical_test (number v g s (arrow l rank)) ≡ true
-  unfolding row_part row_line row_step arrow_ink
+  unfolding row_key arrow_ink
   arrow-passes rank z own less some true crossed up e f u =
       passes-covered _ (covers rank _ z (arrow l rank) own.there (corner-vertical _ x.place z own.message e) less (arrow-at v own) refl refl (omega arith))
   arrow-passes rank z own less some false true up e f u =
@@ -337,7 +338,7 @@ module _ (v : Picture) {g : ℕ} {s : Section} {l r : ℕ} {x : LineLabel} (q : 
   -- an alternate row
   alternate-passes : (rank j : ℕ) → RowAt v g s j (alternate l rank) → rank ≤ r → has_cell s l x.place ≡ true → (up : Option LineLabel)
       → vertical_at (layout_of s.sheet l) rank x.place ≡ up → vertical_test (number v g s (alternate l rank)) ≡ true
-  unfolding row_part row_line row_step alternate_place
+  unfolding row_key alternate_place
   alternate-passes rank j is low some None u = absurd (something-seen rank low u)
   alternate-passes rank j is low some (Some w) u =
       let y = layout_of s.sheet l in
@@ -350,7 +351,7 @@ module _ (v : Picture) {g : ℕ} {s : Section} {l r : ℕ} {x : LineLabel} (q : 
 
   -- the rows from the line down to its arrow row
   pub vertical-colored : read v is_vertical_colored (color_at v) g s l x.info x.place (number v g s (arrow l r)) ≡ true
-  unfolding is_vertical_colored row_part row_line row_step
+  unfolding is_vertical_colored row_key
   vertical-colored =
       let end = number-at v (arrow-at v q) in
       let src = source-at v q.line in

@@ -1,5 +1,5 @@
 -- The picture of a report: its groups have the report's switches, labels that end no earlier than they start, and a
--- position for each label; so clauses that hold of every picture hold of the canvas.
+-- position for each label. So clauses that hold of every picture hold of the canvas.
 use Rattle.std.proofs.Common.{◌≡◌, ◌≢◌, ℕ, zero, suc, ◌+◌, Bool, true, List, [], ◌∷◌, ◌++◌, map, length, Some, refl, sym, ap, ◌∙◌, subst}
 use Rattle.std.specs.Prelude.{slice_get, int_lt}
 use Rattle.std.specs.List.{AllByRecursion, enumerate_from}

@@ -17,9 +17,11 @@ use Rattle.ariadne_picture.proofs.Reading.GutterFree.{gutter-bars}
 use Rattle.ariadne_picture.proofs.Reading.InlineTraces.{inline-traces}
 use Rattle.ariadne_picture.proofs.Reading.EndTraces.{end-traces}
 use Rattle.ariadne_picture.proofs.Reading.OtherStrokes.{no-other-strokes}
+use Rattle.ariadne_picture.proofs.Reading.OtherGutterStrokes.{no-other-gutter-strokes}
 use Rattle.ariadne_picture.proofs.Reading.ColoredLabels.{label-colors}
 use Rattle.ariadne_picture.proofs.Reading.WholeBlocks.{whole-blocks}
 use Rattle.ariadne_picture.specs.Causes.{has_no_other_strokes}
+use Rattle.ariadne_picture.specs.GutterCauses.{has_no_other_gutter_strokes}
 use Rattle.ariadne_picture.specs.LabelColors.{label_color, has_label_colors}
 use Rattle.ariadne_picture.proofs.Reading.Pictures.{Picture}
 use Rattle.ariadne_picture.proofs.Rows.RowPlacing.{row_placing}
@@ -75,6 +77,7 @@ module _ {S Id R : Type 0} (w : World S Id) (r : ReportFields S) (reasons : List
         and_along_the_gutter_column = every-bar;
         in_the_columns_where_the_source_row_shows_them = canvas-aligned w r infos numbered;
         and_no_stroke_stands_elsewhere = of-canvas w r infos numbered has_no_other_strokes (no-other-strokes picture);
+        nor_in_the_gutter = of-canvas w r infos numbered has_no_other_gutter_strokes (no-other-gutter-strokes picture);
       };
       strokes_have_the_colors_of_their_labels = every-color;
     }

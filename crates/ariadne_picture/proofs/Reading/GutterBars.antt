@@ -13,7 +13,7 @@ use Rattle.ariadne_picture.specs.declared.label_info.Side.TheVariants.{Starts, E
 use Rattle.ariadne_picture.specs.declared.cell.Glyph.TheVariants.{Vbar, VbarGap, Ltop, Lbot, Lcross}
 use Rattle.ariadne_picture.specs.Bars.{IsLineLabel}
 use Rattle.ariadne_picture.specs.Ranks.{is_inline, is_on_one_line, gutter_labels, line_labels, is_hidden, is_end, is_start}
-use Rattle.ariadne_picture.specs.Rows.{Row, source, alternate, arrow, gap, bare, is_inside, row_part, row_line, row_step}
+use Rattle.ariadne_picture.specs.Rows.{row_key, Row, source, alternate, arrow, gap, bare, is_inside}
 use Rattle.ariadne_picture.specs.Strokes.{is_at_margin, has_tee, rank_at}
 use Rattle.ariadne_picture.specs.Cells.{margin_glyph}
 use Rattle.ariadne_picture.specs.Pieces.{Piece, Section, glyph_text, margin_text, blank_piece}
@@ -129,7 +129,7 @@ module _ (v : Picture) {g : ℕ} {s : Section} {i : ℕ} {a : LabelInfo} (o : Is
 
     -- it is no bare row: a hidden line between the start and the end of a label is inside
     no-bare : {k l : ℕ} → RowAt v g s k (bare l) → h.from < k → k < h.to → is_hidden s.sheet l ≡ true → is_inside s.sheet l ≡ false → ⊥
-    unfolding row_part row_line row_step is_inside is_on_one_line
+    unfolding row_key is_inside is_on_one_line
     no-bare {l = l} is low high hidden out =
         let here : BarRow l 0 (bare l) = record { part = refl; line = refl; step = refl } in
         let top = precedes-row a.start_line l (first_step s.sheet i a) 0 _ (bare l) (first-is s.sheet i a) here (in-order v h.top is low) in

@@ -54,7 +54,7 @@ module _ (v : Picture) where
     head-above = by-order v h.top h.foot (first-before-last s.sheet i a label)
 
     -- a source row whose margin label it is stands from its head to its corner
-    margin-place : (k l : ℕ) (m : LineLabel) → RowAt v g s k (source l) → margin_label s.sheet l ≡ Some m → m.gutter_column ≡ i
+    pub margin-place : (k l : ℕ) (m : LineLabel) → RowAt v g s k (source l) → margin_label s.sheet l ≡ Some m → m.gutter_column ≡ i
         → (h.from ≤ k) × (k ≤ h.to)
     unfolding is_at_margin is_of_gutter_label
     margin-place k l m is there same =

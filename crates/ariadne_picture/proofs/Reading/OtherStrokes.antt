@@ -1,4 +1,4 @@
--- In the rows below a line no stroke stands in the text that is not some label's: each cell of a place is blank, or its ink is
+-- In the rows below a line no stroke stands in the text that is not some label's. Each cell of a place is blank, or its ink is
 -- of a vertical, a corner, a horizontal or an underline that a label of the line has there.
 use Rattle.std.proofs.Common.{◌≡◌, ℕ, suc, ◌+◌, ◌*◌, ◌<◌, ◌≤◌, Bool, true, false, not, ◌&&◌}
 use Rattle.std.proofs.Common.{Option, Some, None, refl, sym, ap, ◌∙◌, subst, arith, ◌==◌, inl, inr, ◌⊎◌}
@@ -15,7 +15,8 @@ use Rattle.ariadne_picture.specs.declared.cell.Paint.{Paint}
 use Rattle.ariadne_picture.specs.declared.cell.Paint.TheVariants.{Plain}
 use Rattle.ariadne_picture.specs.Lists.{best, joined}
 use Rattle.ariadne_picture.specs.Ranks.{is_inline, is_margin, line_labels}
-use Rattle.ariadne_picture.specs.Rows.{Row, source, alternate, arrow, label_rows, row_part, row_line, row_step}
+use Rattle.ariadne_picture.specs.Rows.{row_key, Row, source, alternate, arrow, label_rows}
+use Rattle.ariadne_picture.proofs.Rows.RowPlacing.{row_part, row_line, row_step}
 use Rattle.ariadne_picture.specs.Columns.{layout_of}
 use Rattle.ariadne_picture.specs.Strokes.{has_corner, is_crossed, holds, is_preferred, underlines_at, underline_at}
 use Rattle.ariadne_picture.specs.Strokes.{underline_row, vertical_at}
@@ -57,7 +58,7 @@ shows-upright v s glyph paint (inr (inr e)) = right-true _ _ (shows-glyph v s gl
 -- a row of the line stands no further down than the arrow row of a label that has no lower rank
 pub not-below : (v : Picture) {g : ℕ} {s : Section} {l : ℕ} (r : ℕ) (x : LineLabel) (q : IsArrowRow v g s l r x) (j : ℕ) (y : Row) → RowAt v g s j y
     → row_part y ≡ 2 → row_line y ≡ l → row_step y ≤ 2 * r + 2 → number v g s y ≤ number v g s (arrow l r)
-unfolding row_part row_line row_step
+unfolding row_key
 not-below v {l = l} r x q j y is part line step =
     let own = arrow-at v q in
     let here = number-at v is in
@@ -84,7 +85,7 @@ module _ (v : Picture) {g : ℕ} {s : Section} {l : ℕ} (h : IsShownLine v g s 
     arrow-go : (corner horizontal : Bool) (up : Option LineLabel) → has_corner (layout_of s.sheet l).margin x k ≡ corner
         → is_crossed x.side x.place k ≡ horizontal → vertical_at (layout_of s.sheet l) r k ≡ up
         → IsCaused v h (number v g s (arrow l r)) k (arrow_ink s.sheet.switches r x corner horizontal up)
-    unfolding arrow_ink has_corner row_part row_line row_step
+    unfolding arrow_ink has_corner row_key
     arrow-go true horizontal up e f u =
         let two = two-true (x.place == k) (not (is_margin (layout_of s.sheet l).margin x)) e in
         let same = eqb-true x.place k two.0 in (
@@ -166,7 +167,7 @@ module _ (v : Picture) {g : ℕ} {s : Section} {l : ℕ} (h : IsShownLine v g s 
 
     alternate-go : (up under : Option LineLabel) → vertical_at (layout_of s.sheet l) r k ≡ up → underline_at s.sheet.switches (layout_of s.sheet l) r k ≡ under
         → IsCaused v h (number v g s (alternate l r)) k (alternate_ink s.sheet.switches r up under)
-    unfolding alternate_ink row_part row_line row_step
+    unfolding alternate_ink row_key
     alternate-go None None e f = (
       cause-none v g s l _ k true _ (shows-blank v s Blank Plain refl),
       cause-none v g s l _ k false _ (shows-blank v s Blank Plain refl),

@@ -10,7 +10,8 @@ use Rattle.ariadne_picture.specs.declared.cell.Glyph.{Glyph}
 use Rattle.ariadne_picture.specs.declared.cell.Ink.{Ink}
 use Rattle.ariadne_picture.specs.declared.label_info.LineLabel.{LineLabel}
 use Rattle.ariadne_picture.specs.Ranks.{is_margin}
-use Rattle.ariadne_picture.specs.Rows.{Row, alternate, arrow, row_part, row_line, row_step}
+use Rattle.ariadne_picture.specs.Rows.{row_key, Row, alternate, arrow}
+use Rattle.ariadne_picture.proofs.Rows.RowPlacing.{row_part, row_line, row_step}
 use Rattle.ariadne_picture.specs.Columns.{Layout, layout_of}
 use Rattle.ariadne_picture.specs.Strokes.{has_vertical, vertical_at, has_corner, is_crossed, underline_at}
 use Rattle.ariadne_picture.specs.Cells.{arrow_ink, alternate_ink, corner_glyph, alternate_place, arrow_place}
@@ -148,7 +149,7 @@ module _ (v : Picture) {g : ℕ} {s : Section} {l : ℕ} where
 
     -- each is of a line label of no greater rank
     pub above-it : (i : ℕ) (y : Row) → i < q.index → slice_get (shown_rows s.sheet l) i ≡ Some y → (b : IsBlockRow s.sheet l y) → b.rank ≤ r
-    unfolding row_part row_line row_step
+    unfolding row_key
     above-it i y less e b =
         let order = in-order v (block-row-is v q.line i y e) (arrow-at v q) (omega arith) in
         elim b.kind [

@@ -1,7 +1,7 @@
 -- The placing that the names of the rows give is one: its groups, source rows, blocks, messages and heads
 -- are where it says.
-use Rattle.std.proofs.Common.{◌≡◌, ◌≢◌, ℕ, suc, ◌+◌, ◌<◌, Bool, true, not, List, [], ◌∷◌, ◌++◌, map, Some, refl, sym, ap, ◌∙◌, subst, arith, inl, inr}
-use Rattle.std.specs.Prelude.{slice_get, filter}
+use Rattle.std.proofs.Common.{◌≡◌, ◌≢◌, ℕ, suc, ◌+◌, ◌<◌, true, not, List, map, Some, refl, sym, ap, ◌∙◌, subst, arith, inl, inr}
+use Rattle.std.specs.Prelude.{slice_get}
 use Rattle.std.specs.List.{AllByRecursion}
 use Rattle.std.specs.Cmp.Derive.{both_true}
 use Rattle.std.proofs.lemmas.Bool.{cond-true, cond-false, eq-eqb, lt-ltb, le-leb, cases_Bool}
@@ -9,18 +9,18 @@ use Rattle.std.proofs.lemmas.Option.{slice_get_within}
 use Rattle.ariadne_picture.specs.declared.switches.Switches.{Switches}
 use Rattle.ariadne_picture.specs.declared.cell.Glyph.TheVariants.{Vbar}
 use Rattle.ariadne_picture.specs.declared.label_info.LabelInfo.{LabelInfo}
-use Rattle.ariadne_picture.specs.Lists.{joined, joined_numbered}
+use Rattle.ariadne_picture.specs.Lists.{joined}
 use Rattle.ariadne_picture.specs.Groups.{group_lines}
 use Rattle.ariadne_picture.specs.Ranks.{multi_line_labels, gutter_labels, is_hidden}
-use Rattle.ariadne_picture.specs.Rows.{Row, source, arrow, row_part, row_line}
-use Rattle.ariadne_picture.specs.Columns.{layout_of, shown, column_of}
+use Rattle.ariadne_picture.specs.Rows.{row_key, Row, source, arrow}
+use Rattle.ariadne_picture.specs.Columns.{layout_of}
 use Rattle.ariadne_picture.specs.Pieces.{Piece, Section, glyph_text, margin_text, blank_piece}
 use Rattle.ariadne_picture.specs.Canvas.{Cell, cell_of}
-use Rattle.ariadne_picture.specs.Placing.{cell_at, unindented, text_cells, shown_lines, shown_texts, is_margin_at, is_source_row, is_block_row}
+use Rattle.ariadne_picture.specs.Placing.{cell_at, unindented, text_cells, shown_lines, shown_cells, is_margin_at, is_source_row, is_block_row}
 use Rattle.ariadne_picture.specs.Placing.{is_in_group, is_in_block, are_rising, messages_of, is_line_placed, is_gutter_label_placed, is_group_placed}
-use Rattle.ariadne_picture.specs.Placing.{char_texts, are_distinct, is_placing, is_blank, has_margin}
+use Rattle.ariadne_picture.specs.Placing.{are_distinct, is_placing, is_blank, has_margin}
 use Rattle.ariadne_picture.proofs.Cells.CanvasRows.{map-map, row_cells}
-use Rattle.ariadne_picture.proofs.Cells.MarginTexts.{margin-blank, margin-gap, margin-cell, source-margin, alternate-margin, arrow-margin, shown-texts}
+use Rattle.ariadne_picture.proofs.Cells.MarginTexts.{margin-blank, margin-gap, margin-cell, source-margin, alternate-margin, arrow-margin, plain_cells, shown-texts}
 use Rattle.ariadne_picture.proofs.Lists.Elements.{all-from, all-numbered, left-true, right-true, list_all-true, pointwise-equal, texts-same}
 use Rattle.ariadne_picture.proofs.Lists.Joined.{filter-joined, map-joined}
 use Rattle.ariadne_picture.proofs.Lists.ListFacts.{all-joined, Increasing}
@@ -66,14 +66,13 @@ module _ (v : Picture) where
 
   module _ (g : ℕ) (s : Section) (l : ℕ) (h : IsShownLine v g s l) where
     -- a source row shows the number of its line and its characters
-    source-texts : map (λ (c : Cell). c.text) (read v text_cells s (number v g s (source l))) ≡ shown_texts s l
-    unfolding shown_texts
+    source-texts : map (λ (c : Cell). c.text) (read v text_cells s (number v g s (source l))) ≡ map (λ (q : Piece). q.text) (shown_cells s l)
+    unfolding shown_cells
     source-texts =
         ap (map (λ (c : Cell). c.text)) (text-cells v (source-text v (source-row-is v h)))
         ∙ map-map (λ (c : Cell). c.text) (cell_of v.palette) _
         ∙ shown-texts v.texts.switches (multi_line_labels s.sheet) (layout_of s.sheet l)
-        ∙ ap (λ (switches : Switches).
-        joined_numbered (λ k. char_texts switches.tab_width (column_of switches (layout_of s.sheet l) k)) (shown (layout_of s.sheet l)))
+        ∙ ap (λ (switches : Switches). map (λ (q : Piece). q.text) (plain_cells switches (layout_of s.sheet l)))
         (sym (v.drawn.same_switches g s h.group))
 
     -- so it passes
@@ -82,7 +81,7 @@ module _ (v : Picture) where
     source-shows =
         both_true
         (has-margin _ (source-text v (source-row-is v h)) (source-margin s.sheet.switches.char_set v.width s.display_offset l))
-        (rw source-texts (texts-same (shown_texts s l)))
+        (rw source-texts (texts-same (map (λ (q : Piece). q.text) (shown_cells s l))))
 
     -- a row of the block has a bar alone in its margin
     block-shows : (x : Row) {text : List Piece} → IsTextRow v g s x text
@@ -115,7 +114,7 @@ module _ (v : Picture) where
   -- source rows rise with their lines
   source-rises : (g : ℕ) (s : Section) (l m : ℕ) → IsShownLine v g s l → IsShownLine v g s m → l < m
       → source_row v g l < source_row v g m
-  unfolding row_part row_line
+  unfolding row_key
   source-rises g s l m h k less =
       let a = source-at v h in
       let b = source-at v k in

@@ -10,8 +10,9 @@ use Rattle.ariadne_picture.specs.declared.label_info.LineLabel.{LineLabel}
 use Rattle.ariadne_picture.specs.declared.label_info.Side.{Side}
 use Rattle.ariadne_picture.specs.declared.label_info.Side.TheVariants.{Inline, Starts, Ends}
 use Rattle.ariadne_picture.specs.Ranks.{Sheet, is_start, is_end, gutter_labels, margin_label, is_of_gutter_label, line_labels, is_hidden}
-use Rattle.ariadne_picture.specs.Rows.{Row, group_header, spacer, source, alternate, arrow, gap, bare, blank, piece, tail, help, note, aside_part}
-use Rattle.ariadne_picture.specs.Rows.{row_part, row_line, row_step, before}
+use Rattle.ariadne_picture.specs.Rows.{row_key, Row, group_header, spacer, source, alternate, arrow, gap, bare, blank, piece, tail, help, note, aside_part}
+use Rattle.ariadne_picture.specs.Rows.{before}
+use Rattle.ariadne_picture.proofs.Rows.RowPlacing.{row_part, row_line, row_step}
 use Rattle.ariadne_picture.specs.Strokes.{is_at_margin, is_end_of_gutter_label, rank_at, first_row, last_row, has_tee, has_bar, bar_at}
 use Rattle.ariadne_picture.specs.Bars.{IsGutterLabel, IsOfLine, IsMarginLabel, IsLineLabel, BarBesideLine, BarBesideLabel, BarBesideAlternate}
 use Rattle.ariadne_picture.specs.Bars.{BarBesideArrow, passes, leaves_margin, started_above, ends_below}
@@ -51,22 +52,22 @@ pub record IsRow (l k : ℕ) (x : Row) : Type 0 where
 
 -- a source row has step 0
 pub source-row : (l : ℕ) → IsRow l 0 (source l)
-unfolding row_part row_line row_step
+unfolding row_key
 source-row l = record { part = refl; line = refl; step = refl }
 
 -- and so has a gap row
 pub gap-row : (l : ℕ) → IsRow l 0 (gap l)
-unfolding row_part row_line row_step
+unfolding row_key
 gap-row l = record { part = refl; line = refl; step = refl }
 
 -- an alternate row has an odd step
 pub alternate-row : (l r : ℕ) → IsRow l (2 * r + 1) (alternate l r)
-unfolding row_part row_line row_step
+unfolding row_key
 alternate-row l r = record { part = refl; line = refl; step = refl }
 
 -- and the arrow row of the same number the next one
 pub arrow-row : (l r : ℕ) → IsRow l (2 * r + 2) (arrow l r)
-unfolding row_part row_line row_step
+unfolding row_key
 arrow-row l r = record { part = refl; line = refl; step = refl }
 
 -- a row before another of the same part, by line and step
@@ -467,7 +468,7 @@ hidden-off-margin s l i h = none-of-gutter-label (margin_label s l) i (hidden-ma
 
 -- the rows of part 2 are those of a line
 pub of-line : (x : Row) → row_part x ≡ 2 → IsOfLine x
-unfolding row_part aside_part
+unfolding row_key aside_part
 of-line group_header e = absurd (omega arith)
 of-line spacer e = absurd (omega arith)
 of-line (source l) e = tt

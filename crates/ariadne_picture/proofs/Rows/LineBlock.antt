@@ -10,7 +10,8 @@ use Rattle.ariadne_picture.specs.declared.label_info.LineLabel.{LineLabel}
 use Rattle.ariadne_picture.specs.Lists.{joined}
 use Rattle.ariadne_picture.specs.Groups.{group_start_line, group_end_line, group_lines}
 use Rattle.ariadne_picture.specs.Ranks.{Sheet, is_hidden, line_labels}
-use Rattle.ariadne_picture.specs.Rows.{Row, group_header, spacer, source, alternate, arrow, tail, help, note, row_part, row_line, row_step}
+use Rattle.ariadne_picture.specs.Rows.{row_key, Row, group_header, spacer, source, alternate, arrow, tail, help, note}
+use Rattle.ariadne_picture.proofs.Rows.RowPlacing.{row_part, row_line, row_step}
 use Rattle.ariadne_picture.specs.Rows.{label_rows, line_rows, asides, rows}
 use Rattle.ariadne_picture.proofs.Lists.ListFacts.{all-weaker, all-append, all-joined, all-enumerated, filter-all, filter-none}
 use Rattle.ariadne_picture.proofs.Lists.Joined.{joined-append}
@@ -43,7 +44,7 @@ this-block p n k l e f h = rw (eq-eqb p 2 e, eq-eqb n l f, Rattle.std.proofs.lem
 
 -- the source row has no step
 no-step : (l : ℕ) → of_block l (source l) ≡ false
-unfolding row_part row_line row_step
+unfolding row_key
 no-step l = rw (eq-eqb l l refl) refl
 
 -- six lists in two groupings
@@ -120,7 +121,7 @@ module _ (s : Sheet) (is_last : Bool) (helps notes : List (List ℕ)) (l : ℕ) 
 
   -- none of the rows above is of the block
   above-other : AllByRecursion (λ y. of_block l y ≡ false) above
-  unfolding above joined row_part row_line row_step
+  unfolding above joined row_key
   above-other =
       all-append (λ y. of_block l y ≡ false) (group_header ∷ (if s.switches.compact then [] else spacer ∷ []))
       (joined (line_rows s) (range_with_len (group_start_line s.labels) (l - group_start_line s.labels)))
@@ -198,7 +199,7 @@ module _ (s : Sheet) (is_last : Bool) (helps notes : List (List ℕ)) (l : ℕ) 
 
     -- and this many rows long
     pub block-count : length (filter (of_block l) (rows s is_last helps notes)) ≡ length (shown_rows s l)
-    unfolding row_part row_line row_step
+    unfolding row_key
     block-count =
         ap (λ xs. length (filter (of_block l) xs)) rows-about
         ∙ ap length (filter-append (of_block l) above (source l ∷ shown_rows s l ++ below)

@@ -1,17 +1,20 @@
 -- The rows of a group stand in the order of their names: by part of the group, then by line or number, then by step.
-use Rattle.std.proofs.Common.{◌≡◌, ℕ, zero, suc, ◌+◌, ◌-◌, ◌*◌, ◌<◌, ◌≤◌, Bool, true, false, ◌&&◌, ◌||◌, List, [], ◌∷◌, ◌++◌, map, length, refl, sym}
+use Rattle.std.proofs.Common.{◌≡◌, ℕ, zero, suc, ◌+◌, ◌-◌, ◌*◌, ◌<◌, ◌≤◌, Bool, true, false, ◌&&◌, List, [], ◌∷◌, ◌++◌, map, length, refl, sym}
 use Rattle.std.proofs.Common.{◌∙◌, arith, ◌==◌, nat_lt, ◌⊎◌, inl, inr, if◌then◌else◌, Decides, AllPairs}
+use Rattle.std.specs.declared.cmp.Ordering.{Ordering}
+use Rattle.std.specs.declared.cmp.Ordering.TheVariants.{Equal}
+use Rattle.std.specs.Ordering.{is_lt, nat_cmp, ordering_then}
 use Rattle.std.specs.List.{AllByRecursion, enumerate_from, range_with_len}
 use Rattle.std.specs.Str.Lines.{lines}
-use Rattle.std.proofs.lemmas.Bool.{cond_both, false_from_ne_true}
-use Rattle.std.proofs.lemmas.Bool.Decides.{Decides-and, Decides-or, Decides-ltb, Decides-eqb}
+use Rattle.std.proofs.lemmas.Bool.{cases_Bool, cond_both, eq-eqb, eqb-true, false_from_ne_true, false≢true, ltb-false, ltb-true}
 use Rattle.ariadne_base.specs.Locations.{upto}
 use Rattle.ariadne_picture.specs.declared.label_info.LineLabel.{LineLabel}
 use Rattle.ariadne_picture.specs.Lists.{joined}
 use Rattle.ariadne_picture.specs.Groups.{group_lines, group_start_line, group_end_line}
 use Rattle.ariadne_picture.specs.Ranks.{Sheet, is_hidden, line_labels}
-use Rattle.ariadne_picture.specs.Rows.{Row, group_header, spacer, source, alternate, arrow, gap, bare, blank, piece, tail, Aside, help, note}
-use Rattle.ariadne_picture.specs.Rows.{aside_part, row_part, row_line, row_step, before, label_rows, is_inside, line_rows, aside_rows, asides, rows}
+use Rattle.ariadne_picture.specs.Rows.{row_key, Row, group_header, spacer, source, alternate, arrow, gap, bare, blank, piece, tail, Aside, help, note}
+use Rattle.ariadne_picture.specs.Rows.{aside_part, before, label_rows, is_inside, line_rows, aside_rows, asides, rows}
+use Rattle.ariadne_picture.proofs.Rows.RowPlacing.{row_part, row_line, row_step}
 use Rattle.ariadne_picture.proofs.Lists.ListFacts.{all-append, all-weaker, Increasing, increasing-append, increasing-pairs}
 
 -- ---- the order
@@ -21,19 +24,51 @@ abbrev pub Precedes : Row → Row → Type 0
 Precedes a b =
     (row_part a < row_part b) ⊎ ((row_part a ≡ row_part b) × ((row_line a < row_line b) ⊎ ((row_line a ≡ row_line b) × (row_step a < row_step b))))
 
+-- a key has the three parts
+key-parts : (x : Row) → row_key x ≡ row_part x ∷ row_line x ∷ row_step x ∷ []
+unfolding row_key
+key-parts group_header = refl
+key-parts spacer = refl
+key-parts (source l) = refl
+key-parts (alternate l r) = refl
+key-parts (arrow l r) = refl
+key-parts (gap l) = refl
+key-parts (bare l) = refl
+key-parts (blank a k) = refl
+key-parts (piece a k p) = refl
+key-parts tail = refl
+
+-- the lesser first number, or the same one and then the lesser rest
+less-then : (m n : ℕ) (o : Ordering) (P : Type 0) → Decides (is_lt o) P
+    → Decides (is_lt (ordering_then (nat_cmp m n) o)) ((m < n) ⊎ ((m ≡ n) × P))
+less-then m n o P d = elim (cases_Bool (nat_lt m n)) [
+  | inl on ↦ rw on ((λ _. inl (ltb-true m n on)), λ _. refl)
+  | inr off ↦
+      let high = ltb-false m n off in
+      elim (cases_Bool (m == n)) [
+        | inl same ↦
+            let equal = eqb-true m n same in
+            rw (off, same) ((λ h. inr (equal, d.0 h)), λ h. elim h [ inl less ↦ absurd (omega arith) | inr tied ↦ d.1 tied.1 ])
+        | inr other ↦
+            rw (off, other) (
+              (λ h. absurd (false≢true h)),
+              λ h. elim h [
+                | inl less ↦ absurd (omega arith)
+                | inr tied ↦ absurd (false≢true (sym other ∙ eq-eqb m n tied.0))
+              ],
+            )
+      ]
+]
+
 -- the test tells this order
 pub before-decides : (a b : Row) → Decides (before a b) (Precedes a b)
 unfolding before
 before-decides a b =
-    Decides-or (nat_lt (row_part a) (row_part b)) ((row_part a == row_part b)
-    && (nat_lt (row_line a) (row_line b) || ((row_line a == row_line b) && nat_lt (row_step a) (row_step b))))
-    (Decides-ltb (row_part a) (row_part b))
-    (Decides-and (row_part a == row_part b) (nat_lt (row_line a) (row_line b) || ((row_line a == row_line b) && nat_lt (row_step a) (row_step b)))
-    (Decides-eqb (row_part a) (row_part b))
-    (Decides-or (nat_lt (row_line a) (row_line b)) ((row_line a == row_line b) && nat_lt (row_step a) (row_step b))
-    (Decides-ltb (row_line a) (row_line b))
-    (Decides-and (row_line a == row_line b) (nat_lt (row_step a) (row_step b)) (Decides-eqb (row_line a) (row_line b))
-    (Decides-ltb (row_step a) (row_step b)))))
+    let steps = less-then (row_step a) (row_step b) Equal ⊥ ((λ h. false≢true h), λ h. absurd h) in
+    let last : Decides (is_lt (ordering_then (nat_cmp (row_step a) (row_step b)) Equal)) (row_step a < row_step b) =
+    ((λ h. elim (steps.0 h) [ inl less ↦ less | inr tied ↦ absurd tied.1 ]), λ h. steps.1 (inl h)) in
+    rw (key-parts a, key-parts b)
+    (less-then (row_part a) (row_part b) _ _ (less-then (row_line a) (row_line b) _ _ last))
 
 -- no row stands before itself
 pub precedes-not-itself : (a : Row) → Precedes a a → ⊥
@@ -138,19 +173,19 @@ pair compact l r = (if compact then [] else alternate l r ∷ []) ++ arrow l r �
 
 -- they stand in order
 pub pair-increasing : (compact : Bool) (l r : ℕ) → Increasing IsBefore (pair compact l r)
-unfolding pair row_part row_line row_step
+unfolding pair row_key
 pair-increasing true l r = (tt, tt)
 pair-increasing false l r = ((by-step (alternate l r) (arrow l r) refl refl (omega arith), tt), (tt, tt))
 
 -- they end at the arrow row's step
 pub pair-up-to : (compact : Bool) (l r : ℕ) → AllByRecursion (UpToStep 2 l (2 * r + 2)) (pair compact l r)
-unfolding pair row_part row_line row_step
+unfolding pair row_key
 pair-up-to true l r = (record { part = refl; line = refl; step = omega arith }, tt)
 pair-up-to false l r = (record { part = refl; line = refl; step = omega arith }, (record { part = refl; line = refl; step = omega arith }, tt))
 
 -- they begin at the alternate row's step
 pub pair-from : (compact : Bool) (l r k : ℕ) → k ≤ 2 * r + 1 → AllByRecursion (FromStep 2 l k) (pair compact l r)
-unfolding pair row_part row_line row_step
+unfolding pair row_key
 pair-from true l r k h = (record { part = refl; line = refl; step = omega arith }, tt)
 pair-from false l r k h = (record { part = refl; line = refl; step = omega arith }, (record { part = refl; line = refl; step = omega arith }, tt))
 
@@ -188,7 +223,7 @@ labels-increasing compact l r (x ∷ xs) =
 
 -- the source row stands before them
 pub source-first : (l : ℕ) (x : Row) → FromStep 2 l 1 x → IsBefore (source l) x
-unfolding row_part row_line row_step
+unfolding row_key
 source-first l x h = by-step (source l) x (sym h.part) (sym h.line) h.step
 
 -- the rows of all line labels
@@ -222,7 +257,7 @@ line-increasing s l =
 
 -- they are of their line
 pub line-at : (s : Sheet) (l : ℕ) → AllByRecursion (AtLine 2 l) (line_rows s l)
-unfolding shown_rows row_part row_line
+unfolding shown_rows row_key
 line-at s l =
     line-rows-case (AllByRecursion (AtLine 2 l)) s l tt (record { part = refl; line = refl }, tt) (record { part = refl; line = refl }, tt) (
       record { part = refl; line = refl },
@@ -253,7 +288,7 @@ lines-increasing s a (suc n) =
 
 -- the pieces from number p on begin there
 pub pieces-from : (a : Aside) (k p n : ℕ) → AllByRecursion (FromStep (aside_part a) k (suc p)) (map (piece a k) (range_with_len p n))
-unfolding row_part row_line row_step
+unfolding row_key
 pieces-from a k p zero = tt
 pieces-from a k p (suc n) = (
   record { part = refl; line = refl; step = omega arith },
@@ -263,7 +298,7 @@ pieces-from a k p (suc n) = (
 
 -- a piece stands before the later ones
 pub piece-first : (a : Aside) (k p : ℕ) (x : Row) → FromStep (aside_part a) k (suc (p + 1)) x → IsBefore (piece a k p) x
-unfolding row_part row_line row_step
+unfolding row_key
 piece-first a k p x h = let step = h.step in by-step (piece a k p) x (sym h.part) (sym h.line) (omega arith)
 
 -- so the pieces stand in order
@@ -277,7 +312,7 @@ pieces-increasing a k p (suc n) = (
 
 -- the blank row stands before them
 pub blank-first : (a : Aside) (k : ℕ) (x : Row) → FromStep (aside_part a) k 1 x → IsBefore (blank a k) x
-unfolding row_part row_line row_step
+unfolding row_key
 blank-first a k x h = by-step (blank a k) x (sym h.part) (sym h.line) h.step
 
 -- the rows of one help or note stand in order
@@ -297,7 +332,7 @@ pieces-at a k n =
 
 -- and so are all its rows
 pub aside-at : (compact : Bool) (a : Aside) (k : ℕ) (t : List ℕ) → AllByRecursion (AtLine (aside_part a) k) (aside_rows compact a (k, t))
-unfolding aside_rows row_part row_line
+unfolding aside_rows row_key
 aside-at true a k t = pieces-at a k (length (lines t))
 aside-at false a k t = (record { part = refl; line = refl }, pieces-at a k (length (lines t)))
 
@@ -360,7 +395,7 @@ part-behind p l xs i a = record {
 
 -- the header and the row below it
 pub head-rows : (compact : Bool) → Before 2 (group_header ∷ (if compact then [] else spacer ∷ []))
-unfolding row_part
+unfolding row_key
 head-rows true = record { order = (tt, tt); parts = (omega arith, tt) }
 head-rows false = record { order = ((by-part group_header spacer (omega arith), tt), (tt, tt)); parts = (omega arith, (omega arith, tt)) }
 
@@ -404,7 +439,7 @@ aside-rows-behind compact false helps notes = none-behind 3 5
 
 -- the tail
 pub tail-behind : (compact : Bool) → Behind 5 6 (if compact then [] else tail ∷ [])
-unfolding row_part
+unfolding row_key
 tail-behind true = none-behind 5 6
 tail-behind false = record { order = (tt, tt); parts = ((omega arith, omega arith), tt) }
 

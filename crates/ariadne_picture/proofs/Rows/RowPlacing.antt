@@ -7,7 +7,7 @@ use Rattle.ariadne_picture.specs.declared.label_info.LineLabel.{LineLabel}
 use Rattle.ariadne_picture.specs.Lists.{joined, total}
 use Rattle.ariadne_picture.specs.Groups.{group_lines}
 use Rattle.ariadne_picture.specs.Ranks.{gutter_labels, line_labels, margin_label, is_of_gutter_label, is_start}
-use Rattle.ariadne_picture.specs.Rows.{Row, source, arrow, before, row_part, row_line, row_step, rows}
+use Rattle.ariadne_picture.specs.Rows.{Row, source, arrow, row_key, before, rows}
 use Rattle.ariadne_picture.specs.Columns.{layout_of, arrow_len}
 use Rattle.ariadne_picture.specs.Pieces.{Section, Texts}
 use Rattle.ariadne_picture.specs.Canvas.{Cell}
@@ -15,13 +15,28 @@ use Rattle.ariadne_picture.specs.Placing.{Placing, is_placing, has_message_rows,
 use Rattle.ariadne_picture.specs.Placing.{is_aligned}
 use Rattle.ariadne_picture.specs.Blocks.{has_whole_blocks}
 use Rattle.ariadne_picture.specs.Causes.{has_no_other_strokes}
+use Rattle.ariadne_picture.specs.GutterCauses.{has_no_other_gutter_strokes}
 
 -- all clauses of the tracing promise
 unfoldable pub is_read : List (List Cell) → List Section → Texts → Placing → Bool
 is_read cells parts t p =
     is_placing cells parts p && has_message_rows cells parts p t.message_of && has_inline_traces cells parts p
     && has_ends_of_gutter_traces cells parts p && has_gutter_bars cells parts p && is_aligned cells parts p
-    && has_whole_blocks parts p && has_no_other_strokes cells parts p
+    && has_whole_blocks parts p && has_no_other_strokes cells parts p && has_no_other_gutter_strokes cells parts p
+
+-- ---- the parts of a row's key
+
+-- which part of its group a row belongs to
+abbrev pub row_part : Row → ℕ
+row_part x = slice_index_or (row_key x) 0 0
+
+-- its line, or the number of its help or note
+abbrev pub row_line : Row → ℕ
+row_line x = slice_index_or (row_key x) 1 0
+
+-- which row of that line, help or note it is
+abbrev pub row_step : Row → ℕ
+row_step x = slice_index_or (row_key x) 2 0
 
 -- ---- the groups of a picture, each with its rows by name
 

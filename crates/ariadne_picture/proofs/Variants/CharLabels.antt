@@ -1,10 +1,10 @@
 -- Each label that is drawn is accepted as the very same one in the report whose offsets are in characters,
 -- so a report whose offsets count bytes draws as that one.
-use Rattle.std.proofs.Common.{◌≡◌, ℕ, suc, ◌+◌, ◌≤◌, min, ◌==◌, nat_lt, ◌||◌, List, [], ◌∷◌, ◌++◌, Option, Some, None, length, find, chars}
-use Rattle.std.proofs.Common.{refl, sym, ap, subst, arith, add-one, zero-add, slice_get, option_to_list}
+use Rattle.std.proofs.Common.{◌≡◌, ℕ, suc, ◌+◌, ◌≤◌, min, nat_lt, ◌||◌, List, [], ◌∷◌, ◌++◌, Option, Some, None, length, chars}
+use Rattle.std.proofs.Common.{refl, sym, ap, ◌∙◌, subst, arith, add-one, slice_get, unwrap_or, option_and_then, option_to_list}
 use Rattle.std.specs.List.{AllByRecursion, enumerate_from}
-use Rattle.std.proofs.lemmas.Bool.{cond_both, or_parts, ltb-false, le-ltb, eq-eqb, ne_eqb}
-use Rattle.std.proofs.lemmas.Option.{slice_get-map, option_and_then_some}
+use Rattle.std.proofs.lemmas.Bool.{cond_both, or_parts, ltb-false, le-ltb}
+use Rattle.std.proofs.lemmas.Option.{option_and_then_some}
 use Rattle.ariadne_base.specs.Listing.{Listing, listed_lines}
 use Rattle.ariadne_picture.specs.declared.switches.IndexType.{IndexType}
 use Rattle.ariadne_picture.specs.declared.switches.IndexType.TheVariants.{Char}
@@ -13,17 +13,18 @@ use Rattle.ariadne_picture.specs.declared.verdict.Verdict.TheVariants.{Accepted,
 use Rattle.ariadne_picture.specs.declared.label_info.LabelInfo.{LabelInfo}
 use Rattle.ariadne_picture.specs.Report.{ConfigFields, LabelFields, ReportFields, World, HaveOneSource}
 use Rattle.ariadne_picture.specs.Accept.{text_len, offset_in_chars, info_of, within, verdict, verdict_in, accepted_info, drawn_label, drawn_labels}
-use Rattle.ariadne_picture.specs.Variants.{char_world, verdict_at, char_label, char_report, BytesDrawAsCharacters}
-use Rattle.ariadne_picture.proofs.Lists.ListFacts.{all-weaker}
+use Rattle.ariadne_picture.specs.Variants.{text_of, in_chars, char_world, verdict_at, char_report, BytesDrawAsCharacters}
 use Rattle.ariadne_picture.proofs.Lists.Elements.{all-numbered}
 use Rattle.ariadne_picture.proofs.Labels.DrawnLabels.{offset-order}
-use Rattle.ariadne_picture.proofs.Rows.RowsThere.{enumerated-at}
 use Rattle.ariadne_picture.proofs.Variants.Bytes.{same-canvas}
 
 -- ---- one label
 
--- an info is that of label number k over characters of a source
-record IsOver {S : Type 0} (config : ConfigFields) (source : Listing) (k : ℕ) (label : LabelFields S) (a : LabelInfo) : Type 0 where
+-- what a label's ends are in characters of its source, and the info that it has over them
+record IsOver {S : Type 0} (config : ConfigFields) (source : Listing) (k : ℕ) (label : LabelFields S) (start end : ℕ) (a : LabelInfo)
+    : Type 0 where
+  start_is : offset_in_chars config.index_type (chars source.text) start ≡ Some a.start
+  end_is : offset_in_chars config.index_type (chars source.text) (min end (text_len config.index_type (chars source.text))) ≡ Some a.end
   starts : a.start ≤ length (chars source.text)
   ends : a.end ≤ length (chars source.text)
   is : info_of config.label_attach (listed_lines source) k label a.start a.end ≡ a
@@ -34,32 +35,33 @@ in-text index text o n low e = (offset-order index text o o n n (omega arith) lo
 
 -- what is accepted is so: both its ends are offsets of the source
 accepted-over : {S : Type 0} (config : ConfigFields) (source : Listing) (k : ℕ) (label : LabelFields S) (start end : ℕ) (a : LabelInfo)
-    → verdict config source k label start end ≡ Accepted a → IsOver config source k label a
+    → verdict config source k label start end ≡ Accepted a → IsOver config source k label start end a
 unfolding verdict within info_of
 accepted-over {S} config source k label start end a =
     let size = text_len config.index_type (chars source.text) in
     cond_both (nat_lt size start || nat_lt (size + 1) end) PastSource
-    (within config.label_attach (listed_lines source) k label (in_chars start) (in_chars (min end size)))
-    (λ v. v ≡ Accepted a → IsOver config source k label a) (λ _ e. cc)
+    (within config.label_attach (listed_lines source) k label (at start) (at (min end size)))
+    (λ v. v ≡ Accepted a → IsOver config source k label start end a) (λ _ e. cc)
     (λ off. let low = ltb-false size start (or_parts (nat_lt size start) (nat_lt (size + 1) end) off).0 in
-    both (in_chars start) (in_chars (min end size)) (λ n. in-text _ _ start n low) (λ n. in-text _ _ (min end size) n (omega arith)))
+    both (at start) (at (min end size)) refl refl (λ n. in-text _ _ start n low) (λ n. in-text _ _ (min end size) n (omega arith)))
   where
-    in_chars : ℕ → Option ℕ
-    in_chars o = offset_in_chars config.index_type (chars source.text) o
+    at : ℕ → Option ℕ
+    at o = offset_in_chars config.index_type (chars source.text) o
 
-    both : (x y : Option ℕ) → ((n : ℕ) → x ≡ Some n → n ≤ length (chars source.text)) → ((n : ℕ) → y ≡ Some n → n ≤ length (chars source.text))
-        → within config.label_attach (listed_lines source) k label x y ≡ Accepted a → IsOver config source k label a
-    both None y f g e = cc
-    both (Some n) None f g e = cc
-    both (Some n) (Some m) f g e =
+    both : (x y : Option ℕ) → at start ≡ x → at (min end (text_len config.index_type (chars source.text))) ≡ y
+        → ((n : ℕ) → x ≡ Some n → n ≤ length (chars source.text)) → ((n : ℕ) → y ≡ Some n → n ≤ length (chars source.text))
+        → within config.label_attach (listed_lines source) k label x y ≡ Accepted a → IsOver config source k label start end a
+    both None y u v f g e = cc
+    both (Some n) None u v f g e = cc
+    both (Some n) (Some m) u v f g e =
         let same : info_of config.label_attach (listed_lines source) k label n m ≡ a = cc in
-        subst (IsOver config source k label) same (record { starts = f n refl; ends = g m refl; is = refl })
+        subst (IsOver config source k label start end) same (record { start_is = u; end_is = v; starts = f n refl; ends = g m refl; is = refl })
 
 -- where offsets count characters it is accepted by its ends, since they lie in the source
-over-accepted : {S : Type 0} (config : ConfigFields) (source : Listing) (k : ℕ) (label : LabelFields S) (a : LabelInfo)
-    → IsOver config source k label a → verdict (record config { index_type = Char }) source k label a.start a.end ≡ Accepted a
+over-accepted : {S : Type 0} (config : ConfigFields) (source : Listing) (k : ℕ) (label : LabelFields S) (start end : ℕ) (a : LabelInfo)
+    → IsOver config source k label start end a → verdict (record config { index_type = Char }) source k label a.start a.end ≡ Accepted a
 unfolding verdict within text_len offset_in_chars
-over-accepted config source k label a over =
+over-accepted config source k label start end a over =
     let size : ℕ = length (chars source.text) in
     let starts = over.starts in
     let ends = over.ends in
@@ -75,76 +77,59 @@ info-accepted CutsCharacter a e = cc
 
 -- ---- all labels, by their numbers
 
--- a label of a list, numbered from k on, is found there by its number, and P holds of both
-record IsFound (P : ℕ → LabelInfo → Type 0) (k : ℕ) (infos : List LabelInfo) (a : LabelInfo) : Type 0 where
-  is : P a.position a
-  later : k ≤ a.position
-  found : find (λ b. b.position == a.position) infos ≡ Some a
-
--- behind a label of a lower number, or none, all are still found
-one-more : (P : ℕ → LabelInfo → Type 0) (k : ℕ) (o : Option LabelInfo) (infos : List LabelInfo)
-    → ((a : LabelInfo) → o ≡ Some a → P k a × (a.position ≡ k)) → AllByRecursion (IsFound P (suc k) infos) infos
-    → AllByRecursion (IsFound P k (option_to_list o ++ infos)) (option_to_list o ++ infos)
-one-more P k None infos f h =
-    all-weaker (IsFound P (suc k) infos) (IsFound P k infos) infos
-    (λ a d. let late = d.later in record { is = d.is; later = omega arith; found = d.found }) h
-one-more P k (Some a) infos f h =
-    let here = f a refl in
-    let number = here.1 in (
-      record { is = subst (λ n. P n a) (sym number) here.0; later = omega arith; found = rw (eq-eqb a.position a.position refl) },
-      all-weaker (IsFound P (suc k) infos) (IsFound P k (a ∷ infos)) infos
-          (λ b d. let late = d.later in
-          record { is = d.is; later = omega arith; found = rw (ne_eqb a.position b.position (λ e. omega arith)) d.found }) h,
-    )
-
 module _ {S Id : Type 0} (w : World S Id) (r : ReportFields S) where
-  -- a label that is found among infos by the number k is accepted as it is in the report in characters
-  abbrev IsKept : ℕ → LabelInfo → Type 0
-  IsKept k a = (infos : List LabelInfo) → find (λ b. b.position == k) infos ≡ Some a
-      → verdict_at (char_world w) (char_report w r infos) k ≡ Some (Accepted a)
+  -- a label is accepted as it is in the report in characters
+  abbrev IsKept : LabelInfo → Type 0
+  IsKept a = verdict_at (char_world w r) (char_report w r) a.position ≡ Some (Accepted a)
 
-  -- an accepted label is so: there it has the ends that it is found with
+  -- an accepted label is so: there it has the ends that it was accepted with
   one-kept : (k : ℕ) (label : LabelFields S) (source : Listing) (a : LabelInfo) → slice_get r.labels k ≡ Some label
-      → w.source_of (w.id_of label.span) ≡ Some source → verdict_in w r.config k label source ≡ Accepted a → IsKept k a × (a.position ≡ k)
-  unfolding char_report char_label info_of
+      → w.source_of (w.id_of label.span) ≡ Some source → verdict_in w r.config k label source ≡ Accepted a → IsKept a
+  unfolding info_of text_of in_chars
   one-kept k label source a there held e =
-      let over = accepted-over r.config source k label (w.start_of label.span) (w.end_of label.span) a e in (
-        (λ infos found. rw (slice_get-map, enumerated-at 0 k r.labels label there, zero-add, found, held)
-            (ap Some (over-accepted r.config source k _ a (record { starts = over.starts; ends = over.ends; is = over.is })))),
-        sym (ap (λ b. b.position) over.is),
-      )
+      let over = accepted-over r.config source k label (w.start_of label.span) (w.end_of label.span) a e in
+      let position : a.position ≡ k = sym (ap (λ b. b.position) over.is) in
+      let index = r.config.index_type in
+      let text : text_of w r label.span ≡ chars source.text = rw held refl in
+      let start : (char_world w r).start_of label.span ≡ a.start =
+      ap (λ t. unwrap_or (offset_in_chars index t (w.start_of label.span)) (w.start_of label.span)) text
+      ∙ ap (λ o. unwrap_or o (w.start_of label.span)) over.start_is in
+      let end : (char_world w r).end_of label.span ≡ a.end =
+      ap (λ t. unwrap_or (offset_in_chars index t (min (w.end_of label.span) (text_len index t))) (w.end_of label.span)) text
+      ∙ ap (λ o. unwrap_or o (w.end_of label.span)) over.end_is in
+      let kept : verdict_at (char_world w r) (char_report w r) k ≡ Some (Accepted a) =
+      rw (there, held)
+      ((λ i. Some (verdict (record r.config { index_type = Char }) source k label (start i) (end i)))
+      ∙ ap Some (over-accepted r.config source k label (w.start_of label.span) (w.end_of label.span) a over)) in
+      subst (λ n. verdict_at (char_world w r) (char_report w r) n ≡ Some (Accepted a)) (sym position) kept
 
   -- so is each label that is drawn
   all-kept : {R : Type 0} (k : ℕ) (labels : List (LabelFields S)) (reasons : List (Option R))
       → AllByRecursion (λ e. slice_get r.labels e.0 ≡ Some e.1) (enumerate_from k labels)
-      → AllByRecursion (IsFound IsKept k (drawn_labels w r.config k labels reasons)) (drawn_labels w r.config k labels reasons)
+      → AllByRecursion IsKept (drawn_labels w r.config k labels reasons)
   unfolding drawn_labels drawn_label
   all-kept k [] reasons h = tt
   all-kept k (label ∷ labels) [] h = tt
-  all-kept k (label ∷ labels) (Some reason ∷ reasons) h =
-      one-more IsKept k None _ (λ a e. cc) (all-kept (suc k) labels reasons (rw add-one at h.1))
+  all-kept k (label ∷ labels) (Some reason ∷ reasons) h = all-kept (suc k) labels reasons (rw add-one at h.1)
   all-kept k (label ∷ labels) (None ∷ reasons) h =
-      one-more IsKept k _ _
+      let o : Option LabelInfo =
+      option_and_then (λ s. accepted_info (verdict_in w r.config k label s)) (w.source_of (w.id_of label.span)) in
+      in-front o _
       (λ a e. option_and_then_some (λ s. accepted_info (verdict_in w r.config k label s)) (w.source_of (w.id_of label.span)) a e
       (λ source held is. one-kept k label source a h.0 held (info-accepted (verdict_in w r.config k label source) a is)))
       (all-kept (suc k) labels reasons (rw add-one at h.1))
+    where
+      in-front : (o : Option LabelInfo) (infos : List LabelInfo) → ((a : LabelInfo) → o ≡ Some a → IsKept a) → AllByRecursion IsKept infos
+          → AllByRecursion IsKept (option_to_list o ++ infos)
+      in-front None infos f h = h
+      in-front (Some a) infos f h = (f a refl, h)
 
 -- ---- the report
 
--- each drawn label is found among them, since no two have one number
-pub same-labels : {S Id R : Type 0} (w : World S Id) (r : ReportFields S) (reasons : List (Option R)) →
-    let infos = drawn_labels w r.config 0 r.labels reasons in
-    AllByRecursion (λ a. verdict_at (char_world w) (char_report w r infos) a.position ≡ Some (Accepted a)) infos
-same-labels w r reasons =
-    let infos = drawn_labels w r.config 0 r.labels reasons in
-    let numbered = all-numbered (λ e. slice_get r.labels e.0 ≡ Some e.1) r.labels (λ k label there. there) in
-    all-weaker (IsFound (IsKept w r) 0 infos) (λ a. verdict_at (char_world w) (char_report w r infos) a.position ≡ Some (Accepted a)) infos
-    (λ a d. d.is infos d.found) (all-kept w r 0 r.labels reasons numbered)
-
--- and the canvas is the same where the own start is a boundary
+-- bytes draw as characters: each drawn label is accepted, and the canvas is the same where the own start is a boundary
 pub bytes-draw : {S Id R : Type 0} (w : World S Id) (r : ReportFields S) (reasons : List (Option R)) → HaveOneSource w
     → BytesDrawAsCharacters w r (drawn_labels w r.config 0 r.labels reasons)
 bytes-draw w r reasons law = record {
-  labels = same-labels w r reasons;
+  labels = all-kept w r 0 r.labels reasons (all-numbered (λ e. slice_get r.labels e.0 ≡ Some e.1) r.labels (λ k label there. there));
   cells = same-canvas w r (drawn_labels w r.config 0 r.labels reasons) law;
 }

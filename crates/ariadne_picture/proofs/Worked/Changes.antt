@@ -9,6 +9,7 @@ use Rattle.ariadne_picture.specs.Placing.{Placing, no_cell, is_placing, has_mess
 use Rattle.ariadne_picture.specs.Placing.{is_aligned}
 use Rattle.ariadne_picture.specs.Blocks.{has_whole_blocks}
 use Rattle.ariadne_picture.specs.Causes.{has_no_other_strokes}
+use Rattle.ariadne_picture.specs.GutterCauses.{has_no_other_gutter_strokes}
 use Rattle.ariadne_picture.proofs.Rows.RowPlacing.{row_placing}
 use Rattle.ariadne_picture.proofs.Worked.Sample.{Span, Entry, utf8, nameless, silent_label_in, drawn}
 use Rattle.ariadne_picture.proofs.Worked.Readings.{infos, cells_of, parts_of}
@@ -92,6 +93,13 @@ further_verdicts_by p entries r change =
 unfoldable pub further_verdicts : List Entry → ReportFields Span → (Rows → Rows) → List Bool
 further_verdicts entries r = further_verdicts_by (row_placing (texts_of r) (parts_of entries r)) entries r
 
+-- whether all these hold; and no other strokes in the gutter
+unfoldable pub gutter_verdicts : List Entry → ReportFields Span → (Rows → Rows) → List Bool
+gutter_verdicts entries r change =
+    let parts = parts_of entries r in
+    list_all (λ b. b) (further_verdicts entries r change)
+    ∷ has_no_other_gutter_strokes (change (cells_of entries r)) parts (row_placing (texts_of r) parts) ∷ []
+
 -- ---- the same behind a group of one line, over a source of its own, that takes four rows
 
 unfoldable pub sources_behind : List Entry → List Entry
@@ -124,8 +132,12 @@ verdicts_behind entries r change = verdicts (sources_behind entries) (report_beh
 unfoldable pub further_verdicts_behind : List Entry → ReportFields Span → (Rows → Rows) → List Bool
 further_verdicts_behind entries r change = further_verdicts (sources_behind entries) (report_behind r) (change_behind change)
 
+unfoldable pub gutter_verdicts_behind : List Entry → ReportFields Span → (Rows → Rows) → List Bool
+gutter_verdicts_behind entries r change = gutter_verdicts (sources_behind entries) (report_behind r) (change_behind change)
+
 -- `unfolding judged` lets `refl` compute them
 unfoldable pub judged : Unit {0}
 unfolding drawn infos cells_of parts_of as_drawn on_row on_cell shows is_blue takes plain verdicts_by verdicts further_verdicts_by further_verdicts
-    sources_behind report_behind placing_behind change_behind verdicts_behind_by verdicts_behind further_verdicts_behind
+    sources_behind report_behind placing_behind change_behind verdicts_behind_by verdicts_behind further_verdicts_behind gutter_verdicts
+    gutter_verdicts_behind
 judged = tt

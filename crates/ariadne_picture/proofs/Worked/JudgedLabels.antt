@@ -1,5 +1,5 @@
--- Which labels are drawn, of all that begin and end within a text or up to two past it: how many are,
--- how many reach past the source, and how many have an end inside a character.
+-- Which labels are drawn, of all that begin and end within a text or up to two past it. Counted is how
+-- many are, how many reach past the source, and how many have an end inside a character.
 use Prim.Native.String.{String}
 use Rattle.std.specs.Prelude.{ℕ, ◌≡◌, refl, ◌∷◌, [], ◌+◌, length, map, replicate, filter, ◌-◌, Bool, is_none, Some, None, true, false, List, Option}
 use Rattle.ariadne_picture.specs.Report.{LabelFields}

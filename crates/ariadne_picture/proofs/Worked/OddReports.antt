@@ -1,5 +1,5 @@
--- Reports whose pictures can't be read, since they break a premise: two ids that count as one have two sources, or a label
--- starts behind its end. And a source whose bytes hold no escape, but whose picture does.
+-- Reports whose pictures the placing of their rows' names doesn't read, since they break a premise: two
+-- ids that count as one have two sources, or a label starts behind its end. And a source whose bytes hold no escape, but whose picture does.
 use Rattle.std.proofs.Common.{◌≡◌, ℕ, true, false, List, [], ◌∷◌, None, refl, get_or}
 use Rattle.std.specs.Str.{chars}
 use Rattle.ariadne_picture.specs.declared.label_info.LabelInfo.{LabelInfo}

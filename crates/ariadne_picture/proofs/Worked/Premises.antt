@@ -4,7 +4,7 @@
 use Rattle.std.specs.Prelude.{ℕ, ◌≡◌, Bool, true, false, not, [], ◌∷◌, ◌++◌, map, Some, None, List, refl, nat_eq}
 use Rattle.std.specs.Str.{chars}
 use Rattle.std.specs.Cmp.Lexicographic.{pointwise}
-use Rattle.std.proofs.Common.{arith, sym}
+use Rattle.std.proofs.Common.{sym}
 use Rattle.std.proofs.lemmas.Bool.{true≢false}
 use Rattle.ariadne_color.specs.declared.color.Color.TheVariants.{Primary}
 use Rattle.ariadne_picture.specs.declared.switches.IndexType.TheVariants.{Byte}
@@ -12,7 +12,7 @@ use Rattle.ariadne_picture.specs.Report.{ReportFields, custom}
 use Rattle.ariadne_picture.specs.Canvas.{canvas}
 use Rattle.ariadne_picture.specs.Print.{printed, unescaped}
 use Rattle.ariadne_picture.specs.Sent.{row_text, lines_sent, HaveNoLineFeeds}
-use Rattle.ariadne_picture.specs.Variants.{HaveNoEscapes, OwnStartIsBoundary, colorless, own_start, char_world, char_label, char_report}
+use Rattle.ariadne_picture.specs.Variants.{HaveNoEscapes, OwnStartIsBoundary, colorless, text_of, in_chars, char_world, char_report}
 use Rattle.ariadne_picture.proofs.Worked.Sample.{Span, Entry, world, utf8, named, one, report, label, silent_label, label_in, color_config, byte_config, drawn}
 use Rattle.ariadne_picture.proofs.Worked.Readings.{infos, cells_of}
 
@@ -60,8 +60,8 @@ in_bytes = record (report (label 2 3 "m" ∷ [])) {
 }
 
 pub its_own_start_is_a_boundary : OwnStartIsBoundary (world (one "éb")) in_bytes (infos (one "éb") in_bytes)
-unfolding drawn infos in_bytes own_start chars
-its_own_start_is_a_boundary = ((λ same. (1, refl, omega arith)), tt)
+unfolding drawn infos in_bytes text_of in_chars chars
+its_own_start_is_a_boundary = ((λ same. refl), tt)
 
 -- where it lies inside a character, its header names no place, and that of the report in characters does
 unfoldable inside : ReportFields Span
@@ -71,15 +71,15 @@ unfoldable is_alike : List Entry → ReportFields Span → Bool
 is_alike entries r =
     let w = world entries in
     let labels = infos entries r in
-    pointwise nat_eq (printed (canvas w r labels)) (printed (canvas (char_world w) (char_report w r labels) labels))
+    pointwise nat_eq (printed (canvas w r labels)) (printed (canvas (char_world w r) (char_report w r) labels))
 
 a_boundary_moves_nothing : is_alike (one "éb") in_bytes ≡ true
-unfolding drawn infos in_bytes own_start char_label char_report is_alike
+unfolding drawn infos in_bytes text_of in_chars is_alike
 a_boundary_moves_nothing = refl
 
 an_own_start_inside_a_character : (is_alike (one "é") inside ≡ false) × (OwnStartIsBoundary (world (one "é")) inside (infos (one "é") inside) → ⊥)
-unfolding drawn infos inside own_start char_label char_report is_alike chars
-an_own_start_inside_a_character = (refl, λ h. let e = (h.0 refl).1 in cc)
+unfolding drawn infos inside text_of in_chars is_alike chars
+an_own_start_inside_a_character = (refl, λ h. let e = h.0 refl in cc)
 
 -- ---- an escape sequence in one text alone
 

@@ -10,7 +10,7 @@ use Rattle.ariadne_picture.specs.Pieces.{Section}
 use Rattle.ariadne_picture.specs.Canvas.{Cell, canvas, sections, texts_of}
 use Rattle.ariadne_picture.specs.Print.{erased, unescaped, printed}
 use Rattle.ariadne_picture.specs.Placing.{Placing}
-use Rattle.ariadne_picture.specs.Variants.{colorless, char_world, own_start, char_label, char_report}
+use Rattle.ariadne_picture.specs.Variants.{colorless, text_of, in_chars, char_world, char_report}
 use Rattle.ariadne_picture.proofs.Rows.RowPlacing.{is_read}
 use Rattle.ariadne_picture.proofs.Worked.Sample.{Span, Entry, world, reasons, ascii_config, one, label, report, drawn}
 
@@ -103,7 +103,7 @@ unfoldable pub byte_report : ReportFields Span
 byte_report = record (report (label 3 4 "m" ∷ [])) { config = record ascii_config { index_type = Byte } }
 
 bytes_draw_as_characters_here : cells_of (one "é\nb") byte_report
-    ≡ canvas (char_world (world (one "é\nb"))) (char_report (world (one "é\nb")) byte_report (infos (one "é\nb") byte_report))
+    ≡ canvas (char_world (world (one "é\nb")) byte_report) (char_report (world (one "é\nb")) byte_report)
     (infos (one "é\nb") byte_report)
-unfolding drawn infos cells_of byte_report own_start char_label char_report
+unfolding drawn infos cells_of byte_report text_of in_chars
 bytes_draw_as_characters_here = refl

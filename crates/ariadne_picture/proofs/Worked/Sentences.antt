@@ -30,9 +30,10 @@ all_clauses : (rows : List (List Cell)) (groups : List Section) (t : Texts) (p :
     → is_read rows groups t p ≡ true
 unfolding is_read
 all_clauses rows groups t p h =
-    both_true (both_true (both_true (both_true (both_true (both_true (both_true h.rows_belong_together h.each_message_has_one_row_of_its_own)
+    both_true (both_true (both_true (both_true (both_true (both_true (both_true (both_true h.rows_belong_together h.each_message_has_one_row_of_its_own)
     h.strokes_lead_from_it_to_the_attach_character) h.or_to_both_ends_of_the_gutter_column) h.and_along_the_gutter_column)
-    h.in_the_columns_where_the_source_row_shows_them) h.blocks_are_whole) h.and_no_stroke_stands_elsewhere
+    h.in_the_columns_where_the_source_row_shows_them) h.blocks_are_whole) h.and_no_stroke_stands_elsewhere)
+    h.nor_in_the_gutter
 
 -- the headline is all of these
 all_sentences : {S Id : Type 0} (w : World S Id) (r : ReportFields S) (labels : List LabelInfo) (before after : Option (List ℕ))
@@ -69,8 +70,8 @@ whole_lines h = h no_text_has_an_escape no_row_is_cut
 in_characters : let w = world (one "éb") in
     let labels = infos (one "éb") in_bytes in
     BytesDrawAsCharacters w in_bytes labels
-    → AllByRecursion (λ (a : LabelInfo). verdict_at (char_world w) (char_report w in_bytes labels) a.position ≡ Some (Accepted a)) labels
-    × (canvas w in_bytes labels ≡ canvas (char_world w) (char_report w in_bytes labels) labels)
+    → AllByRecursion (λ (a : LabelInfo). verdict_at (char_world w in_bytes) (char_report w in_bytes) a.position ≡ Some (Accepted a)) labels
+    × (canvas w in_bytes labels ≡ canvas (char_world w in_bytes) (char_report w in_bytes) labels)
 in_characters h = (h.labels, h.cells its_own_start_is_a_boundary)
 
 -- a picture that can be read has row numbers that meet every clause, and the colours of its labels

@@ -9,7 +9,7 @@ use Rattle.ariadne_picture.specs.Groups.{group_lines, printed_number, number_len
 use Rattle.ariadne_picture.specs.Ranks.{is_inline, is_start, is_end, span_len, is_on_one_line, multi_line_labels, gutter_labels, gutter_label_ends}
 use Rattle.ariadne_picture.specs.Ranks.{ends_at, is_nearer_margin, margin_label, is_of_gutter_label, is_margin, inline_labels, is_before, line_labels}
 use Rattle.ariadne_picture.specs.Ranks.{is_hidden}
-use Rattle.ariadne_picture.specs.Rows.{aside_part, row_part, row_line, row_step, before, label_rows, is_inside, line_rows, aside_rows, asides, rows}
+use Rattle.ariadne_picture.specs.Rows.{aside_part, before, label_rows, is_inside, line_rows, aside_rows, asides, rows, row_key}
 use Rattle.ariadne_picture.specs.Columns.{layout_of, char_columns, text_columns, shown, shown_columns, width_from, column_of, width, places_to_end}
 use Rattle.ariadne_picture.specs.Columns.{arrow_len}
 use Rattle.ariadne_picture.specs.Strokes.{has_vertical, vertical_at, has_corner, is_crossed, holds, is_preferred, underlines_at, underline_at}
@@ -24,7 +24,7 @@ use Rattle.ariadne_picture.specs.Canvas.{header_pieces, paint_color, color_of, l
 use Rattle.ariadne_picture.specs.Canvas.{group_name, header_offset, sheet_of, section_of, groups, number_width, outline, sections, canvas}
 use Rattle.ariadne_picture.specs.Print.{cell_bytes, line_bytes, printed, pieces_bytes, is_parameter, sequence_len, unescaped_after, unescaped}
 use Rattle.ariadne_picture.specs.Placing.{is_glyph, is_level, unindented, ends_in, row_at, cell_at, shown_lines, column_cell, text_cell, place_cell}
-use Rattle.ariadne_picture.specs.Placing.{has_cell, block_rows, holds_at_places, is_traced_at, is_level_right_of, shown_texts, shown_widths}
+use Rattle.ariadne_picture.specs.Placing.{has_cell, block_rows, holds_at_places, is_traced_at, is_level_right_of, shown_cells}
 use Rattle.ariadne_picture.specs.Placing.{has_margin, is_source_row, is_block_row, is_in_group, is_in_block, are_rising, messages_of, is_line_placed}
 use Rattle.ariadne_picture.specs.Placing.{is_gutter_label_placed, is_group_placed, are_distinct, is_placing, is_message_row, are_block_ends}
 use Rattle.ariadne_picture.specs.Placing.{has_message_rows, is_inline_traced, is_underlined, has_inline_traces, is_end_traced, is_start_traced}
@@ -33,6 +33,8 @@ use Rattle.ariadne_picture.specs.Placing.{is_last_column_free, has_gutter_bars, 
 use Rattle.ariadne_picture.specs.Blocks.{block_size, has_whole_blocks}
 use Rattle.ariadne_picture.specs.Causes.{is_upright, is_stroke_of, inline_trace, end_trace, start_trace, gutter_traces, traces_below, is_underline_of}
 use Rattle.ariadne_picture.specs.Causes.{has_cause, is_place_caused, is_line_caused, has_no_other_strokes}
+use Rattle.ariadne_picture.specs.GutterCauses.{has_gutter_level, has_gutter_arrow, is_own_gutter_stroke, is_gutter_stroke_of, has_gutter_cause}
+use Rattle.ariadne_picture.specs.GutterCauses.{is_gutter_column_caused, has_no_other_gutter_strokes}
 use Rattle.ariadne_picture.specs.LabelColors.{has_color, is_covered, is_vertical_colored_in, is_vertical_colored, is_inline_colored, is_end_colored}
 use Rattle.ariadne_picture.specs.LabelColors.{is_start_colored, is_pointer_colored, is_bar_colored, is_gutter_label_colored, has_label_colors}
 
@@ -41,7 +43,7 @@ unfolding digits is_separator begins_with_line_feed ends_line in_front full_line
     in_order best joined total text_len offset_in_chars attach_offset info_of within verdict accepted_info drawn_label drawn_labels ordered is_cut
     last_of ahead groups_of greatest least_below group_end_line group_start_line group_lines printed_number number_len is_inline is_start is_end
     span_len is_on_one_line multi_line_labels gutter_labels gutter_label_ends ends_at is_nearer_margin margin_label is_of_gutter_label is_margin
-    inline_labels is_before line_labels is_hidden aside_part row_part row_line row_step before label_rows is_inside line_rows aside_rows asides rows
+    inline_labels is_before line_labels is_hidden aside_part row_key before label_rows is_inside line_rows aside_rows asides rows
     layout_of char_columns text_columns shown shown_columns width_from column_of width places_to_end arrow_len has_vertical vertical_at has_corner
     is_crossed holds is_preferred underlines_at underline_at is_at_margin is_end_of_gutter_label rank_at first_row last_row has_tee has_bar bar_at glyph_code
     alternate_ink corner_glyph arrow_ink alternate_place arrow_place gutter_label_paint margin_glyph turn_glyph margin_ink beside_ink below_ink
@@ -50,11 +52,12 @@ unfolding digits is_separator begins_with_line_feed ends_line in_front full_line
     message_pieces aside_texts aside_name aside_prefix aside_line aside_pieces rest_pieces row_pieces section_rows header_pieces paint_color color_of
     label_id is_same_id same_source texts_of group_id group_source group_name header_offset sheet_of section_of groups number_width outline sections
     canvas cell_bytes line_bytes printed pieces_bytes is_parameter sequence_len unescaped_after unescaped is_glyph is_level unindented ends_in row_at
-    cell_at shown_lines column_cell text_cell place_cell has_cell block_rows holds_at_places is_traced_at is_level_right_of shown_texts shown_widths
+    cell_at shown_lines column_cell text_cell place_cell has_cell block_rows holds_at_places is_traced_at is_level_right_of shown_cells
     has_margin is_source_row is_block_row is_in_group is_in_block are_rising messages_of is_line_placed is_gutter_label_placed is_group_placed are_distinct
     is_placing is_message_row are_block_ends has_message_rows is_inline_traced is_underlined has_inline_traces is_end_traced is_start_traced
     is_pointed has_ends_of_gutter_traces gutter_rows is_gap_row is_bar is_column_traced is_last_column_free has_gutter_bars columns_before
     is_line_aligned is_aligned block_size has_whole_blocks is_upright is_stroke_of inline_trace end_trace start_trace gutter_traces traces_below
-    is_underline_of has_cause is_place_caused is_line_caused has_no_other_strokes has_color is_covered is_vertical_colored_in is_vertical_colored
+    is_underline_of has_cause is_place_caused is_line_caused has_no_other_strokes has_gutter_level has_gutter_arrow is_own_gutter_stroke
+    is_gutter_stroke_of has_gutter_cause is_gutter_column_caused has_no_other_gutter_strokes has_color is_covered is_vertical_colored_in is_vertical_colored
     is_inline_colored is_end_colored is_start_colored is_pointer_colored is_bar_colored is_gutter_label_colored has_label_colors
 evaluated = tt

@@ -1,6 +1,6 @@
--- Finished pictures that were changed by hand and can't be read, by computation. Each theorem gives the verdicts
--- of all six clauses on the changed rows, by the placing that the names of the rows give, so a clause that
--- looks at less lets one of them through.
+-- Finished pictures that were changed by hand, and that the placing of their rows' names doesn't read.
+-- Each theorem computes the verdicts of the six clauses on the changed rows, so a clause that looks at
+-- less lets one of them through.
 use Rattle.std.specs.Prelude.{◌≡◌, Bool, true, false, refl, [], ◌∷◌, ◌++◌, List, take, drop}
 use Rattle.ariadne_picture.proofs.Worked.Sample.{one, label, report}
 use Rattle.ariadne_picture.proofs.Worked.Readings.{nested, apart, wide}

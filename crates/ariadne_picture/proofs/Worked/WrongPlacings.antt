@@ -6,7 +6,7 @@ use Rattle.ariadne_picture.proofs.Worked.Sample.{one, label, silent_label, repor
 use Rattle.ariadne_picture.proofs.Worked.Readings.{choose, nested, nested_placing}
 use Rattle.ariadne_picture.proofs.Worked.Changes.{Rows, as_drawn, on_row, shows, verdicts_by, verdicts_behind_by, further_verdicts_by, all_hold, not_placed, judged}
 
--- the starts of the groups, the source rows of each, the length of the block of each line, and the message rows; no label
+-- the starts of the groups, the source rows of each, the length of the block of each line, and the message rows. No label
 -- is over several lines, and a row below a line has three places
 unfoldable numbers : List ℕ → List (List ℕ) → List ℕ → List ℕ → Placing
 numbers starts source_rows blocks message_rows = record {

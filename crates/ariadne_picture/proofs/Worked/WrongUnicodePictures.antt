@@ -1,5 +1,5 @@
--- Finished pictures in box-drawing characters that were changed by hand and can't be read, by computation: the verdicts
--- of all six clauses, by the placing that the names of the rows give. In ASCII a tee, a bar and the stroke below an
+-- Finished pictures in box-drawing characters that were changed by hand, and that the placing of their
+-- rows' names doesn't read: the verdicts of the six clauses, by computation. In ASCII a tee, a bar and the stroke below an
 -- underline are one character, and so are an underline and the corner below a last character: here they are told apart.
 -- What is refused stands in a second group or a later one.
 use Rattle.std.specs.Prelude.{◌≡◌, Bool, true, false, refl, [], ◌∷◌, ◌++◌, List, take}

@@ -10,6 +10,5 @@ returns-clause-written g c =
       reasons = d.reasons;
       are_reasons = d.are_reasons;
       left_out = d.left_out;
-      sent = sent;
       traced = d.traced _ _ sent;
     }
