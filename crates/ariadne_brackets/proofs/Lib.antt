@@ -2,6 +2,7 @@
 mod Stacks
 mod Offences
 mod Bounds
+mod OneOffence
 -- The files.
 mod Passing
 -- The report.

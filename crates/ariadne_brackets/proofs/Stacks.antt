@@ -53,14 +53,14 @@ then_then f g h (Some x) same = same x
 then_then f g h None same = refl
 
 -- behind two texts
-waited-append : (waiting first second : List ℕ)
+pub waited-append : (waiting first second : List ℕ)
     → waited waiting (first ++ second) ≡ option_and_then (λ next. waited next second) (waited waiting first)
 unfolding waited
 waited-append waiting [] second = refl
 waited-append waiting (c ∷ cs) second = then_then _ _ _ _ (λ next. waited-append next cs second)
 
 -- an opening bracket
-waited-opening : (waiting : List ℕ) (opening closing : ℕ) (rest : List ℕ) → closing_of opening ≡ Some closing
+pub waited-opening : (waiting : List ℕ) (opening closing : ℕ) (rest : List ℕ) → closing_of opening ≡ Some closing
     → waited waiting (opening ∷ rest) ≡ waited (closing ∷ waiting) rest
 unfolding waited after_kind
 waited-opening waiting opening closing rest pair = rw pair refl
@@ -79,7 +79,7 @@ waited-closing waiting opening closing rest pair =
     rw (is.opens_none, is.closes_one, eq-eqb closing closing refl) refl
 
 -- a balanced text leaves what was waited for
-waited-balanced : (text : List ℕ) → IsBalanced text → (waiting : List ℕ) → waited waiting text ≡ Some waiting
+pub waited-balanced : (text : List ℕ) → IsBalanced text → (waiting : List ℕ) → waited waiting text ≡ Some waiting
 unfolding waited
 waited-balanced text empty waiting = refl
 waited-balanced text (plain c is) waiting = waited-plain waiting c [] is

@@ -182,7 +182,6 @@ module _ (old new : Contents) (r : ReportFields Place) (is_char : r.config.index
         reasons = is.reasons;
         are_reasons = record { judged = none.1; stay_fetched = is.are_reasons.stay_fetched };
         left_out = sym (none_listed 0 is.reasons none.0);
-        sent = is.sent;
         traced = is.traced;
       }
 

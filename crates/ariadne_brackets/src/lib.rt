@@ -23,4 +23,4 @@ mod offence;
 
 pub use fault::{Fault, Status, tell_fault};
 pub use linting::lint;
-pub use offence::{Offence, first_offence};
+pub use offence::{Offence, first_offence, texts_have_one_first_offence};

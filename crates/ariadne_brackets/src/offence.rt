@@ -1,6 +1,6 @@
 //! The first bracket of a text that has no partner.
 
-ghost use Rattle.std.specs.Prelude.{◌≡◌, IfOk, chars};
+ghost use Rattle.std.specs.Prelude.{◌≡◌, ℕ, List, Option, IfOk, chars};
 ghost use Rattle.ariadne_brackets.specs.Brackets.{closing_of, is_closing, IsFirstOffence};
 
 use std::alloc::{AllocError, Global};
@@ -45,6 +45,12 @@ pub fn first_offence(alloc: Global, text: &str) -> Result<Option<Offence>, Alloc
     }
     Ok(opened.pop().map(|it| Offence::Unclosed(it.offset)))
 }
+
+/// A text has one first offence, or none: no two answers are right.
+pub fn texts_have_one_first_offence()
+    ensures { (text : List ℕ) (a b : Option Offence)
+        → IsFirstOffence text a → IsFirstOffence text b → a ≡ b }
+{}
 
 /// The bracket that closes an opening one.
 #[tactic(auto, unfolding(crate::specs::Brackets::closing_of))]

@@ -12,7 +12,11 @@ use Rattle.ariadne_draw.specs.Words.{Asking, AskingLabel, AskingOptions}
 
 -- what is held of a label
 abbrev pub label_asking : AskedLabel → AskingLabel
-label_asking label = record { start = label.start; end = label.end; text = label.text.now }
+label_asking label = record {
+  start = label.place.start;
+  end = label.place.end;
+  text = label.text.now;
+}
 
 -- what is held of the options
 abbrev pub options_asking : AskedOptions → AskingOptions

@@ -1,6 +1,6 @@
 //! What the words of the command line ask for.
 
-ghost use Rattle.std.specs.Prelude.{◌≤◌};
+use ariadne::Place;
 
 /// What the options ask for.
 #[derive(Clone, Copy, Drop)]
@@ -20,13 +20,10 @@ pub struct AskedOptions<'a> {
 /// A label that the words ask for.
 #[derive(Drop)]
 pub struct AskedLabel<'a> {
-    /// Its first offset in the source, from 0.
-    pub start: usize,
-    /// The offset where it ends, exclusive.
-    pub end: usize,
+    /// Where it stands in the source, whose offsets count from 0; its end is exclusive.
+    pub place: Place,
     /// Its message.
     pub text: &'a str,
-    ghost forward: { start ≤ end },
 }
 
 /// What the words ask for.

@@ -232,7 +232,8 @@ fn with_asked_label<Id: Eq + Copy>(
     ensures { IfOk result (λ report. report ≡ record builder.entry
         { labels = builder.entry.labels ++ colored id color (label_asking label.now) ∷ [] }) }
 {
-    let drawn = Label::new((id, label.start..label.end))
+    let place = label.place;
+    let drawn = Label::new((id, place.start..place.end))
         .with_message(alloc, label.text)?
         .with_color(color);
     builder.with_label(drawn)
@@ -243,7 +244,7 @@ fn asked_span<Id: Copy>(asked: &Asked<'_>, id: Id) -> (Id, Range<usize>)
     ensures { result ≡ own_span id (asking asked.now).labels }
 {
     match asked.labels.first() {
-        Some(label) => (id, label.start..label.end),
+        Some(label) => (id, label.place.start..label.place.end),
         None => (id, 0..0),
     }
 }

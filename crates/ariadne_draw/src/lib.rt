@@ -1,4 +1,5 @@
-//! `ariadne-draw` as a call: words and streams in, a report and a status out.
+//! `ariadne-draw` as a call: words and streams in, a report and a status out. It stands over the
+//! public calls and contracts of `ariadne` alone.
 #![tactic(auto)]
 
 mod asked;

@@ -27,7 +27,8 @@ come first, in any order, and the last --file counts.
 
 One dash begins no option: -h is a message, and the program then waits for standard input.
 Colours are on in a pipe and a file too, unless --plain or NO_COLOR says otherwise.
-Helps and notes can't be given here: they are for calls of the library.
+Codes, helps, notes, other kinds and labels without text can't be given here: they are for calls of
+the library.
 
 Two labels on one line:
 

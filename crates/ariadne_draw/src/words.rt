@@ -12,6 +12,7 @@ ghost use Rattle.ariadne_draw.specs.Asked.{ReadsWords};
 use super::asked::{Asked, AskedLabel, AskedOptions};
 use super::fault::Fault;
 use super::pages::asked_page;
+use ariadne::Place;
 use std::alloc::{AllocError, Global};
 
 /// What a word is, where an option may stand.
@@ -159,12 +160,8 @@ fn read_labels<'a>(alloc: Global, words: &'a [String]) -> Result<Vec<AskedLabel<
 fn read_label<'a>(start: &str, end: &str, text: &'a str) -> Option<AskedLabel<'a>>
     ensures { option_map label_asking result ≡ label_of start.now end.now text.now }
 {
-    let start = number(start)?;
-    let end = number(end)?;
-    if start > end {
-        return None;
-    }
-    Some(AskedLabel { start, end, text })
+    let place = Place::new(number(start)?, number(end)?)?;
+    Some(AskedLabel { place, text })
 }
 
 /// The number that a word of decimal digits writes, if it fits `usize`.

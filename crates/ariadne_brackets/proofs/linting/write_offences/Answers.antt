@@ -9,7 +9,7 @@ use Rattle.ariadne_brackets.proofs.linting.write_offences.Goals.{in-Ok, in-Err-M
 pub returns-clause-outcomes : goal.returns-clause-outcomes
 returns-clause-outcomes g c = outcomes_after _ _ c.requires.report _ _ c.requires.found c.write.ensures.grows
 
--- each answer tells what was written
+-- each result tells what was written
 pub returns-clause-wrote : goal.returns-clause-wrote
 returns-clause-wrote g c = elim c.match-write.branch [
   | in-Ok w ↦ rw w.result-is (wrote_whole _ _ c.requires.report _ _ c.requires.found c.write.ensures.grows _ _ _ w.in-Ok.ensures.written)
