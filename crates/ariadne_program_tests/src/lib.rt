@@ -1,4 +1,4 @@
-//! Tests of the two programs, as the calls that their `main` makes, where an input or a writer fails or
+//! Tests of the three programs, as the calls that their `main` makes, where an input or a writer fails or
 //! memory is refused. `tools/runs` tells what else they do.
 #![tactic(auto)]
 
@@ -10,3 +10,7 @@ mod draw_refused;
 mod lint;
 #[cfg(test)]
 mod lint_refused;
+#[cfg(test)]
+mod show;
+#[cfg(test)]
+mod show_refused;

@@ -1,6 +1,6 @@
 //! `lint` over files of the system, into a writer that fails.
 
-use ariadne_brackets::{Offence, Status, first_offence, lint};
+use ariadne_brackets::{Offence, Status, first_offence, lint, texts_have_one_first_offence};
 use ariadne_fakes::{Folder, Taker, texts};
 use std::alloc::{AllocError, Global};
 use std::io::ErrorKind;
@@ -68,6 +68,7 @@ fn a_writer_that_fails_is_told_with_what_it_took(rt: HostRuntime) {
 
 #[test]
 fn the_first_offence_of_a_text(rt: HostRuntime) {
+    texts_have_one_first_offence();
     let cases = [
         ("", None),
         ("a(b)[]", None),

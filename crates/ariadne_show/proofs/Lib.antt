@@ -1,1 +1,3 @@
 pub mod Chains
+pub mod Heads
+pub mod Lines

@@ -1,2 +1,5 @@
+pub mod Drawn
+pub mod Faults
+pub mod Pages
 pub mod Shown
 pub mod Sums

@@ -1,57 +1,70 @@
 -- What a run has shown: what has reached its output, step by step, by the lines that it has read. What
 -- input and output know of their bytes is given before and after each step.
-use Rattle.std.specs.Prelude.{ℕ, List, Option, Ok, Vec}
+use Rattle.std.specs.Prelude.{ℕ, ◌≡◌, ◌<◌, Bool, false, not, List, [], ◌∷◌, ◌++◌, length, Option}
+use Rattle.std.specs.Prelude.{Some, None, IfSome, Vec, vec_len}
+use Rattle.std.specs.Io.BufRead.{ends_with_byte, strip_last, take_through}
 use Rattle.std.specs.Io.KnownBytes.{Appends, Consumes, IsAtEnd}
+use Rattle.std.specs.Str.Lossy.{utf8_lossy}
 use Rattle.std.specs.declared.alloc.Global.{Global}
-use Rattle.std.specs.declared.ops.Range.{Range}
-use Rattle.ariadne.specs.LeftOut.{LeftOut}
-use Rattle.ariadne.specs.Report.{ReportFields}
-use Rattle.ariadne_visible.specs.Pictures.{GotNothingHidden}
-use Rattle.ariadne_safe.specs.Reports.{WrittenFor}
-use Rattle.ariadne_safe.specs.declared.sources.SafeSource.{SafeSource}
-use Rattle.ariadne_safe.specs.declared.sources.NoSource.{NoSource}
+use Rattle.ariadne_told.specs.Told.{IsTold}
+use Rattle.ariadne_told.specs.declared.diagnostic.Diagnostic.{Diagnostic}
+use Rattle.ariadne_told.specs.declared.telling.Format.{Format}
 use Rattle.ariadne_show.specs.declared.sum.Sum.{Sum}
-use Rattle.ariadne_show.specs.Sums.{sum_text}
+use Rattle.ariadne_show.specs.Drawn.{IsToldDrawn}
+use Rattle.ariadne_show.specs.Sums.{counted, line_end, no_sum, sum_text}
 
--- the picture of a report over sources has reached the output, and hides nothing
-pub record IsDrawn (before after : Option (List ℕ)) : Type 0 where
-  pub sources : List SafeSource
-  pub report : ReportFields (ℕ × Range ℕ)
-  pub left_out : Vec (LeftOut NoSource) Global
-  pub written : WrittenFor sources report before after (Ok left_out)
-  pub hides : GotNothingHidden before after
+-- diagnostics were drawn in their order, each in one picture at least, and counted
+pub data AreTold : List Diagnostic → Option (List ℕ) → Option (List ℕ) → Sum → Sum → Type 0 where
+  none_told : {o : Option (List ℕ)} {sum : Sum} → AreTold [] o o sum sum
+  one_told_more : {all : List Diagnostic} {o p q : Option (List ℕ)} {sum total : Sum}
+      → AreTold all o p sum total → (told : Diagnostic) → IsToldDrawn told p q
+      → AreTold (all ++ told ∷ []) o q sum (counted told total)
 
--- pictures have, one behind the other
-pub data AreDrawn : Option (List ℕ) → Option (List ℕ) → Type 0 where
-  no_picture : {o : Option (List ℕ)} → AreDrawn o o
-  one_picture_more : {o p q : Option (List ℕ)} → AreDrawn o p → IsDrawn p q → AreDrawn o q
+-- the text of a line: without what ends it, and with U+FFFD in place of what is not UTF-8
+abbrev pub text_of : List ℕ → List ℕ
+text_of line = utf8_lossy (strip_last 13 (strip_last 10 line))
 
--- one at least has
-pub record AreSomeDrawn (before after : Option (List ℕ)) : Type 0 where
-  pub between : Option (List ℕ)
-  pub first : IsDrawn before between
-  pub others : AreDrawn between after
+-- what is told of a line that is read in a form: diagnostics, or nothing
+abbrev pub IsToldBy : Format → List ℕ → Option (Vec Diagnostic Global) → Type 0
+IsToldBy format line told = IsTold format (text_of line) told
 
--- of a line the output got the line as it is, or one picture at least in its place
-pub data IsShownOf (line : List ℕ) (before after : Option (List ℕ)) : Type 0 where
-  as_it_is : Appends before after line → IsShownOf line before after
-  drawn : AreSomeDrawn before after → IsShownOf line before after
+-- of a line the output got the line as it is, where it tells nothing, and in its place the pictures of
+-- its diagnostics, where it tells some; what it got is open, where it is a line that no line feed ends
+pub data IsShownOf (format : Format) (line : List ℕ) (before after : Option (List ℕ))
+    (sum total : Sum) (is_open : Bool) : Type 0 where
+  as_it_is : IsToldBy format line None → Appends before after line → total ≡ sum
+      → is_open ≡ not (ends_with_byte 10 line)
+      → IsShownOf format line before after sum total is_open
+  drawn : (all : Vec Diagnostic Global) → IsToldBy format line (Some all) → 0 < vec_len all
+      → AreTold all.items before after sum total → is_open ≡ false
+      → IsShownOf format line before after sum total is_open
 
--- lines were read, and each was shown, in their order
-pub data AreShown : Option (List ℕ) → Option (List ℕ) → Option (List ℕ) → Option (List ℕ)
-    → Type 0 where
-  no_line : {i o : Option (List ℕ)} → AreShown i i o o
-  one_line_more : {i j k o p q : Option (List ℕ)} → AreShown i j o p → (line : List ℕ)
-      → Consumes j k line → IsShownOf line p q → AreShown i k o q
+-- the next line of an input, with the line feed that ends it, was read
+pub record ReadsLine (before after : Option (List ℕ)) (line : List ℕ) : Type 0 where
+  pub taken : Consumes before after line
+  pub whole : IfSome before (λ bytes. line ≡ take_through 10 bytes)
+
+-- lines were read, and each was shown and counted, in their order
+pub data AreShown (format : Format) : Option (List ℕ) → Option (List ℕ) → Option (List ℕ)
+    → Option (List ℕ) → Sum → Sum → Bool → Type 0 where
+  no_line : {i o : Option (List ℕ)} {sum : Sum} → AreShown format i i o o sum sum false
+  one_line_more : {i j k o p q : Option (List ℕ)} {sum part total : Sum} {was_open is_open : Bool}
+      → AreShown format i j o p sum part was_open → (line : List ℕ) → ReadsLine j k line
+      → IsShownOf format line p q part total is_open → AreShown format i k o q sum total is_open
 
 -- all lines of an input were
-pub record AreAllShown (input before after : Option (List ℕ)) : Type 0 where
+pub record AreAllShown (format : Format) (input before after : Option (List ℕ)) (sum total : Sum)
+    (is_open : Bool) : Type 0 where
   pub rest : Option (List ℕ)
-  pub shown : AreShown input rest before after
+  pub shown : AreShown format input rest before after sum total is_open
   pub ended : IsAtEnd rest
 
--- and then the sum
-pub record IsAllShown (input before after : Option (List ℕ)) (sum : Sum) : Type 0 where
+-- and then the sum of what was told, if there is one, on a line of its own
+pub record IsAllShown (format : Format) (input before after : Option (List ℕ)) (sum : Sum)
+    : Type 0 where
   pub lines : Option (List ℕ)
-  pub shown : AreAllShown input before lines
-  pub total : Appends lines after (sum_text sum)
+  pub ended : Option (List ℕ)
+  pub is_open : Bool
+  pub shown : AreAllShown format input before lines no_sum sum is_open
+  pub ending : Appends lines ended (line_end is_open (sum_text sum))
+  pub total : Appends ended after (sum_text sum)

@@ -1,6 +1,34 @@
 -- The sum that ends what is shown: how many errors, warnings and notes there were.
-use Rattle.std.specs.Prelude.{ℕ, ◌==◌, if◌then◌else◌, List, [], ◌∷◌, ◌++◌, length, codes, decimal}
+use Rattle.std.specs.Prelude.{ℕ, ◌+◌, ◌-◌, ◌^◌, ◌==◌, min, Bool, ◌&&◌, not, if◌then◌else◌}
+use Rattle.std.specs.Prelude.{List, [], ◌∷◌, ◌++◌, length, codes, decimal}
+use Rattle.ariadne_told.specs.declared.diagnostic.Diagnostic.{Diagnostic}
+use Rattle.ariadne_told.specs.declared.diagnostic.Severity.{Severity}
+use Rattle.ariadne_told.specs.declared.diagnostic.Severity.TheVariants.{Error, Warning, Note}
 use Rattle.ariadne_show.specs.declared.sum.Sum.{Sum}
+use Rattle.ariadne_show.specs.declared.fault.Status.{Status}
+use Rattle.ariadne_show.specs.declared.fault.Status.TheVariants.{Shown, WithErrors}
+
+-- nothing was told
+abbrev pub no_sum : Sum
+no_sum = record { errors = 0; warnings = 0; notes = 0 }
+
+-- one more, up to the greatest number of the machine
+abbrev pub one_more : ℕ → ℕ
+one_more n = min (n + 1) (2 ^ 64 - 1)
+
+-- one of a severity more
+abbrev pub counted_as : Severity → Sum → Sum
+counted_as Error sum = record sum { errors = one_more sum.errors }
+counted_as Warning sum = record sum { warnings = one_more sum.warnings }
+counted_as Note sum = record sum { notes = one_more sum.notes }
+
+-- a diagnostic more, unless it sums up others
+abbrev pub counted : Diagnostic → Sum → Sum
+counted told sum = if told.is_sum then sum else counted_as told.severity sum
+
+-- the status after all was shown: whether there was an error
+abbrev pub status_after : Sum → Status
+status_after sum = if sum.errors == 0 then Shown else WithErrors
 
 -- a text with a number of things behind it, if there are any
 unfoldable pub with_count : List ℕ → ℕ → List ℕ → List ℕ
@@ -18,3 +46,7 @@ sum_words sum =
 -- the line, if there is something to say
 unfoldable pub sum_text : Sum → List ℕ
 sum_text sum = if length (sum_words sum) == 0 then [] else sum_words sum ++ 10 ∷ []
+
+-- what ends an open line in front of a text, if there is one
+abbrev pub line_end : Bool → List ℕ → List ℕ
+line_end is_open text = if is_open && not (length text == 0) then 10 ∷ [] else []

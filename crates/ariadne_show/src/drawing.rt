@@ -1,7 +1,11 @@
 //! A diagnostic as reports over the files that it is about.
 
-ghost use Rattle.std.specs.Prelude.{OnOk};
-ghost use Rattle.ariadne_show.specs.Shown.{AreDrawn, AreSomeDrawn, IsDrawn};
+ghost use Rattle.std.specs.Prelude.{ℕ, ◌≡◌, List, ◌++◌, string_bytes, IfOk, OnOk};
+ghost use Rattle.ariadne.specs.Kinds.{kind_of as kind_of_fields};
+ghost use Rattle.ariadne_safe.specs.Building.{kind_in, made_of, report_of as report_in};
+ghost use Rattle.ariadne_safe.specs.Building.{sources_below};
+ghost use Rattle.ariadne_show.specs.Drawn.{coded, AreDrawn, HaveOneHead, IsAbout, IsDrawn};
+ghost use Rattle.ariadne_show.specs.Drawn.{IsHeadDrawn, IsOfKind, IsPicture, IsToldDrawn, Says};
 
 use crate::fault::Fault;
 use crate::options::Style;
@@ -33,8 +37,8 @@ struct FoundPlace<'a> {
 }
 
 /// Draws a diagnostic over its files, which were read; in one line, where that is asked for; in lines
-/// where its own place can't be had, which the last of them says.
-#[tactic(auto, using(crate::proofs::Chains::one_if))]
+/// where its own place can't be had, which the last of them says. The one line says it too.
+#[tactic(auto, using(crate::proofs::Chains::head_if))]
 pub fn draw<W: Write>(
     alloc: Global,
     shelf: &Shelf,
@@ -42,17 +46,17 @@ pub fn draw<W: Write>(
     style: Style,
     out: &mut W,
 ) -> Result<(), Fault>
-    ensures { OnOk result (AreSomeDrawn (W.contents out.old) (W.contents out.new)) }
+    ensures { OnOk result (IsToldDrawn told.now (W.contents out.old) (W.contents out.new)) }
 {
+    if style.is_short {
+        return draw_line(alloc, shelf, told, style, out);
+    }
     let Some(main) = told.main_place() else {
         draw_line(alloc, shelf, told, style, out)?;
         return draw_asides(alloc, shelf, told, style, out);
     };
     match found_place(shelf, main) {
-        Some(it) if !style.is_short => {
-            draw_report(&report_of(alloc, shelf, told, it, style)?, out)
-        }
-        Some(_) => draw_line(alloc, shelf, told, style, out),
+        Some(it) => draw_report(&report_of(alloc, shelf, told, it, style)?, out),
         None => {
             draw_line(alloc, shelf, told, style, out)?;
             draw_asides(alloc, shelf, told, style, out)?;
@@ -64,13 +68,15 @@ pub fn draw<W: Write>(
 
 /// Draws a report.
 fn draw_report<W: Write>(report: &SafeReport<'_>, out: &mut W) -> Result<(), Fault>
-    ensures { OnOk result (IsDrawn (W.contents out.old) (W.contents out.new)) }
+    ensures { OnOk result (IsPicture (sources_below report.now) (report_in report.now)
+        (W.contents out.old) (W.contents out.new)) }
 {
     let _left_out = report.write(out)?;
     Ok(())
 }
 
 /// Draws a text as a report that has no place.
+#[tactic(auto, using(crate::proofs::Chains::drawn_if))]
 fn draw_text<W: Write>(
     alloc: Global,
     shelf: &Shelf,
@@ -93,9 +99,9 @@ fn draw_line<W: Write>(
     style: Style,
     out: &mut W,
 ) -> Result<(), Fault>
-    ensures { OnOk result (IsDrawn (W.contents out.old) (W.contents out.new)) }
+    ensures { OnOk result (IsHeadDrawn told.now (W.contents out.old) (W.contents out.new)) }
 {
-    let text = line_text(alloc, told)?;
+    let text = line_text(alloc, shelf, told, style)?;
     let kind = kind_of(told.severity);
     let builder = SafeBuilder::new(alloc, shelf.sources(), kind, (0, 0..0), config_of(style));
     let builder = with_code(builder.with_message(text.as_str())?, told)?;
@@ -134,22 +140,40 @@ fn aside_texts(alloc: Global, told: &Diagnostic) -> Result<Vec<String>, AllocErr
     Ok(texts)
 }
 
-/// Where a diagnostic is, and what it says.
-fn line_text(alloc: Global, told: &Diagnostic) -> Result<String, AllocError> {
-    match told.main_place() {
-        Some(place) => spot_text(alloc, place, told.message.as_str()),
-        None => told.message.clone(),
+/// Where a diagnostic is, and what it says; where this is its only line, also that its place can't be
+/// had.
+fn line_text(
+    alloc: Global,
+    shelf: &Shelf,
+    told: &Diagnostic,
+    style: Style,
+) -> Result<String, AllocError>
+    ensures { IfOk result (λ text. Says told.now (string_bytes text)) }
+{
+    let Some(place) = told.main_place() else {
+        let text = told.message.clone()?;
+        return Ok(text);
+    };
+    let text = spot_text(alloc, place, told.message.as_str())?;
+    if !style.is_short || found_place(shelf, place).is_some() {
+        return Ok(text);
     }
+    let missing = missing_text(alloc, shelf, place)?;
+    format!(in alloc; "{text} ({missing})")
 }
 
 /// Where a place begins, as `FILE:LINE:COLUMN`, and what is said of it.
-fn spot_text(alloc: Global, place: &Place, said: &str) -> Result<String, AllocError> {
+fn spot_text(alloc: Global, place: &Place, said: &str) -> Result<String, AllocError>
+    ensures { IfOk result (λ text. (before : List ℕ) × (string_bytes text ≡ before ++ said.now)) }
+{
     let file = place.file.as_str();
     let line = place.start.line;
-    match place.start.column {
-        Some(column) => format!(in alloc; "{file}:{line}:{column}: {said}"),
-        None => format!(in alloc; "{file}:{line}: {said}"),
-    }
+    let mut text = match place.start.column {
+        Some(column) => format!(in alloc; "{file}:{line}:{column}: ")?,
+        None => format!(in alloc; "{file}:{line}: ")?,
+    };
+    text.push_str(said)?;
+    Ok(text)
 }
 
 /// Why a place can't be drawn.
@@ -182,7 +206,9 @@ fn report_of<'s>(
     told: &Diagnostic,
     main: FoundPlace<'_>,
     style: Style,
-) -> Result<SafeReport<'s>, AllocError> {
+) -> Result<SafeReport<'s>, AllocError>
+    ensures { IfOk result (λ report. IsAbout told.now (report_in report)) }
+{
     let kind = kind_of(told.severity);
     let span = (main.number, main.caret..main.end.max(main.caret));
     let builder = SafeBuilder::new(alloc, shelf.sources(), kind, span, config_of(style));
@@ -192,10 +218,9 @@ fn report_of<'s>(
 }
 
 /// The report with the code of a diagnostic, if it has one.
-fn with_code<'s>(
-    builder: SafeBuilder<'s>,
-    told: &Diagnostic,
-) -> Result<SafeBuilder<'s>, AllocError> {
+fn with_code<'s>(builder: SafeBuilder<'s>, told: &Diagnostic) -> Result<SafeBuilder<'s>, AllocError>
+    ensures { IfOk result (λ b. made_of b ≡ coded told.now.code (made_of builder.entry)) }
+{
     match &told.code {
         Some(code) => builder.with_code_text(code.as_str()),
         None => Ok(builder),
@@ -211,7 +236,9 @@ fn with_labels<'s>(
     shelf: &Shelf,
     told: &Diagnostic,
     main: usize,
-) -> Result<SafeBuilder<'s>, AllocError> {
+) -> Result<SafeBuilder<'s>, AllocError>
+    ensures { IfOk result (λ b. HaveOneHead (made_of builder.entry) (made_of b)) }
+{
     let mut places = Vec::new(alloc);
     for place in &told.places {
         if let Some(it) = found_place(shelf, place) {
@@ -259,7 +286,9 @@ fn with_asides<'s>(
     builder: SafeBuilder<'s>,
     shelf: &Shelf,
     told: &Diagnostic,
-) -> Result<SafeBuilder<'s>, AllocError> {
+) -> Result<SafeBuilder<'s>, AllocError>
+    ensures { IfOk result (λ b. HaveOneHead (made_of builder.entry) (made_of b)) }
+{
     let mut builder = builder;
     for place in &told.places {
         if found_place(shelf, place).is_none() {
@@ -277,7 +306,9 @@ fn with_asides<'s>(
 }
 
 /// The kind of a report.
-fn kind_of(severity: Severity) -> SafeKind<'static> {
+fn kind_of(severity: Severity) -> SafeKind<'static>
+    ensures { IsOfKind severity (kind_of_fields (kind_in result)) }
+{
     match severity {
         Severity::Error => SafeKind::error(),
         Severity::Warning => SafeKind::warning(),

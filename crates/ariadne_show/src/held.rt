@@ -7,6 +7,9 @@ use ariadne_told::{End, Place, Spot, Unit};
 use std::alloc::{AllocError, Global};
 use std::ops::Range;
 
+/// The bytes of the byte order mark that a file of UTF-8 may begin with.
+const MARK: &[u8] = b"\xef\xbb\xbf";
+
 /// The text of a file: its bytes as UTF-8, or where they are none, a character for each byte.
 #[derive(Debug, Drop)]
 pub struct FileText {
@@ -14,18 +17,25 @@ pub struct FileText {
     pub text: String,
     /// Whether the bytes are UTF-8.
     pub is_utf8: bool,
+    /// Whether they begin with a byte order mark.
+    pub has_mark: bool,
 }
 
 impl FileText {
     /// The text of these bytes. On `Err` there was no memory for it.
     pub fn new(alloc: Global, bytes: Vec<u8>) -> Result<FileText, AllocError> {
         let is_utf8 = std::str::from_utf8(bytes.as_slice()).is_ok();
+        let has_mark = bytes.as_slice().starts_with(MARK);
         let text = if is_utf8 {
             String::from_utf8_lossy(alloc, bytes.as_slice())?
         } else {
             latin_text(alloc, bytes.as_slice())?
         };
-        Ok(FileText { text, is_utf8 })
+        Ok(FileText {
+            text,
+            is_utf8,
+            has_mark,
+        })
     }
 }
 
@@ -47,37 +57,54 @@ pub struct Held {
     pub columns: Columns,
     /// Whether it is UTF-8. Else each byte is a character.
     pub is_utf8: bool,
+    /// Whether it begins with a byte order mark.
+    pub has_mark: bool,
 }
 
 impl Held {
-    /// The characters of a place, if the file has it: the first, from 0, and the one behind the last.
+    /// The characters of a place, if the file has its start: the first, from 0, and the one behind the
+    /// last. An end that the file doesn't have is the end of the file.
     pub fn span(&self, place: &Place) -> Option<Range<usize>>
         ensures { IfSome result (λ span. span.start ≤ span.end) }
     {
-        let start = self.offset(place.unit, place.start, 1)?;
+        let start = self.offset(place, place.start, 1)?;
         let end = match place.end {
-            End::Before(spot) => self.offset(place.unit, spot, usize::MAX)?,
-            End::Behind(spot) => self.offset(place.unit, spot, usize::MAX)?.saturating_add(1),
+            End::Before(spot) => self.end_at(place, spot),
+            End::Behind(spot) => self.end_at(place, spot).saturating_add(1),
             End::OfWord if place.start.column.is_some() => self.columns.word_end(start),
-            End::OfWord => self.offset(place.unit, place.start, usize::MAX)?,
+            End::OfWord => self.end_at(place, place.start),
         };
         Some(start..end.max(start))
     }
 
     /// The character that the tool points at, if the file has it.
     pub fn caret(&self, place: &Place) -> Option<usize> {
-        self.offset(place.unit, place.caret, 1)
+        self.offset(place, place.caret, 1)
     }
 
-    /// The offset of a spot, which is at this column where it names none.
-    fn offset(&self, unit: Unit, spot: Spot, column: usize) -> Option<usize>
+    /// The offset of the spot where a place ends: the end of its line, where it names no column.
+    fn end_at(&self, place: &Place, spot: Spot) -> usize {
+        match self.offset(place, spot, usize::MAX) {
+            Some(offset) => offset,
+            None if spot.line == 0 => 0,
+            None => self.columns.len(),
+        }
+    }
+
+    /// The offset of a spot of a place, which is at this column where it names none.
+    fn offset(&self, place: &Place, spot: Spot, column: usize) -> Option<usize>
         ensures { IfSome result (λ offset. offset ≤ length self.now.columns) }
     {
-        let unit = match unit {
+        let unit = match place.unit {
             Unit::Byte if !self.is_utf8 => Unit::Char,
-            _ => unit,
+            unit => unit,
         };
-        self.columns
-            .offset(unit, spot.line, spot.column.unwrap_or(column))
+        let mark = if self.has_mark && place.is_past_mark && spot.line == 1 {
+            MARK.len()
+        } else {
+            0
+        };
+        let column = spot.column.unwrap_or(column).saturating_add(mark);
+        self.columns.offset(unit, spot.line, column)
     }
 }

@@ -1,12 +1,12 @@
 //! `ariadne-show`: what compilers and linters print, drawn over the files that it is about.
 #![tactic(auto)]
 
-pub mod drawing;
+mod drawing;
 pub mod fault;
-pub mod held;
+mod held;
 pub mod options;
 pub mod pages;
-pub mod shelf;
+mod shelf;
 pub mod showing;
 pub mod sum;
 

@@ -1,5 +1,7 @@
 //! What the words of the command line ask for.
 
+ghost use Rattle.std.specs.Prelude.{◌≤◌, length, IfOk};
+
 use crate::pages::Page;
 use ariadne_told::{Format, Reading, Unit};
 use std::alloc::AllocError;
@@ -48,8 +50,12 @@ pub enum Asked<'a> {
     Page(Page),
     /// This word is no option.
     Unknown(&'a str),
-    /// This option needs one of these words behind it.
-    Expected(&'a str, &'static str),
+    /// This option needs one of these words behind it, and has none or another.
+    Expected {
+        option: &'a str,
+        expected: &'static str,
+        given: Option<&'a str>,
+    },
 }
 
 /// What is asked for where there are no words.
@@ -74,34 +80,49 @@ const NO_OPTIONS: Options = Options {
 pub fn read_words(words: &[String]) -> Asked<'_> {
     let mut options = NO_OPTIONS;
     let mut rest = words;
-    while let Some((word, others)) = rest.split_first() {
-        rest = others;
-        let (name, joined) = match word.as_str().split_once('=') {
-            Some((name, value)) => (name, Some(value)),
-            None => (word.as_str(), None),
-        };
-        if let Some(page) = Page::named(word.as_str()) {
+    while let Some((word, behind)) = rest.split_first() {
+        let word = word.as_str();
+        if let Some(page) = Page::named(word) {
             return Asked::Page(page);
         }
-        if joined.is_none() && set_switch(&mut options.style, name) {
-            continue;
-        }
-        let Some(expected) = expected_values(name) else {
-            return Asked::Unknown(word.as_str());
+        rest = match read_option(&mut options, word, behind) {
+            Ok(others) => others,
+            Err(wrong) => return wrong,
         };
-        let value = match (joined, rest.split_first()) {
-            (Some(value), _) => Some(value),
-            (None, Some((value, behind))) => {
-                rest = behind;
-                Some(value.as_str())
-            }
-            (None, None) => None,
-        };
-        if !value.is_some_and(|value| set_value(&mut options, name, value)) {
-            return Asked::Expected(name, expected);
-        }
     }
     Asked::Show(options)
+}
+
+/// Sets the option that a word names, and returns the words behind it and its value; or what is wrong.
+fn read_option<'a>(
+    options: &mut Options,
+    word: &'a str,
+    behind: &'a [String],
+) -> Result<&'a [String], Asked<'a>>
+    ensures { IfOk result (λ rest. length rest.now ≤ length behind.now) }
+{
+    if set_switch(&mut options.style, word) {
+        return Ok(behind);
+    }
+    let (option, joined) = match word.split_once('=') {
+        Some((option, value)) => (option, Some(value)),
+        None => (word, None),
+    };
+    let Some(expected) = expected_values(option) else {
+        return Err(Asked::Unknown(word));
+    };
+    let (given, rest) = match (joined, behind.split_first()) {
+        (None, Some((value, rest))) => (Some(value.as_str()), rest),
+        (joined, _) => (joined, behind),
+    };
+    if given.is_some_and(|value| set_value(options, option, value)) {
+        return Ok(rest);
+    }
+    Err(Asked::Expected {
+        option,
+        expected,
+        given,
+    })
 }
 
 /// Sets the switch of this name, if it is one.

@@ -1,5 +1,8 @@
 //! The texts that the program has ready: its help, its version and its manual page.
 
+ghost use Rattle.std.specs.Prelude.{◌≡◌};
+ghost use Rattle.ariadne_show.specs.Pages.{page_named, page_text, IsPageShown};
+
 use crate::fault::{Fault, Status, tell_fault};
 use crate::showing::send;
 use std::io::Write;
@@ -76,7 +79,9 @@ pub enum Page {
 
 impl Page {
     /// The page that a word asks for.
-    pub fn named(word: &str) -> Option<Page> {
+    pub fn named(word: &str) -> Option<Page>
+        ensures { result ≡ page_named word.now }
+    {
         match word {
             "--help" => Some(Page::Help),
             "--version" => Some(Page::Version),
@@ -85,7 +90,9 @@ impl Page {
     }
 
     /// What is written of it.
-    pub fn text(self) -> &'static str {
+    pub fn text(self) -> &'static str
+        ensures { result.now ≡ page_text self }
+    {
         match self {
             Page::Help => HELP,
             Page::Version => VERSION,
@@ -94,7 +101,9 @@ impl Page {
 }
 
 /// Writes a page to `out`, tells why it could not be written whole, and returns how the program ends.
-pub fn show_page<W: Write, F: Write>(page: Page, out: &mut W, faults: &mut F) -> Status {
+pub fn show_page<W: Write, F: Write>(page: Page, out: &mut W, faults: &mut F) -> Status
+    ensures { IsPageShown (page_text page) (W.contents out.old) (W.contents out.new) result }
+{
     match send(out, page.text().as_bytes()) {
         Ok(()) => Status::Shown,
         Err(fault) => tell_fault(faults, &fault),

@@ -61,6 +61,7 @@ impl Shelf {
             number,
             columns,
             is_utf8: file.is_utf8,
+            has_mark: file.has_mark,
         })
     }
 }

@@ -1,8 +1,9 @@
 //! How many diagnostics of each severity were told.
 
 ghost use Rattle.std.specs.Prelude.{◌≡◌, IfOk, OnOk, string_bytes};
-ghost use Rattle.ariadne_show.specs.Sums.{sum_text, with_count};
+ghost use Rattle.ariadne_show.specs.Sums.{counted, status_after, sum_text, with_count};
 
+use crate::fault::Status;
 use ariadne_told::{Diagnostic, Severity};
 use std::alloc::{AllocError, Global};
 
@@ -13,13 +14,15 @@ pub struct Sum {
     pub errors: usize,
     /// Warnings.
     pub warnings: usize,
-    /// Notes that belong to no other diagnostic.
+    /// Notes that are drawn by themselves, as those of gcc's and clang's text.
     pub notes: usize,
 }
 
 impl Sum {
     /// Counts a diagnostic more, unless it sums up others.
-    pub fn count(&mut self, told: &Diagnostic) {
+    pub fn count(&mut self, told: &Diagnostic)
+        ensures { self.new ≡ counted told.now self.old }
+    {
         if told.is_sum {
             return;
         }
@@ -27,6 +30,17 @@ impl Sum {
             Severity::Error => self.errors = self.errors.saturating_add(1),
             Severity::Warning => self.warnings = self.warnings.saturating_add(1),
             Severity::Note => self.notes = self.notes.saturating_add(1),
+        }
+    }
+
+    /// How the program ends after it has shown all of this: whether there was an error.
+    pub fn status(&self) -> Status
+        ensures { result ≡ status_after self.now }
+    {
+        if self.errors > 0 {
+            Status::WithErrors
+        } else {
+            Status::Shown
         }
     }
 

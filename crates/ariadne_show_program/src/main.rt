@@ -14,7 +14,7 @@ use std::rt::Env;
 fn given_words<R: Env + AllocGlobal>(rt: &R) -> Result<Vec<String>, Fault> {
     match env::args(rt) {
         Ok(args) => Ok(args.skip(1).collect(rt.alloc())?),
-        Err(error) => Err(Fault::of_reading(&error)),
+        Err(error) => Err(Fault::of_words(&error)),
     }
 }
 
@@ -40,11 +40,7 @@ fn show_input(rt: &HostRuntime, mut options: Options) -> Result<Status, Fault> {
         Err(error) => return Err(Fault::of_reading(&error)),
     };
     let sum = show(rt, rt.alloc(), options, &mut input, &mut rt.stdout())?;
-    Ok(if sum.errors > 0 {
-        Status::WithErrors
-    } else {
-        Status::Shown
-    })
+    Ok(sum.status())
 }
 
 /// Does what the words ask for.
@@ -53,13 +49,12 @@ fn run(rt: &HostRuntime) -> Result<Status, Fault> {
     match read_words(words.as_slice()) {
         Asked::Show(options) => show_input(rt, options),
         Asked::Page(page) => Ok(show_page(page, &mut rt.stdout(), &mut rt.stderr())),
-        Asked::Unknown(word) => Err(Fault::Unknown {
-            word: String::from_str(rt.alloc(), word)?,
-        }),
-        Asked::Expected(option, expected) => {
-            let option = String::from_str(rt.alloc(), option)?;
-            Err(Fault::Expected { option, expected })
-        }
+        Asked::Unknown(word) => Err(Fault::unknown(rt.alloc(), word)?),
+        Asked::Expected {
+            option,
+            expected,
+            given,
+        } => Err(Fault::unfit(rt.alloc(), option, expected, given)?),
     }
 }
 

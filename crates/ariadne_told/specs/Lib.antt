@@ -1,1 +1,4 @@
+pub mod Heads
+pub mod Severities
 pub mod Told
+pub mod ToldLines

@@ -1,5 +1,8 @@
 //! What a tool tells: a diagnostic, and the places that it is about.
 
+ghost use Rattle.std.specs.Prelude.{◌≡◌, [], false, IfOk, None, string_bytes};
+ghost use Rattle.ariadne_told.specs.Severities.{severity_of};
+
 use ariadne_columns::Unit;
 use std::alloc::{AllocError, Global};
 
@@ -16,7 +19,10 @@ pub enum Severity {
 
 impl Severity {
     /// The severity that tools give this name, if it is one.
-    pub fn of(name: &str) -> Option<Severity> {
+    #[tactic(auto, unfolding(crate::specs::Severities::severity_of))]
+    pub fn of(name: &str) -> Option<Severity>
+        ensures { result ≡ severity_of name.now }
+    {
         match name {
             "error" | "fatal error" | "internal compiler error" => Some(Severity::Error),
             "error: internal compiler error" | "sorry, unimplemented" => Some(Severity::Error),
@@ -24,15 +30,6 @@ impl Severity {
             "note" | "help" | "info" | "style" | "remark" | "hint" => Some(Severity::Note),
             "failure-note" | "advice" => Some(Severity::Note),
             _ => None,
-        }
-    }
-
-    /// The name that lines give it.
-    pub fn name(self) -> &'static str {
-        match self {
-            Severity::Error => "error",
-            Severity::Warning => "warning",
-            Severity::Note => "note",
         }
     }
 }
@@ -71,6 +68,8 @@ pub struct Place {
     pub end: End,
     /// What its columns count.
     pub unit: Unit,
+    /// Whether they leave out a byte order mark at the start of the file, as gcc's columns of bytes do.
+    pub is_past_mark: bool,
     /// What is said of it; nothing where it is empty.
     pub text: String,
     /// Whether the diagnostic is about this place.
@@ -98,7 +97,13 @@ pub struct Diagnostic {
 
 impl Diagnostic {
     /// A diagnostic that says this, and has nothing else yet.
-    pub fn new(alloc: Global, severity: Severity, message: &str) -> Result<Diagnostic, AllocError> {
+    pub fn new(alloc: Global, severity: Severity, message: &str) -> Result<Diagnostic, AllocError>
+        ensures severity { IfOk result (λ told. told.severity ≡ severity) }
+        ensures code { IfOk result (λ told. told.code ≡ None) }
+        ensures message { IfOk result (λ told. string_bytes told.message ≡ message.now) }
+        ensures places { IfOk result (λ told. told.places.items ≡ []) }
+        ensures counted { IfOk result (λ told. told.is_sum ≡ false) }
+    {
         Ok(Diagnostic {
             severity,
             code: None,

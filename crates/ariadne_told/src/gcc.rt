@@ -1,5 +1,10 @@
 //! Diagnostics of `gcc -fdiagnostics-format=json`: one line of text with a list of them.
 
+ghost use Rattle.std.specs.Prelude.{◌≡◌, ◌<◌, is_some, length, true, vec_len, IfOk, IfSome, OnOk};
+ghost use Rattle.std.specs.List.{list_all};
+ghost use Rattle.serde_json.specs.View.{items_view, view};
+ghost use Rattle.ariadne_told.specs.Told.{is_gcc, is_gcc_list, tells_gcc};
+
 use crate::diagnostic::{Diagnostic, End, Place, Severity, Spot};
 use crate::json::{copied_text, items, number, text};
 use ariadne_columns::Unit;
@@ -8,33 +13,81 @@ use std::alloc::{AllocError, Global};
 
 /// The diagnostics that a value is: a list that is not empty, of objects with a kind, a message and
 /// locations.
-pub(crate) fn gcc_messages(value: &Value) -> Option<&[Value]> {
-    let items = value.as_array()?.as_slice();
-    if !items.is_empty() && items.iter().all(is_message) {
-        Some(items)
+pub(crate) fn gcc_messages(value: &Value) -> Option<&[Value]>
+    ensures list { is_some result ≡ tells_gcc (view value.now) }
+    ensures some { IfSome result (λ values. 0 < length values.now) }
+{
+    let values = value.as_array()?.as_slice();
+    if are_messages(values) {
+        Some(values)
     } else {
         None
     }
 }
 
+/// Whether values are diagnostics of gcc's, and there is one.
+#[tactic(auto, using(crate::proofs::Values::gcc_none))]
+fn are_messages(values: &[Value]) -> bool
+    ensures list { result ≡ is_gcc_list (items_view values.now) }
+    ensures some { result ≡ true → 0 < length values.now }
+{
+    if values.is_empty() {
+        return false;
+    }
+    each_is_message(values)
+}
+
+/// Whether each of these values is a diagnostic of gcc's.
+fn each_is_message(values: &[Value]) -> bool
+    ensures { result ≡ list_all (λ v. is_gcc (view v)) values.now }
+{
+    values.iter().all(|value| is_message(value))
+}
+
 /// Whether a value is a diagnostic of gcc's.
-fn is_message(value: &Value) -> bool {
+fn is_message(value: &Value) -> bool
+    ensures { result ≡ is_gcc (view value.now) }
+{
     text(value, "kind").is_some()
         && text(value, "message").is_some()
         && value.get("locations").is_some()
 }
 
-/// The diagnostics of these values. A note belongs to the one before it.
-pub(crate) fn told_by_gcc(alloc: Global, values: &[Value]) -> Result<Vec<Diagnostic>, AllocError> {
-    let mut all: Vec<Diagnostic> = Vec::new(alloc);
+/// The diagnostics of these values, and of those that stand in them.
+pub(crate) fn told_by_gcc(alloc: Global, values: &[Value]) -> Result<Vec<Diagnostic>, AllocError>
+    ensures { IfOk result (λ all. 0 < length values.now → 0 < vec_len all) }
+{
+    let mut all = Vec::new(alloc);
     for value in values {
-        let is_note = text(value, "kind") == Some("note");
-        match all.last_mut() {
-            Some(told) if is_note => push_child(alloc, told, value)?,
-            _ => all.push(told_by_item(alloc, value)?)?,
-        }
+        push_told(alloc, &mut all, value)?;
+        push_children(alloc, &mut all, value)?;
     }
     Ok(all)
+}
+
+/// Adds the children of a diagnostic: gcc groups errors below a warning too. They have none themselves.
+fn push_children(alloc: Global, all: &mut Vec<Diagnostic>, value: &Value) -> Result<(), AllocError>
+    ensures { OnOk result (0 < vec_len all.old → 0 < vec_len all.new) }
+{
+    for child in items(value, "children") {
+        push_told(alloc, all, child)?;
+    }
+    Ok(())
+}
+
+/// Adds a note to the diagnostic before it; what is no note, or has none before it, is a diagnostic
+/// more.
+fn push_told(alloc: Global, all: &mut Vec<Diagnostic>, value: &Value) -> Result<(), AllocError>
+    ensures { OnOk result (0 < vec_len all.new) }
+{
+    let is_note = text(value, "kind") == Some("note");
+    match all.last_mut() {
+        Some(told) if is_note => push_note(alloc, told, value),
+        _ => {
+            all.push(told_by_item(alloc, value)?)?;
+            Ok(())
+        }
+    }
 }
 
 /// The diagnostic of one value.
@@ -48,36 +101,46 @@ fn told_by_item(alloc: Global, value: &Value) -> Result<Diagnostic, AllocError> 
         push_place(alloc, &mut told, location, said, number == 0)?;
     }
     push_fixes(alloc, &mut told, value)?;
-    for child in items(value, "children") {
-        push_child(alloc, &mut told, child)?;
-    }
     Ok(told)
 }
 
-/// Adds a note: as labels where it has places of its own, else as a note.
-fn push_child(alloc: Global, told: &mut Diagnostic, child: &Value) -> Result<(), AllocError> {
-    let message = text(child, "message").unwrap_or("");
-    let locations = items(child, "locations");
-    if is_elsewhere(told, locations) {
-        for (number, location) in locations.iter().enumerate() {
-            let own_text = text(location, "label").unwrap_or("");
-            let said = if number == 0 { message } else { own_text };
-            push_place(alloc, told, location, said, false)?;
-        }
+/// Adds a note: as the label of its first place, if that is elsewhere and has none of its own.
+fn push_note(alloc: Global, told: &mut Diagnostic, value: &Value) -> Result<(), AllocError> {
+    let message = text(value, "message").unwrap_or("");
+    let locations = items(value, "locations");
+    let is_label = locations
+        .first()
+        .is_some_and(|it| is_elsewhere(told, it) && text(it, "label").is_none());
+    if is_label {
+        push_noted_places(alloc, told, locations, message)?;
     } else {
         told.notes.push(String::from_str(alloc, message)?)?;
+        push_noted_places(alloc, told, locations, "")?;
     }
-    push_fixes(alloc, told, child)?;
-    for inner in items(child, "children") {
-        told.notes.push(String::from_str(alloc, text(inner, "message").unwrap_or(""))?)?;
+    push_fixes(alloc, told, value)
+}
+
+/// Adds those places of a note that say something, or are elsewhere than where the diagnostic points.
+/// The first says this, if it has no label.
+fn push_noted_places(
+    alloc: Global,
+    told: &mut Diagnostic,
+    locations: &[Value],
+    first_text: &str,
+) -> Result<(), AllocError> {
+    for (number, location) in locations.iter().enumerate() {
+        let own_text = if number == 0 { first_text } else { "" };
+        let said = text(location, "label").unwrap_or(own_text);
+        if !said.is_empty() || is_elsewhere(told, location) {
+            push_place(alloc, told, location, said, false)?;
+        }
     }
     Ok(())
 }
 
-/// Whether locations begin elsewhere than where the diagnostic points.
-fn is_elsewhere(told: &Diagnostic, locations: &[Value]) -> bool {
-    let caret = locations.first().and_then(|it| it.get("caret"));
-    match (told.places.first(), caret) {
+/// Whether a location is elsewhere than where the diagnostic points.
+fn is_elsewhere(told: &Diagnostic, location: &Value) -> bool {
+    match (told.places.first(), location.get("caret")) {
         (_, None) => false,
         (None, Some(_)) => true,
         (Some(first), Some(caret)) => {
@@ -98,11 +161,14 @@ fn spot(value: &Value) -> Option<Spot> {
     })
 }
 
-/// Where a location ends: behind the character at its finish.
-fn end_of(location: &Value) -> End {
-    match location.get("finish").and_then(spot) {
-        Some(finish) => End::Behind(finish),
-        None => End::OfWord,
+/// Where a location ends: behind the character at its finish. gcc leaves that out where it is the caret;
+/// where it leaves the start out too, the location is one character, and the word there is meant.
+fn end_of(location: &Value, caret: Spot) -> End {
+    let finish = location.get("finish").and_then(spot);
+    match (finish, location.get("start")) {
+        (Some(finish), _) => End::Behind(finish),
+        (None, Some(_)) => End::Behind(caret),
+        (None, None) => End::OfWord,
     }
 }
 
@@ -124,8 +190,9 @@ fn push_place(
         file: String::from_str(alloc, text(caret, "file").unwrap_or(""))?,
         caret: point,
         start: location.get("start").and_then(spot).unwrap_or(point),
-        end: end_of(location),
+        end: end_of(location, point),
         unit: Unit::Byte,
+        is_past_mark: true,
         text: String::from_str(alloc, said)?,
         is_primary,
     })?;

@@ -1,9 +1,8 @@
 //! What is read of JSON: members by their names.
 
-ghost use Rattle.std.specs.Prelude.{◌≡◌, is_some, option_and_then, option_map};
-ghost use Rattle.serde_json.specs.Find.{as_array, get};
-ghost use Rattle.serde_json.specs.View.{view};
-ghost use Rattle.ariadne_told.specs.Told.{text_at};
+ghost use Rattle.std.specs.Prelude.{◌≡◌, is_some, option_map};
+ghost use Rattle.serde_json.specs.View.{items_view, view};
+ghost use Rattle.ariadne_told.specs.Told.{items_in, list_at, text_at};
 
 use serde_json::Value;
 use std::alloc::{AllocError, Global};
@@ -42,7 +41,7 @@ pub(crate) fn is_true(value: &Value, name: &str) -> bool {
 
 /// Whether a member is a list.
 pub(crate) fn has_list(value: &Value, name: &str) -> bool
-    ensures { result ≡ is_some (option_and_then as_array (get name.now (view value.now))) }
+    ensures { result ≡ is_some (list_at name.now (view value.now)) }
 {
     match value.get(name) {
         Some(member) => member.is_array(),
@@ -51,7 +50,9 @@ pub(crate) fn has_list(value: &Value, name: &str) -> bool
 }
 
 /// The items of a member that is a list; none where it is no list.
-pub(crate) fn items<'v>(value: &'v Value, name: &str) -> &'v [Value] {
+pub(crate) fn items<'v>(value: &'v Value, name: &str) -> &'v [Value]
+    ensures { items_view result.now ≡ items_in (list_at name.now (view value.now)) }
+{
     match value.get(name) {
         Some(member) => match member.as_array() {
             Some(items) => items.as_slice(),

@@ -1,29 +1,54 @@
 //! The program's own form: a report in one line of JSON.
 
+ghost use Rattle.std.specs.Prelude.{◌≡◌, is_some};
+ghost use Rattle.std.specs.List.{list_all};
+ghost use Rattle.serde_json.specs.View.{items_view, view};
+ghost use Rattle.ariadne_told.specs.Told.{all_items, begins_with_number, items_in, list_at, number_of};
+ghost use Rattle.ariadne_told.specs.Told.{is_label as is_of_label, is_report as is_of_report};
+
 use crate::diagnostic::{Diagnostic, End, Place, Severity, Spot};
-use crate::json::{copied_text, is_true, items, text};
+use crate::json::{copied_text, has_list, is_true, items, text};
 use ariadne_columns::Unit;
 use serde_json::Value;
 use std::alloc::{AllocError, Global};
 
 /// Whether a value is a report: an object with a known kind, a message, and labels of which each has a
 /// file and a start.
-pub(crate) fn is_report(value: &Value) -> bool {
+pub(crate) fn is_report(value: &Value) -> bool
+    ensures { result ≡ is_of_report (view value.now) }
+{
     text(value, "kind").and_then(Severity::of).is_some()
         && text(value, "message").is_some()
-        && value
-            .get("labels")
-            .is_some_and(|labels| labels.as_array().is_some())
-        && items(value, "labels").iter().all(is_label)
+        && has_list(value, "labels")
+        && are_labels(items(value, "labels"))
+}
+
+/// Whether values are labels.
+fn are_labels(values: &[Value]) -> bool
+    ensures { result ≡ all_items is_of_label (items_view values.now) }
+{
+    each_is_label(values)
+}
+
+/// Whether each of these values is a label.
+fn each_is_label(values: &[Value]) -> bool
+    ensures { result ≡ list_all (λ v. is_of_label (view v)) values.now }
+{
+    values.iter().all(|value| is_label(value))
 }
 
 /// Whether a value is a label.
-fn is_label(value: &Value) -> bool {
+fn is_label(value: &Value) -> bool
+    ensures { result ≡ is_of_label (view value.now) }
+{
     text(value, "file").is_some() && spot(value, "start").is_some()
 }
 
 /// A member that is a list of a line and a column, or of a line alone.
-fn spot(value: &Value, name: &str) -> Option<Spot> {
+fn spot(value: &Value, name: &str) -> Option<Spot>
+    ensures { is_some result
+        ≡ begins_with_number (items_in (list_at name.now (view value.now))) }
+{
     let numbers = items(value, name);
     Some(Spot {
         line: usize_of(numbers.first()?)?,
@@ -32,7 +57,9 @@ fn spot(value: &Value, name: &str) -> Option<Spot> {
 }
 
 /// A number of this machine.
-fn usize_of(value: &Value) -> Option<usize> {
+fn usize_of(value: &Value) -> Option<usize>
+    ensures { result ≡ number_of (view value.now) }
+{
     usize::try_from(value.as_u64()?).ok()
 }
 
@@ -51,12 +78,25 @@ pub(crate) fn told_by_report(alloc: Global, value: &Value) -> Result<Diagnostic,
     let message = text(value, "message").unwrap_or("");
     let mut told = Diagnostic::new(alloc, severity.unwrap_or(Severity::Error), message)?;
     told.code = copied_text(alloc, value, "code")?;
-    for label in items(value, "labels") {
-        push_label(alloc, &mut told, label, unit_of(value))?;
-    }
+    push_labels(alloc, &mut told, items(value, "labels"), unit_of(value))?;
     push_texts(alloc, &mut told.notes, items(value, "notes"))?;
     push_texts(alloc, &mut told.helps, items(value, "helps"))?;
     Ok(told)
+}
+
+/// Adds the places of labels. Where none is primary, the first one is.
+fn push_labels(
+    alloc: Global,
+    told: &mut Diagnostic,
+    labels: &[Value],
+    unit: Unit,
+) -> Result<(), AllocError> {
+    let has_primary = labels.iter().any(|label| is_true(label, "primary"));
+    for (number, label) in labels.iter().enumerate() {
+        let is_primary = is_true(label, "primary") || (number == 0 && !has_primary);
+        push_label(alloc, told, label, unit, is_primary)?;
+    }
+    Ok(())
 }
 
 /// Adds the place of a label.
@@ -65,6 +105,7 @@ fn push_label(
     told: &mut Diagnostic,
     label: &Value,
     unit: Unit,
+    is_primary: bool,
 ) -> Result<(), AllocError> {
     let Some(start) = spot(label, "start") else {
         return Ok(());
@@ -79,8 +120,9 @@ fn push_label(
         start,
         end,
         unit,
+        is_past_mark: false,
         text: String::from_str(alloc, text(label, "text").unwrap_or(""))?,
-        is_primary: is_true(label, "primary"),
+        is_primary,
     })?;
     Ok(())
 }

@@ -46,21 +46,21 @@ pub(crate) fn told_by_rustc(alloc: Global, value: &Value) -> Result<Diagnostic, 
     if let Some(code) = value.get("code") {
         told.code = copied_text(alloc, code, "code")?;
     }
-    for span in items(value, "spans") {
-        let own_text = text(span, "label").unwrap_or("");
-        push_place(
-            alloc,
-            &mut told,
-            span,
-            own_text,
-            is_true(span, "is_primary"),
-        )?;
-        push_macro_call(alloc, &mut told, span)?;
-    }
+    push_spans(alloc, &mut told, items(value, "spans"))?;
     for child in items(value, "children") {
         push_child(alloc, &mut told, child)?;
     }
     Ok(told)
+}
+
+/// Adds the places of spans, and those of the macro calls that made them.
+fn push_spans(alloc: Global, told: &mut Diagnostic, spans: &[Value]) -> Result<(), AllocError> {
+    for span in spans {
+        let own_text = text(span, "label").unwrap_or("");
+        push_place(alloc, told, span, own_text, is_true(span, "is_primary"))?;
+        push_macro_call(alloc, told, span)?;
+    }
+    Ok(())
 }
 
 /// Whether a diagnostic has no place, and sums up others or says where to read more.
@@ -71,12 +71,14 @@ fn is_sum(value: &Value, message: &str) -> bool {
             || message.ends_with(" emitted"))
 }
 
-/// Whether a span lies in a file that the user has.
+/// Whether a span lies in a file of the user's: in none that a macro made, and none of std, which is
+/// where rustup puts it, or is told by a path of the machine that built it.
 fn is_own(span: &Value) -> bool {
-    match text(span, "file_name") {
-        Some(name) => !name.starts_with('<') && !name.starts_with("/rustc/"),
-        None => false,
-    }
+    text(span, "file_name").is_some_and(|name| {
+        !name.starts_with('<')
+            && !name.starts_with("/rustc/")
+            && !name.contains("/rustlib/src/rust/")
+    })
 }
 
 /// The span itself, or that of the macro call that made it, where that is the user's own.
@@ -124,6 +126,7 @@ fn push_place(
         start,
         end,
         unit: Unit::Char,
+        is_past_mark: false,
         text: String::from_str(alloc, said)?,
         is_primary,
     })?;

@@ -1,5 +1,13 @@
 //! Which lines tell something, and what.
 
+ghost use Rattle.std.specs.Prelude.{◌≡◌, ◌<◌, [], ◌∷◌, None, is_some, option_map, vec_len};
+ghost use Rattle.std.specs.Prelude.{IfOk, IfSome};
+ghost use Rattle.serde_json.specs.View.{view};
+ghost use Rattle.ariadne_told.specs.Told.{begins_as_json as is_begun_as_json, tells_value};
+ghost use Rattle.ariadne_told.specs.Told.{value_in, IsTold, IsToldOf, IsToldOfHead};
+ghost use Rattle.ariadne_told.specs.Heads.{head_of_line};
+ghost use Rattle.ariadne_told.specs.declared.telling.Format.TheVariants.{Auto, Rustc, Gcc, Report};
+
 use crate::diagnostic::Diagnostic;
 use crate::gcc::{gcc_messages, told_by_gcc};
 use crate::lines::{line_told, told_by_line};
@@ -41,35 +49,70 @@ pub fn told(
     alloc: Global,
     reading: Reading,
     line: &str,
-) -> Result<Option<Vec<Diagnostic>>, AllocError> {
-    if line.starts_with('{') || line.starts_with('[') {
-        return told_by_json(alloc, reading.format, line);
+) -> Result<Option<Vec<Diagnostic>>, AllocError>
+    ensures told { IfOk result (λ told. IsTold reading.format line.now told) }
+    ensures some { IfOk result (λ told. IfSome told (λ all. 0 < vec_len all)) }
+{
+    match value_of(alloc, line)? {
+        Some(value) => told_by_value(alloc, reading.format, &value),
+        None => told_by_text(alloc, reading, line),
     }
-    let is_read = matches!(reading.format, Format::Auto | Format::Lines);
+}
+
+/// Whether a line begins as an object or a list of JSON.
+fn begins_as_json(line: &str) -> bool
+    ensures { result ≡ is_begun_as_json line.now }
+{
+    line.starts_with('{') || line.starts_with('[')
+}
+
+/// The value that a line is, if it is an object or a list of JSON.
+fn value_of(alloc: Global, line: &str) -> Result<Option<Value>, AllocError>
+    ensures { IfOk result (λ value. option_map view value ≡ value_in line.now) }
+{
+    if !begins_as_json(line) {
+        return Ok(None);
+    }
+    match Value::from_str(alloc, line) {
+        Ok(value) => Ok(Some(value)),
+        Err(error) if error.classify() == Category::Memory => Err(AllocError),
+        Err(_) => Ok(None),
+    }
+}
+
+/// What a line of text tells.
+fn told_by_text(
+    alloc: Global,
+    reading: Reading,
+    line: &str,
+) -> Result<Option<Vec<Diagnostic>>, AllocError>
+    ensures told { IfOk result (λ told. IsToldOf reading.format line.now None told) }
+    ensures some { IfOk result (λ told. IfSome told (λ all. 0 < vec_len all)) }
+{
+    match reading.format {
+        Format::Auto | Format::Lines => line_in(alloc, reading.unit, line),
+        Format::Rustc | Format::Gcc | Format::Report => Ok(None),
+    }
+}
+
+/// What a line of text tells that is read.
+fn line_in(alloc: Global, unit: Unit, line: &str) -> Result<Option<Vec<Diagnostic>>, AllocError>
+    ensures told { IfOk result (λ told. IsToldOfHead (head_of_line line.now) told) }
+    ensures some { IfOk result (λ told. IfSome told (λ all. 0 < vec_len all)) }
+{
     match line_told(line) {
-        Some(it) if is_read => Ok(Some(one(alloc, told_by_line(alloc, &it, reading.unit)?)?)),
-        _ => Ok(None),
+        Some(it) => Ok(Some(one(alloc, told_by_line(alloc, &it, unit)?)?)),
+        None => Ok(None),
     }
 }
 
 /// A list of one diagnostic.
-fn one(alloc: Global, told: Diagnostic) -> Result<Vec<Diagnostic>, AllocError> {
+fn one(alloc: Global, told: Diagnostic) -> Result<Vec<Diagnostic>, AllocError>
+    ensures { IfOk result (λ list. list.items ≡ told ∷ []) }
+{
     let mut list = Vec::new(alloc);
     list.push(told)?;
     Ok(list)
-}
-
-/// What a line of JSON tells.
-fn told_by_json(
-    alloc: Global,
-    format: Format,
-    line: &str,
-) -> Result<Option<Vec<Diagnostic>>, AllocError> {
-    match Value::from_str(alloc, line) {
-        Ok(value) => told_by_value(alloc, format, &value),
-        Err(error) if error.classify() == Category::Memory => Err(AllocError),
-        Err(_) => Ok(None),
-    }
 }
 
 /// What a value tells.
@@ -77,20 +120,62 @@ fn told_by_value(
     alloc: Global,
     format: Format,
     value: &Value,
-) -> Result<Option<Vec<Diagnostic>>, AllocError> {
-    let is_auto = format == Format::Auto;
-    if is_auto || format == Format::Rustc {
-        if let Some(message) = rustc_message(value) {
-            return Ok(Some(one(alloc, told_by_rustc(alloc, message)?)?));
-        }
+) -> Result<Option<Vec<Diagnostic>>, AllocError>
+    ensures told { IfOk result (λ told. is_some told ≡ tells_value format (view value.now)) }
+    ensures some { IfOk result (λ told. IfSome told (λ all. 0 < vec_len all)) }
+{
+    match format {
+        Format::Auto => any_in(alloc, value),
+        Format::Rustc => rustc_in(alloc, value),
+        Format::Gcc => gcc_in(alloc, value),
+        Format::Lines => Ok(None),
+        Format::Report => report_in(alloc, value),
     }
-    if is_auto || format == Format::Gcc {
-        if let Some(messages) = gcc_messages(value) {
-            return Ok(Some(told_by_gcc(alloc, messages)?));
-        }
+}
+
+/// What a value of any form tells.
+fn any_in(alloc: Global, value: &Value) -> Result<Option<Vec<Diagnostic>>, AllocError>
+    ensures told { IfOk result (λ told. is_some told ≡ tells_value Auto (view value.now)) }
+    ensures some { IfOk result (λ told. IfSome told (λ all. 0 < vec_len all)) }
+{
+    if let Some(all) = rustc_in(alloc, value)? {
+        return Ok(Some(all));
     }
-    if (is_auto || format == Format::Report) && is_report(value) {
-        return Ok(Some(one(alloc, told_by_report(alloc, value)?)?));
+    if let Some(all) = gcc_in(alloc, value)? {
+        return Ok(Some(all));
     }
-    Ok(None)
+    report_in(alloc, value)
+}
+
+/// What a value tells as rustc and cargo write it.
+fn rustc_in(alloc: Global, value: &Value) -> Result<Option<Vec<Diagnostic>>, AllocError>
+    ensures told { IfOk result (λ told. is_some told ≡ tells_value Rustc (view value.now)) }
+    ensures some { IfOk result (λ told. IfSome told (λ all. 0 < vec_len all)) }
+{
+    match rustc_message(value) {
+        Some(message) => Ok(Some(one(alloc, told_by_rustc(alloc, message)?)?)),
+        None => Ok(None),
+    }
+}
+
+/// What a value tells as gcc writes it.
+fn gcc_in(alloc: Global, value: &Value) -> Result<Option<Vec<Diagnostic>>, AllocError>
+    ensures told { IfOk result (λ told. is_some told ≡ tells_value Gcc (view value.now)) }
+    ensures some { IfOk result (λ told. IfSome told (λ all. 0 < vec_len all)) }
+{
+    match gcc_messages(value) {
+        Some(messages) => Ok(Some(told_by_gcc(alloc, messages)?)),
+        None => Ok(None),
+    }
+}
+
+/// What a value tells in the program's own form.
+fn report_in(alloc: Global, value: &Value) -> Result<Option<Vec<Diagnostic>>, AllocError>
+    ensures told { IfOk result (λ told. is_some told ≡ tells_value Report (view value.now)) }
+    ensures some { IfOk result (λ told. IfSome told (λ all. 0 < vec_len all)) }
+{
+    if !is_report(value) {
+        return Ok(None);
+    }
+    Ok(Some(one(alloc, told_by_report(alloc, value)?)?))
 }

@@ -1,4 +1,4 @@
-use Rattle.ariadne_show.specs.Shown.{no_picture, one_picture_more}
+use Rattle.ariadne_show.specs.Drawn.{no_picture, one_picture_more}
 use Rattle.ariadne_show.proofs.drawing.draw_asides.Goals as goal
 
 -- none at first

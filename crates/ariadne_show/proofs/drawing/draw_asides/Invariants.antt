@@ -1,4 +1,4 @@
-use Rattle.ariadne_show.specs.Shown.{AreDrawn}
+use Rattle.ariadne_show.specs.Drawn.{AreDrawn}
 use Rattle.ariadne_show.proofs.drawing.draw_asides.Given as goal
 
 -- the texts that are passed have been drawn

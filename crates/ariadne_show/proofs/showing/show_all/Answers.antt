@@ -1,11 +1,25 @@
-use Rattle.ariadne_show.specs.Shown.{no_picture}
-use Rattle.ariadne_show.proofs.Chains.{some_then}
+use Rattle.std.proofs.Common.{◌≡◌, ◌∙◌, ◌+◌, ◌++◌, ◌∷◌, [], List, ap, subst, sym, take}
+use Rattle.std.proofs.lemmas.List.{take_more}
+use Rattle.ariadne_told.specs.declared.diagnostic.Diagnostic.{Diagnostic}
+use Rattle.ariadne_show.specs.declared.sum.Sum.{Sum}
+use Rattle.ariadne_show.specs.Shown.{AreTold, none_told, one_told_more}
 use Rattle.ariadne_show.proofs.showing.show_all.Goals as goal
 
 -- none at first
 pub loop-told-init : goal.loop-told-init
-loop-told-init g c = no_picture
+loop-told-init g c = none_told
 
--- those of one more in each turn
+-- one more in each turn
 pub loop-told-preserved : goal.loop-told-preserved
-loop-told-preserved g c = some_then _ _ _ c.loop-told.invariant c.in_ok-show_one.ensures
+loop-told-preserved g c =
+    let i = c.loop-told.told-index in
+    let all = c.args.all.now in
+    let told = c.told-item.result in
+    let before = g.W.Write.contents c.args.out.now in
+    let after = g.W.Write.contents c.show_one.new.out in
+    let more : take (i + 1) all ≡ take i all ++ told ∷ [] =
+    take_more all i told c.loop-told-test.true ∙ ap (λ x. take i all ++ x ∷ []) (sym c.told-item.is) in
+    subst (λ (part : List Diagnostic). AreTold part before after c.args.sum.now c.show_one.new.sum) (sym more)
+    (subst (λ (sum : Sum). AreTold (take i all ++ told ∷ []) before after c.args.sum.now sum)
+    (sym c.in_ok-show_one.ensures.counted)
+    (one_told_more c.loop-told.invariant told c.in_ok-show_one.ensures.drawn))

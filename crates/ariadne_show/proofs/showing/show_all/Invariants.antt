@@ -1,6 +1,9 @@
-use Rattle.ariadne_show.specs.Shown.{AreDrawn}
+use Rattle.std.specs.Prelude.{take}
+use Rattle.ariadne_show.specs.Shown.{AreTold}
 use Rattle.ariadne_show.proofs.showing.show_all.Given as goal
 
--- the diagnostics that are passed have been drawn
+-- the diagnostics that are passed have been drawn and counted
 abbrev pub invariant-loop-told : goal.invariant-loop-told
-invariant-loop-told g l = AreDrawn (g.W.Write.contents l.initial.out) (g.W.Write.contents l.out)
+invariant-loop-told g l =
+    AreTold (take l.told-index l.all) (g.W.Write.contents l.initial.out) (g.W.Write.contents l.out)
+    l.initial.sum l.sum

@@ -11,8 +11,9 @@ lines-init g c = no_line
 pub lines-preserved : goal.lines-preserved
 lines-preserved g c =
     one_line_more c.lines.invariant c.read_line.new.line.items (c.in_ok-more.ensures).line
-    (subst (λ (line : List ℕ). IsShownOf line (g.W.Write.contents c.lines.out) (g.W.Write.contents c.show_line.new.out))
-    c.as_slice.ensures.value c.in_ok-show_line.ensures)
+    (subst (λ (line : List ℕ). IsShownOf c.args.options.reading.format line (g.W.Write.contents c.lines.out)
+    (g.W.Write.contents c.show_line.new.out) c.lines.sum c.show_line.new.sum c.in_ok-shown.shown)
+    c.as_slice.ensures.value c.in_ok-shown.ensures)
 
 -- none is left
 pub returns-then-not-more : goal.returns-then-not-more

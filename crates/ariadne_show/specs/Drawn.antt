@@ -1,0 +1,88 @@
+-- What is drawn of a diagnostic: pictures of reports over the files that were read, of which the first
+-- has the diagnostic's kind, its code and its message. What input and output know of their bytes is
+-- given before and after each step.
+use Rattle.std.specs.Prelude.{ℕ, ◌≡◌, List, ◌++◌, Option, Some, None, option_map, Ok, Vec}
+use Rattle.std.specs.Prelude.{String, string_bytes, ⊤}
+use Rattle.std.specs.declared.alloc.Global.{Global}
+use Rattle.std.specs.declared.ops.Range.{Range}
+use Rattle.ariadne.specs.Building.{filled_code}
+use Rattle.ariadne.specs.LeftOut.{LeftOut}
+use Rattle.ariadne.specs.Report.{Kind, ReportFields, error, warning}
+use Rattle.ariadne_visible.specs.Pictures.{GotNothingHidden}
+use Rattle.ariadne_visible.specs.Visible.{visible_bytes}
+use Rattle.ariadne_visible.specs.declared.text.TextKind.TheVariants.{OneRow}
+use Rattle.ariadne_safe.specs.Reports.{WrittenFor}
+use Rattle.ariadne_safe.specs.declared.sources.SafeSource.{SafeSource}
+use Rattle.ariadne_safe.specs.declared.sources.NoSource.{NoSource}
+use Rattle.ariadne_told.specs.declared.diagnostic.Diagnostic.{Diagnostic}
+use Rattle.ariadne_told.specs.declared.diagnostic.Severity.{Severity}
+use Rattle.ariadne_told.specs.declared.diagnostic.Severity.TheVariants.{Error, Warning, Note}
+
+-- ---- what a report is about
+
+-- errors and warnings are of these kinds
+abbrev pub IsOfKind : Severity → Kind → Type 0
+IsOfKind Error kind = kind ≡ error
+IsOfKind Warning kind = kind ≡ warning
+IsOfKind Note kind = ⊤
+
+-- a report has the kind, the code and the message of a diagnostic, as they can be shown; the place may
+-- stand before the message, and why that is not drawn behind it
+pub record IsAbout (told : Diagnostic) (report : ReportFields (ℕ × Range ℕ)) : Type 0 where
+  pub kind : IsOfKind told.severity report.kind
+  pub code : report.code
+      ≡ option_map (λ code. filled_code (visible_bytes OneRow (string_bytes code))) told.code
+  pub before : List ℕ
+  pub behind : List ℕ
+  pub message : report.message
+      ≡ Some (visible_bytes OneRow (before ++ string_bytes told.message ++ behind))
+
+-- a text has the message of a diagnostic in it
+abbrev pub Says : Diagnostic → List ℕ → Type 0
+Says told text =
+    (before : List ℕ) × (behind : List ℕ) × (text ≡ before ++ string_bytes told.message ++ behind)
+
+-- a report with the code of a diagnostic, if it has one
+abbrev pub coded : Option (String Global) → ReportFields (ℕ × Range ℕ) → ReportFields (ℕ × Range ℕ)
+coded None report = report
+coded (Some code) report =
+    record report { code = Some (filled_code (visible_bytes OneRow (string_bytes code))) }
+
+-- two reports have one head
+pub record HaveOneHead (r s : ReportFields (ℕ × Range ℕ)) : Type 0 where
+  pub kind : s.kind ≡ r.kind
+  pub code : s.code ≡ r.code
+  pub message : s.message ≡ r.message
+
+-- ---- pictures
+
+-- the picture of a report over sources has reached the output, and hides nothing
+pub record IsPicture (sources : List SafeSource) (report : ReportFields (ℕ × Range ℕ))
+    (before after : Option (List ℕ)) : Type 0 where
+  pub left_out : Vec (LeftOut NoSource) Global
+  pub written : WrittenFor sources report before after (Ok left_out)
+  pub hides : GotNothingHidden before after
+
+-- that of some report has
+pub record IsDrawn (before after : Option (List ℕ)) : Type 0 where
+  pub sources : List SafeSource
+  pub report : ReportFields (ℕ × Range ℕ)
+  pub picture : IsPicture sources report before after
+
+-- pictures have, one behind the other
+pub data AreDrawn : Option (List ℕ) → Option (List ℕ) → Type 0 where
+  no_picture : {o : Option (List ℕ)} → AreDrawn o o
+  one_picture_more : {o p q : Option (List ℕ)} → AreDrawn o p → IsDrawn p q → AreDrawn o q
+
+-- that of a report about a diagnostic has
+pub record IsHeadDrawn (told : Diagnostic) (before after : Option (List ℕ)) : Type 0 where
+  pub sources : List SafeSource
+  pub report : ReportFields (ℕ × Range ℕ)
+  pub about : IsAbout told report
+  pub picture : IsPicture sources report before after
+
+-- and then those of what it says beside, if it is not all in one
+pub record IsToldDrawn (told : Diagnostic) (before after : Option (List ℕ)) : Type 0 where
+  pub between : Option (List ℕ)
+  pub head : IsHeadDrawn told before between
+  pub others : AreDrawn between after

@@ -1,0 +1,25 @@
+-- Lists of values, and their items.
+use Rattle.std.proofs.Common.{◌≡◌, ap, refl, arith}
+use Rattle.std.specs.Prelude.{ℕ, ◌<◌, Bool, true, false, ◌&&◌, List, [], ◌∷◌, length}
+use Rattle.std.specs.List.{list_all}
+use Rattle.serde_json.specs.Data.{Data}
+use Rattle.serde_json.specs.View.{items_view, view}
+use Rattle.serde_json.specs.declared.value.Value.{Value}
+use Rattle.ariadne_told.specs.Told.{all_items, is_gcc, is_gcc_list}
+
+-- items pass where their values do
+pub all_view : (test : Data → Bool) (values : List Value)
+    → all_items test (items_view values) ≡ list_all (λ v. test (view v)) values
+all_view test [] = refl
+all_view test (v ∷ values) = ap (λ b. test (view v) && b) (all_view test values)
+
+-- no value is no list of gcc's
+pub gcc_none : (values : List Value) → length values ≡ 0 → is_gcc_list (items_view values) ≡ false
+gcc_none [] none = refl
+gcc_none (v ∷ values) none = absurd (omega arith)
+
+-- one at least is one where each is a diagnostic
+pub gcc_some : (values : List Value) → 0 < length values
+    → is_gcc_list (items_view values) ≡ list_all (λ v. is_gcc (view v)) values
+gcc_some [] some = absurd (omega arith)
+gcc_some (v ∷ values) some = ap (λ b. is_gcc (view v) && b) (all_view is_gcc values)

@@ -1,0 +1,29 @@
+-- What is held of a line of text while it is read.
+use Rattle.std.specs.Prelude.{ℕ, ◌≡◌, ◌+◌, List, ◌∷◌, ◌++◌, drop, option_map, take}
+use Rattle.std.specs.Str.{IsCharBoundary}
+use Rattle.ariadne_told.specs.Heads.{Head, colons_from}
+use Rattle.ariadne_told.specs.declared.lines.ToldLine.{ToldLine}
+
+-- the head that its pieces are
+abbrev pub head_told : ToldLine → Head
+head_told told = record {
+  file = told.file.now;
+  start = told.start;
+  ranges = told.ranges.now;
+  severity = told.severity;
+  code = option_map (λ code. code.now) told.code;
+  message = told.message.now;
+}
+
+-- a line is cut at the next of its colons from a place on
+pub record IsCutAtColon (line : List ℕ) (from : ℕ) (front rest : List ℕ) (next : ℕ) : Type 0 where
+  pub at : ℕ
+  pub is_next : colons_from from (drop from line) ≡ at ∷ colons_from (at + 1) (drop (at + 1) line)
+  pub before : front ≡ take at line
+  pub behind : rest ≡ drop (at + 1) line
+  pub goes_on : next ≡ at + 1
+  pub is_boundary : IsCharBoundary line next
+
+-- a list goes on behind another
+abbrev pub GoesOn : {T : Type 0} → List T → List T → Type 0
+GoesOn {T} before after = (others : List T) × (after ≡ before ++ others)
