@@ -1,22 +1,25 @@
 """A small terminal: what a reader sees of some bytes, and what else they did.
 
-It obeys what terminals in use obey, as far as a picture could misuse it: moves of the cursor, erasing,
-scrolling back, hidden text, titles, clipboards and links, strings that swallow what follows, backspaces,
-tabs and carriage returns, the controls of the second page, and marks that turn the direction of a text.
+It obeys what terminals in use obey, as far as a picture could misuse it. It moves its cursor, erases,
+scrolls back, hides text, and has titles, clipboards and links. Strings swallow what follows. It obeys
+backspaces, tabs, carriage returns and the controls of the second page, and tells marks that turn a text.
 A line feed begins the next row, as on a terminal in its usual mode. Columns aren't told apart by width.
 """
 
 import re
 from dataclasses import dataclass, field
 
+from pages import rows_of, trimmed
+
 # ESC [ with its parameters, or what begins a string that lasts to BEL, ESC \ or U+009C.
 SEQUENCE = re.compile(r"(?:\x1b\[|\x9b)([0-?]*)[ -/]*([@-~])")
 STRING = re.compile(r"(?:\x1b[\]PX^_]|[\x90\x98\x9d-\x9f])(.*?)(?:\x07|\x1b\\|\x9c|\Z)", re.DOTALL)
 DIRECTION_MARKS = "\u061c\u200e\u200f\u202a\u202b\u202c\u202d\u202e\u2066\u2067\u2068\u2069"
+# The first of the characters that are not seen, and the one behind the last.
 UNSEEN = (
-    "\u200b\u200c\u200d\u2028\u2029\u2060\u2061\u2062\u2063\u2064\u2065"
-    "\u206a\u206b\u206c\u206d\u206e\u206f\ufeff\U000e0001\U000e0041"
-)
+    (0x180B, 0x1810), (0x200B, 0x200E), (0x2028, 0x202A), (0x2060, 0x2066), (0x206A, 0x2070),
+    (0xFEFF, 0xFF00), (0xFFF0, 0xFFFC), (0xE0000, 0xE1000),
+)  # fmt: skip
 TITLES, LINK, CLIPBOARD = ("0", "1", "2"), "8", "52"
 
 
@@ -32,7 +35,7 @@ class Screen:
 
     def text(self):
         """What is seen, row by row, without the blanks at the ends of rows."""
-        return ["".join(row).rstrip(" ") for row in self.rows]
+        return trimmed("".join(row) for row in self.rows)
 
     def put(self, character):
         """Shows a character where the cursor is, in place of what stands there."""
@@ -158,7 +161,7 @@ def shown(text):
             screen.control(character)
         elif character in DIRECTION_MARKS:
             screen.misused.append(f"mark {ord(character):#06x}")
-        elif character in UNSEEN:
+        elif any(first <= ord(character) < behind for first, behind in UNSEEN):
             screen.misused.append(f"unseen {ord(character):#06x}")
         else:
             screen.put(character)
@@ -181,7 +184,7 @@ def faults_of(picture):
     """What is wrong with a picture on a terminal: what it did beside showing text, and the first row that
     is not seen as it is sent. A picture that hides nothing has none."""
     screen = shown(picture)
-    rows = [row.rstrip(" ") for row in COLORS.sub("", picture).split("\n")]
+    rows = rows_of(COLORS.sub("", picture))
     seen = screen.text()
     different = [(number, row) for number, row in enumerate(rows) if seen[number : number + 1] != [row]]
     return screen.misused + [f"row {number + 1} is not seen: {row!r}" for number, row in different[:1]]

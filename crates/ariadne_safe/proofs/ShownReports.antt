@@ -24,8 +24,9 @@ use Rattle.ariadne_safe.specs.Reports.{over, says_number}
 use Rattle.ariadne_safe.proofs.Numbers.{names_are_shown, sources_are_shown}
 use Rattle.ariadne_visible.specs.declared.text.TextKind.TheVariants.{OneRow}
 use Rattle.ariadne_visible.specs.Visible.{is_hidden, is_seen_in, is_shown}
-use Rattle.ariadne_visible.specs.Pictures.{is_shown_report, GotNothingHidden}
+use Rattle.ariadne_visible.specs.Pictures.{is_shown_report, HideNothing, IsDrawnSafely, GotNothingHidden}
 use Rattle.ariadne_visible.proofs.SafePictures.{parts_shown, report_shown, pictures_hide_nothing}
+use Rattle.ariadne_visible.proofs.SafeReports.{drawn_safely}
 
 -- ---- kinds
 
@@ -85,14 +86,21 @@ coded_shown r code h seen =
 
 -- ---- what is sent
 
--- the picture of a report that hides nothing
+-- sources and their names hide nothing
+nothing_hidden : (sources : List SafeSource) (r : ReportFields (ℕ × Range ℕ)) → is_shown_report r ≡ true → HideNothing (over sources) r
+nothing_hidden sources r shown = record { texts = shown; names = names_are_shown sources; sources = sources_are_shown sources }
+
+-- so a report that hides nothing is drawn safely over them
+pub safely : (sources : List SafeSource) (r : ReportFields (ℕ × Range ℕ)) → is_shown_report r ≡ true → IsDrawnSafely (over sources) r
+safely sources r shown = drawn_safely (over sources) r (nothing_hidden sources r shown)
+
+-- and its picture hides nothing
 pub hidden_none : (old new : List SafeSource) (r : ReportFields (ℕ × Range ℕ)) (before after : Option (List ℕ))
     (result : Result (Vec (LeftOut NoSource) Global) WriteError) → is_shown_report r ≡ true
     → Written {E = NoSource} says_number (over old) (over new) r before after result → OnOk result (GotNothingHidden before after)
 hidden_none old new r before after (Ok list) shown w = (
   printed (canvas (over new) r (drawn_labels (over new) r.config 0 r.labels w.reasons)),
-  pictures_hide_nothing (over new) r (drawn_labels (over new) r.config 0 r.labels w.reasons)
-      (record { texts = shown; names = names_are_shown new; sources = sources_are_shown new }),
-  w.sent,
+  pictures_hide_nothing (over new) r (drawn_labels (over new) r.config 0 r.labels w.reasons) (nothing_hidden new r shown),
+  w.traced.exactly_the_printed_canvas_was_sent,
 )
 hidden_none old new r before after (Err e) shown w = tt

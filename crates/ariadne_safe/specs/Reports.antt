@@ -1,5 +1,5 @@
--- Reports whose texts hide nothing, over sources that hide nothing: what each call makes of what it is
--- given, and what has reached a writer.
+-- Reports whose texts hide nothing, over sources that hide nothing: what each call makes of what it
+-- is given, and what has reached a writer.
 use Rattle.std.specs.Prelude.{ℕ, ◌-◌, ◌^◌, ◌≡◌, max, min, nat_eq, List, Option, option_map, slice_get}
 use Rattle.std.specs.Prelude.{unwrap_or, Result, Vec}
 use Rattle.std.specs.declared.alloc.Global.{Global}
@@ -15,6 +15,7 @@ use Rattle.ariadne_visible.specs.declared.text.TextKind.TheVariants.{OneRow}
 use Rattle.ariadne_safe.specs.declared.sources.SafeSource.{SafeSource}
 use Rattle.ariadne_safe.specs.declared.sources.NoSource.{NoSource}
 use Rattle.ariadne_visible.specs.Visible.{visible_bytes}
+use Rattle.ariadne_visible.specs.Pictures.{IsDrawnSafely}
 use Rattle.ariadne_safe.specs.Sources.{numbered, name_at, offset_in}
 
 -- ---- labels
@@ -59,9 +60,15 @@ pub record HaveGrown (labels : List (LabelFields (ℕ × Range ℕ)))
   pub naming : (q : ℕ) → name_at new q ≡ name_at old q
   pub grows : GrowsFor {S = ℕ × Range ℕ} (λ s. s.0) nat_eq labels (numbered old) (numbered new)
 
--- what has reached a writer of a report over sources, by the answer
-abbrev pub WrittenFor : List SafeSource → ReportFields (ℕ × Range ℕ) → Option (List ℕ)
-    → Option (List ℕ) → Result (Vec (LeftOut NoSource) Global) WriteError → Type 0
-WrittenFor old r before after result =
-    (new : List SafeSource) × HaveGrown r.labels old new
-    × Written {E = NoSource} says_number (over old) (over new) r before after result
+-- what has reached a writer of a report over sources, by what the call returns. That the report is drawn
+-- safely holds whether or not the writer's bytes are known. `new` are the sources that it was drawn
+-- over. They stand behind a shared reference, so the call adds none; but of a cache `write` of the
+-- crate below says only that it holds what it held, and beyond that at most sources of labels. So
+-- they are named here, and `grown` says as much of them
+pub record WrittenFor (old : List SafeSource) (r : ReportFields (ℕ × Range ℕ))
+    (before after : Option (List ℕ)) (result : Result (Vec (LeftOut NoSource) Global) WriteError)
+    : Type 0 where
+  pub new : List SafeSource
+  pub grown : HaveGrown r.labels old new
+  pub safe : IsDrawnSafely (over new) r
+  pub written : Written {E = NoSource} says_number (over old) (over new) r before after result

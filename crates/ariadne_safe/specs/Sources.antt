@@ -1,5 +1,5 @@
--- Sources that can be shown, by their numbers: what they are called, how they are shown, and what was
--- given. Offsets in bytes are those of the given texts, and are found in the shown ones.
+-- Sources that can be shown, by their numbers: what they are called, how they are shown, and what
+-- was given. Offsets in bytes are those of the given texts, and are found in the shown ones.
 use Rattle.std.specs.Prelude.{ℕ, ◌+◌, ◌-◌, min, nat_lt, if◌then◌else◌, List, [], ◌∷◌, map}
 use Rattle.std.specs.Prelude.{Option, option_map, option_and_then, slice_get, unwrap_or}
 use Rattle.std.specs.Prelude.{string_bytes, chars}
@@ -34,6 +34,10 @@ name_of s = option_map string_bytes s.name
 abbrev pub given_of : SafeSource → List ℕ
 given_of s = unwrap_or (option_map string_bytes s.given) s.source.text
 
+-- what ends its lines
+abbrev pub line_ends_of : SafeSource → LineEnds
+line_ends_of s = s.lines
+
 -- the sources, of which the first has the number 0
 abbrev pub sources_of : SafeSources → List SafeSource
 sources_of s = s.sources.items
@@ -49,8 +53,8 @@ name_at sources k = option_and_then name_of (slice_get sources k)
 -- ---- offsets
 
 -- where an offset in bytes of a text stands among the bytes that are shown of it. One before a
--- character stands before its sign, one inside a character behind the first byte of its sign, and one
--- past the text as far past what is shown, or 2 past it where it is farther
+-- character stands before its sign, one inside a character behind the first byte of its sign, and
+-- one past the text as far past what is shown, or 2 past it where it is farther
 unfoldable pub shown_offset : TextKind → List ℕ → ℕ → ℕ
 shown_offset kind [] o = min o 2
 shown_offset kind (c ∷ t) o =

@@ -1,5 +1,5 @@
-//! Safe reports: whatever sources, names and messages hold, every escape of a picture is the library's
-//! own, and what a reader sees is what the source holds.
+//! Safe reports: whatever sources, names and messages hold, every escape of a picture is the
+//! library's own, and a sign stands for each character that `visible` lists as hidden.
 #![tactic(auto)]
 
 mod places;

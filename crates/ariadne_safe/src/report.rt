@@ -18,7 +18,7 @@ use std::io::Write;
 use std::ops::Range;
 
 /// A kind of report whose name hides nothing.
-#[derive(Clone, Copy)]
+#[derive(Clone, Copy, Debug)]
 pub struct SafeKind<'a> {
     kind: ReportKind<'a>,
     ghost name_is_shown: { is_shown OneRow (shown_kind kind) ≡ true },
@@ -70,7 +70,7 @@ impl<'a> SafeKind<'a> {
 }
 
 /// What a report in the making is over: sources, and what offsets into them count.
-#[derive(Clone, Copy)]
+#[derive(Clone, Copy, Debug)]
 struct Basis<'a> {
     sources: &'a SafeSources,
     index_type: IndexType,
@@ -79,7 +79,7 @@ struct Basis<'a> {
 
 /// A safe report in the making, over sources that are there. A call that is refused memory drops
 /// it.
-#[derive(Drop)]
+#[derive(Debug, Drop)]
 pub struct SafeBuilder<'a> {
     basis: Basis<'a>,
     report: ReportBuilder<'a, (usize, Range<usize>)>,
@@ -96,7 +96,8 @@ impl<'a> SafeBuilder<'a> {
     /// Begins a report of this kind, with this configuration, over these sources.
     ///
     /// `place` is what the header of its picture names: the number of a source, and a piece of its
-    /// given text, in what the configuration counts.
+    /// given text, in what the configuration counts, characters or bytes, from 0, the end
+    /// exclusive.
     pub fn new(
         alloc: Global,
         sources: &'a SafeSources,
@@ -171,7 +172,7 @@ impl<'a> SafeBuilder<'a> {
     /// The report with one label more, behind those that it has.
     ///
     /// The label's span is the number of its source, and a piece of the given text, in what the
-    /// configuration counts.
+    /// configuration counts, characters or bytes, from 0, the end exclusive.
     pub fn with_label(
         self,
         label: Label<(usize, Range<usize>)>,
@@ -202,7 +203,7 @@ impl<'a> SafeBuilder<'a> {
 }
 
 /// A report that is ready to be written, over its sources. Neither hides anything.
-#[derive(Drop)]
+#[derive(Debug, Drop)]
 pub struct SafeReport<'a> {
     sources: &'a SafeSources,
     report: Report<'a, (usize, Range<usize>)>,
@@ -215,9 +216,15 @@ impl<'a> SafeReport<'a> {
 
     /// Draws the report over its sources and sends the picture to `out`, as `Report::write` does.
     ///
-    /// After `Ok` the picture hides nothing: outside of the sequences `ESC [ digits and semicolons
-    /// m` of its colours it has no control but the line feeds at the ends of its rows, and no
-    /// character that turns the direction of a text or isn't seen.
+    /// No picture that it draws hides anything: no text of it has an escape, so each is that of a
+    /// colour of the library's own, and with colours off there is none. Outside of the colours,
+    /// `ESC [ digits and semicolons m`, the only hidden characters are the line feeds at the ends
+    /// of rows.
+    ///
+    /// A label is left out where no source has its number, and where `write` of `Report` leaves it
+    /// out; the result lists these by their positions, from 0. On `Memory` nothing was sent. On
+    /// `Io` the writer failed: it has taken exactly the first `sent` bytes of the picture, which
+    /// has more. The report is as it was after each result, and can be written again.
     pub fn write<W: Write>(&self, out: &mut W) -> Result<Vec<LeftOut<NoSource>>, WriteError>
         ensures written { WrittenFor (sources_below self.now) (report_of self.now)
             (W.contents out.old) (W.contents out.new) result }

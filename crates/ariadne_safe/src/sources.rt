@@ -48,7 +48,7 @@ impl LineEnds {
 /// It is made of any text: a sign stands for each hidden character. Offsets in characters are those
 /// of the given text; offsets in bytes are too, and are found in the shown one where a label is
 /// added to a report.
-#[derive(Drop)]
+#[derive(Debug, Drop)]
 pub struct SafeSource {
     name: Option<String>,
     source: Source,
@@ -59,7 +59,8 @@ pub struct SafeSource {
 }
 
 impl SafeSource {
-    ghost use Rattle.ariadne_safe.specs.Sources.{kind_of, listing_of, name_of, given_of, offset_in};
+    ghost use Rattle.ariadne_safe.specs.Sources.{kind_of, listing_of, name_of, given_of};
+    ghost use Rattle.ariadne_safe.specs.Sources.{line_ends_of, offset_in};
 
     /// A source of a text, without a name. Its display offset is 0.
     ///
@@ -68,6 +69,7 @@ impl SafeSource {
         ensures text { IfOk result (λ s. listing_of s ≡ record
             { text = visible_bytes (kind_of lines) text.now; display_offset = 0 }) }
         ensures given { IfOk result (λ s. given_of s ≡ text.now) }
+        ensures lines { IfOk result (λ s. line_ends_of s ≡ lines) }
         ensures unnamed { IfOk result (λ s. name_of s ≡ None) }
     {
         let shown = visible(alloc, text, lines.kind())?;
@@ -87,6 +89,7 @@ impl SafeSource {
         ensures name { IfOk result (λ s. name_of s ≡ Some (visible_bytes OneRow name.now)) }
         ensures text { IfOk result (λ s. listing_of s ≡ listing_of self) }
         ensures given { IfOk result (λ s. given_of s ≡ given_of self) }
+        ensures lines { IfOk result (λ s. line_ends_of s ≡ line_ends_of self) }
     {
         let SafeSource {
             name: _,
@@ -111,6 +114,7 @@ impl SafeSource {
         ensures text { listing_of result ≡ record (listing_of self) { display_offset = offset } }
         ensures name { name_of result ≡ name_of self }
         ensures given { given_of result ≡ given_of self }
+        ensures lines { line_ends_of result ≡ line_ends_of self }
     {
         let SafeSource {
             name,
@@ -140,7 +144,8 @@ impl SafeSource {
         self.name.as_deref()
     }
 
-    /// Where an offset into the given text stands in the shown one.
+    /// Where an offset into the given text stands in the shown one. Both count from 0, and serve as
+    /// the start of a piece, or as its end, which is exclusive.
     ///
     /// An offset in characters stays. One in bytes stands before the sign of its character, or
     /// inside the sign where it lies inside the character; one past the text stands past the shown
@@ -172,7 +177,7 @@ fn given_if_other(alloc: Global, text: &str, shown: &str) -> Result<Option<Strin
 }
 
 /// Sources that can be shown, by their numbers, which count from 0. They are a cache over `usize`.
-#[derive(Drop)]
+#[derive(Debug, Drop)]
 pub struct SafeSources {
     sources: Vec<SafeSource>,
 }

@@ -2,3 +2,4 @@ pub mod Signs
 pub mod SeenTexts
 pub mod SafePictures
 pub mod VisibleLaws
+pub mod SafeReports

@@ -21,7 +21,7 @@ use Rattle.ariadne_picture.proofs.Variants.PlainTexts.{every-cell}
 use Rattle.ariadne_picture.proofs.Variants.Escapes.{unescaped-printed}
 use Rattle.ariadne_visible.specs.declared.text.TextKind.TheVariants.{OneRow, Aside, Lines}
 use Rattle.ariadne_visible.specs.Visible.{is_hidden, is_shown}
-use Rattle.ariadne_visible.specs.Pictures.{is_hidden_in_row, HidesNothing, is_shown_if_any, is_shown_report, HideNothing}
+use Rattle.ariadne_visible.specs.Pictures.{is_hidden_in_row, HidesNothing, AreCellsShown, is_shown_if_any, is_shown_report, HideNothing}
 use Rattle.ariadne_visible.proofs.SeenTexts.{IsSeen, kept_seen, row_seen, aside_seen, source_seen}
 
 -- ---- no escape
@@ -39,7 +39,7 @@ seen_clean (c ∷ cs) n =
     clean-append 27 (encode_utf8 c) (encode_utf8_all cs)
     (clean-encode 27 control c (λ e. true≢false (sym escape_is_hidden ∙ ap is_hidden (sym e) ∙ n.0))) (seen_clean cs n.1)
 
-unescaped_text : (t : List ℕ) → IsSeen t → HasNoEscape t
+pub unescaped_text : (t : List ℕ) → IsSeen t → HasNoEscape t
 unescaped_text t h = clean-test 27 t (subst (IsClean 27) h.1 (seen_clean h.0 h.2))
 
 -- ---- rows
@@ -64,7 +64,7 @@ feed_in_row : IsInRow (10 ∷ [])
 feed_in_row = (10 ∷ [], append-nil (encode_utf8 10) ∙ encode_ascii 10 (omega arith), (feed_passes, tt))
 
 -- cells that are seen, without colours
-abbrev AreSeen : List Cell → Type 0
+abbrev pub AreSeen : List Cell → Type 0
 AreSeen row = AllByRecursion (λ (c : Cell). IsSeen c.text) row
 
 cells_in_row : (row : List Cell) → AreSeen row → IsInRow (joined cell_bytes (map (λ (c : Cell). record c { color = None }) row))
@@ -150,12 +150,12 @@ report_shown {S} r p =
     (and_from (kind && code && message) labels
     (and_from (kind && code) message (and_from kind code p.kind p.code) p.message) p.labels) p.notes) p.helps
 
--- so the picture hides nothing
-pub pictures_hide_nothing : {S Id : Type 0} (w : World S Id) (r : ReportFields S) (infos : List LabelInfo) → HideNothing w r
-    → HidesNothing (printed (canvas w r infos))
-pictures_hide_nothing w r infos h =
+-- so no text of a cell hides anything
+pub cells_hide_nothing : {S Id : Type 0} (w : World S Id) (r : ReportFields S) (infos : List LabelInfo) → HideNothing w r
+    → AreCellsShown (canvas w r infos)
+cells_hide_nothing w r infos h =
     let p = parts_shown r h.texts in
-    rows_hide_nothing (canvas w r infos) (every-cell w r IsSeen kept_seen (record {
+    every-cell w r IsSeen kept_seen (record {
       kind = row_seen (kind_name r.kind) p.kind;
       code = some_seen r.code p.code;
       message = some_seen r.message p.message;
@@ -164,4 +164,9 @@ pictures_hide_nothing w r infos h =
       helps = asides_seen r.helps p.helps;
       names = all-every _ (λ label. some_seen (w.name_of (w.id_of label.span)) (h.names (w.id_of label.span))) r.labels;
       sources = all-every _ (λ label. held_seen (w.source_of (w.id_of label.span)) (h.sources (w.id_of label.span))) r.labels;
-    }) infos)
+    }) infos
+
+-- nor does the picture
+pub pictures_hide_nothing : {S Id : Type 0} (w : World S Id) (r : ReportFields S) (infos : List LabelInfo) → HideNothing w r
+    → HidesNothing (printed (canvas w r infos))
+pictures_hide_nothing w r infos h = rows_hide_nothing (canvas w r infos) (cells_hide_nothing w r infos h)

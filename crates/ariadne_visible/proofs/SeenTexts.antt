@@ -26,7 +26,7 @@ use Rattle.ariadne_visible.specs.declared.text.TextKind.TheVariants.{OneRow, Asi
 use Rattle.ariadne_visible.specs.Visible.{is_hidden, is_seen_in, is_shown}
 use Rattle.ariadne_visible.proofs.Signs.{plain_is_seen, not_hidden}
 
--- what an iterator answers of all characters is the answer for the text
+-- what an iterator says of all characters holds of the text
 pub all_decide : (p : ℕ → Bool) (t : List ℕ) (r : Bool)
     → MatchBool r (AllWithin (λ c. p c ≡ true) t 0 (length t)) ((k : ℕ) × (k < length t) × HoldsAt (λ c. p c ≡ false) t k)
     → r ≡ list_all p t

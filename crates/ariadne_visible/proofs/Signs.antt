@@ -58,11 +58,11 @@ plain_is_seen c least less =
     neither (neither (neither (ne_eqb c 0x61C (λ e. omega (arith, e, less))) (below 0x200E 0x200F c (omega (arith, less))))
     (below 0x202A 0x202E c (omega (arith, less)))) (below 0x2066 0x2069 c (omega (arith, less))) in
     let joiners : is_joiner c ≡ false =
-    neither (neither (below 0x200B 0x200D c (omega (arith, less))) (below 0x2028 0x2029 c (omega (arith, less))))
-    (below 0x2060 0x2065 c (omega (arith, less))) in
+    neither (neither (neither (below 0x180B 0x180F c (omega (arith, less))) (below 0x200B 0x200D c (omega (arith, less))))
+    (below 0x2028 0x2029 c (omega (arith, less)))) (below 0x2060 0x2065 c (omega (arith, less))) in
     let tags : is_tag c ≡ false =
-    neither (neither (below 0x206A 0x206F c (omega (arith, less))) (ne_eqb c 0xFEFF (λ e. omega (arith, e, less))))
-    (below 0xE0000 0xE007F c (omega (arith, less))) in
+    neither (neither (neither (below 0x206A 0x206F c (omega (arith, less))) (ne_eqb c 0xFEFF (λ e. omega (arith, e, less))))
+    (below 0xFFF0 0xFFFB c (omega (arith, less)))) (below 0xE0000 0xE0FFF c (omega (arith, less))) in
     neither (neither (neither control marks) joiners) tags
 
 -- symbols
@@ -74,11 +74,11 @@ symbols_are_seen c least less =
     neither (neither (neither (ne_eqb c 0x61C (λ e. omega (arith, e, least))) (above 0x200E 0x200F c (omega (arith, least))))
     (above 0x202A 0x202E c (omega (arith, least)))) (above 0x2066 0x2069 c (omega (arith, least))) in
     let joiners : is_joiner c ≡ false =
-    neither (neither (above 0x200B 0x200D c (omega (arith, least))) (above 0x2028 0x2029 c (omega (arith, least))))
-    (above 0x2060 0x2065 c (omega (arith, least))) in
+    neither (neither (neither (above 0x180B 0x180F c (omega (arith, least))) (above 0x200B 0x200D c (omega (arith, least))))
+    (above 0x2028 0x2029 c (omega (arith, least)))) (above 0x2060 0x2065 c (omega (arith, least))) in
     let tags : is_tag c ≡ false =
-    neither (neither (above 0x206A 0x206F c least) (ne_eqb c 0xFEFF (λ e. omega (arith, e, less))))
-    (below 0xE0000 0xE007F c (omega (arith, less))) in
+    neither (neither (neither (above 0x206A 0x206F c least) (ne_eqb c 0xFEFF (λ e. omega (arith, e, less))))
+    (below 0xFFF0 0xFFFB c (omega (arith, less)))) (below 0xE0000 0xE0FFF c (omega (arith, less))) in
     neither (neither (neither control marks) joiners) tags
 
 -- the replacement character

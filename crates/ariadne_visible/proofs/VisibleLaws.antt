@@ -3,15 +3,16 @@ use Rattle.std.proofs.Common.{◌≡◌, ◌≢◌, ℕ, suc, ◌+◌, ◌-◌, 
 use Rattle.std.proofs.Common.{refl, sym, ap, ◌∙◌, subst, arith, ◌==◌, nat_lt, inl, inr, ◌⊎◌}
 use Rattle.std.specs.Prelude.{encode_utf8, encode_utf8_all}
 use Rattle.std.specs.List.{AllByRecursion, list_all}
-use Rattle.std.specs.Str.{NonePass}
+use Rattle.std.specs.Str.{chars, IsUtf8, NonePass}
 use Rattle.std.proofs.lemmas.Bool.{cond_both, cond-true, and_parts, eqb-true, ne_eqb, ltb-true, lt-ltb, true≢false, false_from_ne_true}
+use Rattle.std.proofs.lemmas.Str.{chars_from_encodes}
 use Rattle.ariadne_base.specs.Lines.{begins_with_line_feed}
 use Rattle.ariadne_picture.proofs.Lists.ListFacts.{all-append}
 use Rattle.ariadne_visible.specs.declared.text.TextKind.{TextKind}
 use Rattle.ariadne_visible.specs.declared.text.TextKind.TheVariants.{OneRow, Aside, Lines, CompilerLines}
-use Rattle.ariadne_visible.specs.Visible.{is_hidden, symbol_of, stays, shown_code, visible_text}
+use Rattle.ariadne_visible.specs.Visible.{is_hidden, symbol_of, stays, stays_anywhere, shown_code, visible_text}
 use Rattle.ariadne_visible.specs.Pictures.{is_hidden_in_row, HidesNothing, HasNoControl}
-use Rattle.ariadne_visible.proofs.Signs.{sign_is_seen}
+use Rattle.ariadne_visible.proofs.Signs.{or_weaker, sign_is_seen}
 
 -- one sign for each character
 pub length_visible : (kind : TextKind) (t : List ℕ) → length (visible_text kind t) ≡ length t
@@ -19,15 +20,30 @@ unfolding visible_text
 length_visible kind [] = refl
 length_visible kind (c ∷ t) = ap suc (length_visible kind t)
 
--- what is not hidden is its own
-pub seen_stays : (kind : TextKind) (t : List ℕ) → list_all (λ c. not (is_hidden c)) t ≡ true → visible_text kind t ≡ t
+-- so bytes that are those of the signs are as many characters
+pub bytes_count : (kind : TextKind) (t bytes : List ℕ) → IsUtf8 bytes → bytes ≡ encode_utf8_all (visible_text kind t)
+    → length (chars bytes) ≡ length t
+bytes_count kind t bytes u e = ap length (sym (chars_from_encodes (visible_text kind t) bytes u (sym e))) ∙ length_visible kind t
+
+-- what stays before any character stays before a line feed too
+stays_before : (kind : TextKind) (c : ℕ) (b : Bool) → stays kind c false ≡ true → stays kind c b ≡ true
+stays_before OneRow c b h = h
+stays_before Aside c b h = h
+stays_before Lines c b h = h
+stays_before CompilerLines c b h =
+    or_weaker ((c == 9) || (c == 10)) ((c == 13) && false) ((c == 13) && b)
+    (λ e. absurd (true≢false (sym ((and_parts (c == 13) false e).1)))) h
+
+-- what is not hidden is its own, and so is what stays wherever it stands
+pub seen_stays : (kind : TextKind) (t : List ℕ) → list_all (stays_anywhere kind) t ≡ true → visible_text kind t ≡ t
 unfolding visible_text
 seen_stays kind [] h = refl
 seen_stays kind (c ∷ t) h =
-    let p = and_parts (not (is_hidden c)) (list_all (λ c. not (is_hidden c)) t) h in
+    let p = and_parts (stays_anywhere kind c) (list_all (stays_anywhere kind) t) h in
     let b = begins_with_line_feed t in
     let own : shown_code kind c b ≡ c =
-    cond-true (not (is_hidden c) || stays kind c b) c (symbol_of c) (ap (λ x. x || stays kind c b) p.0) in
+    cond-true (not (is_hidden c) || stays kind c b) c (symbol_of c)
+    (or_weaker (not (is_hidden c)) (stays kind c false) (stays kind c b) (stays_before kind c b) p.0) in
     ap (λ d. d ∷ visible_text kind t) own ∙ ap (λ u. c ∷ u) (seen_stays kind t p.1)
 
 -- ---- twice

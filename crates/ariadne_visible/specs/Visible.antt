@@ -1,6 +1,7 @@
--- Texts as they can be shown: each character that a terminal obeys, or shows nothing of, stands as one
--- that can be seen. Characters stay one for one, and so do offsets that count them. What lays a text
--- out may stay: the tabs of a source and the ends of its lines, and the line feeds of a help or note.
+-- Texts as they can be shown: each character of the table below, which a terminal obeys or shows
+-- nothing of, stands as one that can be seen. Characters stay one for one, and so do offsets that
+-- count them. What lays a text out may stay: the tabs of a source and the ends of its lines, and
+-- the line feeds of a help or note.
 use Rattle.std.specs.Prelude.{ℕ, ◌+◌, Bool, false, not, ◌&&◌, ◌||◌, ◌==◌, nat_le, nat_lt, List, []}
 use Rattle.std.specs.Prelude.{◌∷◌, if◌then◌else◌, chars, encode_utf8_all}
 use Rattle.std.specs.List.{list_all}
@@ -27,15 +28,21 @@ is_direction_mark c =
     (c == 0x61C) || is_between 0x200E 0x200F c || is_between 0x202A 0x202E c
     || is_between 0x2066 0x2069 c
 
--- joiners and spaces of no width, separators of lines and paragraphs, invisible operators
+-- joiners and spaces of no width, separators of lines and paragraphs, invisible operators, and the
+-- marks of Mongolian letters
 abbrev pub is_joiner : ℕ → Bool
-is_joiner c = is_between 0x200B 0x200D c || is_between 0x2028 0x2029 c || is_between 0x2060 0x2065 c
+is_joiner c =
+    is_between 0x180B 0x180F c || is_between 0x200B 0x200D c || is_between 0x2028 0x2029 c
+    || is_between 0x2060 0x2065 c
 
--- deprecated format characters, the byte order mark, and tags
+-- deprecated format characters, the byte order mark, the marks of annotations, and the plane of
+-- tags and selectors
 abbrev pub is_tag : ℕ → Bool
-is_tag c = is_between 0x206A 0x206F c || (c == 0xFEFF) || is_between 0xE0000 0xE007F c
+is_tag c =
+    is_between 0x206A 0x206F c || (c == 0xFEFF) || is_between 0xFFF0 0xFFFB c
+    || is_between 0xE0000 0xE0FFF c
 
--- what a terminal obeys, or shows nothing of
+-- any of these: what a terminal obeys, and characters that it shows nothing of
 unfoldable pub is_hidden : ℕ → Bool
 is_hidden c = is_control c || is_direction_mark c || is_joiner c || is_tag c
 
@@ -47,14 +54,18 @@ symbol_of c =
     if nat_lt c 32 then 0x2400 + c
     else (if c == 0x7F then 0x2421 else (if c == 0x85 then 0x2424 else 0xFFFD))
 
--- the hidden characters that stay in a text of this kind: a help or a note is cut at its line feeds,
--- and a source row shows white space as blanks. Where compilers count the lines of a source, its tabs
--- stay, its line feeds, and carriage returns in front of them
+-- the hidden characters that stay in a text of this kind: a help or a note is cut at its line
+-- feeds, and a source row shows white space as blanks. Where compilers count the lines of a source,
+-- its tabs stay, its line feeds, and carriage returns in front of them
 abbrev pub stays : TextKind → ℕ → Bool → Bool
 stays OneRow c before_line_feed = false
 stays Aside c before_line_feed = c == 10
 stays Lines c before_line_feed = is_whitespace c
 stays CompilerLines c before_line_feed = (c == 9) || (c == 10) || ((c == 13) && before_line_feed)
+
+-- a character that is shown as it is, wherever it stands in a text of this kind
+abbrev pub stays_anywhere : TextKind → ℕ → Bool
+stays_anywhere kind c = not (is_hidden c) || stays kind c false
 
 -- the character that stands for c
 abbrev pub shown_code : TextKind → ℕ → Bool → ℕ
@@ -73,8 +84,8 @@ visible_bytes kind bytes = encode_utf8_all (visible_text kind (chars bytes))
 
 -- ---- texts that can be shown
 
--- what a row shows as no character of its own: the line feeds of a help or a note, and the white space
--- of a source
+-- what a row shows as no character of its own: the line feeds of a help or a note, and the white
+-- space of a source
 abbrev pub is_layout : TextKind → ℕ → Bool
 is_layout OneRow c = false
 is_layout Aside c = c == 10

@@ -1,5 +1,5 @@
-//! Texts that can be shown, and pictures of such texts: a sign for each character that a terminal obeys,
-//! or shows nothing of.
+//! Texts that can be shown, and pictures of such texts: a sign for each control, each character
+//! that turns the direction of a text, and each of the characters of no width that `text` lists.
 #![tactic(auto)]
 
 pub mod laws;

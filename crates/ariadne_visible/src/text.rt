@@ -1,12 +1,15 @@
-//! Texts as they can be shown: a sign for each character that a terminal obeys, or shows nothing of.
+//! Texts as they can be shown: a sign for each hidden character. Hidden are the controls, which a
+//! terminal obeys, what turns the direction of a text, and the characters of no width in the tables
+//! below.
 
-ghost use Rattle.std.specs.Prelude.{◌≡◌, IfOk, string_bytes, chars, true};
+ghost use Rattle.std.specs.Prelude.{◌≡◌, IfOk, string_bytes, chars, length, true};
 ghost use Rattle.ariadne_base.specs.Lines.{begins_with_line_feed as begins_in_line_feed};
 ghost use Rattle.ariadne_visible.specs.declared.text.TextKind.TheVariants.{OneRow};
 ghost use Rattle.ariadne_visible.specs.Visible.{is_control as controls, is_direction_mark as turns};
 ghost use Rattle.ariadne_visible.specs.Visible.{is_joiner as joins, is_tag as tags};
 ghost use Rattle.ariadne_visible.specs.Visible.{is_hidden as hides, stays as is_kept};
-ghost use Rattle.ariadne_visible.specs.Visible.{symbol_of as sign, shown_code, visible_bytes, is_shown};
+ghost use Rattle.ariadne_visible.specs.Visible.{symbol_of as sign, shown_code, visible_bytes};
+ghost use Rattle.ariadne_visible.specs.Visible.{is_shown};
 
 use std::alloc::{AllocError, Global};
 
@@ -41,23 +44,28 @@ fn is_direction_mark(c: char) -> bool
         || '\u{2066}' <= c && c <= '\u{2069}'
 }
 
-/// Whether a character joins, parts or operates without being seen.
+/// Whether a character joins, parts, operates or selects without being seen.
 fn is_joiner(c: char) -> bool
     ensures { result ≡ joins c }
 {
-    '\u{200b}' <= c && c <= '\u{200d}'
+    '\u{180b}' <= c && c <= '\u{180f}'
+        || '\u{200b}' <= c && c <= '\u{200d}'
         || '\u{2028}' <= c && c <= '\u{2029}'
         || '\u{2060}' <= c && c <= '\u{2065}'
 }
 
-/// Whether a character is a deprecated format character, the byte order mark, or a tag.
+/// Whether a character is a deprecated format character, the byte order mark, the mark of an
+/// annotation, or in the plane of tags and selectors.
 fn is_tag(c: char) -> bool
     ensures { result ≡ tags c }
 {
-    '\u{206a}' <= c && c <= '\u{206f}' || c == '\u{feff}' || '\u{e0000}' <= c && c <= '\u{e007f}'
+    '\u{206a}' <= c && c <= '\u{206f}'
+        || c == '\u{feff}'
+        || '\u{fff0}' <= c && c <= '\u{fffb}'
+        || '\u{e0000}' <= c && c <= '\u{e0fff}'
 }
 
-/// Whether a terminal obeys a character, or shows nothing of it.
+/// Whether a character is hidden.
 #[tactic(auto, unfolding(crate::specs::Visible::is_hidden))]
 fn is_hidden(c: char) -> bool
     ensures { result ≡ hides c }
@@ -118,6 +126,8 @@ pub fn shown_char(kind: TextKind, c: char, rest: &str) -> char
 pub fn visible(alloc: Global, text: &str, kind: TextKind) -> Result<String, AllocError>
     ensures signs { IfOk result (λ shown. string_bytes shown ≡ visible_bytes kind text.now) }
     ensures seen { IfOk result (λ shown. is_shown kind (string_bytes shown) ≡ true) }
+    ensures count { IfOk result (λ shown.
+        length (chars (string_bytes shown)) ≡ length (chars text.now)) }
 {
     let mut shown = String::new(alloc);
     let mut rest = text.chars();

@@ -4,6 +4,7 @@ use Rattle.std.proofs.lemmas.Str.{IsUtf8-string_bytes}
 use Rattle.ariadne_base.specs.Lines.{begins_with_line_feed}
 use Rattle.ariadne_visible.specs.Visible.{shown_code}
 use Rattle.ariadne_visible.proofs.Signs.{signed_start, signed_next, signed_end, bytes_are_shown}
+use Rattle.ariadne_visible.proofs.VisibleLaws.{bytes_count}
 use Rattle.ariadne_visible.proofs.text.visible.Goals as goal
 
 -- nothing is passed yet
@@ -25,4 +26,10 @@ returns-clause-signs c = signed_end _ _ _ _ c.loop-c.invariant c.in_default.ensu
 pub returns-clause-seen : goal.returns-clause-seen
 returns-clause-seen c =
     bytes_are_shown c.args.kind (chars c.args.text.now) (string_bytes c.loop-c.shown) (IsUtf8-string_bytes c.loop-c.shown)
+    (signed_end _ _ _ _ c.loop-c.invariant c.in_default.ensures.steps.0.0)
+
+-- and are as many
+pub returns-clause-count : goal.returns-clause-count
+returns-clause-count c =
+    bytes_count c.args.kind (chars c.args.text.now) (string_bytes c.loop-c.shown) (IsUtf8-string_bytes c.loop-c.shown)
     (signed_end _ _ _ _ c.loop-c.invariant c.in_default.ensures.steps.0.0)
