@@ -4,7 +4,9 @@
    writes meanwhile. It may not be called from a signal handler. Each pointer that a struct or the
    call is handed is the caller's before, during and after it: the library keeps none.
 
-   Texts are drawn as they are: an escape character in one reaches the terminal.
+   Whatever the texts hold, a picture hides nothing and its only escapes are the library's own: a sign
+   stands for each character that a terminal obeys or shows nothing of. Under SEWARQO_AS_IS texts are
+   drawn as they are, and an escape character in one reaches the terminal.
 
    A pointer may be null where its length is 0. With a length it must point to so many values, and
    `len` and `count` must point to one. What the call writes overlaps nothing else that it is given. */
@@ -77,7 +79,8 @@ enum {
     SEWARQO_BYTE_OFFSETS = 8,        /* offsets count bytes, not characters */
     SEWARQO_NO_UNDERLINES = 16,
     SEWARQO_NO_MULTILINE_ARROWS = 32,
-    SEWARQO_NO_CROSS_GAP = 64        /* a crossing where strokes cross, and no gap */
+    SEWARQO_NO_CROSS_GAP = 64,       /* a crossing where strokes cross, and no gap */
+    SEWARQO_AS_IS = 128              /* texts are drawn as they are, with the escapes that they hold */
 };
 
 /* Where the stroke of a label within a line is attached. */
@@ -122,8 +125,9 @@ enum {
     SEWARQO_LEFT_OUT = 1,       /* the picture is there, without `*count` of the labels */
     SEWARQO_TOO_SHORT = 2,      /* the picture takes `*len` bytes, and `out` has less */
     SEWARQO_NO_MEMORY = 3,
-    /* What follows tells the first thing that is wrong, in the order in which it stands here; of
-       labels, texts and sources the one with the lowest number, which is `*count`. */
+    /* What follows tells the first thing that is wrong: of the report's own fields, then label by label,
+       help by help, note by note, and source by source. `*count` is the number of the label, the text or
+       the source, and 0 of a field. */
     SEWARQO_BAD_KIND = 4,
     SEWARQO_BAD_KIND_COLOR = 5,
     SEWARQO_BAD_KIND_NAME = 6,   /* not UTF-8 */
@@ -147,7 +151,8 @@ enum {
  * After SEWARQO_DRAWN and SEWARQO_LEFT_OUT the first `*len` bytes of `out` are the picture, and those
  * behind it are as they were. `left` holds the labels that are left out, in their order, as far as it
  * has room, and `*count` tells how many there are. After any other status `out` and `left` are as they
- * were. */
+ * were. `*len` is 0 after all but the first three, and `*count` is 0 after SEWARQO_TOO_SHORT and
+ * SEWARQO_NO_MEMORY. */
 uint32_t sewarqo_draw(const sewarqo_report *report, const sewarqo_source *sources, size_t sources_len,
                       uint8_t *out, size_t out_len, size_t *len,
                       sewarqo_left_out *left, size_t left_len, size_t *count);

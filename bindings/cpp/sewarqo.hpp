@@ -5,7 +5,8 @@
 //     std::string picture = report.render({{"apple == orange;", "main.fruit"}});
 //
 // Texts are UTF-8. Offsets count from 0, in characters or (Config::byte_offsets) in bytes, and the end
-// of a label is exclusive. Texts are drawn as they are: an escape character in one reaches the terminal.
+// of a label is exclusive. Whatever the texts hold, a picture hides nothing and has no escapes but the
+// library's: a sign stands for each character that a terminal obeys or shows nothing of (Config::safe).
 // A report keeps copies of its texts; those of sources are read by the call alone. Any number of threads
 // may draw at once.
 #ifndef SEWARQO_HPP
@@ -14,6 +15,7 @@
 #include "sewarqo.h"
 #include <cstddef>
 #include <cstdint>
+#include <cstdlib>
 #include <new>
 #include <optional>
 #include <stdexcept>
@@ -63,13 +65,18 @@ private:
 // only marked. Labels of lower order are drawn first; where they overlap, the one of higher priority is
 // seen.
 struct Label {
+    Label(std::size_t source, std::size_t start, std::size_t end,
+          std::optional<std::string_view> message = std::nullopt, Color color = Color(),
+          std::int32_t order = 0, std::int32_t priority = 0)
+        : source(source), start(start), end(end), message(message), color(color), order(order),
+          priority(priority) {}
     std::size_t source;
     std::size_t start;
     std::size_t end;
-    std::optional<std::string> message = std::nullopt;
-    Color color = Color();
-    std::int32_t order = 0;
-    std::int32_t priority = 0;
+    std::optional<std::string> message;
+    Color color;
+    std::int32_t order;
+    std::int32_t priority;
 };
 
 // A source. An excerpt has the number of lines above it as its line_offset.
@@ -96,6 +103,7 @@ struct Config {
     bool cross_gap = true;
     Attach attach = Attach::middle;
     std::size_t tab_width = 4; // in columns; 0 is 4 too
+    bool safe = true;          // without it texts are drawn as they are, with the escapes that they hold
 };
 
 // A picture, and the labels that are left out of it.
@@ -133,17 +141,25 @@ public:
     explicit operator bool() const noexcept { return has_value(); }
     // The refusal, where there is no picture.
     Refusal error() const noexcept { return refusal_; }
-    // The picture. Without one it throws an Error, or std::bad_alloc where there was no memory.
+    // The picture. Without one it throws an Error, or std::bad_alloc where there was no memory. Where the
+    // program is built without exceptions, it aborts.
     Picture &value() & { return check(); }
     Picture &&value() && { return std::move(check()); }
 
 private:
     Picture &check() {
-        if (!picture_ && refusal_.status == SEWARQO_NO_MEMORY)
-            throw std::bad_alloc();
         if (!picture_)
-            throw Error(refusal_);
+            refuse();
         return *picture_;
+    }
+    [[noreturn]] void refuse() const {
+#ifdef __cpp_exceptions
+        if (refusal_.status == SEWARQO_NO_MEMORY)
+            throw std::bad_alloc();
+        throw Error(refusal_);
+#else
+        std::abort();
+#endif
     }
     std::optional<Picture> picture_;
     Refusal refusal_ = {SEWARQO_DRAWN, 0};
@@ -202,7 +218,7 @@ private:
                | (config.compact ? SEWARQO_COMPACT : 0) | (config.byte_offsets ? SEWARQO_BYTE_OFFSETS : 0)
                | (config.underlines ? 0 : SEWARQO_NO_UNDERLINES)
                | (config.multiline_arrows ? 0 : SEWARQO_NO_MULTILINE_ARROWS)
-               | (config.cross_gap ? 0 : SEWARQO_NO_CROSS_GAP);
+               | (config.cross_gap ? 0 : SEWARQO_NO_CROSS_GAP) | (config.safe ? 0 : SEWARQO_AS_IS);
     }
 
     sewarqo_report report_of(const Config &config, const std::vector<sewarqo_label> &labels,

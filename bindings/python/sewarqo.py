@@ -17,8 +17,9 @@ Error: can't compare apples with oranges
 ---'
 
 Offsets count from 0, and the end of a label is exclusive. Over sources of type `str` they count
-characters, over sources of type `bytes` (in UTF-8) they count bytes. Texts are drawn as they are:
-an escape character in one reaches the terminal.
+characters, over sources of type `bytes` (in UTF-8) they count bytes. Whatever the texts hold, a picture
+hides nothing and has no escapes but the library's: a sign stands for each character that a terminal obeys
+or shows nothing of. With `Config(safe=False)` texts are drawn as they are.
 
 The module needs the shared library libsewarqo.so: the one that the environment variable
 SEWARQO_LIBRARY names, or the one beside this file, or the one that the system finds. It works with
@@ -140,7 +141,14 @@ class Source(NamedTuple):
 
 
 class Config(NamedTuple):
-    """How a report is drawn. `attach` is where strokes meet a label: "start", "middle" or "end"."""
+    """How a report is drawn. `attach` is where strokes meet a label: "start", "middle" or "end".
+
+    Where `safe` is off, texts are drawn as they are: an escape character in one reaches the terminal.
+
+    >>> report = Report("error", "a \\x1b[1mbold\\x1b[0m word")
+    >>> report.render("", Config(color=False))
+    'Error: a \u241b[1mbold\u241b[0m word\\n'
+    """
 
     color: bool = True
     ascii: bool = False
@@ -150,6 +158,7 @@ class Config(NamedTuple):
     cross_gap: bool = True
     attach: str = "middle"
     tab_width: int = 4
+    safe: bool = True
 
 
 class LeftOut(NamedTuple):
@@ -418,7 +427,7 @@ def _counts_bytes(sources) -> bool:
 def _flags(config: Config) -> int:
     return (
         1 * (not config.color) | 2 * config.ascii | 4 * config.compact | 16 * (not config.underlines)
-        | 32 * (not config.multiline_arrows) | 64 * (not config.cross_gap)
+        | 32 * (not config.multiline_arrows) | 64 * (not config.cross_gap) | 128 * (not config.safe)
     )
 
 

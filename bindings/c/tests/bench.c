@@ -1,5 +1,5 @@
-/* Draws a workload of docs/SPEED.md again and again: bench two|nested N, which prints
-   NAME N BYTES CHECKSUM NANOSECONDS. Each call has the report and the source anew, and finds the lines. */
+/* Draws a workload of docs/SPEED.md again and again: bench two|nested|two-safe|nested-safe N, which prints
+   NAME N BYTES CHECKSUM NANOSECONDS. Texts are drawn as they are, or safely. Each call has the report and the source anew, and finds the lines. */
 #define _POSIX_C_SOURCE 199309L
 #include "sewarqo.h"
 #include <stdio.h>
@@ -46,10 +46,11 @@ int main(int argc, char **argv) {
     static uint8_t out[ROOM];
     if (argc != 3)
         return 2;
-    const char *message = strcmp(argv[1], "two") == 0 ? two() : nested();
+    const char *message = strncmp(argv[1], "two", 3) == 0 ? two() : nested();
+    uint32_t as_is = strstr(argv[1], "-safe") ? 0 : SEWARQO_AS_IS;
     sewarqo_source source = {.text = sewarqo_str(text)};
     sewarqo_report report = {.message = sewarqo_str(message), .start = labels[0].start, .labels = labels,
-                             .labels_len = labels_len, .flags = SEWARQO_PLAIN | SEWARQO_ASCII};
+                             .labels_len = labels_len, .flags = SEWARQO_PLAIN | SEWARQO_ASCII | as_is};
     size_t len = 0, count;
     struct timespec from, to;
     clock_gettime(CLOCK_MONOTONIC, &from);

@@ -78,6 +78,7 @@ static void fault(const char *what, const char *why) {
 static void make(const char *what, uint32_t status) {
     calls++;
     asked = 0;
+    call.len = call.count = 77;
     memset(call.out, '#', ROOM);
     memset(call.left, 0x5a, sizeof call.left);
     call.status = sewarqo_draw(&call.report, call.sources, call.sources_len, call.out, call.room, &call.len,
@@ -97,6 +98,10 @@ static void make(const char *what, uint32_t status) {
             fault(what, "the list has changed");
             break;
         }
+    if (status >= SEWARQO_NO_MEMORY && call.len != 0)
+        fault(what, "a length");
+    if ((status == SEWARQO_TOO_SHORT || status == SEWARQO_NO_MEMORY) && call.count != 0)
+        fault(what, "a number");
     if (held != 0)
         fault(what, "memory is kept");
 }
@@ -121,7 +126,7 @@ static void refusals(void) {
     call.report.kind_color = SEWARQO_BLUE;
     call.report.kind_name = BAD;
     refuse("the name of a kind", SEWARQO_BAD_KIND_NAME, 0);
-    call.report.flags = 128;
+    call.report.flags = 256;
     refuse("no flag", SEWARQO_BAD_FLAGS, 0);
     call.report.attach = 3;
     refuse("attached nowhere", SEWARQO_BAD_ATTACH, 0);
@@ -150,6 +155,12 @@ static void refusals(void) {
     call.labels[2].source = 2;
     call.sources[0].text = BAD;
     refuse("a label and then a source", SEWARQO_LABEL_SOURCE, 2);
+    call.labels[0].message = BAD_OPTIONAL;
+    call.labels[1].source = 2;
+    refuse("the first of two labels", SEWARQO_LABEL_MESSAGE, 0);
+    call.sources[0].line_offset = SIZE_MAX;
+    call.sources[1].name = BAD_OPTIONAL;
+    refuse("the first of two sources", SEWARQO_SOURCE_LINES, 0);
 }
 
 /* What is near a refusal, and isn't one. */
@@ -215,15 +226,71 @@ static void rooms(void) {
     prepare();
 }
 
-/* Each request for memory is refused in turn, until none is. */
-static void memory(void) {
-    for (refused = 0; call.status != SEWARQO_DRAWN || refused == 0; refused++) {
-        make("memory", SEWARQO_NO_MEMORY);
-        if (call.status == SEWARQO_DRAWN && asked <= refused)
-            faults--; /* (none was refused, so it is drawn) */
-    }
-    printf("%zu requests for memory\n", asked);
+/* Each request for memory is refused in turn. */
+static void memory(uint32_t flags) {
+    call.report.flags |= flags;
+    make("all memory", SEWARQO_DRAWN);
+    size_t requests = asked;
+    for (refused = 0; refused < requests; refused++)
+        make("a request for memory", SEWARQO_NO_MEMORY);
+    printf("%zu requests for memory\n", requests);
     refused = SIZE_MAX;
+    prepare();
+}
+
+/* Null pointers for what has length 0. */
+static void no_buffers(void) {
+    make("a picture", SEWARQO_DRAWN);
+    size_t len = 77, count = 77;
+    sewarqo_report report = {0};
+    uint32_t status = sewarqo_draw(&report, NULL, 0, NULL, 0, &len, NULL, 0, &count);
+    calls++;
+    if (status != SEWARQO_TOO_SHORT || len == 0 || count != 0)
+        fault("no buffers", "another answer");
+    call.report = report;
+    call.sources_len = 0;
+    make("a report of zeros", SEWARQO_DRAWN);
+    if (call.len != len)
+        fault("no buffers", "another length");
+    prepare();
+}
+
+/* Whether these bytes stand in the picture. */
+static bool shows(const char *bytes) {
+    size_t len = strlen(bytes);
+    for (size_t at = 0; at + len <= call.len; at++)
+        if (memcmp(call.out + at, bytes, len) == 0)
+            return true;
+    return false;
+}
+
+/* What a terminal obeys has a sign, in each text, and offsets stay those of the given text; under
+   SEWARQO_AS_IS it is drawn as it is. */
+static void hidden(void) {
+    call.report.kind = SEWARQO_CUSTOM;
+    call.report.kind_color = SEWARQO_BLUE;
+    call.report.kind_name = sewarqo_str("k\x1b[1m");
+    call.report.code = sewarqo_some("\x1b]c");
+    call.report.message = sewarqo_str("m\x1b[2m");
+    call.labels[0].message = sewarqo_some("\x1b[3m");
+    call.helps[1] = sewarqo_str("\x1b[4m");
+    call.notes[0] = sewarqo_str("\x1b[5m");
+    call.sources[0].name = sewarqo_some("\x1b[6m");
+    call.sources[1].text = sewarqo_str("\x1b[7m\xe2\x80\xae def\n");
+    call.labels[2].start = 8;
+    call.labels[2].end = 11;
+    call.report.flags |= SEWARQO_BYTE_OFFSETS;
+    make("hidden characters", SEWARQO_DRAWN);
+    if (shows("\x1b") || shows("\xe2\x80\xae"))
+        fault("hidden characters", "one is drawn as it is");
+    if (!shows("k\xe2\x90\x9b[1m: m\xe2\x90\x9b[2m") || !shows("[\xe2\x90\x9b]c]"))
+        fault("hidden characters", "a sign is missing");
+    if (!shows("\xe2\x90\x9b[7m\xef\xbf\xbd def\n   |       ^|^"))
+        fault("hidden characters", "a label is elsewhere");
+    call.report.flags |= SEWARQO_AS_IS;
+    make("texts as they are", SEWARQO_DRAWN);
+    if (!shows("k\x1b[1m: m\x1b[2m") || !shows("\x1b[7m\xe2\x80\xae def") || shows("\xe2\x90\x9b"))
+        fault("texts as they are", "a text has changed");
     prepare();
 }
 
@@ -245,7 +312,10 @@ int main(void) {
     refusals();
     edges();
     left_out();
-    memory();
+    memory(0);
+    memory(SEWARQO_AS_IS);
+    no_buffers();
+    hidden();
     many_labels();
     printf("%zu calls, %zu faults\n", calls, faults);
     return faults != 0;

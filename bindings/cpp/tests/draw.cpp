@@ -1,5 +1,6 @@
 // Draws the stored cases "the report that each language draws" (plain) and "..., in colors" (colors):
-// draw plain|colors. Then it looks at a refusal, as a value and as an exception.
+// draw plain|colors. Then it looks at a refusal, as a value and (where there are any) as an exception, at
+// a text with an escape, and at a message that is a std::string_view.
 #include "sewarqo.hpp"
 #include <iostream>
 
@@ -19,12 +20,30 @@ static sewarqo::Report report() {
 static bool is_refused(const sewarqo::Report &report, const std::vector<sewarqo::Source> &sources,
                        std::uint32_t status, std::size_t number) {
     const sewarqo::Refusal refusal = report.draw(sources).error();
+    const bool is_value = refusal.status == status && refusal.number == number;
+#ifdef __cpp_exceptions
     try {
         report.render(sources);
     } catch (const sewarqo::Error &error) {
-        return error.refusal().status == status && refusal.status == status && refusal.number == number;
+        return is_value && error.refusal().status == status;
     }
     return false;
+#else
+    return is_value;
+#endif
+}
+
+static bool is_safe() {
+    const std::string_view message = "\x1b[1mhere";
+    sewarqo::Report report(sewarqo::Kind::error(), "m");
+    report.label({0, 0, 1, message}).label({0, 1, 2, std::string("there")}).label({0, 2, 3});
+    sewarqo::Config config;
+    config.color = false;
+    const std::string safe = report.render({{"abc"}}, config);
+    config.safe = false;
+    const std::string as_is = report.render({{"abc"}}, config);
+    return safe.find('\x1b') == std::string::npos && safe.find("\xe2\x90\x9b[1mhere") != std::string::npos
+           && as_is.find(message) != std::string::npos;
 }
 
 int main(int argc, char **argv) {
@@ -39,5 +58,5 @@ int main(int argc, char **argv) {
     std::cout << report().render(sources, config);
     const bool labels = is_refused(report().label({2, 0, 0}), sources, SEWARQO_LABEL_SOURCE, 4);
     const bool texts = is_refused(report().note("\xff"), sources, SEWARQO_BAD_NOTE, 1);
-    return labels && texts ? 0 : 1;
+    return labels && texts && is_safe() ? 0 : 1;
 }

@@ -1,5 +1,5 @@
-"""Draws a workload of docs/SPEED.md again and again: bench.py two|nested N, which prints
-NAME N BYTES CHECKSUM NANOSECONDS. Each call hands in the report and the source anew, and finds the lines.
+"""Draws a workload of docs/SPEED.md again and again: bench.py two|nested|two-safe|nested-safe N, which prints
+NAME N BYTES CHECKSUM NANOSECONDS. Texts are drawn as they are, or safely. Each call hands in the report and the source anew, and finds the lines.
 """
 
 import sys
@@ -38,8 +38,8 @@ def checksum(text):
 
 
 name, turns = sys.argv[1:]
-source, report = {"two": two, "nested": nested}[name]()
-config = Config(color=False, ascii=True)
+source, report = {"two": two, "nested": nested}[name.replace("-safe", "")]()
+config = Config(color=False, ascii=True, safe=name.endswith("-safe"))
 picture = report.render(source, config)  # (which loads the library)
 start = time.perf_counter_ns()
 for _ in range(int(turns)):

@@ -81,6 +81,7 @@ class Case:
             cross_gap=settings.get("cross_gap", True),
             attach=settings.get("label_attach", "Middle").lower(),
             tab_width=number(settings.get("tab_width", 4)),
+            safe="safe" in self.case,
         )
 
     def is_drawn(self):

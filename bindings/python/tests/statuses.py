@@ -1,8 +1,10 @@
-"""Has each refusal of the module and of the library on purpose, and looks at its exception. The last line
-is 'N refusals, M faults', and the status 1 where M > 0.
+"""Has each refusal of the module on purpose, and looks at its exception; and each status of the library, by
+structs that the module itself would not hand in. The last line is 'N refusals, M faults', and the status 1
+where M > 0.
 """
 
 import ctypes
+import resource
 
 import sewarqo
 from sewarqo import BadLabel, BadReport, BadSource, Color, Config, Label, Report, Source
@@ -41,7 +43,105 @@ REFUSALS = [
     (Report("error"), {"a": Source("x", line_offset=-1)}, BadSource, "a"),
     (Report("error"), {"a": Source("x", line_offset=LARGEST)}, BadSource, "a"),
 ]
+# The status of a call, the number of what is at fault, and what is changed in a call that draws.
+STATUSES = [
+    (0, 0, lambda it: None),
+    (1, 1, lambda it: set_field(it.labels[1], "end", 9)),
+    (2, 0, lambda it: set_field(it, "room", 3)),
+    (4, 0, lambda it: set_field(it.report, "kind", 4)),
+    (5, 0, lambda it: set_field(it.report, "kind", 3)),
+    (6, 0, lambda it: set_kind_name(it.report)),
+    (7, 0, lambda it: set_field(it.report, "flags", 256)),
+    (8, 0, lambda it: set_field(it.report, "attach", 3)),
+    (9, 0, lambda it: set_field(it.report, "code", NO_OPTIONAL)),
+    (10, 0, lambda it: set_field(it.report, "message", NO_TEXT)),
+    (11, 1, lambda it: set_field(it.labels[1], "source", 2)),
+    (12, 1, lambda it: set_field(it.labels[1], "start", 3)),
+    (13, 0, lambda it: set_field(it.labels[0], "color", 18)),
+    (14, 1, lambda it: set_field(it.labels[1], "message", NO_OPTIONAL)),
+    (15, 1, lambda it: it.texts.__setitem__(1, NO_TEXT)),
+    (16, 1, lambda it: set_notes(it)),
+    (17, 1, lambda it: set_field(it.sources[1], "name", NO_OPTIONAL)),
+    (18, 0, lambda it: set_field(it.sources[0], "text", NO_TEXT)),
+    (19, 1, lambda it: set_field(it.sources[1], "line_offset", LARGEST)),
+]
+NO_TEXT = sewarqo._Text(b"a\xff", 2)
+NO_OPTIONAL = sewarqo._Optional(NO_TEXT, 1)
 CONFIGS = [Config(tab_width=0), Config(tab_width=-1), Config(attach="nowhere")]
+
+
+class Call:
+    """What a call is handed that draws two labels over two sources."""
+
+    def __init__(self):
+        self.labels = (sewarqo._Label * 2)()
+        self.sources = (sewarqo._Source * 2)()
+        self.texts = (sewarqo._Text * 2)()
+        self.report = sewarqo._Report()
+        self.room = 4096
+        for it in self.labels:
+            it.end = 2
+        for it in self.sources:
+            it.text = sewarqo._Text(b"abc", 3)
+        self.report.labels, self.report.labels_len = self.labels, 2
+        self.report.helps, self.report.helps_len = self.texts, 2
+
+    def made(self):
+        """The status, the length, the number, and whether the buffer is as it was."""
+        out = ctypes.create_string_buffer(b"#" * self.room, self.room)
+        length, count = ctypes.c_size_t(77), ctypes.c_size_t(77)
+        status = sewarqo._library().sewarqo_draw(
+            ctypes.byref(self.report), self.sources, 2, out, self.room, ctypes.byref(length), None, 0,
+            ctypes.byref(count))
+        return status, length.value, count.value, out.raw == b"#" * self.room
+
+
+def set_field(struct, name, value):
+    setattr(struct, name, value)
+
+
+def set_kind_name(report):
+    report.kind, report.kind_color, report.kind_name = 3, 1, NO_TEXT
+
+
+def set_notes(call):
+    call.report.helps_len = 0
+    call.report.notes, call.report.notes_len = call.texts, 2
+    call.texts[1] = NO_TEXT
+
+
+def statuses():
+    """Where the library returns another status or leaves something else."""
+    for status, number, change in STATUSES:
+        call = Call()
+        change(call)
+        got, length, count, is_kept = call.made()
+        if (got, count, is_kept) != (status, number, status > 1) or (length > 0) != (status < 3):
+            yield f"status {status}: {got}, length {length}, number {count}, kept: {is_kept}"
+
+
+def short_memory():
+    """A picture that takes more memory than there is: a tab of a million million columns."""
+    with open("/proc/self/statm", encoding="ascii") as pages:
+        taken = int(pages.read().split()[0]) * resource.getpagesize()
+    before = resource.getrlimit(resource.RLIMIT_AS)
+    resource.setrlimit(resource.RLIMIT_AS, (taken + 2**28, before[1]))
+    try:
+        report = Report("error", labels=[Label(None, 1, 2, "x")])
+        yield f"{len(report.render(chr(9) + 'x', Config(tab_width=10**12)))} characters of memory"
+    except MemoryError as error:
+        if "picture" not in str(error):
+            yield f"{error!r}"
+    finally:
+        resource.setrlimit(resource.RLIMIT_AS, before)
+
+
+def many_labels():
+    """10,000 labels, of which every second is left out."""
+    labels = [Label(None, at % 2 * 99, at % 2 * 99 + 1, "m") for at in range(10000)]
+    drawn = Report("error", labels=labels).draw("abc")
+    if [it.label for it in drawn.left_out] != list(range(1, 10000, 2)) or drawn.text.count("m") < 5000:
+        yield f"of 10,000 labels {len(drawn.left_out)} are left out"
 
 
 def refused(report, sources, config=Config()):
@@ -79,6 +179,9 @@ def unlike():
     if len(Report("error", "m" * 10000).render("x")) < 10000:
         yield "a long picture"
     yield from numbers_of_colors()
+    yield from statuses()
+    yield from many_labels()
+    yield from short_memory()
 
 
 def numbers_of_colors():
@@ -93,5 +196,5 @@ def numbers_of_colors():
 
 faults = list(unlike())
 print(*faults, sep="\n", end="\n" * bool(faults))
-print(f"{len(REFUSALS) + len(CONFIGS)} refusals, {len(faults)} faults")
+print(f"{len(REFUSALS) + len(CONFIGS) + len(STATUSES)} refusals, {len(faults)} faults")
 raise SystemExit(bool(faults))

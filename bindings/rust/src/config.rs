@@ -41,6 +41,7 @@ pub struct Config {
     pub(crate) tab_width: usize,
     pub(crate) char_set: CharSet,
     pub(crate) index_type: IndexType,
+    pub(crate) safe: bool,
 }
 
 impl Config {
@@ -56,6 +57,7 @@ impl Config {
             tab_width: 4,
             char_set: CharSet::Unicode,
             index_type: IndexType::Char,
+            safe: false,
         }
     }
 
@@ -116,6 +118,27 @@ impl Config {
     /// What the offsets of spans count. Usually characters.
     pub const fn with_index_type(mut self, index_type: IndexType) -> Config {
         self.index_type = index_type;
+        self
+    }
+
+    /// Whether a sign stands for each character of a text that a terminal obeys or shows nothing of. Usually
+    /// false, since the escapes of [`Fmt`](crate::Fmt) in messages would be shown by signs too. Offsets are
+    /// those of the given texts. `ariadne` 0.6.0 has no such call.
+    ///
+    /// ```
+    /// use ariadne::{Config, Report, ReportKind, Source};
+    ///
+    /// let mut picture = Vec::new();
+    /// Report::build(ReportKind::Error, 0..0)
+    ///     .with_config(Config::new().with_color(false).with_safe(true))
+    ///     .with_message("a \x1b[1mbold\x1b[0m word")
+    ///     .finish()
+    ///     .write(Source::from(""), &mut picture)
+    ///     .unwrap();
+    /// assert_eq!(String::from_utf8(picture).unwrap(), "Error: a \u{241b}[1mbold\u{241b}[0m word\n");
+    /// ```
+    pub const fn with_safe(mut self, safe: bool) -> Config {
+        self.safe = safe;
         self
     }
 }

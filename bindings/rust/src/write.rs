@@ -192,6 +192,7 @@ fn flags_of(config: &Config) -> u32 {
         !config.underlines,
         !config.multiline_arrows,
         !config.cross_gap,
+        !config.safe,
     ];
     flags.iter().enumerate().map(|(bit, is_set)| u32::from(*is_set) << bit).sum()
 }

@@ -42,6 +42,8 @@ numbered report sources old new old_left new_left (Drawn len zero) h = record {
   sound = λ _. h.0;
   faulty = λ e. absurd (omega (arith, e));
   unchanged = λ e. absurd (omega (arith, e));
+  no_len = λ e. absurd (omega (arith, e));
+  no_count = λ e f. absurd (omega (arith, e));
   in_range = omega arith;
 }
 numbered report sources old new old_left new_left (Drawn len (suc left_out)) h =
@@ -53,6 +55,8 @@ numbered report sources old new old_left new_left (Drawn len (suc left_out)) h =
       sound = λ _. h.0;
       faulty = λ e. absurd (omega (arith, e));
       unchanged = λ e. absurd (omega (arith, e));
+      no_len = λ e. absurd (omega (arith, e));
+      no_count = λ e f. absurd (omega (arith, e));
       in_range = omega arith;
     })
 numbered report sources old new old_left new_left (TooShort len) h = record {
@@ -63,6 +67,8 @@ numbered report sources old new old_left new_left (TooShort len) h = record {
   sound = λ _. h.0;
   faulty = λ e. absurd (omega (arith, e));
   unchanged = λ _. (h.1, h.2);
+  no_len = λ e. absurd (omega (arith, e));
+  no_count = λ _ _. refl;
   in_range = omega arith;
 }
 numbered report sources old new old_left new_left (Refused NoMemory) h = record {
@@ -73,6 +79,8 @@ numbered report sources old new old_left new_left (Refused NoMemory) h = record 
   sound = λ e. absurd (omega (arith, e));
   faulty = λ e. absurd (omega (arith, e));
   unchanged = λ _. (h.0, h.1);
+  no_len = λ _. refl;
+  no_count = λ _ _. refl;
   in_range = omega arith;
 }
 numbered report sources old new old_left new_left (Refused (Faulty f)) h =
@@ -86,5 +94,7 @@ numbered report sources old new old_left new_left (Refused (Faulty f)) h =
       sound = λ e. absurd (omega (arith, e, low));
       faulty = λ _. rw h.2 (refl, refl);
       unchanged = λ _. (h.0, h.1);
+      no_len = λ _. refl;
+      no_count = λ e f. absurd (omega (arith, f, low));
       in_range = high;
     }

@@ -5,3 +5,5 @@ pub mod Numbers
 pub mod Same
 pub mod Showing
 pub mod Endings
+pub mod SafeSources
+pub mod Safely

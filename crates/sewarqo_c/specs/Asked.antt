@@ -21,6 +21,10 @@ use Rattle.sewarqo_c.specs.Given.{given_text}
 abbrev pub has : ℕ → ℕ → Bool
 has flags bit = (flags / bit) % 2 == 1
 
+-- its texts are drawn as they are, and not by signs
+abbrev pub is_as_it_is : GivenReport → Bool
+is_as_it_is r = has r.flags 128
+
 -- where strokes are attached
 abbrev pub attach_of : ℕ → LabelAttach
 attach_of attach = if attach == 1 then Start else (if attach == 2 then End else Middle)

@@ -102,4 +102,7 @@ module _ (report : GivenReport) (sources : List GivenSource) where
     pub faulty : 4 ≤ result → IsFirstFault count result
     -- 2 and more: the buffers are as they were
     pub unchanged : 2 ≤ result → (new ≡ old) × (new_left ≡ old_left)
+    -- 3 and more: no picture has a length, and without a fault nothing has a number
+    pub no_len : 3 ≤ result → len ≡ 0
+    pub no_count : 2 ≤ result → result ≤ 3 → count ≡ 0
     pub in_range : result ≤ 19

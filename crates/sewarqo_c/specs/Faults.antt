@@ -4,7 +4,7 @@ use Rattle.std.specs.Prelude.{ℕ, ◌≡◌, ◌+◌, ◌^◌, ◌==◌, ◌++�
 use Rattle.std.specs.Prelude.{if◌then◌else◌, nat_le, nat_lt, List, [], ◌∷◌, length, Some}
 use Rattle.std.specs.Prelude.{slice_get}
 use Rattle.std.specs.Str.{is_utf8}
-use Rattle.ariadne.specs.Listing.{listed_lines}
+use Rattle.ariadne.specs.Listing.{Listing, listed_lines}
 use Rattle.sewarqo_c.specs.declared.GivenLabel.{GivenLabel}
 use Rattle.sewarqo_c.specs.declared.GivenReport.{GivenReport}
 use Rattle.sewarqo_c.specs.declared.GivenSource.{GivenSource}
@@ -14,8 +14,9 @@ use Rattle.sewarqo_c.specs.declared.ending.Fault.{Fault}
 use Rattle.sewarqo_c.specs.declared.ending.Fault.TheVariants as fault
 use Rattle.sewarqo_c.specs.declared.ending.Refusal.{Refusal}
 use Rattle.sewarqo_c.specs.declared.ending.Refusal.TheVariants.{NoMemory, Faulty}
+use Rattle.sewarqo_c.specs.Asked.{is_as_it_is}
 use Rattle.sewarqo_c.specs.Colors.{is_color}
-use Rattle.sewarqo_c.specs.Given.{listing_of}
+use Rattle.sewarqo_c.specs.Given.{listing_of, shown_listing}
 
 -- the fault, where this is so
 abbrev pub when : Bool → Fault → List Fault
@@ -46,7 +47,7 @@ kind_faults r =
 
 -- those of the settings
 abbrev pub settings_faults : GivenReport → List Fault
-settings_faults r = when (nat_lt 127 r.flags) fault.Flags ++ when (nat_lt 2 r.attach) fault.Attach
+settings_faults r = when (nat_lt 255 r.flags) fault.Flags ++ when (nat_lt 2 r.attach) fault.Attach
 
 -- those of what stands in front of the labels
 abbrev pub head_faults : GivenReport → List Fault
@@ -75,17 +76,24 @@ report_faults sources r =
     head_faults r ++ (faults_from (label_faults sources) 0 r.labels.now
     ++ (faults_from help_faults 0 r.helps.now ++ faults_from note_faults 0 r.notes.now))
 
--- those of the source with number k: the numbers of its lines must be below 2 to the 64th
-abbrev pub source_faults : ℕ → GivenSource → List Fault
-source_faults k s =
+-- those of the source with number k, which is shown so: the numbers of its lines must be below 2 to
+-- the 64th
+abbrev pub source_faults : (GivenSource → Listing) → ℕ → GivenSource → List Fault
+source_faults shown k s =
     optional_faults (fault.SourceName k) s.name
     ++ (text_faults (fault.SourceText k) s.text.bytes.now
-    ++ when (nat_le (2 ^ 64) (s.line_offset + length (listed_lines (listing_of s))))
+    ++ when (nat_le (2 ^ 64) (s.line_offset + length (listed_lines (shown s))))
     (fault.SourceLines k))
+
+-- those of a call whose sources are shown so
+abbrev pub faults_over : (GivenSource → Listing) → GivenReport → List GivenSource → List Fault
+faults_over shown r sources =
+    report_faults (length sources) r ++ faults_from (source_faults shown) 0 sources
 
 -- those of a call
 abbrev pub faults : GivenReport → List GivenSource → List Fault
-faults r sources = report_faults (length sources) r ++ faults_from source_faults 0 sources
+faults r sources =
+    if is_as_it_is r then faults_over listing_of r sources else faults_over shown_listing r sources
 
 -- a refusal is for want of memory, which may come at any time, or for the first of these faults
 abbrev pub IsFirst : List Fault → Refusal → Type 0

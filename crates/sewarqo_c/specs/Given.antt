@@ -4,6 +4,8 @@ use Rattle.std.specs.Prelude.{None, slice_get}
 use Rattle.std.specs.List.{enumerate_from}
 use Rattle.std.specs.Option.{option_copied, option_and_then}
 use Rattle.ariadne.specs.Listing.{Listing}
+use Rattle.ariadne_visible.specs.Visible.{visible_bytes}
+use Rattle.ariadne_visible.specs.declared.text.TextKind.TheVariants.{Lines}
 use Rattle.sewarqo_c.specs.declared.GivenSource.{GivenSource}
 use Rattle.sewarqo_c.specs.declared.OptionalText.{OptionalText}
 use Rattle.sewarqo_c.specs.declared.sources.Named.{Named}
@@ -15,6 +17,13 @@ given_text t = if t.is_given == 0 then None else Some t.text.bytes.now
 -- a given source
 abbrev pub listing_of : GivenSource → Listing
 listing_of s = record { text = s.text.bytes.now; display_offset = s.line_offset }
+
+-- the same with a sign for each character that a terminal obeys or shows nothing of
+abbrev pub shown_listing : GivenSource → Listing
+shown_listing s = record {
+  text = visible_bytes Lines s.text.bytes.now;
+  display_offset = s.line_offset;
+}
 
 -- the given sources, each under its number, and their names
 abbrev pub given : List GivenSource → List (ℕ × Listing)

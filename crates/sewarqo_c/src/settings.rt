@@ -47,7 +47,7 @@ pub fn config_of(given: &GivenReport<'_>) -> Result<Config, Refusal>
     ensures sound { OnOk result (settings_faults given.now ≡ []) }
     ensures err { IfErr result (IsFirst (settings_faults given.now)) }
 {
-    if given.flags > 127 {
+    if given.flags > 255 {
         return Err(Refusal::Faulty(Fault::Flags));
     }
     if given.attach > 2 {
@@ -93,7 +93,7 @@ fn config_with(flags: u32, tab_width: usize) -> Config
 }
 
 /// Whether a bit is set.
-fn has(flags: u32, bit: u32) -> bool
+pub fn has(flags: u32, bit: u32) -> bool
     requires { bit ≢ 0 }
     ensures { result ≡ has flags bit }
 {

@@ -3,7 +3,7 @@
 ghost use Rattle.std.specs.Prelude.{◌≡◌, ⊤, [], IfOk, OnOk, IfErr};
 ghost use Rattle.std.proofs.Common.{ap, eqb-true};
 ghost use Rattle.sewarqo_c.specs.Faults.{IsFirst, faults_from, source_faults};
-ghost use Rattle.sewarqo_c.specs.Given.{contents_of, name_in, AreNamed, IsNamed};
+ghost use Rattle.sewarqo_c.specs.Given.{contents_of, listing_of, name_in, AreNamed, IsNamed};
 
 use crate::GivenSource;
 use crate::ending::{Fault, Refusal};
@@ -63,8 +63,8 @@ impl<'a> Cache<usize> for Numbered<'a> {
 /// All sources that are given.
 pub fn read_sources<'a>(alloc: Global, given: &[GivenSource<'a>]) -> Result<Numbered<'a>, Refusal>
     ensures ok { IfOk result (λ it. AreNamed given.now it.items.items) }
-    ensures sound { OnOk result (faults_from source_faults 0 given.now ≡ []) }
-    ensures err { IfErr result (IsFirst (faults_from source_faults 0 given.now)) }
+    ensures sound { OnOk result (faults_from (source_faults listing_of) 0 given.now ≡ []) }
+    ensures err { IfErr result (IsFirst (faults_from (source_faults listing_of) 0 given.now)) }
 {
     let mut items = Vec::new(alloc);
     for (number, source) in given.iter().enumerate() {
@@ -80,8 +80,8 @@ fn read_source<'a>(
     given: &GivenSource<'a>,
 ) -> Result<Named<'a>, Refusal>
     ensures ok { IfOk result (IsNamed given.now) }
-    ensures sound { OnOk result (source_faults number given.now ≡ []) }
-    ensures err { IfErr result (IsFirst (source_faults number given.now)) }
+    ensures sound { OnOk result (source_faults listing_of number given.now ≡ []) }
+    ensures err { IfErr result (IsFirst (source_faults listing_of number given.now)) }
 {
     let name = optional_text(&given.name, Fault::SourceName(number))?;
     let text = text(given.text.bytes, Fault::SourceText(number))?;
