@@ -1,4 +1,5 @@
-"""Cases as docs/CASES.md tells them: those that are stored, and reports written as cases."""
+"""Cases as docs/CASES.md tells them: those that are stored, and reports written as cases or read from
+them."""
 
 import re
 import tomllib
@@ -10,6 +11,22 @@ NEW_ESCAPE = re.compile(r"\\(?:\\|e|x[0-9a-fA-F]{2})")
 # What stands in a text as it is. (No blank ends a line, since a quote stands behind it.)
 NOT_PLAIN = re.compile(r'["\\]|[^ -~]')
 LARGEST = 2**63 - 1
+LAST_OFFSET = 2**64 - 1
+# The settings of a case that tells none.
+SETTINGS = {
+    "cross_gap": True,
+    "label_attach": "Middle",
+    "compact": False,
+    "underlines": True,
+    "multiline_arrows": True,
+    "color": False,
+    "tab_width": 4,
+    "char_set": "Ascii",
+    "index_type": "Char",
+}
+# What the model of reports has no words for.
+NOT_RECKONED = {"painted", "safe", "takes", "fails"}
+PAIRS = ("(id, Source)", "(id, &Source)")
 
 
 def old_escape(found):
@@ -75,15 +92,20 @@ def sources_of(report):
     sources = report["sources"]
     if report["cache"] == "source":
         return told(source=sources[0]["text"], line_offset=sources[0]["offset"] or None)
-    ids = {source["id"] for source in sources}
-    asked = [report["span"][0], *(label["id"] for label in report["labels"])]
-    return told(
-        sources=[
+    if report["cache"] == "files":
+        given = [told(id=source["id"]) for source in sources]
+    else:
+        given = [
             told(id=source["id"], text=source["text"], line_offset=source["offset"] or None)
             for source in sources
-        ],
+        ]
+    ids = {source["id"] for source in sources}
+    hidden = report["hidden"] if report["cache"] == "custom" else []
+    asked = [report["span"][0], *(label["id"] for label in report["labels"]), *hidden]
+    return told(
+        sources=given,
         missing=[it for it in dict.fromkeys(asked) if it not in ids],
-        hidden=report["hidden"][0] if report["cache"] == "custom" else None,
+        hidden=hidden[0] if hidden else None,
         cache="FileCache" if report["cache"] == "files" else None,
     )
 
@@ -108,3 +130,57 @@ def case_of(name, report):
         safe=report.get("safe"),
     )
     return text_of_case(members)
+
+
+def ends_of(piece):
+    """The start and the end of a piece: those of `0..=4` are 0 and 5."""
+    start, _, end = piece.partition("..")
+    return int(start), min(int(end[1:]) + 1, LAST_OFFSET) if end.startswith("=") else int(end)
+
+
+def given_sources(case):
+    """The sources of a case that its cache has. Those of a FileCache are files."""
+    if "source" in case:
+        return [{"id": None, "text": case["source"], "offset": int(case.get("line_offset", 0))}]
+    sources = case["sources"][:1] if case.get("cache") in PAIRS else case["sources"]
+    return [
+        {
+            "id": source["id"],
+            "text": source["text"] if "text" in source else (DATA / source["id"]).read_bytes().decode(),
+            "offset": int(source.get("line_offset", 0)),
+        }
+        for source in sources
+    ]
+
+
+def code_of(case):
+    """The code of a case. One that is a number has two digits."""
+    return case.get("code", f"{int(case['number']):02}" if "number" in case else None)
+
+
+def report_of(case):
+    """The report of a case, or None where the model has no words for it."""
+    if NOT_RECKONED & case.keys() or case.get("cache") == "no memory":
+        return None
+    sources = given_sources(case)
+    first, last = sources[0]["id"], slice(-1, None) if case.get("builder") == "set" else slice(None)
+    labels = []
+    for label in case.get("labels", []):
+        start, end = ends_of(label["at"])
+        labels.append({"id": first, "message": None, "color": None, "order": 0, "priority": 0, **label})
+        labels[-1].update(start=start, end=end)
+    settings = {**SETTINGS, **case.get("settings", {})}
+    return {
+        "kind": case.get("kind", "Error"),
+        "kind_color": case.get("kind_color"),
+        "code": code_of(case),
+        "message": case.get("message"),
+        "span": [case.get("id", first), *ends_of(case.get("at", "0..0"))],
+        "labels": labels,
+        "helps": case.get("helps", [])[last],
+        "notes": case.get("notes", [])[last],
+        "config": {**settings, "tab_width": int(settings["tab_width"])},
+        "cache": "source" if "source" in case else "custom" if "hidden" in case else "sources",
+        "sources": sources,
+        "hidden": [case["hidden"]] if "hidden" in case else [],
+    }

@@ -21,14 +21,26 @@ def program():
     return ran.stdout.decode().removesuffix("\n")
 
 
-def answers_to(cases):
-    """What the program says of each of these cases, by name."""
+def ask(cases):
+    """The status with which the program ends, and what it says of each of these cases, by name."""
     ran = subprocess.run([program(), "--answer"], input=cases.encode(), stdout=subprocess.PIPE)
-    lines = (line for line in ran.stdout.split(b"\n") if line.startswith(b'{"answer": '))
-    return {answer.pop("answer"): answer for answer in map(json.loads, lines)}
+    lines = (it for it in ran.stdout.split(b"\n") if it.startswith(b'{"answer": ') and it.endswith(b"}"))
+    return ran.returncode, {answer.pop("answer"): answer for answer in map(json.loads, lines)}
+
+
+def answers_to(cases):
+    """What the program says of each of these cases, by name. A run that fails ends this one."""
+    status, answers = ask(cases)
+    if status:
+        sys.exit(f"ariadne_replay ended with status {status}")
+    return answers
 
 
 def draw(reports):
-    """What the program says of each report: None where it says nothing."""
-    answers = answers_to("".join(case_of(str(number), report) for number, report in enumerate(reports)))
-    return [answers.get(str(number)) for number in range(len(reports))]
+    """What the program says of each report: None where it says nothing. One that fails though it has said
+    something of each stopped at the last one."""
+    status, answers = ask("".join(case_of(str(number), report) for number, report in enumerate(reports)))
+    drawn = [answers.get(str(number)) for number in range(len(reports))]
+    if status and drawn and None not in drawn:
+        drawn[-1] = None
+    return drawn

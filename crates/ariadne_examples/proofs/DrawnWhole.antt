@@ -46,7 +46,7 @@ module _ (text : List ℕ) (place : Range ℕ) (forward : place.start ≤ place.
   drawn_whole list before after is =
       let none = no_reason is.reasons is.are_reasons.judged in
       let traced = rw none at is.traced.each_message_is_traced in
-      (rw none at is.left_out, rw none at is.sent, (traced.placing, traced.reads.rows_belong_together, traced.reads.each_message_has_one_row_of_its_own))
+      (rw none at is.left_out, rw none at is.traced.exactly_the_printed_canvas_was_sent, (traced.placing, traced.reads.rows_belong_together, traced.reads.each_message_has_one_row_of_its_own))
 
   -- the text stays held
   pub still_held : (new : Listing) → GrowsFor {Id = ⊤} (λ (it : Range ℕ). tt) (λ p q. true) (unknown_name place).labels ((tt, listing_of text) ∷ []) ((tt, new) ∷ []) → new ≡ listing_of text

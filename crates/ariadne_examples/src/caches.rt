@@ -1,7 +1,7 @@
 //! A cache of your own, which shows one of its ids under a title. Copy `Titled`, and put your
-//! sources in place of `map`. The ghost members are what a report relies on: `contents` is what is
-//! held, which only grows; `names` what `display` returns, which no fetch changes; `fails` the
-//! errors that an id may have; `names_respect_eq` the proof that equal ids have equal names.
+//! sources in place of `map`. The ghost members are what a report relies on. `contents` is what is
+//! held, which only grows. `names` is what `display` returns, which no fetch changes. `fails` is the
+//! errors that an id may have, and `names_respect_eq` the proof that equal ids have equal names.
 
 ghost use Rattle.std.specs.Prelude.{◌≡◌, Some, cond};
 ghost use Rattle.std.specs.Str.{bytes_eq};

@@ -1,11 +1,12 @@
 //! Labels in several files, which a `FileCache` reads when they are first asked for. Copy `report`
-//! and `draw`: an id is a path as text, and spans are paired with it. `is_unread` shows what is told
-//! of a file that can't be had; the labels in the others are drawn all the same.
+//! and `draw`: an id is a path as text, and spans are paired with it. `fault` finds the system's
+//! reason for a file that can't be had; the labels in the others are drawn all the same.
 
 use crate::pictures::{assert_rows, plain};
 use ariadne::{FileCache, FileError, Label, LeftOut, Reason, Report, ReportKind, WriteError};
 use ariadne_fakes::Folder;
 use std::alloc::{AllocError, Global};
+use std::io;
 use std::io::Write;
 use std::ops::Range;
 use std::path::PathBuf;
@@ -38,11 +39,11 @@ pub(crate) fn draw<R: Files, W: Write>(
     report(alloc, pie, fruit)?.write(&mut cache, out)
 }
 
-/// Whether a label is left out since its file can't be opened or read.
-fn is_unread(left: &LeftOut<FileError>) -> bool {
+/// Why the system can't open or read the file of a label, if it is left out for that.
+fn fault<'l>(left: &'l LeftOut<FileError>) -> Option<&'l io::Error> {
     match &left.reason {
-        Reason::Unfetched(error) => matches!(error, FileError::Read(_)),
-        Reason::PastSource | Reason::CutsCharacter => false,
+        Reason::Unfetched(error) => error.fault(),
+        Reason::PastSource | Reason::CutsCharacter => None,
     }
 }
 
@@ -101,7 +102,9 @@ fn a_file_that_is_not_there_takes_away_its_labels_alone(rt: HostRuntime) {
     assert_eq!(rt; left_out.len(), 1);
     for left in &left_out {
         assert_eq!(rt; left.label, 1);
-        assert!(rt; is_unread(left));
+        let fault = fault(left).expect(&rt, "a fault");
+        let told = fault.to_string(rt.alloc()).expect(&rt, "memory");
+        assert_eq!(rt; told.as_str(), "No such file or directory (os error 2)");
     }
     assert!(rt; picture.ends_with("this is a text\n---'\n"));
     folder.remove(&rt).expect(&rt, "no folder")

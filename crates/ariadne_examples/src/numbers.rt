@@ -1,6 +1,6 @@
-//! Files by number, as compilers keep them, and spans that are a number and a `Place`. Copy
-//! `Spot`, and `SourceTable` in `drawn`: `add` returns the number of a file, and headers show its
-//! name. No place asks for a proof.
+//! Files by number, as compilers keep them, and spans that are a number and a `Place`. Copy `Spot`
+//! and `again`. The test makes a `SourceTable`: `add` returns the number of a file, and headers show
+//! its name. No place asks for a proof.
 
 use crate::pictures::{assert_rows, picture_of, plain};
 use ariadne::{Label, Place, Report, ReportKind, SourceTable};

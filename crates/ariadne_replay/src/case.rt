@@ -67,7 +67,7 @@ static LABEL: [(&str, Form); 6] = [
 ];
 
 /// Members that don't stand together: one, another, and what the first is beside that.
-static CLASHES: [(&str, &str, &str); 7] = [
+static CLASHES: [(&str, &str, &str); 13] = [
     ("sources", "source", "no member beside 'source'"),
     ("missing", "source", "no member beside 'source'"),
     ("hidden", "source", "no member beside 'source'"),
@@ -79,6 +79,34 @@ static CLASHES: [(&str, &str, &str); 7] = [
     ),
     ("cache", "hidden", "no member beside 'hidden'"),
     ("call", "takes", "no member beside 'takes'"),
+    ("cache", "safe", "no member beside 'safe'"),
+    ("builder", "safe", "no member beside 'safe'"),
+    ("call", "safe", "no member beside 'safe'"),
+    ("takes", "safe", "no member beside 'safe'"),
+    ("number", "safe", "no member beside 'safe'"),
+    ("painted", "safe", "no member beside 'safe'"),
+];
+
+/// The cache that reads the texts of its sources from files.
+const FILES: &str = "FileCache";
+
+/// Members of a source that a cache doesn't read: the cache, the member, and what that is.
+static UNREAD: [(&str, &str, &str); 3] = [
+    (
+        FILES,
+        "text",
+        "no member beside a FileCache, which reads files",
+    ),
+    (
+        FILES,
+        "line_offset",
+        "no member beside a FileCache, which counts from 1",
+    ),
+    (
+        "FnCache",
+        "line_offset",
+        "no member beside an FnCache, whose function returns texts",
+    ),
 ];
 
 /// The form of the member of a name, if there is one.
@@ -105,23 +133,43 @@ fn check<'c>(told: &'c Value, members: &[(&str, Form)]) -> Read<'c, ()> {
     Ok(())
 }
 
-/// Refuses a list of which a table has an odd member, or lacks one that is needed.
-fn check_all<'c>(
-    list: &'c [Value],
-    members: &[(&str, Form)],
-    needed: &[&'static str],
-) -> Read<'c, ()> {
-    for told in list {
-        check(told, members)?;
-        check_needed(told, needed)?;
+/// Refuses labels of which one has an odd member, or has no piece.
+fn check_labels(case: &Value) -> Read<'_, ()> {
+    for label in list(case, "labels") {
+        check(label, &LABEL)?;
+        if !has(label, "at") {
+            return Err(Mistake::Odd("at", "missing"));
+        }
     }
     Ok(())
 }
 
-/// Refuses a table that lacks one of these members.
-fn check_needed<'c>(told: &'c Value, needed: &[&'static str]) -> Read<'c, ()> {
-    for name in needed {
-        if !has(told, name) {
+/// Refuses a source that has a member which a cache of this name doesn't read.
+fn check_unread<'c>(source: &'c Value, cache: &str) -> Read<'c, ()> {
+    for (unread, name, wrong) in UNREAD.iter() {
+        if *unread == cache && has(source, name) {
+            return Err(Mistake::Odd(name, wrong));
+        }
+    }
+    Ok(())
+}
+
+/// The member that a source lacks, if any: its id, or its text where that is in no file.
+fn lacking(source: &Value, cache: &str) -> Option<&'static str> {
+    if !has(source, "id") {
+        return Some("id");
+    }
+    let has_text = cache == FILES || has(source, "text");
+    if has_text { None } else { Some("text") }
+}
+
+/// Refuses sources of which one has an odd member, or lacks one.
+fn check_sources(case: &Value) -> Read<'_, ()> {
+    let cache = text(case, "cache").unwrap_or("");
+    for source in list(case, "sources") {
+        check(source, &SOURCE)?;
+        check_unread(source, cache)?;
+        if let Some(name) = lacking(source, cache) {
             return Err(Mistake::Odd(name, "missing"));
         }
     }
@@ -151,34 +199,41 @@ fn has_id(list: &[Value], id: &str) -> bool {
     false
 }
 
-/// Refuses an id that no source has, of a case or of a label.
-fn check_id<'c>(case: &'c Value, told: &'c Value) -> Read<'c, ()> {
-    let Some(id) = text(told, "id") else {
-        return Ok(());
-    };
-    if has_id(list(case, "sources"), id) || has_id(list(case, "missing"), id) {
-        return Ok(());
+/// An id that no source has, if such a member of a case or of a label is one.
+fn unknown_id<'c>(case: &Value, told: &'c Value, name: &str) -> Option<&'c str> {
+    let id = text(told, name)?;
+    let is_known = has_id(list(case, "sources"), id) || has_id(list(case, "missing"), id);
+    if is_known { None } else { Some(id) }
+}
+
+/// The first id of a label that no source has.
+fn unknown_label_id(case: &Value) -> Option<&str> {
+    for label in list(case, "labels") {
+        let id = unknown_id(case, label, "id");
+        if id.is_some() {
+            return id;
+        }
     }
-    Err(Mistake::Odd(
-        id,
-        "not the id of a source of the case, nor of a missing one",
-    ))
+    None
 }
 
 /// Refuses ids of a case and of its labels that no source has.
 fn check_ids(case: &Value) -> Read<'_, ()> {
-    check_id(case, case)?;
-    for label in list(case, "labels") {
-        check_id(case, label)?;
+    let own = unknown_id(case, case, "id").or(unknown_id(case, case, "hidden"));
+    match own.or(unknown_label_id(case)) {
+        Some(id) => Err(Mistake::Odd(
+            id,
+            "not the id of a source of the case, nor of a missing one",
+        )),
+        None => Ok(()),
     }
-    Ok(())
 }
 
 /// Refuses a case that has an odd member, or members that make no sense together.
 pub fn check_case(case: &Value) -> Read<'_, ()> {
     check(case, &CASE)?;
-    check_all(list(case, "sources"), &SOURCE, &["id", "text"])?;
-    check_all(list(case, "labels"), &LABEL, &["at"])?;
+    check_sources(case)?;
+    check_labels(case)?;
     if let Some(settings) = case.get("settings") {
         check(settings, &SETTINGS)?;
     }

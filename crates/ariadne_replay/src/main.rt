@@ -4,7 +4,7 @@
 //! - `ariadne_replay FILE..` names each case that can't be read or is drawn otherwise, and shows both
 //!   pictures. The last line tells how many cases there are, and how many of them were named.
 //! - `ariadne_replay --accept NAME FILE..` prints the case of a name with what was drawn.
-//! - `ariadne_replay --answer` reads cases from standard input, and prints the answer to each:
+//! - `ariadne_replay --answer` reads cases from standard input, and prints what is drawn of each:
 //!
 //!       {"answer": "a label", "left_out": [[0, "PastSource"]], "fails": "", "picture": "Error: m\n"}
 //!

@@ -159,8 +159,7 @@ enum Way {
     Add,
     /// Each help or note in place of those before it.
     Set,
-    /// The first by a call that adds it, the second by one that returns the builder, and the others
-    /// together.
+    /// The first by a call of its own that returns the builder, and the others together.
     With,
 }
 
@@ -203,10 +202,9 @@ fn headed<'c, S: Span + Drop>(
 fn add_helps<S: Span>(
     builder: &mut ReportBuilder<'_, S>,
     way: Way,
-    helps: &[Value],
+    helps: &[&str],
 ) -> Result<(), AllocError> {
     for help in helps {
-        let help = help.as_str().unwrap_or("");
         match way {
             Way::Set => builder.set_help(help)?,
             _ => builder.add_help(help)?,
@@ -219,10 +217,9 @@ fn add_helps<S: Span>(
 fn add_notes<S: Span>(
     builder: &mut ReportBuilder<'_, S>,
     way: Way,
-    notes: &[Value],
+    notes: &[&str],
 ) -> Result<(), AllocError> {
     for note in notes {
-        let note = note.as_str().unwrap_or("");
         match way {
             Way::Set => builder.set_note(note)?,
             _ => builder.add_note(note)?,
@@ -231,84 +228,43 @@ fn add_notes<S: Span>(
     Ok(())
 }
 
-/// A report with helps: the first by `add_help`, the second by `with_help`, and the others by
-/// `with_helps`.
+/// A report with helps: the first by `with_help`, and the others by `with_helps`.
 fn with_helps<'c, S: Span + Drop>(
-    mut builder: ReportBuilder<'c, S>,
+    builder: ReportBuilder<'c, S>,
     helps: &[&str],
 ) -> Result<ReportBuilder<'c, S>, AllocError> {
-    let mut helps = helps.iter().copied();
-    if let Some(help) = helps.next() {
-        builder.add_help(help)?;
-    }
-    if let Some(help) = helps.next() {
-        builder = builder.with_help(help)?;
-    }
-    builder.with_helps(helps)?;
+    let [first, others @ ..] = helps else {
+        return Ok(builder);
+    };
+    let mut builder = builder.with_help(first)?;
+    builder.with_helps(others.iter().copied())?;
     Ok(builder)
 }
 
-/// A report with notes: the first by `add_note`, the second by `with_note`, and the others by
-/// `with_notes`.
+/// A report with notes: the first by `with_note`, and the others by `with_notes`.
 fn with_notes<'c, S: Span + Drop>(
-    mut builder: ReportBuilder<'c, S>,
+    builder: ReportBuilder<'c, S>,
     notes: &[&str],
 ) -> Result<ReportBuilder<'c, S>, AllocError> {
-    let mut notes = notes.iter().copied();
-    if let Some(note) = notes.next() {
-        builder.add_note(note)?;
-    }
-    if let Some(note) = notes.next() {
-        builder = builder.with_note(note)?;
-    }
-    builder.with_notes(notes)?;
+    let [first, others @ ..] = notes else {
+        return Ok(builder);
+    };
+    let mut builder = builder.with_note(first)?;
+    builder.with_notes(others.iter().copied())?;
     Ok(builder)
 }
 
-/// A report with labels: the first by `add_label`, the second by `with_label`, and the others by
-/// `with_labels`.
+/// A report with labels: the first by `with_label`, and the others by `with_labels`.
 fn with_labels<'c, S: Span + Drop>(
-    mut builder: ReportBuilder<'c, S>,
+    builder: ReportBuilder<'c, S>,
     labels: Vec<Label<S>>,
 ) -> Result<ReportBuilder<'c, S>, AllocError> {
     let mut labels = labels.into_iter();
-    if let Some(label) = labels.next() {
-        builder.add_label(label)?;
-    }
-    if let Some(label) = labels.next() {
-        builder = builder.with_label(label)?;
-    }
+    let builder = match labels.next() {
+        Some(label) => builder.with_label(label)?,
+        None => builder,
+    };
     builder.with_labels(labels)
-}
-
-/// A report with the helps of its case, by all calls that add helps.
-fn with_case_helps<'c, S: Span + Drop>(
-    alloc: Global,
-    builder: ReportBuilder<'c, S>,
-    case: &Value,
-) -> Result<ReportBuilder<'c, S>, AllocError> {
-    let helps = texts_of(alloc, case, "helps")?;
-    with_helps(builder, helps.as_slice())
-}
-
-/// A report with the notes of its case, by all calls that add notes.
-fn with_case_notes<'c, S: Span + Drop>(
-    alloc: Global,
-    builder: ReportBuilder<'c, S>,
-    case: &Value,
-) -> Result<ReportBuilder<'c, S>, AllocError> {
-    let notes = texts_of(alloc, case, "notes")?;
-    with_notes(builder, notes.as_slice())
-}
-
-/// Adds the helps and the notes of a case.
-fn add_texts<S: Span>(
-    builder: &mut ReportBuilder<'_, S>,
-    way: Way,
-    case: &Value,
-) -> Result<(), AllocError> {
-    add_helps(builder, way, list(case, "helps"))?;
-    add_notes(builder, way, list(case, "notes"))
 }
 
 /// A report with the helps and the notes of its case.
@@ -318,10 +274,13 @@ fn texted<'c, S: Span + Drop>(
     way: Way,
     case: &Value,
 ) -> Result<ReportBuilder<'c, S>, AllocError> {
+    let helps = texts_of(alloc, case, "helps")?;
+    let notes = texts_of(alloc, case, "notes")?;
     if let Way::With = way {
-        return with_case_notes(alloc, with_case_helps(alloc, builder, case)?, case);
+        return with_notes(with_helps(builder, helps.as_slice())?, notes.as_slice());
     }
-    add_texts(&mut builder, way, case)?;
+    add_helps(&mut builder, way, helps.as_slice())?;
+    add_notes(&mut builder, way, notes.as_slice())?;
     Ok(builder)
 }
 

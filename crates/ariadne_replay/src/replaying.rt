@@ -3,7 +3,7 @@
 use crate::case::check_case;
 use crate::discreet::Discreet;
 use crate::forgetful::Forgetful;
-use crate::making::{counted, report_of};
+use crate::making::{counted, offsets_at, report_of};
 use crate::members::{has, list, text, word};
 use crate::mistake::{Mistake, Read};
 use crate::offsets::Placed;
@@ -57,38 +57,50 @@ static SEVERALS: [(&str, Several); 5] = [
     ("no memory", Several::NoMemory),
 ];
 
-/// How many pieces of labels end with their last offset: `0..=4`.
-fn count_inclusive(labels: &[Value]) -> usize {
-    let mut count = 0usize;
-    for label in labels {
-        if text(label, "at").unwrap_or("").contains('=') {
-            count = count.saturating_add(1);
+/// Whether a piece ends with its last offset: `0..=4`.
+fn has_last(told: &Value) -> bool {
+    offsets_at(told).is_inclusive
+}
+
+/// Whether the pieces of a case, its labels' and its own if it tells one, all end as this says.
+fn all_end(case: &Value, with_last: bool) -> bool {
+    for label in list(case, "labels") {
+        if has_last(label) != with_last {
+            return false;
         }
     }
-    count
+    !has(case, "at") || has_last(case) == with_last
 }
 
-/// Whether the pieces of a case end with their last offset. Either all do or none.
+/// Whether the pieces of a case end with their last offset. Either all do or none, and none of a case
+/// that is drawn safely.
 fn is_inclusive(case: &Value) -> Read<'_, bool> {
-    let labels = list(case, "labels");
-    let count = count_inclusive(labels);
-    if count > 0 && count < labels.len() {
+    let first = match list(case, "labels") {
+        [first, ..] => first,
+        [] => case,
+    };
+    let with_last = has_last(first);
+    if !all_end(case, with_last) {
         return Err(Mistake::Odd(
-            "labels",
-            "a list with '=' in some pieces and none in others",
+            "at",
+            "written with '=' in some pieces and without in others",
         ));
     }
-    Ok(count > 0)
+    if with_last && has(case, "safe") {
+        return Err(Mistake::Odd("at", "written with '=', which no piece is beside 'safe'"));
+    }
+    Ok(with_last)
 }
 
-/// The answer of a case's report.
+/// What is drawn of a case's report.
 pub fn answer_of<'c>(rt: &HostRuntime, case: &'c Value) -> Read<'c, Answer> {
     check_case(case)?;
+    let with_last = is_inclusive(case)?;
     if has(case, "safe") {
         return answer_safely(rt.alloc(), case);
     }
     let call = call_of(case)?;
-    match (has(case, "source"), is_inclusive(case)?) {
+    match (has(case, "source"), with_last) {
         (true, false) => plain::<Range<usize>>(rt.alloc(), call, case),
         (true, true) => plain::<RangeInclusive<usize>>(rt.alloc(), call, case),
         (false, false) => named::<(String, Range<usize>)>(rt, call, case),
@@ -96,7 +108,7 @@ pub fn answer_of<'c>(rt: &HostRuntime, case: &'c Value) -> Read<'c, Answer> {
     }
 }
 
-/// The answer of a case over one source without an id.
+/// What is drawn of a case over one source without an id.
 fn plain<S: Placed + Span<SourceId = ()>>(
     alloc: Global,
     call: Call,
@@ -106,7 +118,7 @@ fn plain<S: Placed + Span<SourceId = ()>>(
     over_source(alloc, call, case, &report)
 }
 
-/// The answer of a case over sources with ids.
+/// What is drawn of a case over sources with ids.
 fn named<'c, S: Placed + Span<SourceId = String>>(
     rt: &HostRuntime,
     call: Call,
@@ -116,7 +128,7 @@ fn named<'c, S: Placed + Span<SourceId = String>>(
     over_sources(rt, call, case, &report)
 }
 
-/// The answer of a report over its only source.
+/// What is drawn of a report over its only source.
 fn over_source<'c, S: Span<SourceId = ()>>(
     alloc: Global,
     call: Call,
@@ -143,7 +155,7 @@ fn over_source<'c, S: Span<SourceId = ()>>(
     }
 }
 
-/// The answer of a report over a source in a form.
+/// What is drawn of a report over a source in a form.
 fn over_string<'c, S: Span<SourceId = ()>>(
     alloc: Global,
     call: Call,
@@ -172,7 +184,7 @@ fn default_cache(case: &Value) -> Several {
     Several::Map
 }
 
-/// The answer of a report over sources that have ids.
+/// What is drawn of a report over sources that have ids.
 fn over_sources<'c, S: Span<SourceId = String>>(
     rt: &HostRuntime,
     call: Call,
@@ -205,7 +217,7 @@ fn text_by_id(alloc: Global, source: &Value) -> Result<(String, String), AllocEr
     Ok((id, text(source, "text").unwrap_or("").to_string(alloc)?))
 }
 
-/// The answer of a report over a map of its sources.
+/// What is drawn of a report over a map of its sources.
 fn over_map<'c, S: Span<SourceId = String>>(
     alloc: Global,
     call: Call,
@@ -240,7 +252,7 @@ fn given_sources(alloc: Global, case: &Value) -> Read<'_, HashMap<String, Source
     Ok(given)
 }
 
-/// The answer of a report over sources that are given to a cache.
+/// What is drawn of a report over sources that are given to a cache.
 fn over_given_sources<'c, S: Span<SourceId = String>>(
     alloc: Global,
     call: Call,
@@ -252,7 +264,7 @@ fn over_given_sources<'c, S: Span<SourceId = String>>(
     sent(alloc, call, report, &mut cache)
 }
 
-/// The answer of a report over a cache of the program's own, which hides the name of one source.
+/// What is drawn of a report over a cache of the program's own, which hides the name of one source.
 fn over_own_cache<'c, S: Span<SourceId = String>>(
     alloc: Global,
     call: Call,
@@ -273,7 +285,7 @@ fn first_source(alloc: Global, case: &Value) -> Read<'_, (String, Source<String>
     }
 }
 
-/// The answer of a report over the first source alone.
+/// What is drawn of a report over the first source alone.
 fn over_pair<'c, S: Span<SourceId = String>>(
     alloc: Global,
     call: Call,
@@ -284,7 +296,7 @@ fn over_pair<'c, S: Span<SourceId = String>>(
     sent(alloc, call, report, &mut pair)
 }
 
-/// The answer of a report over a reference to the first source alone.
+/// What is drawn of a report over a reference to the first source alone.
 fn over_lent_pair<'c, S: Span<SourceId = String>>(
     alloc: Global,
     call: Call,
@@ -308,7 +320,7 @@ fn answered(alloc: Global, sources: &[Value], id: &str) -> Result<String, ()> {
     Err(())
 }
 
-/// The answer of a report over a cache whose function returns the texts.
+/// What is drawn of a report over a cache whose function returns the texts.
 fn over_function<'c, S: Span<SourceId = String>>(
     alloc: Global,
     call: Call,

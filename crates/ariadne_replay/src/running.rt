@@ -26,7 +26,7 @@ pub enum Task<'w> {
     Compare,
     /// It is printed with what was drawn, if it has this name.
     Accept(&'w str),
-    /// Its answer is printed.
+    /// What is drawn of it is printed.
     Answer,
 }
 
@@ -49,8 +49,8 @@ fn line_of(piece: &Piece<'_>, error: &Error) -> usize {
     }
 }
 
-/// Compares an answer with what its case stores, tells where they differ, and returns whether they are
-/// the same.
+/// Compares what was drawn of a case with what it stores, tells where they differ, and returns whether
+/// they are the same.
 fn compare(rt: &HostRuntime, piece: &Piece<'_>, case: &Value, answer: &Answer) -> io::Result<bool> {
     let stored = stored_of(rt.alloc(), case)?;
     let is_met = stored.is_met_by(answer);
@@ -116,7 +116,7 @@ impl Run {
         Err(Mistake::Odd(name, "the name of another case too"))
     }
 
-    /// The name and the answer of a case, if the task speaks of it.
+    /// The name of a case and what is drawn of it, if the task speaks of it.
     fn answered<'c>(
         &mut self,
         rt: &HostRuntime,

@@ -132,7 +132,7 @@ fn labelled<'r>(
     Ok(builder)
 }
 
-/// The answer of a report of a kind over sources.
+/// What is drawn of a report of a kind over sources.
 fn answer_over<'c, 'r>(
     alloc: Global,
     case: &'c Value,
@@ -158,7 +158,7 @@ fn renamed<'n>(kind: ReportKind<'_>, name: &'n str) -> ReportKind<'n> {
     }
 }
 
-/// The answer of a case's report, drawn safely. The member says what ends a line of its sources.
+/// What is drawn safely of a case's report. The member says what ends a line of its sources.
 pub fn answer_safely(alloc: Global, case: &Value) -> Read<'_, Answer> {
     let lines = word(
         case,

@@ -98,7 +98,7 @@ impl Sink for Keeper {
     }
 }
 
-/// The answer of a report over a cache.
+/// What is drawn of a report over a cache.
 pub fn sent<'c, S: Span, C: Cache<S::SourceId>>(
     alloc: Global,
     call: Call,
@@ -133,7 +133,7 @@ pub fn sent<'c, S: Span, C: Cache<S::SourceId>>(
     }
 }
 
-/// The answer, of the bytes that were sent and of what the call told.
+/// What came of writing, by the bytes that were sent and what the call told.
 pub fn answer_to<'c, E: Drop>(
     alloc: Global,
     bytes: Vec<u8>,

@@ -1,4 +1,4 @@
-//! What is told of a case: the answer to a report, a case with what was drawn, or how two pictures
+//! What is told of a case: what is drawn of a report, a case with what was drawn, or how two pictures
 //! differ.
 
 use crate::pieces::Piece;
@@ -24,7 +24,7 @@ fn quoted(alloc: Global, text: &str) -> Result<String, AllocError> {
     Ok(quoted)
 }
 
-/// Tells the answer to a report of a name, as a line of JSON.
+/// Tells what is drawn of a report of a name, as a line of JSON.
 pub fn tell_answer(rt: &HostRuntime, name: &str, answer: &Answer) -> io::Result<()> {
     let name = quoted(rt.alloc(), name)?;
     let picture = quoted(rt.alloc(), answer.picture.as_str())?;

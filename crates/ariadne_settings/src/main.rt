@@ -2,7 +2,7 @@
 //! standard error, in colours only where that is a terminal. Status 0: the file has no fault; 1: it has
 //! some; 2: no file is named, or it can't be read; 3: a report could not be drawn.
 //!
-//! Copy `main`, `check` and `colors`, and put a search of your own in place of `faults`.
+//! Copy this file whole, and put a search of your own in place of `faults`.
 #![tactic(auto)]
 
 mod faults;
@@ -12,7 +12,7 @@ use faults::{Fault, faults_of};
 use std::alloc::{AllocError, Global};
 use std::io::{IsTerminal, Write};
 use std::process::ExitCode;
-use std::{env, fs};
+use std::{env, fs, io};
 
 /// A report over the file at a path.
 type FileReport<'p> = Report<'static, (&'p str, Place)>;
@@ -63,10 +63,17 @@ fn told(rt: &HostRuntime, line: &str, status: u8) -> ExitCode {
     ExitCode::from(status)
 }
 
+/// Tells why the system can't read the file, and returns the status beside it.
+fn unread(rt: &HostRuntime, fault: &io::Error) -> ExitCode {
+    let _ = writeln!(rt.stderr(), "settings: the file can't be read: {fault}");
+    ExitCode::from(2)
+}
+
 /// Checks the file at a path.
 fn check_file(rt: &HostRuntime, path: &str) -> ExitCode {
-    let Ok(text) = fs::read_to_string(rt, path) else {
-        return told(rt, "the file can't be read", 2);
+    let text = match fs::read_to_string(rt, path) {
+        Ok(text) => text,
+        Err(fault) => return unread(rt, &fault),
     };
     match check(rt, path, text.as_str()) {
         Ok(0) => ExitCode::SUCCESS,

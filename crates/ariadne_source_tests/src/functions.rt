@@ -149,7 +149,7 @@ fn assert_called(rt: &(impl Abort + AllocGlobal), faulty: &'static Faulty) {
 }
 
 #[test]
-fn a_function_is_called_until_it_answers(rt: HostRuntime) {
+fn a_function_is_called_until_it_returns_a_text(rt: HostRuntime) {
     for faulty in FAULTY {
         assert_called(&rt, faulty);
     }

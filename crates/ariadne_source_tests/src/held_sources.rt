@@ -1,7 +1,7 @@
 //! What sources and caches hold, return and show, by their own calls. What is not here is tried where
 //! memory is refused.
 
-use ariadne::{Cache, FetchError, FileCache, FnCache, Source, SourceTable, sources};
+use ariadne::{Cache, FetchError, FileCache, FileError, FnCache, Source, SourceTable, sources};
 use ariadne_fakes::Folder;
 use std::collections::HashMap;
 use std::fs;
@@ -160,6 +160,7 @@ fn the_system_tells_why_a_file_can_not_be_read(rt: HostRuntime) {
     assert_eq!(rt; told.as_str(), "No such file or directory (os error 2)");
     let held = format!(in rt.alloc(); "{cache:?}").expect(&rt, "memory");
     assert!(rt; held.starts_with("FileCache"));
+    assert!(rt; FileError::NotUtf8.fault().is_none());
 }
 
 #[test]

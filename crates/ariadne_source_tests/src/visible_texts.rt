@@ -19,6 +19,15 @@ fn hidden_characters_have_signs(rt: HostRuntime) {
     assert_shown(&rt, "look\u{7f}\nbelow", TextKind::Aside, "look␡\nbelow");
     assert_shown(&rt, "é\u{202e}\tx\r\n", TextKind::Lines, "é\u{fffd}\tx\r\n");
     assert_shown(&rt, "a\u{85}b\r\nc\r", TextKind::CompilerLines, "a␤b\r\nc␍");
+    let selected = "g\u{180b}\u{fff9}\u{fffb}\u{e0041}\u{e0100}\u{e0fff}";
+    let signs = "g\u{fffd}\u{fffd}\u{fffd}\u{fffd}\u{fffd}\u{fffd}";
+    assert_shown(&rt, selected, TextKind::Lines, signs);
+    assert_shown(
+        &rt,
+        "\u{fffc}\u{1810}",
+        TextKind::OneRow,
+        "\u{fffc}\u{1810}",
+    );
     assert!(rt; is_seen("é漢"));
     assert!(rt; !is_seen("a\u{200d}b"));
 }

@@ -1,6 +1,6 @@
 //! What a report and its labels say of themselves.
 
-use ariadne::{Color, Config, IndexType, Label, Report, ReportKind};
+use ariadne::{Color, Config, IndexType, Label, LabelAttach, Report, ReportKind};
 use std::alloc::{AllocError, Global};
 
 /// A label with all that a label may have.
@@ -53,6 +53,32 @@ fn a_report_tells_what_it_was_made_of(rt: HostRuntime) {
     }
     assert_eq!(rt; report.labels().len(), 1);
     assert!(rt; report.labels()[0] == full(rt.alloc()).expect(&rt, "memory"));
+}
+
+#[test]
+fn a_kind_tells_its_name_and_its_color(rt: HostRuntime) {
+    for (kind, name, color) in [
+        (ReportKind::Error, "Error", Color::Red),
+        (ReportKind::Warning, "Warning", Color::Yellow),
+        (ReportKind::Advice, "Advice", Color::Fixed(147)),
+        (ReportKind::Custom("Hint", Color::Blue), "Hint", Color::Blue),
+    ] {
+        assert_eq!(rt; (kind.name(), kind.color()), (name, color));
+    }
+}
+
+#[test]
+fn a_configuration_tells_what_was_set(rt: HostRuntime) {
+    let config = Config::new();
+    assert_eq!(rt;
+        (config.label_attach(), config.is_colored()),
+        (LabelAttach::Middle, true)
+    );
+    let config = config.with_label_attach(LabelAttach::End).with_color(false);
+    assert_eq!(rt;
+        (config.label_attach(), config.is_colored()),
+        (LabelAttach::End, false)
+    );
 }
 
 #[test]

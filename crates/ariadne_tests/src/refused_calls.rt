@@ -154,6 +154,21 @@ pub(crate) const CALLS: &[(&str, &[&str])] = &[
         "a_refused_line_of_many_labels_sends_nothing",
         &["find_underlines"],
     ),
+    (
+        "a_refused_request_is_told_and_no_line_is_cut",
+        &[
+            "told",
+            "Diagnostic::new",
+            "Columns::new",
+            "FileText::new",
+            "Shelf::read",
+            "Sum::text",
+        ],
+    ),
+    (
+        "a_refused_fault_is_want_of_memory",
+        &["Fault::unknown", "Fault::unfit"],
+    ),
 ];
 
 /// Calls that ask for no memory of their own, and why they could tell of a want of it.

@@ -252,3 +252,14 @@ fn errors_say_how_many_bytes_were_sent(rt: HostRuntime) {
         );
     }
 }
+
+#[test]
+fn an_error_becomes_one_of_std(rt: HostRuntime) {
+    let fault = io::Error::from(WriteError::from(AllocError));
+    assert_eq!(rt; fault.kind(), ErrorKind::OutOfMemory);
+    for kind in [ErrorKind::BrokenPipe, ErrorKind::WriteZero] {
+        let fault = io::Error::from(kind);
+        let fault = io::Error::from(WriteError::Io { sent: 7, fault });
+        assert_eq!(rt; fault.kind(), kind);
+    }
+}
