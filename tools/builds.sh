@@ -39,7 +39,7 @@ end() {
 
 # begin: sees that `rt` is there, and makes the folder of a build.
 begin() {
-    command -v rt > /dev/null || refuse "not built yet, and rt, the command of Rattle's kit, is not on the path"
+    [ -x "$(command -v rt)" ] || refuse "not built yet, and rt, the command of Rattle's kit, is not on the path"
     for signal in HUP INT TERM; do
         trap "end $signal" "$signal"
     done
@@ -118,19 +118,40 @@ with_keeping() {
     sed "s/PROGRAM/$status/" "$root/tools/keeping"
 }
 
-# starter FILE: a script that starts the program beside it, as the program was started when it kept
-# itself. The file has the words of that, with a NUL behind each; the last two are the program's own.
+# loader FILE: the words that started a program when it kept itself, before its own two, a line each: the
+# kit's loader and its words, or none. The file has all these words, with a NUL behind each.
+loader() {
+    tr '\0' '\n' < "$1" | sed '$d' | sed '$d'
+}
+
+# starter FILE: a script that starts the program beside it, as the file tells that it was started.
 starter() {
     echo '#!/bin/sh'
     printf 'ARIADNE_BUILD=unproved exec '
-    tr '\0' '\n' < "$1" | sed '$d' | sed '$d' | sed "s/'/'\\\\''/g; s/.*/'&'/" | tr '\n' ' '
+    loader "$1" | sed "s/'/'\\\\''/g; s/.*/'&'/" | tr '\n' ' '
     echo '"${0%/*}/program" "$@"'
+}
+
+# kit: which file `rt` is, and since when it is as it is; nothing where there is none. (It takes a
+# millisecond, and `rt version` takes 50.)
+kit() {
+    ! found=$(command -v rt) || stat -L -c %i:%.9Z "$found"
 }
 
 # find_unproved CRATE: sets `kept` to the folder of the program's unproved build from these sources.
 # It may not be there yet.
 find_unproved() {
     kept=$root/out/unproved/$1-$(checksum "$root" $(below "$1"))
+}
+
+# is_kept: whether this build is there, the loader that starts it too, and no other kit made it than the
+# one that is there, if any is. The file `kit` tells which kit made it, and behind that the loader, if it
+# has one. (`rt ci` refuses a link in the repository.)
+is_kept() {
+    [ -x "$kept/start" ] && { read -r maker && read -r loader; } < "$kept/kit" &&
+        [ -x "${loader:-$kept/program}" ] || return
+    present=$(kit)
+    [ "${present:-$maker}" = "$maker" ]
 }
 
 # build_unproved CRATE: builds the program without a proof, and sets `kept` to the folder with it, whose
@@ -149,8 +170,9 @@ build_unproved() {
         cat "$lines" >&2
         refuse 'could not be built: rt says why above'
     fi
-    starter "$made/kept/started" > "$made/kept/start" && chmod -R a+rx "$made/kept" ||
-        refuse 'the build could not be kept'
+    starter "$made/kept/started" > "$made/kept/start" &&
+        printf '%s\n' "$(kit)" "$(loader "$made/kept/started" | sed 1q)" > "$made/kept/kit" &&
+        chmod -R a+rx "$made/kept" || refuse 'the build could not be kept'
     keep "$1"
 }
 
@@ -159,7 +181,7 @@ build_unproved() {
 keep() {
     unfinished=$root/out/unproved/.$1.$$
     if mkdir -p "$root/out/unproved" && cp -R "$made/kept" "$unfinished"; then
-        [ -x "$kept/start" ] || rm -rf "$root/out/unproved/$1"-*
+        is_kept || rm -rf "$root/out/unproved/$1"-*
         mv -T "$unfinished" "$kept"
         ended
     else

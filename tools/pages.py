@@ -1,7 +1,7 @@
 #!/usr/bin/env python3
-"""Reads the pages, for all tools: the commands with their pictures and the example of README.md and of
---help, and the pictures of docs/GALLERY.md. Python tools import it. Others write a page to it, and get
-a part: tools/pages.py input|picture|example|commands < README.md
+"""Reads the pages, for all tools: the code of a page, the commands with their pictures and the example of
+README.md and of --help, and the pictures of docs/GALLERY.md. Python tools import it. Others write a page
+to it, and get a part: tools/pages.py input|picture|example|commands < README.md
 
 `input` is what the page's first command hands to its program, and `picture` the rows that stand below
 it. `example` is the page's code in Rust, and `commands` each command and its picture, with a NUL behind
@@ -20,7 +20,7 @@ GALLERY = ROOT / "docs/GALLERY.md"
 
 # A command, an empty line, and the picture that it draws, which all stand as far from the left.
 COMMAND = re.compile(r"^( +)(printf '(.*)' \| (\S+) (.*))\n\n((?:\1.*\n)+)", re.M)
-CODE = "```{}\n(.*?\n)```\n"
+CODE = r"^```(?:{})\n(.*?)^```\n"
 # A picture of the gallery: its name, the call that draws it, and its rows.
 PICTURE = re.compile(r"^\*\*(.*?)\*\*\n\n(?:```rust\n(.*?)\n```\n\n)?```text\n(.*?)\n```\n", re.S | re.M)
 
@@ -55,10 +55,31 @@ def commands_of(page):
     return commands
 
 
+def codes_of(page, *languages):
+    """All code of a page in these languages, in its order."""
+    return re.findall(CODE.format("|".join(languages)), page, re.M | re.S)
+
+
 def code_of(page, language):
     """The first code of a page in a language, or None."""
-    found = re.search(CODE.format(language), page, re.M | re.S)
-    return found and found[1]
+    return next(iter(codes_of(page, language)), None)
+
+
+def dependency_of(page):
+    """The two lines of README.md that name the library: that of crates.txt, and the names that the other
+    one uses."""
+    section = page.partition("\n## To depend on it\n")[2].partition("\n## ")[0]
+    (line,) = re.findall(r"^    (\w+: ariadne)$", section, re.M)
+    (use,) = re.findall(r"^    use ariadne::\{(.*)\};$", section, re.M)
+    return line, use.split(", ")
+
+
+def table_of(page, *headings):
+    """The rows of the page's first table whose headings begin so, each as its cells by the headings."""
+    start = "\n| " + " | ".join(headings) + " |"
+    lines = (start + page.partition(start)[2]).strip("\n").partition("\n\n")[0].split("\n")
+    named, _, *rows = [[cell.strip() for cell in line.strip("|").split("|")] for line in lines]
+    return [dict(zip(named, row)) for row in rows]
 
 
 def pictures_of(page):
