@@ -61,8 +61,7 @@ info_of attach ls k label start end =
 unfoldable pub within : {S : Type 0} → LabelAttach → List (List ℕ) → ℕ → LabelFields S → Option ℕ
     → Option ℕ → Verdict
 within attach ls k label (Some start) (Some end) = Accepted (info_of attach ls k label start end)
-within attach ls k label (Some start) None = CutsCharacter
-within attach ls k label None end = CutsCharacter
+within attach ls k label start end = CutsCharacter
 
 -- what becomes of the label at position k, from start to end, whose source is held
 unfoldable pub verdict : {S : Type 0} → ConfigFields → Listing → ℕ → LabelFields S → ℕ → ℕ → Verdict
@@ -94,7 +93,7 @@ unfoldable pub drawn_label : {S Id R : Type 0} → World S Id → ConfigFields �
 drawn_label w config k label (Some reason) = []
 drawn_label w config k label None =
     let source = w.source_of (w.id_of label.span) in
-    option_to_list (option_and_then (λ s. accepted_info (verdict_in w config k label s)) source)
+    option_to_list (option_and_then (λ listing. accepted_info (verdict_in w config k label listing)) source)
 
 -- the labels that have no reason beside them; the first is at position k
 unfoldable pub drawn_labels : {S Id R : Type 0} → World S Id → ConfigFields → ℕ

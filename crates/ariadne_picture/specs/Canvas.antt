@@ -72,22 +72,22 @@ palette_of r =
 -- group; those of rows without a line number are skipped ones; unimportant is source text outside of
 -- all labels, and a note's paint that of the word in front of a help or a note
 unfoldable pub paint_color : Palette → Paint → Option Color
-paint_color p Plain = None
-paint_color p (Label k) = slice_index_or p.labels k None
-paint_color p Kind = Some p.kind
-paint_color p Margin = Some (Fixed 246)
-paint_color p SkippedMargin = Some (Fixed 240)
-paint_color p Unimportant = Some (Fixed 249)
-paint_color p Note = Some (Fixed 115)
+paint_color palette Plain = None
+paint_color palette (Label k) = slice_index_or palette.labels k None
+paint_color palette Kind = Some palette.kind
+paint_color palette Margin = Some (Fixed 246)
+paint_color palette SkippedMargin = Some (Fixed 240)
+paint_color palette Unimportant = Some (Fixed 249)
+paint_color palette Note = Some (Fixed 115)
 
 -- with colours off nothing has one
 unfoldable pub color_of : Palette → Paint → Option Color
-color_of p paint = if p.is_on then paint_color p paint else None
+color_of palette paint = if palette.is_on then paint_color palette paint else None
 
 -- a piece in its colour
 abbrev pub cell_of : Palette → Piece → Cell
-cell_of p piece =
-    record { text = piece.text; color = color_of p piece.paint; columns = piece.columns }
+cell_of palette piece =
+    record { text = piece.text; color = color_of palette piece.paint; columns = piece.columns }
 
 -- ---- the whole picture
 
@@ -110,8 +110,7 @@ module _ {S Id : Type 0} (w : World S Id) (r : ReportFields S) where
   -- two labels' ids count as one
   unfoldable pub is_same_id : Option Id → Option Id → Bool
   is_same_id (Some p) (Some q) = w.is_same p q
-  is_same_id (Some p) None = false
-  is_same_id None q = false
+  is_same_id p q = false
 
   -- the labels at two positions are over the same source
   unfoldable pub same_source : ℕ → ℕ → Bool

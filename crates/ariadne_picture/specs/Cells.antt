@@ -114,7 +114,7 @@ arrow_place switches y r (Some x) k =
 
 -- the colour of gutter label i
 unfoldable pub gutter_label_paint : Sheet → ℕ → Paint
-gutter_label_paint s i = unwrap_or (option_map paint_of (slice_get (gutter_labels s) i)) Plain
+gutter_label_paint h i = unwrap_or (option_map paint_of (slice_get (gutter_labels h) i)) Plain
 
 -- where the margin label leaves or enters its column
 unfoldable pub margin_glyph : Side → Glyph
@@ -139,29 +139,29 @@ margin_ink n i (Some m) =
 
 -- column i of a row without line label: its bar is drawn with this glyph
 unfoldable pub beside_ink : Sheet → Row → ℕ → ℕ → Glyph → Ink
-beside_ink s x l i bar =
-    if bar_at s x i then ink bar (gutter_label_paint s i) Blank Plain
-    else margin_ink (length (gutter_labels s)) i (margin_label s l)
+beside_ink h row l i bar =
+    if bar_at h row i then ink bar (gutter_label_paint h i) Blank Plain
+    else margin_ink (length (gutter_labels h)) i (margin_label h l)
 
 -- column i of a row below a line: its bar, or blanks
 unfoldable pub below_ink : Sheet → Row → ℕ → Ink
-below_ink s x i = if bar_at s x i then ink Vbar (gutter_label_paint s i) Blank Plain else blanks
+below_ink h row i = if bar_at h row i then ink Vbar (gutter_label_paint h i) Blank Plain else blanks
 
 -- column i of the arrow row of a line label: its own column, those behind it, those before it
 unfoldable pub turn_ink : Sheet → Row → ℕ → Option LineLabel → Ink
-turn_ink s x i None = below_ink s x i
-turn_ink s x i (Some q) =
-    if is_inline q.side then below_ink s x i
+turn_ink h row i None = below_ink h row i
+turn_ink h row i (Some q) =
+    if is_inline q.side then below_ink h row i
     else if q.gutter_column == i then ink_of (turn_glyph q.side) Hbar q.info
     else if nat_lt q.gutter_column i then
-    (if bar_at s x i && not s.switches.cross_gap then ink_of Xbar Hbar q.info
+    (if bar_at h row i && not h.switches.cross_gap then ink_of Xbar Hbar q.info
     else ink_of Hbar Hbar q.info)
-    else below_ink s x i
+    else below_ink h row i
 
 -- column i of a row
 unfoldable pub column_ink : Sheet → Row → ℕ → Ink
-column_ink s (source l) i = beside_ink s (source l) l i Vbar
-column_ink s (gap l) i = beside_ink s (gap l) l i VbarGap
-column_ink s (alternate l r) i = below_ink s (alternate l r) i
-column_ink s (arrow l r) i = turn_ink s (arrow l r) i (slice_get (line_labels s l) r)
-column_ink s x i = blanks
+column_ink h (source l) i = beside_ink h (source l) l i Vbar
+column_ink h (gap l) i = beside_ink h (gap l) l i VbarGap
+column_ink h (alternate l r) i = below_ink h (alternate l r) i
+column_ink h (arrow l r) i = turn_ink h (arrow l r) i (slice_get (line_labels h l) r)
+column_ink h row i = blanks

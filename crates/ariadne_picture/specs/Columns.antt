@@ -24,11 +24,11 @@ pub record Layout : Type 0 where
 
 -- what a group draws at line l
 unfoldable pub layout_of : Sheet → ℕ → Layout
-layout_of s l = record {
-  margin = margin_label s l;
-  labels = line_labels s l;
-  offset = line_offset length s.lines l;
-  text = line_text s.lines l;
+layout_of h l = record {
+  margin = margin_label h l;
+  labels = line_labels h l;
+  offset = line_offset length h.lines l;
+  text = line_text h.lines l;
 }
 
 -- the columns of a character that is printed as it is
@@ -45,21 +45,21 @@ shown y = drop_trailing_whitespace y.text
 
 -- the columns of the shown character c that begins at column x; a tab reaches to the next tab stop
 unfoldable pub shown_columns : ℕ → ℕ → ℕ → ℕ
-shown_columns tab_width x c =
-    if c == 9 then tab_width - x % tab_width
+shown_columns tab_width column c =
+    if c == 9 then tab_width - column % tab_width
     else if is_whitespace c then 1
     else char_columns c
 
 -- the columns of place k of a line, if it begins at column x; past the shown text each has one
 unfoldable pub width_from : Switches → Layout → ℕ → ℕ → ℕ
-width_from switches y x k =
-    if nat_lt k (length (shown y)) then shown_columns switches.tab_width x (slice_index (shown y) k)
+width_from switches y column k =
+    if nat_lt k (length (shown y)) then shown_columns switches.tab_width column (slice_index (shown y) k)
     else 1
 
 -- the column that place k begins at: behind those of the place before it
 unfoldable pub column_of : Switches → Layout → ℕ → ℕ
 column_of switches y zero = 0
-column_of switches y (suc k) = let x = column_of switches y k in x + width_from switches y x k
+column_of switches y (suc k) = let n = column_of switches y k in n + width_from switches y n k
 
 -- the columns of place k
 unfoldable pub width : Switches → Layout → ℕ → ℕ

@@ -10,9 +10,10 @@ use Rattle.ariadne_picture.specs.Lists.{all_numbered, any_numbered}
 use Rattle.ariadne_picture.specs.Ranks.{gutter_labels}
 use Rattle.ariadne_picture.specs.Pieces.{Section, gutter_len}
 use Rattle.ariadne_picture.specs.Canvas.{Cell}
-use Rattle.ariadne_picture.specs.Placing.{Placing, is_blank, is_glyph, is_level, set_of}
-use Rattle.ariadne_picture.specs.Placing.{is_margin_at, column_cell, arrow_column, cell_at}
-use Rattle.ariadne_picture.specs.Placing.{gutter_cell, gutter_rows}
+use Rattle.ariadne_picture.specs.Placing.Cells.{is_blank, is_glyph, is_level}
+use Rattle.ariadne_picture.specs.Placing.Group.{set_of, is_margin_at, column_cell, arrow_column}
+use Rattle.ariadne_picture.specs.Placing.Rows.{Placing, cell_at, gutter_cell}
+use Rattle.ariadne_picture.specs.Placing.GutterBars.{gutter_rows}
 
 module _ (canvas : List (List Cell)) (sections : List Section) (p : Placing) where
   -- row n shows line l, beside which gutter label i starts or ends as the margin label
@@ -54,9 +55,9 @@ module _ (canvas : List (List Cell)) (sections : List Section) (p : Placing) whe
   -- so do both cells of column j of row n; a compact picture has one
   unfoldable pub is_gutter_column_caused : ℕ → Section → ℕ → ℕ → Bool
   is_gutter_column_caused g s n j =
-      has_gutter_cause g s n j true (gutter_cell canvas sections p s n j)
+      has_gutter_cause g s n j true (gutter_cell canvas s n j)
       && (s.sheet.switches.compact
-      || has_gutter_cause g s n j false (cell_at canvas sections p n (column_cell s j + 1)))
+      || has_gutter_cause g s n j false (cell_at canvas n (column_cell s j + 1)))
 
   -- the clause on other strokes in the gutter
   unfoldable pub has_no_other_gutter_strokes : Bool

@@ -14,10 +14,10 @@ use Rattle.ariadne_picture.specs.Report.{ReportFields}
 use Rattle.ariadne_picture.specs.Ranks.{is_on_one_line}
 use Rattle.ariadne_picture.specs.Pieces.{Section, gutter_len}
 use Rattle.ariadne_picture.specs.Canvas.{Cell, palette_of, color_of}
-use Rattle.ariadne_picture.specs.Placing.{Placing, between, is_blank, is_glyph, is_level, set_of}
-use Rattle.ariadne_picture.specs.Placing.{shown_lines, messages_of, is_margin_at, all_gutter_labels}
-use Rattle.ariadne_picture.specs.Placing.{column_cell, place_cell, has_cell, cell_at, gutter_cell}
-use Rattle.ariadne_picture.specs.Placing.{rows_to, gutter_rows}
+use Rattle.ariadne_picture.specs.Placing.Cells.{is_blank, is_glyph, is_level}
+use Rattle.ariadne_picture.specs.Placing.Group.{set_of, shown_lines, messages_of, is_margin_at, all_gutter_labels, column_cell, place_cell, has_cell}
+use Rattle.ariadne_picture.specs.Placing.Rows.{Placing, between, cell_at, gutter_cell}
+use Rattle.ariadne_picture.specs.Placing.GutterBars.{gutter_rows}
 use Rattle.ariadne_picture.specs.Causes.{traces_below}
 
 -- the colour that the label at position k has
@@ -52,26 +52,26 @@ module _ (canvas : List (List Cell)) (sections : List Section) (p : Placing)
     (color_at : ℕ → Option Color) where
   -- cell c of row n has the colour of label a
   unfoldable pub has_color : LabelInfo → ℕ → ℕ → Bool
-  has_color a n c = is_color (cell_at canvas sections p n c).color (color_at a.position)
+  has_color a n c = is_color (cell_at canvas n c).color (color_at a.position)
 
   -- ---- verticals below line l, of a label a that turns at place k of row m
 
   -- another label turns at place k of row n, or below that and above row m
   unfoldable pub is_covered : ℕ → Section → ℕ → ℕ → ℕ → ℕ → Bool
   is_covered g s l k m n =
-      list_any (λ t. t.turns && (t.place == k) && nat_le n t.row && nat_lt t.row m)
+      list_any (λ trace. trace.turns && (trace.place == k) && nat_le n trace.row && nat_lt trace.row m)
       (traces_below canvas sections p g s l)
 
   -- what row n shows at place k has its colour, if it is a vertical and no other label's
   unfoldable pub is_vertical_colored_in : ℕ → Section → ℕ → LabelInfo → ℕ → ℕ → ℕ → Bool
   is_vertical_colored_in g s l a k m n =
-      not (has_cell s l k && is_steep (set_of s) (cell_at canvas sections p n (place_cell s l k)))
+      not (has_cell s l k && is_steep (set_of s) (cell_at canvas n (place_cell s l k)))
       || is_covered g s l k m n || has_color a n (place_cell s l k)
 
   -- so it is in the rows from the line down to row m
   unfoldable pub is_vertical_colored : ℕ → Section → ℕ → LabelInfo → ℕ → ℕ → Bool
   is_vertical_colored g s l a k m =
-      list_all (is_vertical_colored_in g s l a k m) (rows_to canvas sections p g l m)
+      list_all (is_vertical_colored_in g s l a k m) (between (p.source_row g l + 1) m)
 
   -- ---- labels within one line
 
@@ -108,12 +108,12 @@ module _ (canvas : List (List Cell)) (sections : List Section) (p : Placing)
   is_pointer_colored g s i a l =
       let n = p.source_row g l in
       not (is_margin_at s l i) || all_gutter_cells s i
-      (λ c. not (is_pointer (set_of s) (cell_at canvas sections p n c)) || has_color a n c)
+      (λ c. not (is_pointer (set_of s) (cell_at canvas n c)) || has_color a n c)
 
   -- in row n what its column shows, if that is not level
   unfoldable pub is_bar_colored : Section → ℕ → LabelInfo → ℕ → Bool
   is_bar_colored s i a n =
-      not (is_steep (set_of s) (gutter_cell canvas sections p s n i))
+      not (is_steep (set_of s) (gutter_cell canvas s n i))
       || has_color a n (column_cell s i)
 
   -- all of this

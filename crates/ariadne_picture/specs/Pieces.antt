@@ -87,8 +87,8 @@ shown_text c = if is_whitespace c then 32 ∷ [] else encode_utf8 c
 
 -- the shown character c that begins at column x: each blank of a tab is a cell of its own
 unfoldable pub char_pieces : Switches → Paint → ℕ → ℕ → List Piece
-char_pieces switches paint x c =
-    let columns = shown_columns switches.tab_width x c in
+char_pieces switches paint column c =
+    let columns = shown_columns switches.tab_width column c in
     if c == 9 then replicate columns (record { text = 32 ∷ []; paint = paint; columns = 1 })
     else record { text = shown_text c; paint = paint; columns = columns } ∷ []
 
@@ -119,19 +119,19 @@ margin_text set w display_offset (source l) =
     let number = decimal (printed_number display_offset l) in
     spaces (w - length number) ++ number ++ codes " " ++ glyph_text set Vbar
 margin_text set w display_offset (gap l) = spaces (w + 1) ++ glyph_text set VbarGap
-margin_text set w display_offset x = spaces (w + 1) ++ glyph_text set Vbar
+margin_text set w display_offset row = spaces (w + 1) ++ glyph_text set Vbar
 
 -- its colour
 unfoldable pub margin_paint : Row → Paint
 margin_paint (source l) = Margin
-margin_paint x = SkippedMargin
+margin_paint row = SkippedMargin
 
 -- the margin of a row: a blank, its text, and a blank if not compact
 unfoldable pub margin_pieces : Switches → ℕ → ℕ → Row → List Piece
-margin_pieces switches w display_offset x =
+margin_pieces switches w display_offset row =
     blank_piece ∷ record {
-      text = margin_text switches.char_set w display_offset x;
-      paint = margin_paint x;
+      text = margin_text switches.char_set w display_offset row;
+      paint = margin_paint row;
       columns = w + 2;
     }
     ∷ (if switches.compact then [] else blank_piece ∷ [])
@@ -142,13 +142,13 @@ column_size switches = if switches.compact then 1 else 2
 
 -- the number of gutter columns: one for each gutter label and one for arrow heads
 unfoldable pub gutter_len : Sheet → ℕ
-gutter_len s = if length (gutter_labels s) == 0 then 0 else length (gutter_labels s) + 1
+gutter_len h = if length (gutter_labels h) == 0 then 0 else length (gutter_labels h) + 1
 
 -- the gutter of a row, column by column
 unfoldable pub gutter_pieces : Sheet → Row → List Piece
-gutter_pieces s x =
-    joined (λ i. ink_pieces s.switches.char_set (column_ink s x i) (column_size s.switches))
-    (upto (gutter_len s))
+gutter_pieces h row =
+    joined (λ i. ink_pieces h.switches.char_set (column_ink h row i) (column_size h.switches))
+    (upto (gutter_len h))
 
 -- ---- the rows of a group
 
@@ -181,12 +181,12 @@ location_text ls display_offset (Some o) =
 
 -- the first row of a group: where its source is pointed at
 unfoldable pub group_header_pieces : Section → ℕ → List Piece
-group_header_pieces g w =
-    let set = g.sheet.switches.char_set in
-    plain_text (spaces (w + 2)) ∷ stroke set (if g.is_first then Ltop else Lcross) Margin
+group_header_pieces s w =
+    let set = s.sheet.switches.char_set in
+    plain_text (spaces (w + 2)) ∷ stroke set (if s.is_first then Ltop else Lcross) Margin
     ∷ stroke set Hbar Margin ∷ stroke set Lbox Margin
-    ∷ plain_text (codes " " ++ g.name ++ codes ":"
-    ++ location_text g.sheet.lines g.display_offset g.header_offset ++ codes " ")
+    ∷ plain_text (codes " " ++ s.name ++ codes ":"
+    ++ location_text s.sheet.lines s.display_offset s.header_offset ++ codes " ")
     ∷ stroke set Rbox Margin ∷ []
 
 -- the row below a group header, and between two groups
@@ -241,30 +241,30 @@ aside_pieces t a k (suc p) =
 
 -- what follows the margin
 unfoldable pub rest_pieces : Texts → Section → Row → List Piece
-rest_pieces t g (source l) =
-    gutter_pieces g.sheet (source l)
-    ++ shown_pieces t.switches (multi_line_labels g.sheet) (layout_of g.sheet l)
-rest_pieces t g (alternate l r) =
-    let y = layout_of g.sheet l in
-    gutter_pieces g.sheet (alternate l r)
+rest_pieces t s (source l) =
+    gutter_pieces s.sheet (source l)
+    ++ shown_pieces t.switches (multi_line_labels s.sheet) (layout_of s.sheet l)
+rest_pieces t s (alternate l r) =
+    let y = layout_of s.sheet l in
+    gutter_pieces s.sheet (alternate l r)
     ++ area_pieces t.switches y (alternate_place t.switches y r)
-rest_pieces t g (arrow l r) =
-    let y = layout_of g.sheet l in
+rest_pieces t s (arrow l r) =
+    let y = layout_of s.sheet l in
     let x = slice_get y.labels r in
-    gutter_pieces g.sheet (arrow l r) ++ area_pieces t.switches y (arrow_place t.switches y r x)
+    gutter_pieces s.sheet (arrow l r) ++ area_pieces t.switches y (arrow_place t.switches y r x)
     ++ message_pieces t x
-rest_pieces t g (gap l) = gutter_pieces g.sheet (gap l)
-rest_pieces t g (blank a k) = gutter_pieces g.sheet (blank a k)
-rest_pieces t g (piece a k p) = gutter_pieces g.sheet (piece a k p) ++ aside_pieces t a k p
-rest_pieces t g x = []
+rest_pieces t s (gap l) = gutter_pieces s.sheet (gap l)
+rest_pieces t s (blank a k) = gutter_pieces s.sheet (blank a k)
+rest_pieces t s (piece a k p) = gutter_pieces s.sheet (piece a k p) ++ aside_pieces t a k p
+rest_pieces t s row = []
 
 -- a row of a group, by its name
 unfoldable pub row_pieces : Texts → ℕ → Section → Row → List Piece
-row_pieces t w g group_header = group_header_pieces g w
-row_pieces t w g spacer = spacer_pieces g.sheet.switches.char_set w
-row_pieces t w g tail = tail_pieces g.sheet.switches.char_set w g.is_last
-row_pieces t w g x = margin_pieces g.sheet.switches w g.display_offset x ++ rest_pieces t g x
+row_pieces t w s group_header = group_header_pieces s w
+row_pieces t w s spacer = spacer_pieces s.sheet.switches.char_set w
+row_pieces t w s tail = tail_pieces s.sheet.switches.char_set w s.is_last
+row_pieces t w s row = margin_pieces s.sheet.switches w s.display_offset row ++ rest_pieces t s row
 
 -- all rows of a group
 unfoldable pub section_rows : Texts → ℕ → Section → List (List Piece)
-section_rows t w g = map (row_pieces t w g) (rows g.sheet g.is_last t.helps t.notes)
+section_rows t w s = map (row_pieces t w s) (rows s.sheet s.is_last t.helps t.notes)

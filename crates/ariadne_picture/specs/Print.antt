@@ -46,11 +46,10 @@ is_parameter b = (nat_le 48 b && nat_le b 57) || (b == 59)
 
 -- the length of the escape sequence that some bytes begin with, ESC [ parameters m, or 0
 unfoldable pub sequence_len : List ℕ → ℕ
-sequence_len [] = 0
-sequence_len (a ∷ []) = 0
 sequence_len (a ∷ b ∷ t) =
     let n = prefix_len is_parameter t in
     if (a == 27) && (b == 91) && (slice_index t n == 109) then n + 3 else 0
+sequence_len t = 0
 
 -- the bytes that stand outside of every such sequence, after the first n
 unfoldable pub unescaped_after : ℕ → List ℕ → List ℕ

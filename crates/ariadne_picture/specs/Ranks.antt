@@ -22,20 +22,17 @@ pub record Sheet : Type 0 where
 -- the label lies within the line
 unfoldable pub is_inline : Side → Bool
 is_inline Inline = true
-is_inline Starts = false
-is_inline Ends = false
+is_inline side = false
 
 -- it starts at the line and ends on a later one
 unfoldable pub is_start : Side → Bool
-is_start Inline = false
 is_start Starts = true
-is_start Ends = false
+is_start side = false
 
 -- it ends at the line and started on an earlier one
 unfoldable pub is_end : Side → Bool
-is_end Inline = false
-is_end Starts = false
 is_end Ends = true
+is_end side = false
 
 -- ---- the gutter
 
@@ -49,13 +46,13 @@ is_on_one_line a = a.start_line == a.end_line
 
 -- the multi-line labels, by falling length
 unfoldable pub multi_line_labels : Sheet → List LabelInfo
-multi_line_labels s =
+multi_line_labels h =
     in_order (λ a b. nat_lt (span_len b) (span_len a))
-    (filter (λ a. not (is_on_one_line a)) s.labels)
+    (filter (λ a. not (is_on_one_line a)) h.labels)
 
 -- gutter label i owns gutter column i
 unfoldable pub gutter_labels : Sheet → List LabelInfo
-gutter_labels s = filter (λ a. a.has_message) (multi_line_labels s)
+gutter_labels h = filter (λ a. a.has_message) (multi_line_labels h)
 
 -- ---- at a line
 
@@ -69,7 +66,7 @@ gutter_label_ends l i a =
 
 -- the starts and ends of all gutter labels at line l
 unfoldable pub ends_at : Sheet → ℕ → List LineLabel
-ends_at s l = joined (λ e. gutter_label_ends l e.0 e.1) (enumerate_from 0 (gutter_labels s))
+ends_at h l = joined (λ e. gutter_label_ends l e.0 e.1) (enumerate_from 0 (gutter_labels h))
 
 -- the least column, then the greater start
 unfoldable pub is_nearer_margin : LineLabel → LineLabel → Bool
@@ -78,7 +75,7 @@ is_nearer_margin a b =
 
 -- the one whose arrow leaves the gutter beside the source row
 unfoldable pub margin_label : Sheet → ℕ → Option LineLabel
-margin_label s l = best is_nearer_margin (ends_at s l)
+margin_label h l = best is_nearer_margin (ends_at h l)
 
 -- it is a start or an end of gutter label i
 unfoldable pub is_of_gutter_label : Option LineLabel → ℕ → Bool
@@ -91,9 +88,9 @@ is_margin margin x = not (is_inline x.side) && is_of_gutter_label margin x.gutte
 
 -- the labels that lie within line l
 unfoldable pub inline_labels : Sheet → ℕ → List LineLabel
-inline_labels s l =
+inline_labels h l =
     map (λ a. record { info = a; side = Inline; gutter_column = 0; place = a.attach })
-    (filter (λ a. is_on_one_line a && (a.start_line == l)) s.labels)
+    (filter (λ a. is_on_one_line a && (a.start_line == l)) h.labels)
 
 -- by order, then by column, then the greater start first
 unfoldable pub is_before : LineLabel → LineLabel → Bool
@@ -103,10 +100,10 @@ is_before a b =
 
 -- the margin label where it starts has no rows of its own
 unfoldable pub line_labels : Sheet → ℕ → List LineLabel
-line_labels s l =
-    in_order is_before (filter (λ x. not (is_start x.side && is_margin (margin_label s l) x))
-    (ends_at s l) ++ inline_labels s l)
+line_labels h l =
+    in_order is_before (filter (λ x. not (is_start x.side && is_margin (margin_label h l) x))
+    (ends_at h l) ++ inline_labels h l)
 
 -- whether nothing of the group is shown at a line
 unfoldable pub is_hidden : Sheet → ℕ → Bool
-is_hidden s l = (length (line_labels s l) == 0) && not (is_some (margin_label s l))
+is_hidden h l = (length (line_labels h l) == 0) && not (is_some (margin_label h l))

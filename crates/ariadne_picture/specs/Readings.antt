@@ -5,7 +5,8 @@ use Rattle.ariadne_picture.specs.declared.label_info.LabelInfo.{LabelInfo}
 use Rattle.ariadne_picture.specs.Ranks.{gutter_labels, is_on_one_line}
 use Rattle.ariadne_picture.specs.Columns.{layout_of, column_of}
 use Rattle.ariadne_picture.specs.Pieces.{Section}
-use Rattle.ariadne_picture.specs.Placing.{Placing, shown_lines, messages_of}
+use Rattle.ariadne_picture.specs.Placing.Group.{shown_lines, messages_of}
+use Rattle.ariadne_picture.specs.Placing.Rows.{Placing}
 
 -- two placings have the same row for each line
 abbrev pub AgreeOnLines : List Section → Placing → Placing → Type 0

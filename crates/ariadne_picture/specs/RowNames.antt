@@ -15,22 +15,22 @@ asides_of note helps notes = notes
 
 -- a group has line l
 abbrev pub HasLine : Sheet → ℕ → Type 0
-HasLine s l = (group_start_line s.labels ≤ l) × (l ≤ group_end_line s.labels)
+HasLine h l = (group_start_line h.labels ≤ l) × (l ≤ group_end_line h.labels)
 
 -- line l is hidden, and the line before it is not, or is none of the group
-pub record BeginsHidden (s : Sheet) (l : ℕ) : Type 0 where
-  pub line : HasLine s l
-  pub hidden : is_hidden s l ≡ true
-  pub first : (l ≡ group_start_line s.labels) ⊎ (is_hidden s (l - 1) ≡ false)
+pub record BeginsHidden (h : Sheet) (l : ℕ) : Type 0 where
+  pub line : HasLine h l
+  pub hidden : is_hidden h l ≡ true
+  pub first : (l ≡ group_start_line h.labels) ⊎ (is_hidden h (l - 1) ≡ false)
 
 -- line label r of line l has a message
-pub record HasMessage (s : Sheet) (l r : ℕ) : Type 0 where
-  pub line : HasLine s l
+pub record HasMessage (h : Sheet) (l r : ℕ) : Type 0 where
+  pub line : HasLine h l
   pub label : LineLabel
-  pub there : slice_get (line_labels s l) r ≡ Some label
+  pub there : slice_get (line_labels h l) r ≡ Some label
   pub message : label.info.has_message ≡ true
 
-module _ (s : Sheet) (is_last : Bool) (helps notes : List (List ℕ)) where
+module _ (h : Sheet) (is_last : Bool) (helps notes : List (List ℕ)) where
   -- the group has help or note number k
   pub record HasAside (a : Aside) (k : ℕ) : Type 0 where
     pub last : is_last ≡ true
@@ -40,12 +40,12 @@ module _ (s : Sheet) (is_last : Bool) (helps notes : List (List ℕ)) where
   -- the group has this row
   abbrev pub HasRow : Row → Type 0
   HasRow group_header = Unit {0}
-  HasRow spacer = s.switches.compact ≡ false
-  HasRow (source l) = HasLine s l × (is_hidden s l ≡ false)
-  HasRow (alternate l r) = (s.switches.compact ≡ false) × HasMessage s l r
-  HasRow (arrow l r) = HasMessage s l r
-  HasRow (gap l) = BeginsHidden s l × (is_inside s l ≡ true)
-  HasRow (bare l) = (s.switches.compact ≡ false) × BeginsHidden s l × (is_inside s l ≡ false)
-  HasRow (blank a k) = (s.switches.compact ≡ false) × HasAside a k
+  HasRow spacer = h.switches.compact ≡ false
+  HasRow (source l) = HasLine h l × (is_hidden h l ≡ false)
+  HasRow (alternate l r) = (h.switches.compact ≡ false) × HasMessage h l r
+  HasRow (arrow l r) = HasMessage h l r
+  HasRow (gap l) = BeginsHidden h l × (is_inside h l ≡ true)
+  HasRow (bare l) = (h.switches.compact ≡ false) × BeginsHidden h l × (is_inside h l ≡ false)
+  HasRow (blank a k) = (h.switches.compact ≡ false) × HasAside a k
   HasRow (piece a k p) = (aside : HasAside a k) × (p < length (lines aside.text))
-  HasRow tail = s.switches.compact ≡ false
+  HasRow tail = h.switches.compact ≡ false

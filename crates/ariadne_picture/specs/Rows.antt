@@ -70,18 +70,18 @@ label_rows compact l e =
 
 -- whether the first character of line l lies inside a multi-line label
 unfoldable pub is_inside : Sheet → ℕ → Bool
-is_inside s l =
-    let o = line_offset length s.lines l in
-    list_any (λ a. not (is_on_one_line a) && nat_le a.start o && nat_lt o a.end) s.labels
+is_inside h l =
+    let o = line_offset length h.lines l in
+    list_any (λ a. not (is_on_one_line a) && nat_le a.start o && nat_lt o a.end) h.labels
 
 -- the rows of line l; of a run of hidden lines only the first has one
 unfoldable pub line_rows : Sheet → ℕ → List Row
-line_rows s l =
-    if is_hidden s l then
-    (if nat_lt (group_start_line s.labels) l && is_hidden s (l - 1) then []
-    else if is_inside s l then gap l ∷ []
-    else if s.switches.compact then [] else bare l ∷ [])
-    else source l ∷ joined (label_rows s.switches.compact l) (enumerate_from 0 (line_labels s l))
+line_rows h l =
+    if is_hidden h l then
+    (if nat_lt (group_start_line h.labels) l && is_hidden h (l - 1) then []
+    else if is_inside h l then gap l ∷ []
+    else if h.switches.compact then [] else bare l ∷ [])
+    else source l ∷ joined (label_rows h.switches.compact l) (enumerate_from 0 (line_labels h l))
 
 -- the rows of a help or a note
 unfoldable pub aside_rows : Bool → Aside → ℕ × List ℕ → List Row
@@ -94,9 +94,9 @@ asides compact a texts = joined (aside_rows compact a) (enumerate_from 0 texts)
 
 -- the rows of a group; helps and notes stand in the last one
 unfoldable pub rows : Sheet → Bool → List (List ℕ) → List (List ℕ) → List Row
-rows s is_last helps notes =
-    let compact = s.switches.compact in
+rows h is_last helps notes =
+    let compact = h.switches.compact in
     group_header ∷ (if compact then [] else spacer ∷ [])
-    ++ joined (line_rows s) (group_lines s.labels)
+    ++ joined (line_rows h) (group_lines h.labels)
     ++ (if is_last then asides compact help helps ++ asides compact note notes else [])
     ++ (if compact then [] else tail ∷ [])

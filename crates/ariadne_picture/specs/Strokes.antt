@@ -65,7 +65,7 @@ underline_at switches y r k =
 
 -- gutter label i is the margin label of line l
 unfoldable pub is_at_margin : Sheet → ℕ → ℕ → Bool
-is_at_margin s l i = is_of_gutter_label (margin_label s l) i
+is_at_margin h l i = is_of_gutter_label (margin_label h l) i
 
 -- a line label is the start, or the end, of gutter label i
 unfoldable pub is_end_of_gutter_label : (Side → Bool) → ℕ → LineLabel → Bool
@@ -73,29 +73,29 @@ is_end_of_gutter_label is_side i x = is_side x.side && (x.gutter_column == i)
 
 -- the rank that its start, or its end, has among the line labels of line l
 unfoldable pub rank_at : Sheet → (Side → Bool) → ℕ → ℕ → ℕ
-rank_at s is_side l i = position_or_len (is_end_of_gutter_label is_side i) (line_labels s l)
+rank_at h is_side l i = position_or_len (is_end_of_gutter_label is_side i) (line_labels h l)
 
 -- the row of its head
 unfoldable pub first_row : Sheet → ℕ → LabelInfo → Row
-first_row s i a =
-    if is_at_margin s a.start_line i then source a.start_line
-    else arrow a.start_line (rank_at s is_start a.start_line i)
+first_row h i a =
+    if is_at_margin h a.start_line i then source a.start_line
+    else arrow a.start_line (rank_at h is_start a.start_line i)
 
 -- the row of its corner and its message
 unfoldable pub last_row : Sheet → ℕ → LabelInfo → Row
-last_row s i a = arrow a.end_line (rank_at s is_end a.end_line i)
+last_row h i a = arrow a.end_line (rank_at h is_end a.end_line i)
 
 -- its tee stands on the source row where it ends as the margin label
 unfoldable pub has_tee : Sheet → LabelInfo → ℕ → Row → Bool
-has_tee s a i (source l) = (a.end_line == l) && is_at_margin s l i
-has_tee s a i x = false
+has_tee h a i (source l) = (a.end_line == l) && is_at_margin h l i
+has_tee h a i row = false
 
 -- a bar of gutter label i, which is a, stands in row x
 unfoldable pub has_bar : Sheet → ℕ → Row → Option LabelInfo → Bool
-has_bar s i x None = false
-has_bar s i x (Some a) =
-    before (first_row s i a) x && before x (last_row s i a) && not (has_tee s a i x)
+has_bar h i row None = false
+has_bar h i row (Some a) =
+    before (first_row h i a) row && before row (last_row h i a) && not (has_tee h a i row)
 
 -- its bar stands in every other row strictly between the two
 unfoldable pub bar_at : Sheet → Row → ℕ → Bool
-bar_at s x i = has_bar s i x (slice_get (gutter_labels s) i)
+bar_at h row i = has_bar h i row (slice_get (gutter_labels h) i)

@@ -20,10 +20,8 @@ use Rattle.ariadne_picture.specs.Print.{printed, erased, unescaped}
 
 -- a kind without a colour of its own
 abbrev pub plain_kind : Kind → Kind
-plain_kind error = error
-plain_kind warning = warning
-plain_kind advice = advice
 plain_kind (custom name color) = custom name Primary
+plain_kind kind = kind
 
 -- the report without colours
 abbrev pub colorless : {S : Type 0} → ReportFields S → ReportFields S
@@ -62,15 +60,14 @@ pub record ColorsMoveNothing {S Id : Type 0} (w : World S Id) (r : ReportFields 
 
 -- what becomes of the label at a position, where its source is held
 abbrev pub verdict_at : {S Id : Type 0} → World S Id → ReportFields S → ℕ → Option Verdict
-verdict_at {S} w r k =
-    let over = λ (label : LabelFields S).
-    option_map (verdict_in w r.config k label) (w.source_of (w.id_of label.span)) in
-    option_and_then over (slice_get r.labels k)
+verdict_at w r k =
+    option_and_then (λ label. option_map (verdict_in w r.config k label) (w.source_of (w.id_of label.span)))
+    (slice_get r.labels k)
 
 module _ {S Id : Type 0} (w : World S Id) (r : ReportFields S) where
   -- the text of the source that a span is of
   unfoldable pub text_of : S → List ℕ
-  text_of span = chars (unwrap_or (option_map (λ s. s.text) (w.source_of (w.id_of span))) [])
+  text_of span = chars (unwrap_or (option_map (λ source. source.text) (w.source_of (w.id_of span))) [])
 
   -- an offset of this text in characters, if it lies inside none
   unfoldable pub in_chars : S → ℕ → Option ℕ

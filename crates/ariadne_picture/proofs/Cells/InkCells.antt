@@ -16,7 +16,8 @@ use Rattle.ariadne_picture.specs.Ranks.{is_inline}
 use Rattle.ariadne_picture.specs.Cells.{glyph_code, alternate_ink, arrow_ink, corner_glyph}
 use Rattle.ariadne_picture.specs.Pieces.{Section, stroke, glyph_text}
 use Rattle.ariadne_picture.specs.Canvas.{Cell, cell_of}
-use Rattle.ariadne_picture.specs.Placing.{is_text, is_blank, is_glyph, is_level, set_of}
+use Rattle.ariadne_picture.specs.Placing.Cells.{is_text, is_blank, is_glyph, is_level}
+use Rattle.ariadne_picture.specs.Placing.Group.{set_of}
 use Rattle.ariadne_picture.proofs.Lists.Elements.{left-true, right-true, pointwise-same}
 use Rattle.ariadne_picture.proofs.Reading.Pictures.{Picture}
 

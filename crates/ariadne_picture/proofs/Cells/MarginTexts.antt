@@ -21,7 +21,7 @@ use Rattle.ariadne_picture.specs.Columns.{Layout, shown, shown_columns, column_o
 use Rattle.ariadne_picture.specs.Cells.{glyph_code}
 use Rattle.ariadne_picture.specs.Pieces.{blank_piece, Piece, Section, spaces, glyph_text, char_pieces, place_pieces, char_paint}
 use Rattle.ariadne_picture.specs.Pieces.{shown_text, shown_pieces, margin_text, margin_paint, margin_pieces}
-use Rattle.ariadne_picture.specs.Placing.{unindented}
+use Rattle.ariadne_picture.specs.Placing.Together.{unindented}
 use Rattle.ariadne_picture.proofs.Lists.Joined.{joined-numbered, map-joined, joined-same}
 use Rattle.ariadne_picture.proofs.Lists.ListFacts.{map-replicate}
 use Rattle.ariadne_picture.proofs.Cells.RowCells.{front_pieces}

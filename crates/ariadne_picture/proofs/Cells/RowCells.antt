@@ -18,7 +18,8 @@ use Rattle.ariadne_picture.specs.Cells.{column_ink, alternate_place, arrow_place
 use Rattle.ariadne_picture.specs.Pieces.{Piece, Texts, Section, stroke, ink_pieces, area_pieces, margin_pieces, margin_text, column_size, gutter_len}
 use Rattle.ariadne_picture.specs.Pieces.{gutter_pieces, shown_pieces, message_pieces, rest_pieces, row_pieces}
 use Rattle.ariadne_picture.specs.Canvas.{Cell}
-use Rattle.ariadne_picture.specs.Placing.{Placing, column_cell, text_cell}
+use Rattle.ariadne_picture.specs.Placing.Group.{column_cell, text_cell}
+use Rattle.ariadne_picture.specs.Placing.Rows.{Placing}
 use Rattle.ariadne_picture.proofs.Lists.ListFacts.{all-joined, all-every}
 use Rattle.ariadne_picture.proofs.Lists.Occurrences.{total-same}
 use Rattle.ariadne_picture.proofs.Rows.RowsThere.{range-at}

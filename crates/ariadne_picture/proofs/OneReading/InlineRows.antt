@@ -20,8 +20,8 @@ use Rattle.ariadne_picture.specs.Strokes.{has_corner, is_crossed, vertical_at}
 use Rattle.ariadne_picture.specs.Cells.{glyph_code, arrow_ink, corner_glyph}
 use Rattle.ariadne_picture.specs.Pieces.{Section, glyph_text}
 use Rattle.ariadne_picture.specs.Canvas.{Cell}
-use Rattle.ariadne_picture.specs.Placing.{is_text, is_glyph, is_level}
-use Rattle.ariadne_picture.specs.Placing.{messages_of}
+use Rattle.ariadne_picture.specs.Placing.Cells.{is_text, is_glyph, is_level}
+use Rattle.ariadne_picture.specs.Placing.Group.{messages_of}
 use Rattle.ariadne_picture.specs.Causes.{Trace, is_upright, is_stroke_of}
 use Rattle.ariadne_picture.proofs.Lists.ListFacts.{all-at}
 use Rattle.ariadne_picture.proofs.Lists.Elements.{Has, has-filter}

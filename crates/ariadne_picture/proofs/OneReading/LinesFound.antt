@@ -22,8 +22,10 @@ use Rattle.ariadne_picture.specs.Canvas.{Cell, Palette, cell_of}
 use Rattle.ariadne_picture.proofs.Cells.CanvasRows.{row_cells}
 use Rattle.ariadne_picture.proofs.Reading.RowNames.{name-of}
 use Rattle.ariadne_picture.proofs.Reading.Placed.{rows-placed}
-use Rattle.ariadne_picture.specs.Placing.{Placing, no_cell, is_text, unindented, row_at, cell_at, shown_lines, is_in_group, is_source_row, is_line_placed}
-use Rattle.ariadne_picture.specs.Placing.{is_group_placed, is_placing, are_rising, has_margin}
+use Rattle.ariadne_picture.specs.Placing.Cells.{no_cell, is_text}
+use Rattle.ariadne_picture.specs.Placing.Group.{shown_lines}
+use Rattle.ariadne_picture.specs.Placing.Rows.{Placing, row_at, cell_at}
+use Rattle.ariadne_picture.specs.Placing.Together.{unindented, is_in_group, is_source_row, is_line_placed, is_group_placed, is_placing, all_pairs, has_margin}
 use Rattle.ariadne_picture.proofs.Lists.ListFacts.{none≢some, all-weaker, all-at, all-map, all-append, Increasing, increasing-append}
 use Rattle.ariadne_picture.proofs.Lists.Elements.{Has, has-map, has-joined, has-filter}
 use Rattle.ariadne_picture.proofs.Rows.RowNumbers.{at-part, start-first, start-last}
@@ -53,11 +55,11 @@ text-equal (x ∷ a) (y ∷ b) e =
 abbrev Rises : List ℕ → Type 0
 Rises = Increasing (λ (n m : ℕ). n < m)
 
-rises-from : (ns : List ℕ) → are_rising ns ≡ true → Rises ns
-unfolding are_rising
+rises-from : (ns : List ℕ) → all_pairs nat_lt ns ≡ true → Rises ns
+unfolding all_pairs
 rises-from [] e = tt
 rises-from (n ∷ ns) e =
-    let two = two-true (list_all (λ m. nat_lt n m) ns) (are_rising ns) e in
+    let two = two-true (list_all (λ m. nat_lt n m) ns) (all_pairs nat_lt ns) e in
     (all-weaker _ (λ m. n < m) ns (λ m h. ltb-true n m h) (list_all-from (λ m. nat_lt n m) ns two.0), rises-from ns two.1)
 
 -- what is not the first element is one of the others
@@ -156,24 +158,24 @@ record IsGroup (rows : List (List Cell)) (groups : List Section) (p : Placing) (
   low : p.start e.0 ≤ p.start (e.0 + 1)
   rises : Rises (map (p.source_row e.0) (shown_lines e.1))
   lines : AllByRecursion (λ l. (p.start e.0 ≤ p.source_row e.0 l) × (p.source_row e.0 l < p.start (e.0 + 1))
-      × (is_numbered (cell_at rows groups p (p.source_row e.0 l) 1) ≡ true)) (shown_lines e.1)
+      × (is_numbered (cell_at rows (p.source_row e.0 l) 1) ≡ true)) (shown_lines e.1)
 
 module _ (rows : List (List Cell)) (groups : List Section) (p : Placing) where
   -- a source row has its number in the margin
-  source-numbered : (s : Section) (l n : ℕ) → is_source_row rows groups p s l n ≡ true → is_numbered (cell_at rows groups p n 1) ≡ true
+  source-numbered : (s : Section) (l n : ℕ) → is_source_row rows groups p s l n ≡ true → is_numbered (cell_at rows n 1) ≡ true
   unfolding is_source_row has_margin
   source-numbered s l n e =
       let number : List ℕ = decimal (printed_number s.display_offset l) in
       let bar : List ℕ = glyph_text s.sheet.switches.char_set Vbar in
       let margin = two-true (has_margin rows groups p s (number ++ codes " " ++ bar) n) _ e in
       let front = two-true _ _ margin.0 in
-      let two = two-true _ (is_text (unindented (cell_at rows groups p n 1).text) (number ++ codes " " ++ bar)) front.0 in
-      let text = text-equal (unindented (cell_at rows groups p n 1).text) (number ++ codes " " ++ bar) two.1 in
+      let two = two-true _ (is_text (unindented (cell_at rows n 1).text) (number ++ codes " " ++ bar)) front.0 in
+      let text = text-equal (unindented (cell_at rows n 1).text) (number ++ codes " " ++ bar) two.1 in
       let group = Rattle.std.proofs.Common.append_assoc number (codes " ") bar in
       ap begins_with_digit (text ∙ group) ∙ decimal-begins (printed_number s.display_offset l) (codes " " ++ bar)
 
   line-from : (g : ℕ) (s : Section) (l : ℕ) → is_line_placed rows groups p g s l ≡ true
-      → (p.start g ≤ p.source_row g l) × (p.source_row g l < p.start (g + 1)) × (is_numbered (cell_at rows groups p (p.source_row g l) 1) ≡ true)
+      → (p.start g ≤ p.source_row g l) × (p.source_row g l < p.start (g + 1)) × (is_numbered (cell_at rows (p.source_row g l) 1) ≡ true)
   unfolding is_line_placed is_in_group
   line-from g s l e =
       let all = two-true (is_in_group rows groups p g (p.source_row g l) && is_source_row rows groups p s l (p.source_row g l)) _ e in
@@ -198,7 +200,7 @@ module _ (rows : List (List Cell)) (groups : List Section) (p : Placing) where
 
   -- from group a on the lines rise from the first row of that group on, up to the last row
   lines-rise : (a : ℕ) (ss : List Section) → AllByRecursion (IsGroup rows groups p) (enumerate_from a ss)
-      → Rises (lines_from p a ss) × AllByRecursion (λ n. (p.start a ≤ n) × (n < p.start (a + length ss)) × (is_numbered (cell_at rows groups p n 1) ≡ true)) (lines_from p a ss)
+      → Rises (lines_from p a ss) × AllByRecursion (λ n. (p.start a ≤ n) × (n < p.start (a + length ss)) × (is_numbered (cell_at rows n 1) ≡ true)) (lines_from p a ss)
   unfolding joined
   lines-rise a [] h = (tt, tt)
   lines-rise a (s ∷ ss) h =
@@ -208,7 +210,7 @@ module _ (rows : List (List Cell)) (groups : List Section) (p : Placing) where
       let end : a + 1 + length ss ≡ a + suc (length ss) = omega arith in
       let last = starts-rise (a + 1) ss h.1 in
       let same = ap p.start end in
-      let first : AllByRecursion (λ n. (p.start a ≤ n) × (n < p.start (a + 1)) × (is_numbered (cell_at rows groups p n 1) ≡ true)) (map (p.source_row a) (shown_lines s)) =
+      let first : AllByRecursion (λ n. (p.start a ≤ n) × (n < p.start (a + 1)) × (is_numbered (cell_at rows n 1) ≡ true)) (map (p.source_row a) (shown_lines s)) =
       all-map _ (p.source_row a) (shown_lines s) here.lines in (
         increasing-append (λ (n m : ℕ). n < m) (λ n. n < p.start (a + 1)) (λ n. p.start (a + 1) ≤ n) _ _ (λ n m x y. omega arith)
             (all-weaker _ _ _ (λ n x. x.1) first) (all-weaker _ _ _ (λ n x. x.0) rest.1) here.rises rest.0,
@@ -328,7 +330,7 @@ module _ (v : Picture) where
 
   -- its cell behind the blank
   cell-one : {g : ℕ} {s : Section} {k : ℕ} {x : Row} → RowAt v g s k x
-      → read v cell_at (number v g s x) 1 ≡ slice_index_or (map (cell_of v.palette) (row_pieces v.texts v.width s x)) 1 no_cell
+      → cell_at (rows_of v) (number v g s x) 1 ≡ slice_index_or (map (cell_of v.palette) (row_pieces v.texts v.width s x)) 1 no_cell
   unfolding cell_at
   cell-one is = ap (λ row. slice_index_or row 1 no_cell) (row-read v is)
 
@@ -344,14 +346,14 @@ module _ (v : Picture) where
       (has-map ((placing_of v).source_row g) (shown_lines s) line.place l line.there))
 
   -- so is each row with a number
-  numbered-there : (n : ℕ) → 1 ≤ n → n < length (rows_of v) → is_numbered (read v cell_at n 1) ≡ true → Has (lines_from (placing_of v) 0 v.sections) n
+  numbered-there : (n : ℕ) → 1 ≤ n → n < length (rows_of v) → is_numbered (cell_at (rows_of v) n 1) ≡ true → Has (lines_from (placing_of v) 0 v.sections) n
   numbered-there n low high shows =
       let last = start-last v.texts v.sections (row_cells v.palette v.texts v.width) v.header in
       let w = group-of n (length v.sections) (omega arith) low (omega arith) in
       let row = row-there v w.group n w.section w.there w.low w.high in
       subst (Has (lines_from (placing_of v) 0 v.sections)) row.3 (go w.group w.section row.0 row.1 row.2 (rw row.3 shows))
     where
-      go : (g : ℕ) (s : Section) (k : ℕ) (x : Row) → RowAt v g s k x → is_numbered (read v cell_at (number v g s x) 1) ≡ true
+      go : (g : ℕ) (s : Section) (k : ℕ) (x : Row) → RowAt v g s k x → is_numbered (cell_at (rows_of v) (number v g s x) 1) ≡ true
           → Has (lines_from (placing_of v) 0 v.sections) (number v g s x)
       go g s k (source l) is e = line-there g s k l is
       go g s k x is e = absurd (true≢false (sym e ∙ ap is_numbered (cell-one is) ∙ row-unnumbered v.palette v.texts v.width s x tt))

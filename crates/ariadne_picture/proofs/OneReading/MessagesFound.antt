@@ -16,8 +16,11 @@ use Rattle.ariadne_picture.specs.Rows.{Row, source, arrow}
 use Rattle.ariadne_picture.specs.Columns.{layout_of}
 use Rattle.ariadne_picture.specs.Pieces.{Section, Texts, blank_piece, plain_text, message_pieces}
 use Rattle.ariadne_picture.specs.Canvas.{Cell, cell_of}
-use Rattle.ariadne_picture.specs.Placing.{Placing, no_cell, row_at, cell_at, text_cell, cells_of_places, shown_lines, messages_of}
-use Rattle.ariadne_picture.specs.Placing.{is_in_block, is_group_placed, is_placing, is_message_row, is_block_end, are_block_ends, has_message_rows, block_rows}
+use Rattle.ariadne_picture.specs.Placing.Cells.{no_cell}
+use Rattle.ariadne_picture.specs.Placing.Group.{text_cell, shown_lines, messages_of}
+use Rattle.ariadne_picture.specs.Placing.Rows.{Placing, row_at, cell_at, cells_of_places, block_rows}
+use Rattle.ariadne_picture.specs.Placing.Together.{is_in_block, is_group_placed, is_placing}
+use Rattle.ariadne_picture.specs.Placing.MessageRows.{is_message_row, are_block_ends, has_message_rows}
 use Rattle.ariadne_picture.proofs.Lists.ListFacts.{none≢some, all-at}
 use Rattle.ariadne_picture.proofs.Lists.Elements.{Has, has-filter}
 use Rattle.ariadne_picture.proofs.Rows.LineBlock.{IsBlockRow, block-rows-are}
@@ -92,8 +95,8 @@ has-filtered test (y ∷ xs) x h =
 -- ---- a message row, and what a row of a block is
 
 pub record IsMessageRow (rows : List (List Cell)) (groups : List Section) (p : Placing) (s : Section) (cells : ℕ) (message : List ℕ) (n : ℕ) : Type 0 where
-  pub size : length (row_at rows groups p n) ≡ text_cell s + cells + 2
-  pub text : (slice_index_or (row_at rows groups p n) (text_cell s + cells + 1) no_cell).text ≡ message
+  pub size : length (row_at rows n) ≡ text_cell s + cells + 2
+  pub text : (slice_index_or (row_at rows n) (text_cell s + cells + 1) no_cell).text ≡ message
 
 message-row-from : (rows : List (List Cell)) (groups : List Section) (p : Placing) (s : Section) (cells : ℕ) (message : List ℕ) (n : ℕ)
     → is_message_row rows groups p s cells message n ≡ true → IsMessageRow rows groups p s cells message n
@@ -108,7 +111,7 @@ message-row-from rows groups p s cells message n e =
 module _ (v : Picture) {g : ℕ} {s : Section} {l : ℕ} (h : IsShownLine v g s l) where
   -- how many cells the places of a row of the line have
   abbrev pub count : ℕ
-  count = read v cells_of_places g s l
+  count = cells_of_places (placing_of v) g s l
 
   -- row n is row number index of the block
   pub record IsRowOf (n : ℕ) : Type 0 where
@@ -128,10 +131,10 @@ module _ (v : Picture) {g : ℕ} {s : Section} {l : ℕ} (h : IsShownLine v g s 
 
   -- it has places alone, or a message behind them
   pub data RowEnd : ℕ → Type 0 where
-    bare_end : (n : ℕ) → length (read v row_at n) ≡ text_cell s + count → RowEnd n
+    bare_end : (n : ℕ) → length (row_at (rows_of v) n) ≡ text_cell s + count → RowEnd n
     message_end : (n r : ℕ) (x : LineLabel) → IsArrowRow v g s l r x → is_start x.side ≡ false → number v g s (arrow l r) ≡ n
-        → length (read v row_at n) ≡ text_cell s + count + 2
-        → (slice_index_or (read v row_at n) (text_cell s + count + 1) no_cell).text ≡ v.texts.message_of x.info.position → RowEnd n
+        → length (row_at (rows_of v) n) ≡ text_cell s + count + 2
+        → (slice_index_or (row_at (rows_of v) n) (text_cell s + count + 1) no_cell).text ≡ v.texts.message_of x.info.position → RowEnd n
 
 -- a start shows nothing
 message-hidden : (t : Texts) (o : Option LineLabel) (x : LineLabel) → o ≡ Some x → is_start x.side ≡ true → message_pieces t o ≡ []
@@ -139,14 +142,14 @@ unfolding message_pieces
 message-hidden t o x e on = ap (message_pieces t) e ∙ (rw on refl)
 
 module _ (v : Picture) {g : ℕ} {s : Section} {l : ℕ} (h : IsShownLine v g s l) where
-  places-end : {x : Row} (ink : ℕ → Ink) → IsTextRow v g s x (area s l ink ++ []) → length (read v row_at (number v g s x)) ≡ text_cell s + count v h
+  places-end : {x : Row} (ink : ℕ → Ink) → IsTextRow v g s x (area s l ink ++ []) → length (row_at (rows_of v) (number v g s x)) ≡ text_cell s + count v h
   places-end {x} ink text =
       let size = row-length v text in
       let long = area-length v h ink in
       omega (arith, size, long, length-append (area s l ink) [])
 
   pub message-size : (r : ℕ) (x : LineLabel) → IsArrowRow v g s l r x → is_start x.side ≡ false
-      → length (read v row_at (number v g s (arrow l r))) ≡ text_cell s + count v h + 2
+      → length (row_at (rows_of v) (number v g s (arrow l r))) ≡ text_cell s + count v h + 2
   unfolding layout_of
   message-size r x q off =
       let places = area s l (arrow_inks s l r) in
@@ -163,7 +166,7 @@ module _ (v : Picture) {g : ℕ} {s : Section} {l : ℕ} (h : IsShownLine v g s 
   message-ends r x q off =
       let places = area s l (arrow_inks s l r) in
       let message = plain_text (v.texts.message_of x.info.position) in
-      let row : List Cell = read v row_at (number v g s (arrow l r)) in
+      let row : List Cell = row_at (rows_of v) (number v g s (arrow l r)) in
       let text : IsTextRow v g s (arrow l r) (places ++ blank_piece ∷ message ∷ []) =
       rw (message-shown v.texts _ x q.there off) at (arrow-text v (arrow-at v q)) in
       let long = area-length v h (arrow_inks s l r) in
@@ -219,7 +222,7 @@ module _ (v : Picture) (p : Placing) (h : IsReadBy (rows_of v) v.sections v.text
   -- ---- messages
 
   abbrev cells : ℕ → Section → ℕ → ℕ
-  cells g s l = cells_of_places (rows_of v) v.sections p g s l
+  cells g s l = cells_of_places p g s l
 
   -- the message of a label stands in its block
   pub message-in : (g : ℕ) (s : Section) (a : LabelInfo) → slice_get v.sections g ≡ Some s → Has (messages_of s) a
@@ -240,7 +243,7 @@ module _ (v : Picture) (p : Placing) (h : IsReadBy (rows_of v) v.sections v.text
         → IsMessageRow (rows_of v) v.sections p s (cells g s l) (v.texts.message_of a.position) (p.message_row a.position)
     pub others : (n : ℕ) → source_row v g l < n → n ≤ source_row v g l + length (shown_rows s.sheet l)
         → ((a : LabelInfo) × Has (messages_of s) a × (a.end_line ≡ l) × (p.message_row a.position ≡ n))
-        ⊎ (length (row_at (rows_of v) v.sections p n) ≡ text_cell s + cells g s l)
+        ⊎ (length (row_at (rows_of v) n) ≡ text_cell s + cells g s l)
 
   pub ends-of : (g : ℕ) (s : Section) (l : ℕ) → IsShownLine v g s l → Ends g s l
   unfolding has_message_rows are_block_ends block_rows
@@ -257,7 +260,8 @@ module _ (v : Picture) (p : Placing) (h : IsReadBy (rows_of v) v.sections v.text
             (filter (λ (a : LabelInfo). a.end_line == l) (messages_of s)) here.place a here.there (list_all-from _ _ two.0));
         others = λ n low high.
             let ended : List LabelInfo = filter (λ (a : LabelInfo). a.end_line == l) (messages_of s) in
-            let test : ℕ → Bool = is_block_end (rows_of v) v.sections p s (cells g s l) ended in
+            let test : ℕ → Bool =
+            λ n. list_any (λ (a : LabelInfo). p.message_row a.position == n) ended || (length (row_at (rows_of v) n) == text_cell s + cells g s l) in
             let j : ℕ = n - (p.source_row g l + 1) in
             let z : p.source_row g l + 1 + j ≡ n = omega arith in
             let at = range-at (p.source_row g l + 1) (p.block_len g l) j (omega arith) ∙ ap Some z in
@@ -284,20 +288,20 @@ module _ (v : Picture) (p : Placing) (h : IsReadBy (rows_of v) v.sections v.text
     pub same_cells : cells g s a.end_line ≡ count v line
 
   -- the rows of p are those of the picture, whatever the placing
-  pub same-rows : (n : ℕ) → row_at (rows_of v) v.sections p n ≡ read v row_at n
+  pub same-rows : (n : ℕ) → row_at (rows_of v) n ≡ row_at (rows_of v) n
   unfolding row_at
   same-rows n = refl
 
   -- p counts as many cells of places: its message rows and the others are those of the picture
   cells-same : (g : ℕ) (s : Section) (l : ℕ) (k : IsShownLine v g s l) (e : Ends g s l) (n n' : ℕ)
-      → length (row_at (rows_of v) v.sections p n) ≡ text_cell s + cells g s l + 2 → RowEnd v k n
-      → length (read v row_at n') ≡ text_cell s + count v k + 2
+      → length (row_at (rows_of v) n) ≡ text_cell s + cells g s l + 2 → RowEnd v k n
+      → length (row_at (rows_of v) n') ≡ text_cell s + count v k + 2
       → ((a : LabelInfo) × Has (messages_of s) a × (a.end_line ≡ l) × (p.message_row a.position ≡ n'))
-      ⊎ (length (row_at (rows_of v) v.sections p n') ≡ text_cell s + cells g s l)
+      ⊎ (length (row_at (rows_of v) n') ≡ text_cell s + cells g s l)
       → cells g s l ≡ count v k
   cells-same g s l k e n n' size end own (inl a) =
       let other = (e.messages a.0 a.1 a.2).size in
-      let at = ap (λ n. length (row_at (rows_of v) v.sections p n)) a.3 in
+      let at = ap (λ n. length (row_at (rows_of v) n)) a.3 in
       let rows = ap length (same-rows n') in
       omega (arith, other, at, rows, own)
   cells-same g s l k e n n' size (bare_end m long) own (inr other) =

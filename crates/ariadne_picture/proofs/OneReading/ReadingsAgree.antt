@@ -11,8 +11,8 @@ use Rattle.ariadne_picture.specs.Ranks.{is_on_one_line}
 use Rattle.ariadne_picture.specs.Rows.{arrow}
 use Rattle.ariadne_picture.specs.Columns.{layout_of, column_of}
 use Rattle.ariadne_picture.specs.Pieces.{Section}
-use Rattle.ariadne_picture.specs.Placing.{Placing, row_at}
-use Rattle.ariadne_picture.specs.Placing.{messages_of}
+use Rattle.ariadne_picture.specs.Placing.Group.{messages_of}
+use Rattle.ariadne_picture.specs.Placing.Rows.{Placing, row_at}
 use Rattle.ariadne_picture.specs.Accept.{drawn_labels}
 use Rattle.ariadne_picture.specs.Report.{ReportFields, World}
 use Rattle.ariadne_picture.specs.Canvas.{canvas, sections, texts_of}
@@ -97,7 +97,7 @@ module _ (v : Picture) (placed : ArePlaced v) (p q : Placing) (h : IsReadBy (row
         }
         | inr short ↦
             let rows = ap length (same-rows v q k (p.message_row a.position)) in
-            let moved = ap (λ n. length (read v row_at n)) row in
+            let moved = ap (λ n. length (row_at (rows_of v) n)) row in
             absurd (omega (arith, size, short, rows, moved, same))
       ]
 

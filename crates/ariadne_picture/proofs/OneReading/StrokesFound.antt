@@ -21,9 +21,11 @@ use Rattle.ariadne_picture.specs.Strokes.{bar_at}
 use Rattle.ariadne_picture.specs.Cells.{glyph_code, turn_glyph, turn_ink, below_ink, column_ink, ink_of}
 use Rattle.ariadne_picture.specs.Pieces.{Section, glyph_text}
 use Rattle.ariadne_picture.specs.Canvas.{Cell}
-use Rattle.ariadne_picture.specs.Placing.{Placing, is_text, is_glyph, set_of, is_margin_at, gutter_cell, cell_at, row_at, messages_of}
-use Rattle.ariadne_picture.specs.Placing.{is_gutter_label_placed, is_group_placed, is_placing, are_distinct, is_end_traced, is_start_traced}
-use Rattle.ariadne_picture.specs.Placing.{has_ends_of_gutter_traces}
+use Rattle.ariadne_picture.specs.Placing.Cells.{is_text, is_glyph}
+use Rattle.ariadne_picture.specs.Placing.Group.{set_of, is_margin_at, messages_of}
+use Rattle.ariadne_picture.specs.Placing.Rows.{Placing, gutter_cell, cell_at, row_at}
+use Rattle.ariadne_picture.specs.Placing.Together.{is_gutter_label_placed, is_group_placed, is_placing, all_pairs}
+use Rattle.ariadne_picture.specs.Placing.GutterEnds.{is_end_traced, is_start_traced, has_ends_of_gutter_traces}
 use Rattle.ariadne_picture.proofs.Lists.ListFacts.{all-weaker, all-at, Increasing}
 use Rattle.ariadne_picture.proofs.Lists.Elements.{Has}
 use Rattle.ariadne_picture.proofs.Labels.LabelsAtLine.{IsHere, apart, increasing-part, gutter-labels-owned}
@@ -150,21 +152,21 @@ module _ (v : Picture) {g : ℕ} {s : Section} {i : ℕ} {a : LabelInfo} (o : Is
     pub is : number v g s (arrow l rank) ≡ n
 
   arrow-cell : {l r : ℕ} {x : LineLabel} → IsArrowRow v g s l r x
-      → read v gutter_cell s (number v g s (arrow l r)) i ≡ ink_cell v s (column_ink s.sheet (arrow l r) i)
+      → gutter_cell (rows_of v) s (number v g s (arrow l r)) i ≡ ink_cell v s (column_ink s.sheet (arrow l r) i)
   arrow-cell q = gutter-cell v (arrow-text v (arrow-at v q)) i (column-few o)
 
   turned-row : (glyph : Glyph) (side : Side)
       → ((glyph' : Glyph) → is_text (glyph_text (set_of s) glyph') (glyph_text (set_of s) glyph) ≡ true → glyph' ≡ glyph)
       → (IsBar glyph → ⊥)
       → ((l r : ℕ) (x : LineLabel) → Turn s.sheet l r i x → (column_ink s.sheet (arrow l r) i).first ≡ glyph → (x.side ≡ side) × (x.gutter_column ≡ i))
-      → {l : ℕ} (k : IsShownLine v g s l) (n : ℕ) → IsRowOf v k n → is_glyph (set_of s) glyph (read v gutter_cell s n i) ≡ true → IsTurn l side n
+      → {l : ℕ} (k : IsShownLine v g s l) (n : ℕ) → IsRowOf v k n → is_glyph (set_of s) glyph (gutter_cell (rows_of v) s n i) ≡ true → IsTurn l side n
   turned-row glyph side only no_bar turn {l} k n row shows =
       let b = all-at (IsBlockRow s.sheet l) _ row.index row.name row.there (block-rows-are s.sheet l) in
-      let here : is_glyph (set_of s) glyph (read v gutter_cell s (number v g s row.name) i) ≡ true = rw row.is shows in
+      let here : is_glyph (set_of s) glyph (gutter_cell (rows_of v) s (number v g s row.name) i) ≡ true = rw row.is shows in
       elim b.kind [
         | inl e ↦
             let q = arrow-row v b.rank b.label k b.there b.message in
-            let shown : is_glyph (set_of s) glyph (read v gutter_cell s (number v g s (arrow l b.rank)) i) ≡ true = rw e at here in
+            let shown : is_glyph (set_of s) glyph (gutter_cell (rows_of v) s (number v g s (arrow l b.rank)) i) ≡ true = rw e at here in
             let first = only _ (shows-text v s (column_ink s.sheet (arrow l b.rank) i) glyph _ (arrow-cell q) shown) in
             let found = turn l b.rank b.label (arrow-turn s.sheet l b.rank i b.label b.there) first in
             record {
@@ -177,16 +179,16 @@ module _ (v : Picture) {g : ℕ} {s : Section} {i : ℕ} {a : LabelInfo} (o : Is
             }
         | inr e ↦
             let at = subst (RowAt v g s (rows_above v k + suc row.index)) e.0 (block-row-is v k row.index row.name row.there) in
-            let shown : is_glyph (set_of s) glyph (read v gutter_cell s (number v g s (alternate l b.rank)) i) ≡ true = rw e.0 at here in
+            let shown : is_glyph (set_of s) glyph (gutter_cell (rows_of v) s (number v g s (alternate l b.rank)) i) ≡ true = rw e.0 at here in
             let cell = gutter-cell v (alternate-text v at) i (column-few o) in
             let first = only _ (shows-text v s (column_ink s.sheet (alternate l b.rank) i) glyph _ cell shown) in
             absurd (no_bar (subst IsBar first (alternate-bar s.sheet l b.rank i)))
       ]
 
-  pub head-turn : {l : ℕ} (k : IsShownLine v g s l) (n : ℕ) → IsRowOf v k n → is_glyph (set_of s) Ltop (read v gutter_cell s n i) ≡ true → IsTurn l Starts n
+  pub head-turn : {l : ℕ} (k : IsShownLine v g s l) (n : ℕ) → IsRowOf v k n → is_glyph (set_of s) Ltop (gutter_cell (rows_of v) s n i) ≡ true → IsTurn l Starts n
   head-turn = turned-row Ltop Starts (ltop-only (set_of s)) (λ b. elim b [ inl e ↦ cc | inr e ↦ cc ]) (λ l r x. turn-head s.sheet l r i x)
 
-  pub end-turn : {l : ℕ} (k : IsShownLine v g s l) (n : ℕ) → IsRowOf v k n → is_glyph (set_of s) Lbot (read v gutter_cell s n i) ≡ true → IsTurn l Ends n
+  pub end-turn : {l : ℕ} (k : IsShownLine v g s l) (n : ℕ) → IsRowOf v k n → is_glyph (set_of s) Lbot (gutter_cell (rows_of v) s n i) ≡ true → IsTurn l Ends n
   end-turn = turned-row Lbot Ends (lbot-only (set_of s)) (λ b. elim b [ inl e ↦ cc | inr e ↦ cc ]) (λ l r x. turn-end s.sheet l r i x)
 
 -- two arrow rows of a line that stand in one row are of one line label
@@ -204,11 +206,11 @@ same-rank v {s = s} {l} q q' same =
 -- ---- row numbers that read the picture
 
 -- numbers of which no two are the same
-distinct-from : (ns : List ℕ) → are_distinct ns ≡ true → Increasing (λ (n m : ℕ). n ≢ m) ns
-unfolding are_distinct
+distinct-from : (ns : List ℕ) → all_pairs (λ n m. not (n == m)) ns ≡ true → Increasing (λ (n m : ℕ). n ≢ m) ns
+unfolding all_pairs
 distinct-from [] e = tt
 distinct-from (n ∷ ns) e =
-    let two = two-true (list_all (λ m. not (n == m)) ns) (are_distinct ns) e in
+    let two = two-true (list_all (λ m. not (n == m)) ns) (all_pairs (λ n m. not (n == m)) ns) e in
     (all-weaker _ (λ m. n ≢ m) ns (λ m h same. true≢false (sym h ∙ ap not (eq-eqb n m same))) (list_all-from (λ m. not (n == m)) ns two.0), distinct-from ns two.1)
 
 -- what stands at one place is one element
@@ -217,14 +219,14 @@ same-element xs i j a b d e same = let here = ap (slice_get xs) same in cc
 
 module _ (v : Picture) (p : Placing) (h : IsReadBy (rows_of v) v.sections v.texts.message_of p) where
   -- what a cell is does not depend on them
-  same-gutter : (s : Section) (n i : ℕ) → gutter_cell (rows_of v) v.sections p s n i ≡ read v gutter_cell s n i
+  same-gutter : (s : Section) (n i : ℕ) → gutter_cell (rows_of v) s n i ≡ gutter_cell (rows_of v) s n i
   unfolding cell_at row_at
   same-gutter s n i = refl
 
   -- the ends of gutter label i are traced
   pub record IsTracedBy (g : ℕ) (s : Section) (i : ℕ) (a : LabelInfo) : Type 0 where
-    pub end : is_glyph (set_of s) Lbot (read v gutter_cell s (p.message_row a.position) i) ≡ true
-    pub head : is_glyph (set_of s) Ltop (read v gutter_cell s (p.head_row g i) i) ≡ true
+    pub end : is_glyph (set_of s) Lbot (gutter_cell (rows_of v) s (p.message_row a.position) i) ≡ true
+    pub head : is_glyph (set_of s) Ltop (gutter_cell (rows_of v) s (p.head_row g i) i) ≡ true
 
   pub ends-traced : (g : ℕ) (s : Section) (i : ℕ) (a : LabelInfo) → IsGutterLabelOf v g s i a → IsTracedBy g s i a
   unfolding has_ends_of_gutter_traces is_end_traced is_start_traced

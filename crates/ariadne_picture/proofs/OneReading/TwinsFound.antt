@@ -16,8 +16,10 @@ use Rattle.ariadne_picture.specs.Rows.{alternate, arrow}
 use Rattle.ariadne_picture.specs.Columns.{layout_of, width, column_of}
 use Rattle.ariadne_picture.specs.Pieces.{Section, glyph_text}
 use Rattle.ariadne_picture.specs.Canvas.{Cell}
-use Rattle.ariadne_picture.specs.Placing.{Placing, between, is_text, is_blank, is_glyph, is_level, set_of, has_cell, place_cell, cell_at, row_at, text_cell}
-use Rattle.ariadne_picture.specs.Placing.{messages_of, is_margin_at, holds_at_places, is_inline_traced, has_inline_traces, has_underlines, block_rows}
+use Rattle.ariadne_picture.specs.Placing.Cells.{is_text, is_blank, is_glyph, is_level}
+use Rattle.ariadne_picture.specs.Placing.Group.{set_of, has_cell, place_cell, text_cell, messages_of, is_margin_at, has_underlines}
+use Rattle.ariadne_picture.specs.Placing.Rows.{Placing, between, cell_at, row_at, holds_at_places, block_rows}
+use Rattle.ariadne_picture.specs.Placing.InlineTraces.{is_inline_traced, has_inline_traces}
 use Rattle.ariadne_picture.specs.Causes.{Trace, is_upright, is_stroke_of, inline_trace, end_trace, start_trace, gutter_traces, traces_below}
 use Rattle.ariadne_picture.specs.Causes.{is_underline_of, has_cause, is_place_caused, is_line_caused, has_no_other_strokes}
 use Rattle.ariadne_picture.specs.Headline.{IsReadBy}
@@ -47,17 +49,17 @@ use Rattle.ariadne_picture.proofs.OneReading.InlineRows.{inline_ink, inline-left
 
 module _ (v : Picture) (placed : ArePlaced v) (p : Placing) (h : IsReadBy (rows_of v) v.sections v.texts.message_of p) where
   -- the cells of p are those of the picture, whatever the placing
-  same-cell : (n c : ℕ) → cell_at (rows_of v) v.sections p n c ≡ read v cell_at n c
+  same-cell : (n c : ℕ) → cell_at (rows_of v) n c ≡ cell_at (rows_of v) n c
   unfolding cell_at row_at
   same-cell n c = refl
 
   -- a test that holds at places holds of the first cell of each
-  holds-from : (g : ℕ) (s : Section) (l n a b k : ℕ) (test : Cell → Bool) → holds_at_places (rows_of v) v.sections p g s l n a b test ≡ true
+  holds-from : (g : ℕ) (s : Section) (l n a b k : ℕ) (test : Cell → Bool) → holds_at_places (rows_of v) p g s l n a b test ≡ true
       → a ≤ k → k < b → (k < p.places g l) × (has_cell s l k ≡ true → test (first_cell v s l n k) ≡ true)
   unfolding holds_at_places
   holds-from g s l n a b k test e low high =
       let f : ℕ → Bool =
-      λ k. nat_lt k (p.places g l) && (not (has_cell s l k) || test (cell_at (rows_of v) v.sections p n (place_cell s l k))) in
+      λ k. nat_lt k (p.places g l) && (not (has_cell s l k) || test (cell_at (rows_of v) n (place_cell s l k))) in
       let z : a + (k - a) ≡ k = omega arith in
       let at : slice_get (between a b) (k - a) ≡ Some k = range-at a (b - a) (k - a) (omega arith) ∙ ap Some z in
       let passes : f k ≡ true = all-at (λ k. f k ≡ true) (between a b) (k - a) k at (list_all-from f (between a b) e) in
@@ -85,8 +87,8 @@ module _ (v : Picture) (placed : ArePlaced v) (p : Placing) (h : IsReadBy (rows_
 
     -- its corner and its horizontal stand where p says
     record IsTracedHere (l : ℕ) : Type 0 where
-      corner : holds_at_places (rows_of v) v.sections p g s l (p.message_row a.position) a.attach (a.attach + 1) (is_glyph (set_of s) Lbot) ≡ true
-      level : holds_at_places (rows_of v) v.sections p g s l (p.message_row a.position) (a.attach + 1) (p.places g l) (is_level (set_of s)) ≡ true
+      corner : holds_at_places (rows_of v) p g s l (p.message_row a.position) a.attach (a.attach + 1) (is_glyph (set_of s) Lbot) ≡ true
+      level : holds_at_places (rows_of v) p g s l (p.message_row a.position) (a.attach + 1) (p.places g l) (is_level (set_of s)) ≡ true
 
     traced-here : IsTracedHere a.end_line
     unfolding has_inline_traces is_inline_traced
@@ -183,7 +185,7 @@ module _ (v : Picture) (placed : ArePlaced v) (p : Placing) (h : IsReadBy (rows_
       -- the row is one of the block of p, so each cell has a cause
       caused-here : (k : ℕ) → k < p.places g a.end_line → has_cell s a.end_line k ≡ true
           → has_cause (rows_of v) v.sections p g s a.end_line (p.message_row a.position) k true (first_cell v s a.end_line (p.message_row a.position) k) ≡ true
-      unfolding has_no_other_strokes is_line_caused is_place_caused block_rows Rattle.ariadne_picture.specs.Placing.is_in_block has_cell
+      unfolding has_no_other_strokes is_line_caused is_place_caused block_rows Rattle.ariadne_picture.specs.Placing.Together.is_in_block has_cell
       caused-here k few some =
           let n : ℕ = p.message_row a.position in
           let l : ℕ = a.end_line in
@@ -206,7 +208,7 @@ module _ (v : Picture) (placed : ArePlaced v) (p : Placing) (h : IsReadBy (rows_
           let more = ltb-true 0 (width s.sheet.switches (layout_of s.sheet l) k) some in
           let start : first + 0 ≡ first = omega arith in
           let test : ℕ → Bool =
-          λ c. has_cause (rows_of v) v.sections p g s l n k (c == first) (cell_at (rows_of v) v.sections p n c) in
+          λ c. has_cause (rows_of v) v.sections p g s l n k (c == first) (cell_at (rows_of v) n c) in
           let shown : test first ≡ true =
           passes-at test (between first (place_cell s l (k + 1))) 0 first place
           (range-at first (place_cell s l (k + 1) - first) 0 (omega (arith, wide, more)) ∙ ap Some start) in

@@ -1,5 +1,6 @@
 -- The text of a source row and of the rows below it begins at one column, and takes the columns of the line.
-use Rattle.std.proofs.Common.{◌≡◌, ℕ, ◌+◌, Bool, true, List, [], ◌∷◌, ◌++◌, map, take, length, refl, sym, ap, ◌∙◌, arith, ◌==◌}
+use Rattle.std.proofs.Common.{◌≡◌, ℕ, ◌+◌, Bool, true, ◌&&◌, List, [], ◌∷◌, ◌++◌, map, take, length, refl, sym, ap, ◌∙◌, arith, ◌==◌}
+use Rattle.std.specs.Prelude.{nat_le}
 use Rattle.std.specs.List.{AllByRecursion, list_all}
 use Rattle.std.specs.Cmp.Derive.{both_true}
 use Rattle.std.proofs.lemmas.Bool.{eq-eqb, le-leb}
@@ -12,15 +13,16 @@ use Rattle.ariadne_picture.specs.Rows.{Row, source}
 use Rattle.ariadne_picture.specs.Columns.{layout_of}
 use Rattle.ariadne_picture.specs.Pieces.{Piece, Section, margin_pieces, gutter_pieces}
 use Rattle.ariadne_picture.specs.Canvas.{Cell, cell_of}
-use Rattle.ariadne_picture.specs.Placing.{text_cells, cells_of_places, shown_cells, columns_before, is_row_aligned, is_line_aligned}
-use Rattle.ariadne_picture.specs.Placing.{is_aligned}
+use Rattle.ariadne_picture.specs.Placing.Group.{shown_cells}
+use Rattle.ariadne_picture.specs.Placing.Rows.{text_cells, cells_of_places}
+use Rattle.ariadne_picture.specs.Placing.Alignment.{columns_before, is_line_aligned, is_aligned}
 use Rattle.ariadne_picture.proofs.Cells.CanvasRows.{map-map}
 use Rattle.ariadne_picture.proofs.Cells.MarginTexts.{plain_cells, shown-columns}
 use Rattle.ariadne_picture.proofs.Lists.Elements.{list_all-true, pointwise-equal}
 use Rattle.ariadne_picture.proofs.Lists.ListFacts.{all-map, all-weaker}
 use Rattle.ariadne_picture.proofs.Lists.Occurrences.{total-append, total-map}
 use Rattle.ariadne_picture.proofs.Cells.RowCells.{front_pieces, area-columns, gutter-columns, length-gutter}
-use Rattle.ariadne_picture.proofs.Reading.Pictures.{Picture, read, number, source_row}
+use Rattle.ariadne_picture.proofs.Reading.Pictures.{placing_of, rows_of, Picture, read, number, source_row}
 use Rattle.ariadne_picture.proofs.Reading.ShownLine.{IsShownLine, source-row-is, source-is, every-shown-line, every-block-row, arrow-at}
 use Rattle.ariadne_picture.proofs.Reading.TextRows.{IsTextRow, area, area-length, source-text, arrow-text, alternate-text, text-cells, cells-before}
 
@@ -67,11 +69,14 @@ module _ (v : Picture) where
   module _ (g : ℕ) (s : Section) (l : ℕ) (h : IsShownLine v g s l) where
     -- the cells of the places of the rows below the line
     abbrev count : ℕ
-    count = read v cells_of_places g s l
+    count = cells_of_places (placing_of v) g s l
 
     -- what is asked of a row below the line
     abbrev row_test : ℕ → Bool
-    row_test = read v is_row_aligned s (source_row v g l) count
+    row_test n =
+        (read v columns_before s n == read v columns_before s (source_row v g l))
+        && list_all (λ (c : Cell). c.columns == 1) (take count (text_cells (rows_of v) s n))
+        && nat_le count (length (text_cells (rows_of v) s n))
 
     -- a row below begins where the source row does, and each cell of its places has one column
     row-passes : {x : Row} (ink : ℕ → Ink) (rest : List Piece) → IsTextRow v g s x (area s l ink ++ rest)
@@ -81,7 +86,7 @@ module _ (v : Picture) where
         let before : read v columns_before s (number v g s x) ≡ read v columns_before s (source_row v g l) =
         before-text r ∙ front-same v.width s x (source l) ∙ sym (before-text (source-text v (source-row-is v h)))
         ∙ ap (read v columns_before s) (sym (source-is v h)) in
-        let cells : read v text_cells s (number v g s x) ≡ places ++ map (cell_of v.palette) rest =
+        let cells : text_cells (rows_of v) s (number v g s x) ≡ places ++ map (cell_of v.palette) rest =
         text-cells v r ∙ map-append (cell_of v.palette) (area s l ink) rest in
         let long : length places ≡ count = length-map (area s l ink) (cell_of v.palette) ∙ area-length v h ink in
         let ones : list_all (λ (c : Cell). c.columns == 1) places ≡ true =
@@ -94,10 +99,10 @@ module _ (v : Picture) where
         both_true (both_true (eq-eqb _ _ before) first) (le-leb _ _ (omega (arith, size, long)))
 
     -- a source row takes the columns of the characters of its line
-    source-aligned : map cell_columns (read v text_cells s (source_row v g l)) ≡ map columns (shown_cells s l)
+    source-aligned : map cell_columns (text_cells (rows_of v) s (source_row v g l)) ≡ map columns (shown_cells s l)
     unfolding shown_cells
     source-aligned =
-        ap (λ n. map cell_columns (read v text_cells s n)) (source-is v h)
+        ap (λ n. map cell_columns (text_cells (rows_of v) s n)) (source-is v h)
         ∙ ap (map cell_columns) (text-cells v (source-text v (source-row-is v h))) ∙ map-map cell_columns (cell_of v.palette) _
         ∙ shown-columns v.texts.switches (multi_line_labels s.sheet) (layout_of s.sheet l)
         ∙ ap (λ (switches : Switches). map columns (plain_cells switches (layout_of s.sheet l))) (sym (v.drawn.same_switches g s h.group))

@@ -20,7 +20,10 @@ use Rattle.ariadne_picture.specs.Columns.{layout_of}
 use Rattle.ariadne_picture.specs.Strokes.{has_corner, is_crossed, is_at_margin, bar_at}
 use Rattle.ariadne_picture.specs.Cells.{glyph_code, ink, paint_of, gutter_label_paint, margin_ink, beside_ink, below_ink, turn_ink, column_ink}
 use Rattle.ariadne_picture.specs.Pieces.{Section, glyph_text}
-use Rattle.ariadne_picture.specs.Placing.{is_text, is_blank, is_glyph, is_level, set_of, is_margin_at, column_cell, cell_at, gutter_cell, gutter_rows}
+use Rattle.ariadne_picture.specs.Placing.Cells.{is_text, is_blank, is_glyph, is_level}
+use Rattle.ariadne_picture.specs.Placing.Group.{set_of, is_margin_at, column_cell}
+use Rattle.ariadne_picture.specs.Placing.Rows.{cell_at, gutter_cell}
+use Rattle.ariadne_picture.specs.Placing.GutterBars.{gutter_rows}
 use Rattle.ariadne_picture.specs.LabelColors.{is_steep, is_pointer, all_gutter_cells, all_place_cells, has_color, is_vertical_colored, is_inline_colored}
 use Rattle.ariadne_picture.specs.LabelColors.{is_end_colored, is_start_colored, is_pointer_colored, is_bar_colored, is_gutter_label_colored, has_label_colors}
 use Rattle.ariadne_picture.proofs.Lists.ListFacts.{all-at}
@@ -39,7 +42,7 @@ use Rattle.ariadne_picture.proofs.Reading.HeadPlaces.{IsGutterLabelOf, head-plac
 use Rattle.ariadne_picture.proofs.Reading.InlineTraces.{inline-off, shows-inline}
 use Rattle.ariadne_picture.proofs.Reading.MessagePlaces.{IsMessage, message-place, every-message}
 use Rattle.ariadne_picture.proofs.Reading.PlaceCounts.{ArePlaced, column-place}
-use Rattle.ariadne_picture.proofs.Reading.Pictures.{Picture, placing_of, read, number, head_row, every-group}
+use Rattle.ariadne_picture.proofs.Reading.Pictures.{rows_of, Picture, placing_of, read, number, head_row, every-group}
 use Rattle.ariadne_picture.proofs.Reading.RowNames.{IsName}
 use Rattle.ariadne_picture.proofs.Reading.ShownLine.{IsShownLine, arrow-at, source-is, source-row-is, places_of, places-are, every-line}
 use Rattle.ariadne_picture.proofs.Reading.TextRows.{arrow_inks, arrow-text, source-text}
@@ -249,16 +252,16 @@ module _ (v : Picture) (placed : ArePlaced v) where
     ]
 
     -- a cell of a bar alone passes, and so does one of its own
-    pointer-passes : (n c : ℕ) (glyph : Glyph) (paint : Paint) → read v cell_at n c ≡ glyph_cell v s glyph paint
+    pointer-passes : (n c : ℕ) (glyph : Glyph) (paint : Paint) → cell_at (rows_of v) n c ≡ glyph_cell v s glyph paint
         → ((glyph ≡ Vbar) ⊎ (glyph ≡ Blank)) ⊎ (paint ≡ paint_of a)
-        → (not (is_pointer (set_of s) (read v cell_at n c)) || read v has_color (color_at v) a n c) ≡ true
+        → (not (is_pointer (set_of s) (cell_at (rows_of v) n c)) || read v has_color (color_at v) a n c) ≡ true
     unfolding is_level is_glyph
     pointer-passes n c glyph paint e (inl bar) = left-true _ _ (ap (λ cell. not (is_pointer (set_of s) cell)) e ∙ ap not (no-pointer (set_of s) glyph bar))
     pointer-passes n c glyph paint e (inr own) = right-true _ _ (colored-cell v a n c _ e own)
 
     abbrev pointer_test : ℕ → Bool
     pointer_test n =
-        all_gutter_cells s i (λ c. not (is_pointer (set_of s) (read v cell_at n c)) || read v has_color (color_at v) a n c)
+        all_gutter_cells s i (λ c. not (is_pointer (set_of s) (cell_at (rows_of v) n c)) || read v has_color (color_at v) a n c)
 
     pointer-colored : (l : ℕ) → IsShownLine v g s l → read v is_pointer_colored (color_at v) g s i a l ≡ true
     unfolding is_pointer_colored is_at_margin
@@ -276,7 +279,7 @@ module _ (v : Picture) (placed : ArePlaced v) where
     ]
 
     -- a blank and a level are no stroke that leads up
-    bar-passes : (n : ℕ) (column : Ink) → read v gutter_cell s n i ≡ ink_cell v s column → IsSteepOf a column
+    bar-passes : (n : ℕ) (column : Ink) → gutter_cell (rows_of v) s n i ≡ ink_cell v s column → IsSteepOf a column
         → read v is_bar_colored (color_at v) s i a n ≡ true
     unfolding is_bar_colored
     bar-passes n column e (inl blank) =

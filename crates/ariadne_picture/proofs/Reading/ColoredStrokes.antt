@@ -22,7 +22,9 @@ use Rattle.ariadne_picture.specs.Strokes.{has_vertical, vertical_at, underline_a
 use Rattle.ariadne_picture.specs.Cells.{paint_of, ink_of, arrow_ink, arrow_place, alternate_ink, alternate_place, turn_ink, column_ink}
 use Rattle.ariadne_picture.specs.Pieces.{Piece, Section, column_size, gutter_len}
 use Rattle.ariadne_picture.specs.Canvas.{Cell, cell_of, color_of}
-use Rattle.ariadne_picture.specs.Placing.{is_blank, is_level, set_of, column_cell, place_cell, has_cell, cell_at}
+use Rattle.ariadne_picture.specs.Placing.Cells.{is_blank, is_level}
+use Rattle.ariadne_picture.specs.Placing.Group.{set_of, column_cell, place_cell, has_cell}
+use Rattle.ariadne_picture.specs.Placing.Rows.{cell_at}
 use Rattle.ariadne_picture.specs.LabelColors.{is_color, is_steep, all_gutter_cells, all_place_cells, has_color, is_covered, is_vertical_colored_in}
 use Rattle.ariadne_picture.specs.LabelColors.{is_vertical_colored}
 use Rattle.ariadne_picture.proofs.Lists.ListFacts.{none≢some, all-at}
@@ -37,7 +39,7 @@ use Rattle.ariadne_picture.proofs.Reading.LabelTraces.{drop-get, place-cells, pl
 use Rattle.ariadne_picture.proofs.Reading.MessagePlaces.{two-true}
 use Rattle.ariadne_picture.proofs.Reading.OtherStrokes.{not-below}
 use Rattle.ariadne_picture.proofs.Reading.PlaceCells.{drop-at, step-rises, first_cell, label-cell, alternate-cell, above-it}
-use Rattle.ariadne_picture.proofs.Reading.Pictures.{Picture, RowAt, read, number, source_row, number-at}
+use Rattle.ariadne_picture.proofs.Reading.Pictures.{rows_of, Picture, RowAt, read, number, source_row, number-at}
 use Rattle.ariadne_picture.proofs.Reading.ShownLine.{IsArrowRow, arrow-row, arrow-at, places_of, source-at, block-row-is}
 use Rattle.ariadne_picture.proofs.Reading.TextRows.{IsTextRow, area, arrow_inks, front-at}
 
@@ -57,7 +59,7 @@ IsInkOf a ink = (ink.first_paint ≡ paint_of a) × (ink.rest_paint ≡ paint_of
 
 module _ (v : Picture) where
   -- a cell in the paint of a label has its colour
-  pub colored-cell : (a : LabelInfo) (n c : ℕ) (q : Piece) → read v cell_at n c ≡ cell_of v.palette q → q.paint ≡ paint_of a
+  pub colored-cell : (a : LabelInfo) (n c : ℕ) (q : Piece) → cell_at (rows_of v) n c ≡ cell_of v.palette q → q.paint ≡ paint_of a
       → read v has_color (color_at v) a n c ≡ true
   unfolding has_color
   colored-cell a n c q e same =
@@ -95,7 +97,7 @@ module _ (v : Picture) where
 
   -- a test that holds of the cells of inks
   pub gutter-cells : {g : ℕ} {s : Section} {x : Row} {text : List Piece} (r : IsTextRow v g s x text) (i : ℕ) (test : ℕ → Bool)
-      → ((j : ℕ) → i ≤ j → j < gutter_len s.sheet → (c : ℕ) → IsInkCell s (column_ink s.sheet x j) (read v cell_at (number v g s x) c) → test c ≡ true)
+      → ((j : ℕ) → i ≤ j → j < gutter_len s.sheet → (c : ℕ) → IsInkCell s (column_ink s.sheet x j) (cell_at (rows_of v) (number v g s x) c) → test c ≡ true)
       → all_gutter_cells s i test ≡ true
   unfolding column_cell
   gutter-cells {g} {s} {x} r i test f =
@@ -107,7 +109,7 @@ module _ (v : Picture) where
       f j (omega arith) (omega arith) (column_cell s j + o) (one j (omega arith) o (omega (arith, next, low)))))))
     where
       one : (j : ℕ) → j < gutter_len s.sheet → (o : ℕ) → o < column_size s.sheet.switches
-          → IsInkCell s (column_ink s.sheet x j) (read v cell_at (number v g s x) (column_cell s j + o))
+          → IsInkCell s (column_ink s.sheet x j) (cell_at (rows_of v) (number v g s x) (column_cell s j + o))
       one j few zero low =
           inl (front-at v r (column_cell s j + 0) _ (read v column-at v.width s x j 0 _ few (ink-head (set_of s) (column_ink s.sheet x j) _ low)))
       one j few (suc o) low =

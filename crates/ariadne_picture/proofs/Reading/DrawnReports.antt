@@ -11,7 +11,10 @@ use Rattle.ariadne_picture.specs.Groups.{ordered}
 use Rattle.ariadne_picture.specs.Pieces.{Section}
 use Rattle.ariadne_picture.specs.Canvas.{Cell, cell_of, palette_of, header_pieces, texts_of, section_of, sheet_of, same_source, groups, sections}
 use Rattle.ariadne_picture.specs.Canvas.{canvas}
-use Rattle.ariadne_picture.specs.Placing.{Placing, is_placing, has_message_rows, is_aligned}
+use Rattle.ariadne_picture.specs.Placing.Rows.{Placing}
+use Rattle.ariadne_picture.specs.Placing.Together.{is_placing}
+use Rattle.ariadne_picture.specs.Placing.MessageRows.{has_message_rows}
+use Rattle.ariadne_picture.specs.Placing.Alignment.{is_aligned}
 use Rattle.ariadne_picture.proofs.Reading.Aligned.{rows-aligned}
 use Rattle.ariadne_picture.proofs.Cells.CanvasRows.{canvas-rows, section-switches, width_of}
 use Rattle.ariadne_picture.proofs.Labels.Cutting.{groups-exist}

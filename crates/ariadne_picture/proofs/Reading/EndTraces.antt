@@ -16,8 +16,11 @@ use Rattle.ariadne_picture.specs.Columns.{layout_of}
 use Rattle.ariadne_picture.specs.Strokes.{has_corner, is_crossed, is_at_margin, first_row, has_tee, has_bar, bar_at}
 use Rattle.ariadne_picture.specs.Cells.{corner_glyph, margin_glyph, turn_glyph}
 use Rattle.ariadne_picture.specs.Pieces.{Section}
-use Rattle.ariadne_picture.specs.Placing.{is_level, set_of, is_margin_at, arrow_column, holds_at_places, is_level_right_of, is_end_traced}
-use Rattle.ariadne_picture.specs.Placing.{is_start_traced, is_pointed, are_ends_traced, has_ends_of_gutter_traces}
+use Rattle.ariadne_picture.specs.Placing.Cells.{is_level}
+use Rattle.std.specs.List.{list_all}
+use Rattle.ariadne_picture.specs.Placing.Group.{set_of, is_margin_at, arrow_column, shown_lines}
+use Rattle.ariadne_picture.specs.Placing.Rows.{holds_at_places}
+use Rattle.ariadne_picture.specs.Placing.GutterEnds.{is_level_right_of, is_end_traced, is_start_traced, is_pointed, has_ends_of_gutter_traces}
 use Rattle.ariadne_picture.proofs.Reading.PlaceCells.{label-corner, label-level, label-traced}
 use Rattle.ariadne_picture.proofs.Labels.LabelsAtLine.{IsHere, IsEndHere, gutter-labels-owned, apart, increasing-part}
 use Rattle.ariadne_picture.proofs.Labels.LineLabels.{multi-line, two-lines}
@@ -32,7 +35,7 @@ use Rattle.ariadne_picture.proofs.Reading.HeadPlaces.{IsGutterLabelOf, margin-of
 use Rattle.ariadne_picture.proofs.Reading.InOrder.{increasing-filter, increasing-in_order}
 use Rattle.ariadne_picture.proofs.Reading.PlaceCounts.{ArePlaced, column-place}
 use Rattle.ariadne_picture.proofs.Reading.MessagePlaces.{MessagePlace, label-here, message-place}
-use Rattle.ariadne_picture.proofs.Reading.Pictures.{Picture, placing_of, read, number, every-group, message_row, head_row}
+use Rattle.ariadne_picture.proofs.Reading.Pictures.{rows_of, Picture, placing_of, read, number, every-group, message_row, head_row}
 use Rattle.ariadne_picture.proofs.Reading.ShownLine.{IsArrowRow, arrow-at, IsShownLine, places_of, source-is, places-are, source-row-is, every-line}
 use Rattle.ariadne_picture.proofs.Reading.TextRows.{source-text, arrow-text}
 
@@ -128,7 +131,7 @@ module _ (v : Picture) {g : ℕ} {s : Section} {i : ℕ} {a : LabelInfo} (o : Is
 
     -- its places are level off its corner, as far as its horizontal reaches
     off-corner : (b c : ℕ) → c ≤ places_of s l → ((k : ℕ) → b ≤ k → k < c → (x.place ≢ k) × (is_crossed x.side x.place k ≡ true))
-        → read v holds_at_places g s l (number v g s (arrow l r)) b c (is_level (set_of s)) ≡ true
+        → holds_at_places (rows_of v) (placing_of v) g s l (number v g s (arrow l r)) b c (is_level (set_of s)) ≡ true
     unfolding has_corner
     off-corner b c fits f =
         label-level v q b c fits (λ k low high. let e = f k low high in (rw (ne_eqb x.place k e.0) refl, e.1))
@@ -242,7 +245,8 @@ module _ (v : Picture) {g : ℕ} {s : Section} {i : ℕ} {a : LabelInfo} (o : Is
   ])
 
   -- so its end, its head and its strokes beside lines are traced
-  ends-traced : ArePlaced v → read v are_ends_traced g s i a ≡ true
+  ends-traced : ArePlaced v
+      → (read v is_end_traced g s i a && read v is_start_traced g s i a && list_all (read v is_pointed g s i) (shown_lines s)) ≡ true
   unfolding is_pointed
   ends-traced placed =
       both_true (both_true (end-traced placed) (start-traced placed))

@@ -8,7 +8,9 @@ use Rattle.ariadne_picture.specs.Accept.{drawn_labels}
 use Rattle.ariadne_picture.specs.Bars.{EndsNoEarlier}
 use Rattle.ariadne_picture.specs.Headline.{IsTraced}
 use Rattle.ariadne_picture.specs.Canvas.{canvas, sections, texts_of}
-use Rattle.ariadne_picture.specs.Placing.{has_inline_traces, has_ends_of_gutter_traces, has_gutter_bars}
+use Rattle.ariadne_picture.specs.Placing.InlineTraces.{has_inline_traces}
+use Rattle.ariadne_picture.specs.Placing.GutterEnds.{has_ends_of_gutter_traces}
+use Rattle.ariadne_picture.specs.Placing.GutterBars.{has_gutter_bars}
 use Rattle.ariadne_picture.proofs.Labels.Accepted.{drawn-rise}
 use Rattle.ariadne_picture.proofs.Labels.DrawnLabels.{drawn-numbers, sections-placed}
 use Rattle.ariadne_picture.proofs.Reading.PlaceCounts.{ArePlaced}

@@ -8,7 +8,8 @@ use Rattle.ariadne_picture.specs.declared.cell.Glyph.TheVariants.{Vbar, VbarGap}
 use Rattle.ariadne_picture.specs.Rows.{alternate, arrow, gap}
 use Rattle.ariadne_picture.specs.Cells.{glyph_code}
 use Rattle.ariadne_picture.specs.Pieces.{glyph_text, margin_text, spaces}
-use Rattle.ariadne_picture.specs.Placing.{is_text, ends_in}
+use Rattle.ariadne_picture.specs.Placing.Cells.{is_text}
+use Rattle.ariadne_picture.specs.Placing.GutterBars.{ends_in}
 use Rattle.ariadne_picture.proofs.Lists.Elements.{pointwise-same}
 
 module _ (set : CharSet) (w display_offset : ℕ) where

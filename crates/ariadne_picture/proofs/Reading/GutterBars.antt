@@ -17,8 +17,10 @@ use Rattle.ariadne_picture.specs.Rows.{row_key, Row, source, alternate, arrow, g
 use Rattle.ariadne_picture.specs.Strokes.{is_at_margin, has_tee, rank_at}
 use Rattle.ariadne_picture.specs.Cells.{margin_glyph}
 use Rattle.ariadne_picture.specs.Pieces.{Piece, Section, glyph_text, margin_text, blank_piece}
-use Rattle.ariadne_picture.specs.Placing.{is_level, set_of, is_margin_at, between, gutter_cell, shown_lines, is_gap_row, is_crossed_in, is_bar}
-use Rattle.ariadne_picture.specs.Placing.{is_blank, ends_in, text_cell, has_gutter}
+use Rattle.ariadne_picture.specs.Placing.Cells.{is_level, is_blank}
+use Rattle.ariadne_picture.specs.Placing.Group.{set_of, is_margin_at, shown_lines, text_cell}
+use Rattle.ariadne_picture.specs.Placing.Rows.{between, gutter_cell}
+use Rattle.ariadne_picture.specs.Placing.GutterBars.{is_gap_row, is_crossed_in, is_bar, ends_in, has_gutter}
 use Rattle.ariadne_picture.proofs.Cells.MarginTexts.{margin-blank}
 use Rattle.ariadne_picture.proofs.Labels.LabelsAtLine.{IsHere, gutter-labels-owned}
 use Rattle.ariadne_picture.proofs.Labels.LabelPlaces.{IsPlaced, covers}
@@ -39,7 +41,7 @@ use Rattle.ariadne_picture.proofs.Reading.InOrder.{in-order}
 use Rattle.ariadne_picture.proofs.Reading.PlaceCounts.{ArePlaced}
 use Rattle.ariadne_picture.proofs.Reading.GutterSpans.{IsSpan, bar-inside, own-place}
 use Rattle.ariadne_picture.proofs.Reading.MessagePlaces.{label-here, arrow-shows, two-true}
-use Rattle.ariadne_picture.proofs.Reading.Pictures.{Picture, row-there, RowAt, read, number, source_row, message_row, head_row, number-at}
+use Rattle.ariadne_picture.proofs.Reading.Pictures.{rows_of, Picture, row-there, RowAt, read, number, source_row, message_row, head_row, number-at}
 use Rattle.ariadne_picture.proofs.Reading.ShownLine.{rows_above, IsArrowRow, arrow-at, numbered-at, IsShownLine, source-is, source-at, every-line}
 use Rattle.ariadne_picture.proofs.Reading.ShownLine.{group-line-at, source-row-is}
 use Rattle.ariadne_picture.proofs.Reading.TextRows.{IsTextRow, source-text, arrow-text, alternate-text, front-at, gap-text, row-length}
@@ -118,7 +120,7 @@ module _ (v : Picture) {g : ℕ} {s : Section} {i : ℕ} {a : LabelInfo} (o : Is
   module _ (placed : ArePlaced v) (h : IsSpan v g s i a) where
     -- what the clause asks of row n
     abbrev bar_test : ℕ → Bool
-    bar_test = read v is_bar g s i (head_row v g i) (message_row v a.position)
+    bar_test = read v is_bar g s i a
 
     -- a row strictly between the two is neither the head's nor the corner's
     not-first : {k : ℕ} {x : Row} → RowAt v g s k x → h.from < k → (number v g s x == head_row v g i) ≡ false
@@ -153,7 +155,7 @@ module _ (v : Picture) {g : ℕ} {s : Section} {i : ℕ} {a : LabelInfo} (o : Is
     -- an arrow row has the bar before its own column and a horizontal behind it; its own is that of the head or the corner
     arrow-passes : {k l r : ℕ} {x : LineLabel} → IsArrowRow v g s l r x → RowAt v g s k (arrow l r) → h.from < k → k < h.to
         → let n = number v g s (arrow l r) in
-        (column_shows v s n i Vbar || (read v is_crossed_in g s i n && is_level (set_of s) (read v gutter_cell s n i))) ≡ true
+        (column_shows v s n i Vbar || (read v is_crossed_in g s i n && is_level (set_of s) (gutter_cell (rows_of v) s n i))) ≡ true
     unfolding has_tee
     arrow-passes {l = l} {r} {x} q is low high = elim (cases_Bool (is_inline x.side)) [
       | inl within ↦ bar (inl within)
@@ -173,7 +175,7 @@ module _ (v : Picture) {g : ℕ} {s : Section} {i : ℕ} {a : LabelInfo} (o : Is
         n = number v g s (arrow l r)
 
         bar : (is_inline x.side ≡ true) ⊎ (i < x.gutter_column)
-            → (column_shows v s n i Vbar || (read v is_crossed_in g s i n && is_level (set_of s) (read v gutter_cell s n i))) ≡ true
+            → (column_shows v s n i Vbar || (read v is_crossed_in g s i n && is_level (set_of s) (gutter_cell (rows_of v) s n i))) ≡ true
         bar b =
             left-true _ _ (own-glyph o (arrow-text v is)
             (bar-arrow s.sheet l r i x q.there (bar-inside v o h (arrow l r) is low high refl) b))

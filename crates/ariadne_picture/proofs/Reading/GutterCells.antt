@@ -11,18 +11,21 @@ use Rattle.ariadne_picture.specs.Ranks.{gutter_labels}
 use Rattle.ariadne_picture.specs.Rows.{Row}
 use Rattle.ariadne_picture.specs.Cells.{column_ink}
 use Rattle.ariadne_picture.specs.Pieces.{Piece, Section, column_size, gutter_len}
-use Rattle.ariadne_picture.specs.Placing.{is_glyph, is_level, set_of, gutter_cell, cell_at, column_cell, text_cell, is_level_right_of, arrow_column}
+use Rattle.ariadne_picture.specs.Placing.Cells.{is_glyph, is_level}
+use Rattle.ariadne_picture.specs.Placing.Group.{set_of, column_cell, text_cell, arrow_column}
+use Rattle.ariadne_picture.specs.Placing.Rows.{gutter_cell, cell_at}
+use Rattle.ariadne_picture.specs.Placing.GutterEnds.{is_level_right_of}
 use Rattle.ariadne_picture.proofs.Lists.Elements.{all-range, list_all-true}
 use Rattle.ariadne_picture.proofs.Cells.RowCells.{ink-tail, column-at, column-first}
 use Rattle.ariadne_picture.proofs.Cells.GutterInks.{gutter-some}
 use Rattle.ariadne_picture.proofs.Reading.HeadPlaces.{IsGutterLabelOf}
 use Rattle.ariadne_picture.proofs.Cells.InkCells.{IsLevel, ink_cell, shows-glyph, shows-level}
-use Rattle.ariadne_picture.proofs.Reading.Pictures.{Picture, read, number}
+use Rattle.ariadne_picture.proofs.Reading.Pictures.{rows_of, Picture, read, number}
 use Rattle.ariadne_picture.proofs.Reading.TextRows.{IsTextRow, front-at}
 
 -- the first cell of column i in row n shows a glyph
 abbrev pub column_shows : Picture → Section → ℕ → ℕ → Glyph → Bool
-column_shows v s n i glyph = is_glyph (set_of s) glyph (read v gutter_cell s n i)
+column_shows v s n i glyph = is_glyph (set_of s) glyph (gutter_cell (rows_of v) s n i)
 
 -- cell c of columns of n cells each, of which there are len behind the first base cells: the second one of column i, or
 -- one of a later column
@@ -57,7 +60,7 @@ column-sizes switches = elim (cases_Bool switches.compact) [ inl one ↦ inl (rw
 
 module _ (v : Picture) {g : ℕ} {s : Section} {x : Row} {text : List Piece} (r : IsTextRow v g s x text) where
   -- the first cell of a column shows its ink
-  pub gutter-cell : (i : ℕ) → i < gutter_len s.sheet → read v gutter_cell s (number v g s x) i ≡ ink_cell v s (column_ink s.sheet x i)
+  pub gutter-cell : (i : ℕ) → i < gutter_len s.sheet → gutter_cell (rows_of v) s (number v g s x) i ≡ ink_cell v s (column_ink s.sheet x i)
   gutter-cell i few = front-at v r (column_cell s i) _ (read v column-first v.width s x i few)
 
   -- so it shows the glyph of the ink
@@ -81,7 +84,7 @@ module _ (v : Picture) {g : ℕ} {s : Section} {x : Row} {text : List Piece} (r 
       size = column_size s.sheet.switches
 
       level : ℕ → Type 0
-      level c = is_level (set_of s) (read v cell_at (number v g s x) c) ≡ true
+      level c = is_level (set_of s) (cell_at (rows_of v) (number v g s x) c) ≡ true
 
       tail_level : (j o : ℕ) → j < gutter_len s.sheet → suc o < size → (column_ink s.sheet x j).rest ≡ Hbar → level (base + j * size + suc o)
       tail_level j o few small e =

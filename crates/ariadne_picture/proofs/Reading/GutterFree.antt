@@ -1,7 +1,7 @@
 -- Outside its bar a gutter label's column is blank or crossed, and the column of arrow heads has nothing else but these;
 -- so all gutter bars are there.
-use Rattle.std.proofs.Common.{◌≡◌, ℕ, ◌+◌, ◌*◌, ◌<◌, ◌≤◌, Bool, true, false, ◌||◌, Some, refl, sym, ap, ◌∙◌, arith, ◌==◌, inl, inr, ◌⊎◌}
-use Rattle.std.specs.Prelude.{slice_get}
+use Rattle.std.proofs.Common.{◌≡◌, ℕ, ◌+◌, ◌*◌, ◌<◌, ◌≤◌, Bool, true, false, ◌&&◌, ◌||◌, Some, refl, sym, ap, ◌∙◌, arith, ◌==◌, inl, inr, ◌⊎◌}
+use Rattle.std.specs.Prelude.{slice_get, nat_le}
 use Rattle.std.specs.Cmp.Derive.{both_true}
 use Rattle.std.proofs.lemmas.Bool.{cases_Bool, cases_lt, eq-eqb, le-leb, true≢false}
 use Rattle.std.proofs.lemmas.Option.{slice_get_within}
@@ -15,8 +15,10 @@ use Rattle.ariadne_picture.specs.Rows.{Row, source, alternate, arrow, gap}
 use Rattle.ariadne_picture.specs.Strokes.{is_at_margin, bar_at, rank_at}
 use Rattle.ariadne_picture.specs.Cells.{column_ink}
 use Rattle.ariadne_picture.specs.Pieces.{Section, gutter_len}
-use Rattle.ariadne_picture.specs.Placing.{is_blank, is_glyph, set_of, arrow_column, is_free_outside, is_column_traced, is_last_column_free}
-use Rattle.ariadne_picture.specs.Placing.{has_gutter_bars}
+use Rattle.ariadne_picture.specs.Placing.Cells.{is_blank, is_glyph}
+use Rattle.ariadne_picture.specs.Placing.Group.{set_of, arrow_column}
+use Rattle.ariadne_picture.specs.Placing.Rows.{gutter_cell}
+use Rattle.ariadne_picture.specs.Placing.GutterBars.{is_column_traced, is_last_column_free, has_gutter_bars}
 use Rattle.ariadne_picture.proofs.Labels.LabelsAtLine.{IsHere}
 use Rattle.ariadne_picture.proofs.Lists.Elements.{all-numbered, list_all-true, left-true, right-true}
 use Rattle.ariadne_picture.proofs.Rows.BarCases.{at-margin, source-row, first-is, first_step, last-is, row-precedes, hidden-margin, first-before-last}
@@ -26,7 +28,7 @@ use Rattle.ariadne_picture.proofs.Reading.GutterBars.{stroke-passes}
 use Rattle.ariadne_picture.proofs.Reading.GutterRows.{has_gutter, text-row, every-gutter-row}
 use Rattle.ariadne_picture.proofs.Reading.GutterSpans.{IsSpan, span, bar-outside, own-place}
 use Rattle.ariadne_picture.proofs.Reading.MessagePlaces.{label-here}
-use Rattle.ariadne_picture.proofs.Reading.Pictures.{Picture, RowAt, read, number, every-group, message_row, head_row, number-at}
+use Rattle.ariadne_picture.proofs.Reading.Pictures.{rows_of, Picture, RowAt, read, number, every-group, message_row, head_row, number-at}
 use Rattle.ariadne_picture.proofs.Reading.GutterCells.{gutter-cell, few, column-few}
 use Rattle.ariadne_picture.proofs.Cells.GutterInks.{IsFree, no-bar-last, free-beside, last-beside, free-gap, free-alternate, free-arrow}
 use Rattle.ariadne_picture.proofs.Reading.HeadPlaces.{IsGutterLabelOf, gutter-label-lines}
@@ -106,7 +108,9 @@ module _ (v : Picture) where
 
     -- what is asked of row n
     abbrev free_test : ℕ → Bool
-    free_test = read v is_free_outside s i (head_row v g i) (message_row v a.position)
+    free_test n =
+        let c = gutter_cell (rows_of v) s n i in
+        (nat_le (head_row v g i) n && nat_le n (message_row v a.position)) || is_blank c || is_glyph (set_of s) Hbar c
 
     -- so each row with gutter cells is one of its bar, or free
     column-passes : (k : ℕ) (x : Row) → RowAt v g s k x → IsName s.sheet x → has_gutter v s (number v g s x) ≡ true

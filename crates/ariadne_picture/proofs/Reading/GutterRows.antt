@@ -14,11 +14,14 @@ use Rattle.ariadne_picture.specs.Rows.{Row, group_header, spacer, source, altern
 use Rattle.ariadne_picture.specs.Cells.{glyph_code}
 use Rattle.ariadne_picture.specs.Pieces.{Piece, Section, spaces, repeated, glyph_text, margin_pieces, gutter_pieces, gutter_len, column_size}
 use Rattle.ariadne_picture.specs.Pieces.{group_header_pieces, spacer_pieces, tail_pieces, aside_pieces, rest_pieces, row_pieces}
-use Rattle.ariadne_picture.specs.Placing.{no_cell, is_blank, is_text, set_of, cell_at, row_at, column_cell, text_cell, gutter_rows}
+use Rattle.ariadne_picture.specs.Placing.Cells.{no_cell, is_blank, is_text}
+use Rattle.ariadne_picture.specs.Placing.Group.{set_of, column_cell, text_cell}
+use Rattle.ariadne_picture.specs.Placing.Rows.{cell_at, row_at}
+use Rattle.ariadne_picture.specs.Placing.GutterBars.{gutter_rows}
 use Rattle.ariadne_picture.proofs.Cells.RowCells.{front_pieces, length-margin}
 use Rattle.ariadne_picture.proofs.Lists.Elements.{all-range}
 use Rattle.ariadne_picture.proofs.Reading.MessagePlaces.{two-true}
-use Rattle.ariadne_picture.proofs.Reading.Pictures.{Picture, row-there, RowAt, read, number, start_of}
+use Rattle.ariadne_picture.proofs.Reading.Pictures.{rows_of, Picture, row-there, RowAt, read, number, start_of}
 use Rattle.ariadne_picture.proofs.Reading.TextRows.{gap-text, IsTextRow, row-read, source-text, arrow-text, alternate-text}
 use Rattle.ariadne_picture.proofs.Reading.RowNames.{IsName, name-of}
 use Rattle.ariadne_picture.proofs.Rows.RowPlacing.{row_placing}
@@ -39,25 +42,25 @@ level-text Ascii w = let z : w + 2 ≡ suc (suc w) = omega arith in rw z refl
 module _ (v : Picture) where
   -- a row has gutter cells
   abbrev pub has_gutter : Section → ℕ → Bool
-  has_gutter s n = is_blank (read v cell_at n 0) && nat_le (text_cell s) (length (read v row_at n))
+  has_gutter s n = is_blank (cell_at (rows_of v) n 0) && nat_le (text_cell s) (length (row_at (rows_of v) n))
 
   module _ {g : ℕ} {s : Section} {k : ℕ} where
     -- the first cell of a row is that of its first piece
     begins : {x : Row} → RowAt v g s k x
-        → read v cell_at (number v g s x) 0 ≡ slice_index_or (row_cells v.palette v.texts v.width s x) 0 no_cell
+        → cell_at (rows_of v) (number v g s x) 0 ≡ slice_index_or (row_cells v.palette v.texts v.width s x) 0 no_cell
     unfolding cell_at
     begins is = ap (λ row. slice_index_or row 0 no_cell) (row-read v is)
 
     -- group header, spacer row and tail begin with more than one blank, or with horizontals
-    wide-header : RowAt v g s k group_header → is_blank (read v cell_at (number v g s group_header) 0) ≡ false
+    wide-header : RowAt v g s k group_header → is_blank (cell_at (rows_of v) (number v g s group_header) 0) ≡ false
     unfolding row_pieces group_header_pieces
     wide-header is = rw (begins is) (wide-text v.width)
 
-    wide-spacer : RowAt v g s k spacer → is_blank (read v cell_at (number v g s spacer) 0) ≡ false
+    wide-spacer : RowAt v g s k spacer → is_blank (cell_at (rows_of v) (number v g s spacer) 0) ≡ false
     unfolding row_pieces spacer_pieces
     wide-spacer is = rw (begins is) (wide-text v.width)
 
-    wide-tail : RowAt v g s k tail → is_blank (read v cell_at (number v g s tail) 0) ≡ false
+    wide-tail : RowAt v g s k tail → is_blank (cell_at (rows_of v) (number v g s tail) 0) ≡ false
     unfolding row_pieces tail_pieces spacer_pieces
     wide-tail is =
         ap is_blank (begins is)
@@ -65,7 +68,7 @@ module _ (v : Picture) where
 
     -- a bare row ends with its margin
     short-bare : {l : ℕ} → RowAt v g s k (bare l) → 0 < gutter_len s.sheet
-        → nat_le (text_cell s) (length (read v row_at (number v g s (bare l)))) ≡ false
+        → nat_le (text_cell s) (length (row_at (rows_of v) (number v g s (bare l)))) ≡ false
     unfolding row_pieces rest_pieces text_cell column_cell column_size
     short-bare {l} is some =
         let switches = s.sheet.switches in

@@ -8,7 +8,7 @@ use Rattle.ariadne_picture.specs.Ranks.{is_inline, gutter_labels, line_labels}
 use Rattle.ariadne_picture.specs.Rows.{Row, arrow}
 use Rattle.ariadne_picture.specs.Strokes.{is_at_margin, first_row, last_row, has_tee, bar_at}
 use Rattle.ariadne_picture.specs.Pieces.{Section}
-use Rattle.ariadne_picture.specs.Placing.{is_margin_at}
+use Rattle.ariadne_picture.specs.Placing.Group.{is_margin_at}
 use Rattle.ariadne_picture.proofs.Labels.LabelsAtLine.{IsHere}
 use Rattle.ariadne_picture.proofs.Rows.BarCases.{between-bar, bar-between}
 use Rattle.ariadne_picture.proofs.Rows.GutterLabelRows.{first-at-arrow, last-at-arrow}

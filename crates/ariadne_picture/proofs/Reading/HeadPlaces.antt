@@ -13,7 +13,7 @@ use Rattle.ariadne_picture.specs.Ranks.{is_start, is_of_gutter_label, margin_lab
 use Rattle.ariadne_picture.specs.Rows.{source, arrow}
 use Rattle.ariadne_picture.specs.Strokes.{is_at_margin}
 use Rattle.ariadne_picture.specs.Pieces.{Section}
-use Rattle.ariadne_picture.specs.Placing.{is_margin_at}
+use Rattle.ariadne_picture.specs.Placing.Group.{is_margin_at}
 use Rattle.ariadne_picture.proofs.Rows.BarCases.{numbered-start}
 use Rattle.ariadne_picture.proofs.Lists.Elements.{first-has}
 use Rattle.ariadne_picture.proofs.Labels.LabelsAtLine.{IsHere, IsStartHere}

@@ -1,5 +1,5 @@
 -- Lists in order, and the rows of a group, which stand in theirs.
-use Rattle.std.proofs.Common.{◌≡◌, ◌≢◌, ℕ, zero, suc, ◌+◌, ◌<◌, Bool, true, List, [], ◌∷◌, map, Some, refl, sym, ap, ◌∙◌, subst, arith, inl, inr, not}
+use Rattle.std.proofs.Common.{◌≡◌, ◌≢◌, ℕ, zero, suc, ◌+◌, ◌<◌, Bool, true, List, [], ◌∷◌, map, Some, refl, sym, ap, ◌∙◌, subst, arith, inl, inr, not, ◌==◌, nat_lt}
 use Rattle.std.specs.Prelude.{slice_get, filter}
 use Rattle.std.specs.List.{AllByRecursion, range_with_len}
 use Rattle.std.specs.Cmp.Derive.{both_true}
@@ -7,7 +7,7 @@ use Rattle.std.proofs.lemmas.Bool.{cond_both, cases_lt, true≢false, lt-ltb, ne
 use Rattle.ariadne_picture.specs.Lists.{inserted, in_order}
 use Rattle.ariadne_picture.specs.Rows.{Row}
 use Rattle.ariadne_picture.specs.Pieces.{Section}
-use Rattle.ariadne_picture.specs.Placing.{are_rising, are_distinct}
+use Rattle.ariadne_picture.specs.Placing.Together.{all_pairs}
 use Rattle.ariadne_picture.proofs.Lists.Elements.{all-range, list_all-true}
 use Rattle.ariadne_picture.proofs.Lists.ListFacts.{none≢some, all-at, all-filter, all-map, all-weaker, all-inserted, all-in_order, Increasing}
 use Rattle.ariadne_picture.proofs.Rows.RowOrder.{IsBefore, before-irreflexive, before-chain, rows-increasing}
@@ -67,15 +67,15 @@ range-rises a zero = tt
 range-rises a (suc n) = (all-range (λ m. a < m) (a + 1) n (λ j h. omega arith), range-rises (a + 1) n)
 
 -- numbers that rise pass the test
-pub rising : {X : Type 0} (f : X → ℕ) (xs : List X) → Increasing (λ x y. f x < f y) xs → are_rising (map f xs) ≡ true
-unfolding are_rising
+pub rising : {X : Type 0} (f : X → ℕ) (xs : List X) → Increasing (λ x y. f x < f y) xs → all_pairs nat_lt (map f xs) ≡ true
+unfolding all_pairs
 rising f [] h = refl
 rising f (x ∷ xs) h =
     both_true (list_all-true _ _ (all-map _ f xs (all-weaker _ _ xs (λ y. lt-ltb (f x) (f y)) h.0))) (rising f xs h.1)
 
 -- and numbers that differ pass the test
-pub distinct : {X : Type 0} (f : X → ℕ) (xs : List X) → Increasing (λ x y. f x ≢ f y) xs → are_distinct (map f xs) ≡ true
-unfolding are_distinct
+pub distinct : {X : Type 0} (f : X → ℕ) (xs : List X) → Increasing (λ x y. f x ≢ f y) xs → all_pairs (λ n m. not (n == m)) (map f xs) ≡ true
+unfolding all_pairs
 distinct f [] h = refl
 distinct f (x ∷ xs) h =
     both_true (list_all-true _ _ (all-map _ f xs (all-weaker _ _ xs (λ y ne. ap not (ne_eqb (f x) (f y) ne)) h.0)))

@@ -17,7 +17,10 @@ use Rattle.ariadne_picture.specs.Strokes.{has_corner, is_crossed, holds, is_pref
 use Rattle.ariadne_picture.specs.Cells.{corner_glyph, alternate_ink, alternate_place}
 use Rattle.ariadne_picture.specs.Pieces.{Section}
 use Rattle.ariadne_picture.specs.Canvas.{Cell}
-use Rattle.ariadne_picture.specs.Placing.{is_blank, is_inline_traced, has_underlines, is_span_underlined, is_underlined, has_inline_traces}
+use Rattle.ariadne_picture.specs.Placing.Cells.{is_blank}
+use Rattle.ariadne_picture.specs.Placing.Group.{has_underlines}
+use Rattle.ariadne_picture.specs.Placing.Rows.{holds_at_places}
+use Rattle.ariadne_picture.specs.Placing.InlineTraces.{is_inline_traced, is_underlined, has_inline_traces}
 use Rattle.ariadne_picture.proofs.Reading.PlaceCells.{holds-at, label-corner, label-level, label-traced, alternate-cell}
 use Rattle.ariadne_picture.proofs.Lists.Elements.{Has, has-filter, all-from, list_all-true, left-true, right-true}
 use Rattle.ariadne_picture.proofs.Labels.LabelsAtLine.{IsHere, IsInlineHere}
@@ -27,7 +30,7 @@ use Rattle.ariadne_picture.proofs.Rows.RowOrder.{shown_rows}
 use Rattle.ariadne_picture.proofs.Cells.InkCells.{shows-something, underline-seen}
 use Rattle.ariadne_picture.proofs.Reading.PlaceCounts.{ArePlaced, inline-end, column-place}
 use Rattle.ariadne_picture.proofs.Reading.MessagePlaces.{IsMessage, MessagePlace, label-here, every-message, message-place, two-true}
-use Rattle.ariadne_picture.proofs.Reading.Pictures.{Picture, placing_of, read, number, every-group, source_row, number-at}
+use Rattle.ariadne_picture.proofs.Reading.Pictures.{rows_of, Picture, placing_of, read, number, every-group, source_row, number-at}
 use Rattle.ariadne_picture.proofs.Reading.ShownLine.{IsShownLine, places_of, places-are, source-at, block-row-is, every-line}
 
 -- a label within a line is no margin label
@@ -114,9 +117,16 @@ module _ (v : Picture) (placed : ArePlaced v) where
         let r = underline_row y in
         (b.0, cond-true (s.sheet.switches.underlines && (r == r)) _ _ (both_true on (eq-eqb r r refl)) ∙ b.1)
 
+    -- right below the line each place in the span of a label is not blank
+    abbrev seen_under : LineLabel → Bool
+    seen_under x =
+        let offset = (layout_of s.sheet l).offset in
+        holds_at_places (rows_of v) (placing_of v) g s l (source_row v g l + 1) (x.info.start - offset) (x.info.end - offset)
+        (λ c. not (is_blank c))
+
     -- each label within the line is underlined in the first row of the block
-    span-seen : read v has_underlines s l ≡ true → (i : ℕ) (x : LineLabel) → slice_get (line_labels s.sheet l) i ≡ Some x
-        → IsInlineHere s.sheet l x → read v is_span_underlined g s l x ≡ true
+    span-seen : has_underlines s l ≡ true → (i : ℕ) (x : LineLabel) → slice_get (line_labels s.sheet l) i ≡ Some x
+        → IsInlineHere s.sheet l x → seen_under x ≡ true
     unfolding alternate_place places_to_end layout_of shown_rows
     span-seen on i x e k =
         let y = layout_of s.sheet l in
@@ -144,13 +154,13 @@ module _ (v : Picture) (placed : ArePlaced v) where
     -- so all labels of the line pass, as the others are not within it
     line-underlined : read v is_underlined g s l ≡ true
     unfolding is_underlined layout_of is_inline
-    line-underlined = elim (cases_Bool (read v has_underlines s l)) [
+    line-underlined = elim (cases_Bool (has_underlines s l)) [
       | inr off ↦ left-true _ _ (ap not off)
       | inl on ↦ right-true _ _ (list_all-true _ _ (all-from _ (line_labels s.sheet l) (λ i x e. each on i x e (label-here s.sheet l i x e))))
     ]
       where
-        each : read v has_underlines s l ≡ true → (i : ℕ) (x : LineLabel) → slice_get (line_labels s.sheet l) i ≡ Some x → IsHere s.sheet l x
-            → (not (is_inline x.side) || read v is_span_underlined g s l x) ≡ true
+        each : has_underlines s l ≡ true → (i : ℕ) (x : LineLabel) → slice_get (line_labels s.sheet l) i ≡ Some x → IsHere s.sheet l x
+            → (not (is_inline x.side) || seen_under x) ≡ true
         each on i x e (inl k) = left-true _ _ (ap (λ side. not (is_inline side)) k.side)
         each on i x e (inr (inl k)) = left-true _ _ (ap (λ side. not (is_inline side)) k.side)
         each on i x e (inr (inr k)) = right-true _ _ (span-seen on i x e k)

@@ -19,7 +19,9 @@ use Rattle.ariadne_picture.specs.Strokes.{vertical_at}
 use Rattle.ariadne_picture.specs.Cells.{corner_glyph}
 use Rattle.ariadne_picture.specs.Pieces.{Piece, Section, ink_pieces, area_pieces}
 use Rattle.ariadne_picture.specs.Canvas.{Cell, cell_of}
-use Rattle.ariadne_picture.specs.Placing.{is_blank, is_glyph, is_level, set_of, messages_of, is_margin_at, text_cell, place_cell, cell_at}
+use Rattle.ariadne_picture.specs.Placing.Cells.{is_blank, is_glyph, is_level}
+use Rattle.ariadne_picture.specs.Placing.Group.{set_of, messages_of, is_margin_at, text_cell, place_cell}
+use Rattle.ariadne_picture.specs.Placing.Rows.{cell_at}
 use Rattle.ariadne_picture.proofs.Lists.ListFacts.{none≢some}
 use Rattle.ariadne_picture.proofs.Lists.Elements.{Has, has-first, has-front, has-back, has-filter, has-map, has-joined, all-range, list_all-true, list_any-true}
 use Rattle.ariadne_picture.proofs.Lists.Elements.{left-true, right-true}
@@ -31,7 +33,7 @@ use Rattle.ariadne_picture.proofs.Cells.RowCells.{ink-head, ink-tail, inks-at}
 use Rattle.ariadne_picture.proofs.Cells.InkCells.{glyph_cell, ink_cell}
 use Rattle.ariadne_picture.proofs.Reading.HeadPlaces.{IsGutterLabelOf, head-place}
 use Rattle.ariadne_picture.proofs.Reading.MessagePlaces.{label-here, arrow-shows, two-true}
-use Rattle.ariadne_picture.proofs.Reading.Pictures.{Picture, placing_of, read, number, head_row}
+use Rattle.ariadne_picture.proofs.Reading.Pictures.{rows_of, Picture, placing_of, read, number, head_row}
 use Rattle.ariadne_picture.proofs.Reading.ShownLine.{IsShownLine, IsArrowRow, numbered-at, places-are, places_of}
 use Rattle.ariadne_picture.proofs.Reading.TextRows.{IsTextRow, area, text-at}
 use Rattle.ariadne_picture.specs.Causes.{Trace, is_upright, is_stroke_of, inline_trace, end_trace, start_trace, gutter_traces, traces_below}
@@ -114,12 +116,12 @@ place-cells s l k =
 pub place-cell-is : (v : Picture) {g : ℕ} {s : Section} {x : Row} (l : ℕ) (ink : ℕ → Ink) (rest : List Piece) → IsTextRow v g s x (area s l ink ++ rest)
     → (k o : ℕ) (q : Piece) → k < places_of s l
     → slice_get (ink_pieces (set_of s) (ink k) (width s.sheet.switches (layout_of s.sheet l) k)) o ≡ Some q
-    → read v cell_at (number v g s x) (place_cell s l k + o) ≡ cell_of v.palette q
+    → cell_at (rows_of v) (number v g s x) (place_cell s l k + o) ≡ cell_of v.palette q
 unfolding place_cell
 place-cell-is v {g} {s} {x} l ink rest is k o q few e =
     let y = layout_of s.sheet l in
     let z : text_cell s + column_of s.sheet.switches y k + o ≡ text_cell s + (column_of s.sheet.switches y k + o) = omega arith in
-    ap (read v cell_at (number v g s x)) z
+    ap (cell_at (rows_of v) (number v g s x)) z
     ∙ text-at v is _ q (at-front (area s l ink) rest _ q (area-at s.sheet.switches y ink k o q few e))
 
 module _ (v : Picture) {g : ℕ} {s : Section} {l : ℕ} (h : IsShownLine v g s l) where
@@ -148,7 +150,7 @@ module _ (v : Picture) {g : ℕ} {s : Section} {l : ℕ} (h : IsShownLine v g s 
 
       each : (k : ℕ) → k < places_of s l → IsCaused (number v g s x) k (ink k) → (o : ℕ) → o < size k
           → read v has_cause g s l (number v g s x) k ((place_cell s l k + o) == place_cell s l k)
-          (read v cell_at (number v g s x) (place_cell s l k + o)) ≡ true
+          (cell_at (rows_of v) (number v g s x) (place_cell s l k + o)) ≡ true
       each k few both zero low =
           let first : ((place_cell s l k + 0) == place_cell s l k) ≡ true = eq-eqb (place_cell s l k + 0) (place_cell s l k) (omega arith) in
           rw (first, place-cell-is v l ink rest is k 0 _ few (ink-head (set_of s) (ink k) (size k) low)) both.0

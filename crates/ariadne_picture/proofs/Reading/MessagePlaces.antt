@@ -14,7 +14,7 @@ use Rattle.ariadne_picture.specs.Groups.{group_start_line, group_end_line, group
 use Rattle.ariadne_picture.specs.Ranks.{Sheet, is_start, line_labels}
 use Rattle.ariadne_picture.specs.Rows.{arrow}
 use Rattle.ariadne_picture.specs.Pieces.{Section}
-use Rattle.ariadne_picture.specs.Placing.{messages_of}
+use Rattle.ariadne_picture.specs.Placing.Group.{messages_of}
 use Rattle.ariadne_picture.proofs.Lists.Elements.{Has, has-filter, has-map, has-joined, all-from, all-numbered, first-has}
 use Rattle.ariadne_picture.proofs.Labels.LabelsAtLine.{IsHere, labels-here, label-owned, label-ends, Shows, shown-by, shows_number, shows-once, apart}
 use Rattle.ariadne_picture.proofs.Labels.LabelsAtLine.{same-part, increasing-part, has-once}

@@ -1,8 +1,8 @@
 -- A message stands behind the places of its row and one blank, and nothing behind those of the other rows of a block.
-use Rattle.std.proofs.Common.{◌≡◌, ℕ, ◌+◌, Bool, true, false, not, List, [], ◌∷◌, ◌++◌, length, is_some, Some, None, Option, refl, sym, ap, ◌∙◌}
+use Rattle.std.proofs.Common.{◌≡◌, ℕ, ◌+◌, Bool, true, false, not, ◌||◌, List, [], ◌∷◌, ◌++◌, length, is_some, Some, None, Option, refl, sym, ap, ◌∙◌}
 use Rattle.std.proofs.Common.{subst, arith, ◌==◌, inl, inr}
 use Rattle.std.specs.Prelude.{slice_get, slice_index_or, filter}
-use Rattle.std.specs.List.{AllByRecursion}
+use Rattle.std.specs.List.{AllByRecursion, list_any}
 use Rattle.std.specs.Cmp.Derive.{both_true}
 use Rattle.std.proofs.lemmas.Bool.{cond_both, cases_Bool, eq-eqb, eqb-true}
 use Rattle.std.proofs.lemmas.List.{length-append}
@@ -15,13 +15,15 @@ use Rattle.ariadne_picture.specs.Rows.{Row, arrow}
 use Rattle.ariadne_picture.specs.Columns.{layout_of}
 use Rattle.ariadne_picture.specs.Pieces.{Piece, Texts, Section, blank_piece, plain_text, message_pieces}
 use Rattle.ariadne_picture.specs.Canvas.{Cell, Palette, cell_of, color_of, paint_color}
-use Rattle.ariadne_picture.specs.Placing.{no_cell, is_blank, is_plain, row_at, cell_at, text_cell, cells_of_places, messages_of, is_message_row}
-use Rattle.ariadne_picture.specs.Placing.{is_block_end, are_block_ends, has_message_rows}
+use Rattle.ariadne_picture.specs.Placing.Cells.{no_cell, is_blank}
+use Rattle.ariadne_picture.specs.Placing.Group.{text_cell, messages_of}
+use Rattle.ariadne_picture.specs.Placing.Rows.{row_at, cell_at, cells_of_places}
+use Rattle.ariadne_picture.specs.Placing.MessageRows.{is_message_row, are_block_ends, has_message_rows}
 use Rattle.ariadne_picture.proofs.Lists.Elements.{has-filter, list_all-true, list_any-true, left-true, right-true, pointwise-equal}
 use Rattle.ariadne_picture.proofs.Labels.LabelsAtLine.{label-owned, label-ends}
 use Rattle.ariadne_picture.proofs.Rows.RowNumbers.{at-back}
 use Rattle.ariadne_picture.proofs.Reading.MessagePlaces.{label-here, every-message, message-place, arrow-shows}
-use Rattle.ariadne_picture.proofs.Reading.Pictures.{Picture, read, number, message_row}
+use Rattle.ariadne_picture.proofs.Reading.Pictures.{placing_of, rows_of, Picture, read, number, message_row}
 use Rattle.ariadne_picture.proofs.Reading.ShownLine.{IsArrowRow, arrow-at, IsShownLine, every-shown-line, every-block-row}
 use Rattle.ariadne_picture.proofs.Reading.TextRows.{IsTextRow, area, arrow_inks, area-length, arrow-text, alternate-text, row-length, text-at}
 use Rattle.ariadne_picture.proofs.Lists.ListFacts.{all-filtered}
@@ -45,13 +47,13 @@ plain-cell p = cond_both p.is_on None None (λ c. not (is_some c) ≡ true) (λ 
 module _ (v : Picture) where
   -- the arrow row of a line label that is no start ends in a blank and its message
   message-passes : {g : ℕ} {s : Section} {l r : ℕ} {x : LineLabel} → IsArrowRow v g s l r x → is_start x.side ≡ false
-      → read v is_message_row s (read v cells_of_places g s l) (v.texts.message_of x.info.position) (number v g s (arrow l r)) ≡ true
+      → read v is_message_row s (cells_of_places (placing_of v) g s l) (v.texts.message_of x.info.position) (number v g s (arrow l r)) ≡ true
   unfolding is_message_row cell_at layout_of
   message-passes {g} {s} {l} {r} {x} q off =
       let places = area s l (arrow_inks s l r) in
       let message = plain_text (v.texts.message_of x.info.position) in
-      let count : ℕ = read v cells_of_places g s l in
-      let row : List Cell = read v row_at (number v g s (arrow l r)) in
+      let count : ℕ = cells_of_places (placing_of v) g s l in
+      let row : List Cell = row_at (rows_of v) (number v g s (arrow l r)) in
       let text : IsTextRow v g s (arrow l r) (places ++ blank_piece ∷ message ∷ []) =
       rw (message-shown v.texts _ x q.there off) at (arrow-text v (arrow-at v q)) in
       let long = area-length v q.line (arrow_inks s l r) in
@@ -66,13 +68,13 @@ module _ (v : Picture) where
       let last = cell 1 message refl in
       both_true (both_true (both_true (both_true
       (eq-eqb (length row) (text_cell s + count + 2) (omega (arith, size, two, long))) (ap is_blank first))
-      (ap is_plain first ∙ plain-cell v.palette)) (pointwise-equal _ _ (ap (λ (c : Cell). c.text) last)))
-      (ap is_plain last ∙ plain-cell v.palette)
+      (ap (λ (c : Cell). not (is_some c.color)) first ∙ plain-cell v.palette)) (pointwise-equal _ _ (ap (λ (c : Cell). c.text) last)))
+      (ap (λ (c : Cell). not (is_some c.color)) last ∙ plain-cell v.palette)
 
   module _ (g : ℕ) (s : Section) (l : ℕ) (h : IsShownLine v g s l) where
     -- the cells of the places of the rows below line l
     abbrev count : ℕ
-    count = read v cells_of_places g s l
+    count = cells_of_places (placing_of v) g s l
 
     -- the labels whose messages stand below the line
     abbrev shown_here : List LabelInfo
@@ -80,14 +82,15 @@ module _ (v : Picture) where
 
     -- what is asked of a row of the block
     abbrev end_test : ℕ → Bool
-    end_test = read v is_block_end s count shown_here
+    end_test n =
+        list_any (λ (a : LabelInfo). message_row v a.position == n) shown_here || (length (row_at (rows_of v) n) == text_cell s + count)
 
     -- each of their rows passes
     all-pass : AllByRecursion (λ a. read v is_message_row s count (v.texts.message_of a.position) (message_row v a.position) ≡ true)
         shown_here
     all-pass =
         let P : ℕ → ℕ → LabelInfo → Type 0 =
-        λ l n a. read v is_message_row s (read v cells_of_places g s l) (v.texts.message_of a.position) n ≡ true in
+        λ l n a. read v is_message_row s (cells_of_places (placing_of v) g s l) (v.texts.message_of a.position) n ≡ true in
         all-filtered _ _ (messages_of s) (every-message v g s _ h.group (λ a m end.
         let c = message-place v m in
         subst (λ l. P l (message_row v a.position) a) (eqb-true a.end_line l end)
@@ -98,7 +101,7 @@ module _ (v : Picture) where
     places-end {x} ink text =
         let size = row-length v text in
         let long = area-length v h ink in
-        let same : length (read v row_at (number v g s x)) ≡ text_cell s + count =
+        let same : length (row_at (rows_of v) (number v g s x)) ≡ text_cell s + count =
         omega (arith, size, long, length-append (area s l ink) []) in
         right-true _ _ (eq-eqb _ _ same)
 

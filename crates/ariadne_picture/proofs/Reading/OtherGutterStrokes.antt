@@ -23,7 +23,8 @@ use Rattle.ariadne_picture.specs.Strokes.{has_bar, bar_at}
 use Rattle.ariadne_picture.specs.Cells.{glyph_code, ink, blanks, ink_of, margin_glyph, turn_glyph, margin_ink, beside_ink, below_ink, turn_ink, column_ink, gutter_label_paint}
 use Rattle.ariadne_picture.specs.Pieces.{Piece, Section, column_size, gutter_len, glyph_text}
 use Rattle.ariadne_picture.specs.Canvas.{Cell}
-use Rattle.ariadne_picture.specs.Placing.{is_text, is_glyph, set_of, is_margin_at, arrow_column}
+use Rattle.ariadne_picture.specs.Placing.Cells.{is_text, is_glyph}
+use Rattle.ariadne_picture.specs.Placing.Group.{set_of, is_margin_at, arrow_column}
 use Rattle.ariadne_picture.specs.GutterCauses.{is_beside, has_gutter_level, has_gutter_arrow, is_own_gutter_stroke, is_gutter_stroke_of, has_gutter_cause}
 use Rattle.ariadne_picture.specs.GutterCauses.{is_gutter_column_caused, has_no_other_gutter_strokes}
 use Rattle.ariadne_picture.proofs.Labels.LineLabels.{margin-is}

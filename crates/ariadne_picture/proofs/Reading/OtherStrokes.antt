@@ -23,7 +23,9 @@ use Rattle.ariadne_picture.specs.Strokes.{underline_row, vertical_at}
 use Rattle.ariadne_picture.specs.Cells.{ink_of, paint_of, arrow_ink, arrow_place, alternate_ink, alternate_place}
 use Rattle.ariadne_picture.specs.Pieces.{Section}
 use Rattle.ariadne_picture.specs.Canvas.{Cell}
-use Rattle.ariadne_picture.specs.Placing.{is_glyph, set_of, block_rows}
+use Rattle.ariadne_picture.specs.Placing.Cells.{is_glyph}
+use Rattle.ariadne_picture.specs.Placing.Group.{set_of}
+use Rattle.ariadne_picture.specs.Placing.Rows.{block_rows}
 use Rattle.ariadne_picture.proofs.Lists.ListFacts.{none≢some, all-at, all-best, all-filtered}
 use Rattle.ariadne_picture.proofs.Lists.Elements.{all-from, all-range, list_all-true, list_any-true}
 use Rattle.ariadne_picture.proofs.Lists.Elements.{left-true, right-true}

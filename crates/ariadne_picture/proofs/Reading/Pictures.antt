@@ -8,7 +8,7 @@ use Rattle.ariadne_picture.specs.Bars.{EndsNoEarlier}
 use Rattle.ariadne_picture.specs.Rows.{Row}
 use Rattle.ariadne_picture.specs.Pieces.{Texts, Section}
 use Rattle.ariadne_picture.specs.Canvas.{Cell, Palette}
-use Rattle.ariadne_picture.specs.Placing.{Placing}
+use Rattle.ariadne_picture.specs.Placing.Rows.{Placing}
 use Rattle.ariadne_picture.specs.Lists.{all_numbered}
 use Rattle.ariadne_picture.proofs.Lists.ListFacts.{Increasing}
 use Rattle.ariadne_picture.proofs.Cells.CanvasRows.{row_cells}

@@ -17,7 +17,9 @@ use Rattle.ariadne_picture.specs.Strokes.{has_vertical, vertical_at, has_corner,
 use Rattle.ariadne_picture.specs.Cells.{arrow_ink, alternate_ink, corner_glyph, alternate_place, arrow_place}
 use Rattle.ariadne_picture.specs.Pieces.{Piece, Section}
 use Rattle.ariadne_picture.specs.Canvas.{Cell}
-use Rattle.ariadne_picture.specs.Placing.{is_blank, is_glyph, is_level, set_of, cell_at, place_cell, has_cell, holds_at_places, rows_to, is_traced_at}
+use Rattle.ariadne_picture.specs.Placing.Cells.{is_blank, is_glyph, is_level}
+use Rattle.ariadne_picture.specs.Placing.Group.{set_of, place_cell, has_cell}
+use Rattle.ariadne_picture.specs.Placing.Rows.{cell_at, holds_at_places, is_traced_at}
 use Rattle.ariadne_picture.proofs.Lists.Elements.{all-range, list_all-true, left-true, right-true}
 use Rattle.ariadne_picture.proofs.Lists.ListFacts.{none≢some, all-at}
 use Rattle.ariadne_picture.proofs.Rows.LineBlock.{IsBlockRow, block-rows-are}
@@ -26,7 +28,7 @@ use Rattle.ariadne_picture.proofs.Rows.RowOrder.{IsBefore, before-decides, shown
 use Rattle.ariadne_picture.proofs.Cells.RowCells.{area-first}
 use Rattle.ariadne_picture.proofs.Reading.InOrder.{in-order}
 use Rattle.ariadne_picture.proofs.Cells.InkCells.{ink_cell, shows-glyph, shows-level, shows-something, level-ink, arrow-seen, alternate-seen}
-use Rattle.ariadne_picture.proofs.Reading.Pictures.{Picture, RowAt, placing_of, read, number, source_row, number-at}
+use Rattle.ariadne_picture.proofs.Reading.Pictures.{rows_of, Picture, RowAt, placing_of, read, number, source_row, number-at}
 use Rattle.ariadne_picture.proofs.Reading.ShownLine.{IsArrowRow, arrow-row, arrow-at, IsShownLine, places_of, places-are, source-at, block-row-is}
 use Rattle.ariadne_picture.proofs.Reading.TextRows.{IsTextRow, area, arrow_inks, alternate_inks, arrow-text, alternate-text, text-at}
 
@@ -67,7 +69,7 @@ step-rises x y part line before = elim ((before-decides x y).0 before) [
 
 -- the first cell of place k of row n, which stands below line l
 abbrev pub first_cell : Picture → Section → ℕ → ℕ → ℕ → Cell
-first_cell v s l n k = read v cell_at n (place_cell s l k)
+first_cell v s l n k = cell_at (rows_of v) n (place_cell s l k)
 
 module _ (v : Picture) (s : Section) (l : ℕ) where
   -- a place begins behind the columns of those before it
@@ -84,7 +86,7 @@ module _ (v : Picture) {g : ℕ} {s : Section} {l : ℕ} where
   -- a test of the first cell of each place from a to before b
   pub holds-at : (h : IsShownLine v g s l) (n a b : ℕ) (test : Cell → Bool) → b ≤ places_of s l
       → ((k : ℕ) → a ≤ k → k < b → has_cell s l k ≡ true → test (first_cell v s l n k) ≡ true)
-      → read v holds_at_places g s l n a b test ≡ true
+      → holds_at_places (rows_of v) (placing_of v) g s l n a b test ≡ true
   unfolding holds_at_places
   holds-at h n a b test few f =
       list_all-true _ _ (all-range _ a (b - a) (λ j less.
@@ -98,7 +100,7 @@ module _ (v : Picture) {g : ℕ} {s : Section} {l : ℕ} where
 
   -- and of one place
   pub holds-one : (h : IsShownLine v g s l) (n k : ℕ) (test : Cell → Bool) → k < places_of s l
-      → (has_cell s l k ≡ true → test (first_cell v s l n k) ≡ true) → read v holds_at_places g s l n k (k + 1) test ≡ true
+      → (has_cell s l k ≡ true → test (first_cell v s l n k) ≡ true) → holds_at_places (rows_of v) (placing_of v) g s l n k (k + 1) test ≡ true
   holds-one h n k test few f =
       holds-at h n k (k + 1) test (omega arith) (λ c low high.
       let same : k ≡ c = omega arith in
@@ -128,7 +130,7 @@ module _ (v : Picture) {g : ℕ} {s : Section} {l : ℕ} where
     -- it is level where its horizontal is and its corner is not
     pub label-level : (a b : ℕ) → b ≤ places_of s l
         → ((k : ℕ) → a ≤ k → k < b → (has_corner (layout_of s.sheet l).margin x k ≡ false) × (is_crossed x.side x.place k ≡ true))
-        → read v holds_at_places g s l (number v g s (arrow l r)) a b (is_level (set_of s)) ≡ true
+        → holds_at_places (rows_of v) (placing_of v) g s l (number v g s (arrow l r)) a b (is_level (set_of s)) ≡ true
     label-level a b fits f =
         holds-at q.line _ a b _ fits (λ k low high some.
         let y = layout_of s.sheet l in
@@ -138,7 +140,7 @@ module _ (v : Picture) {g : ℕ} {s : Section} {l : ℕ} where
     -- its corner is at its column, if it is not the margin label
     pub label-corner : {glyph : Glyph} → corner_glyph x.side ≡ glyph → x.place < places_of s l
         → is_margin (layout_of s.sheet l).margin x ≡ false
-        → read v holds_at_places g s l (number v g s (arrow l r)) x.place (x.place + 1) (is_glyph (set_of s) glyph) ≡ true
+        → holds_at_places (rows_of v) (placing_of v) g s l (number v g s (arrow l r)) x.place (x.place + 1) (is_glyph (set_of s) glyph) ≡ true
     unfolding arrow_ink has_corner
     label-corner {glyph} corner few off =
         holds-one q.line _ x.place _ few (λ some.
@@ -184,7 +186,7 @@ module _ (v : Picture) {g : ℕ} {s : Section} {l : ℕ} where
 
     -- so its vertical is traced from the source row down to its arrow row
     pub label-traced : is_margin (layout_of s.sheet l).margin x ≡ false → x.place < places_of s l
-        → read v is_traced_at g s l x.place (read v rows_to g l (number v g s (arrow l r))) ≡ true
+        → is_traced_at (rows_of v) (placing_of v) g s l x.place (number v g s (arrow l r)) ≡ true
     unfolding is_traced_at
     label-traced off few =
         let end = number-at v (arrow-at v q) in

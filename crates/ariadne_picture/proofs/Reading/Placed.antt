@@ -1,6 +1,6 @@
 -- The placing that the names of the rows give is one: its groups, source rows, blocks, messages and heads
 -- are where it says.
-use Rattle.std.proofs.Common.{◌≡◌, ◌≢◌, ℕ, suc, ◌+◌, ◌<◌, true, not, List, map, Some, refl, sym, ap, ◌∙◌, subst, arith, inl, inr}
+use Rattle.std.proofs.Common.{◌≡◌, ◌≢◌, ℕ, suc, ◌+◌, ◌<◌, true, not, List, map, Some, refl, sym, ap, ◌∙◌, subst, arith, inl, inr, ◌==◌, nat_lt}
 use Rattle.std.specs.Prelude.{slice_get}
 use Rattle.std.specs.List.{AllByRecursion}
 use Rattle.std.specs.Cmp.Derive.{both_true}
@@ -16,9 +16,10 @@ use Rattle.ariadne_picture.specs.Rows.{row_key, Row, source, arrow}
 use Rattle.ariadne_picture.specs.Columns.{layout_of}
 use Rattle.ariadne_picture.specs.Pieces.{Piece, Section, glyph_text, margin_text, blank_piece}
 use Rattle.ariadne_picture.specs.Canvas.{Cell, cell_of}
-use Rattle.ariadne_picture.specs.Placing.{cell_at, unindented, text_cells, shown_lines, shown_cells, is_margin_at, is_source_row, is_block_row}
-use Rattle.ariadne_picture.specs.Placing.{is_in_group, is_in_block, are_rising, messages_of, is_line_placed, is_gutter_label_placed, is_group_placed}
-use Rattle.ariadne_picture.specs.Placing.{are_distinct, is_placing, is_blank, has_margin}
+use Rattle.ariadne_picture.specs.Placing.Cells.{is_blank}
+use Rattle.ariadne_picture.specs.Placing.Group.{shown_lines, shown_cells, is_margin_at, messages_of}
+use Rattle.ariadne_picture.specs.Placing.Rows.{cell_at, text_cells}
+use Rattle.ariadne_picture.specs.Placing.Together.{unindented, is_source_row, is_in_group, is_in_block, all_pairs, is_line_placed, is_gutter_label_placed, is_group_placed, is_placing, has_margin}
 use Rattle.ariadne_picture.proofs.Cells.CanvasRows.{map-map, row_cells}
 use Rattle.ariadne_picture.proofs.Cells.MarginTexts.{margin-blank, margin-gap, margin-cell, source-margin, alternate-margin, arrow-margin, plain_cells, shown-texts}
 use Rattle.ariadne_picture.proofs.Lists.Elements.{all-from, all-numbered, left-true, right-true, list_all-true, pointwise-equal, texts-same}
@@ -29,7 +30,7 @@ use Rattle.ariadne_picture.proofs.Rows.RowOrder.{by-line, shown_rows}
 use Rattle.ariadne_picture.proofs.Reading.HeadPlaces.{IsGutterLabelOf, margin-line, head-at-margin, head-place}
 use Rattle.ariadne_picture.proofs.Reading.InOrder.{increasing-filter, increasing-weaker, range-rises, rising, distinct, by-order}
 use Rattle.ariadne_picture.proofs.Reading.MessagePlaces.{IsMessage, every-message, message-place, messages-apart}
-use Rattle.ariadne_picture.proofs.Reading.Pictures.{Picture, RowAt, placing_of, read, number, every-group, source_row, message_row, start_of}
+use Rattle.ariadne_picture.proofs.Reading.Pictures.{rows_of, Picture, RowAt, placing_of, read, number, every-group, source_row, message_row, start_of}
 use Rattle.ariadne_picture.proofs.Reading.Pictures.{number-at}
 use Rattle.ariadne_picture.proofs.Reading.ShownLine.{IsArrowRow, arrow-at, IsShownLine, source-is, source-at, block-at, every-line, every-block-row}
 use Rattle.ariadne_picture.proofs.Reading.ShownLine.{source-row-is}
@@ -47,7 +48,7 @@ module _ (v : Picture) where
 
   -- cell 1 of a row with a gutter has the text of its margin
   pub margin-shows : {g : ℕ} {s : Section} {x : Row} {text : List Piece} → IsTextRow v g s x text
-      → (read v cell_at (number v g s x) 1).text ≡ margin_text s.sheet.switches.char_set v.width s.display_offset x
+      → (cell_at (rows_of v) (number v g s x) 1).text ≡ margin_text s.sheet.switches.char_set v.width s.display_offset x
   margin-shows {g} {s} {x} r = ap (λ (c : Cell). c.text) (front-at v r 1 _ (margin-cell v.width s x))
 
   -- so the row begins as it should, where that text is this one behind blanks
@@ -66,7 +67,7 @@ module _ (v : Picture) where
 
   module _ (g : ℕ) (s : Section) (l : ℕ) (h : IsShownLine v g s l) where
     -- a source row shows the number of its line and its characters
-    source-texts : map (λ (c : Cell). c.text) (read v text_cells s (number v g s (source l))) ≡ map (λ (q : Piece). q.text) (shown_cells s l)
+    source-texts : map (λ (c : Cell). c.text) (text_cells (rows_of v) s (number v g s (source l))) ≡ map (λ (q : Piece). q.text) (shown_cells s l)
     unfolding shown_cells
     source-texts =
         ap (map (λ (c : Cell). c.text)) (text-cells v (source-text v (source-row-is v h)))
@@ -86,8 +87,7 @@ module _ (v : Picture) where
     -- a row of the block has a bar alone in its margin
     block-shows : (x : Row) {text : List Piece} → IsTextRow v g s x text
         → unindented (margin_text s.sheet.switches.char_set v.width s.display_offset x) ≡ glyph_text s.sheet.switches.char_set Vbar
-        → read v is_block_row s (number v g s x) ≡ true
-    unfolding is_block_row
+        → read v has_margin s (glyph_text s.sheet.switches.char_set Vbar) (number v g s x) ≡ true
     block-shows x r bar = has-margin _ r bar
 
     -- so the line stands where the placing says
@@ -125,7 +125,7 @@ module _ (v : Picture) where
 
   module _ (g : ℕ) (s : Section) (e : slice_get v.sections g ≡ Some s) where
     -- the shown lines are in order, so their source rows are
-    lines-rise : are_rising (map (source_row v g) (shown_lines s)) ≡ true
+    lines-rise : all_pairs nat_lt (map (source_row v g) (shown_lines s)) ≡ true
     unfolding shown_lines group_lines
     lines-rise =
         rising _ (shown_lines s) (increasing-weaker (IsShownLine v g s) _ _ (shown_lines s) (source-rises g s)
@@ -165,7 +165,7 @@ module _ (v : Picture) where
   -- ---- messages
 
   -- two messages have two rows
-  rows-differ : are_distinct (joined (λ s. map (λ (a : LabelInfo). message_row v a.position) (messages_of s)) v.sections) ≡ true
+  rows-differ : all_pairs (λ n m. not (n == m)) (joined (λ s. map (λ (a : LabelInfo). message_row v a.position) (messages_of s)) v.sections) ≡ true
   unfolding messages_of
   rows-differ =
       let labels : Section → List LabelInfo = λ s. s.sheet.labels in
@@ -178,7 +178,7 @@ module _ (v : Picture) where
       let order : Increasing R (joined messages_of v.sections) =
       subst (Increasing R) (filter-joined (λ (a : LabelInfo). a.has_message) labels v.sections)
       (increasing-filter R (λ a. a.has_message) (joined labels v.sections) v.drawn.numbers) in
-      ap are_distinct (sym (map-joined row messages_of v.sections))
+      ap (all_pairs (λ n m. not (n == m))) (sym (map-joined row messages_of v.sections))
       ∙ distinct row (joined messages_of v.sections) (increasing-weaker P R _ (joined messages_of v.sections)
       (λ a b m n differ same. differ (messages-apart v m.2 n.2 same)) all order)
 

@@ -11,7 +11,8 @@ use Rattle.ariadne_picture.specs.Ranks.{is_hidden}
 use Rattle.ariadne_picture.specs.Rows.{Row, source, arrow, alternate}
 use Rattle.ariadne_picture.specs.Columns.{layout_of, arrow_len}
 use Rattle.ariadne_picture.specs.Pieces.{Section}
-use Rattle.ariadne_picture.specs.Placing.{shown_lines, block_rows}
+use Rattle.ariadne_picture.specs.Placing.Group.{shown_lines}
+use Rattle.ariadne_picture.specs.Placing.Rows.{block_rows}
 use Rattle.ariadne_picture.specs.Lists.{all_numbered}
 use Rattle.ariadne_picture.proofs.Lists.ListFacts.{all-filtered, all-at}
 use Rattle.ariadne_picture.proofs.Lists.Elements.{all-range, list_all-true}
@@ -138,7 +139,7 @@ module _ (v : Picture) where
     pub every-block-row : (P : ℕ → Type 0)
         → ((r : ℕ) (x : LineLabel) → IsArrowRow v g s l r x → P (number v g s (arrow l r)))
         → ((k r : ℕ) → RowAt v g s k (alternate l r) → P (number v g s (alternate l r)))
-        → AllByRecursion P (read v block_rows g l)
+        → AllByRecursion P (block_rows (placing_of v) g l)
     unfolding block_rows
     every-block-row P arrows alternates =
         all-range P _ _ (λ j less.

@@ -12,11 +12,13 @@ use Rattle.ariadne_picture.specs.Columns.{layout_of, column_of}
 use Rattle.ariadne_picture.specs.Cells.{alternate_place, arrow_place}
 use Rattle.ariadne_picture.specs.Pieces.{Piece, Section, area_pieces, message_pieces, shown_pieces, rest_pieces, row_pieces}
 use Rattle.ariadne_picture.specs.Canvas.{Cell, cell_of}
-use Rattle.ariadne_picture.specs.Placing.{no_cell, row_at, cell_at, text_cell, cells_of_places}
+use Rattle.ariadne_picture.specs.Placing.Cells.{no_cell}
+use Rattle.ariadne_picture.specs.Placing.Group.{text_cell}
+use Rattle.ariadne_picture.specs.Placing.Rows.{row_at, cell_at, cells_of_places}
 use Rattle.ariadne_picture.proofs.Cells.CanvasRows.{row_cells}
 use Rattle.ariadne_picture.proofs.Cells.RowCells.{length-area, front_pieces, length-front, source-parts, alternate-parts, arrow-parts}
 use Rattle.ariadne_picture.proofs.Rows.RowNumbers.{at-front, at-back, row-at-number}
-use Rattle.ariadne_picture.proofs.Reading.Pictures.{Picture, rows_of, read, number, RowAt}
+use Rattle.ariadne_picture.proofs.Reading.Pictures.{placing_of, Picture, rows_of, read, number, RowAt}
 use Rattle.ariadne_picture.proofs.Reading.ShownLine.{IsShownLine, places-are}
 
 -- row x of group g, which is s, has a gutter, and behind it this text
@@ -39,7 +41,7 @@ alternate_inks s l r = alternate_place s.sheet.switches (layout_of s.sheet l) r
 module _ (v : Picture) where
   -- the cells of these places are as many as the placing says
   pub area-length : {g : ℕ} {s : Section} {l : ℕ} → IsShownLine v g s l → (ink : ℕ → Ink)
-      → length (area s l ink) ≡ read v cells_of_places g s l
+      → length (area s l ink) ≡ cells_of_places (placing_of v) g s l
   area-length {s = s} {l} h ink =
       length-area s.sheet.switches (layout_of s.sheet l) ink
       ∙ ap (column_of s.sheet.switches (layout_of s.sheet l)) (sym (places-are v h))
@@ -89,7 +91,7 @@ module _ (v : Picture) where
 
   -- a row of the picture is found by its number
   pub row-read : {g : ℕ} {s : Section} {k : ℕ} {x : Row} → RowAt v g s k x
-      → read v row_at (number v g s x) ≡ row_cells v.palette v.texts v.width s x
+      → row_at (rows_of v) (number v g s x) ≡ row_cells v.palette v.texts v.width s x
   unfolding row_at
   row-read {g} {s} {k} {x} is =
       let cells = row_cells v.palette v.texts v.width in
@@ -104,7 +106,7 @@ module _ (v : Picture) where
     front = cells (front_pieces v.width s x)
 
     -- the row has both in turn
-    row-parts : read v row_at (number v g s x) ≡ front ++ cells text
+    row-parts : row_at (rows_of v) (number v g s x) ≡ front ++ cells text
     row-parts = row-read r.is ∙ ap cells r.parts ∙ map-append (cell_of v.palette) _ text
 
     -- before the text stand as many as the number of its first cell says
@@ -112,34 +114,34 @@ module _ (v : Picture) where
     front-cells = length-map _ (cell_of v.palette) ∙ read v length-front v.width s x
 
     -- so the text is what stands behind them
-    pub text-cells : drop (text_cell s) (read v row_at (number v g s x)) ≡ cells text
+    pub text-cells : drop (text_cell s) (row_at (rows_of v) (number v g s x)) ≡ cells text
     text-cells = ap (drop (text_cell s)) row-parts ∙ drop_at front (cells text) _ front-cells
 
     -- and the front what stands before it
-    pub cells-before : take (text_cell s) (read v row_at (number v g s x)) ≡ front
+    pub cells-before : take (text_cell s) (row_at (rows_of v) (number v g s x)) ≡ front
     cells-before = ap (take (text_cell s)) row-parts ∙ take_at front (cells text) _ front-cells
 
     -- the row is as long as both
-    pub row-length : length (read v row_at (number v g s x)) ≡ text_cell s + length text
+    pub row-length : length (row_at (rows_of v) (number v g s x)) ≡ text_cell s + length text
     row-length =
         ap length row-parts ∙ length-append front (cells text) ∙ (λ i. front-cells i + length-map text (cell_of v.palette) i)
 
     -- each cell is that of its piece
     row-cell : (c : ℕ) (q : Piece) → slice_get (front_pieces v.width s x ++ text) c ≡ Some q
-        → read v cell_at (number v g s x) c ≡ cell_of v.palette q
+        → cell_at (rows_of v) (number v g s x) c ≡ cell_of v.palette q
     unfolding cell_at
     row-cell c q e =
-        get_or_from_slice_get (read v row_at (number v g s x)) c _ no_cell
+        get_or_from_slice_get (row_at (rows_of v) (number v g s x)) c _ no_cell
         (ap (λ row. slice_get row c) (row-read r.is ∙ ap cells r.parts) ∙ slice_get-map (cell_of v.palette) _ c
         ∙ ap (option_map (cell_of v.palette)) e)
 
     -- cell c of the front is the row's, and cell o of the text stands behind the front
     pub front-at : (c : ℕ) (q : Piece) → slice_get (front_pieces v.width s x) c ≡ Some q
-        → read v cell_at (number v g s x) c ≡ cell_of v.palette q
+        → cell_at (rows_of v) (number v g s x) c ≡ cell_of v.palette q
     front-at c q e = row-cell c q (at-front (front_pieces v.width s x) text c q e)
 
     pub text-at : (o : ℕ) (q : Piece) → slice_get text o ≡ Some q
-        → read v cell_at (number v g s x) (text_cell s + o) ≡ cell_of v.palette q
+        → cell_at (rows_of v) (number v g s x) (text_cell s + o) ≡ cell_of v.palette q
     text-at o q e =
-        ap (λ n. read v cell_at (number v g s x) (n + o)) (sym (read v length-front v.width s x))
+        ap (λ n. cell_at (rows_of v) (number v g s x) (n + o)) (sym (read v length-front v.width s x))
         ∙ row-cell _ q (at-back (front_pieces v.width s x) text o ∙ e)

@@ -11,8 +11,13 @@ use Rattle.ariadne_picture.specs.Rows.{Row, source, arrow, row_key, before, rows
 use Rattle.ariadne_picture.specs.Columns.{layout_of, arrow_len}
 use Rattle.ariadne_picture.specs.Pieces.{Section, Texts}
 use Rattle.ariadne_picture.specs.Canvas.{Cell}
-use Rattle.ariadne_picture.specs.Placing.{Placing, is_placing, has_message_rows, has_inline_traces, has_ends_of_gutter_traces, has_gutter_bars}
-use Rattle.ariadne_picture.specs.Placing.{is_aligned}
+use Rattle.ariadne_picture.specs.Placing.Rows.{Placing}
+use Rattle.ariadne_picture.specs.Placing.Together.{is_placing}
+use Rattle.ariadne_picture.specs.Placing.MessageRows.{has_message_rows}
+use Rattle.ariadne_picture.specs.Placing.InlineTraces.{has_inline_traces}
+use Rattle.ariadne_picture.specs.Placing.GutterEnds.{has_ends_of_gutter_traces}
+use Rattle.ariadne_picture.specs.Placing.GutterBars.{has_gutter_bars}
+use Rattle.ariadne_picture.specs.Placing.Alignment.{is_aligned}
 use Rattle.ariadne_picture.specs.Blocks.{has_whole_blocks}
 use Rattle.ariadne_picture.specs.Causes.{has_no_other_strokes}
 use Rattle.ariadne_picture.specs.GutterCauses.{has_no_other_gutter_strokes}

@@ -5,8 +5,14 @@ use Prim.Native.String.{String}
 use Rattle.ariadne_color.specs.declared.color.Color.TheVariants.{Blue}
 use Rattle.ariadne_picture.specs.Report.{ReportFields}
 use Rattle.ariadne_picture.specs.Canvas.{Cell, texts_of}
-use Rattle.ariadne_picture.specs.Placing.{Placing, no_cell, is_placing, has_message_rows, has_inline_traces, has_ends_of_gutter_traces, has_gutter_bars}
-use Rattle.ariadne_picture.specs.Placing.{is_aligned}
+use Rattle.ariadne_picture.specs.Placing.Cells.{no_cell}
+use Rattle.ariadne_picture.specs.Placing.Rows.{Placing}
+use Rattle.ariadne_picture.specs.Placing.Together.{is_placing}
+use Rattle.ariadne_picture.specs.Placing.MessageRows.{has_message_rows}
+use Rattle.ariadne_picture.specs.Placing.InlineTraces.{has_inline_traces}
+use Rattle.ariadne_picture.specs.Placing.GutterEnds.{has_ends_of_gutter_traces}
+use Rattle.ariadne_picture.specs.Placing.GutterBars.{has_gutter_bars}
+use Rattle.ariadne_picture.specs.Placing.Alignment.{is_aligned}
 use Rattle.ariadne_picture.specs.Blocks.{has_whole_blocks}
 use Rattle.ariadne_picture.specs.Causes.{has_no_other_strokes}
 use Rattle.ariadne_picture.specs.GutterCauses.{has_no_other_gutter_strokes}

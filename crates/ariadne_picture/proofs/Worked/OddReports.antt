@@ -6,7 +6,10 @@ use Rattle.ariadne_picture.specs.declared.label_info.LabelInfo.{LabelInfo}
 use Rattle.ariadne_picture.specs.Report.{World, ReportFields}
 use Rattle.ariadne_picture.specs.Accept.{drawn_labels}
 use Rattle.ariadne_picture.specs.Canvas.{canvas, sections, texts_of}
-use Rattle.ariadne_picture.specs.Placing.{no_cell, is_placing, has_message_rows, has_inline_traces}
+use Rattle.ariadne_picture.specs.Placing.Cells.{no_cell}
+use Rattle.ariadne_picture.specs.Placing.Together.{is_placing}
+use Rattle.ariadne_picture.specs.Placing.MessageRows.{has_message_rows}
+use Rattle.ariadne_picture.specs.Placing.InlineTraces.{has_inline_traces}
 use Rattle.ariadne_picture.proofs.Rows.RowPlacing.{row_placing}
 use Rattle.ariadne_picture.proofs.Worked.Sample.{Span, Entry, world, reasons, report, label_in, silent_label_in, utf8, ascii_config, drawn}
 use Rattle.ariadne_picture.specs.declared.switches.LabelAttach.TheVariants.{Start}

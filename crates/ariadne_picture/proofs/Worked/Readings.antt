@@ -9,7 +9,7 @@ use Rattle.ariadne_picture.specs.Accept.{drawn_labels}
 use Rattle.ariadne_picture.specs.Pieces.{Section}
 use Rattle.ariadne_picture.specs.Canvas.{Cell, canvas, sections, texts_of}
 use Rattle.ariadne_picture.specs.Print.{erased, unescaped, printed}
-use Rattle.ariadne_picture.specs.Placing.{Placing}
+use Rattle.ariadne_picture.specs.Placing.Rows.{Placing}
 use Rattle.ariadne_picture.specs.Variants.{colorless, text_of, in_chars, char_world, char_report}
 use Rattle.ariadne_picture.proofs.Rows.RowPlacing.{is_read}
 use Rattle.ariadne_picture.proofs.Worked.Sample.{Span, Entry, world, reasons, ascii_config, one, label, report, drawn}

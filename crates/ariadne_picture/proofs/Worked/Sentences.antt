@@ -14,7 +14,8 @@ use Rattle.ariadne_picture.specs.Canvas.{Cell, canvas, sections, texts_of}
 use Rattle.ariadne_picture.specs.Print.{printed, erased, unescaped}
 use Rattle.ariadne_picture.specs.Sent.{HaveColumnsOfTexts, HaveNoLineFeeds, RowsAreLines, row_text}
 use Rattle.ariadne_picture.specs.Ranks.{gutter_labels}
-use Rattle.ariadne_picture.specs.Placing.{Placing, messages_of, shown_lines}
+use Rattle.ariadne_picture.specs.Placing.Group.{messages_of, shown_lines}
+use Rattle.ariadne_picture.specs.Placing.Rows.{Placing}
 use Rattle.ariadne_picture.specs.LabelColors.{label_color, has_label_colors}
 use Rattle.ariadne_picture.specs.Readings.{HasSameRow}
 use Rattle.ariadne_picture.specs.Variants.{HaveNoEscapes, ColorsMoveNothing, BytesDrawAsCharacters, colorless, char_world, char_report, verdict_at}

@@ -1,7 +1,7 @@
 -- Finished pictures that can be read in two ways, by computation: one but for the clause on blocks, and one of twins.
 use Rattle.std.specs.Prelude.{ℕ, ◌≡◌, ◌==◌, Bool, true, false, if◌then◌else◌, refl, [], ◌∷◌, List}
 use Rattle.ariadne_picture.specs.Report.{ReportFields}
-use Rattle.ariadne_picture.specs.Placing.{Placing}
+use Rattle.ariadne_picture.specs.Placing.Rows.{Placing}
 use Rattle.ariadne_picture.proofs.Worked.Sample.{Span, Entry, one, label, report, configured, compact_config}
 use Rattle.ariadne_picture.proofs.Worked.Readings.{choose}
 use Rattle.ariadne_picture.proofs.Worked.Changes.{as_drawn, further_verdicts_by, judged}

@@ -23,13 +23,15 @@ use Rattle.ariadne_picture.specs.Pieces.{aside_name, aside_prefix, aside_line, a
 use Rattle.ariadne_picture.specs.Canvas.{header_pieces, paint_color, color_of, label_id, is_same_id, same_source, texts_of, group_id, group_source}
 use Rattle.ariadne_picture.specs.Canvas.{group_name, header_offset, sheet_of, section_of, groups, number_width, outline, sections, canvas}
 use Rattle.ariadne_picture.specs.Print.{cell_bytes, line_bytes, printed, pieces_bytes, is_parameter, sequence_len, unescaped_after, unescaped}
-use Rattle.ariadne_picture.specs.Placing.{is_glyph, is_level, unindented, ends_in, row_at, cell_at, shown_lines, column_cell, text_cell, place_cell}
-use Rattle.ariadne_picture.specs.Placing.{has_cell, block_rows, holds_at_places, is_traced_at, is_level_right_of, shown_cells}
-use Rattle.ariadne_picture.specs.Placing.{has_margin, is_source_row, is_block_row, is_in_group, is_in_block, are_rising, messages_of, is_line_placed}
-use Rattle.ariadne_picture.specs.Placing.{is_gutter_label_placed, is_group_placed, are_distinct, is_placing, is_message_row, are_block_ends}
-use Rattle.ariadne_picture.specs.Placing.{has_message_rows, is_inline_traced, is_underlined, has_inline_traces, is_end_traced, is_start_traced}
-use Rattle.ariadne_picture.specs.Placing.{is_pointed, has_ends_of_gutter_traces, gutter_rows, is_gap_row, is_bar, is_column_traced}
-use Rattle.ariadne_picture.specs.Placing.{is_last_column_free, has_gutter_bars, columns_before, is_line_aligned, is_aligned}
+use Rattle.ariadne_picture.specs.Placing.Cells.{is_glyph, is_level}
+use Rattle.ariadne_picture.specs.Placing.Group.{shown_lines, column_cell, text_cell, place_cell, has_cell, shown_cells, messages_of}
+use Rattle.ariadne_picture.specs.Placing.Rows.{row_at, cell_at, block_rows, holds_at_places, is_traced_at}
+use Rattle.ariadne_picture.specs.Placing.Together.{unindented, has_margin, is_source_row, is_in_group, is_in_block, all_pairs, is_line_placed, is_gutter_label_placed, is_group_placed, is_placing}
+use Rattle.ariadne_picture.specs.Placing.MessageRows.{is_message_row, are_block_ends, has_message_rows}
+use Rattle.ariadne_picture.specs.Placing.InlineTraces.{is_inline_traced, is_underlined, has_inline_traces}
+use Rattle.ariadne_picture.specs.Placing.GutterEnds.{is_level_right_of, is_end_traced, is_start_traced, is_pointed, has_ends_of_gutter_traces}
+use Rattle.ariadne_picture.specs.Placing.GutterBars.{ends_in, gutter_rows, is_gap_row, is_bar, is_column_traced, is_last_column_free, has_gutter_bars}
+use Rattle.ariadne_picture.specs.Placing.Alignment.{columns_before, is_line_aligned, is_aligned}
 use Rattle.ariadne_picture.specs.Blocks.{block_size, has_whole_blocks}
 use Rattle.ariadne_picture.specs.Causes.{is_upright, is_stroke_of, inline_trace, end_trace, start_trace, gutter_traces, traces_below, is_underline_of}
 use Rattle.ariadne_picture.specs.Causes.{has_cause, is_place_caused, is_line_caused, has_no_other_strokes}
@@ -53,7 +55,7 @@ unfolding digits is_separator begins_with_line_feed ends_line in_front full_line
     label_id is_same_id same_source texts_of group_id group_source group_name header_offset sheet_of section_of groups number_width outline sections
     canvas cell_bytes line_bytes printed pieces_bytes is_parameter sequence_len unescaped_after unescaped is_glyph is_level unindented ends_in row_at
     cell_at shown_lines column_cell text_cell place_cell has_cell block_rows holds_at_places is_traced_at is_level_right_of shown_cells
-    has_margin is_source_row is_block_row is_in_group is_in_block are_rising messages_of is_line_placed is_gutter_label_placed is_group_placed are_distinct
+    has_margin is_source_row is_in_group is_in_block all_pairs messages_of is_line_placed is_gutter_label_placed is_group_placed
     is_placing is_message_row are_block_ends has_message_rows is_inline_traced is_underlined has_inline_traces is_end_traced is_start_traced
     is_pointed has_ends_of_gutter_traces gutter_rows is_gap_row is_bar is_column_traced is_last_column_free has_gutter_bars columns_before
     is_line_aligned is_aligned block_size has_whole_blocks is_upright is_stroke_of inline_trace end_trace start_trace gutter_traces traces_below

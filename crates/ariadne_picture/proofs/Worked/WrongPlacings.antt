@@ -1,7 +1,7 @@
 -- Row numbers that a picture can't be read by, by computation: the verdicts of all six clauses. Beside each stand the
 -- numbers that are right, so what is refused is one wrong choice.
 use Rattle.std.specs.Prelude.{ℕ, ◌≡◌, Bool, true, false, refl, [], ◌∷◌, ◌++◌, List, take, drop, slice_index_or, ◌==◌, if◌then◌else◌}
-use Rattle.ariadne_picture.specs.Placing.{Placing}
+use Rattle.ariadne_picture.specs.Placing.Rows.{Placing}
 use Rattle.ariadne_picture.proofs.Worked.Sample.{one, label, silent_label, report}
 use Rattle.ariadne_picture.proofs.Worked.Readings.{choose, nested, nested_placing}
 use Rattle.ariadne_picture.proofs.Worked.Changes.{Rows, as_drawn, on_row, shows, verdicts_by, verdicts_behind_by, further_verdicts_by, all_hold, not_placed, judged}

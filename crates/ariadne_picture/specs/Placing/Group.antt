@@ -1,0 +1,66 @@
+-- What the labels of a group ask of its rows. The group is section s.
+use Rattle.std.specs.Prelude.{ℕ, ◌+◌, ◌*◌, Bool, not, ◌&&◌, nat_lt, if◌then◌else◌, List, length, filter}
+use Rattle.std.specs.List.{list_any}
+use Rattle.ariadne_picture.specs.declared.switches.CharSet.{CharSet}
+use Rattle.ariadne_picture.specs.declared.label_info.LabelInfo.{LabelInfo}
+use Rattle.ariadne_picture.specs.declared.cell.Paint.TheVariants.{Plain}
+use Rattle.ariadne_picture.specs.Lists.{all_numbered, joined_numbered}
+use Rattle.ariadne_picture.specs.Groups.{group_lines}
+use Rattle.ariadne_picture.specs.Ranks.{gutter_labels, margin_label, is_of_gutter_label, is_hidden}
+use Rattle.ariadne_picture.specs.Columns.{layout_of, shown, width, column_of}
+use Rattle.ariadne_picture.specs.Pieces.{Piece, Section, column_size, gutter_len, char_pieces}
+
+module _ (s : Section) where
+  -- the character set of its strokes
+  abbrev pub set_of : CharSet
+  set_of = s.sheet.switches.char_set
+
+  -- the lines that are shown
+  unfoldable pub shown_lines : List ℕ
+  shown_lines = filter (λ l. not (is_hidden s.sheet l)) (group_lines s.sheet.labels)
+
+  -- the labels that have a message
+  unfoldable pub messages_of : List LabelInfo
+  messages_of = filter (λ a. a.has_message) s.sheet.labels
+
+  -- gutter label i starts or ends at line l as its margin label
+  abbrev pub is_margin_at : ℕ → ℕ → Bool
+  is_margin_at l i = is_of_gutter_label (margin_label s.sheet l) i
+
+  -- a test holds of each gutter label with its number
+  abbrev pub all_gutter_labels : (ℕ → LabelInfo → Bool) → Bool
+  all_gutter_labels test = all_numbered test (gutter_labels s.sheet)
+
+  -- underlines are drawn below line l: one of its labels has a message
+  abbrev pub has_underlines : ℕ → Bool
+  has_underlines l =
+      s.sheet.switches.underlines && not s.sheet.switches.compact
+      && list_any (λ x. x.info.has_message) (layout_of s.sheet l).labels
+
+  -- ---- the numbers of cells in a row
+
+  -- the first of gutter column i, behind the margin
+  unfoldable pub column_cell : ℕ → ℕ
+  column_cell i = (if s.sheet.switches.compact then 2 else 3) + i * column_size s.sheet.switches
+
+  -- the column of arrow heads: the last, behind those of the gutter labels
+  abbrev pub arrow_column : ℕ
+  arrow_column = length (gutter_labels s.sheet)
+
+  -- the first of the text
+  unfoldable pub text_cell : ℕ
+  text_cell = column_cell (gutter_len s.sheet)
+
+  -- the first of place k below line l
+  unfoldable pub place_cell : ℕ → ℕ → ℕ
+  place_cell l k = text_cell + column_of s.sheet.switches (layout_of s.sheet l) k
+
+  -- place k below line l has a cell
+  unfoldable pub has_cell : ℕ → ℕ → Bool
+  has_cell l k = nat_lt 0 (width s.sheet.switches (layout_of s.sheet l) k)
+
+  -- the cells of line l, without their colours: one for each character, and one for each blank of a tab
+  unfoldable pub shown_cells : ℕ → List Piece
+  shown_cells l =
+      let y = layout_of s.sheet l in
+      joined_numbered (λ k. char_pieces s.sheet.switches Plain (column_of s.sheet.switches y k)) (shown y)
