@@ -16,48 +16,49 @@ use Rattle.ariadne_picture.specs.Placing.Rows.{Placing, cell_at, gutter_cell}
 use Rattle.ariadne_picture.specs.Placing.GutterBars.{gutter_rows}
 
 module _ (canvas : List (List Cell)) (sections : List Section) (p : Placing) where
-  -- row n shows line l, beside which gutter label i starts or ends as the margin label
-  abbrev pub is_beside : ℕ → Section → ℕ → ℕ → ℕ → Bool
-  is_beside g s i l n = (n == p.source_row g l) && is_margin_at s l i
+  module _ (g : ℕ) (s : Section) where
+    -- row n shows line l, beside which gutter label i starts or ends as the margin label
+    abbrev pub is_beside : ℕ → ℕ → ℕ → Bool
+    is_beside i l n = (n == p.source_row g l) && is_margin_at s l i
 
-  -- row n has a horizontal of gutter label i, which is a: it is that of its head or of its message,
-  -- or its end stands beside it
-  unfoldable pub has_gutter_level : ℕ → Section → ℕ → LabelInfo → ℕ → Bool
-  has_gutter_level g s i a n =
-      (n == p.head_row g i) || (n == p.message_row a.position) || is_beside g s i a.end_line n
+    -- row n has a horizontal of gutter label i, which is a: it is that of its head or of its message,
+    -- or its end stands beside it
+    unfoldable pub has_gutter_level : ℕ → LabelInfo → ℕ → Bool
+    has_gutter_level i a n =
+        (n == p.head_row g i) || (n == p.message_row a.position) || is_beside i a.end_line n
 
-  -- its arrow head stands in row n
-  unfoldable pub has_gutter_arrow : ℕ → Section → ℕ → LabelInfo → ℕ → Bool
-  has_gutter_arrow g s i a n = is_beside g s i a.start_line n || is_beside g s i a.end_line n
+    -- its arrow head stands in row n
+    unfoldable pub has_gutter_arrow : ℕ → LabelInfo → ℕ → Bool
+    has_gutter_arrow i a n = is_beside i a.start_line n || is_beside i a.end_line n
 
-  -- row n is one of those from its head to its message, where the first cell of its column shows its
-  -- stroke. A tee is one only beside its end
-  unfoldable pub is_own_gutter_stroke : ℕ → Section → ℕ → LabelInfo → ℕ → Cell → Bool
-  is_own_gutter_stroke g s i a n c =
-      nat_le (p.head_row g i) n && nat_le n (p.message_row a.position)
-      && (not (is_glyph (set_of s) Lcross c) || is_glyph (set_of s) Vbar c
-      || is_beside g s i a.end_line n)
+    -- row n is one of those from its head to its message, where the first cell of its column shows its
+    -- stroke. A tee is one only beside its end
+    unfoldable pub is_own_gutter_stroke : ℕ → LabelInfo → ℕ → Cell → Bool
+    is_own_gutter_stroke i a n c =
+        nat_le (p.head_row g i) n && nat_le n (p.message_row a.position)
+        && (not (is_glyph (set_of s) Lcross c) || is_glyph (set_of s) Vbar c
+        || is_beside i a.end_line n)
 
-  -- what a cell of column j of row n shows is a stroke of it: in its own column, an arrow head in the
-  -- last one, or a horizontal from its column on, up to the arrow head. The cell is the column's first
-  -- one, or the one behind
-  unfoldable pub is_gutter_stroke_of : ℕ → Section → ℕ → ℕ → Bool → Cell → ℕ → LabelInfo → Bool
-  is_gutter_stroke_of g s n j is_first c i a =
-      let is_arrow = (j == arrow_column s) && has_gutter_arrow g s i a n in
-      (is_first && (i == j) && is_own_gutter_stroke g s i a n c) || (is_first && is_arrow)
-      || (nat_le i j && has_gutter_level g s i a n && is_level (set_of s) c && not is_arrow)
+    -- what a cell of column j of row n shows is a stroke of it: in its own column, an arrow head in the
+    -- last one, or a horizontal from its column on, up to the arrow head. The cell is the column's first
+    -- one, or the one behind
+    unfoldable pub is_gutter_stroke_of : ℕ → ℕ → Bool → Cell → ℕ → LabelInfo → Bool
+    is_gutter_stroke_of n j is_first c i a =
+        let is_arrow = (j == arrow_column s) && has_gutter_arrow i a n in
+        (is_first && (i == j) && is_own_gutter_stroke i a n c) || (is_first && is_arrow)
+        || (nat_le i j && has_gutter_level i a n && is_level (set_of s) c && not is_arrow)
 
-  -- such a cell is blank, or shows a stroke that some gutter label has there
-  unfoldable pub has_gutter_cause : ℕ → Section → ℕ → ℕ → Bool → Cell → Bool
-  has_gutter_cause g s n j is_first c =
-      is_blank c || any_numbered (is_gutter_stroke_of g s n j is_first c) (gutter_labels s.sheet)
+    -- such a cell is blank, or shows a stroke that some gutter label has there
+    unfoldable pub has_gutter_cause : ℕ → ℕ → Bool → Cell → Bool
+    has_gutter_cause n j is_first c =
+        is_blank c || any_numbered (is_gutter_stroke_of n j is_first c) (gutter_labels s.sheet)
 
-  -- so do both cells of column j of row n; a compact picture has one
-  unfoldable pub is_gutter_column_caused : ℕ → Section → ℕ → ℕ → Bool
-  is_gutter_column_caused g s n j =
-      has_gutter_cause g s n j true (gutter_cell canvas s n j)
-      && (s.sheet.switches.compact
-      || has_gutter_cause g s n j false (cell_at canvas n (column_cell s j + 1)))
+    -- so do both cells of column j of row n; a compact picture has one
+    unfoldable pub is_gutter_column_caused : ℕ → ℕ → Bool
+    is_gutter_column_caused n j =
+        has_gutter_cause n j true (gutter_cell canvas s n j)
+        && (s.sheet.switches.compact
+        || has_gutter_cause n j false (cell_at canvas n (column_cell s j + 1)))
 
   -- the clause on other strokes in the gutter
   unfoldable pub has_no_other_gutter_strokes : Bool

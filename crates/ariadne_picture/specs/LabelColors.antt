@@ -54,74 +54,75 @@ module _ (canvas : List (List Cell)) (sections : List Section) (p : Placing)
   unfoldable pub has_color : LabelInfo → ℕ → ℕ → Bool
   has_color a n c = is_color (cell_at canvas n c).color (color_at a.position)
 
-  -- ---- verticals below line l, of a label a that turns at place k of row m
-
-  -- another label turns at place k of row n, or below that and above row m
-  unfoldable pub is_covered : ℕ → Section → ℕ → ℕ → ℕ → ℕ → Bool
-  is_covered g s l k m n =
-      list_any (λ trace. trace.turns && (trace.place == k) && nat_le n trace.row && nat_lt trace.row m)
-      (traces_below canvas sections p g s l)
-
-  -- what row n shows at place k has its colour, if it is a vertical and no other label's
-  unfoldable pub is_vertical_colored_in : ℕ → Section → ℕ → LabelInfo → ℕ → ℕ → ℕ → Bool
-  is_vertical_colored_in g s l a k m n =
-      not (has_cell s l k && is_steep (set_of s) (cell_at canvas n (place_cell s l k)))
-      || is_covered g s l k m n || has_color a n (place_cell s l k)
-
-  -- so it is in the rows from the line down to row m
-  unfoldable pub is_vertical_colored : ℕ → Section → ℕ → LabelInfo → ℕ → ℕ → Bool
-  is_vertical_colored g s l a k m =
-      list_all (is_vertical_colored_in g s l a k m) (between (p.source_row g l + 1) m)
-
-  -- ---- labels within one line
-
-  -- its vertical, and its row from its corner to its message
-  unfoldable pub is_inline_colored : ℕ → Section → LabelInfo → Bool
-  is_inline_colored g s a =
-      let l = a.start_line in
-      let n = p.message_row a.position in
-      is_vertical_colored g s l a a.attach n
-      && all_place_cells s l a.attach (p.places g l) (has_color a n)
-
-  -- ---- gutter label i, which is a
-
-  -- the row of its message from its column on, and its vertical there if it isn't the margin label
-  unfoldable pub is_end_colored : ℕ → Section → ℕ → LabelInfo → Bool
-  is_end_colored g s i a =
-      let l = a.end_line in
-      let n = p.message_row a.position in
-      all_gutter_cells s i (has_color a n) && all_place_cells s l 0 (p.places g l) (has_color a n)
-      && (is_margin_at s l i || is_vertical_colored g s l a a.end_place n)
-
-  -- the row of its head from its column to its corner, and its vertical, unless its head stands
-  -- beside the line
-  unfoldable pub is_start_colored : ℕ → Section → ℕ → LabelInfo → Bool
-  is_start_colored g s i a =
-      let l = a.start_line in
-      let n = p.head_row g i in
-      is_margin_at s l i || (all_gutter_cells s i (has_color a n)
-      && all_place_cells s l 0 (a.start_place + 1) (has_color a n)
-      && is_vertical_colored g s l a a.start_place n)
-
-  -- beside line l, if it is the margin label there, its horizontal and its arrow head
-  unfoldable pub is_pointer_colored : ℕ → Section → ℕ → LabelInfo → ℕ → Bool
-  is_pointer_colored g s i a l =
-      let n = p.source_row g l in
-      not (is_margin_at s l i) || all_gutter_cells s i
-      (λ c. not (is_pointer (set_of s) (cell_at canvas n c)) || has_color a n c)
-
-  -- in row n what its column shows, if that is not level
+  -- in row n what the column of gutter label i, which is a, shows, if that is not level
   unfoldable pub is_bar_colored : Section → ℕ → LabelInfo → ℕ → Bool
   is_bar_colored s i a n =
       not (is_steep (set_of s) (gutter_cell canvas s n i))
       || has_color a n (column_cell s i)
 
-  -- all of this
-  unfoldable pub is_gutter_label_colored : ℕ → Section → ℕ → LabelInfo → Bool
-  is_gutter_label_colored g s i a =
-      is_end_colored g s i a && is_start_colored g s i a
-      && list_all (is_pointer_colored g s i a) (shown_lines s)
-      && list_all (is_bar_colored s i a) (gutter_rows canvas sections p g s)
+  module _ (g : ℕ) (s : Section) where
+    -- ---- verticals below line l, of a label a that turns at place k of row m
+
+    -- another label turns at place k of row n, or below that and above row m
+    unfoldable pub is_covered : ℕ → ℕ → ℕ → ℕ → Bool
+    is_covered l k m n =
+        list_any (λ trace. trace.turns && (trace.place == k) && nat_le n trace.row && nat_lt trace.row m)
+        (traces_below canvas sections p g s l)
+
+    -- what row n shows at place k has its colour, if it is a vertical and no other label's
+    unfoldable pub is_vertical_colored_in : ℕ → LabelInfo → ℕ → ℕ → ℕ → Bool
+    is_vertical_colored_in l a k m n =
+        not (has_cell s l k && is_steep (set_of s) (cell_at canvas n (place_cell s l k)))
+        || is_covered l k m n || has_color a n (place_cell s l k)
+
+    -- so it is in the rows from the line down to row m
+    unfoldable pub is_vertical_colored : ℕ → LabelInfo → ℕ → ℕ → Bool
+    is_vertical_colored l a k m =
+        list_all (is_vertical_colored_in l a k m) (between (p.source_row g l + 1) m)
+
+    -- ---- labels within one line
+
+    -- its vertical, and its row from its corner to its message
+    unfoldable pub is_inline_colored : LabelInfo → Bool
+    is_inline_colored a =
+        let l = a.start_line in
+        let n = p.message_row a.position in
+        is_vertical_colored l a a.attach n
+        && all_place_cells s l a.attach (p.places g l) (has_color a n)
+
+    -- ---- gutter label i, which is a
+
+    -- the row of its message from its column on, and its vertical there if it isn't the margin label
+    unfoldable pub is_end_colored : ℕ → LabelInfo → Bool
+    is_end_colored i a =
+        let l = a.end_line in
+        let n = p.message_row a.position in
+        all_gutter_cells s i (has_color a n) && all_place_cells s l 0 (p.places g l) (has_color a n)
+        && (is_margin_at s l i || is_vertical_colored l a a.end_place n)
+
+    -- the row of its head from its column to its corner, and its vertical, unless its head stands
+    -- beside the line
+    unfoldable pub is_start_colored : ℕ → LabelInfo → Bool
+    is_start_colored i a =
+        let l = a.start_line in
+        let n = p.head_row g i in
+        is_margin_at s l i || (all_gutter_cells s i (has_color a n)
+        && all_place_cells s l 0 (a.start_place + 1) (has_color a n)
+        && is_vertical_colored l a a.start_place n)
+
+    -- beside line l, if it is the margin label there, its horizontal and its arrow head
+    unfoldable pub is_pointer_colored : ℕ → LabelInfo → ℕ → Bool
+    is_pointer_colored i a l =
+        let n = p.source_row g l in
+        not (is_margin_at s l i) || all_gutter_cells s i
+        (λ c. not (is_pointer (set_of s) (cell_at canvas n c)) || has_color a n c)
+
+    -- all of this
+    unfoldable pub is_gutter_label_colored : ℕ → LabelInfo → Bool
+    is_gutter_label_colored i a =
+        is_end_colored i a && is_start_colored i a
+        && list_all (is_pointer_colored i a) (shown_lines s)
+        && list_all (is_bar_colored s i a) (gutter_rows canvas sections p g s)
 
   -- the clause on colours
   unfoldable pub has_label_colors : Bool

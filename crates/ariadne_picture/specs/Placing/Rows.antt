@@ -44,14 +44,13 @@ module _ (canvas : List (List Cell)) where
   abbrev pub text_cells : Section → ℕ → List Cell
   text_cells s n = drop (text_cell s) (row_at n)
 
-module _ (p : Placing) where
-  -- the rows of the block of line l of group g
-  unfoldable pub block_rows : ℕ → ℕ → List ℕ
-  block_rows g l = range_with_len (p.source_row g l + 1) (p.block_len g l)
+-- the rows of the block of line l of group g
+unfoldable pub block_rows : Placing → ℕ → ℕ → List ℕ
+block_rows p g l = range_with_len (p.source_row g l + 1) (p.block_len g l)
 
-  -- how many cells the text of a row of the block of line l has
-  abbrev pub cells_of_places : ℕ → Section → ℕ → ℕ
-  cells_of_places g s l = column_of s.sheet.switches (layout_of s.sheet l) (p.places g l)
+-- how many cells the text of a row of the block of line l has
+abbrev pub cells_of_places : Placing → ℕ → Section → ℕ → ℕ
+cells_of_places p g s l = column_of s.sheet.switches (layout_of s.sheet l) (p.places g l)
 
 -- ---- the places of the rows below line l of group g. A place without a cell is passed over: there is
 -- no corner, and the strokes end at the first place behind it that has a cell, if the row has such a

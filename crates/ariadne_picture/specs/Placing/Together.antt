@@ -24,31 +24,29 @@ all_pairs test [] = true
 all_pairs test (n ∷ ns) = list_all (test n) ns && all_pairs test ns
 
 module _ (canvas : List (List Cell)) (sections : List Section) (p : Placing) where
-  module _ (s : Section) where
-    -- row n begins with one blank, then its margin, blanks and this text, and, if not compact, one
-    -- blank
-    unfoldable pub has_margin : List ℕ → ℕ → Bool
-    has_margin text n =
-        is_blank (cell_at canvas n 0)
-        && is_text (unindented (cell_at canvas n 1).text) text
-        && (s.sheet.switches.compact || is_blank (cell_at canvas n 2))
+  -- row n begins with one blank, then its margin, blanks and this text, and, if not compact, one
+  -- blank
+  unfoldable pub has_margin : Section → List ℕ → ℕ → Bool
+  has_margin s text n =
+      is_blank (cell_at canvas n 0)
+      && is_text (unindented (cell_at canvas n 1).text) text
+      && (s.sheet.switches.compact || is_blank (cell_at canvas n 2))
 
-    -- row n shows line l: its number in the margin, and its characters
-    unfoldable pub is_source_row : ℕ → ℕ → Bool
-    is_source_row l n =
-        let number = decimal (printed_number s.display_offset l) in
-        has_margin (number ++ codes " " ++ glyph_text (set_of s) Vbar) n
-        && pointwise is_text (map (λ c. c.text) (text_cells canvas s n))
-        (map (λ c. c.text) (shown_cells s l))
+  -- row n shows line l: its number in the margin, and its characters
+  unfoldable pub is_source_row : Section → ℕ → ℕ → Bool
+  is_source_row s l n =
+      let number = decimal (printed_number s.display_offset l) in
+      has_margin s (number ++ codes " " ++ glyph_text (set_of s) Vbar) n
+      && pointwise is_text (map (λ c. c.text) (text_cells canvas s n))
+      (map (λ c. c.text) (shown_cells s l))
 
-  module _ (g : ℕ) where
-    -- row n is one of group g
-    unfoldable pub is_in_group : ℕ → Bool
-    is_in_group n = nat_le (p.start g) n && nat_lt n (p.start (g + 1))
+  -- row n is one of group g
+  unfoldable pub is_in_group : ℕ → ℕ → Bool
+  is_in_group g n = nat_le (p.start g) n && nat_lt n (p.start (g + 1))
 
-    -- row n is one of the block of line l
-    unfoldable pub is_in_block : ℕ → ℕ → Bool
-    is_in_block l n = nat_lt (p.source_row g l) n && nat_le n (p.source_row g l + p.block_len g l)
+  -- row n is one of the block of line l
+  unfoldable pub is_in_block : ℕ → ℕ → ℕ → Bool
+  is_in_block g l n = nat_lt (p.source_row g l) n && nat_le n (p.source_row g l + p.block_len g l)
 
   module _ (g : ℕ) (s : Section) where
     -- line l and its block stand within their group, and the margins of its block have no number
