@@ -21,13 +21,13 @@ use Rattle.ariadne_picture.specs.Report.{ConfigFields, LabelFields, World}
 
 -- the length of a text in what offsets count
 unfoldable pub text_len : IndexType → List ℕ → ℕ
-text_len Char t = length t
-text_len Byte t = byte_len t
+text_len Char text = length text
+text_len Byte text = byte_len text
 
 -- an offset in characters, if it lies inside none
 unfoldable pub offset_in_chars : IndexType → List ℕ → ℕ → Option ℕ
-offset_in_chars Char t o = Some o
-offset_in_chars Byte t o = char_offset t o
+offset_in_chars Char text o = Some o
+offset_in_chars Byte text o = char_offset text o
 
 -- the offset that the arrow of a label within one line is attached to
 unfoldable pub attach_offset : LabelAttach → ℕ → ℕ → ℕ

@@ -79,7 +79,7 @@ IsOfLine (arrow l r) = Unit {0}
 IsOfLine (gap l) = Unit {0}
 IsOfLine (bare l) = Unit {0}
 IsOfLine (blank a k) = ⊥
-IsOfLine (piece a k p) = ⊥
+IsOfLine (piece a k n) = ⊥
 IsOfLine tail = ⊥
 
 -- ---- what a gutter column shows

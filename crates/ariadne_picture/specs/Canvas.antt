@@ -109,8 +109,8 @@ module _ {S Id : Type 0} (w : World S Id) (r : ReportFields S) where
 
   -- two labels' ids count as one
   unfoldable pub is_same_id : Option Id → Option Id → Bool
-  is_same_id (Some p) (Some q) = w.is_same p q
-  is_same_id p q = false
+  is_same_id (Some id) (Some other) = w.is_same id other
+  is_same_id id other = false
 
   -- the labels at two positions are over the same source
   unfoldable pub same_source : ℕ → ℕ → Bool

@@ -111,15 +111,15 @@ area_pieces switches y ink_at =
     joined (λ k. ink_pieces switches.char_set (ink_at k) (width switches y k))
     (upto (arrow_len switches y))
 
--- ---- the parts of a row of a line; w is the number width, display_offset the display offset
+-- ---- the parts of a row of a line; digits is the number width, display_offset the display offset
 
 -- the text of a row's margin: the line's number, or blanks, and a bar
 unfoldable pub margin_text : CharSet → ℕ → ℕ → Row → List ℕ
-margin_text set w display_offset (source l) =
+margin_text set digits display_offset (source l) =
     let number = decimal (printed_number display_offset l) in
-    spaces (w - length number) ++ number ++ codes " " ++ glyph_text set Vbar
-margin_text set w display_offset (gap l) = spaces (w + 1) ++ glyph_text set VbarGap
-margin_text set w display_offset row = spaces (w + 1) ++ glyph_text set Vbar
+    spaces (digits - length number) ++ number ++ codes " " ++ glyph_text set Vbar
+margin_text set digits display_offset (gap l) = spaces (digits + 1) ++ glyph_text set VbarGap
+margin_text set digits display_offset row = spaces (digits + 1) ++ glyph_text set Vbar
 
 -- its colour
 unfoldable pub margin_paint : Row → Paint
@@ -128,11 +128,11 @@ margin_paint row = SkippedMargin
 
 -- the margin of a row: a blank, its text, and a blank if not compact
 unfoldable pub margin_pieces : Switches → ℕ → ℕ → Row → List Piece
-margin_pieces switches w display_offset row =
+margin_pieces switches digits display_offset row =
     blank_piece ∷ record {
-      text = margin_text switches.char_set w display_offset row;
+      text = margin_text switches.char_set digits display_offset row;
       paint = margin_paint row;
-      columns = w + 2;
+      columns = digits + 2;
     }
     ∷ (if switches.compact then [] else blank_piece ∷ [])
 
@@ -181,9 +181,9 @@ location_text ls display_offset (Some o) =
 
 -- the first row of a group: where its source is pointed at
 unfoldable pub group_header_pieces : Section → ℕ → List Piece
-group_header_pieces s w =
+group_header_pieces s digits =
     let set = s.sheet.switches.char_set in
-    plain_text (spaces (w + 2)) ∷ stroke set (if s.is_first then Ltop else Lcross) Margin
+    plain_text (spaces (digits + 2)) ∷ stroke set (if s.is_first then Ltop else Lcross) Margin
     ∷ stroke set Hbar Margin ∷ stroke set Lbox Margin
     ∷ plain_text (codes " " ++ s.name ++ codes ":"
     ++ location_text s.sheet.lines s.display_offset s.header_offset ++ codes " ")
@@ -191,7 +191,7 @@ group_header_pieces s w =
 
 -- the row below a group header, and between two groups
 unfoldable pub spacer_pieces : CharSet → ℕ → List Piece
-spacer_pieces set w = plain_text (spaces (w + 2)) ∷ stroke set Vbar Margin ∷ []
+spacer_pieces set digits = plain_text (spaces (digits + 2)) ∷ stroke set Vbar Margin ∷ []
 
 -- a text n times
 unfoldable pub repeated : ℕ → List ℕ → List ℕ
@@ -199,12 +199,12 @@ repeated n text = joined (λ k. text) (upto n)
 
 -- the last row of a group
 unfoldable pub tail_pieces : CharSet → ℕ → Bool → List Piece
-tail_pieces set w false = spacer_pieces set w
-tail_pieces set w true =
+tail_pieces set digits false = spacer_pieces set digits
+tail_pieces set digits true =
     record {
-      text = repeated (w + 2) (glyph_text set Hbar) ++ glyph_text set Rbot;
+      text = repeated (digits + 2) (glyph_text set Hbar) ++ glyph_text set Rbot;
       paint = Margin;
-      columns = w + 3;
+      columns = digits + 3;
     } ∷ []
 
 -- the message that a label shows in its arrow row
@@ -228,16 +228,16 @@ unfoldable pub aside_prefix : Texts → Aside → ℕ → List ℕ
 aside_prefix t a k =
     aside_name a ++ (if length (aside_texts t a) == 1 then [] else codes " " ++ decimal (k + 1))
 
--- line p of help or note number k
+-- line n of help or note number k
 unfoldable pub aside_line : Texts → Aside → ℕ → ℕ → List ℕ
-aside_line t a k p = slice_index_or (lines (slice_index_or (aside_texts t a) k [])) p []
+aside_line t a k n = slice_index_or (lines (slice_index_or (aside_texts t a) k [])) n []
 
 -- its first line stands behind that word, the others below the first
 unfoldable pub aside_pieces : Texts → Aside → ℕ → ℕ → List Piece
 aside_pieces t a k zero =
     painted_text Note (aside_prefix t a k) ∷ plain_text (codes ": " ++ aside_line t a k 0) ∷ []
-aside_pieces t a k (suc p) =
-    plain_text (spaces (length (aside_prefix t a k) + 2) ++ aside_line t a k (suc p)) ∷ []
+aside_pieces t a k (suc n) =
+    plain_text (spaces (length (aside_prefix t a k) + 2) ++ aside_line t a k (suc n)) ∷ []
 
 -- what follows the margin
 unfoldable pub rest_pieces : Texts → Section → Row → List Piece
@@ -255,16 +255,16 @@ rest_pieces t s (arrow l r) =
     ++ message_pieces t x
 rest_pieces t s (gap l) = gutter_pieces s.sheet (gap l)
 rest_pieces t s (blank a k) = gutter_pieces s.sheet (blank a k)
-rest_pieces t s (piece a k p) = gutter_pieces s.sheet (piece a k p) ++ aside_pieces t a k p
+rest_pieces t s (piece a k n) = gutter_pieces s.sheet (piece a k n) ++ aside_pieces t a k n
 rest_pieces t s row = []
 
 -- a row of a group, by its name
 unfoldable pub row_pieces : Texts → ℕ → Section → Row → List Piece
-row_pieces t w s group_header = group_header_pieces s w
-row_pieces t w s spacer = spacer_pieces s.sheet.switches.char_set w
-row_pieces t w s tail = tail_pieces s.sheet.switches.char_set w s.is_last
-row_pieces t w s row = margin_pieces s.sheet.switches w s.display_offset row ++ rest_pieces t s row
+row_pieces t digits s group_header = group_header_pieces s digits
+row_pieces t digits s spacer = spacer_pieces s.sheet.switches.char_set digits
+row_pieces t digits s tail = tail_pieces s.sheet.switches.char_set digits s.is_last
+row_pieces t digits s row = margin_pieces s.sheet.switches digits s.display_offset row ++ rest_pieces t s row
 
 -- all rows of a group
 unfoldable pub section_rows : Texts → ℕ → Section → List (List Piece)
-section_rows t w s = map (row_pieces t w s) (rows s.sheet s.is_last t.helps t.notes)
+section_rows t digits s = map (row_pieces t digits s) (rows s.sheet s.is_last t.helps t.notes)

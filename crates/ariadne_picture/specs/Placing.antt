@@ -22,7 +22,7 @@
 --     10     | |
 --     11     | `--------- all
 --     12  ---'
---   cell  01  2345678901234 5
+--   cell  01  23456789012345
 pub mod Cells
 pub mod Group
 pub mod Rows

@@ -46,18 +46,18 @@ is_parameter b = (nat_le 48 b && nat_le b 57) || (b == 59)
 
 -- the length of the escape sequence that some bytes begin with, ESC [ parameters m, or 0
 unfoldable pub sequence_len : List ℕ → ℕ
-sequence_len (a ∷ b ∷ t) =
-    let n = prefix_len is_parameter t in
-    if (a == 27) && (b == 91) && (slice_index t n == 109) then n + 3 else 0
-sequence_len t = 0
+sequence_len (a ∷ b ∷ rest) =
+    let n = prefix_len is_parameter rest in
+    if (a == 27) && (b == 91) && (slice_index rest n == 109) then n + 3 else 0
+sequence_len rest = 0
 
 -- the bytes that stand outside of every such sequence, after the first n
 unfoldable pub unescaped_after : ℕ → List ℕ → List ℕ
 unescaped_after n [] = []
-unescaped_after (suc n) (b ∷ t) = unescaped_after n t
-unescaped_after zero (b ∷ t) =
-    let n = sequence_len (b ∷ t) in
-    if n == 0 then b ∷ unescaped_after 0 t else unescaped_after (n - 1) t
+unescaped_after (suc n) (b ∷ rest) = unescaped_after n rest
+unescaped_after zero (b ∷ rest) =
+    let n = sequence_len (b ∷ rest) in
+    if n == 0 then b ∷ unescaped_after 0 rest else unescaped_after (n - 1) rest
 
 -- bytes without their escape sequences
 unfoldable pub unescaped : List ℕ → List ℕ

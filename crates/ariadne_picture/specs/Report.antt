@@ -94,7 +94,7 @@ pub record World (S Id : Type 0) : Type 0 where
 
 -- ids that count as one have one source: so it is where sources are looked up by their ids
 abbrev pub HaveOneSource : {S Id : Type 0} → World S Id → Type 0
-HaveOneSource {S} {Id} w = (p q : Id) → w.is_same p q ≡ true → w.source_of p ≡ w.source_of q
+HaveOneSource {S} {Id} w = (id other : Id) → w.is_same id other ≡ true → w.source_of id ≡ w.source_of other
 
 -- each label starts at most at its end
 abbrev pub AreForward : {S Id : Type 0} → World S Id → ReportFields S → Type 0
@@ -104,11 +104,11 @@ AreForward w r = AllByRecursion (λ label. w.start_of label.span ≤ w.end_of la
 
 -- the switches of a configuration
 abbrev pub switches_of : ConfigFields → Switches
-switches_of c = record {
-  cross_gap = c.cross_gap;
-  compact = c.compact;
-  underlines = c.underlines;
-  multiline_arrows = c.multiline_arrows;
-  tab_width = c.tab_width;
-  char_set = c.char_set;
+switches_of config = record {
+  cross_gap = config.cross_gap;
+  compact = config.compact;
+  underlines = config.underlines;
+  multiline_arrows = config.multiline_arrows;
+  tab_width = config.tab_width;
+  char_set = config.char_set;
 }

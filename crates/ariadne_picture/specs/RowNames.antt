@@ -47,5 +47,5 @@ module _ (h : Sheet) (is_last : Bool) (helps notes : List (List ℕ)) where
   HasRow (gap l) = BeginsHidden h l × (is_inside h l ≡ true)
   HasRow (bare l) = (h.switches.compact ≡ false) × BeginsHidden h l × (is_inside h l ≡ false)
   HasRow (blank a k) = (h.switches.compact ≡ false) × HasAside a k
-  HasRow (piece a k p) = (aside : HasAside a k) × (p < length (lines aside.text))
+  HasRow (piece a k n) = (aside : HasAside a k) × (n < length (lines aside.text))
   HasRow tail = h.switches.compact ≡ false

@@ -30,7 +30,7 @@ pub data Row : Type 0 where
   arrow : ℕ → ℕ → Row
   gap : ℕ → Row
   bare : ℕ → Row
-  -- the row above help or note number k, and piece p of it
+  -- the row above help or note number k, and piece n of it
   blank : Aside → ℕ → Row
   piece : Aside → ℕ → ℕ → Row
   tail : Row
@@ -53,7 +53,7 @@ row_key (arrow l r) = 2 ∷ l ∷ (2 * r + 2) ∷ []
 row_key (gap l) = 2 ∷ l ∷ 0 ∷ []
 row_key (bare l) = 2 ∷ l ∷ 0 ∷ []
 row_key (blank a k) = aside_part a ∷ k ∷ 0 ∷ []
-row_key (piece a k p) = aside_part a ∷ k ∷ (p + 1) ∷ []
+row_key (piece a k n) = aside_part a ∷ k ∷ (n + 1) ∷ []
 row_key tail = 5 ∷ 0 ∷ 0 ∷ []
 
 -- row a stands before row b

@@ -18,7 +18,7 @@ use Rattle.ariadne_picture.specs.Placing.Rows.{Placing, between, row_at, cell_at
 
 -- the first text ends in the second
 unfoldable pub ends_in : List ℕ → List ℕ → Bool
-ends_in t end = is_text (drop (length t - length end) t) end
+ends_in text end = is_text (drop (length text - length end) text) end
 
 module _ (canvas : List (List Cell)) (sections : List Section) (p : Placing) where
   -- row n reaches over the gutter

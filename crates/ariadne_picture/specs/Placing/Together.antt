@@ -16,7 +16,7 @@ use Rattle.ariadne_picture.specs.Placing.Rows.{Placing, cell_at, text_cells, blo
 
 -- a text without the blanks in front
 unfoldable pub unindented : List ℕ → List ℕ
-unindented t = drop (prefix_len (λ c. c == 32) t) t
+unindented text = drop (prefix_len (λ c. c == 32) text) text
 
 -- a test holds of each number with all that follow it
 unfoldable pub all_pairs : (ℕ → ℕ → Bool) → List ℕ → Bool
