@@ -294,9 +294,9 @@ pub fn no_stroke_is_without_a_cause<S, Id, R>()
         CanBeRead rows groups (λ placing. has_no_other_strokes rows groups placing) }
 {}
 
-/// No stroke without a cause in the gutter: each cell of a gutter column is blank, or shows a head, a
-/// corner, a tee or a bar of the column's own label, or an arrow head, or a horizontal of one that
-/// owns a column in front of it.
+/// No stroke without a cause in the gutter. Each cell of a gutter column is blank, or shows a head, a
+/// corner, a tee or a bar of the column's own label. Or it shows an arrow head, or a horizontal of a
+/// label that owns a column in front of it.
 pub fn no_gutter_stroke_is_without_a_cause<S, Id, R>()
     ensures { (w : World S Id) (r : ReportFields S) (reasons : List (Option R))
         → HaveOneSource w → AreForward w r

@@ -53,8 +53,8 @@ name_at sources k = option_and_then name_of (slice_get sources k)
 -- ---- offsets
 
 -- where an offset in bytes of a text stands among the bytes that are shown of it. One before a
--- character stands before its sign, one inside a character behind the first byte of its sign, and
--- one past the text as far past what is shown, or 2 past it where it is farther
+-- character stands before its sign, and one inside a character behind the first byte of its sign.
+-- One past the text stands as far past what is shown, or 2 past it where it is farther
 unfoldable pub shown_offset : TextKind → List ℕ → ℕ → ℕ
 shown_offset kind [] o = min o 2
 shown_offset kind (c ∷ t) o =
