@@ -1,4 +1,4 @@
-//! The workloads drawn by the original crate.
+//! The workloads drawn by the calls of `ariadne` 0.6.0: the original's, or those of bindings/rust.
 
 use crate::workloads::{Job, Mark};
 use ariadne::{sources, CharSet, Color, Config, IndexType, Label, Report, ReportKind, Source, Span};

@@ -1,5 +1,6 @@
 /* Draws a workload of docs/SPEED.md again and again: bench two|nested|two-safe|nested-safe N, which prints
-   NAME N BYTES CHECKSUM NANOSECONDS. Texts are drawn as they are, or safely. Each call has the report and the source anew, and finds the lines. */
+   NAME N BYTES CHECKSUM NANOSECONDS. Texts are drawn as they are, or safely. Each call has the report and
+   the source anew, and finds the lines. */
 #define _POSIX_C_SOURCE 199309L
 #include "sewarqo.h"
 #include <stdio.h>

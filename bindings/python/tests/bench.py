@@ -1,5 +1,6 @@
 """Draws a workload of docs/SPEED.md again and again: bench.py two|nested|two-safe|nested-safe N, which prints
-NAME N BYTES CHECKSUM NANOSECONDS. Texts are drawn as they are, or safely. Each call hands in the report and the source anew, and finds the lines.
+NAME N BYTES CHECKSUM NANOSECONDS. Texts are drawn as they are, or safely. Each call hands in the report and
+the source anew, and finds the lines.
 """
 
 import sys
