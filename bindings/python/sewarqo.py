@@ -29,7 +29,7 @@ Python 3.8 and later, needs nothing else, and may be called from any number of t
 import ctypes
 import ctypes.util
 import os
-from typing import Dict, Hashable, List, Mapping, NamedTuple, Optional, Sequence, Tuple, Union
+from typing import Dict, Hashable, Iterable, List, Mapping, NamedTuple, Optional, Sequence, Tuple, Union
 
 __all__ = [
     "BadLabel", "BadReport", "BadSource", "Color", "Config", "Label", "LeftOut", "Picture", "Refused",
@@ -416,7 +416,7 @@ def _by_key(sources: Sources) -> Dict[Hashable, Source]:
     return {key: it if isinstance(it, Source) else Source(it) for key, it in sources.items()}
 
 
-def _counts_bytes(sources) -> bool:
+def _counts_bytes(sources: Iterable[Source]) -> bool:
     """Whether offsets count bytes: where the texts are bytes."""
     kinds = {type(source.text) for source in sources}
     if not kinds <= {str, bytes} or len(kinds) == 2:
