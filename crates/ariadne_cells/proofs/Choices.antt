@@ -46,7 +46,7 @@ best_push beats [] x = refl
 best_push beats (y ∷ ys) x = ap Some (fold_push (λ b z. cond (beats z b) z b) y ys x)
 
 -- so it is, where one more counts only if it passes a test
-best-filter_push : {X : Type 0} (beats : X → X → Bool) (counts : X → Bool) (xs : List X) (x : X)
+pub best-filter_push : {X : Type 0} (beats : X → X → Bool) (counts : X → Bool) (xs : List X) (x : X)
     → best beats (filter counts (xs ++ x ∷ [])) ≡ cond (counts x) (better beats (best beats (filter counts xs)) x) (best beats (filter counts xs))
 best-filter_push beats counts xs x =
     ap (best beats) (filter-append counts xs (x ∷ []))
@@ -74,17 +74,17 @@ considered old new a same_offset less step labels offset len h =
     }
 
 -- a label holds what lies between its start and its end
-holds_inside : (a : LabelInfo) (o : ℕ) → a.start ≤ o → o < a.end → holds a o ≡ true
+pub holds_inside : (a : LabelInfo) (o : ℕ) → a.start ≤ o → o < a.end → holds a o ≡ true
 unfolding holds
 holds_inside a o begun goes_on = grind (arith, nat_tests)
 
 -- and nothing before it begins
-holds_before : (a : LabelInfo) (o : ℕ) → o < a.start → holds a o ≡ false
+pub holds_before : (a : LabelInfo) (o : ℕ) → o < a.start → holds a o ≡ false
 unfolding holds
 holds_before a o before = grind (arith, nat_tests)
 
 -- or from its end on
-holds_behind : (a : LabelInfo) (o : ℕ) → a.end ≤ o → holds a o ≡ false
+pub holds_behind : (a : LabelInfo) (o : ℕ) → a.end ≤ o → holds a o ≡ false
 unfolding holds
 holds_behind a o behind = grind (arith, nat_tests)
 

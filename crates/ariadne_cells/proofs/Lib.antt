@@ -1,3 +1,4 @@
+pub mod Apart
 pub mod Bytes
 pub mod Choices
 pub mod ColumnLists

@@ -1,11 +1,11 @@
 //! Stretches of the places of a line, through each of which the same label is shown.
 
 ghost use Rattle.std.specs.Prelude.{◌≡◌, ℕ, ◌+◌, ◌<◌, ◌==◌, false, OnOk, [], length, slice_get, Some};
-ghost use Rattle.std.specs.Prelude.{option_map};
+ghost use Rattle.std.specs.Prelude.{◌≤◌, ◌-◌, IfOk, IfSome, IsTrue, max, option_map};
 ghost use Rattle.std.specs.List.{All, list_any};
 ghost use Rattle.std.specs.List.Sorted.{IsStrictlyIncreasing};
 ghost use Rattle.ariadne_cells.specs.Candidates.{AreThere, infos_among};
-ghost use Rattle.ariadne_cells.specs.Choices.{shown_position};
+ghost use Rattle.ariadne_cells.specs.Choices.{inline_infos, shown_position};
 ghost use Rattle.ariadne_cells.specs.Parts.{seen_at};
 ghost use Rattle.ariadne_cells.specs.Tables.{ArePaints, AreUnderlines, shown_at};
 ghost use Rattle.ariadne_picture.specs.declared.label_info.LabelInfo.{LabelInfo};
@@ -15,7 +15,7 @@ ghost use Rattle.ariadne_picture.specs.Strokes.{holds};
 use crate::candidates::Candidates;
 use crate::layout::LineLayout;
 use crate::parts::{Part, find_parts};
-use ariadne_picture::label_info::LabelInfo;
+use ariadne_picture::label_info::{LabelInfo, LineLabel};
 use ariadne_picture::switches::Switches;
 use std::alloc::AllocError;
 
@@ -47,8 +47,63 @@ pub fn find_underlines(
         list.clear();
         return Ok(());
     }
-    let labels = Candidates::inline(layout.labels());
-    fill(list, &labels, layout.offset(), len)
+    let labels = layout.labels();
+    if take_apart(list, labels, layout.offset(), len)? {
+        return Ok(());
+    }
+    fill(list, &Candidates::inline(labels), layout.offset(), len)
+}
+
+/// Takes the stretches of those labels that lie within their line, if each of them starts behind
+/// those before it. Then no two compete for a place, and nothing else takes memory. It tells whether
+/// they do.
+///
+/// `offset` counts the characters of the source before the line, which has `len` places. On `Err`
+/// there was no memory for the stretches. On that, and where it is not so, what is held is of no
+/// line.
+fn take_apart(
+    list: &mut Vec<Stretch>,
+    labels: &[LineLabel],
+    offset: usize,
+    len: usize,
+) -> Result<bool, AllocError>
+    ensures { let shows = shown_position (inline_infos labels.now) in
+        IfOk result (λ apart. IsTrue apart →
+        (k : ℕ) → shown_at list.new.items k ≡ shows (offset + k)) }
+{
+    list.clear();
+    list.reserve_exact(labels.len().saturating_mul(2).min(len))?;
+    let mut place = 0;
+    for label in labels {
+        if label.side.is_inline() {
+            let Some((start, end)) = places_from(&label.info, offset, place) else {
+                return Ok(false);
+            };
+            list.push(Stretch {
+                end: start,
+                position: None,
+            })?;
+            list.push(Stretch {
+                end,
+                position: Some(label.info.position),
+            })?;
+            place = end;
+        }
+    }
+    Ok(true)
+}
+
+/// The place at which a label starts and the one behind its last, if it starts at `place` or behind.
+fn places_from(info: &LabelInfo, offset: usize, place: usize) -> Option<(usize, usize)>
+    ensures start { IfSome result (λ r. info.now.start ≡ offset + r.0) }
+    ensures behind { IfSome result (λ r. place ≤ r.0) }
+    ensures end { IfSome result (λ r. r.1 ≡ max r.0 (info.now.end - offset)) }
+{
+    let start = info.start.checked_sub(offset)?;
+    if start < place {
+        return None;
+    }
+    Some((start, start.max(info.end.saturating_sub(offset))))
 }
 
 /// Finds the stretches of the shown characters of a line that each have the colour of one label, or
