@@ -1,5 +1,5 @@
 -- One label more is judged: what the cache holds by then, the reasons of the labels so far, and what is drawn and what is left out of them.
-use Rattle.std.proofs.Common.{◌≡◌, ℕ, zero, suc, ◌+◌, ◌<◌, Bool, true, false, List, [], ◌∷◌, ◌++◌, Option, Some, None, length, take, get_or, refl}
+use Rattle.std.proofs.Common.{◌≡◌, ℕ, zero, suc, ◌+◌, ◌<◌, ◌≤◌, Bool, true, false, List, [], ◌∷◌, ◌++◌, Option, Some, None, length, take, get_or, not, refl}
 use Rattle.std.proofs.Common.{sym, ap, ◌∙◌, subst, arith, append_assoc}
 use Rattle.std.specs.Prelude.{IsSome, IsSomeAnd, Ok, Err, option_and_then, option_to_list}
 use Rattle.std.specs.List.{AllByRecursion, list_any}
@@ -7,18 +7,21 @@ use Rattle.std.specs.Cmp.{IsEquivalence}
 use Rattle.std.specs.HashMap.Eq.{lookup_congr}
 use Rattle.std.proofs.lemmas.Grind.{common_steps}
 use Rattle.std.proofs.lemmas.List.{append-nil, take_more, length-take-le}
+use Rattle.std.proofs.lemmas.Option.{slice_get-get_or}
 use Rattle.ariadne_base.specs.Cache.{Grows, held}
 use Rattle.ariadne_base.specs.Listing.{Listing}
 use Rattle.ariadne_picture.specs.declared.label_info.LabelInfo.{LabelInfo}
 use Rattle.ariadne_picture.specs.declared.verdict.Verdict.TheVariants.{Accepted}
+use Rattle.ariadne_picture.specs.declared.verdict.Verdict.TheVariants.{PastSource as past}
+use Rattle.ariadne_picture.specs.declared.verdict.Verdict.TheVariants.{CutsCharacter as cuts}
 use Rattle.ariadne_picture.specs.Report.{ConfigFields, LabelFields, World, HaveOneSource}
-use Rattle.ariadne_picture.specs.Accept.{accepted_info, drawn_label, drawn_labels, verdict_in}
+use Rattle.ariadne_picture.specs.Accept.{accepted_info, drawn_label, drawn_labels, verdict, verdict_in}
 use Rattle.ariadne_picture.proofs.Lists.ListFacts.{all-append}
 use Rattle.ariadne_accept.specs.declared.accept.LeftOut.{LeftOut}
 use Rattle.ariadne_accept.specs.declared.accept.Reason.{Reason}
 use Rattle.ariadne_accept.specs.declared.accept.Reason.TheVariants.{Unfetched, PastSource, CutsCharacter}
 use Rattle.ariadne_accept.specs.Drawn.{world}
-use Rattle.ariadne_accept.specs.Judging.{AreJudged, AreReasons, GrowsFor, IsJudged, IsOutcome, NoneUnfetched, StayFetched, is_unfetched, listed}
+use Rattle.ariadne_accept.specs.Judging.{AreJudged, AreReasons, GrowsFor, IsJudged, IsOutcome, IsSourceAt, NoneUnfetched, SoFar, StayFetched, is_unfetched, listed}
 
 -- ---- lists
 
@@ -235,24 +238,41 @@ module _ {S Id E : Type 0} (fails : Id → E → Type 0) (config : ConfigFields)
 
 -- ---- the loop over the labels
 
--- what was judged so far
-pub record SoFar {S Id E : Type 0} (fails : Id → E → Type 0) (config : ConfigFields) (before after : World S Id) (labels : List (LabelFields S))
-    (left_out : List (LeftOut E)) (infos : List LabelInfo) : Type 0 where
-  pub reasons : List (Option (Reason E))
-  pub are_reasons : AreReasons fails before after config labels reasons
-  pub are_left_out : left_out ≡ listed 0 reasons
-  pub are_drawn : infos ≡ drawn_labels after config 0 labels reasons
-
 -- at first there are none
 pub so_far_start : {S Id E : Type 0} (fails : Id → E → Type 0) (config : ConfigFields) (before after : World S Id) (labels : List (LabelFields S))
     → SoFar fails config before after (take 0 labels) [] []
 unfolding drawn_labels
 so_far_start fails config before after labels =
-    record { reasons = []; are_reasons = record { judged = tt; stay_fetched = tt }; are_left_out = refl; are_drawn = refl }
+    record { reasons = []; are_reasons = record { judged = tt; stay_fetched = tt }; are_left_out = refl; are_drawn = refl; forward = tt }
+
+-- what some labels have come to stays as a cache grows
+module _ {S Id E : Type 0} (fails : Id → E → Type 0) (config : ConfigFields) (id_of : S → Id) (start_of end_of : S → ℕ) (eq : Id → Id → Bool)
+    (na nb nc : Id → Option (List ℕ)) (a b c : List (Id × Listing)) (late : Grows eq b c) where
+  -- none is unfetched that was not
+  stay_same : (labels : List (LabelFields S)) (reasons : List (Option (Reason E)))
+      → StayFetched (world id_of start_of end_of eq nb b) labels reasons → StayFetched (world id_of start_of end_of eq nc c) labels reasons
+  stay_same [] reasons h = tt
+  stay_same (label ∷ labels) [] h = tt
+  stay_same (label ∷ labels) (reason ∷ reasons) h = (h.0, stay_same labels reasons h.1)
+
+  pub so_far_grown : (labels : List (LabelFields S)) (left_out : List (LeftOut E)) (infos : List LabelInfo)
+      → SoFar fails config (world id_of start_of end_of eq na a) (world id_of start_of end_of eq nb b) labels left_out infos
+      → SoFar fails config (world id_of start_of end_of eq na a) (world id_of start_of end_of eq nc c) labels left_out infos
+  so_far_grown labels left_out infos s = record {
+    reasons = s.reasons;
+    are_reasons = record {
+      judged = judged_all fails config id_of start_of end_of eq na na nb nc a a b c (λ q h. refl) late 0 labels s.reasons s.are_reasons.judged;
+      stay_fetched = stay_same labels s.reasons s.are_reasons.stay_fetched;
+    };
+    are_left_out = s.are_left_out;
+    are_drawn = s.are_drawn
+        ∙ drawn_all fails config id_of start_of end_of eq na na nb nc a a b c (λ q h. refl) late 0 labels s.reasons s.are_reasons.judged;
+    forward = s.forward;
+  }
 
 module _ {S Id E : Type 0} (fails : Id → E → Type 0) (config : ConfigFields) (id_of : S → Id) (start_of end_of : S → ℕ) (eq : Id → Id → Bool)
     (laws : IsEquivalence eq) (na nb nc : Id → Option (List ℕ)) (a b c : List (Id × Listing)) (labels : List (LabelFields S)) (i : ℕ) (x : LabelFields S)
-    (there : i < length labels) (is : x ≡ get_or labels i x) (early : GrowsFor id_of eq (take i labels) a b) (late : GrowsFor id_of eq (x ∷ []) b c)
+    (there : i < length labels) (is : x ≡ get_or labels i x) (forward : start_of x.span ≤ end_of x.span) (early : Grows eq a b) (late : Grows eq b c)
     (left_out : List (LeftOut E)) (infos : List LabelInfo) where
   -- what is read of the cache at first
   abbrev w0 : World S Id
@@ -276,12 +296,12 @@ module _ {S Id E : Type 0} (fails : Id → E → Type 0) (config : ConfigFields)
       let size : 0 + length ls ≡ i = omega arith in
       let judged = s.are_reasons.judged in
       let count : 0 + length rs ≡ i = omega (arith, judged_length fails config w0 w1 0 ls rs judged) in
-      let all : AreJudged fails w0 w2 config 0 ls rs = judged_all fails config id_of start_of end_of eq na na nb nc a a b c (λ q h. refl) late.kept 0 ls rs
+      let all : AreJudged fails w0 w2 config 0 ls rs = judged_all fails config id_of start_of end_of eq na na nb nc a a b c (λ q h. refl) late 0 ls rs
       judged in
       let one : IsJudged fails w0 w2 config (0 + length ls) x r = subst (λ n. IsJudged fails w0 w2 config n x r) (sym size)
-      (judged_weaker fails config id_of start_of end_of eq na nb nc nc a b c c early.kept (λ q h. refl) i x r now) in
+      (judged_weaker fails config id_of start_of end_of eq na nb nc nc a b c c early (λ q h. refl) i x r now) in
       let drawn : infos ≡ drawn_labels w2 config 0 ls rs = s.are_drawn
-      ∙ drawn_all fails config id_of start_of end_of eq na na nb nc a a b c (λ q h. refl) late.kept 0 ls rs judged in
+      ∙ drawn_all fails config id_of start_of end_of eq na na nb nc a a b c (λ q h. refl) late 0 ls rs judged in
       subst (λ ls. SoFar fails config w0 w2 ls (left_out ++ listed i (r ∷ [])) (infos ++ drawn_label w2 config i x r)) (sym (taken labels i x there is))
       (record {
         reasons = rs ++ r ∷ [];
@@ -293,6 +313,7 @@ module _ {S Id E : Type 0} (fails : Id → E → Type 0) (config : ConfigFields)
             ∙ sym (listed_push 0 rs r);
         are_drawn = ap (λ xs. xs ++ drawn_label w2 config i x r) drawn
             ∙ ap (λ n. drawn_labels w2 config 0 ls rs ++ drawn_label w2 config n x r) (sym size) ∙ sym (drawn_push fails config w0 w2 0 ls rs x r w2 all);
+        forward = all-append (λ label. start_of label.span ≤ end_of label.span) ls (x ∷ []) s.forward (forward, tt);
       })
 
   -- one that is left out
@@ -326,3 +347,48 @@ module _ {S Id E : Type 0} (fails : Id → E → Type 0) (config : ConfigFields)
       let more = so_far_more None (accepted_judged info source now) s in
       subst (λ xs. SoFar fails config w0 w2 (take (i + 1) labels) xs (infos ++ info ∷ [])) (append-nil left_out)
       (subst (λ xs. SoFar fails config w0 w2 (take (i + 1) labels) (left_out ++ []) (infos ++ xs)) one more)
+
+-- one label more whose source is held
+module _ {S Id E : Type 0} (fails : Id → E → Type 0) (config : ConfigFields) (id_of : S → Id) (start_of end_of : S → ℕ) (eq : Id → Id → Bool)
+    (laws : IsEquivalence eq) (na nb : Id → Option (List ℕ)) (a b : List (Id × Listing)) (labels : List (LabelFields S)) (i : ℕ) (x : LabelFields S)
+    (there : i < length labels) (is : x ≡ get_or labels i x) (forward : start_of x.span ≤ end_of x.span) (early : Grows eq a b)
+    (left_out : List (LeftOut E)) (infos : List LabelInfo) (source : Listing)
+    (at_source : IsSourceAt (world id_of start_of end_of eq nb b) labels i source)
+    (before : SoFar fails config (world id_of start_of end_of eq na a) (world id_of start_of end_of eq nb b) (take i labels) left_out infos) where
+  -- that source
+  found : held eq b (id_of x.span) ≡ Some source
+  found = at_source x (slice_get-get_or labels i x there ∙ ap Some (sym is))
+
+  -- it is accepted
+  pub so_far_accepted : (info : LabelInfo) → verdict config source i x (start_of x.span) (end_of x.span) ≡ Accepted info
+      → SoFar fails config (world id_of start_of end_of eq na a) (world id_of start_of end_of eq nb b) (take (i + 1) labels) left_out (infos ++ info ∷ [])
+  so_far_accepted info v =
+      so_far_drawn fails config id_of start_of end_of eq laws na nb nb a b b labels i x there is forward early (λ q h. refl) left_out infos info
+      (subst (λ o. IsSomeAnd o (λ s. verdict_in (world id_of start_of end_of eq nb b) config i x s ≡ Accepted info)) (sym found) v) before
+
+  -- it begins or ends past its source
+  pub so_far_past : verdict config source i x (start_of x.span) (end_of x.span) ≡ past
+      → SoFar fails config (world id_of start_of end_of eq na a) (world id_of start_of end_of eq nb b) (take (i + 1) labels)
+      (left_out ++ record { label = i; reason = PastSource } ∷ []) infos
+  so_far_past v =
+      so_far_left fails config id_of start_of end_of eq laws na nb nb a b b labels i x there is forward early (λ q h. refl) left_out infos PastSource
+      (subst (λ o. IsSomeAnd o (λ s. verdict_in (world id_of start_of end_of eq nb b) config i x s ≡ past)) (sym found) v) before
+
+  -- one of its ends lies inside a character
+  pub so_far_cuts : verdict config source i x (start_of x.span) (end_of x.span) ≡ cuts
+      → SoFar fails config (world id_of start_of end_of eq na a) (world id_of start_of end_of eq nb b) (take (i + 1) labels)
+      (left_out ++ record { label = i; reason = CutsCharacter } ∷ []) infos
+  so_far_cuts v =
+      so_far_left fails config id_of start_of end_of eq laws na nb nb a b b labels i x there is forward early (λ q h. refl) left_out infos CutsCharacter
+      (subst (λ o. IsSomeAnd o (λ s. verdict_in (world id_of start_of end_of eq nb b) config i x s ≡ cuts)) (sym found) v) before
+
+-- the source of a label is that of another whose id is equal
+pub source_alike : {S Id : Type 0} (id_of : S → Id) (start_of end_of : S → ℕ) (eq : Id → Id → Bool) → IsEquivalence eq
+    → (names : Id → Option (List ℕ)) (contents : List (Id × Listing)) (p q : Id) (source : Listing) → eq p q ≡ true
+    → held eq contents q ≡ Some source → held eq contents p ≡ Some source
+source_alike id_of start_of end_of eq laws names contents p q source same is = lookup_congr eq laws.congr contents p q same ∙ is
+
+-- what is not different is equal
+pub was_equal : (b : Bool) → false ≡ not b → b ≡ true
+was_equal true h = refl
+was_equal false h = cc

@@ -1,20 +1,17 @@
 -- Places of a text with as many characters before them: the start, where a line begins, and how far on another is.
 use Rattle.std.proofs.Common.{◌≡◌, ℕ, ◌+◌, ◌-◌, ◌≤◌, Bool, true, List, [], ◌++◌, Option, Some, None, refl, sym, ap, subst, ◌∙◌, arith}
 use Rattle.std.proofs.Common.{length, take, drop}
-use Rattle.std.specs.Cmp.{IsEquivalence}
-use Rattle.std.specs.HashMap.Eq.{lookup_congr}
-use Rattle.std.specs.Prelude.{IsSome, MatchOption, slice_range}
+use Rattle.std.specs.Prelude.{slice_range}
 use Rattle.std.specs.Str.{chars, IsUtf8, IsCharBoundary}
 use Rattle.std.proofs.Math.Utf8.{scalars, encodes}
 use Rattle.std.proofs.Math.Seq.{take-add, take-append_seam}
 use Rattle.std.proofs.lemmas.List.{length-append, length-take-le, take-append-drop}
 use Rattle.std.proofs.lemmas.Str.{chars-append, chars-encodes, encodes-append, encodes-chars, scalars-chars, length-le-encodes, IsCharBoundary-at_seam, IsUtf8-take}
-use Rattle.ariadne_base.specs.Listing.{Listing}
 use Rattle.ariadne_base.specs.Lines.{lines_of}
 use Rattle.ariadne_base.specs.Locations.{byte_len, char_offset, line_text}
 use Rattle.ariadne_base.specs.Table.{LineExtent, location_of}
 use Rattle.ariadne_base.proofs.CutOut.{scalars_behind}
-use Rattle.ariadne_accept.specs.Counting.{IsCounted, IsKnown}
+use Rattle.ariadne_accept.specs.Counting.{IsKnown}
 use Rattle.ariadne_accept.specs.declared.counting.Known.{Known}
 use Rattle.ariadne_accept.proofs.CharOffsets.{back, front, front_length, line, offset_whole, row_begins, row_bytes, scalars_front, whole}
 
@@ -84,31 +81,3 @@ line_known text b utf8 within r n c at t own =
 pub start_known : (text : List ℕ) → IsKnown text start
 unfolding chars
 start_known text = record { whole = known_start text; counted = refl }
-
--- ---- of a source under an id
-
--- the start is known of each
-pub start_counted : (o : Option Listing) → MatchOption o (start ≡ start) (λ s. IsKnown s.text start)
-start_counted None = refl
-start_counted (Some s) = start_known s.text
-
--- what is known of one id is known of an equal one
-pub equal_counted : {Id : Type 0} (eq : Id → Id → Bool) → IsEquivalence eq → (contents : List (Id × Listing)) (p q : Id) (known : Known)
-    → eq p q ≡ true → IsCounted eq contents p known → IsCounted eq contents q known
-equal_counted eq laws contents p q known same h =
-    subst (λ (o : Option Listing). MatchOption o (known ≡ start) (λ s. IsKnown s.text known)) (lookup_congr eq laws.congr contents p q same) h
-
--- a source that is found now is the one that was held before, or nothing was
-pub found_counted : (old new : Option Listing) (source : Listing) (known : Known) → MatchOption old (known ≡ start) (λ s. IsKnown s.text known)
-    → (IsSome old → new ≡ old) → Some source ≡ new → IsKnown source.text known
-found_counted None new source known h grows found = subst (IsKnown source.text) (sym h) (start_known source.text)
-found_counted (Some s) new source known h grows found =
-    let same : Some source ≡ Some s = found ∙ grows refl in
-    let e : s ≡ source = cc in
-    subst (λ (x : Listing). IsKnown x.text known) e h
-
--- what is known of the source that is found is known of its id
-pub held_counted : (o : Option Listing) (source : Listing) (known : Known) → Some source ≡ o → IsKnown source.text known
-    → MatchOption o (known ≡ start) (λ s. IsKnown s.text known)
-held_counted o source known found h =
-    subst (λ (x : Option Listing). MatchOption x (known ≡ start) (λ s. IsKnown s.text known)) found h

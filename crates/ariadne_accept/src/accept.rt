@@ -1,20 +1,22 @@
 //! Which labels of a report are drawn, and why the others are left out.
 
-ghost use Rattle.std.specs.Prelude.{◌≡◌, ◌≤◌, ◌<◌, ◌∷◌, List, [], Option, IfOk, OnOk};
-ghost use Rattle.std.specs.Prelude.{chars, length};
-ghost use Rattle.ariadne_base.specs.Listing.{listed_lines};
+ghost use Rattle.std.specs.Prelude.{◌≡◌, ◌≤◌, ◌<◌, ◌+◌, ◌++◌, ◌∷◌, [], ℕ, List, Option, Some, IfOk, OnOk};
+ghost use Rattle.std.specs.Prelude.{chars, length, take};
+ghost use Rattle.ariadne_base.specs.Cache.{Grows};
+ghost use Rattle.ariadne_base.specs.Listing.{Listing, listed_lines};
 ghost use Rattle.ariadne_base.specs.Locations.{column_at, line_at};
 ghost use Rattle.ariadne_base.specs.Table.{line_extent};
-ghost use Rattle.ariadne_accept.specs.Counting.{IsCounted, IsKnown};
+ghost use Rattle.ariadne_accept.specs.Counting.{IsKnown};
 ghost use Rattle.ariadne_accept.specs.Drawn.{world};
-ghost use Rattle.ariadne_accept.specs.Judging.{AreReasons, GrowsFor, IsOutcome, listed};
+ghost use Rattle.ariadne_accept.specs.Judging.{AreReasons, GrowsFor, IsSourceAt};
+ghost use Rattle.ariadne_accept.specs.Judging.{SoFar, listed};
 ghost use Rattle.ariadne_picture.specs.Accept.{attach_offset as attached_offset, drawn_labels};
 ghost use Rattle.ariadne_picture.specs.Accept.{info_of, offset_in_chars as in_chars};
 ghost use Rattle.ariadne_picture.specs.Accept.{text_len as counted_len, verdict};
 ghost use Rattle.ariadne_picture.specs.Report.{AreForward};
 
 use crate::content::Content;
-use crate::counting::{Known, carried, char_offset};
+use crate::counting::{Known, char_offset};
 use ariadne_base::{Cache, FetchError, Line, Source, SourceText, Span};
 use ariadne_labels::config::{Config, IndexType, LabelAttach};
 use ariadne_labels::label::Label;
@@ -49,6 +51,18 @@ pub struct Judged<E> {
     pub left_out: Vec<LeftOut<E>>,
 }
 
+impl<E: Drop> Judged<E> {
+    /// Leaves the label at a position out. On `Err` there was no memory for it.
+    fn leave_out(&mut self, label: usize, reason: Reason<E>) -> Result<(), AllocError>
+        ensures infos { OnOk result (self.new.infos ≡ self.old.infos) }
+        ensures left_out { OnOk result (self.new.left_out.items
+            ≡ self.old.left_out.items ++ record { label = label; reason = reason } ∷ []) }
+    {
+        self.left_out.push(LeftOut { label, reason })?;
+        Ok(())
+    }
+}
+
 /// Fetches the source of each label of a report, in their order, and judges the label over it.
 ///
 /// On `Err` there was no memory, of the cache or for the labels.
@@ -74,66 +88,140 @@ pub fn accept<S: Span, C: Cache<S::SourceId>>(
         × (judged.left_out.items ≡ listed 0 reasons)
         × (judged.infos.items ≡ drawn_labels w r.config 0 r.labels reasons)) }
 {
-    let mut infos = Vec::with_capacity(report.alloc, report.labels.len())?;
-    let mut left_out = Vec::new(report.alloc);
-    let mut known = Known::START;
-    let mut before: Option<&S::SourceId> = None;
-    for (position, label) in report.labels.iter().enumerate() {
-        let id = label.span().source();
-        known = carried::<S>(known, before, id);
-        before = Some(id);
-        match judge_fetched(report.config, cache, &mut known, position, label)? {
-            Ok(info) => infos.push(info)?,
-            Err(reason) => left_out.push(LeftOut {
-                label: position,
-                reason,
-            })?,
-        }
+    let infos = Vec::with_capacity(report.alloc, report.labels.len())?;
+    let left_out = Vec::new(report.alloc);
+    let mut judged = Judged { infos, left_out };
+    let mut position = 0;
+    while position < report.labels.len() {
+        position = judge_fetched(report, cache, &mut judged, position)?;
     }
-    Ok(Judged { infos, left_out })
+    Ok(judged)
 }
 
-/// Fetches the source of the label at `position` of a report, and judges the label over it.
+/// Fetches the source of the label at `first`, judges it and those behind it of equal ids, and gives
+/// where the next ones begin. Where the source can't be had, that label alone is left out.
 ///
-/// `known` is a place of that source, and is one afterwards. On `Err` the cache had no memory for
-/// the source.
+/// On `Err` there was no memory, of the cache or for the labels.
 fn judge_fetched<S: Span, C: Cache<S::SourceId>>(
-    config: Config,
+    report: &Content<'_, S>,
     cache: &mut C,
-    known: &mut Known,
-    position: usize,
-    label: &Label<S>,
-) -> Result<Result<LabelInfo, Reason<C::Error>>, AllocError>
+    judged: &mut Judged<C::Error>,
+    first: usize,
+) -> Result<usize, AllocError>
     requires can { C.can_fetch cache.old }
-    requires counted { IsCounted S.SourceId.eq (C.contents cache.old)
-        (S.source_of label.now.span) known.old }
+    requires first { first < length report.now.labels }
     ensures again { C.can_fetch cache.new }
     ensures naming { (q : S.SourceId) → C.names cache.new q ≡ C.names cache.old q }
-    ensures grows { GrowsFor S.source_of S.SourceId.eq (label.now ∷ [])
+    ensures grows { GrowsFor S.source_of S.SourceId.eq report.now.labels
         (C.contents cache.old) (C.contents cache.new) }
-    ensures counted { OnOk result (IsCounted S.SourceId.eq (C.contents cache.new)
-        (S.source_of label.now.span) known.new) }
-    ensures forward { S.start_of label.now.span ≤ S.end_of label.now.span }
-    ensures judged { let old = world S.source_of S.start_of S.end_of S.SourceId.eq
+    ensures after { IfOk result (λ end. first < end) }
+    ensures within { IfOk result (λ end. end ≤ length report.now.labels) }
+    ensures judged { (names : S.SourceId → Option (List ℕ))
+        (contents : List (S.SourceId × Listing)) →
+        Grows S.SourceId.eq contents (C.contents cache.old) →
+        let start = world S.source_of S.start_of S.end_of S.SourceId.eq names contents in
+        let old = world S.source_of S.start_of S.end_of S.SourceId.eq
         (C.names cache.old) (C.contents cache.old) in
         let w = world S.source_of S.start_of S.end_of S.SourceId.eq
         (C.names cache.new) (C.contents cache.new) in
-        IfOk result (IsOutcome C.fails old w config position label.now) }
+        let r = report.now in
+        SoFar C.fails r.config start old (take first r.labels)
+        judged.old.left_out.items judged.old.infos.items →
+        IfOk result (λ end. SoFar C.fails r.config start w (take end r.labels)
+        judged.new.left_out.items judged.new.infos.items) }
 {
-    let id = label.span().source();
+    let id = report.labels[first].span().source();
     match C::ensure(cache, id) {
         Ok(()) => {}
         Err(FetchError::Memory(error)) => return Err(error),
-        Err(FetchError::Failed(error)) => return Ok(Err(Reason::Unfetched(error))),
+        Err(FetchError::Failed(error)) => {
+            judged.leave_out(first, Reason::Unfetched(error))?;
+            return Ok(first + 1);
+        }
     }
     let Some(source) = C::get(cache, id) else {
         unreachable!();
     };
-    match judge(config, source, known, position, label) {
-        Verdict::Accepted(info) => Ok(Ok(info)),
-        Verdict::PastSource => Ok(Err(Reason::PastSource)),
-        Verdict::CutsCharacter => Ok(Err(Reason::CutsCharacter)),
+    judge_alike::<S, C>(report, source, judged, first)
+}
+
+/// Judges the label at `first` and those behind it of equal ids over their source, which is held,
+/// and gives where the next ones begin. Characters are counted on from label to label.
+///
+/// On `Err` there was no memory for the labels.
+fn judge_alike<S: Span, C: Cache<S::SourceId>>(
+    report: &Content<'_, S>,
+    source: &Source<C::Storage>,
+    judged: &mut Judged<C::Error>,
+    first: usize,
+) -> Result<usize, AllocError>
+    requires first { first < length report.now.labels }
+    ensures after { IfOk result (λ end. first < end) }
+    ensures within { IfOk result (λ end. end ≤ length report.now.labels) }
+    ensures judged { (start_names names : S.SourceId → Option (List ℕ))
+        (start_contents contents : List (S.SourceId × Listing)) →
+        let start = world S.source_of S.start_of S.end_of S.SourceId.eq
+        start_names start_contents in
+        let w = world S.source_of S.start_of S.end_of S.SourceId.eq names contents in
+        let r = report.now in
+        Grows S.SourceId.eq start_contents contents →
+        IsSourceAt w r.labels first source.now →
+        SoFar C.fails r.config start w (take first r.labels)
+        judged.old.left_out.items judged.old.infos.items →
+        IfOk result (λ end. SoFar C.fails r.config start w (take end r.labels)
+        judged.new.left_out.items judged.new.infos.items) }
+{
+    let id = report.labels[first].span().source();
+    let mut known = Known::START;
+    let mut position = first;
+    loop {
+        judge_held::<S, C>(report, source, &mut known, judged, position)?;
+        position += 1;
+        if position == report.labels.len() || *report.labels[position].span().source() != *id {
+            return Ok(position);
+        }
     }
+}
+
+/// Judges the label at `position` of a report over its source, which is held.
+///
+/// `known` is a place of that source, and is one afterwards. On `Err` there was no memory for the
+/// label.
+fn judge_held<S: Span, C: Cache<S::SourceId>>(
+    report: &Content<'_, S>,
+    source: &Source<C::Storage>,
+    known: &mut Known,
+    judged: &mut Judged<C::Error>,
+    position: usize,
+) -> Result<(), AllocError>
+    requires position { position < length report.now.labels }
+    requires known { IsKnown source.now.text known.old }
+    ensures known { IsKnown source.now.text known.new }
+    ensures judged { (start_names names : S.SourceId → Option (List ℕ))
+        (start_contents contents : List (S.SourceId × Listing)) →
+        let start = world S.source_of S.start_of S.end_of S.SourceId.eq
+        start_names start_contents in
+        let w = world S.source_of S.start_of S.end_of S.SourceId.eq names contents in
+        let r = report.now in
+        Grows S.SourceId.eq start_contents contents →
+        IsSourceAt w r.labels position source.now →
+        SoFar C.fails r.config start w (take position r.labels)
+        judged.old.left_out.items judged.old.infos.items →
+        OnOk result (SoFar C.fails r.config start w (take (position + 1) r.labels)
+        judged.new.left_out.items judged.new.infos.items) }
+{
+    match judge(
+        report.config,
+        source,
+        known,
+        position,
+        &report.labels[position],
+    ) {
+        Verdict::Accepted(info) => judged.infos.push(info)?,
+        Verdict::PastSource => judged.leave_out(position, Reason::PastSource)?,
+        Verdict::CutsCharacter => judged.leave_out(position, Reason::CutsCharacter)?,
+    }
+    Ok(())
 }
 
 /// Judges the label at `position` of a report, whose source is held.
@@ -149,6 +237,7 @@ fn judge<S: Span, I: SourceText>(
 ) -> Verdict
     requires { IsKnown source.now.text known.old }
     ensures known { IsKnown source.now.text known.new }
+    ensures forward { S.start_of label.now.span ≤ S.end_of label.now.span }
     ensures verdict { result ≡ verdict config source.now position label.now
         (S.start_of label.now.span) (S.end_of label.now.span) }
 {

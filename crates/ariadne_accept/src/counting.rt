@@ -1,15 +1,13 @@
 //! How many characters of a source are before an offset in bytes, counted on from where that is
 //! known.
 
-ghost use Rattle.std.specs.Prelude.{◌≡◌, ℕ, List, Option, Some, chars, length, take};
-ghost use Rattle.std.specs.Option.{option_copied};
+ghost use Rattle.std.specs.Prelude.{◌≡◌, ℕ, List, chars, length, take};
 ghost use Rattle.std.specs.Str.{IsCharBoundary};
-ghost use Rattle.ariadne_base.specs.Listing.{Listing};
 ghost use Rattle.ariadne_base.specs.Locations.{char_offset as chars_before};
-ghost use Rattle.ariadne_accept.specs.Counting.{IsCounted, IsKnown};
+ghost use Rattle.ariadne_accept.specs.Counting.{IsKnown};
 
 use ariadne_base::blocks::count::count_chars;
-use ariadne_base::{Source, SourceText, Span};
+use ariadne_base::{Source, SourceText};
 
 /// A place of a source between two characters: how many bytes and how many characters are before
 /// it.
@@ -32,27 +30,6 @@ impl Known {
         } else {
             other
         }
-    }
-}
-
-/// What is known of the source of an id: `known`, where the id before it is equal and `known` is of
-/// that one's source, else its start.
-pub(crate) fn carried<S: Span>(
-    known: Known,
-    before: Option<&S::SourceId>,
-    id: &S::SourceId,
-) -> Known
-    ensures { (contents : List (S.SourceId × Listing)) → let eq = S.SourceId.eq in
-        ((q : S.SourceId) → option_copied before.entry ≡ Some q → IsCounted eq contents q known) →
-        IsCounted eq contents id.now result }
-{
-    // (where nothing is counted no ids are compared)
-    if known.bytes == 0 {
-        return Known::START;
-    }
-    match before {
-        Some(before) if *before == *id => known,
-        _ => Known::START,
     }
 }
 

@@ -1,26 +1,23 @@
-use Rattle.std.proofs.Common.{◌≡◌, ◌≤◌, Some, take}
-use Rattle.std.specs.Option.{option_copied}
-use Rattle.std.specs.List.{AllByRecursion}
-use Rattle.ariadne_accept.specs.Counting.{IsCounted}
+use Rattle.std.proofs.Common.{◌≡◌, ◌≤◌, ◌-◌, List, Option, length, take}
 use Rattle.ariadne_accept.specs.Drawn.{world}
-use Rattle.ariadne_accept.specs.Judging.{GrowsFor}
-use Rattle.ariadne_accept.proofs.Judging.{SoFar}
+use Rattle.ariadne_accept.specs.Judging.{GrowsFor, SoFar}
 use Rattle.ariadne_accept.proofs.accept.accept.Given as goal
 
--- the labels so far are judged over what the cache holds by now, and it has grown by them alone; of the last one's source a place is known
+-- the labels so far are judged over what the cache holds by now, and it has grown by labels alone
 abbrev pub invariant-loop-position : goal.invariant-loop-position
 invariant-loop-position g l =
     let s = g.S.Span in
     let eq = g.S.SourceId.PartialEq.eq in
     let names = g.C.Cache.names in
     let contents = g.C.Cache.contents in
-    let labels = take l.position l.report.labels in
     record {
+      within : l.position ≤ length l.report.labels;
       again : g.C.Cache.can_fetch l.cache;
       naming : (q : g.row.S-SourceId.Denot) → names l.cache q ≡ names l.initial.cache q;
-      grows : GrowsFor s.source_of eq labels (contents l.initial.cache) (contents l.cache);
-      forward : AllByRecursion (λ label. s.start_of label.span ≤ s.end_of label.span) labels;
-      counted : (q : g.row.S-SourceId.Denot) → option_copied l.before ≡ Some q → IsCounted eq (contents l.cache) q l.known;
+      grows : GrowsFor s.source_of eq l.report.labels (contents l.initial.cache) (contents l.cache);
       so_far : SoFar g.C.Cache.fails l.report.config (world s.source_of s.start_of s.end_of eq (names l.initial.cache) (contents l.initial.cache))
-          (world s.source_of s.start_of s.end_of eq (names l.cache) (contents l.cache)) labels l.left_out.items l.infos.items;
+          (world s.source_of s.start_of s.end_of eq (names l.cache) (contents l.cache)) (take l.position l.report.labels) l.judged.left_out.items l.judged.infos.items;
     }
+
+abbrev pub decreases-loop-position : goal.decreases-loop-position
+decreases-loop-position g l = length l.report.labels - l.position
