@@ -1,7 +1,7 @@
 -- One label more is judged: what the cache holds by then, the reasons of the labels so far, and what is drawn and what is left out of them.
 use Rattle.std.proofs.Common.{◌≡◌, ℕ, zero, suc, ◌+◌, ◌<◌, ◌≤◌, Bool, true, false, List, [], ◌∷◌, ◌++◌, Option, Some, None, length, take, get_or, not, refl}
 use Rattle.std.proofs.Common.{sym, ap, ◌∙◌, subst, arith, append_assoc}
-use Rattle.std.specs.Prelude.{IsSome, IsSomeAnd, Ok, Err, option_and_then, option_to_list}
+use Rattle.std.specs.Prelude.{IsSome, IsSomeAnd, option_and_then, option_to_list}
 use Rattle.std.specs.List.{AllByRecursion, list_any}
 use Rattle.std.specs.Cmp.{IsEquivalence}
 use Rattle.std.specs.HashMap.Eq.{lookup_congr}
@@ -21,7 +21,8 @@ use Rattle.ariadne_accept.specs.declared.accept.LeftOut.{LeftOut}
 use Rattle.ariadne_accept.specs.declared.accept.Reason.{Reason}
 use Rattle.ariadne_accept.specs.declared.accept.Reason.TheVariants.{Unfetched, PastSource, CutsCharacter}
 use Rattle.ariadne_accept.specs.Drawn.{world}
-use Rattle.ariadne_accept.specs.Judging.{AreJudged, AreReasons, GrowsFor, IsJudged, IsOutcome, IsSourceAt, NoneUnfetched, SoFar, StayFetched, is_unfetched, listed}
+use Rattle.ariadne_accept.specs.Judging.{AreJudged, GrowsFor, IsJudged, NoneUnfetched, StayFetched, is_unfetched, listed}
+use Rattle.ariadne_accept.specs.Progress.{IsSourceAt, SoFar}
 
 -- ---- lists
 
@@ -317,7 +318,7 @@ module _ {S Id E : Type 0} (fails : Id → E → Type 0) (config : ConfigFields)
       })
 
   -- one that is left out
-  pub so_far_left : (reason : Reason E) → IsOutcome fails w1 w2 config i x (Err reason) → SoFar fails config w0 w1 (take i labels) left_out infos
+  pub so_far_left : (reason : Reason E) → IsJudged fails w1 w2 config i x (Some reason) → SoFar fails config w0 w1 (take i labels) left_out infos
       → SoFar fails config w0 w2 (take (i + 1) labels) (left_out ++ record { label = i; reason = reason } ∷ []) infos
   unfolding drawn_label
   so_far_left reason now s =
@@ -338,7 +339,7 @@ module _ {S Id E : Type 0} (fails : Id → E → Type 0) (config : ConfigFields)
   accepted_judged info (Some s) h = (info, h)
 
   -- one that is drawn
-  pub so_far_drawn : (info : LabelInfo) → IsOutcome {E = E} fails w1 w2 config i x (Ok info) → SoFar fails config w0 w1 (take i labels) left_out infos
+  pub so_far_drawn : (info : LabelInfo) → IsSomeAnd (w2.source_of (w2.id_of x.span)) (λ s. verdict_in w2 config i x s ≡ Accepted info) → SoFar fails config w0 w1 (take i labels) left_out infos
       → SoFar fails config w0 w2 (take (i + 1) labels) left_out (infos ++ info ∷ [])
   unfolding drawn_label
   so_far_drawn info now s =

@@ -1,7 +1,7 @@
 -- Which reasons `Judging` lets labels have, by examples: a list of reasons that is right, and lists that one condition alone
 -- refuses. And what a cache may not have lost or won.
 use Rattle.std.proofs.Common.{◌≡◌, ℕ, true, List, [], ◌∷◌, Option, Some, None, refl, sym}
-use Rattle.std.specs.Prelude.{codes, pos, nat_eq, Ok, Err}
+use Rattle.std.specs.Prelude.{codes, pos, nat_eq}
 use Rattle.std.specs.Cmp.Lexicographic.{pointwise}
 use Rattle.std.specs.Str.{chars}
 use Rattle.std.proofs.lemmas.Bool.{true≢false}
@@ -11,7 +11,7 @@ use Rattle.ariadne_picture.specs.Report.{LabelFields, World}
 use Rattle.ariadne_picture.proofs.Worked.Sample.{Span, world, one, label, label_in, byte_config, drawn}
 use Rattle.ariadne_accept.specs.declared.accept.Reason.{Reason}
 use Rattle.ariadne_accept.specs.declared.accept.Reason.TheVariants.{Unfetched, PastSource, CutsCharacter}
-use Rattle.ariadne_accept.specs.Judging.{IsOutcome, AreReasons, GrowsFor}
+use Rattle.ariadne_accept.specs.Judging.{AreReasons, GrowsFor}
 
 -- ---- caches, and labels in bytes
 
@@ -123,16 +123,6 @@ an_error_behind_a_drawn_label h = absurd (true≢false ((h.stay_fetched.0 refl).
 an_error_behind_a_later_drawn_label : Have (elsewhere ∷ whole ∷ whole ∷ []) (Some (Unfetched 7) ∷ None ∷ Some (Unfetched 7) ∷ []) → ⊥
 unfolding computed
 an_error_behind_a_later_drawn_label h = absurd (true≢false ((h.stay_fetched.1.0 refl).0 refl))
-
--- ---- what became of one label
-
-a_label_that_is_drawn_as_it_is_not : IsOutcome {E = ℕ} Fails before after byte_config 0 past (Ok info) → ⊥
-unfolding computed
-a_label_that_is_drawn_as_it_is_not h = cc
-
-a_label_left_out_for_no_reason : IsOutcome {E = ℕ} Fails before after byte_config 0 whole (Err PastSource) → ⊥
-unfolding computed
-a_label_left_out_for_no_reason h = cc
 
 -- ---- what a cache holds
 

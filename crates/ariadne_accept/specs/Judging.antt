@@ -1,8 +1,8 @@
 -- Which labels of a report are left out, and why. A label has a reason, or none where it is drawn;
 -- what the reasons may be is told by the contents of the cache before and after they were found.
 use Rattle.std.specs.Prelude.{ℕ, suc, ◌+◌, ◌≡◌, ⊤, Bool, true, false, List, [], ◌∷◌, Option, Some}
-use Rattle.std.specs.Prelude.{None, IsSomeAnd, Result, Ok, Err, ◌≤◌, slice_get}
-use Rattle.std.specs.List.{AllByRecursion, AllZip, list_any}
+use Rattle.std.specs.Prelude.{None, IsSomeAnd}
+use Rattle.std.specs.List.{AllZip, list_any}
 use Rattle.ariadne_base.specs.Cache.{Grows, held}
 use Rattle.ariadne_base.specs.Listing.{Listing}
 use Rattle.ariadne_picture.specs.declared.label_info.LabelInfo.{LabelInfo}
@@ -10,7 +10,7 @@ use Rattle.ariadne_picture.specs.declared.verdict.Verdict.TheVariants.{Accepted}
 use Rattle.ariadne_picture.specs.declared.verdict.Verdict.TheVariants.{PastSource as past}
 use Rattle.ariadne_picture.specs.declared.verdict.Verdict.TheVariants.{CutsCharacter as cuts}
 use Rattle.ariadne_picture.specs.Report.{ConfigFields, LabelFields, World}
-use Rattle.ariadne_picture.specs.Accept.{drawn_labels, verdict_in}
+use Rattle.ariadne_picture.specs.Accept.{verdict_in}
 use Rattle.ariadne_accept.specs.declared.accept.LeftOut.{LeftOut}
 use Rattle.ariadne_accept.specs.declared.accept.Reason.{Reason}
 use Rattle.ariadne_accept.specs.declared.accept.Reason.TheVariants.{Unfetched, PastSource}
@@ -47,13 +47,6 @@ module _ {S Id E : Type 0} (fails : Id → E → Type 0) (before after : World S
       (λ s. verdict_in after config k label s ≡ cuts)
   IsJudged k label (Some (Unfetched e)) =
       (before.source_of (before.id_of label.span) ≡ None) × fails (before.id_of label.span) e
-
-  -- what became of the label at position k: it is drawn as this, or it has this reason
-  abbrev pub IsOutcome : ℕ → LabelFields S → Result LabelInfo (Reason E) → Type 0
-  IsOutcome k label (Ok a) =
-      IsSomeAnd (after.source_of (after.id_of label.span))
-      (λ s. verdict_in after config k label s ≡ Accepted a)
-  IsOutcome k label (Err reason) = IsJudged k label (Some reason)
 
   -- each label, of which the first is at position k, has the reason at its place
   abbrev pub AreJudged : ℕ → List (LabelFields S) → List (Option (Reason E)) → Type 0
@@ -92,19 +85,3 @@ pub record GrowsFor {S Id : Type 0} (id_of : S → Id) (eq : Id → Id → Bool)
   pub kept : Grows eq old new
   pub only : (q : Id) → list_any (λ label. eq (id_of label.span) q) labels ≡ false
       → held eq new q ≡ held eq old q
-
--- what the first labels of a report have come to: which are drawn, and which are left out
-pub record SoFar {S Id E : Type 0} (fails : Id → E → Type 0) (config : ConfigFields)
-    (before after : World S Id) (labels : List (LabelFields S)) (left_out : List (LeftOut E))
-    (infos : List LabelInfo) : Type 0 where
-  pub reasons : List (Option (Reason E))
-  pub are_reasons : AreReasons fails before after config labels reasons
-  pub are_left_out : left_out ≡ listed 0 reasons
-  pub are_drawn : infos ≡ drawn_labels after config 0 labels reasons
-  pub forward : AllByRecursion (λ label. after.start_of label.span ≤ after.end_of label.span) labels
-
--- the source of the label at a position is held, and is this
-abbrev pub IsSourceAt : {S Id : Type 0} → World S Id → List (LabelFields S) → ℕ → Listing → Type 0
-IsSourceAt {S} w labels n source =
-    (label : LabelFields S) → slice_get labels n ≡ Some label
-    → w.source_of (w.id_of label.span) ≡ Some source

@@ -1,3 +1,4 @@
 pub mod Counting
 pub mod Drawn
 pub mod Judging
+pub mod Progress

@@ -1,6 +1,7 @@
-use Rattle.std.proofs.Common.{◌≡◌, ◌≤◌, ◌-◌, List, Option, length, take}
+use Rattle.std.proofs.Common.{◌≡◌, ◌≤◌, ◌-◌, length, take}
 use Rattle.ariadne_accept.specs.Drawn.{world}
-use Rattle.ariadne_accept.specs.Judging.{GrowsFor, SoFar}
+use Rattle.ariadne_accept.specs.Judging.{GrowsFor}
+use Rattle.ariadne_accept.specs.Progress.{SoFar}
 use Rattle.ariadne_accept.proofs.accept.accept.Given as goal
 
 -- the labels so far are judged over what the cache holds by now, and it has grown by labels alone

@@ -1,9 +1,9 @@
-use Rattle.std.proofs.Common.{◌≡◌, ◌≤◌, ◌<◌, ◌-◌, ℕ, List, Option, length, take}
+use Rattle.std.proofs.Common.{◌≤◌, ◌<◌, ◌-◌, ℕ, List, Option, length, take}
 use Rattle.ariadne_base.specs.Cache.{Grows}
 use Rattle.ariadne_base.specs.Listing.{Listing}
 use Rattle.ariadne_accept.specs.Counting.{IsKnown}
 use Rattle.ariadne_accept.specs.Drawn.{world}
-use Rattle.ariadne_accept.specs.Judging.{IsSourceAt, SoFar}
+use Rattle.ariadne_accept.specs.Progress.{IsSourceAt, SoFar}
 use Rattle.ariadne_accept.proofs.accept.judge_alike.Given as goal
 
 -- the next label is over the source, and those before it are judged

@@ -1,5 +1,5 @@
 -- The cache has grown by the source of the label.
-use Rattle.std.proofs.Common.{◌≡◌, ◌∙◌, ap, get_or, subst, sym, Some, None}
+use Rattle.std.proofs.Common.{◌≡◌, ◌∙◌, ap, get_or, subst, sym, Some}
 use Rattle.std.specs.Prelude.{IsSome}
 use Rattle.std.proofs.lemmas.Option.{slice_get-get_or}
 use Rattle.ariadne_base.specs.Cache.{Grows, held}
