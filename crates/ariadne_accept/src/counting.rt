@@ -9,6 +9,9 @@ ghost use Rattle.ariadne_accept.specs.Counting.{IsKnown};
 use ariadne_base::blocks::count::count_chars;
 use ariadne_base::{Source, SourceText};
 
+/// How many bytes are counted before the line of an offset is searched.
+const NEAR: usize = 64;
+
 /// A place of a source between two characters: how many bytes and how many characters are before
 /// it.
 #[derive(Clone, Copy, Debug)]
@@ -31,14 +34,29 @@ impl Known {
             other
         }
     }
+
+    /// Moves to an offset in bytes, and tells how many characters of the text are before it.
+    fn count_to(&mut self, text: &str, byte_offset: usize) -> usize
+        requires known { IsKnown text.now self.old }
+        requires whole { IsCharBoundary text.now byte_offset }
+        ensures known { IsKnown text.now self.new }
+        ensures count { result ≡ length (chars (take byte_offset text.now)) }
+    {
+        let chars = count_from(text, *self, byte_offset);
+        *self = Known {
+            bytes: byte_offset,
+            chars,
+        };
+        chars
+    }
 }
 
 /// How many characters the bytes of a source before `byte_offset` are, or `None` where that offset
 /// lies inside a character or past the source.
 ///
-/// On a line with as many bytes as characters this looks at no character, and else at those
-/// between the offset and the start of its line or `known`, whichever is nearer. `known` is then
-/// the offset.
+/// Of an offset near `known` this looks at the characters between the two. Of any other it looks at
+/// none on a line with as many bytes as characters, and else at those between the offset and the
+/// start of its line or `known`, whichever is nearer. Where it counts, `known` is then the offset.
 pub(crate) fn char_offset<I: SourceText>(
     source: &Source<I>,
     known: &mut Known,
@@ -52,6 +70,9 @@ pub(crate) fn char_offset<I: SourceText>(
     if !text.is_char_boundary(byte_offset) {
         return None;
     }
+    if known.bytes.abs_diff(byte_offset) <= NEAR {
+        return Some(known.count_to(text, byte_offset));
+    }
     let (line, _, byte_column) = source.get_byte_line(byte_offset)?;
     let own = source.get_line_text(line)?;
     if own.len() == line.len() {
@@ -61,11 +82,9 @@ pub(crate) fn char_offset<I: SourceText>(
         bytes: byte_offset - byte_column,
         chars: line.offset(),
     };
-    let chars = count_from(text, known.nearer(start, byte_offset), byte_offset);
-    *known = Known {
-        bytes: byte_offset,
-        chars,
-    };
+    let mut nearer = known.nearer(start, byte_offset);
+    let chars = nearer.count_to(text, byte_offset);
+    *known = nearer;
     Some(chars)
 }
 

@@ -45,22 +45,31 @@ overflow_sub-start g c =
     column_least _ c.args.byte_offset utf8 (at.found.0 (refl {a = true})) _ _ _ at.location _ own
 
 -- where it begins is known
-pub count_from-chars-requires-clause-known : goal.count_from-chars-requires-clause-known
-count_from-chars-requires-clause-known g c =
+pub count_to-chars-requires-clause-known : goal.count_to-chars-requires-clause-known
+count_to-chars-requires-clause-known g c =
     let text = c.args.source.now.text in
     let utf8 : IsUtf8 text = subst IsUtf8 c.text-text.ensures c.text-text.utf8 in
     let at = c.in_ok-line.ensures in
     let own = c.in_ok-own.ensures.own _ at.number (place_row _ _ _ _ _ _ at.location) in
     let line = line_known text c.args.byte_offset utf8 (at.found.0 (refl {a = true})) _ _ _ at.location _ own in
-    subst (λ t. IsKnown t c.nearer.result) (sym c.text-text.ensures)
-    (c.nearer.ensures text c.requires
+    subst (λ t. IsKnown t c.nearer-nearer.result) (sym c.text-text.ensures)
+    (c.nearer-nearer.ensures text c.requires
     (subst (λ n. IsKnown text (record { bytes = c.args.byte_offset - c.in_ok-line.byte_column; chars = n })) (sym c.offset-2.ensures) line))
 
--- the characters before the offset are counted
+-- near a known place the characters before the offset are counted from it
+pub returns-then-abs_diff-le-NEAR-clause-offset : goal.returns-then-abs_diff-le-NEAR-clause-offset
+returns-then-abs_diff-le-NEAR-clause-offset g c =
+    let text = c.args.source.now.text in
+    let utf8 : IsUtf8 text = subst IsUtf8 c.text-text.ensures c.text-text.utf8 in
+    let whole = subst (λ t. IsCharBoundary t c.args.byte_offset) c.text-text.ensures (c.if-not-is_char_boundary.ensures.test.0 (refl {a = true})) in
+    ap Some c.count_to.ensures.count ∙ (λ i. Some (length (chars (take c.args.byte_offset (c.text-text.ensures i)))))
+    ∙ offset_at text utf8 c.args.byte_offset whole
+
+-- so they are from the nearer place elsewhere
 pub returns-clause-offset : goal.returns-clause-offset
 returns-clause-offset g c =
     let text = c.args.source.now.text in
     let utf8 : IsUtf8 text = subst IsUtf8 c.text-text.ensures c.text-text.utf8 in
     let whole = subst (λ t. IsCharBoundary t c.args.byte_offset) c.text-text.ensures (c.if-not-is_char_boundary.ensures.test.0 (refl {a = true})) in
-    ap Some c.count_from-chars.ensures ∙ (λ i. Some (length (chars (take c.args.byte_offset (c.text-text.ensures i)))))
+    ap Some c.count_to-chars.ensures.count ∙ (λ i. Some (length (chars (take c.args.byte_offset (c.text-text.ensures i)))))
     ∙ offset_at text utf8 c.args.byte_offset whole
