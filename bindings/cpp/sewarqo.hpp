@@ -65,11 +65,12 @@ private:
 // only marked. Labels of lower order are drawn first; where they overlap, the one of higher priority is
 // seen.
 struct Label {
-    Label(std::size_t source, std::size_t start, std::size_t end,
-          std::optional<std::string_view> message = std::nullopt, Color color = Color(),
-          std::int32_t order = 0, std::int32_t priority = 0)
-        : source(source), start(start), end(end), message(message), color(color), order(order),
-          priority(priority) {}
+    // (Names of their own, since some programs are built with -Wshadow.)
+    Label(std::size_t in_source, std::size_t from, std::size_t to,
+          std::optional<std::string_view> text = std::nullopt, Color in_color = Color(),
+          std::int32_t of_order = 0, std::int32_t of_priority = 0)
+        : source(in_source), start(from), end(to), message(text), color(in_color), order(of_order),
+          priority(of_priority) {}
     std::size_t source;
     std::size_t start;
     std::size_t end;
