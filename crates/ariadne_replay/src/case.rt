@@ -1,7 +1,7 @@
 //! Which members a case has, and which of them go together.
 
 use crate::forms::Form;
-use crate::members::{has, list, text};
+use crate::members::{has, list, meaning, text, text_of};
 use crate::mistake::{Mistake, Read};
 use toml::Value;
 
@@ -109,23 +109,13 @@ static UNREAD: [(&str, &str, &str); 3] = [
     ),
 ];
 
-/// The form of the member of a name, if there is one.
-fn form_of(members: &[(&str, Form)], name: &str) -> Option<Form> {
-    for (known, form) in members {
-        if *known == name {
-            return Some(*form);
-        }
-    }
-    None
-}
-
 /// Refuses a table that has a member of another name or of another form than these.
 fn check<'c>(told: &'c Value, members: &[(&str, Form)]) -> Read<'c, ()> {
-    let Value::Table(table) = told else {
+    let Some(table) = told.as_table() else {
         return Ok(());
     };
     for (name, value) in table.iter() {
-        match form_of(members, name.as_str()) {
+        match meaning(members, name.as_str()) {
             Some(form) => form.check(name.as_str(), value)?,
             None => return Err(Mistake::Odd(name.as_str(), "an unknown member")),
         }
@@ -133,13 +123,19 @@ fn check<'c>(told: &'c Value, members: &[(&str, Form)]) -> Read<'c, ()> {
     Ok(())
 }
 
+/// Refuses a table that lacks a member.
+fn check_has<'c>(told: &'c Value, name: &'static str) -> Read<'c, ()> {
+    if has(told, name) {
+        return Ok(());
+    }
+    Err(Mistake::Odd(name, "missing"))
+}
+
 /// Refuses labels of which one has an odd member, or has no piece.
 fn check_labels(case: &Value) -> Read<'_, ()> {
     for label in list(case, "labels") {
         check(label, &LABEL)?;
-        if !has(label, "at") {
-            return Err(Mistake::Odd("at", "missing"));
-        }
+        check_has(label, "at")?;
     }
     Ok(())
 }
@@ -154,32 +150,30 @@ fn check_unread<'c>(source: &'c Value, cache: &str) -> Read<'c, ()> {
     Ok(())
 }
 
-/// The member that a source lacks, if any: its id, or its text where that is in no file.
-fn lacking(source: &Value, cache: &str) -> Option<&'static str> {
-    if !has(source, "id") {
-        return Some("id");
+/// Refuses a source that has an odd member, or lacks its id, or its text where that is in no file.
+fn check_source<'c>(source: &'c Value, cache: &str) -> Read<'c, ()> {
+    check(source, &SOURCE)?;
+    check_unread(source, cache)?;
+    check_has(source, "id")?;
+    if cache == FILES {
+        return Ok(());
     }
-    let has_text = cache == FILES || has(source, "text");
-    if has_text { None } else { Some("text") }
+    check_has(source, "text")
 }
 
-/// Refuses sources of which one has an odd member, or lacks one.
+/// Refuses sources of which one can't be read.
 fn check_sources(case: &Value) -> Read<'_, ()> {
     let cache = text(case, "cache").unwrap_or("");
     for source in list(case, "sources") {
-        check(source, &SOURCE)?;
-        check_unread(source, cache)?;
-        if let Some(name) = lacking(source, cache) {
-            return Err(Mistake::Odd(name, "missing"));
-        }
+        check_source(source, cache)?;
     }
     Ok(())
 }
 
 /// Refuses a case that lacks a source, or has members that don't stand together.
 fn check_form(case: &Value) -> Read<'_, ()> {
-    if !has(case, "source") && !has(case, "sources") {
-        return Err(Mistake::Odd("source", "missing"));
+    if !has(case, "sources") {
+        check_has(case, "source")?;
     }
     for (name, other, wrong) in CLASHES.iter() {
         if has(case, name) && has(case, other) {
@@ -191,42 +185,32 @@ fn check_form(case: &Value) -> Read<'_, ()> {
 
 /// Whether an id is one of a list, or that of a source of it.
 fn has_id(list: &[Value], id: &str) -> bool {
-    for item in list {
-        if item.get("id").unwrap_or(item).as_str() == Some(id) {
-            return true;
-        }
-    }
-    false
+    list.iter()
+        .any(|item| text_of(item.get("id").unwrap_or(item)) == id)
 }
 
-/// An id that no source has, if such a member of a case or of a label is one.
-fn unknown_id<'c>(case: &Value, told: &'c Value, name: &str) -> Option<&'c str> {
-    let id = text(told, name)?;
-    let is_known = has_id(list(case, "sources"), id) || has_id(list(case, "missing"), id);
-    if is_known { None } else { Some(id) }
-}
-
-/// The first id of a label that no source has.
-fn unknown_label_id(case: &Value) -> Option<&str> {
-    for label in list(case, "labels") {
-        let id = unknown_id(case, label, "id");
-        if id.is_some() {
-            return id;
-        }
+/// Refuses an id of a case or of a label that no source has.
+fn check_id<'c>(case: &Value, told: &'c Value, name: &str) -> Read<'c, ()> {
+    let Some(id) = text(told, name) else {
+        return Ok(());
+    };
+    if has_id(list(case, "sources"), id) || has_id(list(case, "missing"), id) {
+        return Ok(());
     }
-    None
+    Err(Mistake::Odd(
+        id,
+        "not the id of a source of the case, nor of a missing one",
+    ))
 }
 
 /// Refuses ids of a case and of its labels that no source has.
 fn check_ids(case: &Value) -> Read<'_, ()> {
-    let own = unknown_id(case, case, "id").or(unknown_id(case, case, "hidden"));
-    match own.or(unknown_label_id(case)) {
-        Some(id) => Err(Mistake::Odd(
-            id,
-            "not the id of a source of the case, nor of a missing one",
-        )),
-        None => Ok(()),
+    check_id(case, case, "id")?;
+    check_id(case, case, "hidden")?;
+    for label in list(case, "labels") {
+        check_id(case, label, "id")?;
     }
+    Ok(())
 }
 
 /// Refuses a case that has an odd member, or members that make no sense together.

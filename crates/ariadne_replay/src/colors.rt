@@ -1,5 +1,6 @@
 //! Colours by their names.
 
+use crate::members::meaning;
 use ariadne::Color;
 
 /// The colours that have no numbers.
@@ -25,28 +26,18 @@ static NAMED: [(&str, Color); 17] = [
 
 /// A colour by its name, behind which its numbers stand, if it has any: `Red`, or `Rgb 1 2 3`.
 pub fn color_of(text: &str) -> Option<Color> {
-    for (name, color) in NAMED.iter() {
-        if *name == text {
-            return Some(*color);
-        }
+    match meaning(&NAMED, text) {
+        None => numbered_color(text),
+        named => named,
     }
-    numbered_color(text)
 }
 
 /// A colour that has numbers.
 fn numbered_color(text: &str) -> Option<Color> {
     if let Some(number) = text.strip_prefix("Fixed ") {
-        return Some(Color::Fixed(byte_of(number)?));
+        return Some(Color::Fixed(number.parse().ok()?));
     }
     let (red, rest) = text.strip_prefix("Rgb ")?.split_once(' ')?;
     let (green, blue) = rest.split_once(' ')?;
-    match (byte_of(red), byte_of(green), byte_of(blue)) {
-        (Some(red), Some(green), Some(blue)) => Some(Color::Rgb(red, green, blue)),
-        _ => None,
-    }
-}
-
-/// A number of a colour.
-fn byte_of(digits: &str) -> Option<u8> {
-    digits.parse().ok()
+    Some(Color::Rgb(red.parse().ok()?, green.parse().ok()?, blue.parse().ok()?))
 }

@@ -1,7 +1,7 @@
 //! The forms that the members of a case have, and whether they have them.
 
 use crate::colors::color_of;
-use crate::members::{count_of, number_of};
+use crate::members::{count_of, items_of, number_of};
 use crate::mistake::{Mistake, Read};
 use crate::offsets::offsets_of;
 use toml::Value;
@@ -46,23 +46,10 @@ impl Form {
             Form::Width => matches!(count_of(value), Some(1..)),
             Form::Number => number_of(value).is_some(),
             Form::Color => is_color(value),
-            Form::Piece => is_piece(value),
+            Form::Piece => value.as_str().and_then(offsets_of).is_some(),
             Form::Table => value.is_table(),
-            _ => match value {
-                Value::Array(items) => self.fits_all(items.as_slice()),
-                _ => false,
-            },
+            _ => value.is_array() && items_of(value).iter().all(|item| self.fits_item(item)),
         }
-    }
-
-    /// Whether each item of a list fits into a list of the form.
-    fn fits_all(self, items: &[Value]) -> bool {
-        for item in items {
-            if !self.fits_item(item) {
-                return false;
-            }
-        }
-        true
     }
 
     /// Whether a value fits into a list of the form.
@@ -98,24 +85,13 @@ impl Form {
 
 /// Whether a value is a label that is left out, with its reason: `[1, "PastSource"]`.
 fn is_left_out(value: &Value) -> bool {
-    match value {
-        Value::Array(items) => matches!(items.as_slice(), [Value::Integer(0..), Value::String(_)]),
+    match items_of(value) {
+        [label, reason] => matches!(label.as_integer(), Some(0..)) && reason.is_str(),
         _ => false,
     }
 }
 
 /// Whether a value is a colour.
 fn is_color(value: &Value) -> bool {
-    match value {
-        Value::String(text) => color_of(text.as_str()).is_some(),
-        _ => false,
-    }
-}
-
-/// Whether a value is a piece of a source.
-fn is_piece(value: &Value) -> bool {
-    match value {
-        Value::String(text) => offsets_of(text.as_str()).is_some(),
-        _ => false,
-    }
+    value.as_str().and_then(color_of).is_some()
 }

@@ -1,9 +1,11 @@
 //! The report and the sources of a case, made with the public calls.
 
+ghost use Rattle.std.specs.Prelude.{◌+◌, ◌<◌, ◌^◌, IfOk};
+
 use crate::colors::color_of;
-use crate::members::{color, count, list, number, switch, text, word};
+use crate::members::{color, count, list, number, switch, text, text_of, word};
 use crate::mistake::{Mistake, Read};
-use crate::offsets::{Offsets, Placed, offsets_of};
+use crate::offsets::Placed;
 use ariadne::{
     CharSet, Config, Fmt, IndexType, Label, LabelAttach, Report, ReportBuilder, ReportKind, Source,
     SourceText, Span,
@@ -92,30 +94,13 @@ pub fn config_of(case: &Value) -> Read<'_, Config> {
     )
 }
 
-/// The offsets of a case's report or of a label. Those of a report that tells none are `0..0`.
-pub fn offsets_at(told: &Value) -> Offsets {
-    match text(told, "at") {
-        Some(text) => offsets_of(text).unwrap_or(Offsets::START),
-        None => Offsets::START,
-    }
-}
-
-/// The id that a case or a label tells: that of the first source where it tells none.
-pub fn id_of<'c>(case: &'c Value, told: &'c Value) -> &'c str {
-    match (text(told, "id"), list(case, "sources")) {
-        (Some(id), _) => id,
-        (None, [first, ..]) => text(first, "id").unwrap_or(""),
-        (None, []) => "",
-    }
-}
-
-/// A label with all that a case tells of it beside its place.
-pub fn dressed<S: Span + Drop>(
+/// A label of a case.
+pub fn label_of<S: Placed>(
     alloc: Global,
-    label: Label<S>,
+    case: &Value,
     told: &Value,
 ) -> Result<Label<S>, AllocError> {
-    let label = label
+    let label = Label::new(S::placed(alloc, case, told)?)
         .with_order(number(told, "order"))
         .with_priority(number(told, "priority"));
     let label = match color(told, "color") {
@@ -128,12 +113,6 @@ pub fn dressed<S: Span + Drop>(
     }
 }
 
-/// A label of a case.
-fn label_of<S: Placed>(alloc: Global, case: &Value, told: &Value) -> Result<Label<S>, AllocError> {
-    let span = S::placed(alloc, id_of(case, told), offsets_at(told))?;
-    dressed(alloc, Label::new(span), told)
-}
-
 /// The labels of a case.
 fn labels_of<S: Placed>(alloc: Global, case: &Value) -> Result<Vec<Label<S>>, AllocError> {
     let mut labels = Vec::new(alloc);
@@ -141,15 +120,6 @@ fn labels_of<S: Placed>(alloc: Global, case: &Value) -> Result<Vec<Label<S>>, Al
         labels.push(label_of(alloc, case, told)?)?;
     }
     Ok(labels)
-}
-
-/// The texts of a list of a case.
-fn texts_of<'c>(alloc: Global, case: &'c Value, name: &str) -> Result<Vec<&'c str>, AllocError> {
-    let mut texts = Vec::new(alloc);
-    for item in list(case, name) {
-        texts.push(item.as_str().unwrap_or(""))?;
-    }
-    Ok(texts)
 }
 
 /// How helps, notes and labels are given to a report.
@@ -165,33 +135,21 @@ enum Way {
 
 static WAYS: [(&str, Way); 3] = [("add", Way::Add), ("set", Way::Set), ("with", Way::With)];
 
-/// A report with the code of its case that is a number.
-fn numbered<'c, S: Span + Drop>(
-    builder: ReportBuilder<'c, S>,
+/// A report of a kind, in the place of its case, and with its code and its message.
+fn begun<'c, S: Placed>(
+    alloc: Global,
     case: &Value,
+    kind: ReportKind<'c>,
 ) -> Result<ReportBuilder<'c, S>, AllocError> {
-    match count(case, "number") {
-        Some(number) => builder.with_code(number),
-        None => Ok(builder),
-    }
-}
-
-/// A report with the code of its case that is a text.
-fn coded<'c, S: Span + Drop>(
-    builder: ReportBuilder<'c, S>,
-    case: &Value,
-) -> Result<ReportBuilder<'c, S>, AllocError> {
-    match text(case, "code") {
-        Some(code) => builder.with_code_text(code),
-        None => Ok(builder),
-    }
-}
-
-/// A report with the message of its case.
-fn headed<'c, S: Span + Drop>(
-    builder: ReportBuilder<'c, S>,
-    case: &Value,
-) -> Result<ReportBuilder<'c, S>, AllocError> {
+    let builder = Report::build(alloc, kind, S::placed(alloc, case, case)?);
+    let builder = match count(case, "number") {
+        Some(number) => builder.with_code(number)?,
+        None => builder,
+    };
+    let builder = match text(case, "code") {
+        Some(code) => builder.with_code_text(code)?,
+        None => builder,
+    };
     match text(case, "message") {
         Some(message) => builder.with_message(message),
         None => Ok(builder),
@@ -202,12 +160,12 @@ fn headed<'c, S: Span + Drop>(
 fn add_helps<S: Span>(
     builder: &mut ReportBuilder<'_, S>,
     way: Way,
-    helps: &[&str],
+    helps: &[Value],
 ) -> Result<(), AllocError> {
     for help in helps {
         match way {
-            Way::Set => builder.set_help(help)?,
-            _ => builder.add_help(help)?,
+            Way::Set => builder.set_help(text_of(help))?,
+            _ => builder.add_help(text_of(help))?,
         }
     }
     Ok(())
@@ -217,12 +175,12 @@ fn add_helps<S: Span>(
 fn add_notes<S: Span>(
     builder: &mut ReportBuilder<'_, S>,
     way: Way,
-    notes: &[&str],
+    notes: &[Value],
 ) -> Result<(), AllocError> {
     for note in notes {
         match way {
-            Way::Set => builder.set_note(note)?,
-            _ => builder.add_note(note)?,
+            Way::Set => builder.set_note(text_of(note))?,
+            _ => builder.add_note(text_of(note))?,
         }
     }
     Ok(())
@@ -231,26 +189,26 @@ fn add_notes<S: Span>(
 /// A report with helps: the first by `with_help`, and the others by `with_helps`.
 fn with_helps<'c, S: Span + Drop>(
     builder: ReportBuilder<'c, S>,
-    helps: &[&str],
+    helps: &[Value],
 ) -> Result<ReportBuilder<'c, S>, AllocError> {
     let [first, others @ ..] = helps else {
         return Ok(builder);
     };
-    let mut builder = builder.with_help(first)?;
-    builder.with_helps(others.iter().copied())?;
+    let mut builder = builder.with_help(text_of(first))?;
+    builder.with_helps(others.iter().map(text_of))?;
     Ok(builder)
 }
 
 /// A report with notes: the first by `with_note`, and the others by `with_notes`.
 fn with_notes<'c, S: Span + Drop>(
     builder: ReportBuilder<'c, S>,
-    notes: &[&str],
+    notes: &[Value],
 ) -> Result<ReportBuilder<'c, S>, AllocError> {
     let [first, others @ ..] = notes else {
         return Ok(builder);
     };
-    let mut builder = builder.with_note(first)?;
-    builder.with_notes(others.iter().copied())?;
+    let mut builder = builder.with_note(text_of(first))?;
+    builder.with_notes(others.iter().map(text_of))?;
     Ok(builder)
 }
 
@@ -267,23 +225,6 @@ fn with_labels<'c, S: Span + Drop>(
     builder.with_labels(labels)
 }
 
-/// A report with the helps and the notes of its case.
-fn texted<'c, S: Span + Drop>(
-    alloc: Global,
-    mut builder: ReportBuilder<'c, S>,
-    way: Way,
-    case: &Value,
-) -> Result<ReportBuilder<'c, S>, AllocError> {
-    let helps = texts_of(alloc, case, "helps")?;
-    let notes = texts_of(alloc, case, "notes")?;
-    if let Way::With = way {
-        return with_notes(with_helps(builder, helps.as_slice())?, notes.as_slice());
-    }
-    add_helps(&mut builder, way, helps.as_slice())?;
-    add_notes(&mut builder, way, notes.as_slice())?;
-    Ok(builder)
-}
-
 /// The name of a colour, in the colour and on it.
 fn painted(alloc: Global, name: &str) -> Result<String, AllocError> {
     let color = color_of(name);
@@ -296,50 +237,31 @@ fn add_painted<S: Span>(
     builder: &mut ReportBuilder<'_, S>,
     case: &Value,
 ) -> Result<(), AllocError> {
-    for item in list(case, "painted") {
-        let note = painted(alloc, item.as_str().unwrap_or(""))?;
+    for name in list(case, "painted") {
+        let note = painted(alloc, text_of(name))?;
         builder.add_note(note.as_str())?;
     }
     Ok(())
 }
 
-/// A report with labels.
-fn labelled<'c, S: Span + Drop>(
+/// A report with the helps, the notes and the labels of its case.
+fn filled<'c, S: Placed>(
+    alloc: Global,
     mut builder: ReportBuilder<'c, S>,
     way: Way,
-    labels: Vec<Label<S>>,
+    case: &Value,
 ) -> Result<ReportBuilder<'c, S>, AllocError> {
+    let (helps, notes) = (list(case, "helps"), list(case, "notes"));
     if let Way::With = way {
-        return with_labels(builder, labels);
+        let mut builder = with_notes(with_helps(builder, helps)?, notes)?;
+        add_painted(alloc, &mut builder, case)?;
+        return with_labels(builder, labels_of(alloc, case)?);
     }
-    builder.add_labels(labels)?;
-    Ok(builder)
-}
-
-/// A report of a kind, in the place of its case, and with its code and its message.
-fn begun<'c, S: Placed>(
-    alloc: Global,
-    case: &Value,
-    kind: ReportKind<'c>,
-) -> Result<ReportBuilder<'c, S>, AllocError> {
-    let span = S::placed(alloc, id_of(case, case), offsets_at(case))?;
-    let builder = Report::build(alloc, kind, span);
-    headed(coded(numbered(builder, case)?, case)?, case)
-}
-
-/// The report of a case, of a kind and with a configuration.
-fn made<'c, S: Placed>(
-    alloc: Global,
-    case: &Value,
-    kind: ReportKind<'c>,
-    config: Config,
-    way: Way,
-) -> Result<Report<'c, S>, AllocError> {
-    let labels = labels_of(alloc, case)?;
-    let builder = begun(alloc, case, kind)?.with_config(config);
-    let mut builder = texted(alloc, builder, way, case)?;
+    add_helps(&mut builder, way, helps)?;
+    add_notes(&mut builder, way, notes)?;
     add_painted(alloc, &mut builder, case)?;
-    Ok(labelled(builder, way, labels)?.finish())
+    builder.add_labels(labels_of(alloc, case)?)?;
+    Ok(builder)
 }
 
 /// The report of a case.
@@ -347,7 +269,19 @@ pub fn report_of<S: Placed>(alloc: Global, case: &Value) -> Read<'_, Report<'_, 
     let kind = kind_of(case)?;
     let config = config_of(case)?;
     let way = word(case, "builder", &WAYS, Way::Add, "not a way of the builder")?;
-    Ok(made(alloc, case, kind, config, way)?)
+    let builder = begun(alloc, case, kind)?.with_config(config);
+    Ok(filled(alloc, builder, way, case)?.finish())
+}
+
+/// How far the line numbers of a source are moved that has so many lines.
+pub fn line_offset(told: &Value, lines: usize) -> Read<'_, usize>
+    ensures { IfOk result (λ offset. offset + lines < 2 ^ 64) }
+{
+    let offset = count(told, "line_offset").unwrap_or(0) as usize;
+    if lines > usize::MAX - offset {
+        return Err(Mistake::Odd("line_offset", "too great for the lines of the source"));
+    }
+    Ok(offset)
 }
 
 /// A text as a source whose lines are counted as a case tells.
@@ -357,9 +291,6 @@ pub fn counted<'c, I: SourceText + Drop>(
     told: &'c Value,
 ) -> Read<'c, Source<I>> {
     let source = Source::from(alloc, text)?;
-    let offset = count(told, "line_offset").unwrap_or(0) as usize;
-    if source.lines().len() > usize::MAX - offset {
-        return Err(Mistake::Odd("line_offset", "too great for the lines of the source"));
-    }
+    let offset = line_offset(told, source.lines().len())?;
     Ok(source.with_display_line_offset(offset))
 }

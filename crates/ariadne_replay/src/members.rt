@@ -13,10 +13,17 @@ pub fn has(told: &Value, name: &str) -> bool {
 
 /// A member that is a text.
 pub fn text<'c>(told: &'c Value, name: &str) -> Option<&'c str> {
-    match told.get(name) {
-        Some(Value::String(text)) => Some(text.as_str()),
-        _ => None,
+    told.get(name)?.as_str()
+}
+
+/// What a table of words says of one.
+pub fn meaning<T: Copy>(words: &[(&str, T)], word: &str) -> Option<T> {
+    for (known, meaning) in words {
+        if *known == word {
+            return Some(*meaning);
+        }
     }
+    None
 }
 
 /// What a member says by one of these words, or its default. `wrong` is told of another word.
@@ -30,12 +37,7 @@ pub fn word<'c, T: Copy>(
     let Some(word) = text(told, name) else {
         return Ok(default);
     };
-    for (known, meaning) in words {
-        if *known == word {
-            return Ok(*meaning);
-        }
-    }
-    Err(Mistake::Odd(word, wrong))
+    meaning(words, word).ok_or(Mistake::Odd(word, wrong))
 }
 
 /// A member that is a colour.
@@ -45,18 +47,14 @@ pub fn color(told: &Value, name: &str) -> Option<Color> {
 
 /// A member that is a switch, or its default.
 pub fn switch(told: &Value, name: &str, default: bool) -> bool {
-    match told.get(name) {
-        Some(Value::Boolean(is_on)) => *is_on,
-        _ => default,
-    }
+    told.get(name).and_then(Value::as_bool).unwrap_or(default)
 }
 
 /// A number from 0 on. One that is past a TOML number's is given as a text, by its digits.
 pub fn count_of(value: &Value) -> Option<u64> {
-    match value {
-        Value::Integer(number) => u64::try_from(*number).ok(),
-        Value::String(digits) => digits.as_str().parse().ok(),
-        _ => None,
+    match value.as_str() {
+        Some(digits) => digits.parse().ok(),
+        None => u64::try_from(value.as_integer()?).ok(),
     }
 }
 
@@ -67,24 +65,28 @@ pub fn count(told: &Value, name: &str) -> Option<u64> {
 
 /// A number of either sign.
 pub fn number_of(value: &Value) -> Option<i32> {
-    match value {
-        Value::Integer(number) => i32::try_from(*number).ok(),
-        _ => None,
-    }
+    i32::try_from(value.as_integer()?).ok()
 }
 
 /// A member that is a number of either sign, or 0.
 pub fn number(told: &Value, name: &str) -> i32 {
-    match told.get(name) {
-        Some(value) => number_of(value).unwrap_or(0),
-        None => 0,
+    told.get(name).and_then(number_of).unwrap_or(0)
+}
+
+/// The items of a list. What is no list has none.
+pub fn items_of(value: &Value) -> &[Value] {
+    match value.as_array() {
+        Some(items) => items.as_slice(),
+        None => &[],
     }
 }
 
 /// A member that is a list. One that is not there is empty.
 pub fn list<'c>(told: &'c Value, name: &str) -> &'c [Value] {
-    match told.get(name) {
-        Some(Value::Array(items)) => items.as_slice(),
-        _ => &[],
-    }
+    told.get(name).map_or(&[], items_of)
+}
+
+/// An item of a list of texts.
+pub fn text_of(item: &Value) -> &str {
+    item.as_str().unwrap_or("")
 }

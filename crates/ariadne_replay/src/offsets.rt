@@ -2,9 +2,11 @@
 
 ghost use Rattle.std.specs.Prelude.{◌≤◌, IfOk};
 
+use crate::members::{list, text};
 use ariadne::Span;
 use std::alloc::{AllocError, Global};
 use std::ops::{Range, RangeInclusive};
+use toml::Value;
 
 /// The offsets of a piece of a source.
 #[derive(Clone, Copy)]
@@ -27,39 +29,59 @@ impl Offsets {
 /// The offsets of a text: `0..5`, or `0..=4`. The start is at most the end.
 pub fn offsets_of(text: &str) -> Option<Offsets> {
     let (start, end) = text.split_once("..")?;
-    match end.strip_prefix('=') {
-        Some(last) => piece_of(start, last, true),
-        None => piece_of(start, end, false),
+    let last = end.strip_prefix('=');
+    let offsets = Offsets {
+        start: start.parse().ok()?,
+        end: last.unwrap_or(end).parse().ok()?,
+        is_inclusive: last.is_some(),
+    };
+    if offsets.start <= offsets.end {
+        Some(offsets)
+    } else {
+        None
     }
 }
 
-/// The offsets of these digits.
-fn piece_of(start: &str, end: &str, is_inclusive: bool) -> Option<Offsets> {
-    match (offset_of(start), offset_of(end)) {
-        (Some(start), Some(end)) if start <= end => Some(Offsets {
-            start,
-            end,
-            is_inclusive,
-        }),
-        _ => None,
+/// The offsets of a case's report or of a label. Those of a report that tells none are `0..0`.
+pub fn offsets_at(told: &Value) -> Offsets {
+    text(told, "at")
+        .and_then(offsets_of)
+        .unwrap_or(Offsets::START)
+}
+
+/// The id that a case or a label tells: that of the first source where it tells none.
+fn id_of<'c>(case: &'c Value, told: &'c Value) -> &'c str {
+    match (text(told, "id"), list(case, "sources")) {
+        (Some(id), _) => id,
+        (None, [first, ..]) => text(first, "id").unwrap_or(""),
+        (None, []) => "",
     }
 }
 
-/// An offset.
-fn offset_of(digits: &str) -> Option<usize> {
-    digits.parse().ok()
+/// The number of the source with an id, of which the last one counts. One that is missing has the
+/// number behind them, and a case's only source without an id has the number 0.
+fn number_of(case: &Value, id: &str) -> usize {
+    let sources = list(case, "sources");
+    let mut number = sources.len();
+    for (place, told) in sources.iter().enumerate() {
+        if text(told, "id") == Some(id) {
+            number = place;
+        }
+    }
+    number
 }
 
-/// A span that is made of an id and offsets.
+/// A span that is made of what a case tells.
 pub trait Placed: Span + Drop {
-    /// The span of these offsets, in the source of an id where spans of this type name one. One that
-    /// would start past its end ends at its start.
-    fn placed(alloc: Global, id: &str, offsets: Offsets) -> Result<Self, AllocError>
+    /// The span that a case tells of its report or of a label, in the source that it tells where
+    /// spans of this type name one. One that would start past its end ends at its start.
+    fn placed(alloc: Global, case: &Value, told: &Value) -> Result<Self, AllocError>
         ensures { IfOk result (λ span. Self.start_of span ≤ Self.end_of span) };
 }
 
 impl Placed for Range<usize> {
-    fn placed(_alloc: Global, _id: &str, offsets: Offsets) -> Result<Range<usize>, AllocError> {
+    fn placed(_alloc: Global, _case: &Value, told: &Value) -> Result<Range<usize>, AllocError> {
+        let offsets = offsets_at(told);
         Ok(offsets.start..offsets.end.max(offsets.start))
     }
 }
@@ -67,9 +89,10 @@ impl Placed for Range<usize> {
 impl Placed for RangeInclusive<usize> {
     fn placed(
         _alloc: Global,
-        _id: &str,
-        offsets: Offsets,
+        _case: &Value,
+        told: &Value,
     ) -> Result<RangeInclusive<usize>, AllocError> {
+        let offsets = offsets_at(told);
         Ok(offsets.start..=offsets.end.max(offsets.start))
     }
 }
@@ -77,25 +100,36 @@ impl Placed for RangeInclusive<usize> {
 impl Placed for (String, Range<usize>) {
     fn placed(
         alloc: Global,
-        id: &str,
-        offsets: Offsets,
+        case: &Value,
+        told: &Value,
     ) -> Result<(String, Range<usize>), AllocError> {
-        Ok((
-            id.to_string(alloc)?,
-            offsets.start..offsets.end.max(offsets.start),
-        ))
+        let offsets = offsets_at(told);
+        let id = id_of(case, told).to_string(alloc)?;
+        Ok((id, offsets.start..offsets.end.max(offsets.start)))
     }
 }
 
 impl Placed for (String, RangeInclusive<usize>) {
     fn placed(
         alloc: Global,
-        id: &str,
-        offsets: Offsets,
+        case: &Value,
+        told: &Value,
     ) -> Result<(String, RangeInclusive<usize>), AllocError> {
-        Ok((
-            id.to_string(alloc)?,
-            offsets.start..=offsets.end.max(offsets.start),
-        ))
+        let offsets = offsets_at(told);
+        let id = id_of(case, told).to_string(alloc)?;
+        Ok((id, offsets.start..=offsets.end.max(offsets.start)))
+    }
+}
+
+/// A place in a source that has a number.
+impl Placed for (usize, Range<usize>) {
+    fn placed(
+        _alloc: Global,
+        case: &Value,
+        told: &Value,
+    ) -> Result<(usize, Range<usize>), AllocError> {
+        let offsets = offsets_at(told);
+        let number = number_of(case, id_of(case, told));
+        Ok((number, offsets.start..offsets.end.max(offsets.start)))
     }
 }

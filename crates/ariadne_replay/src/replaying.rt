@@ -3,13 +3,13 @@
 use crate::case::check_case;
 use crate::discreet::Discreet;
 use crate::forgetful::Forgetful;
-use crate::making::{counted, offsets_at, report_of};
+use crate::making::{counted, report_of};
 use crate::members::{has, list, text, word};
 use crate::mistake::{Mistake, Read};
-use crate::offsets::Placed;
+use crate::offsets::{Placed, offsets_at};
 use crate::safely::answer_safely;
-use crate::sending::{Answer, Call, call_of, sent};
-use ariadne::{FileCache, FnCache, Report, Source, Span, sources};
+use crate::sending::{Answer, Call, Sending, call_of};
+use ariadne::{FileCache, FnCache, Source, Span, sources};
 use std::alloc::{AllocError, Global};
 use std::collections::HashMap;
 use std::ops::{Range, RangeInclusive};
@@ -41,7 +41,6 @@ static SINGLES: [(&str, Single); 6] = [
 enum Several {
     Map,
     Given,
-    Hiding,
     Pair,
     LentPair,
     Function,
@@ -64,22 +63,15 @@ fn has_last(told: &Value) -> bool {
 
 /// Whether the pieces of a case, its labels' and its own if it tells one, all end as this says.
 fn all_end(case: &Value, with_last: bool) -> bool {
-    for label in list(case, "labels") {
-        if has_last(label) != with_last {
-            return false;
-        }
-    }
-    !has(case, "at") || has_last(case) == with_last
+    let labels = list(case, "labels");
+    labels.iter().all(|label| has_last(label) == with_last)
+        && (!has(case, "at") || has_last(case) == with_last)
 }
 
 /// Whether the pieces of a case end with their last offset. Either all do or none, and none of a case
 /// that is drawn safely.
 fn is_inclusive(case: &Value) -> Read<'_, bool> {
-    let first = match list(case, "labels") {
-        [first, ..] => first,
-        [] => case,
-    };
-    let with_last = has_last(first);
+    let with_last = has_last(list(case, "labels").first().unwrap_or(case));
     if !all_end(case, with_last) {
         return Err(Mistake::Odd(
             "at",
@@ -101,40 +93,25 @@ pub fn answer_of<'c>(rt: &HostRuntime, case: &'c Value) -> Read<'c, Answer> {
     }
     let call = call_of(case)?;
     match (has(case, "source"), with_last) {
-        (true, false) => plain::<Range<usize>>(rt.alloc(), call, case),
-        (true, true) => plain::<RangeInclusive<usize>>(rt.alloc(), call, case),
-        (false, false) => named::<(String, Range<usize>)>(rt, call, case),
-        (false, true) => named::<(String, RangeInclusive<usize>)>(rt, call, case),
+        (true, false) => over_source::<Range<usize>>(rt.alloc(), call, case),
+        (true, true) => over_source::<RangeInclusive<usize>>(rt.alloc(), call, case),
+        (false, false) => over_sources::<(String, Range<usize>)>(rt, call, case),
+        (false, true) => over_sources::<(String, RangeInclusive<usize>)>(rt, call, case),
     }
 }
 
 /// What is drawn of a case over one source without an id.
-fn plain<S: Placed + Span<SourceId = ()>>(
+fn over_source<'c, S: Placed + Span<SourceId = ()>>(
     alloc: Global,
     call: Call,
-    case: &Value,
-) -> Read<'_, Answer> {
+    case: &'c Value,
+) -> Read<'c, Answer> {
     let report = report_of::<S>(alloc, case)?;
-    over_source(alloc, call, case, &report)
-}
-
-/// What is drawn of a case over sources with ids.
-fn named<'c, S: Placed + Span<SourceId = String>>(
-    rt: &HostRuntime,
-    call: Call,
-    case: &'c Value,
-) -> Read<'c, Answer> {
-    let report = report_of::<S>(rt.alloc(), case)?;
-    over_sources(rt, call, case, &report)
-}
-
-/// What is drawn of a report over its only source.
-fn over_source<'c, S: Span<SourceId = ()>>(
-    alloc: Global,
-    call: Call,
-    case: &'c Value,
-    report: &Report<'c, S>,
-) -> Read<'c, Answer> {
+    let sending = Sending {
+        alloc,
+        call,
+        report,
+    };
     let words = text(case, "source").unwrap_or("");
     match word(
         case,
@@ -143,98 +120,92 @@ fn over_source<'c, S: Span<SourceId = ()>>(
         Single::Owned,
         "not a cache of one source",
     )? {
-        Single::OfStr => sent(alloc, call, report, &mut counted(alloc, words, case)?),
+        Single::OfStr => Ok(sending.over(&mut counted(alloc, words, case)?)?),
         Single::OfRcStr => {
             let words = RcStr::from_str(alloc, words)?;
-            sent(alloc, call, report, &mut counted(alloc, words, case)?)
+            Ok(sending.over(&mut counted(alloc, words, case)?)?)
         }
         form => {
             let source = counted(alloc, words.to_string(alloc)?, case)?;
-            over_string(alloc, call, report, source, form)
+            Ok(over_string(&sending, source, form)?)
         }
     }
 }
 
 /// What is drawn of a report over a source in a form.
-fn over_string<'c, S: Span<SourceId = ()>>(
-    alloc: Global,
-    call: Call,
-    report: &Report<'c, S>,
+fn over_string<S: Span<SourceId = ()>>(
+    sending: &Sending<'_, S>,
     mut source: Source<String>,
     form: Single,
-) -> Read<'c, Answer> {
+) -> Result<Answer, AllocError> {
     match form {
-        Single::Ref => sent(alloc, call, report, &mut &source),
-        Single::RefMut => sent(alloc, call, report, &mut &mut source),
-        Single::Boxed => sent(alloc, call, report, &mut Box::new(alloc, source)?),
-        _ => sent(alloc, call, report, &mut source),
+        Single::Ref => sending.over(&mut &source),
+        Single::RefMut => sending.over(&mut &mut source),
+        Single::Boxed => sending.over(&mut Box::new(sending.alloc, source)?),
+        _ => sending.over(&mut source),
     }
 }
 
-/// The cache of a case that names none.
+/// The cache of a case that names none: a map, where it can be one.
 fn default_cache(case: &Value) -> Several {
-    if has(case, "hidden") {
-        return Several::Hiding;
+    let mut sources = list(case, "sources").iter();
+    if has(case, "hidden") || sources.any(|source| has(source, "line_offset")) {
+        Several::Given
+    } else {
+        Several::Map
     }
-    for source in list(case, "sources") {
-        if has(source, "line_offset") {
-            return Several::Given;
-        }
-    }
-    Several::Map
 }
 
-/// What is drawn of a report over sources that have ids.
-fn over_sources<'c, S: Span<SourceId = String>>(
+/// What is drawn of a case over sources that have ids.
+fn over_sources<'c, S: Placed + Span<SourceId = String>>(
     rt: &HostRuntime,
     call: Call,
     case: &'c Value,
-    report: &Report<'c, S>,
 ) -> Read<'c, Answer> {
     let alloc = rt.alloc();
-    let default = default_cache(case);
+    let report = report_of::<S>(alloc, case)?;
+    let sending = Sending {
+        alloc,
+        call,
+        report,
+    };
     match word(
         case,
         "cache",
         &SEVERALS,
-        default,
+        default_cache(case),
         "not a cache of sources with ids",
     )? {
-        Several::Map => over_map(alloc, call, case, report),
-        Several::Given => over_given_sources(alloc, call, case, report),
-        Several::Hiding => over_own_cache(alloc, call, case, report),
-        Several::Pair => over_pair(alloc, call, case, report),
-        Several::LentPair => over_lent_pair(alloc, call, case, report),
-        Several::Function => over_function(alloc, call, case, report),
-        Several::Files => sent(alloc, call, report, &mut FileCache::new(rt, alloc)),
-        Several::NoMemory => sent(alloc, call, report, &mut Forgetful),
+        Several::Map => Ok(over_map(&sending, case)?),
+        Several::Given => over_given_sources(&sending, case),
+        Several::Pair => over_pair(&sending, case, false),
+        Several::LentPair => over_pair(&sending, case, true),
+        Several::Function => Ok(over_function(&sending, case)?),
+        Several::Files => Ok(sending.over(&mut FileCache::new(rt, alloc))?),
+        Several::NoMemory => Ok(sending.over(&mut Forgetful)?),
     }
 }
 
-/// The id of a source, and its text.
-fn text_by_id(alloc: Global, source: &Value) -> Result<(String, String), AllocError> {
-    let id = text(source, "id").unwrap_or("").to_string(alloc)?;
-    Ok((id, text(source, "text").unwrap_or("").to_string(alloc)?))
+/// The id of a source.
+fn id_in(alloc: Global, source: &Value) -> Result<String, AllocError> {
+    text(source, "id").unwrap_or("").to_string(alloc)
 }
 
-/// What is drawn of a report over a map of its sources.
-fn over_map<'c, S: Span<SourceId = String>>(
-    alloc: Global,
-    call: Call,
-    case: &'c Value,
-    report: &Report<'c, S>,
-) -> Read<'c, Answer> {
-    let mut texts = Vec::new(alloc);
+/// The text of a source.
+fn text_in(source: &Value) -> &str {
+    text(source, "text").unwrap_or("")
+}
+
+/// What is drawn of a report over a map of the sources.
+fn over_map<S: Span<SourceId = String>>(
+    sending: &Sending<'_, S>,
+    case: &Value,
+) -> Result<Answer, AllocError> {
+    let mut texts = Vec::new(sending.alloc);
     for source in list(case, "sources") {
-        texts.push(text_by_id(alloc, source)?)?;
+        texts.push((id_in(sending.alloc, source)?, text_in(source)))?;
     }
-    sent(alloc, call, report, &mut sources(alloc, texts)?)
-}
-
-/// The id of a source, and the source.
-fn source_by_id(alloc: Global, source: &Value) -> Read<'_, (String, Source<String>)> {
-    let (id, text) = text_by_id(alloc, source)?;
-    Ok((id, counted(alloc, text, source)?))
+    sending.over(&mut sources(sending.alloc, texts)?)
 }
 
 /// Fails for every id.
@@ -245,89 +216,59 @@ fn missing(_id: &String) -> Result<String, ()> {
 /// The sources of a case by their ids.
 fn given_sources(alloc: Global, case: &Value) -> Read<'_, HashMap<String, Source<String>>> {
     let mut given = HashMap::new(alloc);
-    for source in list(case, "sources") {
-        let (id, source) = source_by_id(alloc, source)?;
-        given.insert(id, source)?;
+    for told in list(case, "sources") {
+        let source = counted(alloc, text_in(told).to_string(alloc)?, told)?;
+        given.insert(id_in(alloc, told)?, source)?;
     }
     Ok(given)
 }
 
-/// What is drawn of a report over sources that are given to a cache.
+/// What is drawn of a report over sources that are given to a cache, or to one of the program's own,
+/// which hides the name of one source.
 fn over_given_sources<'c, S: Span<SourceId = String>>(
-    alloc: Global,
-    call: Call,
+    sending: &Sending<'c, S>,
     case: &'c Value,
-    report: &Report<'c, S>,
 ) -> Read<'c, Answer> {
-    let given = given_sources(alloc, case)?;
-    let mut cache = FnCache::new(alloc, missing).with_sources(given)?;
-    sent(alloc, call, report, &mut cache)
+    let given = given_sources(sending.alloc, case)?;
+    let mut cache = FnCache::new(sending.alloc, missing).with_sources(given)?;
+    let Some(hidden) = text(case, "hidden") else {
+        return Ok(sending.over(&mut cache)?);
+    };
+    let hidden = hidden.to_string(sending.alloc)?;
+    Ok(sending.over(&mut Discreet { cache, hidden })?)
 }
 
-/// What is drawn of a report over a cache of the program's own, which hides the name of one source.
-fn over_own_cache<'c, S: Span<SourceId = String>>(
-    alloc: Global,
-    call: Call,
-    case: &'c Value,
-    report: &Report<'c, S>,
-) -> Read<'c, Answer> {
-    let hidden = text(case, "hidden").unwrap_or("").to_string(alloc)?;
-    let given = given_sources(alloc, case)?;
-    let cache = FnCache::new(alloc, missing).with_sources(given)?;
-    sent(alloc, call, report, &mut Discreet { cache, hidden })
-}
-
-/// The first source of a case, which is the only one of a pair.
-fn first_source(alloc: Global, case: &Value) -> Read<'_, (String, Source<String>)> {
-    match list(case, "sources") {
-        [first, ..] => source_by_id(alloc, first),
-        [] => Err(Mistake::Odd("sources", "empty")),
-    }
-}
-
-/// What is drawn of a report over the first source alone.
+/// What is drawn of a report over the first source alone, or over a reference to it.
 fn over_pair<'c, S: Span<SourceId = String>>(
-    alloc: Global,
-    call: Call,
+    sending: &Sending<'c, S>,
     case: &'c Value,
-    report: &Report<'c, S>,
+    is_lent: bool,
 ) -> Read<'c, Answer> {
-    let mut pair = first_source(alloc, case)?;
-    sent(alloc, call, report, &mut pair)
-}
-
-/// What is drawn of a report over a reference to the first source alone.
-fn over_lent_pair<'c, S: Span<SourceId = String>>(
-    alloc: Global,
-    call: Call,
-    case: &'c Value,
-    report: &Report<'c, S>,
-) -> Read<'c, Answer> {
-    let (id, source) = first_source(alloc, case)?;
-    sent(alloc, call, report, &mut (id, &source))
+    let Some(first) = list(case, "sources").first() else {
+        return Err(Mistake::Odd("sources", "empty"));
+    };
+    let source = counted(sending.alloc, text_in(first), first)?;
+    let id = id_in(sending.alloc, first)?;
+    if is_lent {
+        return Ok(sending.over(&mut (id, &source))?);
+    }
+    Ok(sending.over(&mut (id, source))?)
 }
 
 /// The text of an id among these sources.
 fn answered(alloc: Global, sources: &[Value], id: &str) -> Result<String, ()> {
-    for source in sources {
-        if text(source, "id") == Some(id) {
-            return text(source, "text")
-                .unwrap_or("")
-                .to_string(alloc)
-                .or(Err(()));
-        }
+    match sources.iter().find(|source| text(source, "id") == Some(id)) {
+        Some(source) => text_in(source).to_string(alloc).or(Err(())),
+        None => Err(()),
     }
-    Err(())
 }
 
 /// What is drawn of a report over a cache whose function returns the texts.
-fn over_function<'c, S: Span<SourceId = String>>(
-    alloc: Global,
-    call: Call,
-    case: &'c Value,
-    report: &Report<'c, S>,
-) -> Read<'c, Answer> {
-    let sources = list(case, "sources");
+fn over_function<S: Span<SourceId = String>>(
+    sending: &Sending<'_, S>,
+    case: &Value,
+) -> Result<Answer, AllocError> {
+    let (alloc, sources) = (sending.alloc, list(case, "sources"));
     let get = |id: &String| -> Result<String, ()> { answered(alloc, sources, id.as_str()) };
-    sent(alloc, call, report, &mut FnCache::new(alloc, get))
+    sending.over(&mut FnCache::new(alloc, get))
 }

@@ -1,17 +1,14 @@
 //! Draws the report of a case safely: over texts that can be shown.
 
-use crate::making::{config_of, dressed, id_of, kind_of, offsets_at};
-use crate::members::{count, list, text, word};
+use crate::making::{config_of, kind_of, label_of, line_offset};
+use crate::members::{list, text, text_of, word};
 use crate::mistake::{Mistake, Read};
+use crate::offsets::Placed;
 use crate::sending::{Answer, answer_to};
-use ariadne::{Config, Label, ReportKind};
+use ariadne::{Config, ReportKind};
 use ariadne_safe::{LineEnds, SafeBuilder, SafeKind, SafeSource, SafeSources, TextKind, visible};
 use std::alloc::{AllocError, Global};
-use std::ops::Range;
 use toml::Value;
-
-/// A place: the number of its source, and its offsets.
-type Numbered = (usize, Range<usize>);
 
 static LINE_ENDS: [(&str, LineEnds); 2] = [
     ("All", LineEnds::All),
@@ -26,10 +23,7 @@ fn source_of<'c>(
     lines: LineEnds,
 ) -> Read<'c, SafeSource> {
     let source = SafeSource::new(alloc, text, lines)?;
-    let offset = count(told, "line_offset").unwrap_or(0) as usize;
-    if source.source().lines().len() > usize::MAX - offset {
-        return Err(Mistake::Odd("line_offset", "too great for the lines of the source"));
-    }
+    let offset = line_offset(told, source.source().lines().len())?;
     Ok(source.with_display_line_offset(offset))
 }
 
@@ -60,35 +54,6 @@ fn sources_of(alloc: Global, case: &Value, lines: LineEnds) -> Read<'_, SafeSour
     Ok(sources)
 }
 
-/// The number of the source with an id, of which the last one counts. One that is missing has the
-/// number behind them, and a case's only source without an id has the number 0.
-fn number_of(case: &Value, id: &str) -> usize {
-    let sources = list(case, "sources");
-    let mut number = sources.len();
-    for (place, told) in sources.iter().enumerate() {
-        if text(told, "id") == Some(id) {
-            number = place;
-        }
-    }
-    number
-}
-
-/// The place that a case tells of its report or of a label.
-fn place_of(case: &Value, told: &Value) -> Numbered {
-    let offsets = offsets_at(told);
-    (
-        number_of(case, id_of(case, told)),
-        offsets.start..offsets.end,
-    )
-}
-
-/// A label of a case, over the numbers of its sources.
-fn label_of(alloc: Global, case: &Value, told: &Value) -> Result<Label<Numbered>, AllocError> {
-    let (number, place) = place_of(case, told);
-    let label = Label::new((number, place.start..place.end.max(place.start)));
-    dressed(alloc, label, told)
-}
-
 /// A report with the code and the message of its case.
 fn headed<'r>(builder: SafeBuilder<'r>, case: &Value) -> Result<SafeBuilder<'r>, AllocError> {
     let builder = match text(case, "code") {
@@ -101,22 +66,12 @@ fn headed<'r>(builder: SafeBuilder<'r>, case: &Value) -> Result<SafeBuilder<'r>,
     }
 }
 
-/// A report with the helps of its case.
-fn helped<'r>(builder: SafeBuilder<'r>, case: &Value) -> Result<SafeBuilder<'r>, AllocError> {
-    let mut builder = builder;
-    for help in list(case, "helps") {
-        builder = builder.with_help(help.as_str().unwrap_or(""))?;
-    }
-    Ok(builder)
-}
-
-/// A report with the notes of its case.
-fn noted<'r>(builder: SafeBuilder<'r>, case: &Value) -> Result<SafeBuilder<'r>, AllocError> {
-    let mut builder = builder;
-    for note in list(case, "notes") {
-        builder = builder.with_note(note.as_str().unwrap_or(""))?;
-    }
-    Ok(builder)
+/// A report with the helps and the notes of its case.
+fn texted<'r>(builder: SafeBuilder<'r>, case: &Value) -> Result<SafeBuilder<'r>, AllocError> {
+    let mut helps = list(case, "helps").iter().map(text_of);
+    let mut notes = list(case, "notes").iter().map(text_of);
+    let builder = helps.try_fold(builder, SafeBuilder::with_help)?;
+    notes.try_fold(builder, SafeBuilder::with_note)
 }
 
 /// A report with the labels of its case.
@@ -132,29 +87,29 @@ fn labelled<'r>(
     Ok(builder)
 }
 
-/// What is drawn of a report of a kind over sources.
-fn answer_over<'c, 'r>(
+/// What is drawn of a report of a kind over the sources of its case.
+fn answer_over<'c>(
     alloc: Global,
     case: &'c Value,
-    sources: &'r SafeSources,
-    kind: SafeKind<'r>,
+    lines: LineEnds,
+    kind: SafeKind<'_>,
     config: Config,
 ) -> Read<'c, Answer> {
-    let builder = SafeBuilder::new(alloc, sources, kind, place_of(case, case), config);
-    let builder = noted(helped(headed(builder, case)?, case)?, case)?;
+    let sources = sources_of(alloc, case, lines)?;
+    let place = Placed::placed(alloc, case, case)?;
+    let builder = SafeBuilder::new(alloc, &sources, kind, place, config);
+    let builder = texted(headed(builder, case)?, case)?;
     let report = labelled(alloc, builder, case)?.finish();
     let mut out = Vec::new(alloc);
     let told = report.write(&mut out);
-    answer_to(alloc, out, told)
+    Ok(answer_to(alloc, out, told)?)
 }
 
 /// A kind under another name, if it has a name of its own.
-fn renamed<'n>(kind: ReportKind<'_>, name: &'n str) -> ReportKind<'n> {
+fn renamed<'n>(kind: ReportKind<'n>, name: &'n str) -> ReportKind<'n> {
     match kind {
-        ReportKind::Error => ReportKind::Error,
-        ReportKind::Warning => ReportKind::Warning,
-        ReportKind::Advice => ReportKind::Advice,
         ReportKind::Custom(_, color) => ReportKind::Custom(name, color),
+        named => named,
     }
 }
 
@@ -169,10 +124,9 @@ pub fn answer_safely(alloc: Global, case: &Value) -> Read<'_, Answer> {
     )?;
     let kind = kind_of(case)?;
     let config = config_of(case)?;
-    let sources = sources_of(alloc, case, lines)?;
     let name = visible(alloc, kind.name(), TextKind::OneRow)?;
     match SafeKind::new(renamed(kind, name.as_str())) {
-        Some(kind) => answer_over(alloc, case, &sources, kind, config),
+        Some(kind) => answer_over(alloc, case, lines, kind, config),
         None => Err(Mistake::Odd("kind", "hidden")),
     }
 }

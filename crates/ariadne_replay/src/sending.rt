@@ -98,64 +98,75 @@ impl Sink for Keeper {
     }
 }
 
-/// What is drawn of a report over a cache.
-pub fn sent<'c, S: Span, C: Cache<S::SourceId>>(
-    alloc: Global,
-    call: Call,
-    report: &Report<'_, S>,
-    cache: &mut C,
-) -> Read<'c, Answer>
-    requires { C.can_fetch cache.old }
-{
-    let mut out = Vec::new(alloc);
-    match call {
-        Call::Write => {
-            let told = report.write(cache, &mut out);
-            answer_to(alloc, out, told)
+/// A report, and the call that sends it.
+#[derive(Drop)]
+pub struct Sending<'c, S: Span> {
+    pub alloc: Global,
+    pub call: Call,
+    pub report: Report<'c, S>,
+}
+
+impl<S: Span> Sending<'_, S> {
+    /// Sends the picture over a cache to `out`.
+    fn send<C: Cache<S::SourceId>>(
+        &self,
+        cache: &mut C,
+        out: &mut Vec<u8>,
+    ) -> Result<Vec<LeftOut<C::Error>>, WriteError>
+        requires { C.can_fetch cache.old }
+    {
+        match self.call {
+            Call::Write => self.report.write(cache, out),
+            Call::WriteForStdout => self.report.write_for_stdout(cache, out),
+            Call::WriteTo => {
+                let mut keeper = Keeper {
+                    bytes: Vec::new(self.alloc),
+                    met_fault: false,
+                };
+                let told = self.report.write_to(cache, &mut keeper);
+                *out = keeper.bytes;
+                told
+            }
+            Call::WriteInPart(room) => {
+                let fault = Some(ErrorKind::BrokenPipe);
+                let mut taker = Taker::narrow(self.alloc, room, 1, fault);
+                let told = self.report.write(cache, &mut taker);
+                *out = taker.held;
+                told
+            }
         }
-        Call::WriteForStdout => {
-            let told = report.write_for_stdout(cache, &mut out);
-            answer_to(alloc, out, told)
-        }
-        Call::WriteTo => {
-            let mut keeper = Keeper {
-                bytes: out,
-                met_fault: false,
-            };
-            let told = report.write_to(cache, &mut keeper);
-            answer_to(alloc, keeper.bytes, told)
-        }
-        Call::WriteInPart(room) => {
-            let mut taker = Taker::narrow(alloc, room, 1, Some(ErrorKind::BrokenPipe));
-            let told = report.write(cache, &mut taker);
-            answer_to(alloc, taker.held, told)
-        }
+    }
+
+    /// What is drawn over a cache.
+    pub fn over<C: Cache<S::SourceId>>(&self, cache: &mut C) -> Result<Answer, AllocError>
+        requires { C.can_fetch cache.old }
+    {
+        let mut out = Vec::new(self.alloc);
+        let told = self.send(cache, &mut out);
+        answer_to(self.alloc, out, told)
     }
 }
 
 /// What came of writing, by the bytes that were sent and what the call told.
-pub fn answer_to<'c, E: Drop>(
+pub fn answer_to<E: Drop>(
     alloc: Global,
     bytes: Vec<u8>,
     told: Result<Vec<LeftOut<E>>, WriteError>,
-) -> Read<'c, Answer> {
+) -> Result<Answer, AllocError> {
     let end = end_of(&told, bytes.len());
     let left_out = match told {
         Ok(left_out) => listed(alloc, left_out.as_slice())?,
         Err(_) => String::from_str(alloc, "[]")?,
     };
-    match String::from_utf8(bytes) {
-        Ok(picture) => Ok(Answer {
-            left_out,
-            end,
-            picture,
-        }),
-        Err(_) => Ok(Answer {
-            left_out,
-            end: End::NoText,
-            picture: String::new(alloc),
-        }),
-    }
+    let (picture, end) = match String::from_utf8(bytes) {
+        Ok(picture) => (picture, end),
+        Err(_) => (String::new(alloc), End::NoText),
+    };
+    Ok(Answer {
+        left_out,
+        end,
+        picture,
+    })
 }
 
 /// What came of a call, of which the writer took so many bytes.
