@@ -113,10 +113,14 @@ pub fn label_of<S: Placed>(
     }
 }
 
-/// The labels of a case.
-fn labels_of<S: Placed>(alloc: Global, case: &Value) -> Result<Vec<Label<S>>, AllocError> {
+/// Labels of a case.
+fn labels_of<S: Placed>(
+    alloc: Global,
+    case: &Value,
+    all_told: &[Value],
+) -> Result<Vec<Label<S>>, AllocError> {
     let mut labels = Vec::new(alloc);
-    for told in list(case, "labels") {
+    for told in all_told {
         labels.push(label_of(alloc, case, told)?)?;
     }
     Ok(labels)
@@ -212,17 +216,40 @@ fn with_notes<'c, S: Span + Drop>(
     Ok(builder)
 }
 
-/// A report with labels: the first by `with_label`, and the others by `with_labels`.
-fn with_labels<'c, S: Span + Drop>(
+/// A report with the labels of its case: the first by `with_label`, and the others by `with_labels`.
+fn with_labels<'c, S: Placed>(
+    alloc: Global,
     builder: ReportBuilder<'c, S>,
-    labels: Vec<Label<S>>,
+    case: &Value,
 ) -> Result<ReportBuilder<'c, S>, AllocError> {
-    let mut labels = labels.into_iter();
-    let builder = match labels.next() {
-        Some(label) => builder.with_label(label)?,
-        None => builder,
+    let [first, others @ ..] = list(case, "labels") else {
+        return Ok(builder);
     };
-    builder.with_labels(labels)
+    let builder = builder.with_label(label_of(alloc, case, first)?)?;
+    builder.with_labels(labels_of(alloc, case, others)?)
+}
+
+/// A report with the helps, the notes and the labels of its case, by calls that return it.
+fn with_parts<'c, S: Placed>(
+    alloc: Global,
+    builder: ReportBuilder<'c, S>,
+    case: &Value,
+) -> Result<ReportBuilder<'c, S>, AllocError> {
+    let builder = with_helps(builder, list(case, "helps"))?;
+    let builder = with_notes(builder, list(case, "notes"))?;
+    with_labels(alloc, builder, case)
+}
+
+/// Adds the helps, the notes and the labels of a case.
+fn add_parts<S: Placed>(
+    alloc: Global,
+    builder: &mut ReportBuilder<'_, S>,
+    way: Way,
+    case: &Value,
+) -> Result<(), AllocError> {
+    add_helps(builder, way, list(case, "helps"))?;
+    add_notes(builder, way, list(case, "notes"))?;
+    builder.add_labels(labels_of(alloc, case, list(case, "labels"))?)
 }
 
 /// The name of a colour, in the colour and on it.
@@ -251,16 +278,10 @@ fn filled<'c, S: Placed>(
     way: Way,
     case: &Value,
 ) -> Result<ReportBuilder<'c, S>, AllocError> {
-    let (helps, notes) = (list(case, "helps"), list(case, "notes"));
     if let Way::With = way {
-        let mut builder = with_notes(with_helps(builder, helps)?, notes)?;
-        add_painted(alloc, &mut builder, case)?;
-        return with_labels(builder, labels_of(alloc, case)?);
+        return with_parts(alloc, builder, case);
     }
-    add_helps(&mut builder, way, helps)?;
-    add_notes(&mut builder, way, notes)?;
-    add_painted(alloc, &mut builder, case)?;
-    builder.add_labels(labels_of(alloc, case)?)?;
+    add_parts(alloc, &mut builder, way, case)?;
     Ok(builder)
 }
 
@@ -270,7 +291,9 @@ pub fn report_of<S: Placed>(alloc: Global, case: &Value) -> Read<'_, Report<'_, 
     let config = config_of(case)?;
     let way = word(case, "builder", &WAYS, Way::Add, "not a way of the builder")?;
     let builder = begun(alloc, case, kind)?.with_config(config);
-    Ok(filled(alloc, builder, way, case)?.finish())
+    let mut builder = filled(alloc, builder, way, case)?;
+    add_painted(alloc, &mut builder, case)?;
+    Ok(builder.finish())
 }
 
 /// How far the line numbers of a source are moved that has so many lines.

@@ -51,24 +51,18 @@ pub fn offsets_at(told: &Value) -> Offsets {
 
 /// The id that a case or a label tells: that of the first source where it tells none.
 fn id_of<'c>(case: &'c Value, told: &'c Value) -> &'c str {
-    match (text(told, "id"), list(case, "sources")) {
-        (Some(id), _) => id,
-        (None, [first, ..]) => text(first, "id").unwrap_or(""),
-        (None, []) => "",
-    }
+    let first = list(case, "sources").first().unwrap_or(told);
+    text(told, "id").or(text(first, "id")).unwrap_or("")
 }
 
 /// The number of the source with an id, of which the last one counts. One that is missing has the
 /// number behind them, and a case's only source without an id has the number 0.
 fn number_of(case: &Value, id: &str) -> usize {
     let sources = list(case, "sources");
-    let mut number = sources.len();
-    for (place, told) in sources.iter().enumerate() {
-        if text(told, "id") == Some(id) {
-            number = place;
-        }
-    }
-    number
+    let mut numbered = sources.iter();
+    numbered
+        .rposition(|told| text(told, "id") == Some(id))
+        .unwrap_or(sources.len())
 }
 
 /// A span that is made of what a case tells.

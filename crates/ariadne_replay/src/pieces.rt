@@ -1,7 +1,6 @@
 //! The cases of a file, each as it stands there.
 
 use crate::seen::is_unseen;
-use std::alloc::{AllocError, Global};
 
 /// A case of a file: its members as they stand there, and the line of the file, from 1, of the first
 /// of them.
@@ -40,31 +39,9 @@ pub fn line_at(text: &str, offset: usize) -> usize {
     line
 }
 
-/// What stands above the first case of a file, and its cases, each behind a line `[[case]]`.
-pub fn pieces_of<'t>(
-    alloc: Global,
-    file: &'t str,
-    text: &'t str,
-) -> Result<Vec<Piece<'t>>, AllocError> {
-    let mut pieces = Vec::new(alloc);
-    let mut line = 1usize;
-    for text in text.split("[[case]]\n") {
-        pieces.push(Piece { file, line, text })?;
-        line = line
-            .saturating_add(line_at(text, text.len()))
-            .saturating_add(1);
-    }
-    Ok(pieces)
-}
-
 /// Whether a line holds a character that can't be seen, or ends in a blank.
 fn has_unseen(line: &str) -> bool {
-    for character in line.chars() {
-        if is_unseen(character) {
-            return true;
-        }
-    }
-    line.ends_with(' ')
+    line.chars().any(is_unseen) || line.ends_with(' ')
 }
 
 /// The first line of a text, from 0, that holds a character that can't be seen, or ends in a blank.

@@ -2,7 +2,7 @@
 
 use crate::members::{has, text};
 use crate::mistake::{Mistake, Read};
-use crate::pieces::{Piece, line_at, pieces_of, unseen_line};
+use crate::pieces::{Piece, line_at, unseen_line};
 use crate::replaying::answer_of;
 use crate::sending::Answer;
 use crate::stored::stored_of;
@@ -170,7 +170,8 @@ impl Run {
         }
     }
 
-    /// Does the task with each case of a text.
+    /// Does the task with what stands above the first case of a text, and with each of its cases, which
+    /// stand behind a line `[[case]]`.
     pub fn take_all(
         &mut self,
         rt: &HostRuntime,
@@ -178,8 +179,12 @@ impl Run {
         file: &str,
         text: &str,
     ) -> io::Result<()> {
-        for piece in pieces_of(rt.alloc(), file, text)?.iter() {
-            self.take_piece(rt, task, piece)?;
+        let mut line = 1usize;
+        for text in text.split("[[case]]\n") {
+            self.take_piece(rt, task, &Piece { file, line, text })?;
+            line = line
+                .saturating_add(line_at(text, text.len()))
+                .saturating_add(1);
         }
         Ok(())
     }
