@@ -90,6 +90,25 @@ static CLASHES: [(&str, &str, &str); 13] = [
 /// The cache that reads the texts of its sources from files.
 const FILES: &str = "FileCache";
 
+/// Members of a source that a cache doesn't read: the cache, the member, and what that is.
+static UNREAD: [(&str, &str, &str); 3] = [
+    (
+        FILES,
+        "text",
+        "no member beside a FileCache, which reads files",
+    ),
+    (
+        FILES,
+        "line_offset",
+        "no member beside a FileCache, which counts from 1",
+    ),
+    (
+        "FnCache",
+        "line_offset",
+        "no member beside an FnCache, whose function returns texts",
+    ),
+];
+
 /// Refuses a table that has a member of another name or of another form than these.
 fn check<'c>(told: &'c Value, members: &[(&str, Form)]) -> Read<'c, ()> {
     let Some(table) = told.as_table() else {
@@ -112,14 +131,6 @@ fn check_has<'c>(told: &'c Value, name: &'c str) -> Read<'c, ()> {
     Err(Mistake::Odd(name, "missing"))
 }
 
-/// Refuses a table that has a member. `wrong` is what that is.
-fn check_lacks<'c>(told: &'c Value, name: &'c str, wrong: &'c str) -> Read<'c, ()> {
-    if has(told, name) {
-        return Err(Mistake::Odd(name, wrong));
-    }
-    Ok(())
-}
-
 /// Refuses labels of which one has an odd member, or has no piece.
 fn check_labels(case: &Value) -> Read<'_, ()> {
     for label in list(case, "labels") {
@@ -131,26 +142,12 @@ fn check_labels(case: &Value) -> Read<'_, ()> {
 
 /// Refuses a source that has a member which a cache of this name doesn't read.
 fn check_unread<'c>(source: &'c Value, cache: &str) -> Read<'c, ()> {
-    if cache == FILES {
-        check_lacks(
-            source,
-            "text",
-            "no member beside a FileCache, which reads files",
-        )?;
-        return check_lacks(
-            source,
-            "line_offset",
-            "no member beside a FileCache, which counts from 1",
-        );
+    for (unread, name, wrong) in UNREAD.iter() {
+        if *unread == cache && has(source, name) {
+            return Err(Mistake::Odd(name, wrong));
+        }
     }
-    if cache != "FnCache" {
-        return Ok(());
-    }
-    check_lacks(
-        source,
-        "line_offset",
-        "no member beside an FnCache, whose function returns texts",
-    )
+    Ok(())
 }
 
 /// Refuses a source that has an odd member, or lacks its id, or its text where that is in no file.
@@ -179,8 +176,8 @@ fn check_form(case: &Value) -> Read<'_, ()> {
         check_has(case, "source")?;
     }
     for (name, other, wrong) in CLASHES.iter() {
-        if has(case, other) {
-            check_lacks(case, name, wrong)?;
+        if has(case, name) && has(case, other) {
+            return Err(Mistake::Odd(name, wrong));
         }
     }
     Ok(())

@@ -35,9 +35,17 @@ pub fn color_of(text: &str) -> Option<Color> {
 /// A colour that has numbers.
 fn numbered_color(text: &str) -> Option<Color> {
     if let Some(number) = text.strip_prefix("Fixed ") {
-        return Some(Color::Fixed(number.parse().ok()?));
+        return Some(Color::Fixed(byte_of(number)?));
     }
     let (red, rest) = text.strip_prefix("Rgb ")?.split_once(' ')?;
     let (green, blue) = rest.split_once(' ')?;
-    Some(Color::Rgb(red.parse().ok()?, green.parse().ok()?, blue.parse().ok()?))
+    match (byte_of(red), byte_of(green), byte_of(blue)) {
+        (Some(red), Some(green), Some(blue)) => Some(Color::Rgb(red, green, blue)),
+        _ => None,
+    }
+}
+
+/// A number of a colour.
+fn byte_of(digits: &str) -> Option<u8> {
+    digits.parse().ok()
 }

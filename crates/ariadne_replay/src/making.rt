@@ -285,15 +285,26 @@ fn filled<'c, S: Placed>(
     Ok(builder)
 }
 
+/// The report of a case, of a kind and with a configuration.
+fn made<'c, S: Placed>(
+    alloc: Global,
+    case: &Value,
+    kind: ReportKind<'c>,
+    config: Config,
+    way: Way,
+) -> Result<Report<'c, S>, AllocError> {
+    let builder = begun(alloc, case, kind)?.with_config(config);
+    let mut builder = filled(alloc, builder, way, case)?;
+    add_painted(alloc, &mut builder, case)?;
+    Ok(builder.finish())
+}
+
 /// The report of a case.
 pub fn report_of<S: Placed>(alloc: Global, case: &Value) -> Read<'_, Report<'_, S>> {
     let kind = kind_of(case)?;
     let config = config_of(case)?;
     let way = word(case, "builder", &WAYS, Way::Add, "not a way of the builder")?;
-    let builder = begun(alloc, case, kind)?.with_config(config);
-    let mut builder = filled(alloc, builder, way, case)?;
-    add_painted(alloc, &mut builder, case)?;
-    Ok(builder.finish())
+    Ok(made(alloc, case, kind, config, way)?)
 }
 
 /// How far the line numbers of a source are moved that has so many lines.

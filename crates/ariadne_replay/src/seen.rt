@@ -1,6 +1,6 @@
 //! Texts as a case writes them: what can't be seen stands as an escape of a TOML text.
 
-use std::alloc::AllocError;
+use std::fmt;
 use unicode_width::UnicodeWidthChar;
 
 /// Whether a character can't be seen, or can't be told from another: a control, white space other
@@ -10,39 +10,44 @@ pub fn is_unseen(character: char) -> bool {
     character.is_control() || character.is_whitespace() && !is_blank || character.width() == Some(0)
 }
 
-/// Adds a character by its escape.
-fn add_escape(text: &mut String, character: char) -> Result<(), AllocError> {
+/// Writes a character by its escape.
+fn write_escape<W: fmt::Write>(f: &mut fmt::Formatter<W>, character: char) -> fmt::Result {
     match character {
-        '\\' => text.push_str("\\\\"),
-        '\t' => text.push_str("\\t"),
-        '\n' => text.push_str("\\n"),
-        '\r' => text.push_str("\\r"),
-        '\u{1b}' => text.push_str("\\e"),
-        _ => add_code(text, u32::from(character)),
+        '\\' => f.write_str("\\\\"),
+        '\t' => f.write_str("\\t"),
+        '\n' => f.write_str("\\n"),
+        '\r' => f.write_str("\\r"),
+        '\u{1b}' => f.write_str("\\e"),
+        _ => write_code(f, u32::from(character)),
     }
 }
 
-/// Adds a character by its number.
-fn add_code(text: &mut String, code: u32) -> Result<(), AllocError> {
+/// Writes a character by its number.
+fn write_code<W: fmt::Write>(f: &mut fmt::Formatter<W>, code: u32) -> fmt::Result {
     match code {
-        0..0x100 => write!(text, "\\x{code:02x}"),
-        0x100..0x1_0000 => write!(text, "\\u{code:04x}"),
-        _ => write!(text, "\\U{code:08x}"),
+        0..0x100 => write!(f, "\\x{code:02x}"),
+        0x100..0x1_0000 => write!(f, "\\u{code:04x}"),
+        _ => write!(f, "\\U{code:08x}"),
     }
 }
 
-/// Adds a row of a text as a case writes it. A blank at its end is escaped too.
-pub fn add_row(text: &mut String, row: &str) -> Result<(), AllocError> {
-    let body = row.strip_suffix(' ').unwrap_or(row);
-    for character in body.chars() {
-        if is_unseen(character) || character == '\\' {
-            add_escape(text, character)?;
-        } else {
-            text.push(character)?;
+/// A row of a text as a case writes it. A blank at its end is escaped too.
+#[derive(Clone, Copy)]
+pub struct Row<'t>(pub &'t str);
+
+impl fmt::Display for Row<'_> {
+    fn fmt<W: fmt::Write>(&self, f: &mut fmt::Formatter<W>) -> fmt::Result {
+        let body = self.0.strip_suffix(' ').unwrap_or(self.0);
+        for character in body.chars() {
+            if is_unseen(character) || character == '\\' {
+                write_escape(f, character)?;
+            } else {
+                f.write_char(character)?;
+            }
         }
+        if body.len() < self.0.len() {
+            return f.write_str("\\x20");
+        }
+        Ok(())
     }
-    if body.len() < row.len() {
-        return text.push_str("\\x20");
-    }
-    Ok(())
 }

@@ -2,36 +2,39 @@
 //! differ.
 
 use crate::pieces::Piece;
-use crate::seen::add_row;
+use crate::seen::Row;
 use crate::sending::Answer;
 use crate::stored::Stored;
-use std::alloc::{AllocError, Global};
-use std::io;
+use std::{fmt, io};
 
 /// A text between quotes, as a JSON text.
-fn quoted(alloc: Global, text: &str) -> Result<String, AllocError> {
-    let mut quoted = String::from_str(alloc, "\"")?;
-    for character in text.chars() {
-        if character == '\n' {
-            quoted.push_str("\\n")?;
-        } else if character.is_control() || character == '"' || character == '\\' {
-            write!(quoted, "\\u{:04x}", u32::from(character))?;
-        } else {
-            quoted.push(character)?;
+#[derive(Clone, Copy)]
+struct Quoted<'t>(&'t str);
+
+impl fmt::Display for Quoted<'_> {
+    fn fmt<W: fmt::Write>(&self, f: &mut fmt::Formatter<W>) -> fmt::Result {
+        f.write_char('"')?;
+        for character in self.0.chars() {
+            if character == '\n' {
+                f.write_str("\\n")?;
+            } else if character.is_control() || character == '"' || character == '\\' {
+                write!(f, "\\u{:04x}", u32::from(character))?;
+            } else {
+                f.write_char(character)?;
+            }
         }
+        f.write_char('"')
     }
-    quoted.push('"')?;
-    Ok(quoted)
 }
 
 /// Tells what is drawn of a report of a name, as a line of JSON.
 pub fn tell_answer(rt: &HostRuntime, name: &str, answer: &Answer) -> io::Result<()> {
-    let name = quoted(rt.alloc(), name)?;
-    let picture = quoted(rt.alloc(), answer.picture.as_str())?;
     println!(rt;
-        "{{\"answer\": {name}, \"left_out\": {}, \"fails\": \"{}\", \"picture\": {picture}}}",
+        "{{\"answer\": {}, \"left_out\": {}, \"fails\": \"{}\", \"picture\": {}}}",
+        Quoted(name),
         answer.left_out,
-        answer.end.name()
+        answer.end.name(),
+        Quoted(answer.picture.as_str())
     )
 }
 
@@ -68,12 +71,11 @@ fn tell_failure(rt: &HostRuntime, answer: &Answer) -> io::Result<()> {
 
 /// Tells a picture as the last member of its case.
 fn tell_picture(rt: &HostRuntime, picture: &str) -> io::Result<()> {
-    let mut shown = String::new(rt.alloc());
+    print!(rt; "picture = \"\"\"")?;
     for row in picture.split('\n') {
-        shown.push('\n')?;
-        add_row(&mut shown, row)?;
+        print!(rt; "\n{}", Row(row))?;
     }
-    println!(rt; "picture = \"\"\"{shown}\"\"\"")
+    println!(rt; "\"\"\"")
 }
 
 /// Tells a case with what was drawn in place of what is stored. Its members above `left_out` and
@@ -122,12 +124,10 @@ pub fn tell_difference(
 
 /// Tells a row behind a mark and a sign, if there is one.
 fn tell_row(rt: &HostRuntime, mark: char, sign: char, row: Option<&str>) -> io::Result<()> {
-    let Some(row) = row else {
-        return Ok(());
-    };
-    let mut shown = String::new(rt.alloc());
-    add_row(&mut shown, row)?;
-    println!(rt; "{mark} {sign} {shown}")
+    match row {
+        Some(row) => println!(rt; "{mark} {sign} {}", Row(row)),
+        None => Ok(()),
+    }
 }
 
 /// Tells a row of two pictures, and returns whether it is the same in both.
