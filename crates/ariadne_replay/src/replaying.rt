@@ -93,25 +93,50 @@ pub fn answer_of<'c>(rt: &HostRuntime, case: &'c Value) -> Read<'c, Answer> {
     }
     let call = call_of(case)?;
     match (has(case, "source"), with_last) {
-        (true, false) => over_source::<Range<usize>>(rt.alloc(), call, case),
-        (true, true) => over_source::<RangeInclusive<usize>>(rt.alloc(), call, case),
-        (false, false) => over_sources::<(String, Range<usize>)>(rt, call, case),
-        (false, true) => over_sources::<(String, RangeInclusive<usize>)>(rt, call, case),
+        (true, false) => plain::<Range<usize>>(rt.alloc(), call, case),
+        (true, true) => plain::<RangeInclusive<usize>>(rt.alloc(), call, case),
+        (false, false) => named::<(String, Range<usize>)>(rt, call, case),
+        (false, true) => named::<(String, RangeInclusive<usize>)>(rt, call, case),
     }
 }
 
 /// What is drawn of a case over one source without an id.
-fn over_source<'c, S: Placed + Span<SourceId = ()>>(
+fn plain<S: Placed + Span<SourceId = ()>>(
     alloc: Global,
     call: Call,
-    case: &'c Value,
-) -> Read<'c, Answer> {
+    case: &Value,
+) -> Read<'_, Answer> {
     let report = report_of::<S>(alloc, case)?;
     let sending = Sending {
         alloc,
         call,
         report,
     };
+    over_source(&sending, case)
+}
+
+/// What is drawn of a case over sources that have ids.
+fn named<'c, S: Placed + Span<SourceId = String>>(
+    rt: &HostRuntime,
+    call: Call,
+    case: &'c Value,
+) -> Read<'c, Answer> {
+    let alloc = rt.alloc();
+    let report = report_of::<S>(alloc, case)?;
+    let sending = Sending {
+        alloc,
+        call,
+        report,
+    };
+    over_sources(rt, &sending, case)
+}
+
+/// What is drawn of a report over its only source.
+fn over_source<'c, S: Span<SourceId = ()>>(
+    sending: &Sending<'c, S>,
+    case: &'c Value,
+) -> Read<'c, Answer> {
+    let alloc = sending.alloc;
     let words = text(case, "source").unwrap_or("");
     match word(
         case,
@@ -127,7 +152,7 @@ fn over_source<'c, S: Placed + Span<SourceId = ()>>(
         }
         form => {
             let source = counted(alloc, words.to_string(alloc)?, case)?;
-            Ok(over_string(&sending, source, form)?)
+            Ok(over_string(sending, source, form)?)
         }
     }
 }
@@ -156,19 +181,12 @@ fn default_cache(case: &Value) -> Several {
     }
 }
 
-/// What is drawn of a case over sources that have ids.
-fn over_sources<'c, S: Placed + Span<SourceId = String>>(
+/// What is drawn of a report over sources that have ids.
+fn over_sources<'c, S: Span<SourceId = String>>(
     rt: &HostRuntime,
-    call: Call,
+    sending: &Sending<'c, S>,
     case: &'c Value,
 ) -> Read<'c, Answer> {
-    let alloc = rt.alloc();
-    let report = report_of::<S>(alloc, case)?;
-    let sending = Sending {
-        alloc,
-        call,
-        report,
-    };
     match word(
         case,
         "cache",
@@ -176,14 +194,22 @@ fn over_sources<'c, S: Placed + Span<SourceId = String>>(
         default_cache(case),
         "not a cache of sources with ids",
     )? {
-        Several::Map => Ok(over_map(&sending, case)?),
-        Several::Given => over_given_sources(&sending, case),
-        Several::Pair => over_pair(&sending, case, false),
-        Several::LentPair => over_pair(&sending, case, true),
-        Several::Function => Ok(over_function(&sending, case)?),
-        Several::Files => Ok(sending.over(&mut FileCache::new(rt, alloc))?),
+        Several::Map => over_map(sending, case),
+        Several::Given => over_given_sources(sending, case),
+        Several::Pair => over_pair(sending, case, false),
+        Several::LentPair => over_pair(sending, case, true),
+        Several::Function => over_function(sending, case),
+        Several::Files => over_files(rt, sending),
         Several::NoMemory => Ok(sending.over(&mut Forgetful)?),
     }
+}
+
+/// What is drawn of a report over the files that its ids name.
+fn over_files<'c, S: Span<SourceId = String>>(
+    rt: &HostRuntime,
+    sending: &Sending<'c, S>,
+) -> Read<'c, Answer> {
+    Ok(sending.over(&mut FileCache::new(rt, sending.alloc))?)
 }
 
 /// The id of a source.
@@ -197,15 +223,15 @@ fn text_in(source: &Value) -> &str {
 }
 
 /// What is drawn of a report over a map of the sources.
-fn over_map<S: Span<SourceId = String>>(
-    sending: &Sending<'_, S>,
-    case: &Value,
-) -> Result<Answer, AllocError> {
+fn over_map<'c, S: Span<SourceId = String>>(
+    sending: &Sending<'c, S>,
+    case: &'c Value,
+) -> Read<'c, Answer> {
     let mut texts = Vec::new(sending.alloc);
     for source in list(case, "sources") {
         texts.push((id_in(sending.alloc, source)?, text_in(source)))?;
     }
-    sending.over(&mut sources(sending.alloc, texts)?)
+    Ok(sending.over(&mut sources(sending.alloc, texts)?)?)
 }
 
 /// Fails for every id.
@@ -264,11 +290,11 @@ fn answered(alloc: Global, sources: &[Value], id: &str) -> Result<String, ()> {
 }
 
 /// What is drawn of a report over a cache whose function returns the texts.
-fn over_function<S: Span<SourceId = String>>(
-    sending: &Sending<'_, S>,
-    case: &Value,
-) -> Result<Answer, AllocError> {
+fn over_function<'c, S: Span<SourceId = String>>(
+    sending: &Sending<'c, S>,
+    case: &'c Value,
+) -> Read<'c, Answer> {
     let (alloc, sources) = (sending.alloc, list(case, "sources"));
     let get = |id: &String| -> Result<String, ()> { answered(alloc, sources, id.as_str()) };
-    sending.over(&mut FnCache::new(alloc, get))
+    Ok(sending.over(&mut FnCache::new(alloc, get))?)
 }
