@@ -13,48 +13,33 @@ pub data Layer : Type 0 where
   foreground : Layer
   background : Layer
 
--- the parameter of one of the eight basic colours, of one of the bright ones, and of all others
-abbrev pub basic : Layer → ℕ → List ℕ
-basic foreground n = decimal (30 + n)
-basic background n = decimal (40 + n)
-
--- that of one of the eight bright colours
-abbrev pub bright : Layer → ℕ → List ℕ
-bright foreground n = decimal (90 + n)
-bright background n = decimal (100 + n)
-
--- what stands before the numbers of any other
-abbrev pub extended : Layer → List ℕ
-extended foreground = codes "38"
-extended background = codes "48"
-
--- that of the terminal's own colour
-abbrev pub default : Layer → List ℕ
-default foreground = codes "39"
-default background = codes "49"
+-- a parameter in front; the same colour behind has one that is greater by ten
+abbrev pub parameter : Layer → ℕ → List ℕ
+parameter foreground n = decimal n
+parameter background n = decimal (n + 10)
 
 -- the parameters of a colour, as they stand between ESC [ and m
 abbrev pub parameters : Layer → Color → List ℕ
-parameters y Primary = default y
-parameters y (Fixed n) = extended y ++ codes ";5;" ++ decimal n
+parameters y Primary = parameter y 39
+parameters y (Fixed n) = parameter y 38 ++ codes ";5;" ++ decimal n
 parameters y (Rgb r g b) =
-    extended y ++ codes ";2;" ++ decimal r ++ codes ";" ++ decimal g ++ codes ";" ++ decimal b
-parameters y Black = basic y 0
-parameters y Red = basic y 1
-parameters y Green = basic y 2
-parameters y Yellow = basic y 3
-parameters y Blue = basic y 4
-parameters y Magenta = basic y 5
-parameters y Cyan = basic y 6
-parameters y White = basic y 7
-parameters y BrightBlack = bright y 0
-parameters y BrightRed = bright y 1
-parameters y BrightGreen = bright y 2
-parameters y BrightYellow = bright y 3
-parameters y BrightBlue = bright y 4
-parameters y BrightMagenta = bright y 5
-parameters y BrightCyan = bright y 6
-parameters y BrightWhite = bright y 7
+    parameter y 38 ++ codes ";2;" ++ decimal r ++ codes ";" ++ decimal g ++ codes ";" ++ decimal b
+parameters y Black = parameter y 30
+parameters y Red = parameter y 31
+parameters y Green = parameter y 32
+parameters y Yellow = parameter y 33
+parameters y Blue = parameter y 34
+parameters y Magenta = parameter y 35
+parameters y Cyan = parameter y 36
+parameters y White = parameter y 37
+parameters y BrightBlack = parameter y 90
+parameters y BrightRed = parameter y 91
+parameters y BrightGreen = parameter y 92
+parameters y BrightYellow = parameter y 93
+parameters y BrightBlue = parameter y 94
+parameters y BrightMagenta = parameter y 95
+parameters y BrightCyan = parameter y 96
+parameters y BrightWhite = parameter y 97
 
 -- a text in a colour, if there is one: ESC [ parameters m, the text, ESC [ 0 m
 abbrev pub painted_in : Layer → Option Color → List ℕ → List ℕ

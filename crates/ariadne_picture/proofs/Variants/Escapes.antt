@@ -9,7 +9,7 @@ use Rattle.std.proofs.lemmas.Bool.{cond_both, cond-true, and_from, and_parts, lt
 use Rattle.std.proofs.lemmas.List.{append-nil, length-append}
 use Rattle.std.proofs.lemmas.List.Folds.{list_all-append}
 use Rattle.ariadne_color.specs.declared.color.Color.{Color}
-use Rattle.ariadne_color.specs.declared.color.Color.TheVariants.{Primary, Fixed, Rgb}
+use Rattle.ariadne_color.specs.declared.color.Color.TheVariants.{Fixed, Rgb}
 use Rattle.ariadne_color.specs.Colors.{foreground, parameters, painted}
 use Rattle.ariadne_picture.specs.Lists.{joined}
 use Rattle.ariadne_picture.specs.Canvas.{Cell}
@@ -132,12 +132,14 @@ behind p n a = parameters-append (p ++ codes ";") (decimal n) (parameters-append
 -- each colour's are numbers with semicolons between them
 color-parameters : (c : Color) → AreParameters (parameters foreground c)
 unfolding is_parameter
-color-parameters Primary = refl
-color-parameters (Fixed n) = parameters-append (codes "38;5;") (decimal n) refl (decimal-parameters n)
+color-parameters (Fixed n) =
+    let first = parameters-append (decimal 38) (codes ";5;") (decimal-parameters 38) refl in
+    parameters-append (decimal 38 ++ codes ";5;") (decimal n) first (decimal-parameters n)
 color-parameters (Rgb r g b) =
-    let red = parameters-append (codes "38;2;") (decimal r) refl (decimal-parameters r) in
-    let green = behind (codes "38;2;" ++ decimal r) g red in
-    behind (codes "38;2;" ++ decimal r ++ codes ";" ++ decimal g) b green
+    let first = parameters-append (decimal 38) (codes ";2;") (decimal-parameters 38) refl in
+    let red = parameters-append (decimal 38 ++ codes ";2;") (decimal r) first (decimal-parameters r) in
+    let green = behind (decimal 38 ++ codes ";2;" ++ decimal r) g red in
+    behind (decimal 38 ++ codes ";2;" ++ decimal r ++ codes ";" ++ decimal g) b green
 color-parameters _ = decimal-parameters _
 
 -- ---- cells and rows
