@@ -1,6 +1,6 @@
 -- Stretches of places that each show one label, and what they show at each place.
 use Rattle.std.proofs.Common.{◌≡◌, ℕ, ◌+◌, ◌-◌, ◌<◌, ◌≤◌, Bool, true, false, ◌&&◌, cond, List, [], ◌∷◌, ◌++◌, Option, Some, None, filter, map, nat_lt, option_map, option_copied}
-use Rattle.std.proofs.Common.{◌==◌, refl, sym, ap, ◌∙◌, subst, arith, inl, inr}
+use Rattle.std.proofs.Common.{◌==◌, refl, sym, ap, ◌∙◌, subst, arith, inl, inr, unwrap_or}
 use Rattle.std.specs.List.{AllByRecursion, best_of}
 use Rattle.std.proofs.lemmas.Bool.{cond-true, cond-false, cases_lt, eq-eqb, lt-ltb, le-ltb}
 use Rattle.std.proofs.lemmas.List.{append-nil, append_assoc}
@@ -15,9 +15,11 @@ use Rattle.ariadne_picture.specs.declared.label_info.LineLabel.{LineLabel}
 use Rattle.ariadne_picture.specs.declared.switches.Switches.{Switches}
 use Rattle.ariadne_picture.specs.Columns.{Layout}
 use Rattle.ariadne_picture.specs.Lists.{best}
-use Rattle.ariadne_picture.specs.Pieces.{painters, painter_paint, char_paint}
+use Rattle.ariadne_picture.specs.Pieces.{painters, char_paint}
 use Rattle.ariadne_picture.specs.Ranks.{is_inline}
 use Rattle.ariadne_picture.specs.Strokes.{holds, is_preferred, underlines_at, underline_at, underline_row}
+use Rattle.ariadne_picture.specs.Cells.{paint_of}
+use Rattle.ariadne_picture.specs.declared.cell.Paint.TheVariants.{Unimportant}
 
 -- ---- stretches, one after another
 
@@ -182,8 +184,9 @@ abbrev pub painter_position : List LabelInfo → Layout → ℕ → Option ℕ
 painter_position multi_line y k = shown_position (painters multi_line y) (y.offset + k)
 
 -- the colour of the label at a position
-paint-position : (o : Option LabelInfo) → position_paint (option_map (λ (a : LabelInfo). a.position) o) ≡ painter_paint o
-unfolding position_paint painter_paint
+paint-position : (o : Option LabelInfo)
+    → position_paint (option_map (λ (a : LabelInfo). a.position) o) ≡ unwrap_or (option_map paint_of o) Unimportant
+unfolding position_paint
 paint-position None = refl
 paint-position (Some a) = refl
 

@@ -13,7 +13,7 @@ use Rattle.ariadne_cells.proofs.Drawn.{draws_rows-append}
 use Rattle.ariadne_picture.specs.declared.label_info.LabelInfo.{LabelInfo}
 use Rattle.ariadne_picture.specs.declared.verdict.Verdict.TheVariants.{Accepted}
 use Rattle.ariadne_picture.specs.Accept.{info_of, offset_in_chars, text_len, verdict, within}
-use Rattle.ariadne_picture.specs.Canvas.{group_id, group_name, group_source, header_offset, section_of, sheet_of, texts_of}
+use Rattle.ariadne_picture.specs.Canvas.{group_id, group_source, header_offset, section_of, texts_of}
 use Rattle.ariadne_picture.specs.Groups.{group_lines}
 use Rattle.ariadne_picture.specs.Lists.{joined}
 use Rattle.ariadne_picture.specs.Pieces.{Section, Texts, location_text, row_pieces, section_rows}
@@ -129,7 +129,7 @@ module _ {S Id : Type 0} (w : World S Id) (r : ReportFields S) where
     pub section_name : (id : Id) → group_id w r labels ≡ Some id → (o : Option (Bor (List ℕ))) → option_copied o ≡ w.name_of id
         → (unknown : Bor (List ℕ)) → unknown.now ≡ codes "<unknown>" → (name : Bor (List ℕ)) → name ≡ unwrap_or o unknown
         → (section_of w r n (k, labels)).name ≡ name.now
-    unfolding section_of group_name
+    unfolding section_of
     section_name id named o e unknown none name is =
         ap (λ i. unwrap_or (option_and_then w.name_of i) (codes "<unknown>")) named ∙ (λ i. unwrap_or (sym e i) (sym none i))
         ∙ sym (ap (λ (b : Bor (List ℕ)). b.now) is ∙ copied_or o unknown)
@@ -139,18 +139,18 @@ module _ {S Id : Type 0} (w : World S Id) (r : ReportFields S) where
         → location_text (listed_lines source) source.display_offset (header_offset w r labels) ≡ numbers
         → location_text (section_of w r n (k, labels)).sheet.lines (section_of w r n (k, labels)).display_offset
         (section_of w r n (k, labels)).header_offset ≡ numbers
-    unfolding section_of sheet_of
+    unfolding section_of
     section_location source over numbers e =
         ap (λ (s : Listing). location_text (listed_lines s) s.display_offset (header_offset w r labels)) over ∙ e
 
     -- its switches are those of the report
     pub section_switches : (section_of w r n (k, labels)).sheet.switches ≡ switches_of r.config
-    unfolding section_of sheet_of
+    unfolding section_of
     section_switches = refl
 
     -- its labels
     pub section_labels : (section_of w r n (k, labels)).sheet.labels ≡ labels
-    unfolding section_of sheet_of
+    unfolding section_of
     section_labels = refl
 
     -- it stands on a page of the report's switches
@@ -160,7 +160,7 @@ module _ {S Id : Type 0} (w : World S Id) (r : ReportFields S) where
     -- its lines are those of its source
     pub section_source : (page : PageFields) → page.switches ≡ switches_of r.config → (source : Listing) → source ≡ group_source w r labels
         → IsDrawnGroup (texts_of r) (section_of w r n (k, labels)) page.switches source labels
-    unfolding section_of sheet_of
+    unfolding section_of
     section_source page e source over = record {
       texts = texts_switches r ∙ sym e;
       sheet = λ i. record { switches = sym e i; lines = listed_lines (sym over i); labels = labels };

@@ -14,7 +14,7 @@ use Rattle.ariadne_base.specs.Cache.{held}
 use Rattle.ariadne_base.specs.Listing.{Listing, listed_lines}
 use Rattle.ariadne_picture.specs.declared.label_info.LabelInfo.{LabelInfo}
 use Rattle.ariadne_picture.specs.Canvas.{label_id, is_same_id, same_source, group_id, group_source, number_width}
-use Rattle.ariadne_picture.specs.Groups.{is_cut, group_end_line, greatest, HasNoCut, AreCut, groups_of, number_len, printed_number}
+use Rattle.ariadne_picture.specs.Groups.{is_cut, group_end_line, greatest, HasNoCut, AreCut, groups_of, printed_number}
 use Rattle.ariadne_picture.specs.Report.{HaveOneSource, LabelFields, ReportFields, World}
 use Rattle.ariadne_picture.proofs.Lists.ListFacts.{all-weaker}
 use Rattle.ariadne_accept.specs.Drawn.{AreDrawn, AreThere, IsDrawn}
@@ -129,12 +129,12 @@ module _ {S Id : Type 0} (w : World S Id) (r : ReportFields S) where
   -- how wide the numbers of groups are, by the first and the others
   pub width_more : (g : List LabelInfo) (gs : List (List LabelInfo)) (n : ℕ) → n ≡ group_end_line g + 1 + (group_source w r g).display_offset
       → number_width w r (g ∷ gs) ≡ max (length (decimal n)) (number_width w r gs)
-  unfolding number_width number_len printed_number
+  unfolding number_width greatest printed_number
   width_more g gs n e = ap (λ k. max (length (decimal k)) (number_width w r gs)) (sym e)
 
   -- no group has no width
   pub width_none : number_width w r (groups_of (same_source w r) []) ≡ 0
-  unfolding number_width groups_of
+  unfolding number_width greatest groups_of
   width_none = refl
 
   -- a group that begins at `start` and ends before `end`

@@ -24,6 +24,7 @@ use Rattle.ariadne_picture.proofs.Lists.ListFacts.{all-in_order}
 use Rattle.ariadne_rows.proofs.Listing.{put-back}
 use Rattle.ariadne_accept.specs.Drawn.{AreDrawn, IsDrawn}
 use Rattle.ariadne_drawing.specs.WholePages.{shown_palette}
+use Rattle.ariadne_picture.proofs.Parts.{outline-is}
 
 -- ---- one group after another
 
@@ -174,9 +175,10 @@ module _ {S Id : Type 0} (w : World S Id) (r : ReportFields S) (infos sorted : L
   outline_is : (width : ℕ) → width ≡ number_width w r (groups_of (same_source w r) sorted)
       → outline w r infos
       ≡ header_pieces (texts_of r) ∷ rows_from w r width (length (groups_of (same_source w r) sorted)) 0 (groups_of (same_source w r) sorted)
-  unfolding outline groups
+  unfolding groups
   outline_is width e =
-      (λ i. header_pieces (texts_of r)
+      outline-is w r infos
+      ∙ (λ i. header_pieces (texts_of r)
       ∷ rows_from w r (number_width w r (groups_of (same_source w r) (sym same i))) (length (groups_of (same_source w r) (sym same i))) 0
       (groups_of (same_source w r) (sym same i)))
       ∙ ap (λ n. header_pieces (texts_of r)

@@ -1,4 +1,5 @@
 pub mod Lists
+pub mod Parts
 pub mod Labels
 pub mod Rows
 pub mod Cells

@@ -1,8 +1,8 @@
 -- The picture of a report: its header, and the rows of its groups. The outline tells of each piece
 -- whose colour it has; the canvas looks the colours up.
-use Rattle.std.specs.Prelude.{ℕ, ◌+◌, max, Bool, false, ◌==◌, nat_le, if◌then◌else◌, List, [], ◌∷◌}
+use Rattle.std.specs.Prelude.{ℕ, ◌+◌, Bool, false, ◌==◌, nat_le, if◌then◌else◌, List, [], ◌∷◌}
 use Rattle.std.specs.Prelude.{◌++◌, length, map, Option, Some, None, slice_get, slice_index_or}
-use Rattle.std.specs.Prelude.{unwrap_or, option_and_then, option_map, codes, chars}
+use Rattle.std.specs.Prelude.{unwrap_or, option_and_then, option_map, codes, chars, decimal}
 use Rattle.std.specs.List.{enumerate_from}
 use Rattle.ariadne_base.specs.Listing.{Listing, listed_lines}
 use Rattle.ariadne_color.specs.declared.color.Color.{Color}
@@ -16,8 +16,7 @@ use Rattle.ariadne_picture.specs.Report.{ReportFields, World, switches_of, error
 use Rattle.ariadne_picture.specs.Report.{custom}
 use Rattle.ariadne_picture.specs.Report as report
 use Rattle.ariadne_picture.specs.Accept.{text_len, offset_in_chars}
-use Rattle.ariadne_picture.specs.Groups.{ordered, groups_of, number_len}
-use Rattle.ariadne_picture.specs.Ranks.{Sheet}
+use Rattle.ariadne_picture.specs.Groups.{ordered, groups_of, greatest, group_end_line, printed_number}
 use Rattle.ariadne_picture.specs.Pieces.{Piece, painted_text, plain_text, Texts, Section}
 use Rattle.ariadne_picture.specs.Pieces.{section_rows}
 
@@ -62,11 +61,7 @@ pub record Palette : Type 0 where
 -- the colours that a report asks for
 abbrev pub palette_of : {S : Type 0} → ReportFields S → Palette
 palette_of r =
-    record {
-      is_on = r.config.color;
-      kind = kind_color r.kind;
-      labels = map (λ label. label.color) r.labels;
-    }
+    record { is_on = r.config.color; kind = kind_color r.kind; labels = map (λ label. label.color) r.labels }
 
 -- the colour that a paint asks for. Margins are line numbers and the strokes round the lines of a
 -- group; those of rows without a line number are skipped ones; unimportant is source text outside of
@@ -127,10 +122,6 @@ module _ {S Id : Type 0} (w : World S Id) (r : ReportFields S) where
       unwrap_or (option_and_then w.source_of (group_id group))
       (record { text = []; display_offset = 0 })
 
-  -- what it is called in the group header
-  unfoldable pub group_name : List LabelInfo → List ℕ
-  group_name group = unwrap_or (option_and_then w.name_of (group_id group)) (codes "<unknown>")
-
   -- the offset that a group header names: the report's own start, if it is in this source, else
   -- that of the group's first label
   unfoldable pub header_offset : List LabelInfo → Option ℕ
@@ -142,20 +133,11 @@ module _ {S Id : Type 0} (w : World S Id) (r : ReportFields S) where
       then offset_in_chars r.config.index_type text start else None)
       else option_map (λ a. a.start) (slice_get group 0)
 
-  -- a group's labels over the lines of its source
-  unfoldable pub sheet_of : List LabelInfo → Sheet
-  sheet_of group =
-      record {
-        switches = switches_of r.config;
-        lines = listed_lines (group_source group);
-        labels = group;
-      }
-
-  -- group number k of n
+  -- group number k of n: its labels over the lines of its source, whose name the group header tells
   unfoldable pub section_of : ℕ → ℕ × List LabelInfo → Section
   section_of n e = record {
-    sheet = sheet_of e.1;
-    name = group_name e.1;
+    sheet = record { switches = switches_of r.config; lines = listed_lines (group_source e.1); labels = e.1 };
+    name = unwrap_or (option_and_then w.name_of (group_id e.1)) (codes "<unknown>");
     display_offset = (group_source e.1).display_offset;
     header_offset = header_offset e.1;
     is_first = e.0 == 0;
@@ -168,21 +150,19 @@ module _ {S Id : Type 0} (w : World S Id) (r : ReportFields S) where
 
   -- how many columns the greatest line number of all groups takes
   unfoldable pub number_width : List (List LabelInfo) → ℕ
-  number_width [] = 0
-  number_width (group ∷ gs) =
-      max (number_len (group_source group).display_offset group) (number_width gs)
-
-  -- the rows of the picture of these labels, whose pieces tell whose colour they have
-  unfoldable pub outline : List LabelInfo → List (List Piece)
-  outline infos =
-      let gs = groups infos in
-      header_pieces (texts_of r)
-      ∷ joined (λ e. section_rows (texts_of r) (number_width gs) (section_of (length gs) e))
-      (enumerate_from 0 gs)
+  number_width gs =
+      greatest (map (λ group.
+      length (decimal (printed_number (group_source group).display_offset (group_end_line group)))) gs)
 
   -- the groups of these labels, each within the picture
   unfoldable pub sections : List LabelInfo → List Section
   sections infos = map (section_of (length (groups infos))) (enumerate_from 0 (groups infos))
+
+  -- the rows of the picture of these labels, whose pieces tell whose colour they have
+  unfoldable pub outline : List LabelInfo → List (List Piece)
+  outline infos =
+      header_pieces (texts_of r)
+      ∷ joined (section_rows (texts_of r) (number_width (groups infos))) (sections infos)
 
   -- the canvas of these labels
   unfoldable pub canvas : List LabelInfo → List (List Cell)

@@ -2,7 +2,7 @@
 -- ends on an earlier line than the one before it. Each group shows the lines from its first to its
 -- last.
 use Rattle.std.specs.Prelude.{ℕ, suc, ◌+◌, ◌-◌, ◌≡◌, max, Bool, true, false, not, ◌||◌, nat_lt}
-use Rattle.std.specs.Prelude.{int_lt, if◌then◌else◌, cond, List, [], ◌∷◌, map, length, decimal}
+use Rattle.std.specs.Prelude.{int_lt, if◌then◌else◌, cond, List, [], ◌∷◌, map}
 use Rattle.std.specs.List.{range_with_len}
 use Rattle.ariadne_picture.specs.declared.label_info.LabelInfo.{LabelInfo}
 use Rattle.ariadne_picture.specs.Lists.{in_order, joined}
@@ -85,8 +85,3 @@ group_lines group =
 -- a line's number as it is printed: from 1, with the source's display offset
 unfoldable pub printed_number : ℕ → ℕ → ℕ
 printed_number display_offset l = l + 1 + display_offset
-
--- how many digits the number of a group's last line has
-unfoldable pub number_len : ℕ → List LabelInfo → ℕ
-number_len display_offset group =
-    length (decimal (printed_number display_offset (group_end_line group)))

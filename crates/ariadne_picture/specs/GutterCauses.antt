@@ -8,10 +8,11 @@ use Rattle.ariadne_picture.specs.declared.label_info.LabelInfo.{LabelInfo}
 use Rattle.ariadne_picture.specs.declared.cell.Glyph.TheVariants.{Vbar, Lcross}
 use Rattle.ariadne_picture.specs.Lists.{all_numbered, any_numbered}
 use Rattle.ariadne_picture.specs.Ranks.{gutter_labels}
+use Rattle.ariadne_picture.specs.Strokes.{is_at_margin}
 use Rattle.ariadne_picture.specs.Pieces.{Section, gutter_len}
 use Rattle.ariadne_picture.specs.Canvas.{Cell}
 use Rattle.ariadne_picture.specs.Placing.Cells.{is_blank, is_glyph, is_level}
-use Rattle.ariadne_picture.specs.Placing.Group.{set_of, is_margin_at, column_cell, arrow_column}
+use Rattle.ariadne_picture.specs.Placing.Group.{set_of, column_cell, arrow_column}
 use Rattle.ariadne_picture.specs.Placing.Rows.{Placing, cell_at, gutter_cell}
 use Rattle.ariadne_picture.specs.Placing.GutterBars.{gutter_rows}
 
@@ -19,7 +20,7 @@ module _ (canvas : List (List Cell)) (sections : List Section) (p : Placing) whe
   module _ (g : ℕ) (s : Section) where
     -- row n shows line l, beside which gutter label i starts or ends as the margin label
     abbrev pub is_beside : ℕ → ℕ → ℕ → Bool
-    is_beside i l n = (n == p.source_row g l) && is_margin_at s l i
+    is_beside i l n = (n == p.source_row g l) && is_at_margin s.sheet l i
 
     -- row n has a horizontal of gutter label i, which is a: it is that of its head or of its message,
     -- or its end stands beside it

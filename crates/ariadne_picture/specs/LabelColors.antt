@@ -11,11 +11,12 @@ use Rattle.ariadne_picture.specs.declared.cell.Glyph.TheVariants.{Rarrow}
 use Rattle.ariadne_picture.specs.declared.cell.Paint.TheVariants.{Label}
 use Rattle.ariadne_picture.specs.Lists.{all_numbered}
 use Rattle.ariadne_picture.specs.Report.{ReportFields}
-use Rattle.ariadne_picture.specs.Ranks.{is_on_one_line}
+use Rattle.ariadne_picture.specs.Ranks.{gutter_labels, is_on_one_line}
+use Rattle.ariadne_picture.specs.Strokes.{is_at_margin}
 use Rattle.ariadne_picture.specs.Pieces.{Section, gutter_len}
 use Rattle.ariadne_picture.specs.Canvas.{Cell, palette_of, color_of}
 use Rattle.ariadne_picture.specs.Placing.Cells.{is_blank, is_glyph, is_level}
-use Rattle.ariadne_picture.specs.Placing.Group.{set_of, shown_lines, messages_of, is_margin_at, all_gutter_labels, column_cell, place_cell, has_cell}
+use Rattle.ariadne_picture.specs.Placing.Group.{set_of, shown_lines, messages_of, column_cell, place_cell, has_cell}
 use Rattle.ariadne_picture.specs.Placing.Rows.{Placing, between, cell_at, gutter_cell}
 use Rattle.ariadne_picture.specs.Placing.GutterBars.{gutter_rows}
 use Rattle.ariadne_picture.specs.Causes.{traces_below}
@@ -98,7 +99,7 @@ module _ (canvas : List (List Cell)) (sections : List Section) (p : Placing)
         let l = a.end_line in
         let n = p.message_row a.position in
         all_gutter_cells s i (has_color a n) && all_place_cells s l 0 (p.places g l) (has_color a n)
-        && (is_margin_at s l i || is_vertical_colored l a a.end_place n)
+        && (is_at_margin s.sheet l i || is_vertical_colored l a a.end_place n)
 
     -- the row of its head from its column to its corner, and its vertical, unless its head stands
     -- beside the line
@@ -106,7 +107,7 @@ module _ (canvas : List (List Cell)) (sections : List Section) (p : Placing)
     is_start_colored i a =
         let l = a.start_line in
         let n = p.head_row g i in
-        is_margin_at s l i || (all_gutter_cells s i (has_color a n)
+        is_at_margin s.sheet l i || (all_gutter_cells s i (has_color a n)
         && all_place_cells s l 0 (a.start_place + 1) (has_color a n)
         && is_vertical_colored l a a.start_place n)
 
@@ -114,7 +115,7 @@ module _ (canvas : List (List Cell)) (sections : List Section) (p : Placing)
     unfoldable pub is_pointer_colored : ℕ → LabelInfo → ℕ → Bool
     is_pointer_colored i a l =
         let n = p.source_row g l in
-        not (is_margin_at s l i) || all_gutter_cells s i
+        not (is_at_margin s.sheet l i) || all_gutter_cells s i
         (λ c. not (is_pointer (set_of s) (cell_at canvas n c)) || has_color a n c)
 
     -- all of this
@@ -129,4 +130,4 @@ module _ (canvas : List (List Cell)) (sections : List Section) (p : Placing)
   has_label_colors =
       all_numbered (λ g s.
       list_all (λ a. not (is_on_one_line a) || is_inline_colored g s a) (messages_of s)
-      && all_gutter_labels s (is_gutter_label_colored g s)) sections
+      && all_numbered (is_gutter_label_colored g s) (gutter_labels s.sheet)) sections

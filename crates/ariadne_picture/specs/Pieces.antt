@@ -2,7 +2,7 @@
 -- columns that they take. A piece tells whose colour it has, and not which.
 use Rattle.std.specs.Prelude.{ℕ, zero, suc, ◌+◌, ◌-◌, Bool, true, false, ◌==◌, if◌then◌else◌, List}
 use Rattle.std.specs.Prelude.{[], ◌∷◌, ◌++◌, length, map, replicate, Option, Some, None, filter}
-use Rattle.std.specs.Prelude.{slice_index, slice_index_or, slice_get, option_to_list, decimal}
+use Rattle.std.specs.Prelude.{slice_index, slice_index_or, slice_get, option_map, option_to_list, unwrap_or, decimal}
 use Rattle.std.specs.Prelude.{codes, encode_utf8}
 use Rattle.std.specs.Char.{is_whitespace}
 use Rattle.std.specs.Str.Lines.{lines}
@@ -14,7 +14,7 @@ use Rattle.ariadne_picture.specs.declared.cell.Glyph.{Glyph}
 use Rattle.ariadne_picture.specs.declared.cell.Glyph.TheVariants.{Hbar, Vbar, VbarGap, Ltop, Rbot}
 use Rattle.ariadne_picture.specs.declared.cell.Glyph.TheVariants.{Lbox, Rbox, Lcross}
 use Rattle.ariadne_picture.specs.declared.cell.Paint.{Paint}
-use Rattle.ariadne_picture.specs.declared.cell.Paint.TheVariants.{Plain, Label, Margin}
+use Rattle.ariadne_picture.specs.declared.cell.Paint.TheVariants.{Plain, Margin}
 use Rattle.ariadne_picture.specs.declared.cell.Paint.TheVariants.{SkippedMargin, Unimportant, Note}
 use Rattle.ariadne_picture.specs.declared.cell.Ink.{Ink}
 use Rattle.ariadne_picture.specs.Lists.{best, joined}
@@ -22,11 +22,11 @@ use Rattle.ariadne_picture.specs.declared.switches.Switches.{Switches}
 use Rattle.ariadne_picture.specs.Groups.{printed_number}
 use Rattle.ariadne_picture.specs.Ranks.{Sheet, is_start, multi_line_labels, gutter_labels}
 use Rattle.ariadne_picture.specs.Rows.{Aside, help, note, Row, group_header, spacer, source}
-use Rattle.ariadne_picture.specs.Rows.{alternate, arrow, gap, blank, piece, tail, rows}
+use Rattle.ariadne_picture.specs.Rows.{alternate, arrow, gap, bare, piece, tail, rows}
 use Rattle.ariadne_picture.specs.Columns.{Layout, layout_of, text_columns, shown, shown_columns}
 use Rattle.ariadne_picture.specs.Columns.{column_of, width, arrow_len}
 use Rattle.ariadne_picture.specs.Strokes.{holds, is_preferred}
-use Rattle.ariadne_picture.specs.Cells.{glyph_code, alternate_place, arrow_place, column_ink}
+use Rattle.ariadne_picture.specs.Cells.{glyph_code, paint_of, alternate_place, arrow_place, column_ink}
 
 -- a text, whose colour it has, and its columns
 pub record Piece : Type 0 where
@@ -71,15 +71,11 @@ unfoldable pub painters : List LabelInfo → Layout → List LabelInfo
 painters multi_line y =
     map (λ x. x.info) (option_to_list y.margin) ++ multi_line ++ map (λ x. x.info) y.labels
 
--- the colour of the label that paints a character
-unfoldable pub painter_paint : Option LabelInfo → Paint
-painter_paint None = Unimportant
-painter_paint (Some a) = Label a.position
-
--- the preferred one of those whose span holds character k of the line
+-- the colour of the preferred one of those whose span holds character k of the line
 unfoldable pub char_paint : List LabelInfo → Layout → ℕ → Paint
 char_paint multi_line y k =
-    painter_paint (best is_preferred (filter (λ a. holds a (y.offset + k)) (painters multi_line y)))
+    let painter = best is_preferred (filter (λ a. holds a (y.offset + k)) (painters multi_line y)) in
+    unwrap_or (option_map paint_of painter) Unimportant
 
 -- a character as it is shown: white space as a blank
 unfoldable pub shown_text : ℕ → List ℕ
@@ -92,16 +88,11 @@ char_pieces switches paint column c =
     if c == 9 then replicate columns (record { text = 32 ∷ []; paint = paint; columns = 1 })
     else record { text = shown_text c; paint = paint; columns = columns } ∷ []
 
--- the pieces of the character at place k
-unfoldable pub place_pieces : Switches → List LabelInfo → Layout → ℕ → List Piece
-place_pieces switches multi_line y k =
-    char_pieces switches (char_paint multi_line y k) (column_of switches y k)
-    (slice_index (shown y) k)
-
--- the text of a source row
+-- the text of a source row, character by character
 unfoldable pub shown_pieces : Switches → List LabelInfo → Layout → List Piece
 shown_pieces switches multi_line y =
-    joined (place_pieces switches multi_line y) (upto (length (shown y)))
+    joined (λ k. char_pieces switches (char_paint multi_line y k) (column_of switches y k) (slice_index (shown y) k))
+    (upto (length (shown y)))
 
 -- ---- the text area of an alternate or arrow row, whose place k has this ink
 
@@ -201,11 +192,7 @@ repeated n text = joined (λ k. text) (upto n)
 unfoldable pub tail_pieces : CharSet → ℕ → Bool → List Piece
 tail_pieces set digits false = spacer_pieces set digits
 tail_pieces set digits true =
-    record {
-      text = repeated (digits + 2) (glyph_text set Hbar) ++ glyph_text set Rbot;
-      paint = Margin;
-      columns = digits + 3;
-    } ∷ []
+    painted_text Margin (repeated (digits + 2) (glyph_text set Hbar) ++ glyph_text set Rbot) ∷ []
 
 -- the message that a label shows in its arrow row
 unfoldable pub message_pieces : Texts → Option LineLabel → List Piece
@@ -239,24 +226,22 @@ aside_pieces t a k zero =
 aside_pieces t a k (suc n) =
     plain_text (spaces (length (aside_prefix t a k) + 2) ++ aside_line t a k (suc n)) ∷ []
 
--- what follows the margin
-unfoldable pub rest_pieces : Texts → Section → Row → List Piece
-rest_pieces t s (source l) =
-    gutter_pieces s.sheet (source l)
-    ++ shown_pieces t.switches (multi_line_labels s.sheet) (layout_of s.sheet l)
-rest_pieces t s (alternate l r) =
-    let y = layout_of s.sheet l in
-    gutter_pieces s.sheet (alternate l r)
-    ++ area_pieces t.switches y (alternate_place t.switches y r)
-rest_pieces t s (arrow l r) =
+-- what follows the gutter
+unfoldable pub text_pieces : Texts → Section → Row → List Piece
+text_pieces t s (source l) = shown_pieces t.switches (multi_line_labels s.sheet) (layout_of s.sheet l)
+text_pieces t s (alternate l r) =
+    let y = layout_of s.sheet l in area_pieces t.switches y (alternate_place t.switches y r)
+text_pieces t s (arrow l r) =
     let y = layout_of s.sheet l in
     let x = slice_get y.labels r in
-    gutter_pieces s.sheet (arrow l r) ++ area_pieces t.switches y (arrow_place t.switches y r x)
-    ++ message_pieces t x
-rest_pieces t s (gap l) = gutter_pieces s.sheet (gap l)
-rest_pieces t s (blank a k) = gutter_pieces s.sheet (blank a k)
-rest_pieces t s (piece a k n) = gutter_pieces s.sheet (piece a k n) ++ aside_pieces t a k n
-rest_pieces t s row = []
+    area_pieces t.switches y (arrow_place t.switches y r x) ++ message_pieces t x
+text_pieces t s (piece a k n) = aside_pieces t a k n
+text_pieces t s row = []
+
+-- what follows the margin; a bare row ends with that
+unfoldable pub rest_pieces : Texts → Section → Row → List Piece
+rest_pieces t s (bare l) = []
+rest_pieces t s row = gutter_pieces s.sheet row ++ text_pieces t s row
 
 -- a row of a group, by its name
 unfoldable pub row_pieces : Texts → ℕ → Section → Row → List Piece

@@ -5,13 +5,12 @@
 use Rattle.std.specs.Prelude.{ℕ, ◌-◌, Bool, true, false, not, ◌&&◌, ◌||◌, ◌==◌, nat_lt, int_lt}
 use Rattle.std.specs.Prelude.{if◌then◌else◌, List, [], ◌∷◌, ◌++◌, length, map, Option, Some, None}
 use Rattle.std.specs.Prelude.{filter, is_some}
-use Rattle.std.specs.List.{enumerate_from}
 use Rattle.ariadne_picture.specs.declared.label_info.LabelInfo.{LabelInfo}
 use Rattle.ariadne_picture.specs.declared.label_info.LineLabel.{LineLabel}
 use Rattle.ariadne_picture.specs.declared.label_info.Side.{Side}
 use Rattle.ariadne_picture.specs.declared.label_info.Side.TheVariants.{Inline, Starts, Ends}
 use Rattle.ariadne_picture.specs.declared.switches.Switches.{Switches}
-use Rattle.ariadne_picture.specs.Lists.{in_order, best, joined}
+use Rattle.ariadne_picture.specs.Lists.{in_order, best, joined_numbered}
 
 -- a group's labels in order, over the lines of its source, in characters
 pub record Sheet : Type 0 where
@@ -59,14 +58,13 @@ gutter_labels h = filter (λ a. a.has_message) (multi_line_labels h)
 -- whether gutter label i starts or ends at line l
 unfoldable pub gutter_label_ends : ℕ → ℕ → LabelInfo → List LineLabel
 gutter_label_ends l i a =
-    (if a.start_line == l then record
-    { info = a; side = Starts; gutter_column = i; place = a.start_place } ∷ [] else [])
-    ++ (if a.end_line == l then record
-    { info = a; side = Ends; gutter_column = i; place = a.end_place } ∷ [] else [])
+    let first : LineLabel = record { info = a; side = Starts; gutter_column = i; place = a.start_place } in
+    let last : LineLabel = record { info = a; side = Ends; gutter_column = i; place = a.end_place } in
+    (if a.start_line == l then first ∷ [] else []) ++ (if a.end_line == l then last ∷ [] else [])
 
 -- the starts and ends of all gutter labels at line l
 unfoldable pub ends_at : Sheet → ℕ → List LineLabel
-ends_at h l = joined (λ e. gutter_label_ends l e.0 e.1) (enumerate_from 0 (gutter_labels h))
+ends_at h l = joined_numbered (gutter_label_ends l) (gutter_labels h)
 
 -- the least column, then the greater start
 unfoldable pub is_nearer_margin : LineLabel → LineLabel → Bool

@@ -2,9 +2,10 @@
 -- in the gutter a stroke covers rows of one column or columns of one row. Which of those that meet
 -- in a cell is seen is told elsewhere.
 use Rattle.std.specs.Prelude.{ℕ, ◌+◌, Bool, true, false, not, ◌&&◌, ◌||◌, ◌==◌, nat_le, nat_lt}
-use Rattle.std.specs.Prelude.{int_lt, if◌then◌else◌, drop, find, Option, Some, None, filter, List}
+use Rattle.std.specs.Prelude.{int_lt, if◌then◌else◌, drop, find, Option, None, filter, List}
 use Rattle.std.specs.Prelude.{slice_get}
 use Rattle.std.specs.List.{position_or_len}
+use Rattle.std.specs.Option.{option_map_or}
 use Rattle.ariadne_picture.specs.declared.label_info.LabelInfo.{LabelInfo}
 use Rattle.ariadne_picture.specs.declared.label_info.LineLabel.{LineLabel}
 use Rattle.ariadne_picture.specs.declared.label_info.Side.{Side}
@@ -63,17 +64,14 @@ underline_at switches y r k =
 
 -- ---- the gutter: gutter label i, in column i
 
--- gutter label i is the margin label of line l
-unfoldable pub is_at_margin : Sheet → ℕ → ℕ → Bool
+-- gutter label i starts or ends at line l as its margin label
+abbrev pub is_at_margin : Sheet → ℕ → ℕ → Bool
 is_at_margin h l i = is_of_gutter_label (margin_label h l) i
-
--- a line label is the start, or the end, of gutter label i
-unfoldable pub is_end_of_gutter_label : (Side → Bool) → ℕ → LineLabel → Bool
-is_end_of_gutter_label is_side i x = is_side x.side && (x.gutter_column == i)
 
 -- the rank that its start, or its end, has among the line labels of line l
 unfoldable pub rank_at : Sheet → (Side → Bool) → ℕ → ℕ → ℕ
-rank_at h is_side l i = position_or_len (is_end_of_gutter_label is_side i) (line_labels h l)
+rank_at h is_side l i =
+    position_or_len (λ x. is_side x.side && (x.gutter_column == i)) (line_labels h l)
 
 -- the row of its head
 unfoldable pub first_row : Sheet → ℕ → LabelInfo → Row
@@ -90,12 +88,8 @@ unfoldable pub has_tee : Sheet → LabelInfo → ℕ → Row → Bool
 has_tee h a i (source l) = (a.end_line == l) && is_at_margin h l i
 has_tee h a i row = false
 
--- a bar of gutter label i, which is a, stands in row x
-unfoldable pub has_bar : Sheet → ℕ → Row → Option LabelInfo → Bool
-has_bar h i row None = false
-has_bar h i row (Some a) =
-    before (first_row h i a) row && before row (last_row h i a) && not (has_tee h a i row)
-
 -- its bar stands in every other row strictly between the two
 unfoldable pub bar_at : Sheet → Row → ℕ → Bool
-bar_at h row i = has_bar h i row (slice_get (gutter_labels h) i)
+bar_at h row i =
+    option_map_or (λ a. before (first_row h i a) row && before row (last_row h i a) && not (has_tee h a i row))
+    (slice_get (gutter_labels h) i) false

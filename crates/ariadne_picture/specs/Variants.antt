@@ -10,7 +10,7 @@ use Rattle.ariadne_picture.specs.declared.switches.IndexType.TheVariants.{Char}
 use Rattle.ariadne_picture.specs.declared.verdict.Verdict.{Verdict}
 use Rattle.ariadne_picture.specs.declared.verdict.Verdict.TheVariants.{Accepted}
 use Rattle.ariadne_picture.specs.declared.label_info.LabelInfo.{LabelInfo}
-use Rattle.ariadne_picture.specs.Report.{Kind, error, warning, advice, custom, LabelFields}
+use Rattle.ariadne_picture.specs.Report.{Kind, custom, LabelFields}
 use Rattle.ariadne_picture.specs.Report.{ReportFields, World}
 use Rattle.ariadne_picture.specs.Accept.{text_len, offset_in_chars, verdict_in}
 use Rattle.ariadne_picture.specs.Canvas.{canvas, kind_name, is_same_id, group_id, groups}

@@ -4,14 +4,14 @@ use Rattle.std.proofs.Common.{length, map, take, slice_index_or, decimal, codes,
 use Rattle.std.proofs.Common.{append_assoc, length-append, zero-add}
 use Rattle.std.specs.List.{enumerate_from}
 use Rattle.std.specs.Str.Lines.{lines}
-use Rattle.std.proofs.lemmas.List.{get_or-map, map-append}
+use Rattle.std.proofs.lemmas.List.{append-nil, get_or-map, map-append}
 use Rattle.ariadne_color.specs.Escapes.{opened, closed}
 use Rattle.ariadne_base.specs.Locations.{upto}
 use Rattle.ariadne_picture.specs.declared.cell.Paint.TheVariants.{Note}
 use Rattle.ariadne_picture.specs.declared.switches.Switches.{Switches}
 use Rattle.ariadne_picture.specs.Canvas.{color_of}
 use Rattle.ariadne_picture.specs.Pieces.{Piece, Section, Texts, aside_line, aside_name, aside_pieces, aside_prefix, aside_texts, gutter_pieces}
-use Rattle.ariadne_picture.specs.Pieces.{margin_paint, margin_pieces, margin_text, painted_text, plain_text, rest_pieces, row_pieces, spaces}
+use Rattle.ariadne_picture.specs.Pieces.{margin_paint, margin_pieces, margin_text, painted_text, plain_text, rest_pieces, row_pieces, spaces, text_pieces}
 use Rattle.ariadne_picture.specs.Rows.{Aside, Row, aside_rows, asides, bare, blank, piece}
 use Rattle.ariadne_picture.specs.Lists.{joined}
 use Rattle.ariadne_picture.proofs.Lists.Joined.{joined-append, joined-one, range_more}
@@ -93,16 +93,18 @@ module _ (a : PenFields) (t : Texts) (g : Section) (on : IsOnPage t g a.page) wh
   pub draws_aside_blank : (b c : PenFields) (x : Aside) (k : ℕ)
       → Draws a b (margin_pieces a.page.switches a.page.number_width 0 (bare 0) ++ gutter_pieces g.sheet (blank x k)) → Adds b c (10 ∷ [])
       → DrawsRow a c (row_pieces t a.page.number_width g (blank x k))
-  unfolding row_pieces rest_pieces margin_pieces margin_text margin_paint
+  unfolding row_pieces rest_pieces text_pieces margin_pieces margin_text margin_paint
   draws_aside_blank b c x k start end =
       let here : Switches → List Piece = λ s. margin_pieces s a.page.number_width 0 (bare 0) ++ gutter_pieces g.sheet (blank x k) in
-      subst (DrawsRow a c) (sym (ap here on.sheet)) (draws_row_ended a b c (here a.page.switches) start end)
+      let margin = margin_pieces g.sheet.switches a.page.number_width 0 (bare 0) in
+      let alone = ap (λ pieces. margin ++ pieces) (append-nil (gutter_pieces g.sheet (blank x k))) in
+      subst (DrawsRow a c) (sym (alone ∙ ap here on.sheet)) (draws_row_ended a b c (here a.page.switches) start end)
 
   -- the row of a line has its text behind them
   pub draws_aside_piece : (b c d : PenFields) (x : Aside) (k p : ℕ)
       → Draws a b (margin_pieces a.page.switches a.page.number_width 0 (bare 0) ++ gutter_pieces g.sheet (piece x k p))
       → Draws b c (aside_pieces t x k p) → Adds c d (10 ∷ []) → DrawsRow a d (row_pieces t a.page.number_width g (piece x k p))
-  unfolding row_pieces rest_pieces margin_pieces margin_text margin_paint
+  unfolding row_pieces rest_pieces text_pieces margin_pieces margin_text margin_paint
   draws_aside_piece b c d x k p start text end =
       let margin : Switches → List Piece = λ s. margin_pieces s a.page.number_width 0 (bare 0) in
       let gutter = gutter_pieces g.sheet (piece x k p) in

@@ -120,7 +120,7 @@ inline-bytes s l r x g h there inline =
 -- a source row without margin label
 pub source-bytes : (s : Sheet) (l : ℕ) (g : GutterFields) → HasBarsOf s (source l) g → margin_label s l ≡ None
     → pieces_bytes g.page.palette (gutter_pieces s (source l)) ≡ columns_bytes g.page (bars_ink Vbar g) (columns g)
-unfolding column_ink beside_ink margin_ink owns_column is_at_margin is_of_gutter_label
+unfolding column_ink beside_ink margin_ink owns_column is_of_gutter_label
 source-bytes s l g h none =
     row-bytes s (source l) g (bars_ink Vbar g) h.sheet h.len
     (λ i within. rw none (bar-column s (source l) g Vbar h i within (rw none refl)))
@@ -159,7 +159,7 @@ piece-ink s a k p i = refl
 
 -- no bar of a gutter label stands where its own stroke leaves or enters the margin
 no-bar-own : (s : Sheet) (l : ℕ) (m : LineLabel) → margin_label s l ≡ Some m → bar_at s (source l) m.gutter_column ≡ false
-unfolding first_row has_tee is_at_margin is_of_gutter_label
+unfolding first_row has_tee is_of_gutter_label
 no-bar-own s l m there =
     let i = m.gutter_column in
     let edge : IsEndAt s l m = margin-is s l m there in
@@ -179,7 +179,7 @@ no-bar-own s l m there =
 -- its columns
 margin-column : (s : Sheet) (l : ℕ) (m : LineLabel) (g : GutterFields) → HasBarsOf s (source l) g → margin_label s l ≡ Some m
     → (i : ℕ) → i ≤ length (gutter_labels s) → column_ink s (source l) i ≡ margin_row_ink g m i
-unfolding column_ink beside_ink margin_row_ink owns_column is_at_margin is_of_gutter_label
+unfolding column_ink beside_ink margin_row_ink owns_column is_of_gutter_label
 margin-column s l m g h there i within =
     let e = ap (λ n. margin_ink n i (Some m)) (sym h.len) in
     elim (cases_Bool (m.gutter_column == i)) [

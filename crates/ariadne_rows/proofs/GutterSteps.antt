@@ -113,7 +113,7 @@ beside-below s l g rise b margin = record {
 
 -- the margin label has no other column than its own
 other-margin : (s : Sheet) (l : ℕ) (m : LineLabel) (i : ℕ) → margin_label s l ≡ Some m → i ≢ m.gutter_column → is_at_margin s l i ≡ false
-unfolding is_at_margin is_of_gutter_label
+unfolding is_of_gutter_label
 other-margin s l m i there off = rw there (ne_eqb m.gutter_column i (λ at. off (sym at)))
 
 -- so where it is a start, its bar begins, and the other bars stay

@@ -8,7 +8,7 @@ use Rattle.ariadne_picture.specs.declared.switches.Switches.{Switches}
 use Rattle.ariadne_picture.specs.Cells.{alternate_place, arrow_place}
 use Rattle.ariadne_picture.specs.Columns.{Layout, layout_of}
 use Rattle.ariadne_picture.specs.Pieces.{Piece, Section, Texts, area_pieces, blank_piece, gutter_pieces, margin_paint, margin_pieces, margin_text}
-use Rattle.ariadne_picture.specs.Pieces.{message_pieces, plain_text, rest_pieces, row_pieces, shown_pieces}
+use Rattle.ariadne_picture.specs.Pieces.{message_pieces, plain_text, rest_pieces, row_pieces, shown_pieces, text_pieces}
 use Rattle.ariadne_picture.specs.Ranks.{Sheet, is_margin, is_start, line_labels, margin_label, multi_line_labels}
 use Rattle.ariadne_picture.specs.Rows.{alternate, arrow, bare, gap, source}
 use Rattle.ariadne_cells.specs.Pages.{Adds, Draws, DrawsRow, PenFields}
@@ -71,7 +71,7 @@ module _ (a : PenFields) (t : Texts) (g : Section) (on : IsOnPage t g a.page) wh
   -- a margin alone
   pub draws_bare : (b c : PenFields) (l : ℕ) → Draws a b (margin_pieces a.page.switches a.page.number_width 0 (bare 0)) → Adds b c (10 ∷ [])
       → DrawsRow a c (row_pieces t a.page.number_width g (bare l))
-  unfolding row_pieces rest_pieces margin_pieces margin_text margin_paint
+  unfolding row_pieces rest_pieces text_pieces margin_pieces margin_text margin_paint
   draws_bare b c l m end =
       subst (DrawsRow a c) (sym (append-nil _ ∙ ap (λ (s : Switches). margin_pieces s a.page.number_width 0 (bare 0)) on.sheet))
       (draws_row_ended a b c (margin_pieces a.page.switches a.page.number_width 0 (bare 0)) m end)
@@ -79,17 +79,19 @@ module _ (a : PenFields) (t : Texts) (g : Section) (on : IsOnPage t g a.page) wh
   -- broken bars
   pub draws_gap : (b c d : PenFields) (l : ℕ) → Draws a b (margin_pieces a.page.switches a.page.number_width 0 (gap 0))
       → Draws b c (gutter_pieces g.sheet (gap l)) → Adds c d (10 ∷ []) → DrawsRow a d (row_pieces t a.page.number_width g (gap l))
-  unfolding row_pieces rest_pieces margin_pieces margin_text margin_paint
+  unfolding row_pieces rest_pieces text_pieces margin_pieces margin_text margin_paint
   draws_gap b c d l m gutter end =
+      let margin = margin_pieces g.sheet.switches a.page.number_width 0 (gap 0) in
+      let alone = ap (λ pieces. margin ++ pieces) (append-nil (gutter_pieces g.sheet (gap l))) in
       two_parts a b c d _ (margin_pieces a.page.switches a.page.number_width 0 (gap 0)) (gutter_pieces g.sheet (gap l))
-      (λ i. margin_pieces (on.sheet i) a.page.number_width 0 (gap 0) ++ gutter_pieces g.sheet (gap l)) m gutter end
+      (alone ∙ (λ i. margin_pieces (on.sheet i) a.page.number_width 0 (gap 0) ++ gutter_pieces g.sheet (gap l))) m gutter end
 
   -- verticals, underlines
   pub draws_alternate : (b c d e : PenFields) (l r : ℕ) → Draws a b (margin_pieces a.page.switches a.page.number_width 0 (bare 0))
       → Draws b c (gutter_pieces g.sheet (alternate l r))
       → Draws c d (area_pieces a.page.switches (layout_of g.sheet l) (alternate_place a.page.switches (layout_of g.sheet l) r))
       → Adds d e (10 ∷ []) → DrawsRow a e (row_pieces t a.page.number_width g (alternate l r))
-  unfolding row_pieces rest_pieces margin_pieces margin_text margin_paint
+  unfolding row_pieces rest_pieces text_pieces margin_pieces margin_text margin_paint
   draws_alternate b c d e l r m gutter area end =
       let y = layout_of g.sheet l in
       two_parts a b d e _ (margin_pieces a.page.switches a.page.number_width 0 (bare 0))
@@ -105,21 +107,21 @@ module _ (a : PenFields) (t : Texts) (g : Section) (on : IsOnPage t g a.page) wh
       → Draws c d (area_pieces a.page.switches (layout_of g.sheet l) (arrow_place a.page.switches (layout_of g.sheet l) r x))
       → Draws d e (message_pieces t x)
       → Adds e f (10 ∷ []) → DrawsRow a f (row_pieces t a.page.number_width g (arrow l r))
-  unfolding row_pieces rest_pieces margin_pieces margin_text margin_paint layout_of
+  unfolding row_pieces rest_pieces text_pieces margin_pieces margin_text margin_paint layout_of
   draws_arrow b c d e f l r x own m gutter area message end =
       let y = layout_of g.sheet l in
       two_parts a b e f _ (margin_pieces a.page.switches a.page.number_width 0 (bare 0))
-      (gutter_pieces g.sheet (arrow l r) ++ area_pieces a.page.switches y (arrow_place a.page.switches y r x) ++ message_pieces t x)
+      (gutter_pieces g.sheet (arrow l r) ++ (area_pieces a.page.switches y (arrow_place a.page.switches y r x) ++ message_pieces t x))
       (λ i. margin_pieces (on.sheet i) a.page.number_width 0 (bare 0)
-      ++ (gutter_pieces g.sheet (arrow l r) ++ area_pieces (on.texts i) y (arrow_place (on.texts i) y r (own i)) ++ message_pieces t (own i)))
-      m (draws-append b d e _ _ (draws-append b c d _ _ gutter area) message) end
+      ++ (gutter_pieces g.sheet (arrow l r) ++ (area_pieces (on.texts i) y (arrow_place (on.texts i) y r (own i)) ++ message_pieces t (own i))))
+      m (draws-append b c e _ _ gutter (draws-append c d e _ _ area message)) end
 
   -- the text of a line
   pub draws_source : (b c d e : PenFields) (l : ℕ) → Draws a b (margin_pieces a.page.switches a.page.number_width g.display_offset (source l))
       → Draws b c (gutter_pieces g.sheet (source l))
       → Draws c d (shown_pieces a.page.switches (multi_line_labels g.sheet) (layout_of g.sheet l))
       → Adds d e (10 ∷ []) → DrawsRow a e (row_pieces t a.page.number_width g (source l))
-  unfolding row_pieces rest_pieces
+  unfolding row_pieces rest_pieces text_pieces
   draws_source b c d e l m gutter text end =
       two_parts a b d e _ (margin_pieces a.page.switches a.page.number_width g.display_offset (source l))
       (gutter_pieces g.sheet (source l) ++ shown_pieces a.page.switches (multi_line_labels g.sheet) (layout_of g.sheet l))

@@ -26,7 +26,7 @@ use Rattle.ariadne_picture.specs.Canvas.{Palette, color_of, paint_color}
 use Rattle.ariadne_picture.specs.Cells.{glyph_code}
 use Rattle.ariadne_picture.specs.Columns.{Layout, shown, shown_columns, column_of, width}
 use Rattle.ariadne_picture.specs.Lists.{joined, total}
-use Rattle.ariadne_picture.specs.Pieces.{Piece, char_paint, char_pieces, glyph_text, place_pieces, repeated, shown_pieces, shown_text, stroke}
+use Rattle.ariadne_picture.specs.Pieces.{Piece, char_paint, char_pieces, glyph_text, repeated, shown_pieces, shown_text, stroke}
 use Rattle.ariadne_picture.specs.Print.{pieces_bytes}
 use Rattle.ariadne_picture.proofs.Lists.Joined.{joined-upto_more}
 use Rattle.ariadne_picture.proofs.Lists.ListFacts.{all-weaker}
@@ -38,6 +38,7 @@ use Rattle.ariadne_cells.proofs.Drawn.{adds_same, draws_one, draws_places_more, 
 use Rattle.ariadne_picture.proofs.Cells.LineColumns.{total-upto_more}
 use Rattle.ariadne_cells.proofs.PlaceColumns.{get_or-all, width-shown}
 use Rattle.ariadne_rows.specs.ShownTexts.{IsAsShown, blank_of, place_in, shown_in}
+use Rattle.ariadne_picture.proofs.Parts.{place_pieces}
 
 -- ---- single characters
 
@@ -101,7 +102,7 @@ bytes_on p f g (suc n) e =
 pub draws_shown : (a b : PenFields) (s : Switches) (multi_line : List LabelInfo) (y : Layout) (q : ℕ → Paint)
     → ((k : ℕ) → k < length (shown y) → color_of a.page.palette (q k) ≡ color_of a.page.palette (char_paint multi_line y k))
     → Draws a b (shown_in s y q) → Draws a b (shown_pieces s multi_line y)
-unfolding shown_in shown_pieces place_in place_pieces
+unfolding shown_in shown_pieces place_in
 draws_shown a b s multi_line y q e h =
     let p = a.page.palette in
     adds_same a b _ _ (bytes_on p (place_in s y q) (place_pieces s multi_line y) (length (shown y))

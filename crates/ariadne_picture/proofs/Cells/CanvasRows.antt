@@ -1,15 +1,15 @@
 -- The rows of a finished picture are the header and the rows of its groups, each by its name.
-use Rattle.std.proofs.Common.{◌≡◌, ℕ, List, [], ◌∷◌, map, length, Some, refl, sym, ap, ◌∙◌}
+use Rattle.std.proofs.Common.{◌≡◌, ℕ, List, [], ◌∷◌, map, length, Some, refl, ap, ◌∙◌}
 use Rattle.std.specs.Prelude.{slice_get}
 use Rattle.std.specs.List.{enumerate_from}
 use Rattle.ariadne_picture.specs.Report.{ReportFields, World, switches_of}
 use Rattle.ariadne_picture.specs.declared.label_info.LabelInfo.{LabelInfo}
 use Rattle.ariadne_picture.specs.Rows.{Row}
 use Rattle.ariadne_picture.specs.Pieces.{Texts, Section, row_pieces, section_rows}
-use Rattle.ariadne_picture.specs.Canvas.{Cell, Palette, palette_of, cell_of, header_pieces, texts_of, section_of, sheet_of, groups, number_width}
+use Rattle.ariadne_picture.specs.Canvas.{Cell, Palette, palette_of, cell_of, header_pieces, texts_of, section_of, groups, number_width}
 use Rattle.ariadne_picture.specs.Canvas.{outline, sections, canvas}
 use Rattle.ariadne_picture.proofs.Lists.ListFacts.{all-map, all-every, all-at}
-use Rattle.ariadne_picture.proofs.Lists.Joined.{joined-map, map-joined, joined-same}
+use Rattle.ariadne_picture.proofs.Lists.Joined.{map-joined, joined-same}
 use Rattle.ariadne_picture.proofs.Rows.RowPlacing.{row_list}
 use Rattle.ariadne_picture.proofs.Rows.RowNumbers.{picture_rows}
 
@@ -30,22 +30,19 @@ module _ {S Id : Type 0} (w : World S Id) (r : ReportFields S) (infos : List Lab
   -- the canvas is the header and the rows by their names
   pub canvas-rows : canvas w r infos ≡ map (cell_of (palette_of r)) (header_pieces (texts_of r))
       ∷ picture_rows (texts_of r) (sections w r infos) (row_cells (palette_of r) (texts_of r) width_of)
-  unfolding canvas outline sections picture_rows section_rows row_list
+  unfolding canvas outline picture_rows section_rows row_list
   canvas-rows =
       let t = texts_of r in
-      let gs = groups w r infos in
-      let sec : ℕ × List LabelInfo → Section = section_of w r (length gs) in
+      let groups = sections w r infos in
       let f : Section → Row → List Cell = row_cells (palette_of r) t width_of in
       ap (λ rows. map (cell_of (palette_of r)) (header_pieces t) ∷ rows)
-      (map-joined (map (cell_of (palette_of r))) (λ e. section_rows t width_of (sec e)) (enumerate_from 0 gs)
-      ∙ joined-same (λ e. map (map (cell_of (palette_of r))) (section_rows t width_of (sec e)))
-      (λ e. map (f (sec e)) (row_list t (sections w r infos) (sec e)))
-      (λ e. map-map (map (cell_of (palette_of r))) (row_pieces t width_of (sec e)) (row_list t (sections w r infos) (sec e))) (enumerate_from 0 gs)
-      ∙ sym (joined-map (λ s. map (f s) (row_list t (sections w r infos) s)) sec (enumerate_from 0 gs)))
+      (map-joined (map (cell_of (palette_of r))) (section_rows t width_of) groups
+      ∙ joined-same (λ s. map (map (cell_of (palette_of r))) (section_rows t width_of s)) (λ s. map (f s) (row_list t groups s))
+      (λ s. map-map (map (cell_of (palette_of r))) (row_pieces t width_of s) (row_list t groups s)) groups)
 
   -- each group is drawn in the switches of the report
   pub section-switches : (g : ℕ) (s : Section) → slice_get (sections w r infos) g ≡ Some s → s.sheet.switches ≡ (texts_of r).switches
-  unfolding sections section_of texts_of sheet_of
+  unfolding sections section_of texts_of
   section-switches g s e =
       all-at (λ s. s.sheet.switches ≡ switches_of r.config) (sections w r infos) g s e
       (all-map (λ s. s.sheet.switches ≡ switches_of r.config) (section_of w r (length (groups w r infos))) (enumerate_from 0 (groups w r infos))

@@ -11,10 +11,11 @@ use Rattle.ariadne_picture.specs.declared.cell.Glyph.TheVariants.{Blank, Hbar, V
 use Rattle.ariadne_picture.specs.declared.cell.Ink.{Ink}
 use Rattle.ariadne_picture.specs.Ranks.{Sheet, is_inline, gutter_labels, margin_label, line_labels}
 use Rattle.ariadne_picture.specs.Rows.{Row, source, alternate, arrow, gap}
-use Rattle.ariadne_picture.specs.Strokes.{has_bar, bar_at}
+use Rattle.ariadne_picture.specs.Strokes.{bar_at}
 use Rattle.ariadne_picture.specs.Cells.{margin_glyph, margin_ink, beside_ink, below_ink, turn_glyph, turn_ink, column_ink, ink_of}
 use Rattle.ariadne_picture.specs.Pieces.{gutter_len}
 use Rattle.ariadne_picture.proofs.Cells.InkCells.{IsLevel}
+use Rattle.ariadne_picture.proofs.Parts.{has_bar}
 
 -- a horizontal, or nothing
 abbrev pub IsFree : Ink → Type 0
@@ -37,7 +38,7 @@ module _ (s : Sheet) where
 
   -- no bar stands in the column of arrow heads, which is no gutter label's
   pub no-bar-last : (x : Row) → bar_at s x last ≡ false
-  unfolding bar_at has_bar
+  unfolding bar_at
   no-bar-last x = ap (has_bar s last x) (slice_get_past (gutter_labels s) last (omega arith))
 
   -- ---- beside a source row

@@ -193,7 +193,7 @@ module _ (s : Sheet) (i : ℕ) (a : LabelInfo) (m : IsGutterLabel s i a) where
 
   -- the source row whose margin label it is stands from its first row to its last, so it is not outside
   margin-not-outside : (l : ℕ) (x : LineLabel) → IsOutside s i a (source l) → margin_label s l ≡ Some x → x.gutter_column ≡ i → ⊥
-  unfolding is_at_margin is_of_gutter_label
+  unfolding is_of_gutter_label
   margin-not-outside l x out there same =
       let at = at-margin s l i a m.owned (ap (λ o. is_of_gutter_label o i) there ∙ eq-eqb x.gutter_column i same) in
       let up = rises s i a m in

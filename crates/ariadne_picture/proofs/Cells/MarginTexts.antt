@@ -19,12 +19,13 @@ use Rattle.ariadne_picture.specs.Groups.{printed_number}
 use Rattle.ariadne_picture.specs.Rows.{Row, source, alternate, arrow}
 use Rattle.ariadne_picture.specs.Columns.{Layout, shown, shown_columns, column_of}
 use Rattle.ariadne_picture.specs.Cells.{glyph_code}
-use Rattle.ariadne_picture.specs.Pieces.{blank_piece, Piece, Section, spaces, glyph_text, char_pieces, place_pieces, char_paint}
+use Rattle.ariadne_picture.specs.Pieces.{blank_piece, Piece, Section, spaces, glyph_text, char_pieces, char_paint}
 use Rattle.ariadne_picture.specs.Pieces.{shown_text, shown_pieces, margin_text, margin_paint, margin_pieces}
 use Rattle.ariadne_picture.specs.Placing.Together.{unindented}
 use Rattle.ariadne_picture.proofs.Lists.Joined.{joined-numbered, map-joined, joined-same}
 use Rattle.ariadne_picture.proofs.Lists.ListFacts.{map-replicate}
 use Rattle.ariadne_picture.proofs.Cells.RowCells.{front_pieces}
+use Rattle.ariadne_picture.proofs.Parts.{place_pieces}
 
 -- ---- texts without the blanks in front
 
@@ -147,7 +148,7 @@ plain_cells switches y = joined_numbered (λ k. char_pieces switches Plain (colu
 pub shown-alike : {X : Type 0} (f : Piece → X) → ((text : List ℕ) (p q : Paint) (n : ℕ)
     → f (record { text = text; paint = p; columns = n }) ≡ f (record { text = text; paint = q; columns = n }))
     → (switches : Switches) (labels : List LabelInfo) (y : Layout) → map f (shown_pieces switches labels y) ≡ map f (plain_cells switches y)
-unfolding shown_pieces place_pieces
+unfolding shown_pieces
 shown-alike f same switches labels y =
     map-joined f (place_pieces switches labels y) (upto (length (shown y)))
     ∙ joined-same (λ (k : ℕ). map f (place_pieces switches labels y k))

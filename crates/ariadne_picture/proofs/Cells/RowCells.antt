@@ -16,7 +16,7 @@ use Rattle.ariadne_picture.specs.Rows.{Row, source, alternate, arrow}
 use Rattle.ariadne_picture.specs.Columns.{Layout, layout_of, width, column_of, arrow_len}
 use Rattle.ariadne_picture.specs.Cells.{column_ink, alternate_place, arrow_place}
 use Rattle.ariadne_picture.specs.Pieces.{Piece, Texts, Section, stroke, ink_pieces, area_pieces, margin_pieces, margin_text, column_size, gutter_len}
-use Rattle.ariadne_picture.specs.Pieces.{gutter_pieces, shown_pieces, message_pieces, rest_pieces, row_pieces}
+use Rattle.ariadne_picture.specs.Pieces.{gutter_pieces, shown_pieces, message_pieces, rest_pieces, row_pieces, text_pieces}
 use Rattle.ariadne_picture.specs.Canvas.{Cell}
 use Rattle.ariadne_picture.specs.Placing.Group.{column_cell, text_cell}
 use Rattle.ariadne_picture.specs.Placing.Rows.{Placing}
@@ -217,14 +217,14 @@ module _ (canvas : List (List Cell)) (ss : List Section) (p : Placing) where
 -- the pieces of the three kinds of row that a shown line has
 pub source-parts : (t : Texts) (w : ℕ) (s : Section) (l : ℕ) → row_pieces t w s (source l) ≡ front_pieces w s (source l)
     ++ shown_pieces t.switches (multi_line_labels s.sheet) (layout_of s.sheet l)
-unfolding row_pieces rest_pieces
+unfolding row_pieces rest_pieces text_pieces
 source-parts t w s l =
     sym (append_assoc (margin_pieces s.sheet.switches w s.display_offset (source l)) (gutter_pieces s.sheet (source l))
     (shown_pieces t.switches (multi_line_labels s.sheet) (layout_of s.sheet l)))
 
 pub alternate-parts : (t : Texts) (w : ℕ) (s : Section) (l r : ℕ) → row_pieces t w s (alternate l r) ≡ front_pieces w s (alternate l r)
     ++ area_pieces t.switches (layout_of s.sheet l) (alternate_place t.switches (layout_of s.sheet l) r)
-unfolding row_pieces rest_pieces
+unfolding row_pieces rest_pieces text_pieces
 alternate-parts t w s l r =
     sym (append_assoc (margin_pieces s.sheet.switches w s.display_offset (alternate l r)) (gutter_pieces s.sheet (alternate l r))
     (area_pieces t.switches (layout_of s.sheet l) (alternate_place t.switches (layout_of s.sheet l) r)))
@@ -236,10 +236,6 @@ arrow_text t s l r =
     ++ message_pieces t (slice_get (layout_of s.sheet l).labels r)
 
 pub arrow-parts : (t : Texts) (w : ℕ) (s : Section) (l r : ℕ) → row_pieces t w s (arrow l r) ≡ front_pieces w s (arrow l r) ++ arrow_text t s l r
-unfolding row_pieces rest_pieces
+unfolding row_pieces rest_pieces text_pieces
 arrow-parts t w s l r =
-    ap (λ q. margin_pieces s.sheet.switches w s.display_offset (arrow l r) ++ q)
-    (append_assoc (gutter_pieces s.sheet (arrow l r))
-    (area_pieces t.switches (layout_of s.sheet l) (arrow_place t.switches (layout_of s.sheet l) r (slice_get (layout_of s.sheet l).labels r)))
-    (message_pieces t (slice_get (layout_of s.sheet l).labels r)))
-    ∙ sym (append_assoc (margin_pieces s.sheet.switches w s.display_offset (arrow l r)) (gutter_pieces s.sheet (arrow l r)) (arrow_text t s l r))
+    sym (append_assoc (margin_pieces s.sheet.switches w s.display_offset (arrow l r)) (gutter_pieces s.sheet (arrow l r)) (arrow_text t s l r))

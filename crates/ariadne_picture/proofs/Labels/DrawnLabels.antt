@@ -21,10 +21,11 @@ use Rattle.ariadne_picture.specs.Accept.{text_len, offset_in_chars, info_of, wit
 use Rattle.ariadne_picture.specs.Lists.{joined}
 use Rattle.ariadne_picture.specs.Groups.{ordered, is_cut, HasNoCut, AreCut, groups_of}
 use Rattle.ariadne_picture.specs.Pieces.{Section}
-use Rattle.ariadne_picture.specs.Canvas.{section_of, sections, label_id, is_same_id, same_source, group_id, group_source, sheet_of, groups}
+use Rattle.ariadne_picture.specs.Canvas.{section_of, sections, label_id, is_same_id, same_source, group_id, group_source, groups}
 use Rattle.ariadne_picture.proofs.Lists.ListFacts.{Increasing, increasing-append, none≢some, all-append, all-at, all-in_order, all-weaker}
 use Rattle.ariadne_picture.proofs.Labels.Cutting.{together, groups-exist}
 use Rattle.ariadne_picture.proofs.Labels.LabelPlaces.{IsPlaced, info-placed}
+use Rattle.ariadne_picture.proofs.Parts.{sheet_of}
 
 -- ---- offsets in characters
 
@@ -297,7 +298,7 @@ module _ {S Id : Type 0} (w : World S Id) (r : ReportFields S) (law : (p q : Id)
   sheet-placed : (group : List LabelInfo) → AllByRecursion (IsDrawn w r) group
       → ((a : LabelInfo) (rest : List LabelInfo) → group ≡ a ∷ rest → HasNoCut (same_source w r) a rest)
       → AllByRecursion (IsPlaced (sheet_of w r group).lines) group
-  unfolding sheet_of group_source group_id
+  unfolding group_source group_id
   sheet-placed [] all uncut = tt
   sheet-placed (a ∷ group) all uncut =
       let d : IsDrawn w r a = all.0 in
@@ -323,7 +324,7 @@ module _ {S Id : Type 0} (w : World S Id) (r : ReportFields S) (law : (p q : Id)
   pub sections-placed : {R : Type 0} (reasons : List (Option R)) (g : ℕ) (s : Section)
       → AllByRecursion (λ label. w.start_of label.span ≤ w.end_of label.span) r.labels
       → slice_get (sections w r (drawn_labels w r.config 0 r.labels reasons)) g ≡ Some s → AllByRecursion (IsPlaced s.sheet.lines) s.sheet.labels
-  unfolding sections section_of sheet_of
+  unfolding sections section_of
   sections-placed reasons g s forward e =
       let infos = drawn_labels w r.config 0 r.labels reasons in
       let gs = groups w r infos in

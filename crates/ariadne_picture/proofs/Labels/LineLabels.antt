@@ -12,11 +12,12 @@ use Rattle.ariadne_picture.specs.Lists.{in_order, joined, total}
 use Rattle.ariadne_picture.specs.Ranks.{Sheet, is_inline, is_start, is_end, span_len, is_on_one_line, multi_line_labels, gutter_labels}
 use Rattle.ariadne_picture.specs.Ranks.{gutter_label_ends, ends_at, is_nearer_margin, margin_label, is_of_gutter_label, is_margin, inline_labels}
 use Rattle.ariadne_picture.specs.Ranks.{is_before, line_labels}
-use Rattle.ariadne_picture.specs.Strokes.{is_end_of_gutter_label, is_at_margin}
+use Rattle.ariadne_picture.specs.Strokes.{is_at_margin}
 use Rattle.ariadne_picture.proofs.Lists.ListFacts.{all-weaker, all-append, all-joined, all-filter, all-kept, all-in_order, all-map, all-every, all-at}
 use Rattle.ariadne_picture.proofs.Lists.ListFacts.{all-best, all-enumerated}
 use Rattle.ariadne_picture.proofs.Lists.Occurrences.{occurrences, total-append, total-joined, total-in_order, total-filter, total-zero, total-le}
 use Rattle.ariadne_picture.proofs.Lists.Occurrences.{numbered-once, total-part, occurrences-kept}
+use Rattle.ariadne_picture.proofs.Parts.{is_end_of_gutter_label}
 
 -- ---- a gutter label spans lines
 
@@ -95,7 +96,7 @@ ending = record { never_inline = refl; one = inl refl }
 -- a gutter label has each of the two at most once at a line, under its own number
 pub gutter-label-ends-once : (is_side : Side → Bool) → IsOneSide is_side → (l i j : ℕ) (a : LabelInfo)
     → occurrences (is_end_of_gutter_label is_side i) (gutter_label_ends l j a) ≤ cond (j == i) 1 0
-unfolding gutter_label_ends is_end_of_gutter_label total
+unfolding gutter_label_ends total
 gutter-label-ends-once is_side h l i j a = elim h.one [
   | inl none ↦ cond_both (a.start_line == l) (first ∷ []) []
       (λ ys. occurrences (is_end_of_gutter_label is_side i) (ys ++ (if a.end_line == l then last ∷ [] else [])) ≤ cond (j == i) 1 0)
@@ -141,7 +142,7 @@ ends-once is_side h s l i =
 -- a gutter label starts at most once among the line labels of a line, and ends at most once
 pub labels-once : (is_side : Side → Bool) → IsOneSide is_side → (s : Sheet) (l i : ℕ)
     → occurrences (is_end_of_gutter_label is_side i) (line_labels s l) ≤ 1
-unfolding line_labels inline_labels is_end_of_gutter_label
+unfolding line_labels inline_labels
 labels-once is_side h s l i =
     let g : LineLabel → ℕ = λ x. cond (is_end_of_gutter_label is_side i x) 1 0 in
     let t : LineLabel → Bool = λ x. not (is_start x.side && is_margin (margin_label s l) x) in
@@ -160,13 +161,13 @@ labels-once is_side h s l i =
 
 -- a gutter label that starts at a line has its start there
 pub start-occurs : (l i : ℕ) (a : LabelInfo) → a.start_line ≡ l → 1 ≤ occurrences (is_end_of_gutter_label is_start i) (gutter_label_ends l i a)
-unfolding gutter_label_ends is_end_of_gutter_label is_start total
+unfolding gutter_label_ends is_start total
 start-occurs l i a e = rw (eq-eqb a.start_line l e, eq-eqb i i refl) (omega arith)
 
 -- a gutter label that ends at a line has its end there
 pub end-occurs : (l i : ℕ) (a : LabelInfo) → a.start_line ≢ l → a.end_line ≡ l
     → 1 ≤ occurrences (is_end_of_gutter_label is_end i) (gutter_label_ends l i a)
-unfolding gutter_label_ends is_end_of_gutter_label is_end total
+unfolding gutter_label_ends is_end total
 end-occurs l i a n e = rw (ne_eqb a.start_line l n, eq-eqb a.end_line l e, eq-eqb i i refl) (omega arith)
 
 -- the starts and ends of one gutter label are among those of all
@@ -202,7 +203,7 @@ among-labels is_side s l i k h =
 -- so a start that is not the margin label is kept
 pub keeps-start : (s : Sheet) (l i : ℕ) → is_at_margin s l i ≡ false → (x : LineLabel) → is_end_of_gutter_label is_start i x ≡ true
     → not (is_start x.side && is_margin (margin_label s l) x) ≡ true
-unfolding is_end_of_gutter_label is_margin is_at_margin
+unfolding is_margin
 keeps-start s l i off x h =
     let parts = and_parts (is_start x.side) (x.gutter_column == i) h in
     let none : is_of_gutter_label (margin_label s l) x.gutter_column ≡ false = ap (is_of_gutter_label (margin_label s l))
@@ -223,7 +224,6 @@ end-no-start Ends h = refl
 -- so an end is kept
 pub keeps-end : (s : Sheet) (l i : ℕ) (x : LineLabel) → is_end_of_gutter_label is_end i x ≡ true
     → not (is_start x.side && is_margin (margin_label s l) x) ≡ true
-unfolding is_end_of_gutter_label
 keeps-end s l i x h =
     not_from_false (is_start x.side && is_margin (margin_label s l) x)
     (and_left (is_start x.side) (is_margin (margin_label s l) x) (end-no-start x.side (and_parts (is_end x.side) (x.gutter_column == i) h).0))

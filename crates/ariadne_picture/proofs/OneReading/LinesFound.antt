@@ -31,7 +31,7 @@ use Rattle.ariadne_picture.proofs.Lists.Elements.{Has, has-map, has-joined, has-
 use Rattle.ariadne_picture.proofs.Rows.RowNumbers.{at-part, start-first, start-last}
 use Rattle.ariadne_picture.proofs.Cells.MarginTexts.{BeginsBare, unindented-spaces, vbar-bare}
 use Rattle.ariadne_picture.proofs.Reading.MessagePlaces.{two-true}
-use Rattle.ariadne_picture.proofs.Reading.Pictures.{Picture, RowAt, rows_of, placing_of, read, number, start_of, row-there}
+use Rattle.ariadne_picture.proofs.Reading.Pictures.{Picture, RowAt, rows_of, placing_of, number, start_of, row-there}
 use Rattle.ariadne_picture.proofs.Reading.ShownLine.{numbered-at, IsShownLine, source-is, group-line-at}
 use Rattle.ariadne_picture.proofs.Reading.TextRows.{row-read}
 use Rattle.ariadne_picture.specs.Readings.{AgreeOnLines}

@@ -29,7 +29,7 @@ use Rattle.ariadne_picture.proofs.Rows.RowOrder.{shown_rows}
 use Rattle.ariadne_picture.proofs.Rows.RowsThere.{range-at}
 use Rattle.ariadne_picture.proofs.Reading.MessageRows.{message-shown}
 use Rattle.ariadne_picture.proofs.Reading.MessagePlaces.{message-place, two-true}
-use Rattle.ariadne_picture.proofs.Reading.Pictures.{Picture, RowAt, rows_of, placing_of, read, number, source_row, number-at}
+use Rattle.ariadne_picture.proofs.Reading.Pictures.{Picture, RowAt, rows_of, placing_of, number, source_row, number-at}
 use Rattle.ariadne_picture.proofs.Reading.ShownLine.{IsShownLine, IsArrowRow, arrow-row, arrow-at, block-row-is, source-at, numbered-at, group-line-at, rows_above}
 use Rattle.ariadne_picture.proofs.Reading.TextRows.{IsTextRow, area, arrow_inks, alternate_inks, area-length, arrow-text, alternate-text, row-length, text-at}
 use Rattle.ariadne_picture.specs.Blocks.{block_size, has_whole_blocks}

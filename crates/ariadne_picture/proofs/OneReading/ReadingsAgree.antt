@@ -25,7 +25,7 @@ use Rattle.ariadne_picture.proofs.Reading.DrawnReports.{picture_of}
 use Rattle.ariadne_picture.proofs.Reading.EveryReport.{numbered, all-placed}
 use Rattle.ariadne_picture.proofs.Reading.HeadPlaces.{IsGutterLabelOf}
 use Rattle.ariadne_picture.proofs.Reading.PlaceCounts.{ArePlaced}
-use Rattle.ariadne_picture.proofs.Reading.Pictures.{Picture, rows_of, read, number, number-at}
+use Rattle.ariadne_picture.proofs.Reading.Pictures.{Picture, rows_of, number, number-at}
 use Rattle.ariadne_picture.proofs.Reading.ShownLine.{IsArrowRow, arrow-at, source-at}
 use Rattle.ariadne_picture.proofs.OneReading.LinesFound.{same-lines}
 use Rattle.ariadne_picture.proofs.OneReading.MessagesFound.{has-filtered, ends-of}

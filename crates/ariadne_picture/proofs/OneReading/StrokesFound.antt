@@ -17,12 +17,12 @@ use Rattle.ariadne_picture.specs.declared.cell.Ink.{Ink}
 use Rattle.ariadne_picture.specs.Lists.{joined}
 use Rattle.ariadne_picture.specs.Ranks.{Sheet, is_inline, gutter_labels, line_labels}
 use Rattle.ariadne_picture.specs.Rows.{Row, alternate, arrow}
-use Rattle.ariadne_picture.specs.Strokes.{bar_at}
+use Rattle.ariadne_picture.specs.Strokes.{bar_at, is_at_margin}
 use Rattle.ariadne_picture.specs.Cells.{glyph_code, turn_glyph, turn_ink, below_ink, column_ink, ink_of}
 use Rattle.ariadne_picture.specs.Pieces.{Section, glyph_text}
 use Rattle.ariadne_picture.specs.Canvas.{Cell}
 use Rattle.ariadne_picture.specs.Placing.Cells.{is_text, is_glyph}
-use Rattle.ariadne_picture.specs.Placing.Group.{set_of, is_margin_at, messages_of}
+use Rattle.ariadne_picture.specs.Placing.Group.{set_of, messages_of}
 use Rattle.ariadne_picture.specs.Placing.Rows.{Placing, gutter_cell, cell_at, row_at}
 use Rattle.ariadne_picture.specs.Placing.Together.{is_gutter_label_placed, is_group_placed, is_placing, all_pairs}
 use Rattle.ariadne_picture.specs.Placing.GutterEnds.{is_end_traced, is_start_traced, has_ends_of_gutter_traces}
@@ -35,7 +35,7 @@ use Rattle.ariadne_picture.proofs.Cells.InkCells.{ink_cell}
 use Rattle.ariadne_picture.proofs.Reading.GutterCells.{gutter-cell, column-few}
 use Rattle.ariadne_picture.proofs.Reading.HeadPlaces.{IsGutterLabelOf, margin-line, head-at-margin, head-place}
 use Rattle.ariadne_picture.proofs.Reading.MessagePlaces.{label-here, arrow-shows, two-true}
-use Rattle.ariadne_picture.proofs.Reading.Pictures.{Picture, RowAt, rows_of, read, number, message_row, head_row, number-at}
+use Rattle.ariadne_picture.proofs.Reading.Pictures.{Picture, RowAt, rows_of, number, message_row, head_row, number-at}
 use Rattle.ariadne_picture.proofs.Reading.ShownLine.{IsShownLine, IsArrowRow, arrow-row, arrow-at, block-row-is, source-is, rows_above}
 use Rattle.ariadne_picture.proofs.Reading.TextRows.{arrow-text, alternate-text}
 use Rattle.ariadne_picture.specs.Accept.{drawn_labels}
@@ -259,7 +259,7 @@ module _ (v : Picture) (p : Placing) (h : IsReadBy (rows_of v) v.sections v.text
   -- it stands where the rows' names say
   pub head-found : (g : ℕ) (s : Section) (i : ℕ) (a : LabelInfo) → IsGutterLabelOf v g s i a → p.head_row g i ≡ head_row v g i
   unfolding is_gutter_label_placed
-  head-found g s i a o = elim (cases_Bool (is_margin_at s a.start_line i)) [
+  head-found g s i a o = elim (cases_Bool (is_at_margin s.sheet a.start_line i)) [
     | inl at ↦
         let line = margin-line v o at in
         let placed = rw at at (head-placed g s i a o) in

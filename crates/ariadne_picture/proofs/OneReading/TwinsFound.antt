@@ -16,8 +16,8 @@ use Rattle.ariadne_picture.specs.Rows.{alternate, arrow}
 use Rattle.ariadne_picture.specs.Columns.{layout_of, width, column_of}
 use Rattle.ariadne_picture.specs.Pieces.{Section, glyph_text}
 use Rattle.ariadne_picture.specs.Canvas.{Cell}
-use Rattle.ariadne_picture.specs.Placing.Cells.{is_text, is_blank, is_glyph, is_level}
-use Rattle.ariadne_picture.specs.Placing.Group.{set_of, has_cell, place_cell, text_cell, messages_of, is_margin_at, has_underlines}
+use Rattle.ariadne_picture.specs.Placing.Cells.{is_text, is_glyph, is_level}
+use Rattle.ariadne_picture.specs.Placing.Group.{set_of, has_cell, place_cell, messages_of}
 use Rattle.ariadne_picture.specs.Placing.Rows.{Placing, between, cell_at, row_at, holds_at_places, block_rows}
 use Rattle.ariadne_picture.specs.Placing.InlineTraces.{is_inline_traced, has_inline_traces}
 use Rattle.ariadne_picture.specs.Causes.{Trace, is_upright, is_stroke_of, inline_trace, end_trace, start_trace, gutter_traces, traces_below}
@@ -36,7 +36,7 @@ use Rattle.ariadne_picture.proofs.Reading.LabelTraces.{place-cells}
 use Rattle.ariadne_picture.proofs.Reading.MessagePlaces.{two-true, label-here, arrow-shows}
 use Rattle.ariadne_picture.proofs.Reading.PlaceCells.{first_cell, label-cell}
 use Rattle.ariadne_picture.proofs.Reading.PlaceCounts.{ArePlaced, column-place}
-use Rattle.ariadne_picture.proofs.Reading.Pictures.{Picture, rows_of, read, number, number-at}
+use Rattle.ariadne_picture.proofs.Reading.Pictures.{Picture, rows_of, number, number-at}
 use Rattle.ariadne_picture.proofs.Reading.ShownLine.{IsArrowRow, arrow-at, source-at, places_of, places-are}
 use Rattle.ariadne_picture.proofs.OneReading.LinesFound.{list_all-from}
 use Rattle.ariadne_picture.proofs.OneReading.MessagesFound.{each-line, each-group, line-row, or-cases, any-from, message-in}
@@ -44,6 +44,7 @@ use Rattle.ariadne_picture.proofs.OneReading.MessagesFound.{MessageFound}
 use Rattle.ariadne_picture.proofs.OneReading.StrokesFound.{rows-apart, head-found, end-row, same-rank}
 use Rattle.ariadne_picture.proofs.OneReading.InlineRows.{column-next, column-le, cell-between, shows, left-no-own, IsOwn, IsOwnOnly, own-only}
 use Rattle.ariadne_picture.proofs.OneReading.InlineRows.{inline_ink, inline-left, inline-own, Stroke, upright, corner, level, stroke-kind, passes-at, gutter-label-has}
+use Rattle.ariadne_picture.specs.Strokes.{is_at_margin}
 
 -- ---- row numbers that read the picture
 
@@ -244,7 +245,7 @@ module _ (v : Picture) (placed : ArePlaced v) (p : Placing) (h : IsReadBy (rows_
 
       -- a head of another label stands in the row of that label
       no-head : (i : ℕ) (b : LabelInfo) → slice_get (gutter_labels s.sheet) i ≡ Some b → b.start_line ≡ a.end_line
-          → is_margin_at s b.start_line i ≡ false → p.message_row a.position ≡ p.head_row g i → ⊥
+          → is_at_margin s.sheet b.start_line i ≡ false → p.message_row a.position ≡ p.head_row g i → ⊥
       no-head i b owned line off same =
           let o : IsGutterLabelOf v g s i b = record { group = there; owned = owned } in
           let head = head-place v o off in
@@ -303,7 +304,7 @@ module _ (v : Picture) (placed : ArePlaced v) (p : Placing) (h : IsReadBy (rows_
             go (level row reaches on) = not-several i b owned row
 
         none-start : (i : ℕ) (b : LabelInfo) → slice_get (gutter_labels s.sheet) i ≡ Some b → b.start_line ≡ a.end_line
-            → is_margin_at s b.start_line i ≡ false → IsNone (start_trace (rows_of v) v.sections p g i b)
+            → is_at_margin s.sheet b.start_line i ≡ false → IsNone (start_trace (rows_of v) v.sections p g i b)
         unfolding start_trace
         none-start i b owned line off e = go (stroke-kind _ _ _ _ _ e)
           where
@@ -319,13 +320,13 @@ module _ (v : Picture) (placed : ArePlaced v) (p : Placing) (h : IsReadBy (rows_
             let l : ℕ = a.end_line in
             let end = end_trace (rows_of v) v.sections p s l i b in
             let start = start_trace (rows_of v) v.sections p g i b in
-            all-append IsNone (if b.end_line == l then end ∷ [] else []) (if (b.start_line == l) && not (is_margin_at s l i) then start ∷ [] else [])
+            all-append IsNone (if b.end_line == l then end ∷ [] else []) (if (b.start_line == l) && not (is_at_margin s.sheet l i) then start ∷ [] else [])
             (cond_both (b.end_line == l) (end ∷ []) [] (AllByRecursion IsNone) (λ _. (none-end l i b owned, tt)) (λ _. tt))
-            (cond_both ((b.start_line == l) && not (is_margin_at s l i)) (start ∷ []) [] (AllByRecursion IsNone)
+            (cond_both ((b.start_line == l) && not (is_at_margin s.sheet l i)) (start ∷ []) [] (AllByRecursion IsNone)
             (λ on.
-            let two = two-true (b.start_line == l) (not (is_margin_at s l i)) on in
+            let two = two-true (b.start_line == l) (not (is_at_margin s.sheet l i)) on in
             let line = eqb-true b.start_line l two.0 in
-            (none-start i b owned line (ap (λ m. is_margin_at s m i) line ∙ not-true _ two.1), tt)) (λ _. tt))
+            (none-start i b owned line (ap (λ m. is_at_margin s.sheet m i) line ∙ not-true _ two.1), tt)) (λ _. tt))
 
         none-below : AllByRecursion IsNone (traces_below (rows_of v) v.sections p g s a.end_line)
         unfolding traces_below

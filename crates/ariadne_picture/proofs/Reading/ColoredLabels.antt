@@ -21,7 +21,7 @@ use Rattle.ariadne_picture.specs.Strokes.{has_corner, is_crossed, is_at_margin, 
 use Rattle.ariadne_picture.specs.Cells.{glyph_code, ink, paint_of, gutter_label_paint, margin_ink, beside_ink, below_ink, turn_ink, column_ink}
 use Rattle.ariadne_picture.specs.Pieces.{Section, glyph_text}
 use Rattle.ariadne_picture.specs.Placing.Cells.{is_text, is_blank, is_glyph, is_level}
-use Rattle.ariadne_picture.specs.Placing.Group.{set_of, is_margin_at, column_cell}
+use Rattle.ariadne_picture.specs.Placing.Group.{set_of, column_cell}
 use Rattle.ariadne_picture.specs.Placing.Rows.{cell_at, gutter_cell}
 use Rattle.ariadne_picture.specs.Placing.GutterBars.{gutter_rows}
 use Rattle.ariadne_picture.specs.LabelColors.{is_steep, is_pointer, all_gutter_cells, all_place_cells, has_color, is_vertical_colored, is_inline_colored}
@@ -192,7 +192,7 @@ module _ (v : Picture) (placed : ArePlaced v) where
     end_test k n =
         all_gutter_cells s i (read v has_color (color_at v) a n)
         && all_place_cells s a.end_line 0 ((placing_of v).places g a.end_line) (read v has_color (color_at v) a n)
-        && (is_margin_at s a.end_line i || read v is_vertical_colored (color_at v) g s a.end_line a k n)
+        && (is_at_margin s.sheet a.end_line i || read v is_vertical_colored (color_at v) g s a.end_line a k n)
 
     end-colored : read v is_end_colored (color_at v) g s i a ≡ true
     unfolding is_end_colored is_inline is_crossed layout_of
@@ -207,14 +207,14 @@ module _ (v : Picture) (placed : ArePlaced v) where
         let column : a.end_place ≡ x.place = cc in
         let in_range : x.place < places_of s l = column-place s.sheet (placed g s o.group) l h.rank x q.there (inr (inl k.0)) in
         let places = places-are v q.line in
-        let margin : is_margin (margin_label s.sheet l) x ≡ is_margin_at s l i = its-margin v o l x out k.1 in
+        let margin : is_margin (margin_label s.sheet l) x ≡ is_at_margin s.sheet l i = its-margin v o l x out k.1 in
         let text = arrow-text v (arrow-at v q) in
         (λ j. end_test (column j) (h.row j)) ∙ both_true (both_true
         (columns-colored v text i a (λ j low. subst (λ b. IsInkOf b (column_ink s.sheet (arrow l h.rank) j)) h.shows.info (turn-own v q out j (omega arith))))
         (places-colored v l (arrow_inks s l h.rank) _ text a 0 ((placing_of v).places g l) (omega (arith, places))
         (λ c low high. subst (λ b. IsInkOf b (arrow_inks s l h.rank c)) h.shows.info
         (arrow-own v q c (inr (ap (λ side. is_crossed side x.place c) k.0.side))))))
-        (elim (cases_Bool (is_margin_at s l i)) [
+        (elim (cases_Bool (is_at_margin s.sheet l i)) [
           | inl at ↦ left-true _ _ at
           | inr off ↦
               right-true _ _ (subst (λ b. read v is_vertical_colored (color_at v) g s l b x.place (number v g s (arrow l h.rank)) ≡ true) h.shows.info
@@ -229,7 +229,7 @@ module _ (v : Picture) (placed : ArePlaced v) where
 
     start-colored : read v is_start_colored (color_at v) g s i a ≡ true
     unfolding is_start_colored is_inline is_crossed layout_of
-    start-colored = elim (cases_Bool (is_margin_at s a.start_line i)) [
+    start-colored = elim (cases_Bool (is_at_margin s.sheet a.start_line i)) [
       | inl at ↦ left-true _ _ at
       | inr off ↦
           let h = head-place v o off in
@@ -240,9 +240,9 @@ module _ (v : Picture) (placed : ArePlaced v) where
           let out : is_inline x.side ≡ false = ap is_inline h.start.side in
           let column : a.start_place ≡ x.place = cc in
           let in_range : x.place < places_of s l = column-place s.sheet (placed g s o.group) l h.rank x q.there (inl h.start) in
-          let margin : is_margin (margin_label s.sheet l) x ≡ is_margin_at s l i = its-margin v o l x out h.gutter_column in
+          let margin : is_margin (margin_label s.sheet l) x ≡ is_at_margin s.sheet l i = its-margin v o l x out h.gutter_column in
           let text = arrow-text v (arrow-at v q) in
-          right-true (is_margin_at s a.start_line i) (start_test a.start_place (head_row v g i)) ((λ j. start_test (column j) (h.row j)) ∙ both_true (both_true
+          right-true (is_at_margin s.sheet a.start_line i) (start_test a.start_place (head_row v g i)) ((λ j. start_test (column j) (h.row j)) ∙ both_true (both_true
           (columns-colored v text i a (λ j low. subst (λ b. IsInkOf b (column_ink s.sheet (arrow l h.rank) j)) h.info (turn-own v q out j (omega arith))))
           (places-colored v l (arrow_inks s l h.rank) _ text a 0 (x.place + 1) (omega arith)
           (λ c low high. subst (λ b. IsInkOf b (arrow_inks s l h.rank c)) h.info
@@ -264,12 +264,12 @@ module _ (v : Picture) (placed : ArePlaced v) where
         all_gutter_cells s i (λ c. not (is_pointer (set_of s) (cell_at (rows_of v) n c)) || read v has_color (color_at v) a n c)
 
     pointer-colored : (l : ℕ) → IsShownLine v g s l → read v is_pointer_colored (color_at v) g s i a l ≡ true
-    unfolding is_pointer_colored is_at_margin
-    pointer-colored l h = elim (cases_Bool (is_margin_at s l i)) [
+    unfolding is_pointer_colored
+    pointer-colored l h = elim (cases_Bool (is_at_margin s.sheet l i)) [
       | inr off ↦ left-true _ _ (ap not off)
       | inl at ↦
           let n : ℕ = number v g s (source l) in
-          right-true (not (is_margin_at s l i)) (pointer_test ((placing_of v).source_row g l)) (ap pointer_test (source-is v h) ∙ gutter-cells v (source-text v (source-row-is v h)) i _ (λ j low size c e.
+          right-true (not (is_at_margin s.sheet l i)) (pointer_test ((placing_of v).source_row g l)) (ap pointer_test (source-is v h) ∙ gutter-cells v (source-text v (source-row-is v h)) i _ (λ j low size c e.
           let column = column_ink s.sheet (source l) j in
           let kind = margin-beside s.sheet i a o.owned (few o) l j at low in
           elim e [

@@ -9,7 +9,7 @@ use Rattle.ariadne_picture.specs.Lists.{joined}
 use Rattle.ariadne_picture.specs.Bars.{EndsNoEarlier}
 use Rattle.ariadne_picture.specs.Groups.{ordered}
 use Rattle.ariadne_picture.specs.Pieces.{Section}
-use Rattle.ariadne_picture.specs.Canvas.{Cell, cell_of, palette_of, header_pieces, texts_of, section_of, sheet_of, same_source, groups, sections}
+use Rattle.ariadne_picture.specs.Canvas.{Cell, cell_of, palette_of, header_pieces, texts_of, section_of, same_source, groups, sections}
 use Rattle.ariadne_picture.specs.Canvas.{canvas}
 use Rattle.ariadne_picture.specs.Placing.Rows.{Placing}
 use Rattle.ariadne_picture.specs.Placing.Together.{is_placing}
@@ -54,7 +54,7 @@ pub record AreNumbered (infos : List LabelInfo) : Type 0 where
 module _ {S Id : Type 0} (w : World S Id) (r : ReportFields S) (infos : List LabelInfo) where
   -- the groups have the labels in order
   pub labels-joined : joined (λ (s : Section). s.sheet.labels) (sections w r infos) ≡ ordered infos
-  unfolding sections section_of sheet_of groups
+  unfolding sections section_of groups
   labels-joined =
       let gs = groups w r infos in
       joined-map (λ (s : Section). s.sheet.labels) (section_of w r (length gs)) (enumerate_from 0 gs)

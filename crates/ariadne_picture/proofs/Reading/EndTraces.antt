@@ -13,12 +13,12 @@ use Rattle.ariadne_picture.specs.Ranks.{Sheet, is_inline, is_start, is_on_one_li
 use Rattle.ariadne_picture.specs.Ranks.{is_of_gutter_label, is_margin}
 use Rattle.ariadne_picture.specs.Rows.{source, arrow}
 use Rattle.ariadne_picture.specs.Columns.{layout_of}
-use Rattle.ariadne_picture.specs.Strokes.{has_corner, is_crossed, is_at_margin, first_row, has_tee, has_bar, bar_at}
+use Rattle.ariadne_picture.specs.Strokes.{has_corner, is_crossed, is_at_margin, first_row, has_tee, bar_at}
 use Rattle.ariadne_picture.specs.Cells.{corner_glyph, margin_glyph, turn_glyph}
 use Rattle.ariadne_picture.specs.Pieces.{Section}
 use Rattle.ariadne_picture.specs.Placing.Cells.{is_level}
 use Rattle.std.specs.List.{list_all}
-use Rattle.ariadne_picture.specs.Placing.Group.{set_of, is_margin_at, arrow_column, shown_lines}
+use Rattle.ariadne_picture.specs.Placing.Group.{set_of, arrow_column, shown_lines}
 use Rattle.ariadne_picture.specs.Placing.Rows.{holds_at_places}
 use Rattle.ariadne_picture.specs.Placing.GutterEnds.{is_level_right_of, is_end_traced, is_start_traced, is_pointed, has_ends_of_gutter_traces}
 use Rattle.ariadne_picture.proofs.Reading.PlaceCells.{label-corner, label-level, label-traced}
@@ -38,6 +38,7 @@ use Rattle.ariadne_picture.proofs.Reading.MessagePlaces.{MessagePlace, label-her
 use Rattle.ariadne_picture.proofs.Reading.Pictures.{rows_of, Picture, placing_of, read, number, every-group, message_row, head_row}
 use Rattle.ariadne_picture.proofs.Reading.ShownLine.{IsArrowRow, arrow-at, IsShownLine, places_of, source-is, places-are, source-row-is, every-line}
 use Rattle.ariadne_picture.proofs.Reading.TextRows.{source-text, arrow-text}
+use Rattle.ariadne_picture.proofs.Parts.{has_bar}
 
 -- gutter labels have different positions, as labels have
 gutter-labels-apart : (s : Sheet) → Increasing (λ (a b : LabelInfo). a.position ≢ b.position) s.labels
@@ -75,13 +76,13 @@ module _ (v : Picture) {g : ℕ} {s : Section} {i : ℕ} {a : LabelInfo} (o : Is
 
   -- its start or end is the margin label where the margin label is of it
   pub its-margin : (l : ℕ) (x : LineLabel) → is_inline x.side ≡ false → x.gutter_column ≡ i
-      → is_margin (margin_label s.sheet l) x ≡ is_margin_at s l i
+      → is_margin (margin_label s.sheet l) x ≡ is_at_margin s.sheet l i
   unfolding is_margin
   its-margin l x out same = rw out (ap (is_of_gutter_label (margin_label s.sheet l)) same)
 
   -- ---- beside a line whose margin label it is
 
-  module _ {l : ℕ} (h : IsShownLine v g s l) (at : is_margin_at s l i ≡ true) where
+  module _ {l : ℕ} (h : IsShownLine v g s l) (at : is_at_margin s.sheet l i ≡ true) where
     -- the arrow head is in the last column
     margin-arrow : column_shows v s (number v g s (source l)) (arrow_column s) Rarrow ≡ true
     margin-arrow =
@@ -139,13 +140,12 @@ module _ (v : Picture) {g : ℕ} {s : Section} {i : ℕ} {a : LabelInfo} (o : Is
   -- ---- its end
 
   -- no bar of its own stands on the source row where it ends as the margin label: there is its tee
-  pub tee-no-bar : is_margin_at s a.end_line i ≡ true → bar_at s.sheet (source a.end_line) i ≡ false
-  unfolding bar_at has_bar has_tee is_at_margin
+  pub tee-no-bar : is_at_margin s.sheet a.end_line i ≡ true → bar_at s.sheet (source a.end_line) i ≡ false
+  unfolding bar_at has_tee
   tee-no-bar at = ap (has_bar s.sheet i (source a.end_line)) o.owned ∙ (rw (eq-eqb a.end_line a.end_line refl, at) (and-false _))
 
   -- the margin label is its end there, as it does not start at that line
-  pub end-side : is_margin_at s a.end_line i ≡ true → (m : LineLabel) → margin_label s.sheet a.end_line ≡ Some m → m.side ≡ Ends
-  unfolding is_at_margin
+  pub end-side : is_at_margin s.sheet a.end_line i ≡ true → (m : LineLabel) → margin_label s.sheet a.end_line ≡ Some m → m.side ≡ Ends
   end-side at m there =
       let h = at-margin s.sheet a.end_line i a o.owned at in
       elim h.is [
@@ -174,13 +174,13 @@ module _ (v : Picture) {g : ℕ} {s : Section} {i : ℕ} {a : LabelInfo} (o : Is
       let column : a.end_place ≡ x.place = cc in
       let in_range : x.place < places_of s l = column-place s.sheet (placed g s o.group) l h.rank x q.there (inr (inl k.0)) in
       let places = places-are v q.line in
-      let margin : is_margin (margin_label s.sheet l) x ≡ is_margin_at s l i = its-margin l x out k.1 in
+      let margin : is_margin (margin_label s.sheet l) x ≡ is_at_margin s.sheet l i = its-margin l x out k.1 in
       let crossed : (c : ℕ) → is_crossed x.side x.place c ≡ true = λ c. ap (λ side. is_crossed side x.place c) k.0.side in
       let front = off-corner q out k.1 0 x.place (omega arith) (λ c low high. (λ z. omega arith, crossed c)) in
       let back =
       off-corner q out k.1 (x.place + 1) ((placing_of v).places g l) (omega (arith, places)) (λ c low high. (λ z. omega arith, crossed c)) in
       rw (column, h.row) (both_true (both_true (both_true (both_true (turns q out k.1 Lbot (ap turn_glyph k.0.side))
-      (turn-level q out k.1)) front) back) (elim (cases_Bool (is_margin_at s l i)) [
+      (turn-level q out k.1)) front) back) (elim (cases_Bool (is_at_margin s.sheet l i)) [
         | inl at ↦
             let level = label-level v q x.place (x.place + 1) (omega arith) (λ c low high.
             (ap (λ b. (x.place == c) && not b) (margin ∙ at) ∙ and-false (x.place == c), crossed c)) in
@@ -195,13 +195,12 @@ module _ (v : Picture) {g : ℕ} {s : Section} {i : ℕ} {a : LabelInfo} (o : Is
   -- ---- its head
 
   -- no bar of its own stands on the source row of its head
-  head-no-bar : is_margin_at s a.start_line i ≡ true → bar_at s.sheet (source a.start_line) i ≡ false
-  unfolding bar_at has_bar first_row is_at_margin
+  head-no-bar : is_at_margin s.sheet a.start_line i ≡ true → bar_at s.sheet (source a.start_line) i ≡ false
+  unfolding bar_at first_row
   head-no-bar at = ap (has_bar s.sheet i (source a.start_line)) o.owned ∙ (rw at (rw (before-irreflexive (source a.start_line)) refl))
 
   -- the margin label is its start there, as it does not end at that line
-  start-side : is_margin_at s a.start_line i ≡ true → (m : LineLabel) → margin_label s.sheet a.start_line ≡ Some m → m.side ≡ Starts
-  unfolding is_at_margin
+  start-side : is_at_margin s.sheet a.start_line i ≡ true → (m : LineLabel) → margin_label s.sheet a.start_line ≡ Some m → m.side ≡ Starts
   start-side at m there =
       let h = at-margin s.sheet a.start_line i a o.owned at in
       elim h.is [
@@ -212,7 +211,7 @@ module _ (v : Picture) {g : ℕ} {s : Section} {i : ℕ} {a : LabelInfo} (o : Is
   -- the row of its head has its corner
   pub head-corner : column_shows v s (head_row v g i) i Ltop ≡ true
   unfolding is_inline turn_glyph margin_glyph
-  head-corner = elim (cases_Bool (is_margin_at s a.start_line i)) [
+  head-corner = elim (cases_Bool (is_at_margin s.sheet a.start_line i)) [
     | inl at ↦
         rw (head-at-margin v o at) (margin-leaves (margin-line v o at) at Starts (head-no-bar at) (start-side at))
     | inr off ↦
@@ -223,7 +222,7 @@ module _ (v : Picture) {g : ℕ} {s : Section} {i : ℕ} {a : LabelInfo} (o : Is
   -- from there its arrow head follows, or its row is level up to its corner in the text
   start-traced : ArePlaced v → read v is_start_traced g s i a ≡ true
   unfolding is_start_traced is_inline is_crossed corner_glyph layout_of
-  start-traced placed = both_true head-corner (elim (cases_Bool (is_margin_at s a.start_line i)) [
+  start-traced placed = both_true head-corner (elim (cases_Bool (is_at_margin s.sheet a.start_line i)) [
     | inl at ↦
         cond-true _ _ _ at ∙ rw (head-at-margin v o at) (margin-arrow (margin-line v o at) at)
     | inr off ↦
@@ -250,7 +249,7 @@ module _ (v : Picture) {g : ℕ} {s : Section} {i : ℕ} {a : LabelInfo} (o : Is
   unfolding is_pointed
   ends-traced placed =
       both_true (both_true (end-traced placed) (start-traced placed))
-      (list_all-true _ _ (every-line v g s _ o.group (λ l h. elim (cases_Bool (is_margin_at s l i)) [
+      (list_all-true _ _ (every-line v g s _ o.group (λ l h. elim (cases_Bool (is_at_margin s.sheet l i)) [
         | inl at ↦ pointed h at
         | inr off ↦ left-true _ _ (ap not off)
       ])))

@@ -18,9 +18,9 @@ use Rattle.ariadne_picture.specs.Strokes.{is_at_margin, has_tee, rank_at}
 use Rattle.ariadne_picture.specs.Cells.{margin_glyph}
 use Rattle.ariadne_picture.specs.Pieces.{Piece, Section, glyph_text, margin_text, blank_piece}
 use Rattle.ariadne_picture.specs.Placing.Cells.{is_level, is_blank}
-use Rattle.ariadne_picture.specs.Placing.Group.{set_of, is_margin_at, shown_lines, text_cell}
+use Rattle.ariadne_picture.specs.Placing.Group.{set_of, shown_lines, text_cell}
 use Rattle.ariadne_picture.specs.Placing.Rows.{between, gutter_cell}
-use Rattle.ariadne_picture.specs.Placing.GutterBars.{is_gap_row, is_crossed_in, is_bar, ends_in, has_gutter}
+use Rattle.ariadne_picture.specs.Placing.GutterBars.{is_gap_row, is_bar, ends_in, has_gutter}
 use Rattle.ariadne_picture.proofs.Cells.MarginTexts.{margin-blank}
 use Rattle.ariadne_picture.proofs.Labels.LabelsAtLine.{IsHere, gutter-labels-owned}
 use Rattle.ariadne_picture.proofs.Labels.LabelPlaces.{IsPlaced, covers}
@@ -48,6 +48,7 @@ use Rattle.ariadne_picture.proofs.Reading.TextRows.{IsTextRow, source-text, arro
 use Rattle.ariadne_picture.proofs.Reading.Placed.{margin-shows}
 use Rattle.ariadne_picture.proofs.Reading.RowNames.{IsName, name-of, named-arrow}
 use Rattle.ariadne_picture.proofs.Rows.RowPlacing.{row_list}
+use Rattle.ariadne_picture.proofs.Parts.{is_crossed_in}
 
 -- where each element fails a test, none passes
 list_any-false : {X : Type 0} (test : X → Bool) (xs : List X) → AllByRecursion (λ x. test x ≡ false) xs → list_any test xs ≡ false
@@ -88,7 +89,7 @@ module _ (v : Picture) {g : ℕ} {s : Section} {i : ℕ} {a : LabelInfo} (o : Is
   -- the arrow row of another's start or end is the row of its head or of its message
   crossed-there : {l r : ℕ} {x : LineLabel} → IsArrowRow v g s l r x → is_inline x.side ≡ false → x.gutter_column < i
       → read v is_crossed_in g s i (number v g s (arrow l r)) ≡ true
-  unfolding is_inline is_start is_at_margin
+  unfolding is_inline is_start
   crossed-there {l} {r} {x} q out less = go (label-here s.sheet l r x q.there)
     where
       n : ℕ
@@ -183,11 +184,11 @@ module _ (v : Picture) {g : ℕ} {s : Section} {i : ℕ} {a : LabelInfo} (o : Is
     -- a source row has the bar, or the tee of the end as the margin label
     source-passes : {k l : ℕ} → IsShownLine v g s l → RowAt v g s k (source l) → h.from < k → k < h.to
         → (column_shows v s (number v g s (source l)) i Vbar || column_shows v s (number v g s (source l)) i Lcross) ≡ true
-    unfolding has_tee is_at_margin margin_glyph
+    unfolding has_tee margin_glyph
     source-passes {l = l} line is low high = elim (cases_Bool (has_tee s.sheet a i (source l))) [
       | inl tee ↦
-          let two = two-true (a.end_line == l) (is_margin_at s l i) tee in
-          right-true _ _ (subst (λ l. IsShownLine v g s l → is_margin_at s l i ≡ true → column_shows v s (number v g s (source l)) i Lcross ≡ true)
+          let two = two-true (a.end_line == l) (is_at_margin s.sheet l i) tee in
+          right-true _ _ (subst (λ l. IsShownLine v g s l → is_at_margin s.sheet l i ≡ true → column_shows v s (number v g s (source l)) i Lcross ≡ true)
           (eqb-true a.end_line l two.0) (λ line at. margin-leaves v o line at Ends (tee-no-bar v o at) (end-side v o at)) line two.1)
       | inr free ↦
           left-true _ _ (own-glyph o (source-text v is) (bar-beside s.sheet l i (bar-inside v o h (source l) is low high free)))
@@ -232,7 +233,7 @@ module _ (v : Picture) {g : ℕ} {s : Section} {i : ℕ} {a : LabelInfo} (o : Is
 
     -- so do those of the head and of the corner
     head-gutter : read v has_gutter s (head_row v g i) ≡ true
-    head-gutter = elim (cases_Bool (is_margin_at s a.start_line i)) [
+    head-gutter = elim (cases_Bool (is_at_margin s.sheet a.start_line i)) [
       | inl at ↦ rw (head-at-margin v o at) (gutter-there (source-text v (source-row-is v (margin-line v o at))))
       | inr off ↦ let q = head-place v o off in rw q.row (gutter-there (arrow-text v (arrow-at v q.arrow_row)))
     ]

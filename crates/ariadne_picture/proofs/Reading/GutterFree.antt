@@ -12,7 +12,7 @@ use Rattle.ariadne_picture.specs.declared.cell.Ink.{Ink}
 use Rattle.ariadne_picture.specs.Bars.{IsGutterLabel}
 use Rattle.ariadne_picture.specs.Ranks.{is_inline, gutter_labels, margin_label, is_of_gutter_label, is_end}
 use Rattle.ariadne_picture.specs.Rows.{Row, source, alternate, arrow, gap}
-use Rattle.ariadne_picture.specs.Strokes.{is_at_margin, bar_at, rank_at}
+use Rattle.ariadne_picture.specs.Strokes.{bar_at, rank_at}
 use Rattle.ariadne_picture.specs.Cells.{column_ink}
 use Rattle.ariadne_picture.specs.Pieces.{Section, gutter_len}
 use Rattle.ariadne_picture.specs.Placing.Cells.{is_blank, is_glyph}
@@ -58,7 +58,7 @@ module _ (v : Picture) where
     -- a source row whose margin label it is stands from its head to its corner
     pub margin-place : (k l : ℕ) (m : LineLabel) → RowAt v g s k (source l) → margin_label s.sheet l ≡ Some m → m.gutter_column ≡ i
         → (h.from ≤ k) × (k ≤ h.to)
-    unfolding is_at_margin is_of_gutter_label
+    unfolding is_of_gutter_label
     margin-place k l m is there same =
         let q = at-margin s.sheet l i a o.owned (ap (λ o. is_of_gutter_label o i) there ∙ eq-eqb m.gutter_column i same) in
         let less = rises s.sheet i a label in

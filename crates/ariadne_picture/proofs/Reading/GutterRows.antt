@@ -13,12 +13,12 @@ use Rattle.ariadne_picture.specs.Lists.{joined}
 use Rattle.ariadne_picture.specs.Rows.{Row, group_header, spacer, source, alternate, arrow, gap, bare, blank, piece, tail}
 use Rattle.ariadne_picture.specs.Cells.{glyph_code}
 use Rattle.ariadne_picture.specs.Pieces.{Piece, Section, spaces, repeated, glyph_text, margin_pieces, gutter_pieces, gutter_len, column_size}
-use Rattle.ariadne_picture.specs.Pieces.{group_header_pieces, spacer_pieces, tail_pieces, aside_pieces, rest_pieces, row_pieces}
+use Rattle.ariadne_picture.specs.Pieces.{group_header_pieces, spacer_pieces, tail_pieces, aside_pieces, rest_pieces, row_pieces, text_pieces}
 use Rattle.ariadne_picture.specs.Placing.Cells.{no_cell, is_blank, is_text}
 use Rattle.ariadne_picture.specs.Placing.Group.{set_of, column_cell, text_cell}
 use Rattle.ariadne_picture.specs.Placing.Rows.{cell_at, row_at}
 use Rattle.ariadne_picture.specs.Placing.GutterBars.{gutter_rows}
-use Rattle.ariadne_picture.proofs.Cells.RowCells.{front_pieces, length-margin}
+use Rattle.ariadne_picture.proofs.Cells.RowCells.{length-margin}
 use Rattle.ariadne_picture.proofs.Lists.Elements.{all-range}
 use Rattle.ariadne_picture.proofs.Reading.MessagePlaces.{two-true}
 use Rattle.ariadne_picture.proofs.Reading.Pictures.{rows_of, Picture, row-there, RowAt, read, number, start_of}
@@ -83,7 +83,7 @@ module _ (v : Picture) where
     -- the other rows have a text behind their gutter
     pub text-row : (x : Row) → RowAt v g s k x → 0 < gutter_len s.sheet → has_gutter s (number v g s x) ≡ true
         → (text : List Piece) × IsTextRow v g s x text
-    unfolding row_pieces rest_pieces
+    unfolding row_pieces rest_pieces text_pieces
     text-row group_header is some on = absurd (true≢false (sym (two-true _ _ on).0 ∙ wide-header is))
     text-row spacer is some on = absurd (true≢false (sym (two-true _ _ on).0 ∙ wide-spacer is))
     text-row tail is some on = absurd (true≢false (sym (two-true _ _ on).0 ∙ wide-tail is))
@@ -93,7 +93,8 @@ module _ (v : Picture) where
     text-row (alternate l r) is some on = (_, alternate-text v is)
     text-row (arrow l r) is some on = (_, arrow-text v is)
     text-row (blank a m) is some on =
-        ([], record { index = k; is = is; parts = sym (append-nil (front_pieces v.width s (blank a m))) })
+        let margin = margin_pieces s.sheet.switches v.width s.display_offset (blank a m) in
+        ([], record { index = k; is = is; parts = sym (append_assoc margin (gutter_pieces s.sheet (blank a m)) []) })
     text-row (piece a m q) is some on = (
       aside_pieces v.texts a m q,
       record {

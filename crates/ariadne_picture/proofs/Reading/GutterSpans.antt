@@ -8,7 +8,6 @@ use Rattle.ariadne_picture.specs.Ranks.{is_inline, gutter_labels, line_labels}
 use Rattle.ariadne_picture.specs.Rows.{Row, arrow}
 use Rattle.ariadne_picture.specs.Strokes.{is_at_margin, first_row, last_row, has_tee, bar_at}
 use Rattle.ariadne_picture.specs.Pieces.{Section}
-use Rattle.ariadne_picture.specs.Placing.Group.{is_margin_at}
 use Rattle.ariadne_picture.proofs.Labels.LabelsAtLine.{IsHere}
 use Rattle.ariadne_picture.proofs.Rows.BarCases.{between-bar, bar-between}
 use Rattle.ariadne_picture.proofs.Rows.GutterLabelRows.{first-at-arrow, last-at-arrow}
@@ -31,7 +30,7 @@ pub record IsSpan (v : Picture) (g : ℕ) (s : Section) (i : ℕ) (a : LabelInfo
 module _ (v : Picture) {g : ℕ} {s : Section} {i : ℕ} {a : LabelInfo} (o : IsGutterLabelOf v g s i a) where
   -- the rows of its head and of its end are those where its bar begins and ends
   pub span : IsSpan v g s i a
-  unfolding first_row is_at_margin
+  unfolding first_row
   span =
       let h = its-message v o in
       let q = its-end v o h in
@@ -48,7 +47,7 @@ module _ (v : Picture) {g : ℕ} {s : Section} {i : ℕ} {a : LabelInfo} (o : Is
       }
     where
       top : (k : ℕ) × RowAt v g s k (first_row s.sheet i a) × (head_row v g i ≡ start_of v g + k)
-      top = elim (cases_Bool (is_margin_at s a.start_line i)) [
+      top = elim (cases_Bool (is_at_margin s.sheet a.start_line i)) [
         | inl at ↦
             let is = source-row-is v (margin-line v o at) in
             (_, subst (RowAt v g s _) (sym (cond-true _ _ _ at)) is, head-at-margin v o at ∙ number-at v is)

@@ -13,7 +13,6 @@ use Rattle.ariadne_picture.specs.Ranks.{is_start, is_of_gutter_label, margin_lab
 use Rattle.ariadne_picture.specs.Rows.{source, arrow}
 use Rattle.ariadne_picture.specs.Strokes.{is_at_margin}
 use Rattle.ariadne_picture.specs.Pieces.{Section}
-use Rattle.ariadne_picture.specs.Placing.Group.{is_margin_at}
 use Rattle.ariadne_picture.proofs.Rows.BarCases.{numbered-start}
 use Rattle.ariadne_picture.proofs.Lists.Elements.{first-has}
 use Rattle.ariadne_picture.proofs.Labels.LabelsAtLine.{IsHere, IsStartHere}
@@ -73,7 +72,7 @@ module _ (v : Picture) {g : ℕ} {s : Section} {i : ℕ} {a : LabelInfo} (o : Is
       section-is v.texts v.sections g s _ o.group ∙ ap row o.owned
 
   -- the line where it starts as the margin label is shown
-  pub margin-line : is_margin_at s a.start_line i ≡ true → IsShownLine v g s a.start_line
+  pub margin-line : is_at_margin s.sheet a.start_line i ≡ true → IsShownLine v g s a.start_line
   margin-line at =
       let lines = gutter-label-lines in
       let m = margin-of (margin_label s.sheet a.start_line) i at in
@@ -82,7 +81,7 @@ module _ (v : Picture) {g : ℕ} {s : Section} {i : ℕ} {a : LabelInfo} (o : Is
       record { group = o.group; low = lines.0; high = omega arith; seen = shown-by-margin s.sheet a.start_line m.0 m.1 }
 
   -- there its head stands on the source row
-  pub head-at-margin : is_margin_at s a.start_line i ≡ true
+  pub head-at-margin : is_at_margin s.sheet a.start_line i ≡ true
       → head_row v g i ≡ number v g s (source a.start_line)
   unfolding first_row
   head-at-margin at = head-is ∙ cond-true _ _ _ at
@@ -118,8 +117,8 @@ module _ (v : Picture) {g : ℕ} {s : Section} {i : ℕ} {a : LabelInfo} (o : Is
       go (inr (inr k)) = absurd (true≢false (sym passes.0 ∙ ap is_start k.side))
 
   -- elsewhere it has a start, so that something is found
-  pub head-place : is_margin_at s a.start_line i ≡ false → HeadPlace v g s i a
-  unfolding is_at_margin first_row is_start
+  pub head-place : is_at_margin s.sheet a.start_line i ≡ false → HeadPlace v g s i a
+  unfolding first_row is_start
   head-place off =
       let h = numbered-start s.sheet i a o.owned off in
       let starts : starts_gutter_label i h.label ≡ true =

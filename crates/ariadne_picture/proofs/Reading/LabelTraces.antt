@@ -20,7 +20,7 @@ use Rattle.ariadne_picture.specs.Cells.{corner_glyph}
 use Rattle.ariadne_picture.specs.Pieces.{Piece, Section, ink_pieces, area_pieces}
 use Rattle.ariadne_picture.specs.Canvas.{Cell, cell_of}
 use Rattle.ariadne_picture.specs.Placing.Cells.{is_blank, is_glyph, is_level}
-use Rattle.ariadne_picture.specs.Placing.Group.{set_of, messages_of, is_margin_at, text_cell, place_cell}
+use Rattle.ariadne_picture.specs.Placing.Group.{set_of, messages_of, text_cell, place_cell}
 use Rattle.ariadne_picture.specs.Placing.Rows.{cell_at}
 use Rattle.ariadne_picture.proofs.Lists.ListFacts.{none≢some}
 use Rattle.ariadne_picture.proofs.Lists.Elements.{Has, has-first, has-front, has-back, has-filter, has-map, has-joined, all-range, list_all-true, list_any-true}
@@ -186,21 +186,20 @@ module _ (v : Picture) {g : ℕ} {s : Section} {l r : ℕ} {x : LineLabel} (q : 
       (x.gutter_column, x.info) _ (numbered-at _ x.gutter_column x.info h.owned)
       (rw (eq-eqb x.info.end_line l h.line) (has-first (read v end_trace s l x.gutter_column x.info) _)))
 
-  start-there : IsStartHere s.sheet l x → is_margin_at s l x.gutter_column ≡ false
+  start-there : IsStartHere s.sheet l x → is_at_margin s.sheet l x.gutter_column ≡ false
       → Has (read v traces_below g s l) (read v start_trace g x.gutter_column x.info)
   unfolding traces_below gutter_traces
   start-there h off =
       let a = x.info in
       let i = x.gutter_column in
-      let here : Has (if (a.start_line == l) && not (is_margin_at s l i) then read v start_trace g i a ∷ [] else []) (read v start_trace g i a) =
+      let here : Has (if (a.start_line == l) && not (is_at_margin s.sheet l i) then read v start_trace g i a ∷ [] else []) (read v start_trace g i a) =
       rw (eq-eqb a.start_line l h.line, off) (has-first (read v start_trace g i a) []) in
       has-back _ _ _ (has-joined (λ e. read v gutter_traces g s l e.0 e.1) (enumerate_from 0 (gutter_labels s.sheet)) x.gutter_column
       (x.gutter_column, x.info) _ (numbered-at _ x.gutter_column x.info h.owned)
       (has-back (if a.end_line == l then read v end_trace s l i a ∷ [] else []) _ _ here))
 
   -- a start that is a line label is not the margin label
-  start-off : IsStartHere s.sheet l x → is_margin_at s l x.gutter_column ≡ false
-  unfolding is_at_margin
+  start-off : IsStartHere s.sheet l x → is_at_margin s.sheet l x.gutter_column ≡ false
   start-off h = label-off-margin s.sheet l x.gutter_column r (record { label = x; there = q.there; same_side = h.side; same_gutter_column = refl })
 
   -- its head stands in its arrow row, as the first row of its gutter label is that one
@@ -209,7 +208,7 @@ module _ (v : Picture) {g : ℕ} {s : Section} {l r : ℕ} {x : LineLabel} (q : 
       let i = x.gutter_column in
       let a = x.info in
       let o : IsGutterLabelOf v g s i a = record { group = q.line.group; owned = h.owned } in
-      let off : is_margin_at s a.start_line i ≡ false = rw h.line (start-off h) in
+      let off : is_at_margin s.sheet a.start_line i ≡ false = rw h.line (start-off h) in
       let head = head-place v o off in
       let one : first_row s.sheet i a ≡ arrow a.start_line head.rank =
       first-at-arrow s.sheet i head.rank a
@@ -243,7 +242,7 @@ module _ (v : Picture) {g : ℕ} {s : Section} {l r : ℕ} {x : LineLabel} (q : 
         there = end-there h;
         place = sym h.place;
         row = arrow-shows v q (ap is_start h.side);
-        turns = λ off. ap not (ap (λ side. not (is_inline side) && is_margin_at s l x.gutter_column) (sym h.side) ∙ off);
+        turns = λ off. ap not (ap (λ side. not (is_inline side) && is_at_margin s.sheet l x.gutter_column) (sym h.side) ∙ off);
         corner = sym (ap corner_glyph h.side);
         reaches = λ k e. refl;
       }

@@ -19,12 +19,12 @@ use Rattle.ariadne_picture.specs.declared.cell.Ink.{Ink}
 use Rattle.ariadne_picture.specs.Bars.{IsGutterLabel}
 use Rattle.ariadne_picture.specs.Ranks.{is_inline, gutter_labels, margin_label, is_of_gutter_label}
 use Rattle.ariadne_picture.specs.Rows.{Row, source, alternate, arrow, gap}
-use Rattle.ariadne_picture.specs.Strokes.{has_bar, bar_at}
+use Rattle.ariadne_picture.specs.Strokes.{bar_at, is_at_margin}
 use Rattle.ariadne_picture.specs.Cells.{glyph_code, ink, blanks, ink_of, margin_glyph, turn_glyph, margin_ink, beside_ink, below_ink, turn_ink, column_ink, gutter_label_paint}
 use Rattle.ariadne_picture.specs.Pieces.{Piece, Section, column_size, gutter_len, glyph_text}
 use Rattle.ariadne_picture.specs.Canvas.{Cell}
 use Rattle.ariadne_picture.specs.Placing.Cells.{is_text, is_glyph}
-use Rattle.ariadne_picture.specs.Placing.Group.{set_of, is_margin_at, arrow_column}
+use Rattle.ariadne_picture.specs.Placing.Group.{set_of, arrow_column}
 use Rattle.ariadne_picture.specs.GutterCauses.{is_beside, has_gutter_level, has_gutter_arrow, is_own_gutter_stroke, is_gutter_stroke_of, has_gutter_cause}
 use Rattle.ariadne_picture.specs.GutterCauses.{is_gutter_column_caused, has_no_other_gutter_strokes}
 use Rattle.ariadne_picture.proofs.Labels.LineLabels.{margin-is}
@@ -46,6 +46,7 @@ use Rattle.ariadne_picture.proofs.Reading.Pictures.{Picture, RowAt, read, number
 use Rattle.ariadne_picture.proofs.Reading.RowNames.{IsName, named-arrow}
 use Rattle.ariadne_picture.proofs.Reading.ShownLine.{numbered-at, IsShownLine, source-is, source-row-is}
 use Rattle.ariadne_picture.proofs.Reading.TextRows.{IsTextRow, front-at}
+use Rattle.ariadne_picture.proofs.Parts.{has_bar}
 
 -- a broken bar, a head and a corner are no tee, in each character set
 not-tee : (set : CharSet) (glyph : Glyph) → (glyph ≡ VbarGap) ⊎ (glyph ≡ Ltop) ⊎ (glyph ≡ Lbot)
@@ -173,7 +174,7 @@ module _ (v : Picture) {g : ℕ} {s : Section} (e : slice_get v.sections g ≡ S
   -- a bar is that of a gutter label
   bar-owner : (j : ℕ) (found : Option LabelInfo) → slice_get (gutter_labels s.sheet) j ≡ found → bar_at s.sheet x j ≡ true
       → (a : LabelInfo) × IsGutterLabelOf v g s j a
-  unfolding bar_at has_bar
+  unfolding bar_at
   bar-owner j None none bar = absurd (false≢true (ap (has_bar s.sheet j x) (sym none) ∙ bar))
   bar-owner j (Some a) there bar = (a, record { group = e; owned = there })
 
@@ -195,7 +196,7 @@ module _ (v : Picture) {g : ℕ} {s : Section} (e : slice_get v.sections g ≡ S
 
   module _ (l : ℕ) (is : RowAt v g s k (source l)) (name : IsName s.sheet (source l)) where
     -- a line that is shown stands beside itself
-    beside : (i m : ℕ) → m ≡ l → is_margin_at s l i ≡ true → read v is_beside g s i m (number v g s (source l)) ≡ true
+    beside : (i m : ℕ) → m ≡ l → is_at_margin s.sheet l i ≡ true → read v is_beside g s i m (number v g s (source l)) ≡ true
     beside i m same at =
         let shown : IsShownLine v g s l = record { group = e; low = name.0; high = name.1; seen = name.2 } in
         subst (λ m. read v is_beside g s i m (number v g s (source l)) ≡ true) (sym same)
@@ -214,7 +215,7 @@ module _ (v : Picture) {g : ℕ} {s : Section} (e : slice_get v.sections g ≡ S
         let edge = margin-is s.sheet l m there in
         let o : IsGutterLabelOf v g s m.gutter_column m.info = record { group = e; owned = edge.owned } in
         let h = span v o in
-        let at : is_margin_at s l m.gutter_column ≡ true =
+        let at : is_at_margin s.sheet l m.gutter_column ≡ true =
         ap (λ o. is_of_gutter_label o m.gutter_column) there ∙ eq-eqb m.gutter_column m.gutter_column refl in
         elim edge.there [
           | inl b ↦
@@ -317,10 +318,10 @@ module _ (v : Picture) {g : ℕ} {s : Section} (e : slice_get v.sections g ≡ S
       same-row b c = let first = b.name in let second = c.name in cc
 
       -- it is no row beside a line
-      not-beside : (m : ℕ) → (is_margin_at s m name.label.gutter_column ≡ true → IsShownLine v g s m)
+      not-beside : (m : ℕ) → (is_at_margin s.sheet m name.label.gutter_column ≡ true → IsShownLine v g s m)
           → read v is_beside g s name.label.gutter_column m (number v g s (arrow l r)) ≡ false
       not-beside m shown = false_from_ne_true _ (λ on.
-          let both = and_parts (number v g s (arrow l r) == source_row v g m) (is_margin_at s m name.label.gutter_column) on in
+          let both = and_parts (number v g s (arrow l r) == source_row v g m) (is_at_margin s.sheet m name.label.gutter_column) on in
           let line = shown both.1 in
           let same = eqb-true (number v g s (arrow l r)) (source_row v g m) both.0 in
           apart (source-row-is v line) (same ∙ source-is v line))

@@ -17,7 +17,7 @@ use Rattle.ariadne_picture.specs.Columns.{layout_of}
 use Rattle.ariadne_picture.specs.Pieces.{Piece, Section, glyph_text, margin_text, blank_piece}
 use Rattle.ariadne_picture.specs.Canvas.{Cell, cell_of}
 use Rattle.ariadne_picture.specs.Placing.Cells.{is_blank}
-use Rattle.ariadne_picture.specs.Placing.Group.{shown_lines, shown_cells, is_margin_at, messages_of}
+use Rattle.ariadne_picture.specs.Placing.Group.{shown_lines, shown_cells, messages_of}
 use Rattle.ariadne_picture.specs.Placing.Rows.{cell_at, text_cells}
 use Rattle.ariadne_picture.specs.Placing.Together.{unindented, is_source_row, is_in_group, is_in_block, all_pairs, is_line_placed, is_gutter_label_placed, is_group_placed, is_placing, has_margin}
 use Rattle.ariadne_picture.proofs.Cells.CanvasRows.{map-map, row_cells}
@@ -36,6 +36,7 @@ use Rattle.ariadne_picture.proofs.Reading.ShownLine.{IsArrowRow, arrow-at, IsSho
 use Rattle.ariadne_picture.proofs.Reading.ShownLine.{source-row-is}
 use Rattle.ariadne_picture.proofs.Reading.TextRows.{IsTextRow, source-text, arrow-text, alternate-text, text-cells, front-at}
 use Rattle.ariadne_picture.proofs.Rows.RowPlacing.{row_placing}
+use Rattle.ariadne_picture.specs.Strokes.{is_at_margin}
 
 module _ (v : Picture) where
   -- a row of a group is in its range
@@ -143,7 +144,7 @@ module _ (v : Picture) where
     unfolding is_gutter_label_placed
     gutter-label-placed i a owned =
         let o : IsGutterLabelOf v g s i a = record { group = e; owned = owned } in
-        elim (cases_Bool (is_margin_at s a.start_line i)) [
+        elim (cases_Bool (is_at_margin s.sheet a.start_line i)) [
           | inl at ↦ cond-true _ _ _ at ∙ eq-eqb _ _ (head-at-margin v o at ∙ sym (source-is v (margin-line v o at)))
           | inr off ↦
               let h = head-place v o off in

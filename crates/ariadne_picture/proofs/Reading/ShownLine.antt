@@ -25,7 +25,7 @@ use Rattle.ariadne_picture.proofs.Rows.RowsThere.{enumerated-at}
 use Rattle.ariadne_picture.specs.Ranks.{line_labels}
 use Rattle.ariadne_picture.specs.Rows.{label_rows}
 use Rattle.ariadne_picture.proofs.Lists.Elements.{Has, has-first, has-back, has-joined}
-use Rattle.ariadne_picture.proofs.Reading.Pictures.{Picture, placing_of, source_row, read, start_of, number, RowAt, section-is, every-group}
+use Rattle.ariadne_picture.proofs.Reading.Pictures.{Picture, placing_of, source_row, start_of, number, RowAt, section-is, every-group}
 use Rattle.ariadne_picture.proofs.Reading.Pictures.{number-at}
 
 -- group g, which is s, shows line l

@@ -1,6 +1,6 @@
 -- The rows that have a gutter: what text stands behind it, which is the line, or below it the places of a line label and
 -- perhaps a message; and the cells of such a row.
-use Rattle.std.proofs.Common.{◌≡◌, ℕ, ◌+◌, List, [], ◌++◌, map, take, drop, length, Some, sym, ap, ◌∙◌}
+use Rattle.std.proofs.Common.{◌≡◌, ℕ, ◌+◌, List, [], ◌++◌, map, take, drop, length, Some, sym, ap, ◌∙◌, append_assoc}
 use Rattle.std.specs.Prelude.{slice_get, option_map}
 use Rattle.std.proofs.lemmas.List.{append-nil, length-append, length-map, map-append, take_at, drop_at}
 use Rattle.std.proofs.lemmas.Option.{slice_get-map, get_or_from_slice_get}
@@ -10,7 +10,7 @@ use Rattle.ariadne_picture.specs.Ranks.{multi_line_labels}
 use Rattle.ariadne_picture.specs.Rows.{Row, source, arrow, alternate, gap}
 use Rattle.ariadne_picture.specs.Columns.{layout_of, column_of}
 use Rattle.ariadne_picture.specs.Cells.{alternate_place, arrow_place}
-use Rattle.ariadne_picture.specs.Pieces.{Piece, Section, area_pieces, message_pieces, shown_pieces, rest_pieces, row_pieces}
+use Rattle.ariadne_picture.specs.Pieces.{Piece, Section, area_pieces, message_pieces, shown_pieces, rest_pieces, row_pieces, text_pieces, margin_pieces, gutter_pieces}
 use Rattle.ariadne_picture.specs.Canvas.{Cell, cell_of}
 use Rattle.ariadne_picture.specs.Placing.Cells.{no_cell}
 use Rattle.ariadne_picture.specs.Placing.Group.{text_cell}
@@ -84,8 +84,8 @@ module _ (v : Picture) where
 
     -- a gap row has its margin and its gutter alone
     pub gap-text : RowAt v g s k (gap l) → IsTextRow v g s (gap l) []
-    unfolding row_pieces rest_pieces
-    gap-text is = record { index = k; is = is; parts = sym (append-nil (front_pieces v.width s (gap l))) }
+    unfolding row_pieces rest_pieces text_pieces
+    gap-text is = record { index = k; is = is; parts = sym (append_assoc (margin_pieces s.sheet.switches v.width s.display_offset (gap l)) (gutter_pieces s.sheet (gap l)) []) }
 
   -- ---- the cells of a row
 

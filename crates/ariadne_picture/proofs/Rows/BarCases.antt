@@ -13,12 +13,13 @@ use Rattle.ariadne_picture.specs.Ranks.{Sheet, is_start, is_end, gutter_labels, 
 use Rattle.ariadne_picture.specs.Rows.{row_key, Row, group_header, spacer, source, alternate, arrow, gap, bare, blank, piece, tail, help, note, aside_part}
 use Rattle.ariadne_picture.specs.Rows.{before}
 use Rattle.ariadne_picture.proofs.Rows.RowPlacing.{row_part, row_line, row_step}
-use Rattle.ariadne_picture.specs.Strokes.{is_at_margin, is_end_of_gutter_label, rank_at, first_row, last_row, has_tee, has_bar, bar_at}
+use Rattle.ariadne_picture.specs.Strokes.{is_at_margin, rank_at, first_row, last_row, has_tee, bar_at}
 use Rattle.ariadne_picture.specs.Bars.{IsGutterLabel, IsOfLine, IsMarginLabel, IsLineLabel, BarBesideLine, BarBesideLabel, BarBesideAlternate}
 use Rattle.ariadne_picture.specs.Bars.{BarBesideArrow, passes, leaves_margin, started_above, ends_below}
 use Rattle.ariadne_picture.proofs.Lists.Occurrences.{PassesAt, first-passes, only-passes}
 use Rattle.ariadne_picture.proofs.Rows.RowOrder.{IsBefore, Precedes, before-decides}
 use Rattle.ariadne_picture.proofs.Labels.LineLabels.{IsEndAt, margin-is, same-info, two-lines, starting, ending, labels-once, start-label, end-label}
+use Rattle.ariadne_picture.proofs.Parts.{has_bar, is_end_of_gutter_label}
 
 -- ---- a bar stands strictly between
 
@@ -30,12 +31,12 @@ pub record Between (s : Sheet) (x : Row) (i : ℕ) (a : LabelInfo) : Type 0 wher
 
 -- a bar stands in such a row
 pub between-bar : (s : Sheet) (x : Row) (i : ℕ) (a : LabelInfo) → slice_get (gutter_labels s) i ≡ Some a → Between s x i a → bar_at s x i ≡ true
-unfolding bar_at has_bar
+unfolding bar_at
 between-bar s x i a e b = rw (e, b.after, b.until, b.no_tee)
 
 -- and in no other
 pub bar-between : (s : Sheet) (x : Row) (i : ℕ) (a : LabelInfo) → slice_get (gutter_labels s) i ≡ Some a → bar_at s x i ≡ true → Between s x i a
-unfolding bar_at has_bar
+unfolding bar_at
 bar-between s x i a e h =
     let all : (before (first_row s i a) x && before x (last_row s i a) && not (has_tee s a i x)) ≡ true = subst (λ o. has_bar s i x o ≡ true) e h in
     let two = and_parts (before (first_row s i a) x && before x (last_row s i a)) (not (has_tee s a i x)) all in
@@ -146,7 +147,6 @@ side-ends x e = rw e
 -- a line label that passes is a start or end of the gutter label, and the other way round
 pub label-passes : (is_side : Side → Bool) (side : Side) (s : Sheet) (l i n : ℕ) → ((x : Side) → x ≡ side → is_side x ≡ true)
     → IsLineLabel s l side i n → PassesAt (is_end_of_gutter_label is_side i) (line_labels s l) n
-unfolding is_end_of_gutter_label
 label-passes is_side side s l i n f h = record {
   item = h.label;
   there = h.there;
@@ -157,7 +157,6 @@ label-passes is_side side s l i n f h = record {
 -- what passes is a line label of that side of the gutter label
 pub passes-label : (is_side : Side → Bool) (side : Side) (s : Sheet) (l i n : ℕ) → ((x : Side) → is_side x ≡ true → x ≡ side)
     → PassesAt (is_end_of_gutter_label is_side i) (line_labels s l) n → IsLineLabel s l side i n
-unfolding is_end_of_gutter_label
 passes-label is_side side s l i n f h =
     let parts = and_parts (is_side h.item.side) (h.item.gutter_column == i) h.passes in
     record { label = h.item; there = h.there; same_side = f h.item.side parts.0; same_gutter_column = eqb-true h.item.gutter_column i parts.1 }
@@ -223,12 +222,11 @@ at-margin-label s l i a e (Some x) m t =
 
 -- the same by the test
 pub at-margin : (s : Sheet) (l i : ℕ) (a : LabelInfo) → slice_get (gutter_labels s) i ≡ Some a → is_at_margin s l i ≡ true → AtMargin s l i a
-unfolding is_at_margin
 at-margin s l i a e t = at-margin-label s l i a e (margin_label s l) refl t
 
 -- where an end of gutter label i is the margin label, the test says so
 pub margin-at : (s : Sheet) (l i : ℕ) (side : Side) → IsMarginLabel s l side i → is_at_margin s l i ≡ true
-unfolding is_at_margin is_of_gutter_label
+unfolding is_of_gutter_label
 margin-at s l i side h = ap (λ o. is_of_gutter_label o i) h.there ∙ eq-eqb h.label.gutter_column i h.same_gutter_column
 
 -- ---- rows beside a line label
@@ -461,7 +459,6 @@ none-of-gutter-label (Some x) i h = absurd (true≢false h)
 
 -- so a hidden line's margin label is of no gutter label
 pub hidden-off-margin : (s : Sheet) (l i : ℕ) → is_hidden s l ≡ true → is_at_margin s l i ≡ false
-unfolding is_at_margin
 hidden-off-margin s l i h = none-of-gutter-label (margin_label s l) i (hidden-margin s l h)
 
 -- ---- rows of other parts
@@ -490,7 +487,7 @@ part-between p x q first last (inr h) k = sym h.0 ∙ first
 
 -- a row with a bar is a row of a line
 pub bars-of-lines : (s : Sheet) (x : Row) (i : ℕ) → bar_at s x i ≡ true → IsOfLine x
-unfolding bar_at has_bar
+unfolding bar_at
 bars-of-lines s x i t = found (slice_get (gutter_labels s) i) refl
   where
     found : (o : Option LabelInfo) → slice_get (gutter_labels s) i ≡ o → IsOfLine x

@@ -33,7 +33,7 @@ not-margin-start s l =
 -- the same, by the gutter label's number
 pub start-off : (s : Sheet) (l : ℕ) (x : LineLabel) → x.side ≡ Starts → (is_start x.side && is_margin (margin_label s l) x) ≡ false
     → is_at_margin s l x.gutter_column ≡ false
-unfolding is_margin is_at_margin is_start is_inline
+unfolding is_margin is_start is_inline
 start-off s l x e h = rw e at h
 
 -- a start that is a line label is not the margin label

@@ -1,11 +1,11 @@
 -- Each cell of a picture takes the columns of the characters of its text, as each piece does.
 use Rattle.std.proofs.Common.{◌≡◌, ℕ, zero, suc, ◌+◌, ◌-◌, ◌*◌, ◌/◌, ◌%◌, ◌<◌, ◌≤◌, Bool, true, false, ◌&&◌, cond, max, List, [], ◌∷◌, ◌++◌, length, map, replicate}
-use Rattle.std.proofs.Common.{refl, sym, ap, ◌∙◌, subst, arith, ◌==◌, nat_lt, nat_le, Some, inl, inr, if◌then◌else◌, append_assoc}
+use Rattle.std.proofs.Common.{refl, sym, ap, ◌∙◌, subst, arith, ◌==◌, nat_lt, nat_le, Some, inl, inr, if◌then◌else◌}
 use Rattle.std.specs.Prelude.{slice_get, slice_index, decimal, codes, encode_utf8}
 use Rattle.std.specs.Char.{is_whitespace}
 use Rattle.std.specs.List.{AllByRecursion, enumerate_from}
 use Rattle.std.proofs.lemmas.Bool.{cond_both, cases_Bool}
-use Rattle.std.proofs.lemmas.List.{append-nil, length-append, length-replicate}
+use Rattle.std.proofs.lemmas.List.{length-append, length-replicate}
 use Rattle.unicode_width.proofs.Computing.{unicode_width}
 use Rattle.ariadne_base.specs.Locations.{upto}
 use Rattle.ariadne_picture.specs.declared.switches.CharSet.{CharSet}
@@ -14,12 +14,12 @@ use Rattle.ariadne_picture.specs.declared.switches.Switches.{Switches}
 use Rattle.ariadne_picture.specs.declared.label_info.LabelInfo.{LabelInfo}
 use Rattle.ariadne_picture.specs.declared.label_info.LineLabel.{LineLabel}
 use Rattle.ariadne_picture.specs.declared.cell.Glyph.{Glyph}
-use Rattle.ariadne_picture.specs.declared.cell.Glyph.TheVariants.{Blank, Hbar, Vbar, Rbot}
+use Rattle.ariadne_picture.specs.declared.cell.Glyph.TheVariants.{Blank, Vbar}
 use Rattle.ariadne_picture.specs.declared.cell.Ink.{Ink}
 use Rattle.ariadne_picture.specs.declared.cell.Paint.{Paint}
 use Rattle.ariadne_picture.specs.Lists.{joined}
 use Rattle.ariadne_picture.specs.Report.{ReportFields, World}
-use Rattle.ariadne_picture.specs.Groups.{group_end_line, printed_number, number_len, group_start_line, group_lines}
+use Rattle.ariadne_picture.specs.Groups.{greatest, group_end_line, printed_number, group_start_line, group_lines}
 use Rattle.ariadne_picture.specs.Ranks.{Sheet, is_start, is_hidden, line_labels}
 use Rattle.ariadne_picture.specs.Rows.{Aside, help, note, Row, group_header, spacer, source, alternate, arrow, gap, bare, blank, piece, tail, rows}
 use Rattle.ariadne_picture.specs.Rows.{label_rows, is_inside, line_rows, aside_rows, asides}
@@ -27,10 +27,10 @@ use Rattle.std.specs.Str.Lines.{lines}
 use Rattle.ariadne_picture.specs.Columns.{Layout, char_columns, text_columns, shown, shown_columns, width, column_of, arrow_len}
 use Rattle.ariadne_picture.specs.Cells.{glyph_code, column_ink}
 use Rattle.ariadne_picture.specs.Pieces.{Piece, plain_text, blank_piece, spaces, stroke, glyph_text, ink_pieces, shown_text, char_pieces}
-use Rattle.ariadne_picture.specs.Pieces.{char_paint, place_pieces, shown_pieces, area_pieces, margin_text, margin_pieces, column_size}
-use Rattle.ariadne_picture.specs.Pieces.{gutter_len, gutter_pieces, Texts, Section, group_header_pieces, spacer_pieces, repeated, tail_pieces}
-use Rattle.ariadne_picture.specs.Pieces.{message_pieces, aside_pieces, rest_pieces, row_pieces, section_rows}
-use Rattle.ariadne_picture.specs.Canvas.{cell_of, palette_of, header_pieces, texts_of, group_source, sheet_of, section_of, groups, number_width}
+use Rattle.ariadne_picture.specs.Pieces.{char_paint, shown_pieces, area_pieces, margin_text, margin_pieces, column_size}
+use Rattle.ariadne_picture.specs.Pieces.{gutter_len, gutter_pieces, Texts, Section, group_header_pieces, spacer_pieces, tail_pieces}
+use Rattle.ariadne_picture.specs.Pieces.{message_pieces, aside_pieces, text_pieces, rest_pieces, row_pieces, section_rows}
+use Rattle.ariadne_picture.specs.Canvas.{cell_of, palette_of, header_pieces, texts_of, group_source, section_of, groups, number_width}
 use Rattle.ariadne_picture.specs.Canvas.{outline, canvas}
 use Rattle.ariadne_picture.proofs.Lists.ListFacts.{none≢some, all-append, all-weaker, all-map, all-every, all-joined}
 use Rattle.ariadne_picture.proofs.Lists.Elements.{all-numbered}
@@ -39,6 +39,7 @@ use Rattle.ariadne_picture.proofs.Cells.RowCells.{all-replicate}
 use Rattle.ariadne_picture.proofs.Reading.ShownLine.{all-group-lines}
 use Rattle.ariadne_picture.specs.Sent.{HasColumnsOfText, HaveColumnsOfTexts}
 use Rattle.ariadne_picture.proofs.Sent.TextColumns.{columns-encode, columns-one, IsLow, columns-low, low-spaces, low-decimal, decimal-rises}
+use Rattle.ariadne_picture.proofs.Parts.{number_len, place_pieces, outline-is}
 
 -- ---- pieces
 
@@ -109,7 +110,7 @@ wide-char switches paint x c = elim (cases_Bool (c == 9)) [
 ]
 
 wide-line : (switches : Switches) (labels : List LabelInfo) (y : Layout) → AreWide (shown_pieces switches labels y)
-unfolding shown_pieces place_pieces
+unfolding shown_pieces
 wide-line switches labels y =
     all-parts IsWide (place_pieces switches labels y)
     (λ k. wide-char switches (char_paint labels y k) (column_of switches y k) (slice_index (shown y) k)) (upto (length (shown y)))
@@ -161,26 +162,10 @@ wide-spacer : (set : CharSet) (w : ℕ) → AreWide (spacer_pieces set w)
 unfolding spacer_pieces
 wide-spacer set w = (refl, (glyph-columns set Vbar, tt))
 
--- n strokes in front of a text
-repeated-columns : (set : CharSet) (glyph : Glyph) (t ns : List ℕ)
-    → text_columns (joined (λ (k : ℕ). glyph_text set glyph) ns ++ t) ≡ length ns + text_columns t
-unfolding joined
-repeated-columns set glyph t [] = omega arith
-repeated-columns set glyph t (n ∷ ns) =
-    let more = repeated-columns set glyph t ns in
-    let rest : List ℕ = joined (λ (k : ℕ). glyph_text set glyph) ns in
-    let group = append_assoc (glyph_text set glyph) rest t in
-    let step = ap text_columns group ∙ stroke-columns set glyph (rest ++ t) in
-    omega (arith, step, more)
-
 wide-tail : (set : CharSet) (w : ℕ) (is_last : Bool) → AreWide (tail_pieces set w is_last)
-unfolding tail_pieces repeated
+unfolding tail_pieces
 wide-tail set w false = wide-spacer set w
-wide-tail set w true =
-    let e = repeated-columns set Hbar (glyph_text set Rbot) (upto (w + 2)) in
-    let one = glyph-columns set Rbot in
-    let size = Rattle.std.proofs.lemmas.List.FromFn.length-range_with_len 0 (w + 2) in
-    (omega (arith, e, one, size), tt)
+wide-tail set w true = (refl, tt)
 
 -- ---- rows
 
@@ -197,16 +182,18 @@ module _ (t : Texts) (w : ℕ) (g : Section) where
   wide-aside a k zero = (refl, (refl, tt))
   wide-aside a k (suc p) = (refl, tt)
 
+  wide-text : (x : Row) → AreWide (text_pieces t g x)
+  unfolding text_pieces
+  wide-text (source l) = wide-line _ _ _
+  wide-text (alternate l r) = wide-area _ _ _
+  wide-text (arrow l r) = search (all-append, wide-area, wide-message)
+  wide-text (piece a k p) = wide-aside a k p
+  wide-text x = tt
+
   wide-rest : (x : Row) → AreWide (rest_pieces t g x)
   unfolding rest_pieces
-  wide-rest (source l) = all-append IsWide _ _ (wide-gutter g.sheet (source l)) (wide-line _ _ _)
-  wide-rest (alternate l r) = all-append IsWide _ _ (wide-gutter g.sheet (alternate l r)) (wide-area _ _ _)
-  wide-rest (arrow l r) =
-      search (all-append, wide-gutter, wide-area, wide-message)
-  wide-rest (gap l) = wide-gutter g.sheet (gap l)
-  wide-rest (blank a k) = wide-gutter g.sheet (blank a k)
-  wide-rest (piece a k p) = all-append IsWide _ _ (wide-gutter g.sheet (piece a k p)) (wide-aside a k p)
-  wide-rest x = tt
+  wide-rest (bare l) = tt
+  wide-rest x = all-append IsWide _ _ (wide-gutter g.sheet x) (wide-text x)
 
   -- a row whose margin has room
   wide-row : (x : Row) → HasRoom w g.display_offset x → AreWide (row_pieces t w g x)
@@ -226,7 +213,7 @@ module _ (t : Texts) (w : ℕ) (g : Section) where
     one-or-none b x h = cond_both b [] (x ∷ []) HaveRoom (λ _. tt) (λ e. (h, tt))
 
     line-rooms : (l : ℕ) → l ≤ group_end_line g.sheet.labels → HaveRoom (line_rows g.sheet l)
-    unfolding line_rows label_rows number_len printed_number
+    unfolding line_rows label_rows printed_number
     line-rooms l high =
         let s = g.sheet in
         let rise = decimal-rises (l + 1 + g.display_offset) (group_end_line s.labels + 1 + g.display_offset) (omega (arith, high)) in
@@ -278,7 +265,7 @@ module _ {S Id : Type 0} (w : World S Id) (r : ReportFields S) where
   -- the number width has room for each group
   width-most : (gs : List (List LabelInfo)) (k : ℕ) (group : List LabelInfo) → slice_get gs k ≡ Some group
       → number_len (group_source w r group).display_offset group ≤ number_width w r gs
-  unfolding number_width
+  unfolding number_width greatest
   width-most [] k group e = absurd (none≢some group e)
   width-most (x ∷ gs) zero group e =
       let same : x ≡ group = cc in
@@ -287,11 +274,12 @@ module _ {S Id : Type 0} (w : World S Id) (r : ReportFields S) where
   width-most (x ∷ gs) (suc k) group e = let more = width-most gs k group e in omega (arith, more)
 
   wide-outline : (infos : List LabelInfo) → AllByRecursion AreWide (outline w r infos)
-  unfolding outline header_pieces section_of sheet_of
+  unfolding header_pieces section_of
   wide-outline infos =
       let gs = groups w r infos in
       let t = texts_of r in let m = number_width w r gs in let n = length gs in
-      let IsNarrow : ℕ × List LabelInfo → Type 0 = λ e. number_len (group_source w r e.1).display_offset e.1 ≤ m in (
+      let IsNarrow : ℕ × List LabelInfo → Type 0 = λ e. number_len (group_source w r e.1).display_offset e.1 ≤ m in
+      subst (AllByRecursion AreWide) (sym (outline-is w r infos)) (
         (refl, (refl, tt)),
         all-joined AreWide IsNarrow (λ e. section_rows t m (section_of w r n e)) (enumerate_from 0 gs)
             (λ e room. wide-rows t m (section_of w r n e) room)

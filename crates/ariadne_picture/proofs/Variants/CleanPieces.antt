@@ -16,17 +16,18 @@ use Rattle.ariadne_picture.specs.declared.cell.Paint.{Paint}
 use Rattle.ariadne_picture.specs.declared.cell.Ink.{Ink}
 use Rattle.ariadne_picture.specs.Lists.{joined}
 use Rattle.ariadne_picture.specs.Ranks.{Sheet, is_start, multi_line_labels}
-use Rattle.ariadne_picture.specs.Rows.{Aside, help, note, Row, group_header, spacer, source, alternate, arrow, gap, blank, piece, tail}
+use Rattle.ariadne_picture.specs.Rows.{Aside, help, note, Row, group_header, spacer, source, alternate, arrow, bare, piece, tail}
 use Rattle.ariadne_picture.specs.Columns.{Layout, layout_of, shown, shown_columns, width, column_of, arrow_len}
 use Rattle.ariadne_picture.specs.Cells.{column_ink}
 use Rattle.ariadne_picture.specs.Pieces.{Piece, blank_piece, plain_text, spaces, stroke, glyph_text, ink_pieces, shown_text, char_pieces, char_paint}
-use Rattle.ariadne_picture.specs.Pieces.{place_pieces, shown_pieces, area_pieces, margin_text, margin_pieces, column_size, gutter_len, gutter_pieces}
+use Rattle.ariadne_picture.specs.Pieces.{shown_pieces, area_pieces, margin_text, margin_pieces, column_size, gutter_len, gutter_pieces}
 use Rattle.ariadne_picture.specs.Pieces.{Texts, Section, location_text, group_header_pieces, spacer_pieces, repeated, tail_pieces, message_pieces}
-use Rattle.ariadne_picture.specs.Pieces.{aside_texts, aside_name, aside_prefix, aside_line, aside_pieces, rest_pieces, row_pieces}
+use Rattle.ariadne_picture.specs.Pieces.{aside_texts, aside_name, aside_prefix, aside_line, aside_pieces, rest_pieces, row_pieces, text_pieces}
 use Rattle.ariadne_picture.proofs.Lists.ListFacts.{all-append}
 use Rattle.ariadne_picture.proofs.Cells.RowCells.{all-replicate}
 use Rattle.ariadne_picture.proofs.Variants.CleanTexts.{IsKept, is_plain, kept-nil, kept-spaces, kept-decimal, kept-joined}
 use Rattle.ariadne_picture.proofs.Variants.CleanTexts.{all-below, all-in, all-or, all-parts, all-trimmed}
+use Rattle.ariadne_picture.proofs.Parts.{place_pieces}
 
 -- of the text of a piece
 abbrev pub IsCleanPiece : (List ℕ → Type 0) → Piece → Type 0
@@ -111,7 +112,7 @@ module _ (P : List ℕ → Type 0) (kept : IsKept P) where
 
   -- the characters of a line
   clean-line : (switches : Switches) (labels : List LabelInfo) (y : Layout) → AllByRecursion (λ c. P (shown_text c)) y.text → AreClean P (shown_pieces switches labels y)
-  unfolding shown_pieces place_pieces shown
+  unfolding shown_pieces shown
   clean-line switches labels y a =
       let IsShown : ℕ → Type 0 = λ c. P (shown_text c) in
       all-below (IsCleanPiece P) (place_pieces switches labels y) 0 (length (shown y))
@@ -215,16 +216,20 @@ module _ (P : List ℕ → Type 0) (kept : IsKept P) where
     -- ---- rows
 
     module _ (w : ℕ) (g : Section) (named : IsCleanSection P g) where
+      -- what follows the gutter
+      clean-text : (x : Row) → AreClean P (text_pieces t g x)
+      unfolding text_pieces
+      clean-text (source l) = search (clean-source)
+      clean-text (alternate l r) = search (clean-area)
+      clean-text (arrow l r) = search (all-append, clean-area, clean-message)
+      clean-text (piece a k p) = search (clean-aside)
+      clean-text x = tt
+
       -- what follows the margin
       clean-rest : (x : Row) → AreClean P (rest_pieces t g x)
       unfolding rest_pieces
-      clean-rest (source l) = search (all-append, clean-gutter, clean-source)
-      clean-rest (alternate l r) = search (all-append, clean-gutter, clean-area)
-      clean-rest (arrow l r) = search (all-append, clean-gutter, clean-area, clean-message)
-      clean-rest (gap l) = clean-gutter g.sheet (gap l)
-      clean-rest (blank a k) = clean-gutter g.sheet (blank a k)
-      clean-rest (piece a k p) = search (all-append, clean-gutter, clean-aside)
-      clean-rest x = tt
+      clean-rest (bare l) = tt
+      clean-rest x = all-append (IsCleanPiece P) _ _ (clean-gutter g.sheet x) (clean-text x)
 
       -- a row
       pub clean-row : (x : Row) → AreClean P (row_pieces t w g x)

@@ -10,11 +10,12 @@ use Rattle.ariadne_picture.specs.declared.label_info.LabelInfo.{LabelInfo}
 use Rattle.ariadne_picture.specs.Report.{ReportFields, World, switches_of}
 use Rattle.ariadne_picture.specs.Accept.{text_len, offset_in_chars}
 use Rattle.ariadne_picture.specs.Lists.{joined}
-use Rattle.ariadne_picture.specs.Groups.{ordered, groups_of, number_len}
+use Rattle.ariadne_picture.specs.Groups.{ordered, groups_of, greatest}
 use Rattle.ariadne_picture.specs.Pieces.{Piece, section_rows}
-use Rattle.ariadne_picture.specs.Canvas.{kind_name, code_text, texts_of, label_id, is_same_id, same_source, group_id, group_source, group_name}
-use Rattle.ariadne_picture.specs.Canvas.{header_offset, sheet_of, section_of, groups, number_width, outline, header_pieces}
+use Rattle.ariadne_picture.specs.Canvas.{kind_name, code_text, texts_of, label_id, is_same_id, same_source, group_id, group_source}
+use Rattle.ariadne_picture.specs.Canvas.{header_offset, section_of, groups, number_width, outline, header_pieces}
 use Rattle.ariadne_picture.proofs.Lists.Joined.{joined-enumerated_same}
+use Rattle.ariadne_picture.proofs.Parts.{number_len, outline-is}
 
 -- lists of which f and g read the same, read alike at each place
 same-at : {X Y Z : Type 0} (f : X → Z) (g : Y → Z) (xs : List X) (ys : List Y) → map f xs ≡ map g ys → (k : ℕ)
@@ -112,13 +113,13 @@ module _ {S T Id : Type 0} (w : World S Id) (v : World T Id) (r : ReportFields S
 
     -- display offsets are read of the same sources
     same-width : (gs : List (List LabelInfo)) → number_width w r gs ≡ number_width v q gs
-    unfolding number_width
+    unfolding number_width greatest
     same-width [] = refl
     same-width (group ∷ gs) = λ i. max (number_len (same-group_source group i).display_offset group) (same-width gs i)
 
     -- a group's part of the picture is of the same source, under the same name
     same-section : (n k : ℕ) (group : List LabelInfo) → NameOneOffset group → section_of w r n (k, group) ≡ section_of v q n (k, group)
-    unfolding section_of sheet_of group_name
+    unfolding section_of
     same-section n k group place = λ i. record {
       sheet = record { switches = same.switches i; lines = listed_lines (same-group_source group i); labels = group };
       name = unwrap_or (option_and_then (same.names i) (same-group_id group i)) (codes "<unknown>");
@@ -138,5 +139,7 @@ module _ {S T Id : Type 0} (w : World S Id) (v : World T Id) (r : ReportFields S
 
     -- the outline is the header and the rows of the groups, and both are the same
     pub same-outline : (infos : List LabelInfo) → AllByRecursion NameOneOffset (groups w r infos) → outline w r infos ≡ outline v q infos
-    unfolding outline
-    same-outline infos places = λ i. header_pieces (same-texts i) ∷ (same-rows (groups w r infos) places ∙ ap (rows_of v q) (same-groups infos)) i
+    same-outline infos places =
+        outline-is w r infos
+        ∙ (λ i. header_pieces (same-texts i) ∷ (same-rows (groups w r infos) places ∙ ap (rows_of v q) (same-groups infos)) i)
+        ∙ sym (outline-is v q infos)

@@ -15,13 +15,14 @@ use Rattle.ariadne_picture.specs.Report.{LabelFields, ReportFields, World}
 use Rattle.ariadne_picture.specs.Rows.{rows}
 use Rattle.ariadne_picture.specs.Pieces.{shown_text, row_pieces, section_rows}
 use Rattle.ariadne_picture.specs.Canvas.{Cell, cell_of, palette_of, kind_name, code_text, header_pieces, texts_of, label_id, group_id, group_source}
-use Rattle.ariadne_picture.specs.Canvas.{group_name, sheet_of, section_of, groups, number_width, outline, canvas}
+use Rattle.ariadne_picture.specs.Canvas.{section_of, groups, number_width, outline, canvas}
 use Rattle.ariadne_picture.specs.Sent.{HaveNoLineFeeds}
 use Rattle.ariadne_picture.specs.Variants.{HasNoEscape, HaveNoEscapes}
 use Rattle.ariadne_picture.proofs.Lists.ListFacts.{all-weaker, all-map, all-every}
 use Rattle.ariadne_picture.proofs.Variants.CleanTexts.{IsKept, is_plain, kept-nil, IsClean, HasNo, IsControl, clean-from, clean-test, clean-kept, clean-shown}
 use Rattle.ariadne_picture.proofs.Variants.CleanTexts.{all-parts, all-lines_of, clean-lines, fed-lines}
 use Rattle.ariadne_picture.proofs.Variants.CleanPieces.{AreClean, HaveCleanLines, AreShownClean, AreCleanTexts, IsCleanSection, clean-row}
+use Rattle.ariadne_picture.proofs.Parts.{group_name, outline-is}
 
 -- ---- what is looked up
 
@@ -105,7 +106,6 @@ module _ {S Id : Type 0} (w : World S Id) (r : ReportFields S) where
 
     -- the name of a group's source
     clean-group_name : (group : List LabelInfo) → P (group_name w r group)
-    unfolding group_name
     clean-group_name group =
         all-held P w.name_of (codes "<unknown>") group (printable (codes "<unknown>") refl) h.names
 
@@ -118,7 +118,7 @@ module _ {S Id : Type 0} (w : World S Id) (r : ReportFields S) where
 
     -- a group within the picture
     clean-section : (n : ℕ) (e : ℕ × List LabelInfo) → IsCleanSection P (section_of w r n e)
-    unfolding section_of sheet_of
+    unfolding section_of
     clean-section n e = record { name = clean-group_name e.1; lines = clean-group_lines e.1 }
 
     -- ---- the picture
@@ -133,13 +133,13 @@ module _ {S Id : Type 0} (w : World S Id) (r : ReportFields S) where
 
     -- the header, and the rows of all groups
     clean-outline : (infos : List LabelInfo) → AllByRecursion (AreClean P) (outline w r infos)
-    unfolding outline header_pieces
+    unfolding header_pieces
     clean-outline infos =
         let gs = groups w r infos in
         let t = texts_of r in let m = number_width w r gs in let n = length gs in
         let message = append (codes " ") (unwrap_or t.message []) (printable (codes " ") refl) clean-texts_of.message in
         let parts = all-parts (AreClean P) (λ e. section_rows t m (section_of w r n e)) (clean-rows m n) (enumerate_from 0 gs) in
-        ((clean-texts_of.kind_text, (message, tt)), parts)
+        subst (AllByRecursion (AreClean P)) (sym (outline-is w r infos)) ((clean-texts_of.kind_text, (message, tt)), parts)
 
     -- so of each cell, whose text is that of a piece
     pub every-cell : (infos : List LabelInfo) → AllByRecursion (AllByRecursion (λ (c : Cell). P c.text)) (canvas w r infos)

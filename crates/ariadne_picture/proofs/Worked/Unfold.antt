@@ -5,7 +5,7 @@ use Rattle.ariadne_base.specs.Locations.{line_offset, line_at, column_at, char_o
 use Rattle.ariadne_picture.specs.Lists.{inserted, in_order, best, joined, total}
 use Rattle.ariadne_picture.specs.Accept.{text_len, offset_in_chars, attach_offset, info_of, within, verdict, accepted_info, drawn_label, drawn_labels}
 use Rattle.ariadne_picture.specs.Groups.{ordered, is_cut, last_of, ahead, groups_of, greatest, least_below, group_end_line, group_start_line}
-use Rattle.ariadne_picture.specs.Groups.{group_lines, printed_number, number_len}
+use Rattle.ariadne_picture.specs.Groups.{group_lines, printed_number}
 use Rattle.ariadne_picture.specs.Ranks.{is_inline, is_start, is_end, span_len, is_on_one_line, multi_line_labels, gutter_labels, gutter_label_ends}
 use Rattle.ariadne_picture.specs.Ranks.{ends_at, is_nearer_margin, margin_label, is_of_gutter_label, is_margin, inline_labels, is_before, line_labels}
 use Rattle.ariadne_picture.specs.Ranks.{is_hidden}
@@ -13,15 +13,15 @@ use Rattle.ariadne_picture.specs.Rows.{aside_part, before, label_rows, is_inside
 use Rattle.ariadne_picture.specs.Columns.{layout_of, char_columns, text_columns, shown, shown_columns, width_from, column_of, width, places_to_end}
 use Rattle.ariadne_picture.specs.Columns.{arrow_len}
 use Rattle.ariadne_picture.specs.Strokes.{has_vertical, vertical_at, has_corner, is_crossed, holds, is_preferred, underlines_at, underline_at}
-use Rattle.ariadne_picture.specs.Strokes.{is_at_margin, is_end_of_gutter_label, rank_at, first_row, last_row, has_tee, has_bar, bar_at}
+use Rattle.ariadne_picture.specs.Strokes.{rank_at, first_row, last_row, has_tee, bar_at}
 use Rattle.ariadne_picture.specs.Cells.{glyph_code, alternate_ink, corner_glyph, arrow_ink, alternate_place, arrow_place, gutter_label_paint}
 use Rattle.ariadne_picture.specs.Cells.{margin_glyph, turn_glyph, margin_ink, beside_ink, below_ink, turn_ink, column_ink}
-use Rattle.ariadne_picture.specs.Pieces.{spaces, glyph_text, ink_pieces, painters, painter_paint, char_paint, shown_text, char_pieces, place_pieces}
+use Rattle.ariadne_picture.specs.Pieces.{spaces, glyph_text, ink_pieces, painters, char_paint, shown_text, char_pieces}
 use Rattle.ariadne_picture.specs.Pieces.{shown_pieces, area_pieces, margin_text, margin_paint, margin_pieces, column_size, gutter_len, gutter_pieces}
 use Rattle.ariadne_picture.specs.Pieces.{location_text, group_header_pieces, spacer_pieces, repeated, tail_pieces, message_pieces, aside_texts}
-use Rattle.ariadne_picture.specs.Pieces.{aside_name, aside_prefix, aside_line, aside_pieces, rest_pieces, row_pieces, section_rows}
+use Rattle.ariadne_picture.specs.Pieces.{aside_name, aside_prefix, aside_line, aside_pieces, text_pieces, rest_pieces, row_pieces, section_rows}
 use Rattle.ariadne_picture.specs.Canvas.{header_pieces, paint_color, color_of, label_id, is_same_id, same_source, texts_of, group_id, group_source}
-use Rattle.ariadne_picture.specs.Canvas.{group_name, header_offset, sheet_of, section_of, groups, number_width, outline, sections, canvas}
+use Rattle.ariadne_picture.specs.Canvas.{header_offset, section_of, groups, number_width, outline, sections, canvas}
 use Rattle.ariadne_picture.specs.Print.{cell_bytes, line_bytes, printed, pieces_bytes, is_parameter, sequence_len, unescaped_after, unescaped}
 use Rattle.ariadne_picture.specs.Placing.Cells.{is_glyph, is_level}
 use Rattle.ariadne_picture.specs.Placing.Group.{shown_lines, column_cell, text_cell, place_cell, has_cell, shown_cells, messages_of}
@@ -43,16 +43,16 @@ use Rattle.ariadne_picture.specs.LabelColors.{is_start_colored, is_pointer_color
 unfoldable pub evaluated : Unit {0}
 unfolding digits is_separator begins_with_line_feed ends_line in_front full_lines_of lines_of line_offset line_at column_at char_offset inserted
     in_order best joined total text_len offset_in_chars attach_offset info_of within verdict accepted_info drawn_label drawn_labels ordered is_cut
-    last_of ahead groups_of greatest least_below group_end_line group_start_line group_lines printed_number number_len is_inline is_start is_end
+    last_of ahead groups_of greatest least_below group_end_line group_start_line group_lines printed_number is_inline is_start is_end
     span_len is_on_one_line multi_line_labels gutter_labels gutter_label_ends ends_at is_nearer_margin margin_label is_of_gutter_label is_margin
     inline_labels is_before line_labels is_hidden aside_part row_key before label_rows is_inside line_rows aside_rows asides rows
     layout_of char_columns text_columns shown shown_columns width_from column_of width places_to_end arrow_len has_vertical vertical_at has_corner
-    is_crossed holds is_preferred underlines_at underline_at is_at_margin is_end_of_gutter_label rank_at first_row last_row has_tee has_bar bar_at glyph_code
+    is_crossed holds is_preferred underlines_at underline_at rank_at first_row last_row has_tee bar_at glyph_code
     alternate_ink corner_glyph arrow_ink alternate_place arrow_place gutter_label_paint margin_glyph turn_glyph margin_ink beside_ink below_ink
-    turn_ink column_ink spaces glyph_text ink_pieces painters painter_paint char_paint shown_text char_pieces place_pieces shown_pieces area_pieces
+    turn_ink column_ink spaces glyph_text ink_pieces painters char_paint shown_text char_pieces shown_pieces area_pieces
     margin_text margin_paint margin_pieces column_size gutter_len gutter_pieces location_text group_header_pieces spacer_pieces repeated tail_pieces
-    message_pieces aside_texts aside_name aside_prefix aside_line aside_pieces rest_pieces row_pieces section_rows header_pieces paint_color color_of
-    label_id is_same_id same_source texts_of group_id group_source group_name header_offset sheet_of section_of groups number_width outline sections
+    message_pieces aside_texts aside_name aside_prefix aside_line aside_pieces text_pieces rest_pieces row_pieces section_rows header_pieces paint_color color_of
+    label_id is_same_id same_source texts_of group_id group_source header_offset section_of groups number_width outline sections
     canvas cell_bytes line_bytes printed pieces_bytes is_parameter sequence_len unescaped_after unescaped is_glyph is_level unindented ends_in row_at
     cell_at shown_lines column_cell text_cell place_cell has_cell block_rows holds_at_places is_traced_at is_level_right_of shown_cells
     has_margin is_source_row is_in_group is_in_block all_pairs messages_of is_line_placed is_gutter_label_placed is_group_placed

@@ -4,9 +4,9 @@ use Rattle.std.specs.List.{list_any}
 use Rattle.ariadne_picture.specs.declared.switches.CharSet.{CharSet}
 use Rattle.ariadne_picture.specs.declared.label_info.LabelInfo.{LabelInfo}
 use Rattle.ariadne_picture.specs.declared.cell.Paint.TheVariants.{Plain}
-use Rattle.ariadne_picture.specs.Lists.{all_numbered, joined_numbered}
+use Rattle.ariadne_picture.specs.Lists.{joined_numbered}
 use Rattle.ariadne_picture.specs.Groups.{group_lines}
-use Rattle.ariadne_picture.specs.Ranks.{gutter_labels, margin_label, is_of_gutter_label, is_hidden}
+use Rattle.ariadne_picture.specs.Ranks.{gutter_labels, is_hidden}
 use Rattle.ariadne_picture.specs.Columns.{layout_of, shown, width, column_of}
 use Rattle.ariadne_picture.specs.Pieces.{Piece, Section, column_size, gutter_len, char_pieces}
 
@@ -22,14 +22,6 @@ module _ (s : Section) where
   -- the labels that have a message
   unfoldable pub messages_of : List LabelInfo
   messages_of = filter (λ a. a.has_message) s.sheet.labels
-
-  -- gutter label i starts or ends at line l as its margin label
-  abbrev pub is_margin_at : ℕ → ℕ → Bool
-  is_margin_at l i = is_of_gutter_label (margin_label s.sheet l) i
-
-  -- a test holds of each gutter label with its number
-  abbrev pub all_gutter_labels : (ℕ → LabelInfo → Bool) → Bool
-  all_gutter_labels test = all_numbered test (gutter_labels s.sheet)
 
   -- underlines are drawn below line l: one of its labels has a message
   abbrev pub has_underlines : ℕ → Bool

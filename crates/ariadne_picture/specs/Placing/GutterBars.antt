@@ -12,8 +12,7 @@ use Rattle.ariadne_picture.specs.Ranks.{gutter_labels}
 use Rattle.ariadne_picture.specs.Pieces.{Section, glyph_text}
 use Rattle.ariadne_picture.specs.Canvas.{Cell}
 use Rattle.ariadne_picture.specs.Placing.Cells.{is_text, is_blank, is_glyph, is_level}
-use Rattle.ariadne_picture.specs.Placing.Group.{set_of, shown_lines, all_gutter_labels, arrow_column}
-use Rattle.ariadne_picture.specs.Placing.Group.{text_cell}
+use Rattle.ariadne_picture.specs.Placing.Group.{set_of, shown_lines, arrow_column, text_cell}
 use Rattle.ariadne_picture.specs.Placing.Rows.{Placing, between, row_at, cell_at, gutter_cell}
 
 -- the first text ends in the second
@@ -28,8 +27,7 @@ module _ (canvas : List (List Cell)) (sections : List Section) (p : Placing) whe
   -- the rows of a group that have gutter cells
   unfoldable pub gutter_rows : ℕ → Section → List ℕ
   gutter_rows g s =
-      filter (λ n. is_blank (cell_at canvas n 0) && has_gutter s n)
-      (between (p.start g) (p.start (g + 1)))
+      filter (λ n. is_blank (cell_at canvas n 0) && has_gutter s n) (between (p.start g) (p.start (g + 1)))
 
   -- row n stands in place of hidden lines, and shows that
   unfoldable pub is_gap_row : CharSet → ℕ → Bool
@@ -37,13 +35,8 @@ module _ (canvas : List (List Cell)) (sections : List Section) (p : Placing) whe
       is_blank (cell_at canvas n 0) && ends_in (cell_at canvas n 1).text (glyph_text set VbarGap)
 
   module _ (g : ℕ) (s : Section) where
-    -- row n has the head or the message of a gutter label before i
-    abbrev pub is_crossed_in : ℕ → ℕ → Bool
-    is_crossed_in i n =
-        any_numbered (λ m a. nat_lt m i
-        && ((p.head_row g m == n) || (p.message_row a.position == n))) (gutter_labels s.sheet)
-
-    -- row n, from the head of gutter label i, which is a, to its corner, has a stroke of it
+    -- row n, from the head of gutter label i, which is a, to its corner, has a stroke of it; a horizontal
+    -- is that of the head or the message of a gutter label before i
     unfoldable pub is_bar : ℕ → LabelInfo → ℕ → Bool
     is_bar i a n =
         let set = set_of s in
@@ -53,7 +46,9 @@ module _ (canvas : List (List Cell)) (sections : List Section) (p : Placing) whe
         else if list_any (λ l. p.source_row g l == n) (shown_lines s)
         then is_glyph set Vbar c || is_glyph set Lcross c
         else if is_gap_row set n then is_glyph set VbarGap c
-        else is_glyph set Vbar c || (is_crossed_in i n && is_level set c)
+        else is_glyph set Vbar c || (any_numbered (λ m b.
+        nat_lt m i && ((p.head_row g m == n) || (p.message_row b.position == n))) (gutter_labels s.sheet)
+        && is_level set c)
 
     -- its column has strokes in these rows, and elsewhere blanks, or horizontals of others
     unfoldable pub is_column_traced : ℕ → LabelInfo → Bool
@@ -76,4 +71,5 @@ module _ (canvas : List (List Cell)) (sections : List Section) (p : Placing) whe
   -- the clause
   unfoldable pub has_gutter_bars : Bool
   has_gutter_bars =
-      all_numbered (λ g s. all_gutter_labels s (is_column_traced g s) && is_last_column_free g s) sections
+      all_numbered (λ g s.
+      all_numbered (is_column_traced g s) (gutter_labels s.sheet) && is_last_column_free g s) sections

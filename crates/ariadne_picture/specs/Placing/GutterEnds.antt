@@ -6,11 +6,12 @@ use Rattle.ariadne_picture.specs.declared.label_info.LabelInfo.{LabelInfo}
 use Rattle.ariadne_picture.specs.declared.cell.Glyph.TheVariants.{Hbar, Vbar, Rarrow, Ltop, Lbot}
 use Rattle.ariadne_picture.specs.declared.cell.Glyph.TheVariants.{Rbot, Mbot, Lcross}
 use Rattle.ariadne_picture.specs.Lists.{all_numbered}
+use Rattle.ariadne_picture.specs.Ranks.{gutter_labels}
+use Rattle.ariadne_picture.specs.Strokes.{is_at_margin}
 use Rattle.ariadne_picture.specs.Pieces.{Section}
 use Rattle.ariadne_picture.specs.Canvas.{Cell}
 use Rattle.ariadne_picture.specs.Placing.Cells.{is_glyph, is_level}
-use Rattle.ariadne_picture.specs.Placing.Group.{set_of, shown_lines, is_margin_at, all_gutter_labels}
-use Rattle.ariadne_picture.specs.Placing.Group.{column_cell, arrow_column, text_cell}
+use Rattle.ariadne_picture.specs.Placing.Group.{set_of, shown_lines, column_cell, arrow_column, text_cell}
 use Rattle.ariadne_picture.specs.Placing.Rows.{Placing, between, cell_at, gutter_cell}
 use Rattle.ariadne_picture.specs.Placing.Rows.{holds_at_places, is_traced_at}
 
@@ -31,11 +32,9 @@ module _ (canvas : List (List Cell)) (sections : List Section) (p : Placing) whe
         let n = p.message_row a.position in
         let set = set_of s in
         let holds = holds_at_places canvas p g s l n in
-        is_glyph set Lbot (gutter_cell canvas s n i)
-        && is_level_right_of s i n
-        && holds 0 a.end_place (is_level set)
-        && holds (a.end_place + 1) (p.places g l) (is_level set)
-        && (if is_margin_at s l i
+        is_glyph set Lbot (gutter_cell canvas s n i) && is_level_right_of s i n
+        && holds 0 a.end_place (is_level set) && holds (a.end_place + 1) (p.places g l) (is_level set)
+        && (if is_at_margin s.sheet l i
         then holds a.end_place (a.end_place + 1) (is_level set)
         && is_glyph set Lcross (gutter_cell canvas s (p.source_row g l) i)
         && is_glyph set Rarrow (gutter_cell canvas s (p.source_row g l) (arrow_column s))
@@ -51,24 +50,22 @@ module _ (canvas : List (List Cell)) (sections : List Section) (p : Placing) whe
         let set = set_of s in
         let holds = holds_at_places canvas p g s l n in
         is_glyph set Ltop (gutter_cell canvas s n i)
-        && (if is_margin_at s l i then is_glyph set Rarrow (gutter_cell canvas s n (arrow_column s))
-        else is_level_right_of s i n
-        && holds 0 a.start_place (is_level set)
+        && (if is_at_margin s.sheet l i then is_glyph set Rarrow (gutter_cell canvas s n (arrow_column s))
+        else is_level_right_of s i n && holds 0 a.start_place (is_level set)
         && holds a.start_place (a.start_place + 1) (is_glyph set Rbot)
         && is_traced_at canvas p g s l a.start_place n)
 
     -- beside line l whose margin label it is, its stroke reaches the arrow head, under bars of others
     unfoldable pub is_pointed : ℕ → Bool
     is_pointed l =
-        let set = set_of s in
         let cell = gutter_cell canvas s (p.source_row g l) in
-        not (is_margin_at s l i)
-        || list_all (λ j. is_glyph set Hbar (cell j) || is_glyph set Vbar (cell j))
+        not (is_at_margin s.sheet l i)
+        || list_all (λ j. is_glyph (set_of s) Hbar (cell j) || is_glyph (set_of s) Vbar (cell j))
         (between (i + 1) (arrow_column s))
 
   -- the clause: both ends of each, and its strokes to arrow heads
   unfoldable pub has_ends_of_gutter_traces : Bool
   has_ends_of_gutter_traces =
-      all_numbered (λ g s. all_gutter_labels s (λ i a.
+      all_numbered (λ g s. all_numbered (λ i a.
       is_end_traced g s i a && is_start_traced g s i a
-      && list_all (is_pointed g s i) (shown_lines s))) sections
+      && list_all (is_pointed g s i) (shown_lines s)) (gutter_labels s.sheet)) sections

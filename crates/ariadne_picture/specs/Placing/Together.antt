@@ -7,11 +7,12 @@ use Rattle.ariadne_picture.specs.declared.label_info.LabelInfo.{LabelInfo}
 use Rattle.ariadne_picture.specs.declared.cell.Glyph.TheVariants.{Vbar}
 use Rattle.ariadne_picture.specs.Lists.{joined, all_numbered}
 use Rattle.ariadne_picture.specs.Groups.{printed_number}
+use Rattle.ariadne_picture.specs.Ranks.{gutter_labels}
+use Rattle.ariadne_picture.specs.Strokes.{is_at_margin}
 use Rattle.ariadne_picture.specs.Pieces.{Section, glyph_text}
 use Rattle.ariadne_picture.specs.Canvas.{Cell}
 use Rattle.ariadne_picture.specs.Placing.Cells.{is_text, is_blank}
-use Rattle.ariadne_picture.specs.Placing.Group.{set_of, shown_lines, messages_of, is_margin_at}
-use Rattle.ariadne_picture.specs.Placing.Group.{all_gutter_labels, shown_cells}
+use Rattle.ariadne_picture.specs.Placing.Group.{set_of, shown_lines, messages_of, shown_cells}
 use Rattle.ariadne_picture.specs.Placing.Rows.{Placing, cell_at, text_cells, block_rows}
 
 -- a text without the blanks in front
@@ -60,7 +61,7 @@ module _ (canvas : List (List Cell)) (sections : List Section) (p : Placing) whe
     -- gutter label i, which is a, has its head beside its start line or below it
     unfoldable pub is_gutter_label_placed : ℕ → LabelInfo → Bool
     is_gutter_label_placed i a =
-        if is_margin_at s a.start_line i then p.head_row g i == p.source_row g a.start_line
+        if is_at_margin s.sheet a.start_line i then p.head_row g i == p.source_row g a.start_line
         else is_in_block g a.start_line (p.head_row g i)
 
     -- the lines stand in their order, and each message below the line where its label ends
@@ -70,7 +71,7 @@ module _ (canvas : List (List Cell)) (sections : List Section) (p : Placing) whe
         && all_pairs nat_lt (map (p.source_row g) (shown_lines s))
         && list_all is_line_placed (shown_lines s)
         && list_all (λ a. is_in_block g a.end_line (p.message_row a.position)) (messages_of s)
-        && all_gutter_labels s is_gutter_label_placed
+        && all_numbered is_gutter_label_placed (gutter_labels s.sheet)
 
   -- the groups follow one another and are all rows but the header, and two messages have two rows
   unfoldable pub is_placing : Bool
