@@ -1,20 +1,22 @@
 -- Names that proofs have for parts of definitions, which stand in place there.
 use Rattle.std.proofs.Common.{◌≡◌, ℕ, Bool, false, List, ◌∷◌, Option, length, ap}
-use Rattle.std.specs.Prelude.{◌==◌, ◌&&◌, ◌||◌, not, nat_lt, slice_index, decimal, codes, unwrap_or, option_and_then}
+use Rattle.std.specs.Prelude.{◌==◌, ◌&&◌, ◌||◌, not, nat_lt, if◌then◌else◌, slice_index, decimal, codes, unwrap_or, option_and_then}
 use Rattle.std.specs.List.{enumerate_from}
 use Rattle.std.specs.Option.{option_map_or}
 use Rattle.ariadne_base.specs.Listing.{listed_lines}
 use Rattle.ariadne_picture.specs.declared.label_info.LabelInfo.{LabelInfo}
 use Rattle.ariadne_picture.specs.declared.label_info.LineLabel.{LineLabel}
 use Rattle.ariadne_picture.specs.declared.label_info.Side.{Side}
+use Rattle.ariadne_picture.specs.declared.cell.Ink.{Ink}
 use Rattle.ariadne_picture.specs.declared.switches.Switches.{Switches}
 use Rattle.ariadne_picture.specs.Lists.{joined, any_numbered}
 use Rattle.ariadne_picture.specs.Report.{ReportFields, World, switches_of}
 use Rattle.ariadne_picture.specs.Groups.{group_end_line, printed_number}
-use Rattle.ariadne_picture.specs.Ranks.{Sheet, gutter_labels}
+use Rattle.ariadne_picture.specs.Ranks.{Sheet, gutter_labels, is_margin}
 use Rattle.ariadne_picture.specs.Rows.{Row, before}
 use Rattle.ariadne_picture.specs.Columns.{Layout, column_of, shown}
-use Rattle.ariadne_picture.specs.Strokes.{first_row, last_row, has_tee}
+use Rattle.ariadne_picture.specs.Strokes.{Spot, corner, level, free, first_row, last_row, has_tee}
+use Rattle.ariadne_picture.specs.Cells.{arrow_ink}
 use Rattle.ariadne_picture.specs.Pieces.{Piece, Section, char_paint, char_pieces, section_rows}
 use Rattle.ariadne_picture.specs.Canvas.{Cell, header_pieces, texts_of, group_id, group_source, groups, number_width, section_of, sections, outline}
 use Rattle.ariadne_picture.specs.Placing.Rows.{Placing}
@@ -32,6 +34,18 @@ is_end_of_gutter_label is_side i x = is_side x.side && (x.gutter_column == i)
 abbrev pub has_bar : Sheet → ℕ → Row → Option LabelInfo → Bool
 has_bar s i row found =
     option_map_or (λ a. before (first_row s i a) row && before row (last_row s i a) && not (has_tee s a i row)) found false
+
+-- the corner of a line label stands at place k of its arrow row
+abbrev pub has_corner : Option LineLabel → LineLabel → ℕ → Bool
+has_corner margin x k = (x.place == k) && not (is_margin margin x)
+
+-- where a place stands: whether its label's corner is there, and whether its horizontal is
+abbrev pub spot_by : Bool → Bool → Spot
+spot_by at_corner crossed = if at_corner then corner else if crossed then level else free
+
+-- what it shows then
+abbrev pub arrow_ink_by : Switches → ℕ → LineLabel → Bool → Bool → Option LineLabel → Ink
+arrow_ink_by switches r x at_corner crossed vertical = arrow_ink switches r x (spot_by at_corner crossed) vertical
 
 -- the pieces of the character at place k
 abbrev pub place_pieces : Switches → List LabelInfo → Layout → ℕ → List Piece

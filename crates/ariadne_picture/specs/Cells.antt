@@ -1,6 +1,6 @@
 -- Which of the strokes that meet in a cell is seen, and in whose colour. A place or a column has a
 -- first cell and perhaps more, which are alike.
-use Rattle.std.specs.Prelude.{ℕ, Bool, true, false, not, ◌&&◌, ◌==◌, nat_lt, if◌then◌else◌, length}
+use Rattle.std.specs.Prelude.{ℕ, not, ◌&&◌, ◌==◌, nat_lt, if◌then◌else◌, length}
 use Rattle.std.specs.Prelude.{Option, Some, None, slice_get, unwrap_or, option_map}
 use Rattle.ariadne_picture.specs.declared.switches.CharSet.{CharSet}
 use Rattle.ariadne_picture.specs.declared.switches.CharSet.TheVariants.{Unicode, Ascii}
@@ -20,7 +20,7 @@ use Rattle.ariadne_picture.specs.declared.switches.Switches.{Switches}
 use Rattle.ariadne_picture.specs.Ranks.{Sheet, is_inline, gutter_labels, margin_label, line_labels}
 use Rattle.ariadne_picture.specs.Rows.{Row, source, alternate, arrow, gap}
 use Rattle.ariadne_picture.specs.Columns.{Layout}
-use Rattle.ariadne_picture.specs.Strokes.{vertical_at, underline_at, has_corner, is_crossed, bar_at}
+use Rattle.ariadne_picture.specs.Strokes.{vertical_at, underline_at, Spot, corner, level, free, spot_of, bar_at}
 
 -- ---- the characters of the strokes
 
@@ -85,18 +85,17 @@ corner_glyph Inline = Lbot
 corner_glyph Ends = Mbot
 corner_glyph Starts = Rbot
 
--- a place of the arrow row of label x, of rank r: whether its corner and its horizontal are there,
--- and the vertical that is seen there
-unfoldable pub arrow_ink : Switches → ℕ → LineLabel → Bool → Bool → Option LineLabel → Ink
-arrow_ink switches r x true horizontal vertical = ink_of (corner_glyph x.side) Hbar x.info
-arrow_ink switches r x false true (Some v) =
+-- a place of the arrow row of label x, of rank r: by where it stands, and the vertical that is seen
+-- there
+unfoldable pub arrow_ink : Switches → ℕ → LineLabel → Spot → Option LineLabel → Ink
+arrow_ink switches r x corner vertical = ink_of (corner_glyph x.side) Hbar x.info
+arrow_ink switches r x level (Some v) =
     if switches.cross_gap then ink_of Hbar Hbar x.info else ink_of Xbar Blank x.info
-arrow_ink switches r x false false (Some v) =
+arrow_ink switches r x free (Some v) =
     ink (if not (is_inline v.side) && (r == 0) && switches.compact then Uarrow else Vbar)
-    (paint_of v.info)
-    Blank (paint_of x.info)
-arrow_ink switches r x false true None = ink_of Hbar Hbar x.info
-arrow_ink switches r x false false None = blanks
+    (paint_of v.info) Blank (paint_of x.info)
+arrow_ink switches r x level None = ink_of Hbar Hbar x.info
+arrow_ink switches r x free None = blanks
 
 -- place k of the alternate row of rank r
 unfoldable pub alternate_place : Switches → Layout → ℕ → ℕ → Ink
@@ -107,8 +106,7 @@ alternate_place switches y r k =
 unfoldable pub arrow_place : Switches → Layout → ℕ → Option LineLabel → ℕ → Ink
 arrow_place switches y r None k = blanks
 arrow_place switches y r (Some x) k =
-    arrow_ink switches r x (has_corner y.margin x k) (is_crossed x.side x.place k)
-    (vertical_at y r k)
+    arrow_ink switches r x (spot_of y.margin x k) (vertical_at y r k)
 
 -- ---- the gutter
 

@@ -27,15 +27,23 @@ has_vertical margin k x = x.info.has_message && not (is_margin margin x) && (x.p
 unfoldable pub vertical_at : Layout → ℕ → ℕ → Option LineLabel
 vertical_at y r k = find (has_vertical y.margin k) (drop r y.labels)
 
--- its corner stands at its column of its arrow row
-unfoldable pub has_corner : Option LineLabel → LineLabel → ℕ → Bool
-has_corner margin x k = (x.place == k) && not (is_margin margin x)
-
 -- the places of its horizontal, in its arrow row
 unfoldable pub is_crossed : Side → ℕ → ℕ → Bool
 is_crossed Inline column k = nat_lt column k
 is_crossed Ends column k = true
 is_crossed Starts column k = nat_le k column
+
+-- where a place of its arrow row stands: at its corner, on its horizontal, or on neither
+pub data Spot : Type 0 where
+  corner : Spot
+  level : Spot
+  free : Spot
+
+-- its corner stands at its own place, unless it is the margin label
+unfoldable pub spot_of : Option LineLabel → LineLabel → ℕ → Spot
+spot_of margin x k =
+    if (x.place == k) && not (is_margin margin x) then corner
+    else if is_crossed x.side x.place k then level else free
 
 -- a label's span holds the character at offset o
 unfoldable pub holds : LabelInfo → ℕ → Bool

@@ -15,11 +15,12 @@ use Rattle.ariadne_picture.specs.declared.switches.Switches.{Switches}
 use Rattle.ariadne_picture.specs.Lists.{best}
 use Rattle.ariadne_picture.specs.Columns.{Layout}
 use Rattle.ariadne_picture.specs.Ranks.{is_inline, is_margin, is_of_gutter_label}
-use Rattle.ariadne_picture.specs.Strokes.{has_corner, is_crossed, is_preferred, underline_at, underline_row, underlines_at, vertical_at}
+use Rattle.ariadne_picture.specs.Strokes.{is_crossed, is_preferred, underline_at, underline_row, underlines_at, vertical_at, spot_of}
 use Rattle.ariadne_picture.specs.Cells.{alternate_ink, alternate_place, arrow_ink, arrow_place, corner_glyph, ink, ink_of, paint_of}
 use Rattle.ariadne_rows.specs.declared.area.Backdrop.{Backdrop}
 use Rattle.ariadne_rows.specs.declared.area.Backdrop.TheVariants.{Level}
 use Rattle.ariadne_rows.specs.Areas.{alternate_backdrop, backdrop_before, backdrop_behind, level_of, open_beside, seen_ink, underlined_ink, underlined_or}
+use Rattle.ariadne_picture.proofs.Parts.{has_corner, arrow_ink_by}
 
 -- ---- horizontals
 
@@ -97,14 +98,14 @@ plain_at s y r table t n k =
 
 -- a place of the horizontal
 level_seen : (s : Switches) (r : ℕ) (x : LineLabel) (v : Option LineLabel)
-    → arrow_ink s r x false true v ≡ seen_ink (level_of s x) (option_map vertical_of v)
+    → arrow_ink_by s r x false true v ≡ seen_ink (level_of s x) (option_map vertical_of v)
 unfolding arrow_ink seen_ink
 level_seen s r x (Some v) = refl
 level_seen s r x None = refl
 
 -- a place beside it
 open_seen : (s : Switches) (r : ℕ) (x : LineLabel) (v : Option LineLabel)
-    → arrow_ink s r x false false v ≡ seen_ink (open_beside s r x) (option_map vertical_of v)
+    → arrow_ink_by s r x false false v ≡ seen_ink (open_beside s r x) (option_map vertical_of v)
 unfolding arrow_ink seen_ink
 open_seen s r x (Some v) =
     ap (λ b. ink (if b then Uarrow else Vbar) (paint_of v.info) Blank (paint_of x.info))
@@ -116,34 +117,34 @@ open_seen s r x None = refl
 module _ (s : Switches) (r : ℕ) (x : LineLabel) (v : Option LineLabel) where
   -- before it
   before_seen : (side : Side) (place k : ℕ) → k < place
-      → arrow_ink s r x false (is_crossed side place k) v ≡ seen_ink (backdrop_before s r x side) (option_map vertical_of v)
+      → arrow_ink_by s r x false (is_crossed side place k) v ≡ seen_ink (backdrop_before s r x side) (option_map vertical_of v)
   unfolding is_crossed backdrop_before
-  before_seen Inline place k h = ap (λ b. arrow_ink s r x false b v) (le-ltb place k (omega arith)) ∙ open_seen s r x v
-  before_seen Starts place k h = ap (λ b. arrow_ink s r x false b v) (le-leb k place (omega arith)) ∙ level_seen s r x v
+  before_seen Inline place k h = ap (λ b. arrow_ink_by s r x false b v) (le-ltb place k (omega arith)) ∙ open_seen s r x v
+  before_seen Starts place k h = ap (λ b. arrow_ink_by s r x false b v) (le-leb k place (omega arith)) ∙ level_seen s r x v
   before_seen Ends place k h = level_seen s r x v
 
   -- behind it
   behind_seen : (side : Side) (place k : ℕ) → place < k
-      → arrow_ink s r x false (is_crossed side place k) v ≡ seen_ink (backdrop_behind s r x side) (option_map vertical_of v)
+      → arrow_ink_by s r x false (is_crossed side place k) v ≡ seen_ink (backdrop_behind s r x side) (option_map vertical_of v)
   unfolding is_crossed backdrop_behind
-  behind_seen Inline place k h = ap (λ b. arrow_ink s r x false b v) (lt-ltb place k h) ∙ level_seen s r x v
-  behind_seen Starts place k h = ap (λ b. arrow_ink s r x false b v) (lt-leb k place h) ∙ open_seen s r x v
+  behind_seen Inline place k h = ap (λ b. arrow_ink_by s r x false b v) (lt-ltb place k h) ∙ level_seen s r x v
+  behind_seen Starts place k h = ap (λ b. arrow_ink_by s r x false b v) (lt-leb k place h) ∙ open_seen s r x v
   behind_seen Ends place k h = level_seen s r x v
 
   -- where it crosses, if it does not lie within the line
   crossed_seen : (side : Side) (place k : ℕ) → is_inline side ≡ false → is_crossed side place k ≡ true
-      → arrow_ink s r x false (is_crossed side place k) v ≡ seen_ink (backdrop_before s r x side) (option_map vertical_of v)
+      → arrow_ink_by s r x false (is_crossed side place k) v ≡ seen_ink (backdrop_before s r x side) (option_map vertical_of v)
   unfolding is_crossed backdrop_before is_inline
   crossed_seen Inline place k i h = absurd (true≢false i)
-  crossed_seen Starts place k i h = ap (λ b. arrow_ink s r x false b v) h ∙ level_seen s r x v
+  crossed_seen Starts place k i h = ap (λ b. arrow_ink_by s r x false b v) h ∙ level_seen s r x v
   crossed_seen Ends place k i h = level_seen s r x v
 
   -- and where it does not
   uncrossed_seen : (side : Side) (place k : ℕ) → is_inline side ≡ false → is_crossed side place k ≡ false
-      → arrow_ink s r x false (is_crossed side place k) v ≡ seen_ink (backdrop_behind s r x side) (option_map vertical_of v)
+      → arrow_ink_by s r x false (is_crossed side place k) v ≡ seen_ink (backdrop_behind s r x side) (option_map vertical_of v)
   unfolding is_crossed backdrop_behind is_inline
   uncrossed_seen Inline place k i h = absurd (true≢false i)
-  uncrossed_seen Starts place k i h = ap (λ b. arrow_ink s r x false b v) h ∙ open_seen s r x v
+  uncrossed_seen Starts place k i h = ap (λ b. arrow_ink_by s r x false b v) h ∙ open_seen s r x v
   uncrossed_seen Ends place k i h = absurd (true≢false h)
 
 -- ---- the end of a horizontal
@@ -167,17 +168,14 @@ crossed_to_end side place k e i = elim e [
 
 -- at its own place alone
 no_corner : (margin : Option LineLabel) (x : LineLabel) (k : ℕ) → (x.place ≡ k → ⊥) → has_corner margin x k ≡ false
-unfolding has_corner
 no_corner margin x k n = ap (λ b. b && not (is_margin margin x)) (ne_eqb x.place k n)
 
 -- not of the margin label
 no_margin_corner : (margin : Option LineLabel) (x : LineLabel) (k : ℕ) → is_margin margin x ≡ true → has_corner margin x k ≡ false
-unfolding has_corner
 no_margin_corner margin x k m = and_right (x.place == k) (not (is_margin margin x)) (ap not m)
 
 -- of any other
 corner_there : (margin : Option LineLabel) (x : LineLabel) → is_margin margin x ≡ false → has_corner margin x x.place ≡ true
-unfolding has_corner
 corner_there margin x m = λ i. eq-eqb x.place x.place refl i && not (m i)
 
 -- the margin label does not lie within the line
@@ -194,9 +192,9 @@ margin_side margin x m = outer (is_inline x.side) (is_of_gutter_label margin x.g
 module _ (s : Switches) (y : Layout) (r : ℕ) (table : LineTable) (t : IsTable s y r table) (x : LineLabel) where
   -- a place without corner
   arrow_at : (k : ℕ) → has_corner y.margin x k ≡ false
-      → arrow_place s y r (Some x) k ≡ arrow_ink s r x false (is_crossed x.side x.place k) (vertical_at y r k)
-  unfolding arrow_place
-  arrow_at k n = ap (λ b. arrow_ink s r x b (is_crossed x.side x.place k) (vertical_at y r k)) n
+      → arrow_place s y r (Some x) k ≡ arrow_ink_by s r x false (is_crossed x.side x.place k) (vertical_at y r k)
+  unfolding arrow_place spot_of
+  arrow_at k n = ap (λ b. arrow_ink_by s r x b (is_crossed x.side x.place k) (vertical_at y r k)) n
 
   -- before the own place
   pub arrow_before : (k : ℕ) → k < x.place → arrow_place s y r (Some x) k ≡ seen_ink (backdrop_before s r x x.side) (seen_vertical table.verticals k)
@@ -206,8 +204,8 @@ module _ (s : Switches) (y : Layout) (r : ℕ) (table : LineTable) (t : IsTable 
 
   -- the own place
   pub arrow_own : is_margin y.margin x ≡ false → arrow_place s y r (Some x) x.place ≡ ink_of (corner_glyph x.side) Hbar x.info
-  unfolding arrow_place arrow_ink
-  arrow_own m = ap (λ b. arrow_ink s r x b (is_crossed x.side x.place x.place) (vertical_at y r x.place)) (corner_there y.margin x m)
+  unfolding arrow_place spot_of arrow_ink
+  arrow_own m = ap (λ b. arrow_ink_by s r x b (is_crossed x.side x.place x.place) (vertical_at y r x.place)) (corner_there y.margin x m)
 
   -- behind it
   pub arrow_behind : (k : ℕ) → x.place < k → arrow_place s y r (Some x) k ≡ seen_ink (backdrop_behind s r x x.side) (seen_vertical table.verticals k)

@@ -20,6 +20,7 @@ use Rattle.ariadne_picture.specs.Placing.Cells.{is_text, is_blank, is_glyph, is_
 use Rattle.ariadne_picture.specs.Placing.Group.{set_of}
 use Rattle.ariadne_picture.proofs.Lists.Elements.{left-true, right-true, pointwise-same}
 use Rattle.ariadne_picture.proofs.Reading.Pictures.{Picture}
+use Rattle.ariadne_picture.proofs.Parts.{arrow_ink_by}
 
 -- the cell of a glyph in the text area or the gutter of a group, and the first cell of an ink
 abbrev pub glyph_cell : Picture → Section → Glyph → Paint → Cell
@@ -67,7 +68,7 @@ module _ (v : Picture) (s : Section) (glyph : Glyph) (paint : Paint) where
 -- ---- inks
 
 -- the horizontal of an arrow row is level off its corner: crossed, or with a gap in the vertical
-pub level-ink : (switches : Switches) (r : ℕ) (x : LineLabel) (v : Option LineLabel) → IsLevel (arrow_ink switches r x false true v).first
+pub level-ink : (switches : Switches) (r : ℕ) (x : LineLabel) (v : Option LineLabel) → IsLevel (arrow_ink_by switches r x false true v).first
 unfolding arrow_ink
 level-ink switches r x None = inl refl
 level-ink switches r x (Some v) = elim (cases_Bool switches.cross_gap) [ inl gap ↦ inl (rw gap refl) | inr cross ↦ inr (rw cross refl) ]
@@ -81,7 +82,7 @@ corner-seen Ends e = cc
 
 -- where a vertical is, an arrow row has a corner, a horizontal, an arrow head or the vertical
 pub arrow-seen : (switches : Switches) (r : ℕ) (x : LineLabel) (corner horizontal : Bool) (v : LineLabel)
-    → (arrow_ink switches r x corner horizontal (Some v)).first ≡ Blank → ⊥
+    → (arrow_ink_by switches r x corner horizontal (Some v)).first ≡ Blank → ⊥
 unfolding arrow_ink
 arrow-seen switches r x true horizontal v e = corner-seen x.side e
 arrow-seen switches r x false true v e = elim (cases_Bool switches.cross_gap) [

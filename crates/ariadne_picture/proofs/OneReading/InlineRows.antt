@@ -16,7 +16,7 @@ use Rattle.ariadne_picture.specs.declared.cell.Glyph.TheVariants.{Blank, Hbar, V
 use Rattle.ariadne_picture.specs.declared.cell.Ink.{Ink}
 use Rattle.ariadne_picture.specs.Ranks.{is_start, is_on_one_line, gutter_labels, line_labels}
 use Rattle.ariadne_picture.specs.Columns.{Layout, layout_of, width, column_of}
-use Rattle.ariadne_picture.specs.Strokes.{has_corner, is_crossed, vertical_at}
+use Rattle.ariadne_picture.specs.Strokes.{is_crossed, vertical_at}
 use Rattle.ariadne_picture.specs.Cells.{glyph_code, arrow_ink, corner_glyph}
 use Rattle.ariadne_picture.specs.Pieces.{Section, glyph_text}
 use Rattle.ariadne_picture.specs.Canvas.{Cell}
@@ -34,6 +34,7 @@ use Rattle.ariadne_picture.proofs.Reading.Pictures.{Picture}
 use Rattle.ariadne_picture.proofs.Reading.ShownLine.{IsArrowRow}
 use Rattle.ariadne_picture.proofs.OneReading.LinesFound.{list_all-from}
 use Rattle.ariadne_picture.proofs.OneReading.MessagesFound.{or-cases}
+use Rattle.ariadne_picture.proofs.Parts.{has_corner, arrow_ink_by}
 
 -- ---- columns
 
@@ -146,17 +147,17 @@ own-only Ascii glyph (inr (inr e)) = subst (IsOwnOnly Ascii) (sym e)
 module _ (v : Picture) {g : ℕ} {s : Section} {l r : ℕ} {x : LineLabel} (q : IsArrowRow v g s l r x) (side : x.side ≡ Inline) where
   abbrev pub inline_ink : ℕ → Ink
   inline_ink k =
-      arrow_ink s.sheet.switches r x (has_corner (layout_of s.sheet l).margin x k) (is_crossed x.side x.place k) (vertical_at (layout_of s.sheet l) r k)
+      arrow_ink_by s.sheet.switches r x (has_corner (layout_of s.sheet l).margin x k) (is_crossed x.side x.place k) (vertical_at (layout_of s.sheet l) r k)
 
   -- left of its corner no stroke of its own stands
   pub inline-left : (k : ℕ) → k < x.place → IsLeft (inline_ink k).first
-  unfolding has_corner is_crossed arrow_ink
+  unfolding is_crossed arrow_ink
   inline-left k less =
       let off : has_corner (layout_of s.sheet l).margin x k ≡ false = rw (ne_eqb x.place k (λ e. omega arith)) refl in
       let free : is_crossed x.side x.place k ≡ false = ap (λ side. is_crossed side x.place k) side ∙ le-ltb x.place k (omega arith) in
       rw (off, free) (go (vertical_at (layout_of s.sheet l) r k))
     where
-      go : (up : Option LineLabel) → IsLeft (arrow_ink s.sheet.switches r x false false up).first
+      go : (up : Option LineLabel) → IsLeft (arrow_ink_by s.sheet.switches r x false false up).first
       go None = inr (inr refl)
       go (Some w) =
           cond_both (not (Rattle.ariadne_picture.specs.Ranks.is_inline w.side) && (r == 0) && s.sheet.switches.compact) Uarrow Vbar IsLeft
@@ -164,7 +165,7 @@ module _ (v : Picture) {g : ℕ} {s : Section} {l r : ℕ} {x : LineLabel} (q : 
 
   -- from it on a corner or a level stands
   pub inline-own : (k : ℕ) → x.place ≤ k → IsOwn (inline_ink k).first
-  unfolding has_corner is_crossed arrow_ink corner_glyph
+  unfolding is_crossed arrow_ink corner_glyph
   inline-own k more = elim (cases_lt x.place k) [
     | inl less ↦
         let off : has_corner (layout_of s.sheet l).margin x k ≡ false = rw (ne_eqb x.place k (λ e. omega arith)) refl in

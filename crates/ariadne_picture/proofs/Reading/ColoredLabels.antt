@@ -17,7 +17,7 @@ use Rattle.ariadne_picture.specs.declared.cell.Paint.TheVariants.{Plain}
 use Rattle.ariadne_picture.specs.Ranks.{Sheet, is_inline, is_on_one_line, is_margin, margin_label, gutter_labels, line_labels}
 use Rattle.ariadne_picture.specs.Rows.{Row, source, alternate, arrow, gap}
 use Rattle.ariadne_picture.specs.Columns.{layout_of}
-use Rattle.ariadne_picture.specs.Strokes.{has_corner, is_crossed, is_at_margin, bar_at}
+use Rattle.ariadne_picture.specs.Strokes.{is_crossed, is_at_margin, bar_at}
 use Rattle.ariadne_picture.specs.Cells.{glyph_code, ink, paint_of, gutter_label_paint, margin_ink, beside_ink, below_ink, turn_ink, column_ink}
 use Rattle.ariadne_picture.specs.Pieces.{Section, glyph_text}
 use Rattle.ariadne_picture.specs.Placing.Cells.{is_text, is_blank, is_glyph, is_level}
@@ -164,7 +164,7 @@ module _ (v : Picture) (placed : ArePlaced v) where
 
   inline-colored : (g : ℕ) (s : Section) (a : LabelInfo) → IsMessage v g s a → is_on_one_line a ≡ true
       → read v is_inline_colored (color_at v) g s a ≡ true
-  unfolding is_inline_colored is_on_one_line has_corner is_crossed
+  unfolding is_inline_colored is_on_one_line is_crossed
   inline-colored g s a m one =
       let h = message-place v m in
       let l = a.end_line in

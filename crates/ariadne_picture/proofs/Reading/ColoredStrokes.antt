@@ -18,7 +18,7 @@ use Rattle.ariadne_picture.specs.Ranks.{is_inline, is_margin, margin_label, line
 use Rattle.ariadne_picture.specs.Rows.{row_key, Row, alternate, arrow}
 use Rattle.ariadne_picture.proofs.Rows.RowPlacing.{row_part, row_line, row_step}
 use Rattle.ariadne_picture.specs.Columns.{Layout, layout_of, width}
-use Rattle.ariadne_picture.specs.Strokes.{has_vertical, vertical_at, underline_at, has_corner, is_crossed, bar_at}
+use Rattle.ariadne_picture.specs.Strokes.{has_vertical, vertical_at, underline_at, is_crossed, bar_at, spot_of}
 use Rattle.ariadne_picture.specs.Cells.{paint_of, ink_of, arrow_ink, arrow_place, alternate_ink, alternate_place, turn_ink, column_ink}
 use Rattle.ariadne_picture.specs.Pieces.{Piece, Section, column_size, gutter_len}
 use Rattle.ariadne_picture.specs.Canvas.{Cell, cell_of, color_of}
@@ -42,6 +42,7 @@ use Rattle.ariadne_picture.proofs.Reading.PlaceCells.{drop-at, step-rises, first
 use Rattle.ariadne_picture.proofs.Reading.Pictures.{rows_of, Picture, RowAt, read, number, source_row, number-at}
 use Rattle.ariadne_picture.proofs.Reading.ShownLine.{IsArrowRow, arrow-row, arrow-at, places_of, source-at, block-row-is}
 use Rattle.ariadne_picture.proofs.Reading.TextRows.{IsTextRow, area, arrow_inks, front-at}
+use Rattle.ariadne_picture.proofs.Parts.{has_corner, arrow_ink_by}
 
 -- ---- colours of cells
 
@@ -130,11 +131,11 @@ module _ (v : Picture) where
 module _ (v : Picture) {g : ℕ} {s : Section} {l r : ℕ} {x : LineLabel} (q : IsArrowRow v g s l r x) where
   -- its corner and its horizontal are its own
   pub arrow-own : (k : ℕ) → (has_corner (layout_of s.sheet l).margin x k ≡ true) ⊎ (is_crossed x.side x.place k ≡ true) → IsInkOf x.info (arrow_inks s l r k)
-  unfolding arrow_place arrow_ink layout_of
+  unfolding arrow_place spot_of arrow_ink layout_of
   arrow-own k h = rw q.there (go _ _ (vertical_at (layout_of s.sheet l) r k) h)
     where
       go : (corner crossed : Bool) (up : Option LineLabel) → (corner ≡ true) ⊎ (crossed ≡ true)
-          → IsInkOf x.info (arrow_ink s.sheet.switches r x corner crossed up)
+          → IsInkOf x.info (arrow_ink_by s.sheet.switches r x corner crossed up)
       go true crossed up h = (refl, refl)
       go false true None h = (refl, refl)
       go false true (Some w) h =
@@ -235,7 +236,7 @@ alternate-paint switches rank w None =
 -- a label with a corner has a vertical above
 corner-vertical : (margin : Option LineLabel) (k : ℕ) (z : LineLabel) → z.info.has_message ≡ true → has_corner margin z k ≡ true
     → has_vertical margin k z ≡ true
-unfolding has_corner has_vertical
+unfolding has_vertical
 corner-vertical margin k z message e =
     let two = two-true (z.place == k) (not (is_margin margin z)) e in both_true (both_true message two.1) two.0
 
@@ -326,13 +327,13 @@ module _ (v : Picture) {g : ℕ} {s : Section} {l r : ℕ} {x : LineLabel} (q : 
   arrow-passes rank z own less some true crossed up e f u =
       passes-covered _ (covers rank _ z (arrow l rank) own.there (corner-vertical _ x.place z own.message e) less (arrow-at v own) refl refl (omega arith))
   arrow-passes rank z own less some false true up e f u =
-      let cell : first_cell v s l (number v g s (arrow l rank)) x.place ≡ ink_cell v s (arrow_ink s.sheet.switches rank z false true up) =
-      label-cell v own x.place few some ∙ (λ i. ink_cell v s (arrow_ink s.sheet.switches rank z (e i) (f i) (u i))) in
+      let cell : first_cell v s l (number v g s (arrow l rank)) x.place ≡ ink_cell v s (arrow_ink_by s.sheet.switches rank z false true up) =
+      label-cell v own x.place few some ∙ (λ i. ink_cell v s (arrow_ink_by s.sheet.switches rank z (e i) (f i) (u i))) in
       passes-level _ (ap (is_level (set_of s)) cell ∙ shows-level v s _ _ (level-ink s.sheet.switches rank z up))
   arrow-passes rank z own less some false false None e f u = absurd (something-seen rank (omega arith) u)
   arrow-passes rank z own less some false false (Some w) e f u =
-      let cell : first_cell v s l (number v g s (arrow l rank)) x.place ≡ ink_cell v s (arrow_ink s.sheet.switches rank z false false (Some w)) =
-      label-cell v own x.place few some ∙ (λ i. ink_cell v s (arrow_ink s.sheet.switches rank z (e i) (f i) (u i))) in
+      let cell : first_cell v s l (number v g s (arrow l rank)) x.place ≡ ink_cell v s (arrow_ink_by s.sheet.switches rank z false false (Some w)) =
+      label-cell v own x.place few some ∙ (λ i. ink_cell v s (arrow_ink_by s.sheet.switches rank z (e i) (f i) (u i))) in
       seen-passes rank _ (arrow l rank) w (arrow-at v own) refl refl (omega arith) (omega arith) u (λ same.
       passes-color _ (colored-cell v x.info (number v g s (arrow l rank)) (place_cell s l x.place) _ cell
       (ap (λ (x : LineLabel). paint_of x.info) same)))

@@ -13,7 +13,7 @@ use Rattle.ariadne_picture.specs.Ranks.{Sheet, is_inline, is_start, is_on_one_li
 use Rattle.ariadne_picture.specs.Ranks.{is_of_gutter_label, is_margin}
 use Rattle.ariadne_picture.specs.Rows.{source, arrow}
 use Rattle.ariadne_picture.specs.Columns.{layout_of}
-use Rattle.ariadne_picture.specs.Strokes.{has_corner, is_crossed, is_at_margin, first_row, has_tee, bar_at}
+use Rattle.ariadne_picture.specs.Strokes.{is_crossed, is_at_margin, first_row, has_tee, bar_at}
 use Rattle.ariadne_picture.specs.Cells.{corner_glyph, margin_glyph, turn_glyph}
 use Rattle.ariadne_picture.specs.Pieces.{Section}
 use Rattle.ariadne_picture.specs.Placing.Cells.{is_level}
@@ -133,7 +133,6 @@ module _ (v : Picture) {g : ℕ} {s : Section} {i : ℕ} {a : LabelInfo} (o : Is
     -- its places are level off its corner, as far as its horizontal reaches
     off-corner : (b c : ℕ) → c ≤ places_of s l → ((k : ℕ) → b ≤ k → k < c → (x.place ≢ k) × (is_crossed x.side x.place k ≡ true))
         → holds_at_places (rows_of v) (placing_of v) g s l (number v g s (arrow l r)) b c (is_level (set_of s)) ≡ true
-    unfolding has_corner
     off-corner b c fits f =
         label-level v q b c fits (λ k low high. let e = f k low high in (rw (ne_eqb x.place k e.0) refl, e.1))
 
@@ -163,7 +162,7 @@ module _ (v : Picture) {g : ℕ} {s : Section} {i : ℕ} {a : LabelInfo} (o : Is
 
   -- its arrow row is level up to its place and behind it; there stands its corner, or the level goes on
   end-traced : ArePlaced v → read v is_end_traced g s i a ≡ true
-  unfolding is_end_traced is_inline has_corner is_crossed corner_glyph turn_glyph margin_glyph layout_of
+  unfolding is_end_traced is_inline is_crossed corner_glyph turn_glyph margin_glyph layout_of
   end-traced placed =
       let h = its-message in
       let k = its-end h in

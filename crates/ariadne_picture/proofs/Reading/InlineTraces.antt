@@ -13,7 +13,7 @@ use Rattle.ariadne_picture.specs.Lists.{best, joined}
 use Rattle.ariadne_picture.specs.Ranks.{gutter_labels, is_inline, is_on_one_line, is_margin, line_labels}
 use Rattle.ariadne_picture.specs.Rows.{alternate, label_rows}
 use Rattle.ariadne_picture.specs.Columns.{layout_of, places_to_end}
-use Rattle.ariadne_picture.specs.Strokes.{has_corner, is_crossed, holds, is_preferred, underlines_at, underline_at, underline_row, vertical_at}
+use Rattle.ariadne_picture.specs.Strokes.{is_crossed, holds, is_preferred, underlines_at, underline_at, underline_row, vertical_at}
 use Rattle.ariadne_picture.specs.Cells.{corner_glyph, alternate_ink, alternate_place}
 use Rattle.ariadne_picture.specs.Pieces.{Section}
 use Rattle.ariadne_picture.specs.Canvas.{Cell}
@@ -80,7 +80,7 @@ module _ (v : Picture) (placed : ArePlaced v) where
   -- its arrow row has its corner, behind it its horizontal, and its vertical stands above
   inline-traced : (g : ℕ) (s : Section) (a : LabelInfo) → IsMessage v g s a → is_on_one_line a ≡ true
       → read v is_inline_traced g s a ≡ true
-  unfolding is_inline_traced is_on_one_line has_corner is_crossed corner_glyph
+  unfolding is_inline_traced is_on_one_line is_crossed corner_glyph
   inline-traced g s a m one =
       let h = message-place v m in
       let l = a.end_line in

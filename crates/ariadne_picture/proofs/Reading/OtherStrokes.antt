@@ -18,8 +18,8 @@ use Rattle.ariadne_picture.specs.Ranks.{is_inline, is_margin, line_labels}
 use Rattle.ariadne_picture.specs.Rows.{row_key, Row, source, alternate, arrow, label_rows}
 use Rattle.ariadne_picture.proofs.Rows.RowPlacing.{row_part, row_line, row_step}
 use Rattle.ariadne_picture.specs.Columns.{layout_of}
-use Rattle.ariadne_picture.specs.Strokes.{has_corner, is_crossed, holds, is_preferred, underlines_at, underline_at}
-use Rattle.ariadne_picture.specs.Strokes.{underline_row, vertical_at}
+use Rattle.ariadne_picture.specs.Strokes.{is_crossed, holds, is_preferred, underlines_at, underline_at}
+use Rattle.ariadne_picture.specs.Strokes.{underline_row, vertical_at, spot_of}
 use Rattle.ariadne_picture.specs.Cells.{ink_of, paint_of, arrow_ink, arrow_place, alternate_ink, alternate_place}
 use Rattle.ariadne_picture.specs.Pieces.{Section}
 use Rattle.ariadne_picture.specs.Canvas.{Cell}
@@ -44,6 +44,7 @@ use Rattle.ariadne_picture.proofs.Reading.LabelTraces.{IsCaused, row-caused, ver
 use Rattle.ariadne_picture.proofs.Reading.LabelTraces.{cause-vertical, cause-corner, cause-level}
 use Rattle.ariadne_picture.proofs.Reading.InlineTraces.{silent, first-alternate}
 use Rattle.ariadne_picture.proofs.Reading.PlaceCells.{step-rises}
+use Rattle.ariadne_picture.proofs.Parts.{has_corner, arrow_ink_by}
 
 -- ---- the inks of a row
 
@@ -86,8 +87,8 @@ module _ (v : Picture) {g : ℕ} {s : Section} {l : ℕ} (h : IsShownLine v g s 
 
     arrow-go : (corner horizontal : Bool) (up : Option LineLabel) → has_corner (layout_of s.sheet l).margin x k ≡ corner
         → is_crossed x.side x.place k ≡ horizontal → vertical_at (layout_of s.sheet l) r k ≡ up
-        → IsCaused v h (number v g s (arrow l r)) k (arrow_ink s.sheet.switches r x corner horizontal up)
-    unfolding arrow_ink has_corner row_key
+        → IsCaused v h (number v g s (arrow l r)) k (arrow_ink_by s.sheet.switches r x corner horizontal up)
+    unfolding arrow_ink row_key
     arrow-go true horizontal up e f u =
         let two = two-true (x.place == k) (not (is_margin (layout_of s.sheet l).margin x)) e in
         let same = eqb-true x.place k two.0 in (
@@ -123,8 +124,10 @@ module _ (v : Picture) {g : ℕ} {s : Section} {l : ℕ} (h : IsShownLine v g s 
         )
 
     arrow-caused : IsCaused v h (number v g s (arrow l r)) k (arrow_inks s l r k)
-    unfolding arrow_place layout_of
-    arrow-caused = rw q.there (arrow-go _ _ _ refl refl refl)
+    unfolding arrow_place spot_of layout_of
+    arrow-caused =
+        let y = layout_of s.sheet l in
+        rw q.there (arrow-go (has_corner y.margin x k) (is_crossed x.side x.place k) (vertical_at y r k) refl refl refl)
 
   -- ---- alternate rows
 

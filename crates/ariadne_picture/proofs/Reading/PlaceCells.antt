@@ -13,7 +13,7 @@ use Rattle.ariadne_picture.specs.Ranks.{is_margin}
 use Rattle.ariadne_picture.specs.Rows.{row_key, Row, alternate, arrow}
 use Rattle.ariadne_picture.proofs.Rows.RowPlacing.{row_part, row_line, row_step}
 use Rattle.ariadne_picture.specs.Columns.{Layout, layout_of}
-use Rattle.ariadne_picture.specs.Strokes.{has_vertical, vertical_at, has_corner, is_crossed, underline_at}
+use Rattle.ariadne_picture.specs.Strokes.{has_vertical, vertical_at, is_crossed, underline_at, spot_of}
 use Rattle.ariadne_picture.specs.Cells.{arrow_ink, alternate_ink, corner_glyph, alternate_place, arrow_place}
 use Rattle.ariadne_picture.specs.Pieces.{Piece, Section}
 use Rattle.ariadne_picture.specs.Canvas.{Cell}
@@ -28,9 +28,10 @@ use Rattle.ariadne_picture.proofs.Rows.RowOrder.{IsBefore, before-decides, shown
 use Rattle.ariadne_picture.proofs.Cells.RowCells.{area-first}
 use Rattle.ariadne_picture.proofs.Reading.InOrder.{in-order}
 use Rattle.ariadne_picture.proofs.Cells.InkCells.{ink_cell, shows-glyph, shows-level, shows-something, level-ink, arrow-seen, alternate-seen}
-use Rattle.ariadne_picture.proofs.Reading.Pictures.{rows_of, Picture, RowAt, placing_of, read, number, source_row, number-at}
+use Rattle.ariadne_picture.proofs.Reading.Pictures.{rows_of, Picture, RowAt, placing_of, number, source_row, number-at}
 use Rattle.ariadne_picture.proofs.Reading.ShownLine.{IsArrowRow, arrow-row, arrow-at, IsShownLine, places_of, places-are, source-at, block-row-is}
 use Rattle.ariadne_picture.proofs.Reading.TextRows.{IsTextRow, area, arrow_inks, alternate_inks, arrow-text, alternate-text, text-at}
+use Rattle.ariadne_picture.proofs.Parts.{has_corner, arrow_ink_by}
 
 -- ---- the vertical at a place
 
@@ -117,8 +118,8 @@ module _ (v : Picture) {g : ℕ} {s : Section} {l : ℕ} where
   pub label-cell : {r : ℕ} {x : LineLabel} → IsArrowRow v g s l r x → (k : ℕ) → k < places_of s l → has_cell s l k ≡ true
       → let y = layout_of s.sheet l in
       first_cell v s l (number v g s (arrow l r)) k
-      ≡ ink_cell v s (arrow_ink s.sheet.switches r x (has_corner y.margin x k) (is_crossed x.side x.place k) (vertical_at y r k))
-  unfolding layout_of arrow_place
+      ≡ ink_cell v s (arrow_ink_by s.sheet.switches r x (has_corner y.margin x k) (is_crossed x.side x.place k) (vertical_at y r k))
+  unfolding layout_of arrow_place spot_of
   label-cell {r} {x} q k few some =
       let y = layout_of s.sheet l in
       place-at v s l (arrow_inks s l r) _ (arrow-text v (arrow-at v q)) k few some
@@ -141,7 +142,7 @@ module _ (v : Picture) {g : ℕ} {s : Section} {l : ℕ} where
     pub label-corner : {glyph : Glyph} → corner_glyph x.side ≡ glyph → x.place < places_of s l
         → is_margin (layout_of s.sheet l).margin x ≡ false
         → holds_at_places (rows_of v) (placing_of v) g s l (number v g s (arrow l r)) x.place (x.place + 1) (is_glyph (set_of s) glyph) ≡ true
-    unfolding arrow_ink has_corner
+    unfolding arrow_ink
     label-corner {glyph} corner few off =
         holds-one q.line _ x.place _ few (λ some.
         let on = both_true (eq-eqb x.place x.place refl) (ap not off) in
@@ -173,7 +174,7 @@ module _ (v : Picture) {g : ℕ} {s : Section} {l : ℕ} where
         elim b.kind [
           | inl e ↦
               let ink : Option LineLabel → Ink =
-              arrow_ink switches b.rank b.label (has_corner (layout_of s.sheet l).margin b.label x.place)
+              arrow_ink_by switches b.rank b.label (has_corner (layout_of s.sheet l).margin b.label x.place)
               (is_crossed b.label.side b.label.place x.place) in
               rw (e, label-cell (arrow-row v b.rank b.label q.line b.there b.message) x.place few some, vertical.1)
               (shows-something v s _ (ink (Some vertical.0)).first_paint (arrow-seen switches b.rank b.label _ _ vertical.0))
