@@ -1,6 +1,6 @@
 -- What `Written` says of the bytes and of the list, by examples: what a result tells of a report with one label, which is past
 -- its source, and results that one condition alone refuses.
-use Rattle.std.proofs.Common.{◌≡◌, ◌∙◌, ℕ, ◌<◌, List, [], ◌∷◌, Option, Some, None, refl, ap, arith}
+use Rattle.std.proofs.Common.{◌≡◌, ◌∙◌, ℕ, ◌<◌, List, [], ◌∷◌, Option, Some, None, refl, ap, arith, take}
 use Rattle.std.specs.Prelude.{codes, nat_eq, Vec, Ok, Err, Result}
 use Rattle.std.specs.Cmp.Lexicographic.{pointwise}
 use Rattle.std.specs.declared.alloc.Global.{Global}
@@ -16,7 +16,7 @@ use Rattle.ariadne_accept.specs.Drawn.{world}
 use Rattle.ariadne_accept.specs.Judging.{AreReasons, listed}
 use Rattle.ariadne.specs.declared.write_error.WriteError.{WriteError}
 use Rattle.ariadne.specs.declared.write_error.WriteError.TheVariants.{Memory, Io}
-use Rattle.ariadne.specs.Written.{IsPicture, WrittenOver}
+use Rattle.ariadne.specs.Written.{IsPicture, Written}
 
 -- ---- a report whose only label is past its source, over a cache that is what it holds, before and after
 
@@ -38,7 +38,7 @@ Fails id e = e ≡ 7
 
 -- what a result tells of a writer that had nothing, and has these bytes
 abbrev Tells : List ℕ → Result (Vec (LeftOut ℕ) Global) WriteError → Type 0
-Tells bytes result = WrittenOver reads (λ (c : Held) id. None) (λ c. c) Fails held held past (Some []) (Some bytes) result
+Tells bytes result = Written Fails (reads (λ id. None) held) (reads (λ id. None) held) past (Some []) (Some bytes) result
 
 abbrev Reasons : Type 0
 Reasons = List (Option (Reason ℕ))
@@ -61,17 +61,34 @@ only_reasons (Some PastSource ∷ reason ∷ reasons) h = absurd h.judged.1
 only_reasons (Some CutsCharacter ∷ reasons) h = let e = h.judged.0 in cc
 only_reasons (Some (Unfetched e) ∷ reasons) h = let z = h.judged.0.0 in cc
 
+-- ---- the picture that is made before it is sent
+
+module _ (bytes : List ℕ) (list : List (LeftOut ℕ)) where
+  abbrev IsMade : Type 0
+  IsMade = IsPicture Fails (reads (λ id. None) held) (reads (λ id. None) held) past bytes list
+
+  its_label_is_listed : IsMade → list ≡ record { label = 0; reason = PastSource } ∷ []
+  unfolding computed
+  its_label_is_listed h = h.left_out ∙ ap (listed 0) (only_reasons h.reasons h.are_reasons)
+
+  -- it can be read
+  its_headline : IsMade → Headline (reads (λ id. None) held) past [] bytes
+  unfolding computed
+  its_headline h = rw (only_reasons h.reasons h.are_reasons) at h.drawn
+
+  -- the header of a report without message ends in a blank
+  its_bytes_are_the_header : IsMade → bytes ≡ utf8 "Error: \n"
+  unfolding computed
+  its_bytes_are_the_header h = (its_headline h).they_are_exactly_the_printed_canvas
+
 -- ---- all was written
 
 the_label_is_listed : (bytes : List ℕ) (list : Vec (LeftOut ℕ) Global) → Tells bytes (Ok list)
     → list.items ≡ record { label = 0; reason = PastSource } ∷ []
-unfolding computed
-the_label_is_listed bytes list h = h.left_out ∙ ap (listed 0) (only_reasons h.reasons h.are_reasons)
+the_label_is_listed bytes list h = its_label_is_listed h.bytes list.items h.picture
 
--- the header of a report without message, which ends in a blank
 the_header_is_sent : (bytes : List ℕ) (list : Vec (LeftOut ℕ) Global) → Tells bytes (Ok list) → bytes ≡ utf8 "Error: \n"
-unfolding computed
-the_header_is_sent bytes list h = rw (only_reasons h.reasons h.are_reasons) at h.traced.exactly_the_printed_canvas_was_sent
+the_header_is_sent bytes list h = h.sent ∙ its_bytes_are_the_header h.bytes list.items h.picture
 
 -- ---- nothing was written
 
@@ -84,28 +101,9 @@ nothing_is_sent_without_memory bytes h = h
 a_fault_behind_the_last_byte : (bytes : List ℕ) (fault : _) → Tells bytes (Err (Io 8 fault)) → ⊥
 unfolding computed
 a_fault_behind_the_last_byte bytes fault h =
-    let z : 8 < 8 = rw (only_reasons h.reasons h.are_reasons) at h.has_more in
+    let z : 8 < 8 = rw (its_bytes_are_the_header h.bytes h.list h.picture) at h.has_more in
     omega arith
 
 three_bytes_are_the_first_ones : (bytes : List ℕ) (fault : _) → Tells bytes (Err (Io 3 fault)) → bytes ≡ codes "Err"
 unfolding computed
-three_bytes_are_the_first_ones bytes fault h = h.sent
-
--- ---- the picture that is made before it is sent
-
-module _ (bytes : List ℕ) (list : List (LeftOut ℕ)) where
-  abbrev IsMade : Type 0
-  IsMade = IsPicture Fails (reads (λ id. None) held) (reads (λ id. None) held) past bytes list
-
-  its_label_is_listed : IsMade → list ≡ record { label = 0; reason = PastSource } ∷ []
-  unfolding computed
-  its_label_is_listed h = h.left_out ∙ ap (listed 0) (only_reasons h.reasons h.are_reasons)
-
-  its_bytes_are_the_header : IsMade → bytes ≡ utf8 "Error: \n"
-  unfolding computed
-  its_bytes_are_the_header h = rw (only_reasons h.reasons h.are_reasons) at h.drawn
-
-  -- where these bytes are sent, the headline holds
-  it_can_be_read : IsMade → Headline (reads (λ id. None) held) past [] (Some []) (Some (utf8 "Error: \n"))
-  unfolding computed
-  it_can_be_read h = (rw (only_reasons h.reasons h.are_reasons) at h.traced (Some []) (Some (utf8 "Error: \n"))) refl
+three_bytes_are_the_first_ones bytes fault h = h.sent ∙ ap (take 3) (its_bytes_are_the_header h.bytes h.list h.picture)

@@ -4,7 +4,7 @@
 ghost use Rattle.std.specs.Prelude.{◌≡◌, IfOk, None, string_bytes};
 ghost use Rattle.ariadne_accept.specs.Drawn.{world};
 ghost use Rattle.ariadne_accept.specs.Judging.{GrowsFor};
-ghost use Rattle.ariadne.specs.Written.{IsPicture, WrittenOver};
+ghost use Rattle.ariadne.specs.Written.{IsPicture, Written};
 ghost use Rattle.ariadne.specs.WriteErrors.{TellsFailure};
 
 use crate::report::Report;
@@ -52,8 +52,11 @@ impl<'a, S: Span> Report<'a, S> {
         ensures naming { (q : S.SourceId) → C.names cache.new q ≡ C.names cache.old q }
         ensures grows { GrowsFor S.source_of S.SourceId.eq self.now.labels
             (C.contents cache.old) (C.contents cache.new) }
-        ensures written { WrittenOver (world S.source_of S.start_of S.end_of S.SourceId.eq)
-            C.names C.contents C.fails cache.old cache.new self.now
+        ensures written { let before = world S.source_of S.start_of S.end_of S.SourceId.eq
+            (C.names cache.old) (C.contents cache.old) in
+            let after = world S.source_of S.start_of S.end_of S.SourceId.eq
+            (C.names cache.new) (C.contents cache.new) in
+            Written C.fails before after self.now
             (W.contents out.old) (W.contents out.new) result }
     {
         let picture = self.picture(cache)?;
@@ -76,8 +79,11 @@ impl<'a, S: Span> Report<'a, S> {
         ensures grows { GrowsFor S.source_of S.SourceId.eq self.now.labels
             (C.contents cache.old) (C.contents cache.new) }
         ensures failed { TellsFailure (K.has_failed out.old) (K.has_failed out.new) result }
-        ensures written { WrittenOver (world S.source_of S.start_of S.end_of S.SourceId.eq)
-            C.names C.contents C.fails cache.old cache.new self.now
+        ensures written { let before = world S.source_of S.start_of S.end_of S.SourceId.eq
+            (C.names cache.old) (C.contents cache.old) in
+            let after = world S.source_of S.start_of S.end_of S.SourceId.eq
+            (C.names cache.new) (C.contents cache.new) in
+            Written C.fails before after self.now
             (K.contents out.old) (K.contents out.new) result }
     {
         let picture = self.picture(cache)?;
@@ -98,8 +104,11 @@ impl<'a, S: Span> Report<'a, S> {
         ensures naming { (q : S.SourceId) → C.names cache.new q ≡ C.names cache.old q }
         ensures grows { GrowsFor S.source_of S.SourceId.eq self.now.labels
             (C.contents cache.old) (C.contents cache.new) }
-        ensures written { WrittenOver (world S.source_of S.start_of S.end_of S.SourceId.eq)
-            C.names C.contents C.fails cache.old cache.new self.now
+        ensures written { let before = world S.source_of S.start_of S.end_of S.SourceId.eq
+            (C.names cache.old) (C.contents cache.old) in
+            let after = world S.source_of S.start_of S.end_of S.SourceId.eq
+            (C.names cache.new) (C.contents cache.new) in
+            Written C.fails before after self.now
             (W.contents out.old) (W.contents out.new) result }
     {
         self.write(cache, out)
@@ -118,8 +127,11 @@ impl<'a, S: Span> Report<'a, S> {
         ensures naming { (q : S.SourceId) → C.names cache.new q ≡ C.names cache.old q }
         ensures grows { GrowsFor S.source_of S.SourceId.eq self.now.labels
             (C.contents cache.old) (C.contents cache.new) }
-        ensures written { WrittenOver (world S.source_of S.start_of S.end_of S.SourceId.eq)
-            C.names C.contents C.fails cache.old cache.new self.now None None result }
+        ensures written { let before = world S.source_of S.start_of S.end_of S.SourceId.eq
+            (C.names cache.old) (C.contents cache.old) in
+            let after = world S.source_of S.start_of S.end_of S.SourceId.eq
+            (C.names cache.new) (C.contents cache.new) in
+            Written C.fails before after self.now None None result }
     {
         self.write(cache, &mut io::writer(rt))
     }
@@ -137,8 +149,11 @@ impl<'a, S: Span> Report<'a, S> {
         ensures naming { (q : S.SourceId) → C.names cache.new q ≡ C.names cache.old q }
         ensures grows { GrowsFor S.source_of S.SourceId.eq self.now.labels
             (C.contents cache.old) (C.contents cache.new) }
-        ensures written { WrittenOver (world S.source_of S.start_of S.end_of S.SourceId.eq)
-            C.names C.contents C.fails cache.old cache.new self.now None None result }
+        ensures written { let before = world S.source_of S.start_of S.end_of S.SourceId.eq
+            (C.names cache.old) (C.contents cache.old) in
+            let after = world S.source_of S.start_of S.end_of S.SourceId.eq
+            (C.names cache.new) (C.contents cache.new) in
+            Written C.fails before after self.now None None result }
     {
         self.write(cache, &mut stderr)
     }
@@ -152,11 +167,11 @@ impl<'a, S: Span> Report<'a, S> {
         ensures naming { (q : S.SourceId) → C.names cache.new q ≡ C.names cache.old q }
         ensures grows { GrowsFor S.source_of S.SourceId.eq self.now.labels
             (C.contents cache.old) (C.contents cache.new) }
-        ensures drawn { let old = world S.source_of S.start_of S.end_of S.SourceId.eq
+        ensures drawn { let before = world S.source_of S.start_of S.end_of S.SourceId.eq
             (C.names cache.old) (C.contents cache.old) in
-            let w = world S.source_of S.start_of S.end_of S.SourceId.eq
+            let after = world S.source_of S.start_of S.end_of S.SourceId.eq
             (C.names cache.new) (C.contents cache.new) in
-            IfOk result (λ p. IsPicture C.fails old w self.now (string_bytes p.text)
+            IfOk result (λ p. IsPicture C.fails before after self.now (string_bytes p.text)
             p.left_out.items) }
     {
         let judged = accept(&self.content, cache)?;

@@ -17,7 +17,7 @@ use Rattle.ariadne.specs.IndexType.TheVariants.{Char}
 use Rattle.ariadne.specs.LabelInfo.{LabelInfo}
 use Rattle.ariadne.specs.Verdict.TheVariants.{Accepted, CutsCharacter as cuts, PastSource as past}
 use Rattle.ariadne.specs.Judging.{AreJudged, GrowsFor, IsJudged, listed}
-use Rattle.ariadne.specs.Written.{IsCutOff, IsWritten}
+use Rattle.ariadne.specs.Written.{IsCutOff, IsPicture, IsWritten}
 use Rattle.ariadne.specs.LeftOut.{LeftOut}
 use Rattle.ariadne.specs.Reason.{Reason}
 use Rattle.ariadne.specs.Reason.TheVariants.{Unfetched, PastSource, CutsCharacter}
@@ -173,29 +173,29 @@ none_listed n (reason ∷ reasons) none = rw none.0 (none_listed (n + 1) reasons
 
 module _ (old new : Contents) (r : ReportFields Place) (is_char : r.config.index_type ≡ Char) (before : AllByRecursion (IsInside old) r.labels)
     (after : AllByRecursion (IsInside new) r.labels) (sent_before sent_after : Option (List ℕ)) where
-  -- all was written, with all labels
-  pub written_whole : (list : List (LeftOut FileError)) → IsWritten {E = FileError} (λ id e. ⊤) (files old) (files new) r list sent_before sent_after
-      → IsWritten {E = FileError} (λ id e. ⊤) (files new) (files new) r [] sent_before sent_after
-  written_whole list is =
+  -- the picture is that of all labels
+  pictured : (bytes : List ℕ) (list : List (LeftOut FileError)) → IsPicture {E = FileError} (λ id e. ⊤) (files old) (files new) r bytes list
+      → IsPicture {E = FileError} (λ id e. ⊤) (files new) (files new) r bytes []
+  pictured bytes list is =
       let none = none_judged old new r.config 0 r.labels is.reasons is_char before after is.are_reasons.judged in
       record {
         reasons = is.reasons;
         are_reasons = record { judged = none.1; stay_fetched = is.are_reasons.stay_fetched };
         left_out = sym (none_listed 0 is.reasons none.0);
-        traced = is.traced;
+        drawn = is.drawn;
       }
+
+  -- all was written, with all labels
+  pub written_whole : (list : List (LeftOut FileError)) → IsWritten {E = FileError} (λ id e. ⊤) (files old) (files new) r list sent_before sent_after
+      → IsWritten {E = FileError} (λ id e. ⊤) (files new) (files new) r [] sent_before sent_after
+  written_whole list is =
+      record { bytes = is.bytes; picture = pictured is.bytes list is.picture; sent = is.sent }
 
   -- the first bytes were, of a picture with all labels
   pub written_part : (sent : ℕ) → IsCutOff {E = FileError} (λ id e. ⊤) (files old) (files new) r sent sent_before sent_after
       → IsCutOff {E = FileError} (λ id e. ⊤) (files new) (files new) r sent sent_before sent_after
   written_part sent is =
-      let none = none_judged old new r.config 0 r.labels is.reasons is_char before after is.are_reasons.judged in
-      record {
-        reasons = is.reasons;
-        are_reasons = record { judged = none.1; stay_fetched = is.are_reasons.stay_fetched };
-        has_more = is.has_more;
-        sent = is.sent;
-      }
+      record { bytes = is.bytes; list = []; picture = pictured is.bytes is.list is.picture; has_more = is.has_more; sent = is.sent }
 
 -- ---- the report of the offences
 

@@ -13,11 +13,15 @@ use Rattle.ariadne.specs.LeftOut.{LeftOut}
 use Rattle.ariadne.specs.Listing.{Listing, listed_lines}
 use Rattle.ariadne.specs.Reason.{Reason}
 use Rattle.ariadne.specs.Reason.TheVariants.{Unfetched, PastSource, CutsCharacter}
-use Rattle.ariadne.specs.Report.{ReportFields}
+use Rattle.ariadne.specs.Report.{ReportFields, World}
 use Rattle.ariadne.specs.Verdict.TheVariants.{Accepted}
 use Rattle.ariadne.specs.declared.write_error.WriteError.{WriteError}
-use Rattle.ariadne.specs.Written.{IsWritten, Written, WrittenOver}
+use Rattle.ariadne.specs.Written.{IsWritten, Written}
 use Rattle.ariadne_examples.specs.Calling.{MessagesHaveRows, here, over, picture, unknown_name}
+
+-- what is read of a source
+abbrev holding : Listing → World (Range ℕ) ⊤
+holding source = world (λ it. tt) (λ it. it.start) (λ it. it.end) (λ p q. true) (λ id. None) ((tt, source) ∷ [])
 
 -- what is not greater is not below
 not_below : (a b : ℕ) → b ≤ a → nat_lt a b ≡ false
@@ -44,9 +48,10 @@ module _ (text : List ℕ) (place : Range ℕ) (forward : place.start ≤ place.
   pub drawn_whole : (list : List (LeftOut ⊤)) (before after : Option (List ℕ)) → IsWritten (λ id e. ⊥) (over text) (over text) (unknown_name place) list before after
       → (list ≡ []) × Appends before after (picture text (unknown_name place)) × MessagesHaveRows text (unknown_name place)
   drawn_whole list before after is =
-      let none = no_reason is.reasons is.are_reasons.judged in
-      let traced = rw none at is.traced.each_message_is_traced in
-      (rw none at is.left_out, rw none at is.traced.exactly_the_printed_canvas_was_sent, (traced.placing, traced.reads.rows_belong_together, traced.reads.each_message_has_one_row_of_its_own))
+      let none = no_reason is.picture.reasons is.picture.are_reasons.judged in
+      let drawn = rw none at is.picture.drawn in
+      let traced = drawn.each_message_is_traced in
+      (rw none at is.picture.left_out, rw drawn.they_are_exactly_the_printed_canvas at is.sent, (traced.placing, traced.reads.rows_belong_together, traced.reads.each_message_has_one_row_of_its_own))
 
   -- the text stays held
   pub still_held : (new : Listing) → GrowsFor {Id = ⊤} (λ (it : Range ℕ). tt) (λ p q. true) (unknown_name place).labels ((tt, listing_of text) ∷ []) ((tt, new) ∷ []) → new ≡ listing_of text
@@ -64,7 +69,7 @@ module _ (text : List ℕ) (place : Range ℕ) (forward : place.start ≤ place.
   pub promised : (report : ReportFields (Range ℕ)) (old new : Listing) (result : Result (Vec (LeftOut ⊤) Global) WriteError) (before after : Option (List ℕ))
       → report ≡ unknown_name place → old ≡ listing_of text
       → GrowsFor {Id = ⊤} (λ (it : Range ℕ). tt) (λ p q. true) report.labels ((tt, old) ∷ []) ((tt, new) ∷ [])
-      → WrittenOver {Id = ⊤} {E = ⊤} (world (λ it. tt) (λ it. it.start) (λ it. it.end) (λ p q. true)) (λ s id. None) (λ s. (tt, s) ∷ []) (λ id e. ⊥) old new report before after result
+      → Written {E = ⊤} (λ id e. ⊥) (holding old) (holding new) report before after result
       → IfOk result (λ left_out. left_out.items ≡ []) × OnOk result (Appends before after (picture text (unknown_name place)))
       × OnOk result (MessagesHaveRows text (unknown_name place))
   promised report old new result before after same text_is grows is =

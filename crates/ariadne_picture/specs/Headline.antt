@@ -1,4 +1,4 @@
--- What the headline says of a report that was drawn. What was sent is exactly the printed canvas of
+-- What the headline says of the bytes of a report's picture. They are exactly the printed canvas of
 -- the accepted labels. On it each accepted message has one row of its own, and strokes lead from it
 -- to the label's attach character or gutter column, in the columns where the source row shows them.
 -- In the text below a line and in the gutter no stroke stands elsewhere, and strokes have the colours
@@ -7,7 +7,6 @@
 -- columns of its text, and the rows are the lines that are sent. Colours move nothing, and offsets in
 -- bytes draw as the same offsets in characters.
 use Rattle.std.specs.Prelude.{ℕ, ◌≡◌, Bool, true, List, Option}
-use Rattle.std.specs.Io.KnownBytes.{Appends}
 use Rattle.ariadne_color.specs.declared.color.Color.{Color}
 use Rattle.ariadne_picture.specs.declared.label_info.LabelInfo.{LabelInfo}
 use Rattle.ariadne_picture.specs.Report.{ReportFields, World}
@@ -58,10 +57,10 @@ AreReadInOneWay rows groups message_of =
     (p q : Placing) → IsReadBy rows groups message_of p → IsReadBy rows groups message_of q
     → AgreeOnStrokes message_of groups p q
 
--- what was before, and is now, in the writer; the accepted labels are infos
+-- these bytes are the picture of a report whose accepted labels are infos
 pub record Headline {S Id : Type 0} (w : World S Id) (r : ReportFields S) (infos : List LabelInfo)
-    (before after : Option (List ℕ)) : Type 0 where
-  pub exactly_the_printed_canvas_was_sent : Appends before after (printed (canvas w r infos))
+    (bytes : List ℕ) : Type 0 where
+  pub they_are_exactly_the_printed_canvas : bytes ≡ printed (canvas w r infos)
   pub each_message_is_traced : IsTraced (canvas w r infos) (sections w r infos)
       (texts_of r).message_of (label_color r)
   pub in_one_way : AreReadInOneWay (canvas w r infos) (sections w r infos) (texts_of r).message_of

@@ -99,8 +99,8 @@ pub hidden_none : (old new : List SafeSource) (r : ReportFields (ℕ × Range �
     (result : Result (Vec (LeftOut NoSource) Global) WriteError) → is_shown_report r ≡ true
     → Written {E = NoSource} says_number (over old) (over new) r before after result → OnOk result (GotNothingHidden before after)
 hidden_none old new r before after (Ok list) shown w = (
-  printed (canvas (over new) r (drawn_labels (over new) r.config 0 r.labels w.reasons)),
-  pictures_hide_nothing (over new) r (drawn_labels (over new) r.config 0 r.labels w.reasons) (nothing_hidden new r shown),
-  w.traced.exactly_the_printed_canvas_was_sent,
+  printed (canvas (over new) r (drawn_labels (over new) r.config 0 r.labels w.picture.reasons)),
+  pictures_hide_nothing (over new) r (drawn_labels (over new) r.config 0 r.labels w.picture.reasons) (nothing_hidden new r shown),
+  rw w.picture.drawn.they_are_exactly_the_printed_canvas at w.sent,
 )
 hidden_none old new r before after (Err e) shown w = tt

@@ -1,6 +1,5 @@
--- What the headline says holds of every report whose picture was sent.
-use Rattle.std.proofs.Common.{List, Option, ℕ}
-use Rattle.std.specs.Io.KnownBytes.{Appends}
+-- What the headline says holds of the picture of every report.
+use Rattle.std.proofs.Common.{◌≡◌, List, Option, ℕ}
 use Rattle.ariadne_picture.specs.declared.label_info.LabelInfo.{LabelInfo}
 use Rattle.ariadne_picture.specs.Report.{ReportFields, World, HaveOneSource, AreForward}
 use Rattle.ariadne_picture.specs.Accept.{drawn_labels}
@@ -20,10 +19,10 @@ module _ {S Id R : Type 0} (w : World S Id) (r : ReportFields S) (reasons : List
   infos = drawn_labels w r.config 0 r.labels reasons
 
   -- the picture can be read, and neither colours nor what offsets count move anything
-  pub every-headline : HaveOneSource w → AreForward w r → (before after : Option (List ℕ))
-      → Appends before after (printed (canvas w r infos)) → Headline w r infos before after
-  every-headline law forward before after sent = record {
-    exactly_the_printed_canvas_was_sent = sent;
+  pub every-headline : HaveOneSource w → AreForward w r → (bytes : List ℕ) → bytes ≡ printed (canvas w r infos)
+      → Headline w r infos bytes
+  every-headline law forward bytes drawn = record {
+    they_are_exactly_the_printed_canvas = drawn;
     each_message_is_traced = every-traced w r reasons forward law;
     in_one_way = every-agree w r reasons law forward;
     each_cell_takes_the_columns_of_its_text = columns-of-texts w r infos;

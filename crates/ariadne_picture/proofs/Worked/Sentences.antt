@@ -2,7 +2,6 @@
 -- premise that these reports don't meet.
 use Rattle.std.proofs.Common.{◌≡◌, ℕ, true, List, Option}
 use Rattle.std.specs.Cmp.Derive.{both_true}
-use Rattle.std.specs.Io.KnownBytes.{Appends}
 use Rattle.std.specs.Prelude.{Some, [], ◌∷◌, slice_get, Contains}
 use Rattle.std.specs.List.{AllByRecursion}
 use Rattle.ariadne_color.specs.declared.color.Color.{Color}
@@ -37,15 +36,15 @@ all_clauses rows groups t p h =
     h.nor_in_the_gutter
 
 -- the headline is all of these
-all_sentences : {S Id : Type 0} (w : World S Id) (r : ReportFields S) (labels : List LabelInfo) (before after : Option (List ℕ))
-    → Headline w r labels before after
-    → Appends before after (printed (canvas w r labels))
+all_sentences : {S Id : Type 0} (w : World S Id) (r : ReportFields S) (labels : List LabelInfo) (bytes : List ℕ)
+    → Headline w r labels bytes
+    → (bytes ≡ printed (canvas w r labels))
     × IsTraced (canvas w r labels) (sections w r labels) (texts_of r).message_of (label_color r)
     × AreReadInOneWay (canvas w r labels) (sections w r labels) (texts_of r).message_of
     × HaveColumnsOfTexts (canvas w r labels) × (HaveNoEscapes w r → HaveNoLineFeeds w r → RowsAreLines (canvas w r labels))
     × ColorsMoveNothing w r labels × BytesDrawAsCharacters w r labels
-all_sentences w r labels before after h = (
-  h.exactly_the_printed_canvas_was_sent,
+all_sentences w r labels bytes h = (
+  h.they_are_exactly_the_printed_canvas,
   h.each_message_is_traced,
   h.in_one_way,
   h.each_cell_takes_the_columns_of_its_text,

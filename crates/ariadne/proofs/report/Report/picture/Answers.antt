@@ -31,8 +31,7 @@ returns-clause-drawn g c =
       reasons = judged.0;
       are_reasons = judged.1;
       left_out = judged.2;
-      drawn = c.in_ok-text.ensures ∙ ap (λ infos. printed (canvas w r infos)) judged.3;
-      traced = λ before after sent.
+      drawn =
           every-headline w r judged.0 (one_source s.source_of s.start_of s.end_of eq g.met.S.SourceId.Eq.laws names contents)
-          c.in_ok-judged.ensures.forward before after sent;
+          c.in_ok-judged.ensures.forward _ (c.in_ok-text.ensures ∙ ap (λ infos. printed (canvas w r infos)) judged.3);
     }
