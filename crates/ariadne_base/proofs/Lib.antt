@@ -2,6 +2,7 @@
 pub mod LineLaws
 pub mod TableLemmas
 pub mod LocationLemmas
+pub mod StartLemmas
 pub mod CutOut
 pub mod RangeLemmas
 pub mod Scanning

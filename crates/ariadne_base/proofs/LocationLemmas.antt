@@ -1,17 +1,13 @@
--- The line of an offset is the last that begins at it or before it, and what a search by halving finds.
-use Rattle.std.proofs.Common.{◌≡◌, ℕ, zero, suc, ◌+◌, ◌-◌, ◌<◌, ◌≤◌, Bool, true, false, List, [], Option, Some, None, unwrap_or, refl, sym, ap, ◌∙◌}
+-- The line of an offset is the last that begins at it or before it.
+use Rattle.std.proofs.Common.{◌≡◌, ℕ, zero, suc, ◌+◌, ◌<◌, ◌≤◌, Bool, true, List, [], Option, Some, None, unwrap_or, refl, sym, ap, ◌∙◌}
 use Rattle.std.proofs.Common.{subst, arith, nat_le, length, take, get_or, sum_by, inl, inr}
 use Rattle.std.specs.List.{last_or, range_with_len, filter}
-use Rattle.std.specs.List.Sorted.{IsNonDecreasingBy, IsPartitionPoint}
 use Rattle.std.proofs.lemmas.Bool.{cases_Bool, leb-true, le-leb, cases_lt}
 use Rattle.std.proofs.lemmas.List.{take-take, take_all}
 use Rattle.std.proofs.lemmas.List.Sums.{sum_by-take-le, sum_by_more}
 use Rattle.std.proofs.lemmas.List.FromFn.{get_or-map-range_with_len}
-use Rattle.ariadne_base.specs.Locations.{byte_len, upto, line_text, line_offset, line_at, column_at}
-use Rattle.ariadne_base.specs.Table.{LineExtent, line_extent, line_table, location_of}
-use Rattle.ariadne_base.proofs.TableLemmas.{length-line_table}
-use Rattle.ariadne_base.specs.Lines.{lines_of}
-use Rattle.ariadne_base.proofs.LineLaws.{some_line, lines_length}
+use Rattle.ariadne_base.specs.Locations.{byte_len, upto, line_text, line_offset, line_at}
+use Rattle.ariadne_base.specs.Table.{LineExtent, line_extent, line_table}
 
 -- ---- the last number that passes
 
@@ -117,50 +113,12 @@ line_at_up size ls o p some h =
     let begins = a.begins in
     (line_at_is size ls p some).last (line_at size ls o) a.there (omega arith)
 
--- ---- a search by halving
+-- ---- the table
 
 -- row n of the table is the extent of line n
 pub get_or-line_table : (ls : List (List ℕ)) (n : ℕ) (d : LineExtent) → n < length ls → get_or (line_table ls) n d ≡ line_extent ls n
 unfolding line_table
 get_or-line_table ls n d h = get_or-map-range_with_len (line_extent ls) 0 (length ls) n n d h (omega arith)
-
-module _ (size : List ℕ → ℕ) (begin : LineExtent → ℕ) (ls : List (List ℕ))
-    (is_offset : (n : ℕ) → begin (line_extent ls n) ≡ line_offset size ls n) where
-  -- where row n begins
-  begin_at : (n : ℕ) (d : LineExtent) → n < length ls → begin (get_or (line_table ls) n d) ≡ line_offset size ls n
-  begin_at n d h = ap begin (get_or-line_table ls n d h) ∙ is_offset n
-
-  -- the lines of a table stand in the order in which they begin
-  pub table_rises : IsNonDecreasingBy begin (line_table ls)
-  table_rises i j d h l =
-      let rows = length-line_table ls in
-      let a = begin_at i d (omega arith) in
-      let b = begin_at j d (omega arith) in
-      let up = offset_up size ls i j h in
-      omega arith
-
-  -- whether row n begins at o or before it
-  begins_by : (o n : ℕ) → n < length ls → nat_le (begin (get_or (line_table ls) n (line_extent ls n))) o ≡ nat_le (line_offset size ls n) o
-  begins_by o n h = ap (λ b. nat_le b o) (begin_at n (line_extent ls n) h)
-
-  -- what halves the table finds the line
-  pub found : (o i : ℕ) → 0 < length ls → i ≤ length ls
-      → IsPartitionPoint (λ r. nat_le (begin r) o ≡ true) (λ r. nat_le (begin r) o ≡ false) (line_table ls) i → (1 ≤ i) × IsLineAt size ls o (i - 1)
-  found o i some h parts =
-      let rows = length-line_table ls in
-      let zero_begins = offset_none size ls in
-      let early : (k : ℕ) → k < i → line_offset size ls k ≤ o = λ k l. leb-true _ _
-      (sym (begins_by o k (omega arith)) ∙ parts.0 k (line_extent ls k) (omega arith) l) in
-      let late : (k : ℕ) → i ≤ k → k < length ls → line_offset size ls k ≤ o → ⊥ = λ k l m b. let f = sym (begins_by o k m)
-      ∙ parts.1 k (line_extent ls k) l (omega arith) in let t = le-leb (line_offset size ls k) o b in let z : false ≡ true = sym f ∙ t in cc in
-      let first : 1 ≤ i = elim (cases_lt 0 i) [ inl l ↦ omega arith | inr l ↦ absurd (late 0 (omega arith) some (omega arith)) ] in (
-        first,
-        record {
-          there = omega arith;
-          begins = early (i - 1) (omega arith);
-          last = λ k l b. elim (cases_lt k i) [ inl m ↦ omega arith | inr m ↦ absurd (late k (omega arith) l b) ];
-        },
-      )
 
 -- the offset of an extent
 pub offset_is : (ls : List (List ℕ)) (n : ℕ) → (line_extent ls n).offset ≡ line_offset length ls n
@@ -171,68 +129,3 @@ offset_is ls n = refl
 pub byte_offset_is : (ls : List (List ℕ)) (n : ℕ) → (line_extent ls n).byte_offset ≡ line_offset byte_len ls n
 unfolding line_extent
 byte_offset_is ls n = refl
-
--- the rows of the table of a text rise
-pub rows_rise : (size : List ℕ → ℕ) (begin : LineExtent → ℕ) → ((ls : List (List ℕ)) (n : ℕ) → begin (line_extent ls n) ≡ line_offset size ls n)
-    → (t : List ℕ) (rows : List LineExtent) → rows ≡ line_table (lines_of t) → IsNonDecreasingBy begin rows
-rows_rise size begin is_offset t rows e = subst (IsNonDecreasingBy begin) (sym e) (table_rises size begin (lines_of t) (is_offset (lines_of t)))
-
--- the last line ends where the lines end
-last_end : (ls : List (List ℕ)) (n : ℕ) → n + 1 ≡ length ls → (line_extent ls n).offset + (line_extent ls n).len ≡ sum_by length ls
-unfolding line_extent
-last_end ls n h =
-    let more = offset_more length ls n (omega arith) in
-    let all = ap (line_offset length ls) h ∙ offset_all length ls in
-    omega arith
-
--- the length of a text, from the last row of its table
-pub length_from_last : (t : List ℕ) (rows : List LineExtent) (n : ℕ) (r : LineExtent) → rows ≡ line_table (lines_of t) → n ≡ length rows
-    → r ≡ get_or rows (n - 1) r → r.offset + r.len ≡ length t
-length_from_last t rows n r e m at =
-    let count = ap length e ∙ length-line_table (lines_of t) in
-    let some = some_line t in
-    let row : r ≡ line_extent (lines_of t) (n - 1) = at ∙ ap (λ xs. get_or xs (n - 1) r) e ∙ get_or-line_table (lines_of t) (n - 1) r (omega arith) in
-    ap (λ r. r.offset + r.len) row ∙ last_end (lines_of t) (n - 1) (omega arith) ∙ lines_length t
-
--- a table has rows
-pub some_row : (t : List ℕ) (rows : List LineExtent) → rows ≡ line_table (lines_of t) → 0 < length rows
-some_row t rows e = let count = ap length e ∙ length-line_table (lines_of t) in let some = some_line t in omega arith
-
--- what a look-up in the table of a text returns: i is the number of lines that begin at o or before it
-module _ (size : List ℕ → ℕ) (begin : LineExtent → ℕ) (is_offset : (ls : List (List ℕ)) (n : ℕ) → begin (line_extent ls n) ≡ line_offset size ls n)
-    (t : List ℕ) (rows : List LineExtent) (o i : ℕ) (e : rows ≡ line_table (lines_of t)) (low : i ≤ length rows)
-    (parts : IsPartitionPoint (λ r. nat_le (begin r) o ≡ true) (λ r. nat_le (begin r) o ≡ false) rows i) where
-  -- there is a row for each line
-  count : length rows ≡ length (lines_of t)
-  count = ap length e ∙ length-line_table (lines_of t)
-
-  -- the line found is the line of the offset
-  found_line : (1 ≤ i) × IsLineAt size (lines_of t) o (i - 1)
-  found_line =
-      found size begin (lines_of t) (is_offset (lines_of t)) o i (some_line t) (let n = count in omega arith)
-      (subst (λ xs. IsPartitionPoint (λ r. nat_le (begin r) o ≡ true) (λ r. nat_le (begin r) o ≡ false) xs i) e parts)
-
-  -- some line begins at the offset or before it
-  pub found_some : 1 ≤ i
-  found_some = found_line.0
-
-  -- the number found is that of a row
-  pub found_there : i - 1 < length rows
-  found_there = let n = count in let f = found_line.1.there in omega arith
-
-  -- the row found is that of the line
-  found_row : (r : LineExtent) → r ≡ get_or rows (i - 1) r → r ≡ line_extent (lines_of t) (i - 1)
-  found_row r at = at ∙ ap (λ xs. get_or xs (i - 1) r) e ∙ get_or-line_table (lines_of t) (i - 1) r found_line.1.there
-
-  -- the row found begins at the offset or before it
-  pub found_begins : (r : LineExtent) → r ≡ get_or rows (i - 1) r → begin r ≤ o
-  found_begins r at = let same = ap begin (found_row r at) ∙ is_offset (lines_of t) (i - 1) in let f = found_line.1.begins in omega arith
-
-  -- row, number and column are the location of the offset
-  pub found_location : (r : LineExtent) → r ≡ get_or rows (i - 1) r → (r, i - 1, o - begin r) ≡ location_of size (lines_of t) o
-  unfolding location_of column_at
-  found_location r at =
-      let n : line_at size (lines_of t) o ≡ i - 1 = line_at_only size (lines_of t) o (i - 1) found_line.1 in
-      let row = found_row r at in
-      let begins = ap begin row ∙ is_offset (lines_of t) (i - 1) in
-      rw (n, begins, ← row) refl

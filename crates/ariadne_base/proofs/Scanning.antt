@@ -10,8 +10,9 @@ use Rattle.std.proofs.lemmas.Str.{chars_past_char, IsUtf8-past_char, chars_from_
 use Rattle.std.proofs.lemmas.Str.{byte_from_char, char_from_byte, chars-nil, encodes-chars, IsUtf8-take}
 use Rattle.ariadne_base.specs.Lines.{is_separator, ends_line, begins_with_line_feed, in_front, full_lines_of, lines_of}
 use Rattle.ariadne_base.specs.Locations.{byte_len}
-use Rattle.ariadne_base.specs.Table.{LineExtent, line_table}
-use Rattle.ariadne_base.proofs.TableLemmas.{row, same_row, line_table_push, line_table-nil, length-line_table}
+use Rattle.ariadne_base.specs.Starts.{line_starts}
+use Rattle.ariadne_base.specs.declared.source.start.Start.{Start}
+use Rattle.ariadne_base.proofs.StartLemmas.{start, same_start, starts_push, starts-nil, length-starts}
 
 -- two tests for LF that hold together
 same_test : (c b : ℕ) → (c ≡ 10 → b ≡ 10) → (b ≡ 10 → c ≡ 10) → (b == 10) ≡ (c == 10)
@@ -59,28 +60,26 @@ before-in_front (d ∷ o) c [] = refl
 before-in_front (d ∷ o) c (l ∷ ls) = ap (λ m. (d ∷ m) ∷ ls) (sym (append_assoc o (c ∷ []) l))
 
 -- the scan has closed some lines and opened another, and the rest is before it
-pub record IsScanned (text rest : List ℕ) (table : List LineExtent) (offset byte_offset at : ℕ) : Type 0 where
+pub record IsScanned (text rest : List ℕ) (starts : List Start) (begun at : ℕ) : Type 0 where
   pub done : List (List ℕ)
   pub opened : List ℕ
   pub lines : full_lines_of (chars text) ≡ done ++ before opened (full_lines_of (chars rest))
-  pub kept : table ≡ line_table done
-  pub offset_is : offset ≡ sum_by length done
-  pub byte_offset_is : byte_offset ≡ sum_by byte_len done
-  pub at_is : at ≡ offset + length opened
-  pub bytes : byte_offset + byte_len opened + length rest ≡ length text
+  pub kept : starts ≡ line_starts done
+  pub begun_is : begun ≡ sum_by length done
+  pub at_is : at ≡ begun + length opened
+  pub bytes : sum_by byte_len done + byte_len opened + length rest ≡ length text
   pub count : at + length rest ≤ length text
   pub utf8 : IsUtf8 rest
 
 -- at the start nothing is closed and nothing is open
-pub scan_start : (text : List ℕ) → IsUtf8 text → IsScanned text text [] 0 0 0
+pub scan_start : (text : List ℕ) → IsUtf8 text → IsScanned text text (start 0 0 ∷ []) 0 0
 unfolding before
 scan_start text u = record {
   done = [];
   opened = [];
   lines = refl;
-  kept = sym line_table-nil;
-  offset_is = refl;
-  byte_offset_is = refl;
+  kept = sym starts-nil;
+  begun_is = refl;
   at_is = refl;
   bytes = omega arith;
   count = omega arith;
@@ -105,7 +104,7 @@ no_end : (c : ℕ) (t : List ℕ) → is_separator c ≡ false → ends_line c t
 unfolding ends_line
 no_end c t h = rw h refl
 
-module _ (text rest left : List ℕ) (c : ℕ) (table : List LineExtent) (offset byte_offset at : ℕ) (s : IsScanned text rest table offset byte_offset at)
+module _ (text rest left : List ℕ) (c : ℕ) (starts : List Start) (begun at : ℕ) (s : IsScanned text rest starts begun at)
     (e : rest ≡ encode_utf8 c ++ left) where
   -- what a character takes of the rest
   cut : length rest ≡ len_utf8 c + length left
@@ -118,8 +117,7 @@ module _ (text rest left : List ℕ) (c : ℕ) (table : List LineExtent) (offset
 
   -- a character that ends its line closes it
   pub scan_closed : ends_line c (chars left) ≡ true
-      → IsScanned text left (table ++ row offset (at + 1 - offset) byte_offset (length text - length left - byte_offset) ∷ []) (at + 1)
-      (length text - length left) (at + 1)
+      → IsScanned text left (starts ++ start (at + 1) (length text - length left) ∷ []) (at + 1) (at + 1)
   unfolding before
   scan_closed h =
       let wide = len_utf8_bounds c in
@@ -129,23 +127,21 @@ module _ (text rest left : List ℕ) (c : ℕ) (table : List LineExtent) (offset
       let at_is = s.at_is in
       let bytes = s.bytes in
       let count = s.count in
-      let len : at + 1 - offset ≡ length (s.opened ++ c ∷ []) = omega arith in
-      let byte_len_is : length text - length left - byte_offset ≡ byte_len (s.opened ++ c ∷ []) = omega arith in
-      let one = s.offset_is in
-      let two = s.byte_offset_is in
+      let begun_is = s.begun_is in
       let total = sum_by_push length s.done (s.opened ++ c ∷ []) in
       let byte_total = sum_by_push byte_len s.done (s.opened ++ c ∷ []) in
+      let chars_are : at + 1 ≡ sum_by length s.done + length (s.opened ++ c ∷ []) = omega arith in
+      let bytes_are : length text - length left ≡ sum_by byte_len s.done + byte_len (s.opened ++ c ∷ []) = omega arith in
       record {
         done = s.done ++ (s.opened ++ c ∷ []) ∷ [];
         opened = [];
         lines = s.lines ∙ ap (λ ls. s.done ++ before s.opened ls) (cut_chars ∙ cond-true _ _ _ h)
             ∙ ap (λ ls. s.done ++ ls) (before_ended s.opened c (full_lines_of (chars left)))
             ∙ sym (append_assoc s.done ((s.opened ++ c ∷ []) ∷ []) (full_lines_of (chars left)));
-        kept = ap (λ xs. xs ++ row offset (at + 1 - offset) byte_offset (length text - length left - byte_offset) ∷ []) s.kept
-            ∙ ap (λ x. line_table s.done ++ x ∷ []) (same_row one len two byte_len_is)
-            ∙ sym (line_table_push s.done (s.opened ++ c ∷ []));
-        offset_is = omega arith;
-        byte_offset_is = omega arith;
+        kept = ap (λ xs. xs ++ start (at + 1) (length text - length left) ∷ []) s.kept
+            ∙ ap (λ x. line_starts s.done ++ x ∷ []) (same_start chars_are bytes_are)
+            ∙ sym (starts_push s.done (s.opened ++ c ∷ []));
+        begun_is = omega arith;
         at_is = omega arith;
         bytes = omega arith;
         count = omega arith;
@@ -153,7 +149,7 @@ module _ (text rest left : List ℕ) (c : ℕ) (table : List LineExtent) (offset
       }
 
   -- any other makes it longer
-  pub scan_open : ends_line c (chars left) ≡ false → IsScanned text left table offset byte_offset (at + 1)
+  pub scan_open : ends_line c (chars left) ≡ false → IsScanned text left starts begun (at + 1)
   scan_open h =
       let wide = len_utf8_bounds c in
       let longer = length_push s.opened c in
@@ -169,8 +165,7 @@ module _ (text rest left : List ℕ) (c : ℕ) (table : List LineExtent) (offset
             s.lines ∙ ap (λ ls. s.done ++ before s.opened ls) (cut_chars ∙ cond-false _ _ _ h)
             ∙ ap (λ ls. s.done ++ ls) (before-in_front s.opened c (full_lines_of (chars left)));
         kept = s.kept;
-        offset_is = s.offset_is;
-        byte_offset_is = s.byte_offset_is;
+        begun_is = s.begun_is;
         at_is = omega arith;
         bytes = omega arith;
         count = omega arith;
@@ -178,26 +173,26 @@ module _ (text rest left : List ℕ) (c : ℕ) (table : List LineExtent) (offset
       }
 
 -- characters that are no separators make the open line longer
-pub scan_run : (text rest left run : List ℕ) (table : List LineExtent) (offset byte_offset at : ℕ) → IsScanned text rest table offset byte_offset at
-    → rest ≡ encode_utf8_all run ++ left → NonePass (λ c. is_separator c) run → IsScanned text left table offset byte_offset (at + length run)
-scan_run text rest left [] table offset byte_offset at s e none = rw (← e) (let same : at + 0 ≡ at = omega arith in rw same s)
-scan_run text rest left (c ∷ run) table offset byte_offset at s e none =
+pub scan_run : (text rest left run : List ℕ) (starts : List Start) (begun at : ℕ) → IsScanned text rest starts begun at
+    → rest ≡ encode_utf8_all run ++ left → NonePass (λ c. is_separator c) run → IsScanned text left starts begun (at + length run)
+scan_run text rest left [] starts begun at s e none = rw (← e) (let same : at + 0 ≡ at = omega arith in rw same s)
+scan_run text rest left (c ∷ run) starts begun at s e none =
     let behind = encode_utf8_all run ++ left in
     let first : rest ≡ encode_utf8 c ++ behind = e ∙ append_assoc (encode_utf8 c) (encode_utf8_all run) left in
     let stays : ends_line c (chars behind) ≡ false = no_end c (chars behind) none.0 in
-    let next = scan_run text behind left run table offset byte_offset (at + 1) (scan_open text rest behind c table offset byte_offset at s first stays) refl none.1 in
+    let next = scan_run text behind left run starts begun (at + 1) (scan_open text rest behind c starts begun at s first stays) refl none.1 in
     let same : at + 1 + length run ≡ at + suc (length run) = omega arith in
-    subst (λ n. IsScanned text left table offset byte_offset n) same next
+    subst (λ n. IsScanned text left starts begun n) same next
 
 -- so does a first part of the rest without separators
-pub scan_jump : (text rest : List ℕ) (table : List LineExtent) (offset byte_offset at n m : ℕ) → IsScanned text rest table offset byte_offset at
+pub scan_jump : (text rest : List ℕ) (starts : List Start) (begun at n m : ℕ) → IsScanned text rest starts begun at
     → IsCharBoundary rest n → NonePass (λ c. is_separator c) (chars (take n rest)) → m ≡ length (chars (take n rest))
-    → IsScanned text (drop n rest) table offset byte_offset (at + m)
-scan_jump text rest table offset byte_offset at n m s cut none count =
+    → IsScanned text (drop n rest) starts begun (at + m)
+scan_jump text rest starts begun at n m s cut none count =
     let parts : rest ≡ encode_utf8_all (chars (take n rest)) ++ drop n rest =
     sym (take-append-drop n rest) ∙ ap (λ bs. bs ++ drop n rest) (sym (encodes-chars (take n rest) (IsUtf8-take rest n s.utf8 cut))) in
-    subst (λ k. IsScanned text (drop n rest) table offset byte_offset (at + k)) (sym count)
-    (scan_run text rest (drop n rest) (chars (take n rest)) table offset byte_offset at s parts none)
+    subst (λ k. IsScanned text (drop n rest) starts begun (at + k)) (sym count)
+    (scan_run text rest (drop n rest) (chars (take n rest)) starts begun at s parts none)
 
 -- a text that is not empty has full lines
 lines_of-full : (t : List ℕ) → full_lines_of t ≢ [] → lines_of t ≡ full_lines_of t
@@ -232,7 +227,7 @@ last_line done [] t e (inl h) = absurd (omega arith)
 last_line done [] t e (inr h) = ap lines_of (full_lines-none t (e ∙ append-nil done ∙ h)) ∙ rw h refl
 last_line done (c ∷ o) t e h = lines_of-full t (λ n. push_some done (c ∷ o) (sym e ∙ n)) ∙ e
 
-module _ (text rest : List ℕ) (table : List LineExtent) (offset byte_offset at : ℕ) (s : IsScanned text rest table offset byte_offset at)
+module _ (text rest : List ℕ) (starts : List Start) (begun at : ℕ) (s : IsScanned text rest starts begun at)
     (over : length rest ≡ 0) where
   -- at the end the lines are those closed and the open one
   at_end : full_lines_of (chars text) ≡ s.done ++ before s.opened []
@@ -241,32 +236,32 @@ module _ (text rest : List ℕ) (table : List LineExtent) (offset byte_offset at
       s.lines ∙ ap (λ bs. s.done ++ before s.opened (full_lines_of (chars bs))) (nil_from_length rest over)
       ∙ ap (λ cs. s.done ++ before s.opened (full_lines_of cs)) chars-nil
 
-  -- there is a row for each closed line
-  closed : length table ≡ length s.done
-  closed = ap length s.kept ∙ length-line_table s.done
+  -- there is a start for each closed line, and one more
+  closed : length starts ≡ length s.done + 1
+  closed = ap length s.kept ∙ length-starts s.done
 
   -- nothing is open, and some line is closed
-  pub scan_whole : at ≤ offset → 0 < length table → table ≡ line_table (lines_of (chars text))
+  pub scan_whole : at ≤ begun → length starts ≢ 1 → starts ≡ line_starts (lines_of (chars text))
   unfolding before
   scan_whole h some =
       let n = closed in
       let a = s.at_is in
       let none : s.opened ≡ [] = nil_from_length s.opened (omega arith) in
       let whole : full_lines_of (chars text) ≡ s.done = at_end ∙ ap (λ o. s.done ++ before o []) none ∙ append-nil s.done in
-      let full : full_lines_of (chars text) ≢ [] = λ e. let z : length s.done ≡ 0 = ap length (sym whole ∙ e) in omega arith in
-      s.kept ∙ ap line_table (sym whole ∙ sym (lines_of-full (chars text) full))
+      let full : full_lines_of (chars text) ≢ [] = λ e. let z : length s.done ≡ 0 = ap length (sym whole ∙ e) in some (omega arith) in
+      s.kept ∙ ap line_starts (sym whole ∙ sym (lines_of-full (chars text) full))
 
   -- the open line is the last
-  pub scan_last : (offset < at) ⊎ (length table ≡ 0) → table ++ row offset (at - offset) byte_offset (length text - byte_offset)
-      ∷ [] ≡ line_table (lines_of (chars text))
+  pub scan_last : (begun < at) ⊎ (length starts ≡ 1) → starts ++ start at (length text) ∷ [] ≡ line_starts (lines_of (chars text))
   scan_last h =
       let n = closed in
       let a = s.at_is in
       let b = s.bytes in
+      let begun_is = s.begun_is in
       let case : (0 < length s.opened) ⊎ (s.done ≡ []) = elim h [ inl l ↦ inl (omega arith) | inr z ↦ inr (nil_from_length s.done (omega arith)) ] in
-      let len : at - offset ≡ length s.opened = omega arith in
-      let byte_len_is : length text - byte_offset ≡ byte_len s.opened = omega arith in
-      ap (λ xs. xs ++ row offset (at - offset) byte_offset (length text - byte_offset) ∷ []) s.kept
-      ∙ ap (λ x. line_table s.done ++ x ∷ []) (same_row s.offset_is len s.byte_offset_is byte_len_is)
-      ∙ sym (line_table_push s.done s.opened)
-      ∙ ap line_table (sym (last_line s.done s.opened (chars text) at_end case))
+      let chars_are : at ≡ sum_by length s.done + length s.opened = omega arith in
+      let bytes_are : length text ≡ sum_by byte_len s.done + byte_len s.opened = omega arith in
+      ap (λ xs. xs ++ start at (length text) ∷ []) s.kept
+      ∙ ap (λ x. line_starts s.done ++ x ∷ []) (same_start chars_are bytes_are)
+      ∙ sym (starts_push s.done s.opened)
+      ∙ ap line_starts (sym (last_line s.done s.opened (chars text) at_end case))

@@ -2,6 +2,7 @@ pub mod Lines
 pub mod Separators
 pub mod Locations
 pub mod Table
+pub mod Starts
 pub mod Ranges
 pub mod Listing
 pub mod Cache

@@ -13,18 +13,21 @@ ghost use Rattle.ariadne_base.specs.Lines.{AreLinesOf};
 ghost use Rattle.ariadne_base.specs.Listing.{listed_lines};
 ghost use Rattle.ariadne_base.specs.Locations.{byte_len, line_text};
 ghost use Rattle.ariadne_base.specs.Table.{byte_end, line_extent, line_table, location_of};
+ghost use Rattle.ariadne_base.specs.Starts.{line_begins};
 ghost use Rattle.ariadne_base.specs.Ranges.{first_line, line_end, line_number, IsCutOut};
 
 mod halving;
 pub mod line;
 pub mod lines;
 mod scan;
+mod start;
 
 use crate::span::Span;
 use crate::text::SourceText;
 use halving::{begun_at, begun_at_byte};
 pub use line::Line;
 pub use lines::SourceLines;
+use start::Start;
 use std::alloc::{AllocError, Global};
 use std::hash::{Hash, Hasher};
 use std::marker::Model;
@@ -42,7 +45,7 @@ use std::str::Chars;
 #[derive(Debug, Drop)]
 pub struct Source<I: SourceText = String> {
     text: I,
-    lines: Vec<Line>,
+    starts: Vec<Start>,
     display_line_offset: usize,
 }
 
@@ -51,14 +54,14 @@ impl<I: SourceText> Model for Source<I> {
     ghost use Rattle.ariadne_base.specs.Lines.{lines_of};
     ghost use Rattle.ariadne_base.specs.Lines.{AreLinesOf};
     ghost use Rattle.ariadne_base.specs.Listing.{Listing};
-    ghost use Rattle.ariadne_base.specs.Table.{line_table};
+    ghost use Rattle.ariadne_base.specs.Starts.{line_starts};
 
     ghost Value = { Listing };
 
     ghost view = { λ s. record { text = I.text s.text; display_offset = s.display_line_offset } };
 
-    ghost invariant = { λ s. (s.lines.items ≡ line_table (lines_of (chars (I.text s.text))))
-        × (s.display_line_offset + length s.lines.items < 2 ^ 64) };
+    ghost invariant = { λ s. (s.starts.items ≡ line_starts (lines_of (chars (I.text s.text))))
+        × (s.display_line_offset + length (lines_of (chars (I.text s.text))) < 2 ^ 64) };
 }
 
 impl<I: SourceText> Source<I> {
@@ -70,10 +73,10 @@ impl<I: SourceText> Source<I> {
         I: Drop,
         ensures { IfOk result (λ s. s ≡ record { text = I.text text; display_offset = 0 }) }
     {
-        let lines = scan::line_table_of(alloc, text.text())?;
+        let starts = scan::line_starts_of(alloc, text.text())?;
         Ok(Source {
             text,
-            lines,
+            starts,
             display_line_offset: 0,
         })
     }
@@ -89,8 +92,8 @@ impl<I: SourceText> Source<I> {
     pub fn len(&self) -> usize
         ensures { result ≡ length (chars self.now.text) }
     {
-        let last = self.lines[self.lines.len() - 1];
-        last.offset + last.len
+        let end = self.starts[self.number_of_lines()];
+        end.chars
     }
 
     /// Whether the text is empty.
@@ -112,7 +115,35 @@ impl<I: SourceText> Source<I> {
     pub fn line(&self, number: usize) -> Option<Line>
         ensures { result ≡ slice_get (line_table (listed_lines self.now)) number }
     {
-        self.lines.get(number).copied()
+        if number < self.number_of_lines() {
+            Some(self.line_at(number))
+        } else {
+            None
+        }
+    }
+
+    /// The line of a number that there is.
+    fn line_at(&self, number: usize) -> Line
+        requires { number < length (listed_lines self.now) }
+        ensures { result ≡ line_extent (listed_lines self.now) number }
+    {
+        let start = self.starts[number];
+        let end = self.starts[number + 1];
+        start.line_to(end)
+    }
+
+    /// The number of lines.
+    fn number_of_lines(&self) -> usize
+        ensures { result ≡ length (listed_lines self.now) }
+    {
+        self.starts.len() - 1
+    }
+
+    /// Where each line begins.
+    fn begins(&self) -> &[Start]
+        ensures { result.now ≡ line_begins (listed_lines self.now) }
+    {
+        &self.starts[..self.number_of_lines()]
     }
 
     /// The lines, in order. They join to this text, and each but the last ends in a terminator. No
@@ -125,7 +156,7 @@ impl<I: SourceText> Source<I> {
         ensures only { (ls : List (List ℕ)) → AreLinesOf (chars self.now.text) ls
             → ls ≡ listed_lines self.now }
     {
-        SourceLines { rest: &self.lines }
+        SourceLines { rest: &self.starts }
     }
 
     /// The same source, whose line numbers are shown with an offset added.
@@ -137,12 +168,12 @@ impl<I: SourceText> Source<I> {
     {
         let Source {
             text,
-            lines,
+            starts,
             display_line_offset: _,
         } = self;
         Source {
             text,
-            lines,
+            starts,
             display_line_offset: offset,
         }
     }
@@ -169,8 +200,8 @@ impl<I: SourceText> Source<I> {
         if offset > self.len() {
             return None;
         }
-        let number = begun_at(&self.lines, offset) - 1;
-        let line = self.lines[number];
+        let number = begun_at(self.begins(), offset) - 1;
+        let line = self.line_at(number);
         Some((line, number, offset - line.offset))
     }
 
@@ -187,8 +218,8 @@ impl<I: SourceText> Source<I> {
         if byte_offset > self.text().len() {
             return None;
         }
-        let number = begun_at_byte(&self.lines, byte_offset) - 1;
-        let line = self.lines[number];
+        let number = begun_at_byte(self.begins(), byte_offset) - 1;
+        let line = self.line_at(number);
         Some((line, number, byte_offset - line.byte_offset))
     }
 
@@ -205,10 +236,11 @@ impl<I: SourceText> Source<I> {
         ensures valid { result.end ≤ length (listed_lines self.now) }
     {
         let last = span.end().saturating_sub(1).max(span.start());
+        let lines = self.number_of_lines();
         let start = self.line_number(span.start()).unwrap_or(0);
         let end = match self.line_number(last) {
             Some(number) => number + 1,
-            None => self.lines.len(),
+            None => lines,
         };
         start..end
     }
@@ -253,17 +285,17 @@ impl<I: SourceText> Source<I> {
         ensures { IfOk result (λ s. s ≡ self.now) }
     {
         let text = self.text.clone()?;
-        let lines = self.lines.clone()?;
+        let starts = self.starts.clone()?;
         Ok(Source {
             text,
-            lines,
+            starts,
             display_line_offset: self.display_line_offset,
         })
     }
 
     /// The memory that the source was made with.
     pub fn memory(&self) -> Global {
-        *self.lines.allocator()
+        *self.starts.allocator()
     }
 }
 

@@ -3,24 +3,24 @@
 ghost use Rattle.std.specs.Prelude.{◌≡◌, ◌≤◌, true, false, length, nat_le};
 ghost use Rattle.std.specs.List.Sorted.{IsNonDecreasingBy, IsPartitionPoint};
 
-use super::line::Line;
+use super::start::Start;
 
 /// How many lines begin at an offset in characters or before it.
-pub(super) fn begun_at(lines: &[Line], offset: usize) -> usize
-    requires { IsNonDecreasingBy (λ l. l.offset) lines.now }
-    ensures bound { result ≤ length lines.now }
-    ensures point { IsPartitionPoint (λ l. nat_le l.offset offset ≡ true)
-        (λ l. nat_le l.offset offset ≡ false) lines.now result }
+pub(super) fn begun_at(starts: &[Start], offset: usize) -> usize
+    requires { IsNonDecreasingBy (λ s. s.chars) starts.now }
+    ensures bound { result ≤ length starts.now }
+    ensures point { IsPartitionPoint (λ s. nat_le s.chars offset ≡ true)
+        (λ s. nat_le s.chars offset ≡ false) starts.now result }
 {
-    lines.partition_point(|line| line.offset() <= offset)
+    starts.partition_point(|start| start.chars <= offset)
 }
 
 /// How many lines begin at an offset in bytes or before it.
-pub(super) fn begun_at_byte(lines: &[Line], offset: usize) -> usize
-    requires { IsNonDecreasingBy (λ l. l.byte_offset) lines.now }
-    ensures bound { result ≤ length lines.now }
-    ensures point { IsPartitionPoint (λ l. nat_le l.byte_offset offset ≡ true)
-        (λ l. nat_le l.byte_offset offset ≡ false) lines.now result }
+pub(super) fn begun_at_byte(starts: &[Start], offset: usize) -> usize
+    requires { IsNonDecreasingBy (λ s. s.bytes) starts.now }
+    ensures bound { result ≤ length starts.now }
+    ensures point { IsPartitionPoint (λ s. nat_le s.bytes offset ≡ true)
+        (λ s. nat_le s.bytes offset ≡ false) starts.now result }
 {
-    lines.partition_point(|line| line.byte_offset() <= offset)
+    starts.partition_point(|start| start.bytes <= offset)
 }

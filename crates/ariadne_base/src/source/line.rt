@@ -48,13 +48,6 @@ impl Line {
         self.offset
     }
 
-    /// The number of bytes of the source before this line.
-    pub(super) fn byte_offset(&self) -> usize
-        ensures { result ≡ self.now.byte_offset }
-    {
-        self.byte_offset
-    }
-
     /// The number of characters of this line, its terminator included.
     pub fn len(&self) -> usize
         ensures { result ≡ self.now.len }

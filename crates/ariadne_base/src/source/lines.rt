@@ -5,6 +5,7 @@ ghost use Rattle.std.specs.Iterator.{YieldsFirst, item_count, at_most, UpTo};
 ghost use Rattle.std.specs.Iterator.SizeHint.{IsWithinCount};
 
 use super::line::Line;
+use super::start::Start;
 use std::marker::Model;
 
 /// An iterator over the [`Line`]s of a source, from the first to the last.
@@ -12,16 +13,29 @@ use std::marker::Model;
 /// Its length is known at each step, and after the last line it returns `None` for good.
 #[derive(Debug, Drop)]
 pub struct SourceLines<'a> {
-    pub(super) rest: &'a [Line],
+    // where each of them begins, and where the last one ends
+    pub(super) rest: &'a [Start],
 }
 
 impl<'a> Model for SourceLines<'a> {
     ghost use Rattle.std.specs.Prelude.{List};
     ghost use Rattle.ariadne_base.specs.Table.{LineExtent};
+    ghost use Rattle.ariadne_base.specs.Starts.{extents, Rise};
 
     ghost Value = { List LineExtent };
 
-    ghost view = { λ s. s.rest.now };
+    ghost view = { λ s. extents s.rest.now };
+
+    ghost invariant = { λ s. Rise s.rest.now };
+}
+
+impl<'a> SourceLines<'a> {
+    /// The number of lines that are left.
+    fn left(&self) -> usize
+        ensures { result ≡ length self.now }
+    {
+        self.rest.len().saturating_sub(1)
+    }
 }
 
 impl<'a> Iterator for SourceLines<'a> {
@@ -32,9 +46,10 @@ impl<'a> Iterator for SourceLines<'a> {
     ghost remaining = { item_count (λ s. s) };
 
     fn next(&mut self) -> Option<Line> {
-        let (first, rest) = self.rest.split_first()?;
+        let (start, rest) = self.rest.split_first()?;
+        let end = rest.first()?;
         self.rest = rest;
-        Some(*first)
+        Some(start.line_to(*end))
     }
 
     fn size_hint(&self) -> (usize, Option<usize>)
@@ -42,12 +57,12 @@ impl<'a> Iterator for SourceLines<'a> {
         ensures upper { IfSome result.1 (UpTo (at_most (length self.now))) }
         ensures exact { result ≡ (length self.now, Some (length self.now)) }
     {
-        (self.rest.len(), Some(self.rest.len()))
+        (self.left(), Some(self.left()))
     }
 }
 
 impl<'a> ExactSizeIterator for SourceLines<'a> {
     fn len(&self) -> usize {
-        self.rest.len()
+        self.left()
     }
 }

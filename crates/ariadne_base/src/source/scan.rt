@@ -4,11 +4,14 @@ ghost use Rattle.std.specs.Prelude.{◌≡◌, IfOk};
 ghost use Rattle.std.specs.Str.{chars};
 ghost use Rattle.ariadne_base.specs.Lines.{is_separator as separates, ends_line as is_last_of_line};
 ghost use Rattle.ariadne_base.specs.Lines.{begins_with_line_feed as begins_in_line_feed, lines_of};
-ghost use Rattle.ariadne_base.specs.Table.{line_table};
+ghost use Rattle.ariadne_base.specs.Starts.{line_starts};
 
-use super::line::Line;
+use super::start::Start;
 use crate::blocks::run::plain_run;
 use std::alloc::{AllocError, Global};
+
+/// How many starts there is room for at first: those of seven lines, and the end of the last.
+const ROOM: usize = 8;
 
 /// Whether a character ends a line.
 #[tactic(auto, using(std::proofs::lemmas::Bool::Decides::nat_tests), unfolding(crate::specs::Lines::is_separator))]
@@ -36,28 +39,23 @@ fn ends_line(c: char, rest: &str) -> bool
     is_separator(c) && !(c == '\r' && begins_with_line_feed(rest))
 }
 
-/// The lines of a text, each with its location in characters and in bytes, in one pass over the
-/// text.
-pub(super) fn line_table_of(alloc: Global, text: &str) -> Result<Vec<Line>, AllocError>
-    ensures { IfOk result (λ v. v.items ≡ line_table (lines_of (chars text.now))) }
+/// Where each line of a text begins and the text ends, in one pass over the text.
+pub(super) fn line_starts_of(alloc: Global, text: &str) -> Result<Vec<Start>, AllocError>
+    ensures { IfOk result (λ v. v.items ≡ line_starts (lines_of (chars text.now))) }
 {
-    let mut lines = Vec::new(alloc);
-    let mut offset = 0;
-    let mut byte_offset = 0;
+    let mut starts = Vec::with_capacity(alloc, ROOM)?;
+    starts.push(Start::FIRST)?;
+    let mut begun = 0;
     let mut at = 0;
     let mut rest = text.chars();
     while let Some(c) = rest.next() {
         at += 1;
         if ends_line(c, rest.as_str()) {
-            let byte_at = text.len() - rest.as_str().len();
-            lines.push(Line {
-                offset,
-                len: at - offset,
-                byte_offset,
-                byte_len: byte_at - byte_offset,
+            starts.push(Start {
+                chars: at,
+                bytes: text.len() - rest.as_str().len(),
             })?;
-            offset = at;
-            byte_offset = byte_at;
+            begun = at;
         } else {
             // No line ends before the next separator.
             let run = plain_run(rest.as_str());
@@ -65,13 +63,11 @@ pub(super) fn line_table_of(alloc: Global, text: &str) -> Result<Vec<Line>, Allo
             rest = rest.as_str()[run.bytes..].chars();
         }
     }
-    if offset < at || lines.is_empty() {
-        lines.push(Line {
-            offset,
-            len: at - offset,
-            byte_offset,
-            byte_len: text.len() - byte_offset,
+    if begun < at || starts.len() == 1 {
+        starts.push(Start {
+            chars: at,
+            bytes: text.len(),
         })?;
     }
-    Ok(lines)
+    Ok(starts)
 }

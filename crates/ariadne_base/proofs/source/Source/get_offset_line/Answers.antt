@@ -1,49 +1,51 @@
-use Rattle.std.proofs.Common.{ap, ◌∙◌, sym, length, get_or, ◌-◌, arith}
+use Rattle.std.proofs.Common.{length, subst, sym, ap, ◌∙◌, ◌-◌, arith}
+use Rattle.std.specs.Str.{chars}
+use Rattle.std.specs.List.Sorted.{IsNonDecreasingBy}
 use Rattle.ariadne_base.specs.Listing.{listed_lines}
-use Rattle.ariadne_base.specs.Table.{LineExtent, line_table, location_of}
-use Rattle.ariadne_base.proofs.LocationLemmas.{rows_rise, offset_is, found_some, found_there, found_begins, found_location}
-use Rattle.ariadne_base.proofs.TableLemmas.{length-line_table}
+use Rattle.ariadne_base.specs.Table.{LineExtent}
+use Rattle.ariadne_base.specs.declared.source.start.Start.{Start}
+use Rattle.ariadne_base.proofs.LocationLemmas.{offset_is}
+use Rattle.ariadne_base.proofs.StartLemmas.{begins_rise, chars_is, found_some, found_there, found_begins, found_location}
 use Rattle.ariadne_base.proofs.source.Source.get_offset_line.Goals as goal
 
--- the rows of the table begin one after another
+-- the lines begin one after another
 pub begun_at-number-requires : goal.begun_at-number-requires
-begun_at-number-requires g c = rows_rise length (λ r. r.offset) offset_is _ _ (c.deref.ensures.value ∙ c.self.invariant.0)
+begun_at-number-requires g c =
+    let ls = listed_lines c.args.self.now in
+    subst (IsNonDecreasingBy (λ (s : Start). s.chars)) (sym c.begins.ensures) (begins_rise length (λ s. s.chars) ls (chars_is ls))
 
 -- the first line begins at 0
 pub overflow_sub-number : goal.overflow_sub-number
 overflow_sub-number g c =
-    found_some length (λ r. r.offset) offset_is _ _ _ _
-    (c.deref.ensures.value ∙ c.self.invariant.0) c.begun_at-number.ensures.bound c.begun_at-number.ensures.point
+    found_some length (λ s. s.chars) chars_is (chars c.args.self.now.text) _ _ _
+    c.begins.ensures c.begun_at-number.ensures.bound c.begun_at-number.ensures.point
 
--- the number found is that of a row
-pub index-line-requires : goal.index-line-requires
-index-line-requires g c =
-    let there = found_there length (λ r. r.offset) offset_is _ _ _ _
-    (c.deref.ensures.value ∙ c.self.invariant.0) c.begun_at-number.ensures.bound c.begun_at-number.ensures.point in
-    omega (arith, c.deref.ensures.len)
+-- the number found is that of a line
+pub line_at-line-requires : goal.line_at-line-requires
+line_at-line-requires g c =
+    found_there length (λ s. s.chars) chars_is (chars c.args.self.now.text) _ _ _
+    c.begins.ensures c.begun_at-number.ensures.bound c.begun_at-number.ensures.point
 
 -- the line found begins at the offset or before it
 pub overflow_sub-result : goal.overflow_sub-result
 overflow_sub-result g c =
-    let row = c.index-line.ensures ∙ ap (λ xs. get_or xs (c.begun_at-number.result - 1) c.index-line.result.now) (sym c.deref.ensures.value) in
-    let begins = found_begins length (λ r. r.offset) offset_is _ _ _ _
-    (c.deref.ensures.value ∙ c.self.invariant.0) c.begun_at-number.ensures.bound c.begun_at-number.ensures.point _ row in
-    omega (arith, ap (λ r. r.offset) c.line.view_is)
+    let begins = found_begins length (λ s. s.chars) chars_is (chars c.args.self.now.text) _ _ _
+    c.begins.ensures c.begun_at-number.ensures.bound c.begun_at-number.ensures.point in
+    let line = ap (λ (r : LineExtent). r.offset) (c.line.view_is ∙ c.line_at-line.ensures)
+    ∙ offset_is (listed_lines c.args.self.now) (c.begun_at-number.result - 1) in
+    omega arith
 
 -- the line found, its number and the rest of the offset are the location
 pub returns-clause-location : goal.returns-clause-location
 returns-clause-location g c =
-    let row = c.index-line.ensures ∙ ap (λ xs. get_or xs (c.begun_at-number.result - 1) c.index-line.result.now) (sym c.deref.ensures.value) in
-    ap (λ (r : LineExtent). (c.index-line.result.now, c.begun_at-number.result - 1, c.args.offset - r.offset)) c.line.view_is
-    ∙ found_location length (λ r. r.offset) offset_is _ _ _ _
-    (c.deref.ensures.value ∙ c.self.invariant.0) c.begun_at-number.ensures.bound c.begun_at-number.ensures.point _ row
-    ∙ ap (λ s. location_of length (listed_lines s) c.args.offset) c.self.view_is
+    let line = ap (λ (r : LineExtent). r.offset) (c.line.view_is ∙ c.line_at-line.ensures)
+    ∙ offset_is (listed_lines c.args.self.now) (c.begun_at-number.result - 1) in
+    found_location length (λ s. s.chars) chars_is (chars c.args.self.now.text) _ _ _
+    c.begins.ensures c.begun_at-number.ensures.bound c.begun_at-number.ensures.point
+    c.line_at-line.result c.line.inside.offset c.line_at-line.ensures line
 
--- there are as many lines as rows of the table
+-- it is a line
 pub returns-clause-number : goal.returns-clause-number
 returns-clause-number g c =
-    let rows = ap length c.self.invariant.0 ∙ ap (λ s. length (line_table (listed_lines s))) c.self.view_is
-    ∙ length-line_table (listed_lines c.args.self.now) in
-    let there = found_there length (λ r. r.offset) offset_is _ _ _ _
-    (c.deref.ensures.value ∙ c.self.invariant.0) c.begun_at-number.ensures.bound c.begun_at-number.ensures.point in
-    omega (arith, c.deref.ensures.len)
+    found_there length (λ s. s.chars) chars_is (chars c.args.self.now.text) _ _ _
+    c.begins.ensures c.begun_at-number.ensures.bound c.begun_at-number.ensures.point

@@ -1,11 +1,11 @@
 use Rattle.std.proofs.Common.{leb, rules}
 use Rattle.std.proofs.lemmas.List.Sorted.{IsPartitionPoint-from_clause, IsPartitionedBy-leb}
-use Rattle.ariadne_base.specs.Table.{LineExtent}
+use Rattle.ariadne_base.specs.declared.source.start.Start.{Start}
 use Rattle.ariadne_base.proofs.source.halving.begun_at.Goals as goal
 
 -- lines that rise are parted by the offset, and the closure tells the two parts
 pub returns-clause-point : goal.returns-clause-point
 returns-clause-point c =
-    let parted = IsPartitionedBy-leb (λ (l : LineExtent). l.offset) _ c.args.offset c.requires in
-    IsPartitionPoint-from_clause (λ (l : LineExtent). leb l.offset c.args.offset) _ _ c.partition_point.ensures.partitioned parted
+    let parted = IsPartitionedBy-leb (λ (s : Start). s.chars) _ c.args.offset c.requires in
+    IsPartitionPoint-from_clause (λ (s : Start). leb s.chars c.args.offset) _ _ c.partition_point.ensures.partitioned parted
     (λ a r q k. search rules)
