@@ -15,7 +15,7 @@ fn a_refused_request_is_told_and_no_line_is_cut(rt: HostRuntime) {
     let folder = Folder::new(&rt).expect(&rt, "a folder");
     let path = folder.file_of(&rt, "a", FILE).expect(&rt, "a file");
     let line =
-        "{\"kind\":\"error\",\"message\":\"m\",\"labels\":[{\"file\":\"@\",\"start\":[1,5]}]}\n@:9: note: n\n";
+        "{\"kind\":\"error\",\"name\":\"n\",\"message\":\"m\",\"labels\":[{\"file\":\"@\",\"start\":[1,5]}]}\n@:9: note: n\n";
     let line = with_path(alloc, line, path.as_str()).expect(&rt, "memory");
     let (shown, whole) = show_refused(&rt, line.as_bytes(), 0);
     assert!(rt; shown.is_ok(), "with nothing refused");

@@ -1,6 +1,6 @@
 -- Reports about diagnostics.
 use Rattle.std.proofs.Common.{◌≡◌, ◌∙◌, ap, refl, sym, append-nil, []}
-use Rattle.std.specs.Prelude.{ℕ, List, ◌++◌, Option, Some, None, option_map, String, string_bytes}
+use Rattle.std.specs.Prelude.{ℕ, List, Option, Some, None, option_map, String, string_bytes}
 use Rattle.std.specs.declared.alloc.Global.{Global}
 use Rattle.std.specs.declared.ops.Range.{Range}
 use Rattle.ariadne.specs.Building.{filled_code}
@@ -25,7 +25,7 @@ coded-code (Some code) r none = refl
 
 -- a report that is begun with a kind and a text that has the message of a diagnostic, and with its code
 pub about : (told : Diagnostic) (r0 r s : ReportFields (ℕ × Range ℕ)) (kind : Kind) (text : List ℕ) → r0.kind ≡ kind
-    → r0.code ≡ None → r ≡ record r0 { message = Some (visible_bytes OneRow text) } → IsOfKind told.severity kind
+    → r0.code ≡ None → r ≡ record r0 { message = Some (visible_bytes OneRow text) } → IsOfKind told kind
     → Says told text → s ≡ coded told.code r → IsAbout told s
 about told r0 r s kind text kinds codes made is says same = rw same (record {
   kind = rw (coded-kind told.code r ∙ ap (λ (x : ReportFields (ℕ × Range ℕ)). x.kind) made ∙ kinds) is;

@@ -1,13 +1,15 @@
 -- What is drawn of a diagnostic: pictures of reports over the files that were read, of which the first
 -- has the diagnostic's kind, its code and its message. What input and output know of their bytes is
 -- given before and after each step.
-use Rattle.std.specs.Prelude.{ℕ, ◌≡◌, List, ◌++◌, Option, Some, None, option_map, Ok, Vec}
-use Rattle.std.specs.Prelude.{String, string_bytes, ⊤}
+use Rattle.std.specs.Prelude.{ℕ, ◌≡◌, List, [], ◌++◌, Option, Some, None, option_map, Ok}
+use Rattle.std.specs.Prelude.{String, string_bytes, unwrap_or, Vec, ⊤}
 use Rattle.std.specs.declared.alloc.Global.{Global}
 use Rattle.std.specs.declared.ops.Range.{Range}
 use Rattle.ariadne.specs.Building.{filled_code}
 use Rattle.ariadne.specs.LeftOut.{LeftOut}
-use Rattle.ariadne.specs.Report.{Kind, ReportFields, error, warning}
+use Rattle.ariadne.specs.Color.{Color}
+use Rattle.ariadne.specs.Color.TheVariants.{Fixed, Red, Yellow}
+use Rattle.ariadne.specs.Report.{Kind, ReportFields, error, warning, custom}
 use Rattle.ariadne_visible.specs.Pictures.{GotNothingHidden}
 use Rattle.ariadne_visible.specs.Visible.{visible_bytes}
 use Rattle.ariadne_visible.specs.declared.text.TextKind.TheVariants.{OneRow}
@@ -15,21 +17,44 @@ use Rattle.ariadne_safe.specs.Reports.{WrittenFor}
 use Rattle.ariadne_safe.specs.declared.sources.SafeSource.{SafeSource}
 use Rattle.ariadne_safe.specs.declared.sources.NoSource.{NoSource}
 use Rattle.ariadne_told.specs.declared.diagnostic.Diagnostic.{Diagnostic}
+use Rattle.ariadne_told.specs.declared.diagnostic.OwnKind.{OwnKind}
 use Rattle.ariadne_told.specs.declared.diagnostic.Severity.{Severity}
 use Rattle.ariadne_told.specs.declared.diagnostic.Severity.TheVariants.{Error, Warning, Note}
 
 -- ---- what a report is about
 
 -- errors and warnings are of these kinds
-abbrev pub IsOfKind : Severity → Kind → Type 0
-IsOfKind Error kind = kind ≡ error
-IsOfKind Warning kind = kind ≡ warning
-IsOfKind Note kind = ⊤
+abbrev pub IsOfSeverity : Severity → Kind → Type 0
+IsOfSeverity Error kind = kind ≡ error
+IsOfSeverity Warning kind = kind ≡ warning
+IsOfSeverity Note kind = ⊤
+
+-- and severities have these colours
+abbrev pub severity_color : Severity → Color
+severity_color Error = Red
+severity_color Warning = Yellow
+severity_color Note = Fixed 147
+
+-- the name of a diagnostic's own kind
+abbrev pub own_name : Option OwnKind → List ℕ
+own_name None = []
+own_name (Some own) = string_bytes own.name
+
+-- a kind is a diagnostic's own, with its name as it can be shown, and the colour of the severity where
+-- it has none; or that of the severity
+abbrev pub IsKindFor : Option OwnKind → Severity → Kind → Type 0
+IsKindFor None severity kind = IsOfSeverity severity kind
+IsKindFor (Some own) severity kind =
+    kind ≡ custom (visible_bytes OneRow (string_bytes own.name))
+    (unwrap_or own.color (severity_color severity))
+
+abbrev pub IsOfKind : Diagnostic → Kind → Type 0
+IsOfKind told kind = IsKindFor told.own_kind told.severity kind
 
 -- a report has the kind, the code and the message of a diagnostic, as they can be shown; the place may
 -- stand before the message, and why that is not drawn behind it
 pub record IsAbout (told : Diagnostic) (report : ReportFields (ℕ × Range ℕ)) : Type 0 where
-  pub kind : IsOfKind told.severity report.kind
+  pub kind : IsOfKind told report.kind
   pub code : report.code
       ≡ option_map (λ code. filled_code (visible_bytes OneRow (string_bytes code))) told.code
   pub before : List ℕ

@@ -1,11 +1,14 @@
 //! A diagnostic as reports over the files that it is about.
 
-ghost use Rattle.std.specs.Prelude.{ℕ, ◌≡◌, List, ◌++◌, string_bytes, IfOk, OnOk};
+ghost use Rattle.std.specs.Prelude.{ℕ, ◌≡◌, true, List, ◌++◌, string_bytes, IfOk, OnOk};
 ghost use Rattle.ariadne.specs.Kinds.{kind_of as kind_of_fields};
+ghost use Rattle.ariadne_visible.specs.Visible.{is_shown, visible_bytes};
+ghost use Rattle.ariadne_visible.specs.declared.text.TextKind.TheVariants.{OneRow};
 ghost use Rattle.ariadne_safe.specs.Building.{kind_in, made_of, report_of as report_in};
 ghost use Rattle.ariadne_safe.specs.Building.{sources_below};
-ghost use Rattle.ariadne_show.specs.Drawn.{coded, AreDrawn, HaveOneHead, IsAbout, IsDrawn};
-ghost use Rattle.ariadne_show.specs.Drawn.{IsHeadDrawn, IsOfKind, IsPicture, IsToldDrawn, Says};
+ghost use Rattle.ariadne_show.specs.Drawn.{coded, own_name as own_name_in, AreDrawn, HaveOneHead};
+ghost use Rattle.ariadne_show.specs.Drawn.{severity_color, IsAbout, IsDrawn, IsHeadDrawn, IsOfKind};
+ghost use Rattle.ariadne_show.specs.Drawn.{IsOfSeverity, IsPicture, IsToldDrawn, Says};
 
 use crate::fault::Fault;
 use crate::options::Style;
@@ -13,6 +16,7 @@ use crate::shelf::Shelf;
 use ariadne::{CharSet, Color, Config, Label, ReportKind};
 use ariadne_safe::{SafeBuilder, SafeKind, SafeReport};
 use ariadne_told::{Diagnostic, Place, Severity};
+use ariadne_visible::{TextKind, visible};
 use std::alloc::{AllocError, Global};
 use std::io::Write;
 use std::ops::Range;
@@ -26,6 +30,42 @@ const BESIDE: Color = Color::Blue;
 /// A span of the source with a number.
 type Piece = (usize, Range<usize>);
 
+/// A diagnostic, and the name of its own kind, as it can be shown; empty where it has none.
+#[derive(Debug, Drop)]
+struct Titled<'a> {
+    told: &'a Diagnostic,
+    name: String,
+    ghost name_is_told: { string_bytes name ≡ visible_bytes OneRow (own_name_in told.now.own_kind) },
+    ghost name_is_shown: { is_shown OneRow (string_bytes name) ≡ true },
+}
+
+impl<'a> Titled<'a> {
+    /// The diagnostic with the name of its own kind.
+    fn new(alloc: Global, told: &'a Diagnostic) -> Result<Titled<'a>, AllocError>
+        ensures { IfOk result (λ titled. titled.told.now ≡ told.now) }
+    {
+        let name = visible(alloc, own_name(told), TextKind::OneRow)?;
+        Ok(Titled { told, name })
+    }
+
+    /// The kind of its reports.
+    fn kind(&self) -> SafeKind<'_>
+        ensures { IsOfKind self.now.told.now (kind_of_fields (kind_in result)) }
+    {
+        let severity = self.told.severity;
+        match &self.told.own_kind {
+            Some(own) => {
+                let color = own.color.unwrap_or(color_of(severity));
+                match SafeKind::new(ReportKind::Custom(self.name.as_str(), color)) {
+                    Some(kind) => kind,
+                    None => SafeKind::error(),
+                }
+            }
+            None => kind_of(severity),
+        }
+    }
+}
+
 /// A place that a file has.
 #[derive(Clone, Copy, Debug)]
 struct FoundPlace<'a> {
@@ -38,7 +78,6 @@ struct FoundPlace<'a> {
 
 /// Draws a diagnostic over its files, which were read; in one line, where that is asked for; in lines
 /// where its own place can't be had, which the last of them says. The one line says it too.
-#[tactic(auto, using(crate::proofs::Chains::head_if))]
 pub fn draw<W: Write>(
     alloc: Global,
     shelf: &Shelf,
@@ -48,17 +87,34 @@ pub fn draw<W: Write>(
 ) -> Result<(), Fault>
     ensures { OnOk result (IsToldDrawn told.now (W.contents out.old) (W.contents out.new)) }
 {
+    let titled = Titled::new(alloc, told)?;
+    draw_titled(alloc, shelf, &titled, style, out)
+}
+
+/// Draws a diagnostic so, with the name of its kind.
+#[tactic(auto, using(crate::proofs::Chains::head_if))]
+fn draw_titled<W: Write>(
+    alloc: Global,
+    shelf: &Shelf,
+    titled: &Titled<'_>,
+    style: Style,
+    out: &mut W,
+) -> Result<(), Fault>
+    ensures { OnOk result
+        (IsToldDrawn titled.now.told.now (W.contents out.old) (W.contents out.new)) }
+{
+    let told = titled.told;
     if style.is_short {
-        return draw_line(alloc, shelf, told, style, out);
+        return draw_line(alloc, shelf, titled, style, out);
     }
     let Some(main) = told.main_place() else {
-        draw_line(alloc, shelf, told, style, out)?;
+        draw_line(alloc, shelf, titled, style, out)?;
         return draw_asides(alloc, shelf, told, style, out);
     };
     match found_place(shelf, main) {
-        Some(it) => draw_report(&report_of(alloc, shelf, told, it, style)?, out),
+        Some(it) => draw_report(&report_of(alloc, shelf, titled, it, style)?, out),
         None => {
-            draw_line(alloc, shelf, told, style, out)?;
+            draw_line(alloc, shelf, titled, style, out)?;
             draw_asides(alloc, shelf, told, style, out)?;
             let text = missing_text(alloc, shelf, main)?;
             draw_text(alloc, shelf, note_kind(), text.as_str(), style, out)
@@ -95,16 +151,17 @@ fn draw_text<W: Write>(
 fn draw_line<W: Write>(
     alloc: Global,
     shelf: &Shelf,
-    told: &Diagnostic,
+    titled: &Titled<'_>,
     style: Style,
     out: &mut W,
 ) -> Result<(), Fault>
-    ensures { OnOk result (IsHeadDrawn told.now (W.contents out.old) (W.contents out.new)) }
+    ensures { OnOk result
+        (IsHeadDrawn titled.now.told.now (W.contents out.old) (W.contents out.new)) }
 {
-    let text = line_text(alloc, shelf, told, style)?;
-    let kind = kind_of(told.severity);
+    let text = line_text(alloc, shelf, titled.told, style)?;
+    let kind = titled.kind();
     let builder = SafeBuilder::new(alloc, shelf.sources(), kind, (0, 0..0), config_of(style));
-    let builder = with_code(builder.with_message(text.as_str())?, told)?;
+    let builder = with_code(builder.with_message(text.as_str())?, titled.told)?;
     draw_report(&builder.finish(), out)
 }
 
@@ -203,13 +260,14 @@ fn found_place<'a>(shelf: &Shelf, place: &'a Place) -> Option<FoundPlace<'a>> {
 fn report_of<'s>(
     alloc: Global,
     shelf: &'s Shelf,
-    told: &Diagnostic,
+    titled: &'s Titled<'_>,
     main: FoundPlace<'_>,
     style: Style,
 ) -> Result<SafeReport<'s>, AllocError>
-    ensures { IfOk result (λ report. IsAbout told.now (report_in report)) }
+    ensures { IfOk result (λ report. IsAbout titled.now.told.now (report_in report)) }
 {
-    let kind = kind_of(told.severity);
+    let told = titled.told;
+    let kind = titled.kind();
     let span = (main.number, main.caret..main.end.max(main.caret));
     let builder = SafeBuilder::new(alloc, shelf.sources(), kind, span, config_of(style));
     let builder = with_code(builder.with_message(told.message.as_str())?, told)?;
@@ -259,12 +317,16 @@ fn label_of(
     severity: Severity,
     it: &FoundPlace<'_>,
 ) -> Result<Label<Piece>, AllocError> {
-    let color = if it.place.is_primary {
+    let look = it.place.look;
+    let own_color = if it.place.is_primary {
         color_of(severity)
     } else {
         BESIDE
     };
-    let label = Label::new((it.number, it.start..it.end.max(it.start))).with_color(color);
+    let label = Label::new((it.number, it.start..it.end.max(it.start)))
+        .with_color(look.color.unwrap_or(own_color))
+        .with_order(look.order)
+        .with_priority(look.priority);
     match place_text(it.place) {
         "" => Ok(label),
         said => label.with_message(alloc, said),
@@ -305,9 +367,19 @@ fn with_asides<'s>(
     Ok(builder)
 }
 
-/// The kind of a report.
+/// The name of a diagnostic's own kind; empty where it has none.
+fn own_name(told: &Diagnostic) -> &str
+    ensures { result.now ≡ own_name_in told.now.own_kind }
+{
+    match &told.own_kind {
+        Some(own) => own.name.as_str(),
+        None => "",
+    }
+}
+
+/// The kind of the reports of diagnostics without a kind of their own.
 fn kind_of(severity: Severity) -> SafeKind<'static>
-    ensures { IsOfKind severity (kind_of_fields (kind_in result)) }
+    ensures { IsOfSeverity severity (kind_of_fields (kind_in result)) }
 {
     match severity {
         Severity::Error => SafeKind::error(),
@@ -324,8 +396,10 @@ fn note_kind() -> SafeKind<'static> {
     }
 }
 
-/// The colour of the label at a diagnostic's own place.
-fn color_of(severity: Severity) -> Color {
+/// The colour of a severity: that of the label at a diagnostic's own place, and of its kind.
+fn color_of(severity: Severity) -> Color
+    ensures { result ≡ severity_color severity }
+{
     match severity {
         Severity::Error => Color::Red,
         Severity::Warning => Color::Yellow,

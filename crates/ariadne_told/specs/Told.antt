@@ -146,6 +146,7 @@ pub record IsOwnPlace (head : Head) (place : Place) : Type 0 where
 -- a diagnostic is what a head tells: of its severity, code and message, about its place first
 pub record IsOfHead (head : Head) (told : Diagnostic) : Type 0 where
   pub severity : told.severity ≡ head.severity
+  pub own_kind : told.own_kind ≡ None
   pub code : option_map string_bytes told.code ≡ head.code
   pub message : string_bytes told.message ≡ head.message
   pub own : Place

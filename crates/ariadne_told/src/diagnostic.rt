@@ -3,6 +3,7 @@
 ghost use Rattle.std.specs.Prelude.{◌≡◌, [], false, IfOk, None, string_bytes};
 ghost use Rattle.ariadne_told.specs.Severities.{severity_of};
 
+use ariadne_color::Color;
 use ariadne_columns::Unit;
 use std::alloc::{AllocError, Global};
 
@@ -55,6 +56,18 @@ pub enum End {
     OfWord,
 }
 
+/// How a place is drawn.
+#[derive(Clone, Copy, Debug, Default, PartialEq, Eq)]
+pub struct Look {
+    /// Its label's order: those of a lower one are drawn first. It is 0 where none is told.
+    pub order: i32,
+    /// Its label's priority: that of the highest is seen where labels overlap. It is 0 where none is
+    /// told.
+    pub priority: i32,
+    /// Its colour, if one is told.
+    pub color: Option<Color>,
+}
+
 /// A piece of a file, and what is said of it.
 #[derive(Debug, Drop)]
 pub struct Place {
@@ -74,6 +87,17 @@ pub struct Place {
     pub text: String,
     /// Whether the diagnostic is about this place.
     pub is_primary: bool,
+    /// How it is drawn.
+    pub look: Look,
+}
+
+/// A kind of the tool's own.
+#[derive(Debug, Drop)]
+pub struct OwnKind {
+    /// What it is called.
+    pub name: String,
+    /// Its colour, if one is told.
+    pub color: Option<Color>,
 }
 
 /// What a tool tells.
@@ -81,6 +105,8 @@ pub struct Place {
 pub struct Diagnostic {
     /// How bad it is.
     pub severity: Severity,
+    /// What it is called in place of its severity, if anything.
+    pub own_kind: Option<OwnKind>,
     /// Its code, as `E0308` or `-Wunused`.
     pub code: Option<String>,
     /// What it says.
@@ -99,6 +125,7 @@ impl Diagnostic {
     /// A diagnostic that says this, and has nothing else yet.
     pub fn new(alloc: Global, severity: Severity, message: &str) -> Result<Diagnostic, AllocError>
         ensures severity { IfOk result (λ told. told.severity ≡ severity) }
+        ensures own_kind { IfOk result (λ told. told.own_kind ≡ None) }
         ensures code { IfOk result (λ told. told.code ≡ None) }
         ensures message { IfOk result (λ told. string_bytes told.message ≡ message.now) }
         ensures places { IfOk result (λ told. told.places.items ≡ []) }
@@ -106,6 +133,7 @@ impl Diagnostic {
     {
         Ok(Diagnostic {
             severity,
+            own_kind: None,
             code: None,
             message: String::from_str(alloc, message)?,
             places: Vec::new(alloc),

@@ -5,7 +5,7 @@ ghost use Rattle.std.specs.List.{list_all};
 ghost use Rattle.serde_json.specs.View.{items_view, view};
 ghost use Rattle.ariadne_told.specs.Told.{is_gcc, is_gcc_list, tells_gcc};
 
-use crate::diagnostic::{Diagnostic, End, Place, Severity, Spot};
+use crate::diagnostic::{Diagnostic, End, Look, Place, Severity, Spot};
 use crate::json::{copied_text, items, number, text};
 use ariadne_columns::Unit;
 use serde_json::Value;
@@ -195,6 +195,7 @@ fn push_place(
         is_past_mark: true,
         text: String::from_str(alloc, said)?,
         is_primary,
+        look: Look::default(),
     })?;
     Ok(())
 }

@@ -2,6 +2,7 @@
 //! these tell.
 #![tactic(auto)]
 
+mod colors;
 pub mod diagnostic;
 mod gcc;
 mod json;
@@ -11,5 +12,5 @@ mod rustc;
 pub mod telling;
 
 pub use ariadne_columns::Unit;
-pub use diagnostic::{Diagnostic, End, Place, Severity, Spot};
+pub use diagnostic::{Diagnostic, End, Look, OwnKind, Place, Severity, Spot};
 pub use telling::{Format, Reading, told};

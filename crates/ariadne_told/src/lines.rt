@@ -19,7 +19,7 @@ ghost use Rattle.ariadne_told.specs.Heads.{spot_behind as spot_behind_mark, word
 ghost use Rattle.ariadne_told.specs.ToldLines.{head_told, GoesOn, IsCutAtColon};
 ghost use Rattle.ariadne_told.specs.Told.{IsOfHead, IsOwnPlace};
 
-use crate::diagnostic::{Diagnostic, End, Place, Severity, Spot};
+use crate::diagnostic::{Diagnostic, End, Look, Place, Severity, Spot};
 use ariadne_columns::Unit;
 use std::alloc::{AllocError, Global};
 
@@ -438,6 +438,7 @@ fn place_in(
         is_past_mark: false,
         text: String::new(alloc),
         is_primary: false,
+        look: Look::default(),
     })
 }
 

@@ -6,7 +6,8 @@ ghost use Rattle.serde_json.specs.View.{items_view, view};
 ghost use Rattle.ariadne_told.specs.Told.{all_items, begins_with_number, items_in, list_at, number_of};
 ghost use Rattle.ariadne_told.specs.Told.{is_label as is_of_label, is_report as is_of_report};
 
-use crate::diagnostic::{Diagnostic, End, Place, Severity, Spot};
+use crate::colors::color;
+use crate::diagnostic::{Diagnostic, End, Look, OwnKind, Place, Severity, Spot};
 use crate::json::{copied_text, has_list, is_true, items, text};
 use ariadne_columns::Unit;
 use serde_json::Value;
@@ -77,11 +78,23 @@ pub(crate) fn told_by_report(alloc: Global, value: &Value) -> Result<Diagnostic,
     let severity = text(value, "kind").and_then(Severity::of);
     let message = text(value, "message").unwrap_or("");
     let mut told = Diagnostic::new(alloc, severity.unwrap_or(Severity::Error), message)?;
+    told.own_kind = own_kind(alloc, value)?;
     told.code = copied_text(alloc, value, "code")?;
     push_labels(alloc, &mut told, items(value, "labels"), unit_of(value))?;
     push_texts(alloc, &mut told.notes, items(value, "notes"))?;
     push_texts(alloc, &mut told.helps, items(value, "helps"))?;
     Ok(told)
+}
+
+/// The kind of its own that a report has, if it has one.
+fn own_kind(alloc: Global, value: &Value) -> Result<Option<OwnKind>, AllocError> {
+    match copied_text(alloc, value, "name")? {
+        Some(name) => Ok(Some(OwnKind {
+            name,
+            color: color(value, "name_color"),
+        })),
+        None => Ok(None),
+    }
 }
 
 /// Adds the places of labels. Where none is primary, the first one is.
@@ -123,8 +136,23 @@ fn push_label(
         is_past_mark: false,
         text: String::from_str(alloc, text(label, "text").unwrap_or(""))?,
         is_primary,
+        look: look_of(label),
     })?;
     Ok(())
+}
+
+/// What a label says of its look.
+fn look_of(label: &Value) -> Look {
+    Look {
+        order: number_of_label(label, "order").unwrap_or(0),
+        priority: number_of_label(label, "priority").unwrap_or(0),
+        color: color(label, "color"),
+    }
+}
+
+/// A member that is a whole number of 32 bits.
+fn number_of_label(label: &Value, name: &str) -> Option<i32> {
+    i32::try_from(label.get(name)?.as_i64()?).ok()
 }
 
 /// Adds those of these values that are texts.

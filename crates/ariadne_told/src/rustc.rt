@@ -4,7 +4,7 @@ ghost use Rattle.std.specs.Prelude.{◌≡◌, is_some, option_map};
 ghost use Rattle.serde_json.specs.View.{view};
 ghost use Rattle.ariadne_told.specs.Told.{is_rustc as is_of_rustc, rustc_in};
 
-use crate::diagnostic::{Diagnostic, End, Place, Severity, Spot};
+use crate::diagnostic::{Diagnostic, End, Look, Place, Severity, Spot};
 use crate::json::{copied_text, has_list, is_true, items, number, text};
 use ariadne_columns::Unit;
 use serde_json::Value;
@@ -129,6 +129,7 @@ fn push_place(
         is_past_mark: false,
         text: String::from_str(alloc, said)?,
         is_primary,
+        look: Look::default(),
     })?;
     Ok(())
 }

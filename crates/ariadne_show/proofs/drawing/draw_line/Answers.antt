@@ -11,15 +11,15 @@ use Rattle.ariadne_show.proofs.drawing.draw_line.Goals as goal
 -- the picture of a head
 pub returns : goal.returns
 returns g c =
-    let told = c.args.told.now in
+    let told = c.args.titled.now.told.now in
     let says : Says told c.as_str.result.now =
     subst (λ (text : List ℕ). Says told text) (sym c.as_str.ensures.value) c.in_ok-text.ensures in
     let head : IsAbout told (made_of c.in_ok-builder.builder) =
     about told (made_of c.new-builder.result) (made_of c.in_ok-with_message.field-0) (made_of c.in_ok-builder.builder)
-    (kind_of_fields (kind_in c.kind_of-kind.result)) c.as_str.result.now
+    (kind_of_fields (kind_in c.kind-kind.result)) c.as_str.result.now
     (ap (λ (r : ReportFields (ℕ × Range ℕ)). r.kind) c.new-builder.ensures.report)
     (ap (λ (r : ReportFields (ℕ × Range ℕ)). r.code) c.new-builder.ensures.report)
-    c.in_ok-with_message.ensures.report c.kind_of-kind.ensures says c.in_ok-builder.ensures in
+    c.in_ok-with_message.ensures.report c.kind-kind.ensures says c.in_ok-builder.ensures in
     head_drawn_if c.draw_report.result told (sources_below c.finish.result) (report_in c.finish.result)
     (g.W.Write.contents c.args.out.now) (g.W.Write.contents c.draw_report.new.out)
     (subst (λ (r : ReportFields (ℕ × Range ℕ)). IsAbout told r) (sym c.finish.ensures.report) head) c.draw_report.ensures

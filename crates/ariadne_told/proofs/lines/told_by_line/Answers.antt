@@ -11,6 +11,7 @@ first_one none one all others place e1 e2 e3 = e3 ∙ ap (λ (xs : List Place). 
 pub returns : goal.returns
 returns c = record {
   severity = c.in_ok-told.ensures.severity;
+  own_kind = c.in_ok-told.ensures.own_kind;
   code = c.in_ok-told-2.ensures;
   message = c.in_ok-told.ensures.message;
   own = c.in_ok-own_place.field-0;

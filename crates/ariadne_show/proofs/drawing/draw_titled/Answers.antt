@@ -1,5 +1,5 @@
 use Rattle.ariadne_show.proofs.Chains.{told_if, last_if}
-use Rattle.ariadne_show.proofs.drawing.draw.Goals as goal
+use Rattle.ariadne_show.proofs.drawing.draw_titled.Goals as goal
 
 -- the line, and what stands below it
 pub returns-in_default : goal.returns-in_default
