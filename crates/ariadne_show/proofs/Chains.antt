@@ -1,41 +1,63 @@
 -- Pictures behind pictures.
-use Rattle.std.specs.Prelude.{ℕ, List, Option, Result, Ok, Err, OnOk}
+use Rattle.std.proofs.Common.{◌≡◌, ◌∙◌, ap, refl, sym}
+use Rattle.std.specs.Prelude.{ℕ, Bool, true, false, List, Option, Some, None, Result, Ok, Err, OnOk}
 use Rattle.std.specs.declared.ops.Range.{Range}
 use Rattle.ariadne.specs.Report.{ReportFields}
+use Rattle.ariadne_visible.specs.Visible.{visible_bytes}
+use Rattle.ariadne_visible.specs.declared.text.TextKind.TheVariants.{OneRow}
 use Rattle.ariadne_safe.specs.declared.sources.SafeSource.{SafeSource}
 use Rattle.ariadne_told.specs.declared.diagnostic.Diagnostic.{Diagnostic}
-use Rattle.ariadne_show.specs.Drawn.{AreDrawn, IsAbout, IsDrawn, IsHeadDrawn, IsPicture, IsToldDrawn}
-use Rattle.ariadne_show.specs.Drawn.{no_picture, one_picture_more}
+use Rattle.ariadne_show.specs.Drawn.{AreDrawn, IsAbout, IsBare, IsDrawn, IsHeadDrawn, IsPicture, IsReportOf, IsSaid, IsSaidIfAny, IsToldDrawn}
+use Rattle.ariadne_show.specs.Drawn.{missing_main, no_picture, one_picture_more, in_one, in_line, in_lines}
+use Rattle.ariadne_show.specs.Found.{Files, Found}
+use Rattle.ariadne_show.specs.Labels.{main_in}
+use Rattle.ariadne_show.proofs.Heads.{said_bare}
 
--- the picture of some report, after Ok
-pub drawn_if : {T E : Type 0} (r : Result T E) (sources : List SafeSource) (report : ReportFields (ℕ × Range ℕ))
-    (o p : Option (List ℕ)) → OnOk r (IsPicture sources report o p) → OnOk r (IsDrawn o p)
-drawn_if (Ok x) sources report o p picture = record { sources = sources; report = report; picture = picture }
-drawn_if (Err e) sources report o p picture = tt
+-- the picture of a text, after Ok
+pub said_if : {T E : Type 0} (r : Result T E) (text : List ℕ) (sources : List SafeSource) (r0 built report : ReportFields (ℕ × Range ℕ))
+    (o p : Option (List ℕ)) → IsBare r0 → built ≡ record r0 { message = Some (visible_bytes OneRow text) }
+    → report ≡ built → OnOk r (IsPicture sources report o p) → OnOk r (IsSaid text o p)
+said_if (Ok x) text sources r0 built report o p bare made same picture = record {
+  sources = sources;
+  report = report;
+  message = ap (λ (q : ReportFields (ℕ × Range ℕ)). q.message) (same ∙ made);
+  bare = said_bare r0 report _ bare (same ∙ made);
+  picture = picture;
+}
+said_if (Err e) text sources r0 built report o p bare made same picture = tt
+
+-- it is one of some report
+pub one_more : (text : List ℕ) (o p q : Option (List ℕ)) → AreDrawn o p → IsSaid text p q → AreDrawn o q
+one_more text o p q drawn said =
+    one_picture_more drawn (record { sources = said.sources; report = said.report; picture = said.picture })
 
 -- of one about a diagnostic
 pub head_drawn_if : {T E : Type 0} (r : Result T E) (told : Diagnostic) (sources : List SafeSource)
-    (report : ReportFields (ℕ × Range ℕ)) (o p : Option (List ℕ)) → IsAbout told report
+    (report : ReportFields (ℕ × Range ℕ)) (o p : Option (List ℕ)) → IsAbout told report → IsBare report
     → OnOk r (IsPicture sources report o p) → OnOk r (IsHeadDrawn told o p)
-head_drawn_if (Ok x) told sources report o p about picture =
-    record { sources = sources; report = report; about = about; picture = picture }
-head_drawn_if (Err e) told sources report o p about picture = tt
+head_drawn_if (Ok x) told sources report o p about bare picture =
+    record { sources = sources; report = report; about = about; bare = bare; picture = picture }
+head_drawn_if (Err e) told sources report o p about bare picture = tt
 
--- it alone
-pub head_if : {T E : Type 0} (r : Result T E) (told : Diagnostic) (o p : Option (List ℕ))
-    → OnOk r (IsHeadDrawn told o p) → OnOk r (IsToldDrawn told o p)
-head_if (Ok x) told o p head = record { between = p; head = head; others = no_picture }
-head_if (Err e) told o p head = tt
+-- of the report of one
+pub told_if_in_one : {T E : Type 0} (r : Result T E) (is_short : Bool) (files : Files) (told : Diagnostic) (main : Found)
+    (sources : List SafeSource) (report : ReportFields (ℕ × Range ℕ)) (o p : Option (List ℕ)) → is_short ≡ false
+    → Some main ≡ main_in files told → IsReportOf files told main sources report → OnOk r (IsPicture sources report o p)
+    → OnOk r (IsToldDrawn is_short files told o p)
+told_if_in_one (Ok x) is_short files told main sources report o p long found is picture =
+    in_one main sources report long (sym found) is picture
+told_if_in_one (Err e) is_short files told main sources report o p long found is picture = tt
+
+-- a head alone
+pub told_if_in_line : {T E : Type 0} (r : Result T E) (is_short : Bool) (files : Files) (told : Diagnostic) (o p : Option (List ℕ))
+    → is_short ≡ true → OnOk r (IsHeadDrawn told o p) → OnOk r (IsToldDrawn is_short files told o p)
+told_if_in_line (Ok x) is_short files told o p short head = in_line short head
+told_if_in_line (Err e) is_short files told o p short head = tt
 
 -- others behind it
-pub told_if : {T E : Type 0} (r : Result T E) (told : Diagnostic) (o p q : Option (List ℕ)) → IsHeadDrawn told o p
-    → OnOk r (AreDrawn p q) → OnOk r (IsToldDrawn told o q)
-told_if (Ok x) told o p q head others = record { between = p; head = head; others = others }
-told_if (Err e) told o p q head others = tt
-
--- and one more behind these
-pub last_if : {T E : Type 0} (r : Result T E) (told : Diagnostic) (o m p q : Option (List ℕ)) → IsHeadDrawn told o m
-    → AreDrawn m p → OnOk r (IsDrawn p q) → OnOk r (IsToldDrawn told o q)
-last_if (Ok x) told o m p q head others last =
-    record { between = m; head = head; others = one_picture_more others last }
-last_if (Err e) told o m p q head others last = tt
+pub told_if_in_lines : {T E : Type 0} (r : Result T E) (is_short : Bool) (files : Files) (told : Diagnostic)
+    (o m p q : Option (List ℕ)) → is_short ≡ false → None ≡ main_in files told → IsHeadDrawn told o m → AreDrawn m p
+    → OnOk r (IsSaidIfAny (missing_main files told) p q) → OnOk r (IsToldDrawn is_short files told o q)
+told_if_in_lines (Ok x) is_short files told o m p q long missing head others why =
+    in_lines m p long (sym missing) head others why
+told_if_in_lines (Err e) is_short files told o m p q long missing head others why = tt

@@ -1,14 +1,19 @@
 -- Reports about diagnostics.
 use Rattle.std.proofs.Common.{◌≡◌, ◌∙◌, ap, refl, sym, append-nil, []}
-use Rattle.std.specs.Prelude.{ℕ, List, Option, Some, None, option_map, String, string_bytes}
+use Rattle.std.specs.Prelude.{ℕ, max, List, ◌++◌, Option, Some, None, option_map, String, string_bytes}
 use Rattle.std.specs.declared.alloc.Global.{Global}
 use Rattle.std.specs.declared.ops.Range.{Range}
 use Rattle.ariadne.specs.Building.{filled_code}
-use Rattle.ariadne.specs.Report.{Kind, ReportFields}
+use Rattle.ariadne.specs.Report.{ConfigFields, Kind, LabelFields, ReportFields, new_report}
 use Rattle.ariadne_visible.specs.Visible.{visible_bytes}
 use Rattle.ariadne_visible.specs.declared.text.TextKind.TheVariants.{OneRow}
 use Rattle.ariadne_told.specs.declared.diagnostic.Diagnostic.{Diagnostic}
-use Rattle.ariadne_show.specs.Drawn.{coded, HaveOneHead, IsAbout, IsOfKind, Says}
+use Rattle.ariadne_show.specs.Drawn.{coded, IsAbout, IsBare, IsOfKind, IsReportOf, Says}
+use Rattle.ariadne_show.specs.Asides.{helps_of, notes_of, with_helps, with_notes}
+use Rattle.ariadne_show.specs.Found.{Files, Found}
+use Rattle.ariadne_show.specs.Labels.{AreOrdered, header_of, labels_of, shown_header, with_labels}
+use Rattle.ariadne_safe.specs.Reports.{shown_place}
+use Rattle.ariadne_safe.specs.declared.sources.SafeSource.{SafeSource}
 
 coded-kind : (code : Option (String Global)) (r : ReportFields (ℕ × Range ℕ)) → (coded code r).kind ≡ r.kind
 coded-kind None r = refl
@@ -40,16 +45,75 @@ about told r0 r s kind text kinds codes made is says same = rw same (record {
 pub says_itself : (told : Diagnostic) (text : List ℕ) → text ≡ string_bytes told.message → Says told text
 says_itself told text same = ([], [], same ∙ sym (append-nil (string_bytes told.message)))
 
--- one with the same head
-pub about_same : (told : Diagnostic) (r s : ReportFields (ℕ × Range ℕ)) → IsAbout told r → HaveOneHead r s → IsAbout told s
-about_same told r s about one = record {
-  kind = rw one.kind about.kind;
-  code = one.code ∙ about.code;
+-- a report that is begun so has nothing else
+coded_bare : (code : Option (String Global)) (r : ReportFields (ℕ × Range ℕ)) → IsBare r → IsBare (coded code r)
+coded_bare None r bare = bare
+coded_bare (Some code) r bare = record { labels = bare.labels; notes = bare.notes; helps = bare.helps }
+
+pub begun_bare : (told : Diagnostic) (r0 r s : ReportFields (ℕ × Range ℕ)) (message : Option (List ℕ)) → IsBare r0
+    → r ≡ record r0 { message = message } → s ≡ coded told.code r → IsBare s
+begun_bare told r0 r s message bare made same =
+    rw same (coded_bare told.code r (rw made (record { labels = bare.labels; notes = bare.notes; helps = bare.helps })))
+
+pub said_bare : (r0 s : ReportFields (ℕ × Range ℕ)) (message : Option (List ℕ)) → IsBare r0
+    → s ≡ record r0 { message = message } → IsBare s
+said_bare r0 s message bare made = rw made (record { labels = bare.labels; notes = bare.notes; helps = bare.helps })
+
+pub new_bare : (kind : Kind) (span : ℕ × Range ℕ) (config : ConfigFields) (r : ReportFields (ℕ × Range ℕ))
+    → r ≡ record (new_report kind span) { config = config } → IsBare r
+new_bare kind span config r is = rw is (record { labels = refl; notes = refl; helps = refl })
+
+-- one with labels, notes and helps
+about_more : (told : Diagnostic) (r : ReportFields (ℕ × Range ℕ)) (labels : List (LabelFields (ℕ × Range ℕ)))
+    (notes helps : List (List ℕ)) → IsAbout told r → IsAbout told (with_helps helps (with_notes notes (with_labels labels r)))
+about_more told r labels notes helps about = record {
+  kind = about.kind;
+  code = about.code;
   before = about.before;
   behind = about.behind;
-  message = one.message ∙ about.message;
+  message = about.message;
 }
 
--- each report has its own head
-pub one_head : (r : ReportFields (ℕ × Range ℕ)) → HaveOneHead r r
-one_head r = record { kind = refl; code = refl; message = refl }
+pub report_about : (files : Files) (told : Diagnostic) (main : Found) (ordered : List Found)
+    (r s : ReportFields (ℕ × Range ℕ)) (under sources : List SafeSource) → IsAbout told r → IsBare r
+    → r.span ≡ shown_header r.config.index_type under main → AreOrdered files main.number told.places.items ordered
+    → s ≡ with_helps (helps_of told) (with_notes (notes_of files told)
+    (with_labels (labels_of r.config.index_type under told.severity ordered) r))
+    → sources ≡ under → IsReportOf files told main sources s
+report_about files told main ordered r s under sources about bare span places is same = rw (is, same) (record {
+  about = about_more told r (labels_of r.config.index_type under told.severity ordered) (notes_of files told) (helps_of told) about;
+  span = span;
+  ordered = ordered;
+  places = places;
+  labels = ap (λ l. l ++ labels_of r.config.index_type under told.severity ordered) bare.labels;
+  notes = ap (λ l. l ++ notes_of files told) bare.notes;
+  helps = ap (λ l. l ++ helps_of told) bare.helps;
+})
+
+-- a header that ends at the end of a place
+abbrev header_to : Found → ℕ → ℕ × Range ℕ
+header_to main end = (main.number, record { start = main.caret; end = end })
+
+pub header_ends : (main : Found) (end : ℕ) → end ≡ max main.end main.caret → header_to main end ≡ header_of main
+header_ends main end same = ap (header_to main) same
+
+-- what its header names, from which the report is begun
+coded-span : (code : Option (String Global)) (r : ReportFields (ℕ × Range ℕ)) → (coded code r).span ≡ r.span
+coded-span None r = refl
+coded-span (Some code) r = refl
+
+coded-config : (code : Option (String Global)) (r : ReportFields (ℕ × Range ℕ)) → (coded code r).config ≡ r.config
+coded-config None r = refl
+coded-config (Some code) r = refl
+
+pub begun_span : (told : Diagnostic) (main : Found) (place : ℕ × Range ℕ) (kind : Kind) (config : ConfigFields) (message : Option (List ℕ))
+    (r0 r s : ReportFields (ℕ × Range ℕ)) (sources under : List SafeSource)
+    → place ≡ header_of main
+    → r0 ≡ record (new_report kind (shown_place config.index_type sources place)) { config = config }
+    → r ≡ record r0 { message = message } → s ≡ coded told.code r → under ≡ sources
+    → s.span ≡ shown_header s.config.index_type under main
+begun_span told main place kind config message r0 r s sources under named begun made same over = rw (same, over) (
+    coded-span told.code r ∙ ap (λ (x : ReportFields (ℕ × Range ℕ)). x.span) (made ∙ ap (λ (x : ReportFields (ℕ × Range ℕ)). record x { message = message }) begun)
+    ∙ ap (shown_place config.index_type sources) named
+    ∙ ap (λ (c : ConfigFields). shown_header c.index_type sources main)
+    (sym (coded-config told.code r ∙ ap (λ (x : ReportFields (ℕ × Range ℕ)). x.config) (made ∙ ap (λ (x : ReportFields (ℕ × Range ℕ)). record x { message = message }) begun))))

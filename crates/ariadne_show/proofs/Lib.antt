@@ -1,3 +1,5 @@
 pub mod Chains
 pub mod Heads
 pub mod Lines
+pub mod Notes
+pub mod Ordered

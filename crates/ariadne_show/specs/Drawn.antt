@@ -1,14 +1,13 @@
 -- What is drawn of a diagnostic: pictures of reports over the files that were read, of which the first
 -- has the diagnostic's kind, its code and its message. What input and output know of their bytes is
 -- given before and after each step.
-use Rattle.std.specs.Prelude.{ℕ, ◌≡◌, List, [], ◌++◌, Option, Some, None, option_map, Ok}
+use Rattle.std.specs.Prelude.{ℕ, ◌≡◌, Bool, true, false, List, [], ◌++◌, Option, Some, None}
+use Rattle.std.specs.Prelude.{option_map, Ok}
 use Rattle.std.specs.Prelude.{String, string_bytes, unwrap_or, Vec, ⊤}
 use Rattle.std.specs.declared.alloc.Global.{Global}
 use Rattle.std.specs.declared.ops.Range.{Range}
 use Rattle.ariadne.specs.Building.{filled_code}
 use Rattle.ariadne.specs.LeftOut.{LeftOut}
-use Rattle.ariadne.specs.Color.{Color}
-use Rattle.ariadne.specs.Color.TheVariants.{Fixed, Red, Yellow}
 use Rattle.ariadne.specs.Report.{Kind, ReportFields, error, warning, custom}
 use Rattle.ariadne_visible.specs.Pictures.{GotNothingHidden}
 use Rattle.ariadne_visible.specs.Visible.{visible_bytes}
@@ -20,6 +19,10 @@ use Rattle.ariadne_told.specs.declared.diagnostic.Diagnostic.{Diagnostic}
 use Rattle.ariadne_told.specs.declared.diagnostic.OwnKind.{OwnKind}
 use Rattle.ariadne_told.specs.declared.diagnostic.Severity.{Severity}
 use Rattle.ariadne_told.specs.declared.diagnostic.Severity.TheVariants.{Error, Warning, Note}
+use Rattle.ariadne_told.specs.Told.{main_of}
+use Rattle.ariadne_show.specs.Asides.{helps_of, missing_text, notes_of}
+use Rattle.ariadne_show.specs.Found.{Files, Found}
+use Rattle.ariadne_show.specs.Labels.{severity_color, AreOrdered, labels_of, main_in, shown_header}
 
 -- ---- what a report is about
 
@@ -28,12 +31,6 @@ abbrev pub IsOfSeverity : Severity → Kind → Type 0
 IsOfSeverity Error kind = kind ≡ error
 IsOfSeverity Warning kind = kind ≡ warning
 IsOfSeverity Note kind = ⊤
-
--- and severities have these colours
-abbrev pub severity_color : Severity → Color
-severity_color Error = Red
-severity_color Warning = Yellow
-severity_color Note = Fixed 147
 
 -- the name of a diagnostic's own kind
 abbrev pub own_name : Option OwnKind → List ℕ
@@ -73,11 +70,22 @@ coded None report = report
 coded (Some code) report =
     record report { code = Some (filled_code (visible_bytes OneRow (string_bytes code))) }
 
--- two reports have one head
-pub record HaveOneHead (r s : ReportFields (ℕ × Range ℕ)) : Type 0 where
-  pub kind : s.kind ≡ r.kind
-  pub code : s.code ≡ r.code
-  pub message : s.message ≡ r.message
+-- nothing but a head
+pub record IsBare (report : ReportFields (ℕ × Range ℕ)) : Type 0 where
+  pub labels : report.labels ≡ []
+  pub notes : report.notes ≡ []
+  pub helps : report.helps ≡ []
+
+-- a report has the head, the labels, the notes and the helps of a diagnostic whose own place was found
+pub record IsReportOf (files : Files) (told : Diagnostic) (main : Found) (sources : List SafeSource)
+    (report : ReportFields (ℕ × Range ℕ)) : Type 0 where
+  pub about : IsAbout told report
+  pub span : report.span ≡ shown_header report.config.index_type sources main
+  pub ordered : List Found
+  pub places : AreOrdered files main.number told.places.items ordered
+  pub labels : report.labels ≡ labels_of report.config.index_type sources told.severity ordered
+  pub notes : report.notes ≡ notes_of files told
+  pub helps : report.helps ≡ helps_of told
 
 -- ---- pictures
 
@@ -99,15 +107,40 @@ pub data AreDrawn : Option (List ℕ) → Option (List ℕ) → Type 0 where
   no_picture : {o : Option (List ℕ)} → AreDrawn o o
   one_picture_more : {o p q : Option (List ℕ)} → AreDrawn o p → IsDrawn p q → AreDrawn o q
 
--- that of a report about a diagnostic has
+-- that of a head with a text has, if there is one
+pub record IsSaid (text : List ℕ) (before after : Option (List ℕ)) : Type 0 where
+  pub sources : List SafeSource
+  pub report : ReportFields (ℕ × Range ℕ)
+  pub message : report.message ≡ Some (visible_bytes OneRow text)
+  pub bare : IsBare report
+  pub picture : IsPicture sources report before after
+
+abbrev pub IsSaidIfAny : Option (List ℕ) → Option (List ℕ) → Option (List ℕ) → Type 0
+IsSaidIfAny None before after = after ≡ before
+IsSaidIfAny (Some text) before after = IsSaid text before after
+
+-- that of a report about a diagnostic has, which has nothing but a head
 pub record IsHeadDrawn (told : Diagnostic) (before after : Option (List ℕ)) : Type 0 where
   pub sources : List SafeSource
   pub report : ReportFields (ℕ × Range ℕ)
   pub about : IsAbout told report
+  pub bare : IsBare report
   pub picture : IsPicture sources report before after
 
--- and then those of what it says beside, if it is not all in one
-pub record IsToldDrawn (told : Diagnostic) (before after : Option (List ℕ)) : Type 0 where
-  pub between : Option (List ℕ)
-  pub head : IsHeadDrawn told before between
-  pub others : AreDrawn between after
+-- why the own place of a diagnostic can't be drawn, if it has one
+abbrev pub missing_main : Files → Diagnostic → Option (List ℕ)
+missing_main files told = option_map (missing_text files) (main_of told.places.items)
+
+-- where its own place was found, the picture of the report of a diagnostic has; else that of its head,
+-- and then those of what it says beside, of which the last says why; and where it is to be short, that of
+-- its head alone
+pub data IsToldDrawn (is_short : Bool) (files : Files) (told : Diagnostic)
+    (before after : Option (List ℕ)) : Type 0 where
+  in_one : (main : Found) (sources : List SafeSource) (report : ReportFields (ℕ × Range ℕ))
+      → is_short ≡ false → main_in files told ≡ Some main → IsReportOf files told main sources report
+      → IsPicture sources report before after → IsToldDrawn is_short files told before after
+  in_lines : (headed said : Option (List ℕ)) → is_short ≡ false → main_in files told ≡ None
+      → IsHeadDrawn told before headed → AreDrawn headed said
+      → IsSaidIfAny (missing_main files told) said after → IsToldDrawn is_short files told before after
+  in_line : is_short ≡ true → IsHeadDrawn told before after
+      → IsToldDrawn is_short files told before after

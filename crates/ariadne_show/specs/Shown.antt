@@ -1,6 +1,6 @@
 -- What a run has shown: what has reached its output, step by step, by the lines that it has read. What
 -- input and output know of their bytes is given before and after each step.
-use Rattle.std.specs.Prelude.{ℕ, ◌≡◌, ◌<◌, Bool, false, not, List, [], ◌∷◌, ◌++◌, Option}
+use Rattle.std.specs.Prelude.{ℕ, ◌≡◌, ◌<◌, Bool, false, not, List, [], ◌∷◌, ◌++◌, length, Option}
 use Rattle.std.specs.Prelude.{Some, None, IfSome, Vec, vec_len}
 use Rattle.std.specs.Io.BufRead.{ends_with_byte, strip_last, take_through}
 use Rattle.std.specs.Io.KnownBytes.{Appends, Consumes, IsAtEnd}
@@ -11,14 +11,17 @@ use Rattle.ariadne_told.specs.declared.diagnostic.Diagnostic.{Diagnostic}
 use Rattle.ariadne_told.specs.declared.telling.Format.{Format}
 use Rattle.ariadne_show.specs.declared.sum.Sum.{Sum}
 use Rattle.ariadne_show.specs.Drawn.{IsToldDrawn}
+use Rattle.ariadne_show.specs.Found.{Files}
 use Rattle.ariadne_show.specs.Sums.{counted, line_end, no_sum, sum_text}
 
 -- diagnostics were drawn in their order, each in one picture at least, and counted
-pub data AreTold : List Diagnostic → Option (List ℕ) → Option (List ℕ) → Sum → Sum → Type 0 where
-  none_told : {o : Option (List ℕ)} {sum : Sum} → AreTold [] o o sum sum
+pub data AreTold (is_short : Bool) : List Diagnostic → Option (List ℕ) → Option (List ℕ) → Sum → Sum
+    → Type 0 where
+  none_told : {o : Option (List ℕ)} {sum : Sum} → AreTold is_short [] o o sum sum
   one_told_more : {all : List Diagnostic} {o p q : Option (List ℕ)} {sum total : Sum}
-      → AreTold all o p sum total → (told : Diagnostic) → IsToldDrawn told p q
-      → AreTold (all ++ told ∷ []) o q sum (counted told total)
+      → AreTold is_short all o p sum total → (files : Files) → (told : Diagnostic)
+      → IsToldDrawn is_short files told p q
+      → AreTold is_short (all ++ told ∷ []) o q sum (counted told total)
 
 -- the text of a line: without what ends it, and with U+FFFD in place of what is not UTF-8
 abbrev pub text_of : List ℕ → List ℕ
@@ -30,14 +33,14 @@ IsToldBy format line told = IsTold format (text_of line) told
 
 -- of a line the output got the line as it is, where it tells nothing, and in its place the pictures of
 -- its diagnostics, where it tells some; what it got is open, where it is a line that no line feed ends
-pub data IsShownOf (format : Format) (line : List ℕ) (before after : Option (List ℕ))
+pub data IsShownOf (format : Format) (is_short : Bool) (line : List ℕ) (before after : Option (List ℕ))
     (sum total : Sum) (is_open : Bool) : Type 0 where
   as_it_is : IsToldBy format line None → Appends before after line → total ≡ sum
       → is_open ≡ not (ends_with_byte 10 line)
-      → IsShownOf format line before after sum total is_open
+      → IsShownOf format is_short line before after sum total is_open
   drawn : (all : Vec Diagnostic Global) → IsToldBy format line (Some all) → 0 < vec_len all
-      → AreTold all.items before after sum total → is_open ≡ false
-      → IsShownOf format line before after sum total is_open
+      → AreTold is_short all.items before after sum total → is_open ≡ false
+      → IsShownOf format is_short line before after sum total is_open
 
 -- the next line of an input, with the line feed that ends it, was read
 pub record ReadsLine (before after : Option (List ℕ)) (line : List ℕ) : Type 0 where
@@ -45,26 +48,26 @@ pub record ReadsLine (before after : Option (List ℕ)) (line : List ℕ) : Type
   pub whole : IfSome before (λ bytes. line ≡ take_through 10 bytes)
 
 -- lines were read, and each was shown and counted, in their order
-pub data AreShown (format : Format) : Option (List ℕ) → Option (List ℕ) → Option (List ℕ)
+pub data AreShown (format : Format) (is_short : Bool) : Option (List ℕ) → Option (List ℕ) → Option (List ℕ)
     → Option (List ℕ) → Sum → Sum → Bool → Type 0 where
-  no_line : {i o : Option (List ℕ)} {sum : Sum} → AreShown format i i o o sum sum false
+  no_line : {i o : Option (List ℕ)} {sum : Sum} → AreShown format is_short i i o o sum sum false
   one_line_more : {i j k o p q : Option (List ℕ)} {sum part total : Sum} {was_open is_open : Bool}
-      → AreShown format i j o p sum part was_open → (line : List ℕ) → ReadsLine j k line
-      → IsShownOf format line p q part total is_open → AreShown format i k o q sum total is_open
+      → AreShown format is_short i j o p sum part was_open → (line : List ℕ) → ReadsLine j k line
+      → IsShownOf format is_short line p q part total is_open → AreShown format is_short i k o q sum total is_open
 
 -- all lines of an input were
-pub record AreAllShown (format : Format) (input before after : Option (List ℕ)) (sum total : Sum)
+pub record AreAllShown (format : Format) (is_short : Bool) (input before after : Option (List ℕ)) (sum total : Sum)
     (is_open : Bool) : Type 0 where
   pub rest : Option (List ℕ)
-  pub shown : AreShown format input rest before after sum total is_open
+  pub shown : AreShown format is_short input rest before after sum total is_open
   pub ended : IsAtEnd rest
 
 -- and then the sum of what was told, if there is one, on a line of its own
-pub record IsAllShown (format : Format) (input before after : Option (List ℕ)) (sum : Sum)
+pub record IsAllShown (format : Format) (is_short : Bool) (input before after : Option (List ℕ)) (sum : Sum)
     : Type 0 where
   pub lines : Option (List ℕ)
   pub ended : Option (List ℕ)
   pub is_open : Bool
-  pub shown : AreAllShown format input before lines no_sum sum is_open
+  pub shown : AreAllShown format is_short input before lines no_sum sum is_open
   pub ending : Appends lines ended (line_end is_open (sum_text sum))
   pub total : Appends ended after (sum_text sum)

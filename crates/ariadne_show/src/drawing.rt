@@ -1,16 +1,22 @@
 //! A diagnostic as reports over the files that it is about.
 
-ghost use Rattle.std.specs.Prelude.{ℕ, ◌≡◌, true, List, ◌++◌, string_bytes, IfOk, OnOk};
+ghost use Rattle.std.specs.Prelude.{◌≡◌, true, map, string_bytes, IfOk, OnOk};
 ghost use Rattle.ariadne.specs.Kinds.{kind_of as kind_of_fields};
 ghost use Rattle.ariadne_visible.specs.Visible.{is_shown, visible_bytes};
 ghost use Rattle.ariadne_visible.specs.declared.text.TextKind.TheVariants.{OneRow};
 ghost use Rattle.ariadne_safe.specs.Building.{kind_in, made_of, report_of as report_in};
-ghost use Rattle.ariadne_safe.specs.Building.{sources_below};
-ghost use Rattle.ariadne_show.specs.Drawn.{coded, own_name as own_name_in, AreDrawn, HaveOneHead};
-ghost use Rattle.ariadne_show.specs.Drawn.{severity_color, IsAbout, IsDrawn, IsHeadDrawn, IsOfKind};
-ghost use Rattle.ariadne_show.specs.Drawn.{IsOfSeverity, IsPicture, IsToldDrawn, Says};
+ghost use Rattle.ariadne_safe.specs.Building.{sources_below, sources_under};
+ghost use Rattle.ariadne_show.specs.Asides.{missing_text as text_of_missing};
+ghost use Rattle.ariadne_show.specs.Drawn.{coded, missing_main, own_name as own_name_in, AreDrawn};
+ghost use Rattle.ariadne_show.specs.Drawn.{IsHeadDrawn, IsOfKind, IsOfSeverity, IsPicture};
+ghost use Rattle.ariadne_show.specs.Drawn.{IsReportOf, IsSaid, IsSaidIfAny, IsToldDrawn, Says};
+ghost use Rattle.ariadne_show.specs.Found.{files_of, found_of};
+ghost use Rattle.ariadne_show.specs.Labels.{label_of as label_fields, labels_of, severity_color};
+ghost use Rattle.ariadne_show.specs.Labels.{with_labels as more_labels};
 
+use crate::asides::{place_text, spot_text, with_asides};
 use crate::fault::Fault;
+use crate::found::{FoundPlace, found_main, found_place, ordered_places};
 use crate::options::Style;
 use crate::shelf::Shelf;
 use ariadne::{CharSet, Color, Config, Label, ReportKind};
@@ -66,16 +72,6 @@ impl<'a> Titled<'a> {
     }
 }
 
-/// A place that a file has.
-#[derive(Clone, Copy, Debug)]
-struct FoundPlace<'a> {
-    number: usize,
-    caret: usize,
-    start: usize,
-    end: usize,
-    place: &'a Place,
-}
-
 /// Draws a diagnostic over its files, which were read; in one line, where that is asked for; in lines
 /// where its own place can't be had, which the last of them says. The one line says it too.
 pub fn draw<W: Write>(
@@ -85,14 +81,14 @@ pub fn draw<W: Write>(
     style: Style,
     out: &mut W,
 ) -> Result<(), Fault>
-    ensures { OnOk result (IsToldDrawn told.now (W.contents out.old) (W.contents out.new)) }
+    ensures { OnOk result (IsToldDrawn style.is_short (files_of shelf.now) told.now
+        (W.contents out.old) (W.contents out.new)) }
 {
     let titled = Titled::new(alloc, told)?;
     draw_titled(alloc, shelf, &titled, style, out)
 }
 
 /// Draws a diagnostic so, with the name of its kind.
-#[tactic(auto, using(crate::proofs::Chains::head_if))]
 fn draw_titled<W: Write>(
     alloc: Global,
     shelf: &Shelf,
@@ -100,24 +96,22 @@ fn draw_titled<W: Write>(
     style: Style,
     out: &mut W,
 ) -> Result<(), Fault>
-    ensures { OnOk result
-        (IsToldDrawn titled.now.told.now (W.contents out.old) (W.contents out.new)) }
+    ensures { OnOk result (IsToldDrawn style.is_short (files_of shelf.now) titled.now.told.now
+        (W.contents out.old) (W.contents out.new)) }
 {
     let told = titled.told;
     if style.is_short {
         return draw_line(alloc, shelf, titled, style, out);
     }
-    let Some(main) = told.main_place() else {
-        draw_line(alloc, shelf, titled, style, out)?;
-        return draw_asides(alloc, shelf, told, style, out);
-    };
-    match found_place(shelf, main) {
-        Some(it) => draw_report(&report_of(alloc, shelf, titled, it, style)?, out),
+    match found_main(shelf, told) {
+        Some(main) => {
+            let report = report_of(alloc, shelf, titled, main, style)?;
+            draw_report(&report, out)
+        }
         None => {
             draw_line(alloc, shelf, titled, style, out)?;
             draw_asides(alloc, shelf, told, style, out)?;
-            let text = missing_text(alloc, shelf, main)?;
-            draw_text(alloc, shelf, note_kind(), text.as_str(), style, out)
+            draw_missing(alloc, shelf, told, style, out)
         }
     }
 }
@@ -132,7 +126,6 @@ fn draw_report<W: Write>(report: &SafeReport<'_>, out: &mut W) -> Result<(), Fau
 }
 
 /// Draws a text as a report that has no place.
-#[tactic(auto, using(crate::proofs::Chains::drawn_if))]
 fn draw_text<W: Write>(
     alloc: Global,
     shelf: &Shelf,
@@ -141,7 +134,7 @@ fn draw_text<W: Write>(
     style: Style,
     out: &mut W,
 ) -> Result<(), Fault>
-    ensures { OnOk result (IsDrawn (W.contents out.old) (W.contents out.new)) }
+    ensures { OnOk result (IsSaid text.now (W.contents out.old) (W.contents out.new)) }
 {
     let builder = SafeBuilder::new(alloc, shelf.sources(), kind, (0, 0..0), config_of(style));
     draw_report(&builder.with_message(text)?.finish(), out)
@@ -182,6 +175,24 @@ fn draw_asides<W: Write>(
     Ok(())
 }
 
+/// Draws why the own place of a diagnostic can't be drawn, if it has one.
+fn draw_missing<W: Write>(
+    alloc: Global,
+    shelf: &Shelf,
+    told: &Diagnostic,
+    style: Style,
+    out: &mut W,
+) -> Result<(), Fault>
+    ensures { OnOk result (IsSaidIfAny (missing_main (files_of shelf.now) told.now)
+        (W.contents out.old) (W.contents out.new)) }
+{
+    let Some(place) = told.main_place() else {
+        return Ok(());
+    };
+    let text = missing_text(alloc, shelf, place)?;
+    draw_text(alloc, shelf, note_kind(), text.as_str(), style, out)
+}
+
 /// What the places of a diagnostic say, and its notes and helps.
 fn aside_texts(alloc: Global, told: &Diagnostic) -> Result<Vec<String>, AllocError> {
     let mut texts = Vec::new(alloc);
@@ -219,41 +230,17 @@ fn line_text(
     format!(in alloc; "{text} ({missing})")
 }
 
-/// Where a place begins, as `FILE:LINE:COLUMN`, and what is said of it.
-fn spot_text(alloc: Global, place: &Place, said: &str) -> Result<String, AllocError>
-    ensures { IfOk result (λ text. (before : List ℕ) × (string_bytes text ≡ before ++ said.now)) }
-{
-    let file = place.file.as_str();
-    let line = place.start.line;
-    let mut text = match place.start.column {
-        Some(column) => format!(in alloc; "{file}:{line}:{column}: ")?,
-        None => format!(in alloc; "{file}:{line}: ")?,
-    };
-    text.push_str(said)?;
-    Ok(text)
-}
-
 /// Why a place can't be drawn.
-fn missing_text(alloc: Global, shelf: &Shelf, place: &Place) -> Result<String, AllocError> {
+fn missing_text(alloc: Global, shelf: &Shelf, place: &Place) -> Result<String, AllocError>
+    ensures { IfOk result (λ text. string_bytes text
+        ≡ text_of_missing (files_of shelf.now) place.now) }
+{
     let file = place.file.as_str();
     let line = place.start.line;
     match shelf.get(file) {
         Some(_) => format!(in alloc; "not drawn, since {file} has no line {line}"),
         None => format!(in alloc; "not drawn, since {file} can't be read"),
     }
-}
-
-/// Where a place stands, if its file could be read and has it.
-fn found_place<'a>(shelf: &Shelf, place: &'a Place) -> Option<FoundPlace<'a>> {
-    let held = shelf.get(place.file.as_str())?;
-    let span = held.span(place)?;
-    Some(FoundPlace {
-        number: held.number,
-        caret: held.caret(place).unwrap_or(span.start),
-        start: span.start,
-        end: span.end,
-        place,
-    })
 }
 
 /// The report of a diagnostic whose own place was found.
@@ -264,20 +251,23 @@ fn report_of<'s>(
     main: FoundPlace<'_>,
     style: Style,
 ) -> Result<SafeReport<'s>, AllocError>
-    ensures { IfOk result (λ report. IsAbout titled.now.told.now (report_in report)) }
+    ensures { IfOk result (λ report. IsReportOf (files_of shelf.now) titled.now.told.now (found_of main.entry)
+        (sources_below report) (report_in report)) }
 {
     let told = titled.told;
     let kind = titled.kind();
     let span = (main.number, main.caret..main.end.max(main.caret));
     let builder = SafeBuilder::new(alloc, shelf.sources(), kind, span, config_of(style));
     let builder = with_code(builder.with_message(told.message.as_str())?, told)?;
-    let builder = with_labels(alloc, builder, shelf, told, main.number)?;
+    let places = ordered_places(alloc, shelf, told.places.as_slice(), main.number)?;
+    let builder = with_labels(alloc, builder, told.severity, places.as_slice())?;
     Ok(with_asides(alloc, builder, shelf, told)?.finish())
 }
 
 /// The report with the code of a diagnostic, if it has one.
 fn with_code<'s>(builder: SafeBuilder<'s>, told: &Diagnostic) -> Result<SafeBuilder<'s>, AllocError>
-    ensures { IfOk result (λ b. made_of b ≡ coded told.now.code (made_of builder.entry)) }
+    ensures report { IfOk result (λ b. made_of b ≡ coded told.now.code (made_of builder.entry)) }
+    ensures sources { IfOk result (λ b. sources_under b ≡ sources_under builder.entry) }
 {
     match &told.code {
         Some(code) => builder.with_code_text(code.as_str()),
@@ -285,28 +275,21 @@ fn with_code<'s>(builder: SafeBuilder<'s>, told: &Diagnostic) -> Result<SafeBuil
     }
 }
 
-/// The report with a label for each place that was found: those of the main file first, and in each
-/// file by their ends, since a label that ends on an earlier line than the one before it begins a new
-/// group.
+/// The report with a label for each of these places.
 fn with_labels<'s>(
     alloc: Global,
     builder: SafeBuilder<'s>,
-    shelf: &Shelf,
-    told: &Diagnostic,
-    main: usize,
+    severity: Severity,
+    places: &[FoundPlace<'_>],
 ) -> Result<SafeBuilder<'s>, AllocError>
-    ensures { IfOk result (λ b. HaveOneHead (made_of builder.entry) (made_of b)) }
+    ensures report { IfOk result (λ b. made_of b ≡ more_labels
+        (labels_of (made_of builder.entry).config.index_type (sources_under builder.entry) severity
+        (map found_of places.now)) (made_of builder.entry)) }
+    ensures sources { IfOk result (λ b. sources_under b ≡ sources_under builder.entry) }
 {
-    let mut places = Vec::new(alloc);
-    for place in &told.places {
-        if let Some(it) = found_place(shelf, place) {
-            places.push(it)?;
-        }
-    }
-    places.sort_by_key(|it| (it.number != main, it.number, it.end, it.start))?;
     let mut builder = builder;
-    for it in &places {
-        builder = builder.with_label(label_of(alloc, told.severity, it)?)?;
+    for it in places {
+        builder = builder.with_label(label_of(alloc, severity, it)?)?;
     }
     Ok(builder)
 }
@@ -316,7 +299,9 @@ fn label_of(
     alloc: Global,
     severity: Severity,
     it: &FoundPlace<'_>,
-) -> Result<Label<Piece>, AllocError> {
+) -> Result<Label<Piece>, AllocError>
+    ensures { IfOk result (λ label. label ≡ label_fields severity (found_of it.now)) }
+{
     let look = it.place.look;
     let own_color = if it.place.is_primary {
         color_of(severity)
@@ -331,40 +316,6 @@ fn label_of(
         "" => Ok(label),
         said => label.with_message(alloc, said),
     }
-}
-
-/// What the label of a place says. One without a text is drawn only beside others, so that of the
-/// diagnostic's own place has a word.
-fn place_text(place: &Place) -> &str {
-    match place.text.as_str() {
-        "" if place.is_primary => "here",
-        said => said,
-    }
-}
-
-/// The report with the notes and helps, and a note for each place that can't be drawn.
-fn with_asides<'s>(
-    alloc: Global,
-    builder: SafeBuilder<'s>,
-    shelf: &Shelf,
-    told: &Diagnostic,
-) -> Result<SafeBuilder<'s>, AllocError>
-    ensures { IfOk result (λ b. HaveOneHead (made_of builder.entry) (made_of b)) }
-{
-    let mut builder = builder;
-    for place in &told.places {
-        if found_place(shelf, place).is_none() {
-            let note = spot_text(alloc, place, place_text(place))?;
-            builder = builder.with_note(note.as_str())?;
-        }
-    }
-    for note in &told.notes {
-        builder = builder.with_note(note.as_str())?;
-    }
-    for help in &told.helps {
-        builder = builder.with_help(help.as_str())?;
-    }
-    Ok(builder)
 }
 
 /// The name of a diagnostic's own kind; empty where it has none.

@@ -1,8 +1,10 @@
 //! `ariadne-show`: what compilers and linters print, drawn over the files that it is about.
 #![tactic(auto)]
 
+mod asides;
 mod drawing;
 pub mod fault;
+mod found;
 mod held;
 pub mod options;
 pub mod pages;

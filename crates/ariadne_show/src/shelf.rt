@@ -1,5 +1,9 @@
 //! The files that diagnostics name, each read once.
 
+ghost use Rattle.std.specs.Prelude.{◌≡◌};
+ghost use Rattle.std.specs.Option.{option_copied};
+ghost use Rattle.ariadne_show.specs.Found.{files_of, held_at};
+
 use crate::held::{FileText, Held};
 use ariadne_columns::Columns;
 use ariadne_safe::{LineEnds, SafeSource, SafeSources};
@@ -33,7 +37,9 @@ impl Shelf {
     }
 
     /// The file at a path, if it could be read.
-    pub fn get(&self, path: &str) -> Option<&Held> {
+    pub fn get(&self, path: &str) -> Option<&Held>
+        ensures { option_copied result ≡ held_at (files_of self.now) path.now }
+    {
         self.files.get(path)?.as_ref()
     }
 

@@ -6,6 +6,7 @@ ghost use Rattle.std.specs.Io.KnownBytes.{Appends, IsAtEnd};
 ghost use Rattle.ariadne_show.specs.Shown.{AreAllShown, AreTold};
 ghost use Rattle.ariadne_show.specs.Shown.{IsAllShown, IsShownOf, IsToldBy, ReadsLine};
 ghost use Rattle.ariadne_show.specs.Drawn.{IsToldDrawn};
+ghost use Rattle.ariadne_show.specs.Found.{files_of};
 ghost use Rattle.ariadne_show.specs.Sums.{counted, line_end as end_before};
 ghost use Rattle.ariadne_show.specs.declared.fault.Fault.TheVariants.{Writer};
 
@@ -31,8 +32,8 @@ pub fn show<R: Files, I: BufRead, W: Write>(
     input: &mut I,
     out: &mut W,
 ) -> Result<Sum, Fault>
-    ensures { IfOk result (λ sum. IsAllShown options.reading.format (I.remaining input.old)
-        (W.contents out.old) (W.contents out.new) sum) }
+    ensures { IfOk result (λ sum. IsAllShown options.reading.format options.style.is_short
+        (I.remaining input.old) (W.contents out.old) (W.contents out.new) sum) }
 {
     let mut sum = Sum {
         errors: 0,
@@ -68,8 +69,9 @@ fn show_lines<R: Files, I: BufRead, W: Write>(
     input: &mut I,
     out: &mut W,
 ) -> Result<bool, Fault>
-    ensures { IfOk result (λ is_open. AreAllShown options.reading.format (I.remaining input.old)
-        (W.contents out.old) (W.contents out.new) sum.old sum.new is_open) }
+    ensures { IfOk result (λ is_open. AreAllShown options.reading.format
+        options.style.is_short (I.remaining input.old) (W.contents out.old) (W.contents out.new)
+        sum.old sum.new is_open) }
 {
     let mut shelf = Shelf::new(alloc);
     let mut line = Vec::new(alloc);
@@ -111,8 +113,8 @@ fn show_line<R: Files, W: Write>(
     line: &[u8],
     out: &mut W,
 ) -> Result<bool, Fault>
-    ensures { IfOk result (λ is_open. IsShownOf options.reading.format line.now (W.contents out.old)
-        (W.contents out.new) sum.old sum.new is_open) }
+    ensures { IfOk result (λ is_open. IsShownOf options.reading.format options.style.is_short
+        line.now (W.contents out.old) (W.contents out.new) sum.old sum.new is_open) }
 {
     match told_by_bytes(alloc, options.reading, line)? {
         Some(all) => {
@@ -171,8 +173,8 @@ fn show_all<R: Files, W: Write>(
     sum: &mut Sum,
     out: &mut W,
 ) -> Result<(), Fault>
-    ensures { OnOk result (AreTold all.now (W.contents out.old) (W.contents out.new) sum.old
-        sum.new) }
+    ensures { OnOk result (AreTold style.is_short all.now (W.contents out.old)
+        (W.contents out.new) sum.old sum.new) }
 {
     for told in all {
         show_one(files, alloc, shelf, told, style, sum, out)?;
@@ -190,7 +192,8 @@ fn show_one<R: Files, W: Write>(
     sum: &mut Sum,
     out: &mut W,
 ) -> Result<(), Fault>
-    ensures drawn { OnOk result (IsToldDrawn told.now (W.contents out.old) (W.contents out.new)) }
+    ensures drawn { OnOk result (IsToldDrawn style.is_short (files_of shelf.new) told.now
+        (W.contents out.old) (W.contents out.new)) }
     ensures counted { sum.new ≡ counted told.now sum.old }
 {
     sum.count(told);

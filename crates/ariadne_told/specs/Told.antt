@@ -5,7 +5,9 @@ use Rattle.std.specs.Prelude.{ℕ, ◌≡◌, ◌==◌, Bool, true, false, ◌&&
 use Rattle.std.specs.Prelude.{if◌then◌else◌}
 use Rattle.std.specs.Prelude.{List, [], ◌∷◌, codes, slice_index}
 use Rattle.std.specs.Prelude.{Option, Some, None, IsSomeAnd, is_some, option_and_then, option_map}
-use Rattle.std.specs.Prelude.{Vec, string_bytes}
+use Rattle.std.specs.Prelude.{slice_get, Vec, string_bytes}
+use Rattle.std.specs.List.{find}
+use Rattle.std.specs.Option.{option_or}
 use Rattle.std.specs.declared.alloc.Global.{Global}
 use Rattle.std.specs.Str.{bytes_eq}
 use Rattle.serde_json.specs.Data.{Data, Items, no_items, item}
@@ -136,6 +138,13 @@ reads_text Lines = true
 reads_text Report = false
 
 -- ---- what is told
+
+-- the place that a diagnostic is about: the first primary one, or the first
+abbrev pub first_primary : List Place → Option Place
+first_primary places = find (λ place. place.is_primary) places
+
+abbrev pub main_of : List Place → Option Place
+main_of places = option_or (first_primary places) (slice_get places 0)
 
 -- a place is the one that a head names
 pub record IsOwnPlace (head : Head) (place : Place) : Type 0 where

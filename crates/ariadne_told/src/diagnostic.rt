@@ -1,7 +1,10 @@
 //! What a tool tells: a diagnostic, and the places that it is about.
 
 ghost use Rattle.std.specs.Prelude.{◌≡◌, [], false, IfOk, None, string_bytes};
+ghost use Rattle.std.specs.Option.{option_copied};
 ghost use Rattle.ariadne_told.specs.Severities.{severity_of};
+ghost use Rattle.ariadne_told.specs.Told.{main_of};
+ghost use Rattle.ariadne_told.specs.Told.{first_primary as first_primary_of};
 
 use ariadne_color::Color;
 use ariadne_columns::Unit;
@@ -144,10 +147,19 @@ impl Diagnostic {
     }
 
     /// The place that it is about: the first primary one, or the first.
-    pub fn main_place(&self) -> Option<&Place> {
-        match self.places.iter().find(|place| place.is_primary) {
+    pub fn main_place(&self) -> Option<&Place>
+        ensures { option_copied result ≡ main_of self.now.places.items }
+    {
+        match first_primary(self.places.as_slice()) {
             Some(place) => Some(place),
             None => self.places.first(),
         }
     }
+}
+
+/// The first primary one of places.
+fn first_primary(places: &[Place]) -> Option<&Place>
+    ensures { option_copied result ≡ first_primary_of places.now }
+{
+    places.iter().find(|place| place.is_primary)
 }

@@ -1,10 +1,16 @@
-use Rattle.std.proofs.Common.{ℕ, ap, subst, sym}
+use Rattle.std.proofs.Common.{rules, ◌≡◌, ◌∙◌, ℕ, List, ap, map, subst}
 use Rattle.std.specs.declared.ops.Range.{Range}
 use Rattle.ariadne.specs.Kinds.{kind_of as kind_of_fields}
 use Rattle.ariadne.specs.Report.{ReportFields}
-use Rattle.ariadne_safe.specs.Building.{kind_in, made_of}
-use Rattle.ariadne_show.specs.Drawn.{IsAbout}
-use Rattle.ariadne_show.proofs.Heads.{about, about_same, says_itself}
+use Rattle.ariadne_safe.specs.Building.{kind_in, made_of, report_of as report_in, sources_below, sources_under}
+use Rattle.ariadne_safe.specs.Sources.{sources_of}
+use Rattle.ariadne_show.specs.Drawn.{IsAbout, IsBare}
+use Rattle.ariadne_told.specs.declared.diagnostic.Place.{Place}
+use Rattle.ariadne_show.specs.declared.found.FoundPlace.{FoundPlace}
+use Rattle.ariadne_show.specs.Asides.{helps_of, notes_of, with_helps, with_notes}
+use Rattle.ariadne_show.specs.Found.{files_of, found_of}
+use Rattle.ariadne_show.specs.Labels.{labels_of, shown_header, with_labels, AreOrdered}
+use Rattle.ariadne_show.proofs.Heads.{about, begun_bare, begun_span, header_ends, new_bare, report_about, says_itself}
 use Rattle.ariadne_show.proofs.drawing.report_of.Goals as goal
 
 -- the head, which stays while labels, notes and helps are added
@@ -17,6 +23,30 @@ returns c =
     (ap (λ (r : ReportFields (ℕ × Range ℕ)). r.kind) c.new-builder.ensures.report)
     (ap (λ (r : ReportFields (ℕ × Range ℕ)). r.code) c.new-builder.ensures.report)
     c.in_ok-with_message.ensures.report c.kind-kind.ensures (says_itself told _ c.as_str.ensures.value)
-    c.in_ok-builder.ensures in
-    subst (λ (r : ReportFields (ℕ × Range ℕ)). IsAbout told r) (sym c.finish.ensures.report)
-    (about_same _ _ _ (about_same _ _ _ head c.in_ok-builder-2.ensures) c.in_ok-with_asides.ensures)
+    c.in_ok-builder.ensures.report in
+    let bare : IsBare (made_of c.in_ok-builder.builder) =
+    begun_bare told (made_of c.new-builder.result) (made_of c.in_ok-with_message.field-0) (made_of c.in_ok-builder.builder) _
+    (new_bare _ _ _ _ c.new-builder.ensures.report) c.in_ok-with_message.ensures.report c.in_ok-builder.ensures.report in
+    let report = report_in c.finish.result in
+    let built = made_of c.in_ok-builder.builder in
+    let under = sources_under c.in_ok-builder.builder in
+    let files = files_of c.args.shelf.now in
+    let main = found_of c.args.main in
+    let ordered = map found_of c.in_ok-places.places.items in
+    let placed : AreOrdered files main.number told.places.items ordered =
+    subst (λ (places : List Place). AreOrdered files main.number places ordered) c.as_slice.ensures.value c.in_ok-places.ensures in
+    let labelled : made_of c.in_ok-builder-2.builder ≡ with_labels (labels_of built.config.index_type under told.severity ordered) built =
+    c.in_ok-builder-2.ensures.report
+    ∙ ap (λ (places : List FoundPlace). with_labels (labels_of built.config.index_type under told.severity (map found_of places)) built)
+    c.as_slice-2.ensures.value in
+    let whole : report ≡ with_helps (helps_of told) (with_notes (notes_of files told)
+    (with_labels (labels_of built.config.index_type under told.severity ordered) built)) =
+    c.finish.ensures.report ∙ c.in_ok-with_asides.ensures.report
+    ∙ ap (λ (r : ReportFields (ℕ × Range ℕ)). with_helps (helps_of told) (with_notes (notes_of files told) r)) labelled in
+    let span : built.span ≡ shown_header built.config.index_type under main =
+    begun_span told main _ _ _ _ (made_of c.new-builder.result) (made_of c.in_ok-with_message.field-0) built
+    (sources_of c.sources.result.now) under (header_ends main c.max.result (search rules)) c.new-builder.ensures.report c.in_ok-with_message.ensures.report
+    c.in_ok-builder.ensures.report (c.in_ok-builder.ensures.sources ∙ c.in_ok-with_message.ensures.sources
+    ∙ c.new-builder.ensures.sources) in
+    report_about files told main ordered built report under (sources_below c.finish.result) head bare span placed whole
+    (c.finish.ensures.sources ∙ c.in_ok-with_asides.ensures.sources ∙ c.in_ok-builder-2.ensures.sources)

@@ -1,7 +1,14 @@
-use Rattle.ariadne_safe.specs.Building.{made_of}
-use Rattle.ariadne_show.specs.Drawn.{HaveOneHead}
+use Rattle.std.proofs.Common.{◌≡◌, map, take}
+use Rattle.ariadne_safe.specs.Building.{made_of, sources_under}
+use Rattle.ariadne_show.specs.Found.{found_of}
+use Rattle.ariadne_show.specs.Labels.{labels_of, with_labels}
 use Rattle.ariadne_show.proofs.drawing.with_labels.Given as goal
 
--- the head stays
+-- the places that are passed have their labels
 abbrev pub invariant-loop-it : goal.invariant-loop-it
-invariant-loop-it l = HaveOneHead (made_of l.fn.builder) (made_of l.builder)
+invariant-loop-it l = record {
+  report : made_of l.builder
+      ≡ with_labels (labels_of (made_of l.fn.builder).config.index_type (sources_under l.fn.builder) l.severity
+      (map found_of (take l.it-index l.places))) (made_of l.fn.builder);
+  sources : sources_under l.builder ≡ sources_under l.fn.builder;
+}

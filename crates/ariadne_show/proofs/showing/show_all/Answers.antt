@@ -3,6 +3,7 @@ use Rattle.std.proofs.lemmas.List.{take_more}
 use Rattle.ariadne_told.specs.declared.diagnostic.Diagnostic.{Diagnostic}
 use Rattle.ariadne_show.specs.declared.sum.Sum.{Sum}
 use Rattle.ariadne_show.specs.Shown.{AreTold, none_told, one_told_more}
+use Rattle.ariadne_show.specs.Found.{files_of}
 use Rattle.ariadne_show.proofs.showing.show_all.Goals as goal
 
 -- none at first
@@ -19,7 +20,7 @@ loop-told-preserved g c =
     let after = g.W.Write.contents c.show_one.new.out in
     let more : take (i + 1) all ≡ take i all ++ told ∷ [] =
     take_more all i told c.loop-told-test.true ∙ ap (λ x. take i all ++ x ∷ []) (sym c.told-item.is) in
-    subst (λ (part : List Diagnostic). AreTold part before after c.args.sum.now c.show_one.new.sum) (sym more)
-    (subst (λ (sum : Sum). AreTold (take i all ++ told ∷ []) before after c.args.sum.now sum)
+    subst (λ (part : List Diagnostic). AreTold c.args.style.is_short part before after c.args.sum.now c.show_one.new.sum) (sym more)
+    (subst (λ (sum : Sum). AreTold c.args.style.is_short (take i all ++ told ∷ []) before after c.args.sum.now sum)
     (sym c.in_ok-show_one.ensures.counted)
-    (one_told_more c.loop-told.invariant told c.in_ok-show_one.ensures.drawn))
+    (one_told_more c.loop-told.invariant (files_of c.show_one.new.shelf) told c.in_ok-show_one.ensures.drawn))

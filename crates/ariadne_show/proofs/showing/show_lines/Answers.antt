@@ -11,7 +11,7 @@ lines-init g c = no_line
 pub lines-preserved : goal.lines-preserved
 lines-preserved g c =
     one_line_more c.lines.invariant c.read_line.new.line.items (c.in_ok-more.ensures).line
-    (subst (λ (line : List ℕ). IsShownOf c.args.options.reading.format line (g.W.Write.contents c.lines.out)
+    (subst (λ (line : List ℕ). IsShownOf c.args.options.reading.format c.args.options.style.is_short line (g.W.Write.contents c.lines.out)
     (g.W.Write.contents c.show_line.new.out) c.lines.sum c.show_line.new.sum c.in_ok-shown.shown)
     c.as_slice.ensures.value c.in_ok-shown.ensures)
 

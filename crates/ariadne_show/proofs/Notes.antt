@@ -1,0 +1,64 @@
+-- Notes and helps, one after the other.
+use Rattle.std.proofs.Common.{◌≡◌, ◌∙◌, ◌+◌, ℕ, ap, sym, append-nil, append_assoc, []}
+use Rattle.std.proofs.lemmas.List.{map-append}
+use Rattle.std.proofs.lemmas.List.Elements.{filter-append}
+use Rattle.std.specs.Prelude.{Bool, true, false, not, List, ◌∷◌, ◌++◌, cond, map}
+use Rattle.std.specs.Prelude.{String, string_bytes}
+use Rattle.std.specs.declared.alloc.Global.{Global}
+use Rattle.std.specs.declared.ops.Range.{Range}
+use Rattle.ariadne.specs.Report.{ReportFields}
+use Rattle.ariadne_visible.specs.Visible.{visible_bytes}
+use Rattle.ariadne_visible.specs.declared.text.TextKind.TheVariants.{Aside}
+use Rattle.ariadne_told.specs.declared.diagnostic.Place.{Place}
+use Rattle.ariadne_show.specs.Asides.{aside_notes, missing, missing_notes, place_text, spot_text, with_helps, with_notes}
+use Rattle.ariadne_show.specs.Found.{Files, is_found}
+
+-- no note more
+pub no_notes : (r : ReportFields (ℕ × Range ℕ)) → r ≡ with_notes [] r
+no_notes r = ap (λ (l : List (List ℕ)). record r { notes = l }) (sym (append-nil r.notes))
+
+pub no_helps : (r : ReportFields (ℕ × Range ℕ)) → r ≡ with_helps [] r
+no_helps r = ap (λ (l : List (List ℕ)). record r { helps = l }) (sym (append-nil r.helps))
+
+-- some, and some more
+pub notes_more : (r0 r s : ReportFields (ℕ × Range ℕ)) (xs ys : List (List ℕ)) → r ≡ with_notes xs r0
+    → s ≡ with_notes ys r → s ≡ with_notes (xs ++ ys) r0
+notes_more r0 r s xs ys is more =
+    more ∙ ap (with_notes ys) is
+    ∙ ap (λ (l : List (List ℕ)). record r0 { notes = l }) (append_assoc r0.notes xs ys)
+
+pub helps_more : (r0 r s : ReportFields (ℕ × Range ℕ)) (xs ys : List (List ℕ)) → r ≡ with_helps xs r0
+    → s ≡ with_helps ys r → s ≡ with_helps (xs ++ ys) r0
+helps_more r0 r s xs ys is more =
+    more ∙ ap (with_helps ys) is
+    ∙ ap (λ (l : List (List ℕ)). record r0 { helps = l }) (append_assoc r0.helps xs ys)
+
+-- those of texts, and that of one more
+pub texts_more : (xs all : List (String Global)) (x : String Global) (text : List ℕ) → text ≡ string_bytes x
+    → all ≡ xs ++ x ∷ [] → aside_notes xs ++ visible_bytes Aside text ∷ [] ≡ aside_notes all
+texts_more xs all x text same more =
+    ap (λ t. aside_notes xs ++ visible_bytes Aside t ∷ []) same
+    ∙ sym (map-append (λ (t : String Global). visible_bytes Aside (string_bytes t)) xs (x ∷ []))
+    ∙ ap aside_notes (sym more)
+
+-- ---- the places that can't be drawn
+
+note_of : Place → List ℕ
+note_of place = visible_bytes Aside (spot_text place (place_text place))
+
+pub missing_more : (files : Files) (xs all : List Place) (x : Place) → all ≡ xs ++ x ∷ []
+    → missing_notes files xs ++ missing_notes files (x ∷ []) ≡ missing_notes files all
+unfolding note_of
+missing_more files xs all x more =
+    sym (map-append note_of (missing files xs) (missing files (x ∷ [])))
+    ∙ ap (map note_of) (sym (filter-append (λ (place : Place). not (is_found files place)) xs (x ∷ [])))
+    ∙ ap (missing_notes files) (sym more)
+
+pub not_missing : (files : Files) (x : Place) → is_found files x ≡ true → missing_notes files (x ∷ []) ≡ []
+unfolding note_of
+not_missing files x found = ap (λ (b : Bool). map note_of (cond (not b) (x ∷ []) [])) found
+
+pub one_missing : (files : Files) (x : Place) → is_found files x ≡ false
+    → missing_notes files (x ∷ []) ≡ visible_bytes Aside (spot_text x (place_text x)) ∷ []
+unfolding note_of
+one_missing files x found = ap (λ (b : Bool). map note_of (cond (not b) (x ∷ []) [])) found

@@ -1,0 +1,29 @@
+use Rattle.std.proofs.Common.{◌≡◌, ◌∙◌, ◌+◌, ◌++◌, ◌∷◌, [], List, ap, refl, sym, take}
+use Rattle.std.proofs.lemmas.List.{take_more}
+use Rattle.std.specs.Prelude.{ℕ}
+use Rattle.ariadne_safe.specs.Building.{made_of}
+use Rattle.ariadne_show.specs.Asides.{missing_notes, with_notes}
+use Rattle.ariadne_show.specs.Found.{files_of}
+use Rattle.ariadne_show.proofs.Notes.{missing_more, no_notes, notes_more}
+use Rattle.ariadne_show.proofs.asides.with_missing.Goals as goal
+
+-- none at first
+pub loop-place-init : goal.loop-place-init
+loop-place-init c = record { report = no_notes (made_of c.args.builder); sources = refl }
+
+-- one place more in each turn
+pub loop-place-preserved : goal.loop-place-preserved
+loop-place-preserved c =
+    let i = c.loop-place.place-index in
+    let all = c.args.places.now in
+    let files = files_of c.args.shelf.now in
+    let place = c.place-item.result in
+    let more : take (i + 1) all ≡ take i all ++ place ∷ [] =
+    take_more all i place c.loop-place-test.true ∙ ap (λ x. take i all ++ x ∷ []) (sym c.place-item.is) in record {
+      report = notes_more (made_of c.args.builder) (made_of c.loop-place.builder) (made_of c.in_ok-builder.builder)
+          (missing_notes files (take i all)) (missing_notes files (place ∷ [])) c.loop-place.invariant.report
+          c.in_ok-builder.ensures.report
+          ∙ ap (λ (l : List (List ℕ)). with_notes l (made_of c.args.builder))
+          (missing_more files (take i all) (take (i + 1) all) place more);
+      sources = c.in_ok-builder.ensures.sources ∙ c.loop-place.invariant.sources;
+    }

@@ -1,0 +1,33 @@
+use Rattle.std.proofs.Common.{◌≡◌, ◌∙◌, ◌∷◌, [], List, ap, refl, subst, sym}
+use Rattle.std.specs.Prelude.{ℕ, is_some, IfOk}
+use Rattle.ariadne_safe.specs.Building.{made_of}
+use Rattle.ariadne_safe.specs.declared.report.SafeBuilder.{SafeBuilder}
+use Rattle.ariadne_visible.specs.Visible.{visible_bytes}
+use Rattle.ariadne_visible.specs.declared.text.TextKind.TheVariants.{Aside}
+use Rattle.ariadne_show.specs.Asides.{missing_notes, spot_text, with_notes}
+use Rattle.ariadne_show.specs.Found.{files_of}
+use Rattle.ariadne_show.proofs.Notes.{no_notes, not_missing, one_missing}
+use Rattle.ariadne_show.proofs.asides.with_missing_one.Goals as goal
+
+-- a place that was found has no note
+pub returns-in-Some : goal.returns-in-Some
+returns-in-Some c =
+    let built = made_of c.args.builder in
+    let none : missing_notes (files_of c.args.shelf.now) (c.args.place.now ∷ []) ≡ [] =
+    not_missing (files_of c.args.shelf.now) c.args.place.now (ap is_some (sym c.in-Some.ensures.found)) in record {
+      report = no_notes built ∙ ap (λ (l : List (List ℕ)). with_notes l built) (sym none);
+      sources = refl;
+    }
+
+-- another has one
+pub returns-in_ok-note-in-None : goal.returns-in_ok-note-in-None
+returns-in_ok-note-in-None c =
+    let place = c.args.place.now in
+    let one : visible_bytes Aside c.as_str.result.now ∷ [] ≡ missing_notes (files_of c.args.shelf.now) (place ∷ []) =
+    ap (λ t. visible_bytes Aside t ∷ [])
+    (c.as_str.ensures.value ∙ c.in_ok-note-in-None.ensures.text ∙ ap (spot_text place) c.place_text.ensures)
+    ∙ sym (one_missing (files_of c.args.shelf.now) place (ap is_some (sym c.in-None.ensures.found))) in record {
+      report = subst (λ (l : List (List ℕ)). IfOk c.with_note.result (λ (b : SafeBuilder). made_of b ≡ with_notes l (made_of c.args.builder)))
+          one c.with_note.ensures.report;
+      sources = c.with_note.ensures.sources;
+    }

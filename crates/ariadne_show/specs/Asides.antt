@@ -1,0 +1,66 @@
+-- What a report says beside: the notes and helps of a diagnostic, and a note for each of its places
+-- that can't be drawn.
+use Rattle.std.specs.Prelude.{ℕ, ◌==◌, not, if◌then◌else◌, List, [], ◌++◌, length, map, filter}
+use Rattle.std.specs.Prelude.{Option, Some, None, is_some, String, string_bytes, codes, decimal}
+use Rattle.std.specs.declared.alloc.Global.{Global}
+use Rattle.std.specs.declared.ops.Range.{Range}
+use Rattle.ariadne.specs.Report.{ReportFields}
+use Rattle.ariadne_visible.specs.Visible.{visible_bytes}
+use Rattle.ariadne_visible.specs.declared.text.TextKind.TheVariants.{Aside}
+use Rattle.ariadne_told.specs.declared.diagnostic.Diagnostic.{Diagnostic}
+use Rattle.ariadne_told.specs.declared.diagnostic.Place.{Place}
+use Rattle.ariadne_show.specs.Found.{Files, held_at, is_found}
+
+-- a column behind a colon, if there is one
+abbrev pub column_text : Option ℕ → List ℕ
+column_text None = []
+column_text (Some column) = codes ":" ++ decimal column
+
+-- where a place begins, FILE:LINE:COLUMN, and then what is said of it
+abbrev pub spot_name : Place → List ℕ
+spot_name place =
+    string_bytes place.file ++ codes ":" ++ decimal place.start.line ++ column_text place.start.column
+    ++ codes ": "
+
+abbrev pub spot_text : Place → List ℕ → List ℕ
+spot_text place said = spot_name place ++ said
+
+-- what a place says: one of the diagnostic's own that says nothing has a word
+abbrev pub place_text : Place → List ℕ
+place_text place =
+    if length (string_bytes place.text) == 0 then (if place.is_primary then codes "here" else [])
+    else string_bytes place.text
+
+-- why a place can't be drawn
+abbrev pub missing_text : Files → Place → List ℕ
+missing_text files place =
+    codes "not drawn, since " ++ string_bytes place.file
+    ++ (if is_some (held_at files (string_bytes place.file))
+    then codes " has no line " ++ decimal place.start.line
+    else codes " can't be read")
+
+-- the places that can't be drawn
+abbrev pub missing : Files → List Place → List Place
+missing files places = filter (λ place. not (is_found files place)) places
+
+-- the notes: of these places, and of the diagnostic
+abbrev pub missing_notes : Files → List Place → List (List ℕ)
+missing_notes files places =
+    map (λ place. visible_bytes Aside (spot_text place (place_text place))) (missing files places)
+
+abbrev pub aside_notes : List (String Global) → List (List ℕ)
+aside_notes texts = map (λ text. visible_bytes Aside (string_bytes text)) texts
+
+abbrev pub notes_of : Files → Diagnostic → List (List ℕ)
+notes_of files told = missing_notes files told.places.items ++ aside_notes told.notes.items
+
+-- the helps
+abbrev pub helps_of : Diagnostic → List (List ℕ)
+helps_of told = aside_notes told.helps.items
+
+-- a report with more notes, and with more helps
+abbrev pub with_notes : List (List ℕ) → ReportFields (ℕ × Range ℕ) → ReportFields (ℕ × Range ℕ)
+with_notes notes report = record report { notes = report.notes ++ notes }
+
+abbrev pub with_helps : List (List ℕ) → ReportFields (ℕ × Range ℕ) → ReportFields (ℕ × Range ℕ)
+with_helps helps report = record report { helps = report.helps ++ helps }

@@ -1,0 +1,137 @@
+//! What a report says beside: notes and helps.
+
+ghost use Rattle.std.specs.Prelude.{◌≡◌, ℕ, List, [], ◌∷◌, ◌++◌, string_bytes, IfOk};
+ghost use Rattle.ariadne_safe.specs.Building.{made_of, sources_under};
+ghost use Rattle.ariadne_show.specs.Asides.{aside_notes, helps_of, missing_notes, notes_of};
+ghost use Rattle.ariadne_show.specs.Asides.{column_text as text_of_column, spot_name as name_of_spot};
+ghost use Rattle.ariadne_show.specs.Asides.{place_text as text_of_place, spot_text as text_of_spot};
+ghost use Rattle.ariadne_show.specs.Asides.{with_helps as more_helps, with_notes as more_notes};
+ghost use Rattle.ariadne_show.specs.Found.{files_of};
+
+use crate::found::found_place;
+use crate::shelf::Shelf;
+use ariadne_safe::SafeBuilder;
+use ariadne_told::{Diagnostic, Place};
+use std::alloc::{AllocError, Global};
+
+/// The report with the notes and helps, and before them a note for each place that can't be drawn.
+pub fn with_asides<'s>(
+    alloc: Global,
+    builder: SafeBuilder<'s>,
+    shelf: &Shelf,
+    told: &Diagnostic,
+) -> Result<SafeBuilder<'s>, AllocError>
+    ensures report { IfOk result (λ b. made_of b ≡ more_helps (helps_of told.now)
+        (more_notes (notes_of (files_of shelf.now) told.now) (made_of builder.entry))) }
+    ensures sources { IfOk result (λ b. sources_under b ≡ sources_under builder.entry) }
+{
+    let builder = with_missing(alloc, builder, shelf, told.places.as_slice())?;
+    let builder = with_notes(builder, told.notes.as_slice())?;
+    with_helps(builder, told.helps.as_slice())
+}
+
+/// The report with a note for each place that can't be drawn.
+fn with_missing<'s>(
+    alloc: Global,
+    builder: SafeBuilder<'s>,
+    shelf: &Shelf,
+    places: &[Place],
+) -> Result<SafeBuilder<'s>, AllocError>
+    ensures report { IfOk result (λ b. made_of b ≡ more_notes
+        (missing_notes (files_of shelf.now) places.now) (made_of builder.entry)) }
+    ensures sources { IfOk result (λ b. sources_under b ≡ sources_under builder.entry) }
+{
+    let mut builder = builder;
+    for place in places {
+        builder = with_missing_one(alloc, builder, shelf, place)?;
+    }
+    Ok(builder)
+}
+
+/// The report with a note for a place, if that can't be drawn.
+fn with_missing_one<'s>(
+    alloc: Global,
+    builder: SafeBuilder<'s>,
+    shelf: &Shelf,
+    place: &Place,
+) -> Result<SafeBuilder<'s>, AllocError>
+    ensures report { IfOk result (λ b. made_of b ≡ more_notes
+        (missing_notes (files_of shelf.now) (place.now ∷ [])) (made_of builder.entry)) }
+    ensures sources { IfOk result (λ b. sources_under b ≡ sources_under builder.entry) }
+{
+    match found_place(shelf, place) {
+        Some(_) => Ok(builder),
+        None => {
+            let note = spot_text(alloc, place, place_text(place))?;
+            builder.with_note(note.as_str())
+        }
+    }
+}
+
+/// The report with these notes.
+fn with_notes<'s>(builder: SafeBuilder<'s>, notes: &[String]) -> Result<SafeBuilder<'s>, AllocError>
+    ensures report { IfOk result (λ b. made_of b
+        ≡ more_notes (aside_notes notes.now) (made_of builder.entry)) }
+    ensures sources { IfOk result (λ b. sources_under b ≡ sources_under builder.entry) }
+{
+    let mut builder = builder;
+    for note in notes {
+        builder = builder.with_note(note.as_str())?;
+    }
+    Ok(builder)
+}
+
+/// The report with these helps.
+fn with_helps<'s>(builder: SafeBuilder<'s>, helps: &[String]) -> Result<SafeBuilder<'s>, AllocError>
+    ensures report { IfOk result (λ b. made_of b
+        ≡ more_helps (aside_notes helps.now) (made_of builder.entry)) }
+    ensures sources { IfOk result (λ b. sources_under b ≡ sources_under builder.entry) }
+{
+    let mut builder = builder;
+    for help in helps {
+        builder = builder.with_help(help.as_str())?;
+    }
+    Ok(builder)
+}
+
+/// Where a place begins, as `FILE:LINE:COLUMN`, and what is said of it.
+pub fn spot_text(alloc: Global, place: &Place, said: &str) -> Result<String, AllocError>
+    ensures text { IfOk result (λ text. string_bytes text ≡ text_of_spot place.now said.now) }
+    ensures behind { IfOk result (λ text.
+        (before : List ℕ) × (string_bytes text ≡ before ++ said.now)) }
+{
+    let mut text = spot_name(alloc, place)?;
+    text.push_str(said)?;
+    Ok(text)
+}
+
+/// Where a place begins, in front of what is said of it.
+fn spot_name(alloc: Global, place: &Place) -> Result<String, AllocError>
+    ensures { IfOk result (λ text. string_bytes text ≡ name_of_spot place.now) }
+{
+    let file = place.file.as_str();
+    let line = place.start.line;
+    let column = column_text(alloc, place.start.column)?;
+    format!(in alloc; "{file}:{line}{column}: ")
+}
+
+/// A column behind a colon, if there is one.
+fn column_text(alloc: Global, column: Option<usize>) -> Result<String, AllocError>
+    ensures { IfOk result (λ text. string_bytes text ≡ text_of_column column) }
+{
+    match column {
+        Some(column) => format!(in alloc; ":{column}"),
+        None => Ok(String::new(alloc)),
+    }
+}
+
+/// What the label or the note of a place says. One without a text is drawn only beside others, so that
+/// of the diagnostic's own place has a word.
+pub fn place_text(place: &Place) -> &str
+    ensures { result.now ≡ text_of_place place.now }
+{
+    match place.text.as_str() {
+        "" if place.is_primary => "here",
+        said => said,
+    }
+}
