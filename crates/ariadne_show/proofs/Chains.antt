@@ -1,5 +1,5 @@
 -- Pictures behind pictures.
-use Rattle.std.proofs.Common.{◌≡◌, ◌∙◌, ap, refl, sym}
+use Rattle.std.proofs.Common.{◌≡◌, ◌∙◌, ap, subst, sym}
 use Rattle.std.specs.Prelude.{ℕ, Bool, true, false, List, Option, Some, None, Result, Ok, Err, OnOk}
 use Rattle.std.specs.declared.ops.Range.{Range}
 use Rattle.ariadne.specs.Report.{ReportFields}
@@ -7,8 +7,8 @@ use Rattle.ariadne_visible.specs.Visible.{visible_bytes}
 use Rattle.ariadne_visible.specs.declared.text.TextKind.TheVariants.{OneRow}
 use Rattle.ariadne_safe.specs.declared.sources.SafeSource.{SafeSource}
 use Rattle.ariadne_told.specs.declared.diagnostic.Diagnostic.{Diagnostic}
-use Rattle.ariadne_show.specs.Drawn.{AreDrawn, IsAbout, IsBare, IsDrawn, IsHeadDrawn, IsPicture, IsReportOf, IsSaid, IsSaidIfAny, IsToldDrawn}
-use Rattle.ariadne_show.specs.Drawn.{missing_main, no_picture, one_picture_more, in_one, in_line, in_lines}
+use Rattle.ariadne_show.specs.Drawn.{AreDrawn, IsAbout, IsBare, IsHeadDrawn, IsPicture, IsReportOf, IsSaid, IsSaidIfAny, IsToldDrawn}
+use Rattle.ariadne_show.specs.Drawn.{missing_main, one_picture_more, in_one, in_line, in_lines}
 use Rattle.ariadne_show.specs.Found.{Files, Found}
 use Rattle.ariadne_show.specs.Labels.{main_in}
 use Rattle.ariadne_show.proofs.Heads.{said_bare}
@@ -40,24 +40,25 @@ head_drawn_if (Ok x) told sources report o p about bare picture =
 head_drawn_if (Err e) told sources report o p about bare picture = tt
 
 -- of the report of one
-pub told_if_in_one : {T E : Type 0} (r : Result T E) (is_short : Bool) (files : Files) (told : Diagnostic) (main : Found)
-    (sources : List SafeSource) (report : ReportFields (ℕ × Range ℕ)) (o p : Option (List ℕ)) → is_short ≡ false
-    → Some main ≡ main_in files told → IsReportOf files told main sources report → OnOk r (IsPicture sources report o p)
-    → OnOk r (IsToldDrawn is_short files told o p)
-told_if_in_one (Ok x) is_short files told main sources report o p long found is picture =
-    in_one main sources report long (sym found) is picture
-told_if_in_one (Err e) is_short files told main sources report o p long found is picture = tt
+pub told_if_in_one : {T E : Type 0} (r : Result T E) (is_short : Bool) (files : Files) (sources : List SafeSource)
+    (told : Diagnostic) (main : Found) (over : List SafeSource) (report : ReportFields (ℕ × Range ℕ)) (o p : Option (List ℕ)) → is_short ≡ false
+    → Some main ≡ main_in files told → IsReportOf files told main sources report → over ≡ sources → OnOk r (IsPicture over report o p)
+    → OnOk r (IsToldDrawn is_short files sources told o p)
+told_if_in_one (Ok x) is_short files sources told main over report o p long found is same picture =
+    in_one main report long (sym found) is (subst (λ (l : List SafeSource). IsPicture l report o p) same picture)
+told_if_in_one (Err e) is_short files sources told main over report o p long found is same picture = tt
 
 -- a head alone
-pub told_if_in_line : {T E : Type 0} (r : Result T E) (is_short : Bool) (files : Files) (told : Diagnostic) (o p : Option (List ℕ))
-    → is_short ≡ true → OnOk r (IsHeadDrawn told o p) → OnOk r (IsToldDrawn is_short files told o p)
-told_if_in_line (Ok x) is_short files told o p short head = in_line short head
-told_if_in_line (Err e) is_short files told o p short head = tt
+pub told_if_in_line : {T E : Type 0} (r : Result T E) (is_short : Bool) (files : Files) (sources : List SafeSource)
+    (told : Diagnostic) (o p : Option (List ℕ)) → is_short ≡ true → OnOk r (IsHeadDrawn told o p)
+    → OnOk r (IsToldDrawn is_short files sources told o p)
+told_if_in_line (Ok x) is_short files sources told o p short head = in_line short head
+told_if_in_line (Err e) is_short files sources told o p short head = tt
 
 -- others behind it
-pub told_if_in_lines : {T E : Type 0} (r : Result T E) (is_short : Bool) (files : Files) (told : Diagnostic)
-    (o m p q : Option (List ℕ)) → is_short ≡ false → None ≡ main_in files told → IsHeadDrawn told o m → AreDrawn m p
-    → OnOk r (IsSaidIfAny (missing_main files told) p q) → OnOk r (IsToldDrawn is_short files told o q)
-told_if_in_lines (Ok x) is_short files told o m p q long missing head others why =
+pub told_if_in_lines : {T E : Type 0} (r : Result T E) (is_short : Bool) (files : Files) (sources : List SafeSource)
+    (told : Diagnostic) (o m p q : Option (List ℕ)) → is_short ≡ false → None ≡ main_in files told → IsHeadDrawn told o m → AreDrawn m p
+    → OnOk r (IsSaidIfAny (missing_main files told) p q) → OnOk r (IsToldDrawn is_short files sources told o q)
+told_if_in_lines (Ok x) is_short files sources told o m p q long missing head others why =
     in_lines m p long (sym missing) head others why
-told_if_in_lines (Err e) is_short files told o m p q long missing head others why = tt
+told_if_in_lines (Err e) is_short files sources told o m p q long missing head others why = tt

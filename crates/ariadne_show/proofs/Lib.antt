@@ -3,3 +3,4 @@ pub mod Heads
 pub mod Lines
 pub mod Notes
 pub mod Ordered
+pub mod Reading

@@ -134,13 +134,14 @@ missing_main files told = option_map (missing_text files) (main_of told.places.i
 -- where its own place was found, the picture of the report of a diagnostic has; else that of its head,
 -- and then those of what it says beside, of which the last says why; and where it is to be short, that of
 -- its head alone
-pub data IsToldDrawn (is_short : Bool) (files : Files) (told : Diagnostic)
-    (before after : Option (List ℕ)) : Type 0 where
-  in_one : (main : Found) (sources : List SafeSource) (report : ReportFields (ℕ × Range ℕ))
+pub data IsToldDrawn (is_short : Bool) (files : Files) (sources : List SafeSource)
+    (told : Diagnostic) (before after : Option (List ℕ)) : Type 0 where
+  in_one : (main : Found) (report : ReportFields (ℕ × Range ℕ))
       → is_short ≡ false → main_in files told ≡ Some main → IsReportOf files told main sources report
-      → IsPicture sources report before after → IsToldDrawn is_short files told before after
+      → IsPicture sources report before after → IsToldDrawn is_short files sources told before after
   in_lines : (headed said : Option (List ℕ)) → is_short ≡ false → main_in files told ≡ None
       → IsHeadDrawn told before headed → AreDrawn headed said
-      → IsSaidIfAny (missing_main files told) said after → IsToldDrawn is_short files told before after
+      → IsSaidIfAny (missing_main files told) said after
+      → IsToldDrawn is_short files sources told before after
   in_line : is_short ≡ true → IsHeadDrawn told before after
-      → IsToldDrawn is_short files told before after
+      → IsToldDrawn is_short files sources told before after

@@ -4,5 +4,6 @@ pub mod Faults
 pub mod Found
 pub mod Labels
 pub mod Pages
+pub mod Read
 pub mod Shown
 pub mod Sums

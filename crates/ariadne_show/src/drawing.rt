@@ -13,6 +13,7 @@ ghost use Rattle.ariadne_show.specs.Drawn.{IsReportOf, IsSaid, IsSaidIfAny, IsTo
 ghost use Rattle.ariadne_show.specs.Found.{files_of, found_of};
 ghost use Rattle.ariadne_show.specs.Labels.{label_of as label_fields, labels_of, severity_color};
 ghost use Rattle.ariadne_show.specs.Labels.{with_labels as more_labels};
+ghost use Rattle.ariadne_show.specs.Read.{sources_in};
 
 use crate::asides::{place_text, spot_text, with_asides};
 use crate::fault::Fault;
@@ -81,8 +82,8 @@ pub fn draw<W: Write>(
     style: Style,
     out: &mut W,
 ) -> Result<(), Fault>
-    ensures { OnOk result (IsToldDrawn style.is_short (files_of shelf.now) told.now
-        (W.contents out.old) (W.contents out.new)) }
+    ensures { OnOk result (IsToldDrawn style.is_short (files_of shelf.now)
+        (sources_in shelf.now) told.now (W.contents out.old) (W.contents out.new)) }
 {
     let titled = Titled::new(alloc, told)?;
     draw_titled(alloc, shelf, &titled, style, out)
@@ -96,8 +97,8 @@ fn draw_titled<W: Write>(
     style: Style,
     out: &mut W,
 ) -> Result<(), Fault>
-    ensures { OnOk result (IsToldDrawn style.is_short (files_of shelf.now) titled.now.told.now
-        (W.contents out.old) (W.contents out.new)) }
+    ensures { OnOk result (IsToldDrawn style.is_short (files_of shelf.now)
+        (sources_in shelf.now) titled.now.told.now (W.contents out.old) (W.contents out.new)) }
 {
     let told = titled.told;
     if style.is_short {
@@ -251,8 +252,9 @@ fn report_of<'s>(
     main: FoundPlace<'_>,
     style: Style,
 ) -> Result<SafeReport<'s>, AllocError>
-    ensures { IfOk result (λ report. IsReportOf (files_of shelf.now) titled.now.told.now (found_of main.entry)
-        (sources_below report) (report_in report)) }
+    ensures report { IfOk result (λ report. IsReportOf (files_of shelf.now) titled.now.told.now
+        (found_of main.entry) (sources_in shelf.now) (report_in report)) }
+    ensures sources { IfOk result (λ report. sources_below report ≡ sources_in shelf.now) }
 {
     let told = titled.told;
     let kind = titled.kind();

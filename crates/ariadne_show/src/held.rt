@@ -1,8 +1,9 @@
 //! A file as it is held: what its columns count, and the number of its source.
 
-ghost use Rattle.std.specs.Prelude.{◌≡◌, ◌≤◌, length, IfSome};
+ghost use Rattle.std.specs.Prelude.{◌≡◌, ◌≤◌, chars, length, string_bytes, IfOk, IfSome};
 ghost use Rattle.ariadne_show.specs.Found.{caret_in, end_of, end_spot_in, mark_before, span_in};
 ghost use Rattle.ariadne_show.specs.Found.{spot_in, unit_in};
+ghost use Rattle.ariadne_show.specs.Read.{IsTextOf};
 
 use ariadne_columns::Columns;
 use ariadne_told::{End, Place, Spot, Unit};
@@ -25,24 +26,29 @@ pub struct FileText {
 
 impl FileText {
     /// The text of these bytes. On `Err` there was no memory for it.
-    pub fn new(alloc: Global, bytes: Vec<u8>) -> Result<FileText, AllocError> {
-        let is_utf8 = std::str::from_utf8(bytes.as_slice()).is_ok();
-        let has_mark = bytes.as_slice().starts_with(MARK);
-        let text = if is_utf8 {
-            String::from_utf8_lossy(alloc, bytes.as_slice())?
-        } else {
-            latin_text(alloc, bytes.as_slice())?
-        };
-        Ok(FileText {
-            text,
-            is_utf8,
-            has_mark,
-        })
+    pub fn new(alloc: Global, bytes: &[u8]) -> Result<FileText, AllocError>
+        ensures { IfOk result (λ file. IsTextOf bytes.now file) }
+    {
+        let has_mark = bytes.starts_with(MARK);
+        match std::str::from_utf8(bytes) {
+            Ok(text) => Ok(FileText {
+                text: String::from_str(alloc, text)?,
+                is_utf8: true,
+                has_mark,
+            }),
+            Err(_) => Ok(FileText {
+                text: latin_text(alloc, bytes)?,
+                is_utf8: false,
+                has_mark,
+            }),
+        }
     }
 }
 
 /// A character for each byte: those of Latin-1.
-fn latin_text(alloc: Global, bytes: &[u8]) -> Result<String, AllocError> {
+fn latin_text(alloc: Global, bytes: &[u8]) -> Result<String, AllocError>
+    ensures { IfOk result (λ text. chars (string_bytes text) ≡ bytes.now) }
+{
     let mut text = String::new(alloc);
     for byte in bytes {
         text.push(*byte as char)?;

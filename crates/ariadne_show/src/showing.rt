@@ -7,6 +7,7 @@ ghost use Rattle.ariadne_show.specs.Shown.{AreAllShown, AreTold};
 ghost use Rattle.ariadne_show.specs.Shown.{IsAllShown, IsShownOf, IsToldBy, ReadsLine};
 ghost use Rattle.ariadne_show.specs.Drawn.{IsToldDrawn};
 ghost use Rattle.ariadne_show.specs.Found.{files_of};
+ghost use Rattle.ariadne_show.specs.Read.{paths_of, sources_in, HaveSources, HaveTried};
 ghost use Rattle.ariadne_show.specs.Sums.{counted, line_end as end_before};
 ghost use Rattle.ariadne_show.specs.declared.fault.Fault.TheVariants.{Writer};
 
@@ -15,7 +16,7 @@ use crate::fault::Fault;
 use crate::options::{Options, Style};
 use crate::shelf::Shelf;
 use crate::sum::Sum;
-use ariadne_told::{Diagnostic, Reading, told};
+use ariadne_told::{Diagnostic, Place, Reading, told};
 use std::alloc::{AllocError, Global};
 use std::io::{BufRead, Write};
 use std::rt::Files;
@@ -113,8 +114,11 @@ fn show_line<R: Files, W: Write>(
     line: &[u8],
     out: &mut W,
 ) -> Result<bool, Fault>
-    ensures { IfOk result (λ is_open. IsShownOf options.reading.format options.style.is_short
-        line.now (W.contents out.old) (W.contents out.new) sum.old sum.new is_open) }
+    requires { HaveSources (files_of shelf.old) (sources_in shelf.old) }
+    ensures shown { IfOk result (λ is_open. IsShownOf options.reading.format options.style.is_short
+        line.now shelf.old shelf.new (W.contents out.old) (W.contents out.new) sum.old sum.new
+        is_open) }
+    ensures sources { OnOk result (HaveSources (files_of shelf.new) (sources_in shelf.new)) }
 {
     match told_by_bytes(alloc, options.reading, line)? {
         Some(all) => {
@@ -173,8 +177,10 @@ fn show_all<R: Files, W: Write>(
     sum: &mut Sum,
     out: &mut W,
 ) -> Result<(), Fault>
-    ensures { OnOk result (AreTold style.is_short all.now (W.contents out.old)
-        (W.contents out.new) sum.old sum.new) }
+    requires { HaveSources (files_of shelf.old) (sources_in shelf.old) }
+    ensures told { OnOk result (AreTold style.is_short all.now shelf.old shelf.new
+        (W.contents out.old) (W.contents out.new) sum.old sum.new) }
+    ensures sources { OnOk result (HaveSources (files_of shelf.new) (sources_in shelf.new)) }
 {
     for told in all {
         show_one(files, alloc, shelf, told, style, sum, out)?;
@@ -192,18 +198,23 @@ fn show_one<R: Files, W: Write>(
     sum: &mut Sum,
     out: &mut W,
 ) -> Result<(), Fault>
-    ensures drawn { OnOk result (IsToldDrawn style.is_short (files_of shelf.new) told.now
-        (W.contents out.old) (W.contents out.new)) }
+    requires { HaveSources (files_of shelf.old) (sources_in shelf.old) }
+    ensures read { OnOk result (HaveTried (paths_of told.now.places.items) shelf.old shelf.new) }
+    ensures drawn { OnOk result (IsToldDrawn style.is_short (files_of shelf.new)
+        (sources_in shelf.new) told.now (W.contents out.old) (W.contents out.new)) }
     ensures counted { sum.new ≡ counted told.now sum.old }
 {
     sum.count(told);
-    read_files(files, shelf, told)?;
+    read_files(files, shelf, told.places.as_slice())?;
     draw(alloc, shelf, told, style, out)
 }
 
-/// Has the files read that a diagnostic names.
-fn read_files<R: Files>(files: &R, shelf: &mut Shelf, told: &Diagnostic) -> Result<(), AllocError> {
-    for place in &told.places {
+/// Has the files of places read.
+fn read_files<R: Files>(files: &R, shelf: &mut Shelf, places: &[Place]) -> Result<(), AllocError>
+    requires { HaveSources (files_of shelf.old) (sources_in shelf.old) }
+    ensures { OnOk result (HaveTried (paths_of places.now) shelf.old shelf.new) }
+{
+    for place in places {
         shelf.read(files, place.file.as_str())?;
     }
     Ok(())

@@ -1,8 +1,8 @@
-use Rattle.std.proofs.Common.{rules, ◌≡◌, ◌∙◌, ℕ, List, ap, map, subst}
+use Rattle.std.proofs.Common.{rules, ◌≡◌, ◌∙◌, ℕ, List, ap, map, subst, sym}
 use Rattle.std.specs.declared.ops.Range.{Range}
 use Rattle.ariadne.specs.Kinds.{kind_of as kind_of_fields}
 use Rattle.ariadne.specs.Report.{ReportFields}
-use Rattle.ariadne_safe.specs.Building.{kind_in, made_of, report_of as report_in, sources_below, sources_under}
+use Rattle.ariadne_safe.specs.Building.{kind_in, made_of, report_of as report_in, sources_under}
 use Rattle.ariadne_safe.specs.Sources.{sources_of}
 use Rattle.ariadne_show.specs.Drawn.{IsAbout, IsBare}
 use Rattle.ariadne_told.specs.declared.diagnostic.Place.{Place}
@@ -10,6 +10,7 @@ use Rattle.ariadne_show.specs.declared.found.FoundPlace.{FoundPlace}
 use Rattle.ariadne_show.specs.Asides.{helps_of, notes_of, with_helps, with_notes}
 use Rattle.ariadne_show.specs.Found.{files_of, found_of}
 use Rattle.ariadne_show.specs.Labels.{labels_of, shown_header, with_labels, AreOrdered}
+use Rattle.ariadne_show.specs.Read.{sources_in}
 use Rattle.ariadne_show.proofs.Heads.{about, begun_bare, begun_span, header_ends, new_bare, report_about, says_itself}
 use Rattle.ariadne_show.proofs.drawing.report_of.Goals as goal
 
@@ -48,5 +49,10 @@ returns c =
     (sources_of c.sources.result.now) under (header_ends main c.max.result (search rules)) c.new-builder.ensures.report c.in_ok-with_message.ensures.report
     c.in_ok-builder.ensures.report (c.in_ok-builder.ensures.sources ∙ c.in_ok-with_message.ensures.sources
     ∙ c.new-builder.ensures.sources) in
-    report_about files told main ordered built report under (sources_below c.finish.result) head bare span placed whole
-    (c.finish.ensures.sources ∙ c.in_ok-with_asides.ensures.sources ∙ c.in_ok-builder-2.ensures.sources)
+    let begun : under ≡ sources_in c.args.shelf.now =
+    c.in_ok-builder.ensures.sources ∙ c.in_ok-with_message.ensures.sources ∙ c.new-builder.ensures.sources
+    ∙ c.sources.ensures in record {
+      report = report_about files told main ordered built report under (sources_in c.args.shelf.now) head bare span placed whole
+          (sym begun);
+      sources = c.finish.ensures.sources ∙ c.in_ok-with_asides.ensures.sources ∙ c.in_ok-builder-2.ensures.sources ∙ begun;
+    }
