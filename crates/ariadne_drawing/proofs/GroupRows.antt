@@ -1,11 +1,11 @@
 -- Rows of a group, one after another, as a pen writes them.
-use Rattle.std.proofs.Common.{◌≡◌, ℕ, Bool, true, false, List, [], ◌∷◌, ◌++◌, map, refl, sym, ap, ◌∙◌, subst}
+use Rattle.std.proofs.Common.{◌≡◌, Bool, true, false, List, [], ◌∷◌, ◌++◌, map, refl, sym, ap, ◌∙◌, subst}
 use Rattle.std.specs.Prelude.{if◌then◌else◌}
 use Rattle.std.proofs.lemmas.List.{append-nil, map-append}
 use Rattle.ariadne_cells.specs.Pages.{DrawsRow, DrawsRows, PageFields, PenFields}
 use Rattle.ariadne_cells.proofs.Drawn.{draws_rows-append, draws_rows_none, draws_rows_one}
 use Rattle.ariadne_picture.specs.declared.switches.Switches.{Switches}
-use Rattle.ariadne_picture.specs.Pieces.{Piece, Section, Texts, group_header_pieces, row_pieces, spacer_pieces, tail_pieces}
+use Rattle.ariadne_picture.specs.Pieces.{Section, Texts, group_header_pieces, row_pieces, spacer_pieces, tail_pieces}
 use Rattle.ariadne_picture.specs.Rows.{Row, asides, group_header, help, note, spacer, tail}
 use Rattle.ariadne_picture.specs.Canvas.{texts_of}
 use Rattle.ariadne_picture.specs.Report.{ReportFields}

@@ -1,13 +1,20 @@
 -- The groups of labels in order: the first group, by where the next cut stands, and the groups of the rest.
-use Rattle.std.proofs.Common.{◌≡◌, ℕ, zero, suc, ◌+◌, ◌-◌, ◌<◌, ◌≤◌, Bool, true, false, List, [], ◌∷◌, ◌++◌, refl, sym, ap, ◌∙◌, length, take, drop, get_or, arith, subst}
+use Rattle.std.proofs.Common.{◌≡◌, ℕ, zero, suc, ◌+◌, ◌-◌, ◌<◌, ◌≤◌, Bool, true, false, List, [], ◌∷◌, ◌++◌, Some, refl, sym, ap, ◌∙◌, length, map, take, drop, get_or, arith, subst}
+use Rattle.std.proofs.Common.{append_assoc}
+use Rattle.std.specs.Prelude.{slice_get}
 use Rattle.std.proofs.lemmas.Bool.{cond_both, cond-false}
-use Rattle.std.proofs.lemmas.List.{get_or-drop, get_or_default, drop_all}
+use Rattle.std.proofs.lemmas.List.{append-nil, get_or-drop, get_or_default, drop_all}
 use Rattle.std.proofs.lemmas.List.Folds.{drop_split}
 use Rattle.std.proofs.Math.ListN.{length-drop}
 use Rattle.std.proofs.Math.Seq.{drop-cons, take-suc}
 use Rattle.std.specs.List.{slice_range, AllByRecursion}
 use Rattle.ariadne_picture.specs.declared.label_info.LabelInfo.{LabelInfo}
+use Rattle.ariadne_picture.specs.Canvas.{same_source}
 use Rattle.ariadne_picture.specs.Groups.{ahead, groups_of, is_cut, HasNoCut, AreCut}
+use Rattle.ariadne_picture.specs.Lists.{joined}
+use Rattle.ariadne_picture.specs.Report.{ReportFields, World}
+use Rattle.ariadne_accept.specs.Drawn.{AreDrawn, IsDrawn}
+use Rattle.ariadne_drawing.specs.Groups.{AreGroups}
 
 -- ---- ranges of a list
 
@@ -153,23 +160,54 @@ module _ (same : ℕ → ℕ → Bool) where
   cut_first (a ∷ g) ([] ∷ gs) h = absurd h
   cut_first (a ∷ g) ((b ∷ next) ∷ gs) h = h.0
 
+  -- a group that stands alone has no cut
+  pub whole_first : (g : List LabelInfo) (gs : List (List LabelInfo)) → AreCut same (g ∷ gs) → AreCut same (g ∷ [])
+  whole_first [] gs h = empty gs h
+    where
+      empty : (gs : List (List LabelInfo)) → AreCut same ([] ∷ gs) → ⊥
+      empty gs h = h
+  whole_first (a ∷ g) gs h = cut_first (a ∷ g) gs h
+
+  -- groups that are cut are so without the first
+  behind_first : (g : List LabelInfo) (gs : List (List LabelInfo)) → AreCut same (g ∷ gs) → AreCut same gs
+  behind_first [] gs h = absurd (empty gs h)
+    where
+      empty : (gs : List (List LabelInfo)) → AreCut same ([] ∷ gs) → ⊥
+      empty gs h = h
+  behind_first (a ∷ g) [] h = tt
+  behind_first (a ∷ g) ([] ∷ gs) h = absurd h
+  behind_first (a ∷ g) ((b ∷ next) ∷ gs) h = h.2
+
+  -- a group has a label
+  pub some_label : (g : List LabelInfo) → AreCut same (g ∷ []) → 0 < length g
+  some_label [] h = absurd h
+  some_label (a ∷ g) h = omega arith
+
+  -- ---- one group after another
+
+  module _ (infos : List LabelInfo) where
+    -- one group more is cut off
+    pub one_cut : (start end : ℕ) (old new : List (List LabelInfo))
+        → groups_of same (drop start infos) ≡ slice_range infos start end ∷ groups_of same (drop end infos)
+        → new ≡ old ++ slice_range infos start end ∷ [] → old ++ groups_of same (drop start infos) ≡ groups_of same infos
+        → new ++ groups_of same (drop end infos) ≡ groups_of same infos
+    one_cut start end old new cut more so_far =
+        let rest = groups_of same (drop end infos) in
+        ap (λ gs. gs ++ rest) more ∙ append_assoc old (slice_range infos start end ∷ []) rest ∙ ap (λ gs. old ++ gs) (sym cut) ∙ so_far
+
+    -- no label is left
+    pub all_cut : (start : ℕ) (gs : List (List LabelInfo)) → length infos ≤ start → gs ++ groups_of same (drop start infos) ≡ groups_of same infos
+        → gs ≡ groups_of same infos
+    unfolding groups_of
+    all_cut start gs past so_far =
+        sym (append-nil gs) ∙ ap (λ xs. gs ++ groups_of same xs) (sym (drop_all start infos past)) ∙ so_far
+
 -- ---- each of some items
 
--- those that stand behind the first n
-pub all_drop : {X : Type 0} (P : X → Type 0) (n : ℕ) (xs : List X) → AllByRecursion P xs → AllByRecursion P (drop n xs)
-all_drop P zero xs a = a
-all_drop P (suc n) [] a = tt
-all_drop P (suc n) (x ∷ xs) a = all_drop P n xs a.1
-
--- the first n
-pub all_take : {X : Type 0} (P : X → Type 0) (n : ℕ) (xs : List X) → AllByRecursion P xs → AllByRecursion P (take n xs)
-all_take P zero xs a = tt
-all_take P (suc n) [] a = tt
-all_take P (suc n) (x ∷ xs) a = (a.0, all_take P n xs a.1)
-
--- those of a range
-pub all_range : {X : Type 0} (P : X → Type 0) (xs : List X) (i j : ℕ) → AllByRecursion P xs → AllByRecursion P (slice_range xs i j)
-all_range P xs i j a = all_take P (j - i) (drop i xs) (all_drop P i xs a)
+-- the first and the others
+pub all_split : {X : Type 0} (P : X → Type 0) (xs ys : List X) → AllByRecursion P (xs ++ ys) → AllByRecursion P xs × AllByRecursion P ys
+all_split P [] ys a = (tt, a)
+all_split P (x ∷ xs) ys a = let rest = all_split P xs ys a.1 in ((a.0, rest.0), rest.1)
 
 -- the one at place k
 pub all_at : {X : Type 0} (P : X → Type 0) (xs : List X) (k : ℕ) (d : X) → k < length xs → AllByRecursion P xs → P (get_or xs k d)
@@ -180,9 +218,43 @@ all_at P [] k d h a = absurd (none k h)
 all_at P (x ∷ xs) zero d h a = a.0
 all_at P (x ∷ xs) (suc k) d h a = all_at P xs k d (omega arith) a.1
 
--- a range that is not empty begins with its first item
-pub range_first : {X : Type 0} (xs : List X) (i j : ℕ) (d : X) → i < j → i < length xs
-    → slice_range xs i j ≡ get_or xs i d ∷ take (j - suc i) (drop (suc i) xs)
-range_first xs i j d low high =
-    let n : j - i ≡ suc (j - suc i) = omega arith in
-    ap (λ k. take k (drop i xs)) n ∙ ap (take (suc (j - suc i))) (drop-cons xs i d high)
+-- ---- what is made of the items of a list
+
+module _ {X Y : Type 0} (f : X → Y) where
+  none_below : (k : ℕ) → k < 0 → ⊥
+  none_below k h = omega arith
+
+  -- at place k
+  pub mapped_at : (xs : List X) (k : ℕ) (d : X) → k < length xs → slice_get (map f xs) k ≡ Some (f (get_or xs k d))
+  mapped_at [] k d h = absurd (none_below k h)
+  mapped_at (x ∷ xs) zero d h = refl
+  mapped_at (x ∷ xs) (suc k) d h = mapped_at xs k d (omega arith)
+
+  -- there is such an item
+  pub some_mapped : (xs : List X) (k : ℕ) → k < length xs → (y : Y) × (slice_get (map f xs) k ≡ Some y)
+  some_mapped [] k h = absurd (none_below k h)
+  some_mapped (x ∷ xs) zero h = (f x, refl)
+  some_mapped (x ∷ xs) (suc k) h = some_mapped xs k (omega arith)
+
+  -- from place k on
+  pub mapped_from : (xs : List X) (k : ℕ) (d : X) → k < length xs → drop k (map f xs) ≡ f (get_or xs k d) ∷ drop (suc k) (map f xs)
+  mapped_from [] k d h = absurd (none_below k h)
+  mapped_from (x ∷ xs) zero d h = refl
+  mapped_from (x ∷ xs) (suc k) d h = mapped_from xs k d (omega arith)
+
+  -- what holds of each holds of that at place k
+  pub all_mapped : (P : Y → Type 0) (xs : List X) (k : ℕ) (d : X) → k < length xs → AllByRecursion P (map f xs) → P (f (get_or xs k d))
+  all_mapped P [] k d h a = absurd (none_below k h)
+  all_mapped P (x ∷ xs) zero d h a = a.0
+  all_mapped P (x ∷ xs) (suc k) d h a = all_mapped P xs k d (omega arith) a.1
+
+-- ---- the groups of labels that are drawn
+
+-- they are groups that are drawn
+pub groups_drawn : {S Id : Type 0} (w : World S Id) (r : ReportFields S) (gs : List (List LabelInfo)) → AreDrawn w r (joined (λ g. g) gs)
+    → AreCut (same_source w r) gs → AreGroups w r gs
+unfolding joined
+groups_drawn w r [] d h = tt
+groups_drawn w r (g ∷ gs) d h =
+    let parts = all_split (IsDrawn w r) g (joined (λ g. g) gs) d in
+    (record { drawn = parts.0; whole = whole_first (same_source w r) g gs h }, groups_drawn w r gs parts.1 (behind_first (same_source w r) g gs h))

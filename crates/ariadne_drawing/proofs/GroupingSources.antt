@@ -1,25 +1,24 @@
 -- The labels of a group are over one source, and lie in its lines.
-use Rattle.std.proofs.Common.{◌≡◌, ℕ, suc, ◌+◌, ◌<◌, ◌||◌, Bool, true, false, max, List, [], ◌∷◌, Option, Some, refl, sym, ap, ◌∙◌, length, get_or, arith, subst}
+use Rattle.std.proofs.Common.{◌≡◌, ℕ, suc, ◌<◌, ◌||◌, Bool, true, false, max, List, [], ◌∷◌, Option, Some, refl, sym, ap, ◌∙◌, length, get_or, arith, subst}
 use Rattle.std.specs.Cmp.{IsEquivalence}
 use Rattle.std.specs.HashMap.Eq.{lookup_congr}
 use Rattle.std.specs.Prelude.{slice_get, option_and_then, option_map, unwrap_or, nat_lt, not}
 use Rattle.std.specs.List.{AllByRecursion}
-use Rattle.std.specs.List.{slice_range}
-use Rattle.std.proofs.Common.{◌-◌, drop, take}
+use Rattle.std.proofs.Common.{drop}
 use Rattle.std.specs.Prelude.{chars, decimal}
 use Rattle.std.proofs.lemmas.Option.{slice_get-get_or, slice_get_within}
 use Rattle.ariadne_base.proofs.LineLaws.{some_line}
-use Rattle.ariadne_picture.proofs.Labels.Cutting.{groups-exist}
 use Rattle.ariadne_base.specs.Cache.{held}
 use Rattle.ariadne_base.specs.Listing.{Listing, listed_lines}
 use Rattle.ariadne_picture.specs.declared.label_info.LabelInfo.{LabelInfo}
 use Rattle.ariadne_picture.specs.Canvas.{label_id, is_same_id, same_source, group_id, group_source, number_width}
-use Rattle.ariadne_picture.specs.Groups.{is_cut, group_end_line, greatest, HasNoCut, AreCut, groups_of, printed_number}
+use Rattle.ariadne_picture.specs.Groups.{is_cut, group_end_line, greatest, HasNoCut, printed_number}
 use Rattle.ariadne_picture.specs.Report.{HaveOneSource, LabelFields, ReportFields, World}
 use Rattle.ariadne_picture.proofs.Lists.ListFacts.{all-weaker}
 use Rattle.ariadne_accept.specs.Drawn.{AreDrawn, AreThere, IsDrawn}
+use Rattle.ariadne_drawing.specs.Groups.{IsGroup}
 use Rattle.ariadne_drawing.specs.Lines.{AreOverLines, IsOverLines}
-use Rattle.ariadne_drawing.proofs.Grouping.{NoCuts, all_at, all_range, cut_first, range_first}
+use Rattle.ariadne_drawing.proofs.Grouping.{NoCuts, cut_first}
 use Rattle.ariadne_drawing.proofs.OverLines.{over-lines}
 
 -- equal ids find one source
@@ -99,11 +98,22 @@ module _ {S Id : Type 0} (w : World S Id) (r : ReportFields S) where
         let equal : next.source ≡ source = cc in
         (subst (λ s. IsOverLines (listed_lines s) a) e (over-lines w r a d), over_rest b group next ds.1 h.1 source equal)
 
-    -- so do those of a group
-    pub over_group : (group : List LabelInfo) → AreDrawn w r group → NoCuts (same_source w r) group
+    -- so they lie in those of their source
+    over_labels : (group : List LabelInfo) → AreDrawn w r group → NoCuts (same_source w r) group
         → AreOverLines (listed_lines (group_source w r group)) group
-    over_group [] d h = tt
-    over_group (a ∷ group) d h = over_rest a group d.0 d.1 h (group_source w r (a ∷ group)) (sym (source_is a group d.0))
+    over_labels [] d h = tt
+    over_labels (a ∷ group) d h = over_rest a group d.0 d.1 h (group_source w r (a ∷ group)) (sym (source_is a group d.0))
+
+    -- the labels of a group do
+    pub over_group : (group : List LabelInfo) → IsGroup w r group → AreOverLines (listed_lines (group_source w r group)) group
+    over_group group g = over_labels group g.drawn (cut_first (same_source w r) group [] g.whole)
+
+    -- its last line is one of them
+    pub end_inside : (group : List LabelInfo) → IsGroup w r group → group_end_line group < length (listed_lines (group_source w r group))
+    end_inside group g =
+        let ls = listed_lines (group_source w r group) in
+        end_below (length ls) group (some_line (chars (group_source w r group).text))
+        (all-weaker (IsOverLines ls) (λ a. a.end_line < length ls) group (λ a o. o.within) (over_group group g))
 
   -- the source that is found for a label that is drawn
   pub found_source : (a : LabelInfo) (d : IsDrawn w r a) (x : LabelFields S) → slice_get r.labels a.position ≡ Some x → (id : Id) → id ≡ w.id_of x.span
@@ -115,64 +125,17 @@ module _ {S Id : Type 0} (w : World S Id) (r : ReportFields S) where
       let both : Some d.source ≡ Some source = sym d.is_held ∙ ap w.source_of ids ∙ sym get ∙ found in
       cc
 
-  -- the label that is drawn at `start`, whose source is the one that is found for it
-  pub found_first : (infos : List LabelInfo) (start : ℕ) (none : LabelInfo) → start < length infos → AreDrawn w r infos
-      → (labels : List (LabelFields S)) (x : LabelFields S) → labels ≡ r.labels → x ≡ get_or labels (get_or infos start none).position x
-      → (id : Id) → id ≡ w.id_of x.span → (o : Option Listing) → o ≡ w.source_of id → (source : Listing) → o ≡ Some source
-      → (d : IsDrawn w r (get_or infos start none)) × (d.source ≡ source)
-  found_first infos start none high drawn labels x same at id is o get source found =
-      let a : LabelInfo = get_or infos start none in
-      let d : IsDrawn w r a = all_at (IsDrawn w r) infos start none high drawn in
-      let there = all_at (λ (a : LabelInfo). a.position < length r.labels) infos start none high (drawn_there infos drawn) in
-      (d, found_source a d x (label_there a.position labels x same at there) id is o get source found)
-
-  -- how wide the numbers of groups are, by the first and the others
-  pub width_more : (g : List LabelInfo) (gs : List (List LabelInfo)) (n : ℕ) → n ≡ group_end_line g + 1 + (group_source w r g).display_offset
-      → number_width w r (g ∷ gs) ≡ max (length (decimal n)) (number_width w r gs)
-  unfolding number_width greatest printed_number
-  width_more g gs n e = ap (λ k. max (length (decimal k)) (number_width w r gs)) (sym e)
+  -- a step of the loop for the width of the numbers of groups
+  pub width_step : (gs : List (List LabelInfo)) (i : ℕ) (group : List LabelInfo) → drop i gs ≡ group ∷ drop (suc i) gs → (n width new all : ℕ)
+      → n ≡ printed_number (group_source w r group).display_offset (group_end_line group) → new ≡ max width (length (decimal n))
+      → all ≡ max width (number_width w r (drop i gs)) → all ≡ max new (number_width w r (drop (suc i) gs))
+  unfolding number_width greatest
+  width_step gs i group at n width new all is more so_far =
+      let wide : number_width w r (drop i gs) ≡ max (length (decimal n)) (number_width w r (drop (suc i) gs)) =
+      ap (number_width w r) at ∙ ap (λ k. max (length (decimal k)) (number_width w r (drop (suc i) gs))) (sym is) in
+      omega arith
 
   -- no group has no width
-  pub width_none : number_width w r (groups_of (same_source w r) []) ≡ 0
-  unfolding number_width greatest groups_of
+  pub width_none : number_width w r [] ≡ 0
+  unfolding number_width greatest
   width_none = refl
-
-  -- a group that begins at `start` and ends before `end`
-  module _ (one : HaveOneSource w) (infos : List LabelInfo) (start end : ℕ) (drawn : AreDrawn w r infos) (after : start < end) (high : start < length infos) where
-    -- its source is that of its first label
-    pub range_source : (x : LabelInfo) (d : IsDrawn w r (get_or infos start x)) → group_source w r (slice_range infos start end) ≡ d.source
-    range_source x d =
-        ap (group_source w r) (range_first infos start end x after high) ∙ source_is (get_or infos start x) (take (end - suc start) (drop (suc start) infos)) d
-
-    module _ (gs : List (List LabelInfo)) (cut : groups_of (same_source w r) (drop start infos) ≡ slice_range infos start end ∷ gs) where
-      -- its labels lie in the lines of its source
-      pub range_over : AreOverLines (listed_lines (group_source w r (slice_range infos start end))) (slice_range infos start end)
-      range_over =
-          over_group one (slice_range infos start end) (all_range (IsDrawn w r) infos start end drawn)
-          (cut_first (same_source w r) (slice_range infos start end) gs
-          (subst (AreCut (same_source w r)) cut (groups-exist (same_source w r) (drop start infos)).cut))
-
-      -- its last line is one of them
-      pub range_end : group_end_line (slice_range infos start end) < length (listed_lines (group_source w r (slice_range infos start end)))
-      range_end =
-          let ls = listed_lines (group_source w r (slice_range infos start end)) in
-          end_below (length ls) (slice_range infos start end) (some_line (chars (group_source w r (slice_range infos start end)).text))
-          (all-weaker (IsOverLines ls) (λ a. a.end_line < length ls) (slice_range infos start end) (λ a o. o.within) range_over)
-
-      -- the number of that line
-      pub range_number : (source : Listing) (x : LabelInfo) (d : IsDrawn w r (get_or infos start x)) → d.source ≡ source
-          → group_end_line (slice_range infos start end) < length (listed_lines source)
-      range_number source x d e =
-          subst (λ s. group_end_line (slice_range infos start end) < length (listed_lines s)) (range_source x d ∙ e) range_end
-
-      -- a step of the loop for the width
-      pub range_width : (source : Listing) (x : LabelInfo) (d : IsDrawn w r (get_or infos start x)) → d.source ≡ source → (n width new all : ℕ)
-          → n ≡ group_end_line (slice_range infos start end) + 1 + source.display_offset → new ≡ max width (length (decimal n))
-          → all ≡ max width (number_width w r (groups_of (same_source w r) (drop start infos))) → all ≡ max new (number_width w r gs)
-      range_width source x d e n width new all is more so_far =
-          let o : source.display_offset ≡ (group_source w r (slice_range infos start end)).display_offset =
-          ap (λ (s : Listing). s.display_offset) (sym (range_source x d ∙ e)) in
-          let m : n ≡ group_end_line (slice_range infos start end) + 1 + (group_source w r (slice_range infos start end)).display_offset = omega arith in
-          let wide : number_width w r (groups_of (same_source w r) (drop start infos)) ≡ max (length (decimal n)) (number_width w r gs) =
-          ap (number_width w r) cut ∙ width_more (slice_range infos start end) gs n m in
-          omega arith

@@ -1,3 +1,4 @@
+pub mod Groups
 pub mod Headers
 pub mod Lines
 pub mod WholePages

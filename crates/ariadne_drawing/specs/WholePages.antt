@@ -2,8 +2,7 @@
 use Rattle.std.specs.Prelude.{List, [], if◌then◌else◌}
 use Rattle.ariadne_cells.specs.Pages.{PageFields}
 use Rattle.ariadne_picture.specs.declared.label_info.LabelInfo.{LabelInfo}
-use Rattle.ariadne_picture.specs.Canvas.{Palette, number_width, palette_of, same_source}
-use Rattle.ariadne_picture.specs.Groups.{groups_of}
+use Rattle.ariadne_picture.specs.Canvas.{Palette, number_width, palette_of}
 use Rattle.ariadne_picture.specs.Report.{ReportFields, World, switches_of}
 
 -- the colours that are shown: with colours off those of the labels aren't read
@@ -14,10 +13,10 @@ shown_palette p = record {
   labels = if p.is_on then p.labels else [];
 }
 
--- it has the report's colours and switches, and room for the line numbers of these labels in order
-abbrev pub page_of : {S Id : Type 0} → World S Id → ReportFields S → List LabelInfo → PageFields
-page_of w r sorted = record {
+-- it has the report's colours and switches, and room for the line numbers of these groups
+abbrev pub page_of : {S Id : Type 0} → World S Id → ReportFields S → List (List LabelInfo) → PageFields
+page_of w r groups = record {
   palette = shown_palette (palette_of r);
   switches = switches_of r.config;
-  number_width = number_width w r (groups_of (same_source w r) sorted);
+  number_width = number_width w r groups;
 }

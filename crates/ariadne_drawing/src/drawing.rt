@@ -2,12 +2,12 @@
 
 ghost use Rattle.std.specs.Prelude.{◌≡◌, ◌+◌, ◌<◌, ◌≤◌, ◌==◌, ◌++◌, ℕ, List, [], ◌∷◌, Option, Some};
 ghost use Rattle.std.specs.Prelude.{None, true};
-ghost use Rattle.std.specs.Prelude.{IfOk, OnOk, chars, drop, if◌then◌else◌, length, map, slice_get};
-ghost use Rattle.std.specs.Prelude.{slice_range, string_bytes};
+ghost use Rattle.std.specs.Prelude.{IfOk, OnOk, chars, if◌then◌else◌, length, map, slice_get};
+ghost use Rattle.std.specs.Prelude.{string_bytes};
 ghost use Rattle.std.specs.List.{enumerate_from};
 ghost use Rattle.ariadne_accept.specs.Drawn.{AreDrawn, world};
+ghost use Rattle.ariadne_drawing.specs.Groups.{AreGroups, IsGroup};
 ghost use Rattle.ariadne_drawing.specs.Headers.{IsOwnLocation, own_offset};
-ghost use Rattle.ariadne_drawing.specs.Lines.{AreOverLines};
 ghost use Rattle.ariadne_drawing.specs.WholePages.{page_of, shown_palette};
 ghost use Rattle.ariadne_base.specs.Listing.{Listing, listed_lines};
 ghost use Rattle.ariadne_cells.specs.Pages.{DrawsRows};
@@ -23,7 +23,7 @@ ghost use Rattle.ariadne_picture.specs.Rows.{asides, group_header, help, note, s
 ghost use Rattle.ariadne_rows.specs.Gutters.{IsOfSheet};
 ghost use Rattle.ariadne_rows.specs.Headers.{IsOnPage, location_numbers};
 
-use crate::groups::{group_end, number_width};
+use crate::groups::{cut_groups, number_width};
 use crate::lines::{Lists, push_lines};
 use ariadne_accept::accept::offset_in_chars;
 use ariadne_accept::content::Content;
@@ -58,7 +58,8 @@ pub fn draw<S: Span, C: Cache<S::SourceId>>(
         IfOk result (λ text. string_bytes text ≡ printed (canvas w report.now infos.items)) }
 {
     let sorted = in_order(report.alloc, infos)?;
-    picture(report, cache, &sorted)
+    let groups = cut_groups(report, &sorted)?;
+    picture(report, cache, &groups)
 }
 
 /// The labels in the order in which they are drawn.
@@ -70,63 +71,69 @@ fn in_order(alloc: Global, infos: Vec<LabelInfo>) -> Result<Vec<LabelInfo>, Allo
     Ok(infos)
 }
 
-/// The text of a report's picture, over labels in order.
+/// The text of a report's picture, whose groups these are.
 fn picture<S: Span, C: Cache<S::SourceId>>(
     report: &Content<'_, S>,
     cache: &C,
-    infos: &[LabelInfo],
+    groups: &[&[LabelInfo]],
 ) -> Result<String, AllocError>
-    requires drawn { let w = world S.source_of S.start_of S.end_of S.SourceId.eq
-        (C.names cache.now) (C.contents cache.now) in AreDrawn w report.now infos.now }
-    ensures { let w = world S.source_of S.start_of S.end_of S.SourceId.eq
+    requires groups { let w = world S.source_of S.start_of S.end_of S.SourceId.eq
         (C.names cache.now) (C.contents cache.now) in
-        (labels : List LabelInfo) → infos.now ≡ ordered labels →
-        IfOk result (λ text. string_bytes text ≡ printed (canvas w report.now labels)) }
+        AreGroups w report.now (map (λ g. g.now) groups.now) }
+    ensures { let w = world S.source_of S.start_of S.end_of S.SourceId.eq
+        (C.names cache.now) (C.contents cache.now) in let r = report.now in
+        (labels : List LabelInfo) →
+        map (λ g. g.now) groups.now ≡ groups_of (same_source w r) (ordered labels) →
+        IfOk result (λ text. string_bytes text ≡ printed (canvas w r labels)) }
 {
-    let page = page(report, cache, infos)?;
+    let page = page(report, cache, groups)?;
     let mut pen = Pen::new(report.alloc, &page);
     pen.reserve(FIRST_ROOM)?;
-    push_picture(&mut pen, &page, report, cache, infos)?;
+    push_picture(&mut pen, &page, report, cache, groups)?;
     Ok(pen.into_text())
 }
 
-/// What all rows of a report's picture share, over labels in order.
+/// What all rows of a report's picture share, whose groups these are.
 fn page<S: Span, C: Cache<S::SourceId>>(
     report: &Content<'_, S>,
     cache: &C,
-    infos: &[LabelInfo],
+    groups: &[&[LabelInfo]],
 ) -> Result<Page, AllocError>
-    requires drawn { let w = world S.source_of S.start_of S.end_of S.SourceId.eq
-        (C.names cache.now) (C.contents cache.now) in AreDrawn w report.now infos.now }
+    requires groups { let w = world S.source_of S.start_of S.end_of S.SourceId.eq
+        (C.names cache.now) (C.contents cache.now) in
+        AreGroups w report.now (map (λ g. g.now) groups.now) }
     ensures { let w = world S.source_of S.start_of S.end_of S.SourceId.eq
         (C.names cache.now) (C.contents cache.now) in
-        IfOk result (λ page. page ≡ page_of w report.now infos.now) }
+        IfOk result (λ page. page ≡ page_of w report.now (map (λ g. g.now) groups.now)) }
 {
-    let width = number_width(report, cache, infos);
+    let width = number_width(report, cache, groups);
     let switches = report.config().switches();
     Page::new(report.alloc, palette(report)?, switches, width)
 }
 
-/// Writes the header of a report's picture and its groups, over labels in order.
+/// Writes the header of a report's picture and its groups.
 fn push_picture<S: Span, C: Cache<S::SourceId>>(
     pen: &mut Pen<'_>,
     page: &Page,
     report: &Content<'_, S>,
     cache: &C,
-    infos: &[LabelInfo],
+    groups: &[&[LabelInfo]],
 ) -> Result<(), AllocError>
     requires page { pen.old.page ≡ page.now }
     requires fields { let w = world S.source_of S.start_of S.end_of S.SourceId.eq
-        (C.names cache.now) (C.contents cache.now) in page.now ≡ page_of w report.now infos.now }
-    requires drawn { let w = world S.source_of S.start_of S.end_of S.SourceId.eq
-        (C.names cache.now) (C.contents cache.now) in AreDrawn w report.now infos.now }
-    ensures { let w = world S.source_of S.start_of S.end_of S.SourceId.eq
         (C.names cache.now) (C.contents cache.now) in
-        (labels : List LabelInfo) → infos.now ≡ ordered labels →
-        OnOk result (DrawsRows pen.old pen.new (outline w report.now labels)) }
+        page.now ≡ page_of w report.now (map (λ g. g.now) groups.now) }
+    requires groups { let w = world S.source_of S.start_of S.end_of S.SourceId.eq
+        (C.names cache.now) (C.contents cache.now) in
+        AreGroups w report.now (map (λ g. g.now) groups.now) }
+    ensures { let w = world S.source_of S.start_of S.end_of S.SourceId.eq
+        (C.names cache.now) (C.contents cache.now) in let r = report.now in
+        (labels : List LabelInfo) →
+        map (λ g. g.now) groups.now ≡ groups_of (same_source w r) (ordered labels) →
+        OnOk result (DrawsRows pen.old pen.new (outline w r labels)) }
 {
     push_header(pen, report.code(), report.kind.name(), report.message())?;
-    push_groups(pen, page, report, cache, infos)
+    push_groups(pen, page, report, cache, groups)
 }
 
 /// The colours that the pieces of a report's picture may have.
@@ -154,103 +161,64 @@ fn shown_colors<S: Span>(report: &Content<'_, S>) -> Result<Vec<Option<Color>>, 
     Ok(labels)
 }
 
-/// Writes the groups of labels in order.
+/// Writes the groups of a picture.
 fn push_groups<'a, S: Span, C: Cache<S::SourceId>>(
     pen: &mut Pen<'_>,
     page: &'a Page,
     report: &Content<'_, S>,
     cache: &C,
-    infos: &'a [LabelInfo],
+    groups: &[&'a [LabelInfo]],
 ) -> Result<(), AllocError>
     requires page { pen.old.page ≡ page.now }
     requires switches { page.now.switches ≡ switches_of report.now.config }
-    requires drawn { let w = world S.source_of S.start_of S.end_of S.SourceId.eq
-        (C.names cache.now) (C.contents cache.now) in AreDrawn w report.now infos.now }
+    requires groups { let w = world S.source_of S.start_of S.end_of S.SourceId.eq
+        (C.names cache.now) (C.contents cache.now) in
+        AreGroups w report.now (map (λ g. g.now) groups.now) }
     ensures { let w = world S.source_of S.start_of S.end_of S.SourceId.eq
         (C.names cache.now) (C.contents cache.now) in let r = report.now in
-        let gs = groups_of (same_source w r) infos.now in
+        let gs = map (λ g. g.now) groups.now in
         OnOk result (DrawsRows pen.old pen.new
         (joined (λ e. section_rows (texts_of r) page.now.number_width
         (section_of w r (length gs) e)) (enumerate_from 0 gs))) }
 {
     let own = own_location(report, cache);
     let mut lists = Lists::new(report.alloc, page);
-    push_groups_over(pen, &mut lists, report, cache, own, infos)
-}
-
-/// Writes the groups of labels in order, each of which these lists are filled with in turn. `own`
-/// is where the report's own span starts.
-fn push_groups_over<'a, S: Span, C: Cache<S::SourceId>>(
-    pen: &mut Pen<'_>,
-    lists: &mut Lists<'a>,
-    report: &Content<'_, S>,
-    cache: &C,
-    own: Option<(usize, usize)>,
-    infos: &'a [LabelInfo],
-) -> Result<(), AllocError>
-    requires page { lists.old.gutter.page ≡ pen.old.page }
-    requires switches { pen.old.page.switches ≡ switches_of report.now.config }
-    requires drawn { let w = world S.source_of S.start_of S.end_of S.SourceId.eq
-        (C.names cache.now) (C.contents cache.now) in AreDrawn w report.now infos.now }
-    requires own { let w = world S.source_of S.start_of S.end_of S.SourceId.eq
-        (C.names cache.now) (C.contents cache.now) in IsOwnLocation w report.now own }
-    ensures { let w = world S.source_of S.start_of S.end_of S.SourceId.eq
-        (C.names cache.now) (C.contents cache.now) in let r = report.now in
-        let gs = groups_of (same_source w r) infos.now in
-        OnOk result (DrawsRows pen.old pen.new
-        (joined (λ e. section_rows (texts_of r) pen.old.page.number_width
-        (section_of w r (length gs) e)) (enumerate_from 0 gs))) }
-{
-    let mut start = 0;
-    while start < infos.len() {
-        start = push_group_from(pen, lists, report, cache, own, infos, start)?;
+    for rank in 0..groups.len() {
+        push_group_of_rank(pen, &mut lists, report, cache, own, groups, rank)?;
     }
     Ok(())
 }
 
-/// Writes the rows of the group that begins at `start`, and gives where the next one begins.
-fn push_group_from<'a, S: Span, C: Cache<S::SourceId>>(
+/// Writes the rows of the group of a rank, which these lists are filled with. `own` is where the
+/// report's own span starts.
+fn push_group_of_rank<'a, S: Span, C: Cache<S::SourceId>>(
     pen: &mut Pen<'_>,
     lists: &mut Lists<'a>,
     report: &Content<'_, S>,
     cache: &C,
     own: Option<(usize, usize)>,
-    infos: &'a [LabelInfo],
-    start: usize,
-) -> Result<usize, AllocError>
+    groups: &[&'a [LabelInfo]],
+    rank: usize,
+) -> Result<(), AllocError>
     requires page { lists.old.gutter.page ≡ pen.old.page }
     requires switches { pen.old.page.switches ≡ switches_of report.now.config }
-    requires start { start < length infos.now }
-    requires drawn { let w = world S.source_of S.start_of S.end_of S.SourceId.eq
-        (C.names cache.now) (C.contents cache.now) in AreDrawn w report.now infos.now }
+    requires rank { rank < length groups.now }
+    requires groups { let w = world S.source_of S.start_of S.end_of S.SourceId.eq
+        (C.names cache.now) (C.contents cache.now) in
+        AreGroups w report.now (map (λ g. g.now) groups.now) }
     requires own { let w = world S.source_of S.start_of S.end_of S.SourceId.eq
         (C.names cache.now) (C.contents cache.now) in IsOwnLocation w report.now own }
     ensures page { OnOk result (lists.new.gutter.page ≡ lists.old.gutter.page) }
-    ensures after { IfOk result (λ end. start < end) }
-    ensures within { IfOk result (λ end. end ≤ length infos.now) }
-    ensures groups { let w = world S.source_of S.start_of S.end_of S.SourceId.eq
-        (C.names cache.now) (C.contents cache.now) in let same = same_source w report.now in
-        IfOk result (λ end. groups_of same (drop start infos.now)
-        ≡ slice_range infos.now start end ∷ groups_of same (drop end infos.now)) }
     ensures drawn { let w = world S.source_of S.start_of S.end_of S.SourceId.eq
         (C.names cache.now) (C.contents cache.now) in let r = report.now in
-        (n k : ℕ) → (start == 0) ≡ (k == 0) →
-        IfOk result (λ end. (end == length infos.now) ≡ (k + 1 == n) →
-        DrawsRows pen.old pen.new (section_rows (texts_of r) pen.old.page.number_width
-        (section_of w r n (k, slice_range infos.now start end)))) }
+        let gs = map (λ g. g.now) groups.now in
+        (group : List LabelInfo) → slice_get gs rank ≡ Some group →
+        OnOk result (DrawsRows pen.old pen.new (section_rows (texts_of r) pen.old.page.number_width
+        (section_of w r (length gs) (rank, group)))) }
 {
-    let end = group_end(report, infos, start);
-    lists.sheet.fill(&infos[start..end])?;
-    push_group(
-        pen,
-        lists,
-        report,
-        cache,
-        own,
-        start == 0,
-        end == infos.len(),
-    )?;
-    Ok(end)
+    lists.sheet.fill(groups[rank])?;
+    let is_last = rank + 1 == groups.len();
+    push_group(pen, lists, report, cache, own, rank == 0, is_last)
 }
 
 /// Writes the rows of a group, whose labels are those of `lists.sheet`.
@@ -266,15 +234,11 @@ fn push_group<S: Span, C: Cache<S::SourceId>>(
     requires page { lists.old.gutter.page ≡ pen.old.page }
     requires switches { pen.old.page.switches ≡ switches_of report.now.config }
     requires line { lists.old.sheet.line ≡ 0 }
-    requires labels { 0 < length lists.old.sheet.labels }
-    requires drawn { let w = world S.source_of S.start_of S.end_of S.SourceId.eq
+    requires group { let w = world S.source_of S.start_of S.end_of S.SourceId.eq
         (C.names cache.now) (C.contents cache.now) in
-        AreDrawn w report.now lists.old.sheet.labels }
+        IsGroup w report.now lists.old.sheet.labels }
     requires own { let w = world S.source_of S.start_of S.end_of S.SourceId.eq
         (C.names cache.now) (C.contents cache.now) in IsOwnLocation w report.now own }
-    requires over { let w = world S.source_of S.start_of S.end_of S.SourceId.eq
-        (C.names cache.now) (C.contents cache.now) in let labels = lists.old.sheet.labels in
-        AreOverLines (listed_lines (group_source w report.now labels)) labels }
     ensures page { OnOk result (lists.new.gutter.page ≡ lists.old.gutter.page) }
     ensures drawn { let w = world S.source_of S.start_of S.end_of S.SourceId.eq
         (C.names cache.now) (C.contents cache.now) in let r = report.now in

@@ -1,24 +1,44 @@
 //! The groups of a picture: where the labels in order are cut.
 
-ghost use Rattle.std.specs.Prelude.{◌≡◌, ◌<◌, ◌≤◌, ℕ, List, ◌∷◌, Option, drop, length};
+ghost use Rattle.std.specs.Prelude.{◌≡◌, ◌<◌, ◌≤◌, ℕ, List, ◌∷◌, IfOk, Option, drop, length, map};
 ghost use Rattle.std.specs.Prelude.{slice_range};
-ghost use Rattle.ariadne_accept.specs.Drawn.{AreDrawn, AreThere, world};
+ghost use Rattle.ariadne_accept.specs.Drawn.{AreThere, world};
 ghost use Rattle.ariadne_base.specs.Listing.{Listing};
-ghost use Rattle.ariadne_picture.specs.Canvas.{number_width, same_source};
-ghost use Rattle.ariadne_picture.specs.Groups.{groups_of, is_cut};
+ghost use Rattle.ariadne_drawing.specs.Groups.{AreGroups, IsGroup};
+ghost use Rattle.ariadne_picture.specs.Canvas.{group_source, number_width, same_source};
+ghost use Rattle.ariadne_picture.specs.Groups.{group_end_line, groups_of, is_cut, printed_number};
 
 use crate::lines::last_line;
 use ariadne_accept::content::Content;
 use ariadne_base::{Cache, Span};
 use ariadne_cells::margin::decimal_len;
 use ariadne_picture::label_info::LabelInfo;
+use std::alloc::AllocError;
+
+/// The groups of labels in order, from top to bottom. On `Err` there was no memory for them.
+pub(crate) fn cut_groups<'a, S: Span>(
+    report: &Content<'_, S>,
+    infos: &'a [LabelInfo],
+) -> Result<Vec<&'a [LabelInfo]>, AllocError>
+    requires there { AreThere report.now infos.now }
+    ensures { (names : S.SourceId → Option (List ℕ))
+        (contents : List (S.SourceId × Listing)) →
+        let same = same_source (world S.source_of S.start_of S.end_of S.SourceId.eq names contents)
+        report.now in
+        IfOk result (λ groups. map (λ g. g.now) groups.items ≡ groups_of same infos.now) }
+{
+    let mut groups = Vec::new(report.alloc);
+    let mut start = 0;
+    while start < infos.len() {
+        let end = group_end(report, infos, start);
+        groups.push(&infos[start..end])?;
+        start = end;
+    }
+    Ok(groups)
+}
 
 /// The end of the group that begins at `start`: where the next cut stands.
-pub(crate) fn group_end<S: Span>(
-    report: &Content<'_, S>,
-    infos: &[LabelInfo],
-    start: usize,
-) -> usize
+fn group_end<S: Span>(report: &Content<'_, S>, infos: &[LabelInfo], start: usize) -> usize
     requires there { AreThere report.now infos.now }
     requires start { start < length infos.now }
     ensures after { start < result }
@@ -53,28 +73,42 @@ fn is_cut<S: Span>(report: &Content<'_, S>, a: &LabelInfo, b: &LabelInfo) -> boo
     *first != *second || b.end_line < a.end_line
 }
 
-/// How many columns the greatest line number of all groups takes, of labels in order.
+/// How many columns the greatest line number of all groups takes.
 pub(crate) fn number_width<S: Span, C: Cache<S::SourceId>>(
     report: &Content<'_, S>,
     cache: &C,
-    infos: &[LabelInfo],
+    groups: &[&[LabelInfo]],
 ) -> usize
-    requires drawn { let w = world S.source_of S.start_of S.end_of S.SourceId.eq
-        (C.names cache.now) (C.contents cache.now) in AreDrawn w report.now infos.now }
+    requires groups { let w = world S.source_of S.start_of S.end_of S.SourceId.eq
+        (C.names cache.now) (C.contents cache.now) in
+        AreGroups w report.now (map (λ g. g.now) groups.now) }
     ensures { let w = world S.source_of S.start_of S.end_of S.SourceId.eq
         (C.names cache.now) (C.contents cache.now) in
-        result ≡ number_width w report.now (groups_of (same_source w report.now) infos.now) }
+        result ≡ number_width w report.now (map (λ g. g.now) groups.now) }
 {
     let mut width = 0;
-    let mut start = 0;
-    while start < infos.len() {
-        let end = group_end(report, infos, start);
-        let id = report.labels()[infos[start].position].span().source();
-        let source = C::get(cache, id).unwrap();
-        let offset = source.display_line_offset();
-        let number = last_line(&infos[start..end]) + 1 + offset;
-        width = width.max(decimal_len(number));
-        start = end;
+    for group in groups {
+        width = width.max(decimal_len(last_number(report, cache, group)));
     }
     width
+}
+
+/// The number of the last line of a group, as it is printed.
+fn last_number<S: Span, C: Cache<S::SourceId>>(
+    report: &Content<'_, S>,
+    cache: &C,
+    group: &[LabelInfo],
+) -> usize
+    requires group { let w = world S.source_of S.start_of S.end_of S.SourceId.eq
+        (C.names cache.now) (C.contents cache.now) in IsGroup w report.now group.now }
+    ensures { let w = world S.source_of S.start_of S.end_of S.SourceId.eq
+        (C.names cache.now) (C.contents cache.now) in
+        result ≡ printed_number (group_source w report.now group.now).display_offset
+        (group_end_line group.now) }
+{
+    let first = group[0];
+    let id = report.labels()[first.position].span().source();
+    let source = C::get(cache, id).unwrap();
+    let offset = source.display_line_offset();
+    last_line(group) + 1 + offset
 }

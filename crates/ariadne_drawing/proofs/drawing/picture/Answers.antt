@@ -12,9 +12,9 @@ push_picture-requires-clause-page g c =
 
 -- its bytes are those of the picture
 pub returns : goal.returns
-returns g c = λ labels sorted.
+returns g c = λ labels same.
     let w = world g.S.Span.source_of g.S.Span.start_of g.S.Span.end_of g.S.SourceId.PartialEq.eq (g.C.Cache.names c.args.cache.now)
     (g.C.Cache.contents c.args.cache.now) in
     c.into_text.ensures
     ∙ outline_bytes w c.args.report.now labels c.in_ok-page.page c.reserve.new.self c.push_picture.new.pen (c.in_ok-reserve.ensures ∙ c.new-pen.ensures)
-    (ap (λ (x : PageFields). x.palette) c.in_ok-page.ensures) (c.in_ok-push_picture.ensures labels sorted)
+    (ap (λ (x : PageFields). x.palette) c.in_ok-page.ensures) (c.in_ok-push_picture.ensures labels same)

@@ -8,6 +8,8 @@ use Rattle.ariadne_picture.specs.Canvas.{section_of, texts_of}
 use Rattle.ariadne_rows.specs.Gutters.{GutterFields}
 use Rattle.ariadne_accept.specs.Drawn.{world}
 use Rattle.ariadne_drawing.specs.Lines.{AreOverLines}
+use Rattle.ariadne_drawing.proofs.Grouping.{some_label}
+use Rattle.ariadne_drawing.proofs.GroupingSources.{one_source, over_group}
 use Rattle.ariadne_drawing.proofs.GroupParts.{section_gutter, section_labels, section_last, section_page, section_source, section_switches, texts_switches}
 use Rattle.ariadne_drawing.proofs.GroupParts.{whole_group}
 use Rattle.ariadne_drawing.proofs.drawing.push_group.Goals as goal
@@ -17,10 +19,23 @@ pub push_lines-requires-clause-texts : goal.push_lines-requires-clause-texts
 push_lines-requires-clause-texts g c =
     texts_switches c.args.report.now ∙ sym c.requires.switches ∙ ap (λ (p : PageFields). p.switches) (sym c.in_ok-source.ensures.page)
 
+-- the group has a label
+pub push_group_head-requires-clause-labels : goal.push_group_head-requires-clause-labels
+push_group_head-requires-clause-labels g c = some_label _ c.args.lists.now.sheet.labels c.requires.group.whole
+
+-- so its lines do
+pub push_lines-requires-clause-labels : goal.push_lines-requires-clause-labels
+push_lines-requires-clause-labels g c = some_label _ c.args.lists.now.sheet.labels c.requires.group.whole
+
 -- the labels lie in the lines of the source
 pub push_lines-requires-clause-over : goal.push_lines-requires-clause-over
 push_lines-requires-clause-over g c =
-    subst (λ (s : Listing). AreOverLines (listed_lines s) c.args.lists.now.sheet.labels) (sym c.in_ok-source.ensures.source) c.requires.over
+    let w = world g.S.Span.source_of g.S.Span.start_of g.S.Span.end_of g.S.SourceId.PartialEq.eq (g.C.Cache.names c.args.cache.now)
+    (g.C.Cache.contents c.args.cache.now) in
+    let labels = c.args.lists.now.sheet.labels in
+    let one = one_source g.S.SourceId.PartialEq.eq g.met.S.SourceId.Eq.laws (g.C.Cache.contents c.args.cache.now) in
+    subst (λ (s : Listing). AreOverLines (listed_lines s) labels) (sym c.in_ok-source.ensures.source)
+    (over_group w c.args.report.now one labels c.requires.group)
 
 -- the lines leave the page too, and there is such a group
 pub push_foot-requires : goal.push_foot-requires

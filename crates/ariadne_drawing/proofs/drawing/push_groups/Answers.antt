@@ -1,29 +1,63 @@
--- The lists begin on the page.
-use Rattle.std.proofs.Common.{◌∙◌, ap, length, sym, subst}
-use Rattle.std.specs.Prelude.{OnOk}
+-- Each group is the next of all, and its rows follow those of the groups before it.
+use Rattle.std.proofs.Common.{◌∙◌, ◌<◌, ◌≤◌, List, length, map, ap, arith, subst, Bor}
+use Rattle.std.proofs.lemmas.List.{length-map}
 use Rattle.ariadne_accept.specs.Drawn.{world}
 use Rattle.ariadne_cells.specs.Pages.{DrawsRows, PageFields}
-use Rattle.ariadne_picture.specs.Canvas.{same_source}
-use Rattle.ariadne_picture.specs.Groups.{groups_of}
+use Rattle.ariadne_cells.proofs.Drawn.{draws_rows_none, rows_page}
+use Rattle.ariadne_picture.specs.Canvas.{section_of, texts_of}
+use Rattle.ariadne_picture.specs.Lists.{joined}
+use Rattle.ariadne_picture.specs.Pieces.{section_rows}
+use Rattle.ariadne_picture.specs.declared.label_info.LabelInfo.{LabelInfo}
+use Rattle.ariadne_rows.proofs.Listing.{all-enumerated}
 use Rattle.ariadne_rows.specs.Gutters.{GutterFields}
-use Rattle.ariadne_drawing.proofs.WholePictures.{rows_from}
+use Rattle.ariadne_drawing.proofs.Grouping.{some_mapped}
+use Rattle.ariadne_drawing.proofs.WholePictures.{rows_more}
 use Rattle.ariadne_drawing.proofs.drawing.push_groups.Goals as goal
 
--- the gutter is on it
-pub push_groups_over-requires-clause-page : goal.push_groups_over-requires-clause-page
-push_groups_over-requires-clause-page g c = ap (λ (x : GutterFields). x.page) c.new-lists.ensures.gutter ∙ sym c.requires.page
+-- no row is written
+pub loop-rank-init : goal.loop-rank-init
+unfolding joined
+loop-rank-init g c = record {
+  page = c.requires.page;
+  gutter = ap (λ (x : GutterFields). x.page) c.new-lists.ensures.gutter;
+  drawn = draws_rows_none c.args.pen.now;
+}
 
--- so is the pen
-pub push_groups_over-requires-clause-switches : goal.push_groups_over-requires-clause-switches
-push_groups_over-requires-clause-switches g c = ap (λ (x : PageFields). x.switches) c.requires.page ∙ c.requires.switches
+-- the rows of one group more
+pub loop-rank-preserved : goal.loop-rank-preserved
+loop-rank-preserved g c =
+    let w = world g.S.Span.source_of g.S.Span.start_of g.S.Span.end_of g.S.SourceId.PartialEq.eq (g.C.Cache.names c.args.cache.now)
+    (g.C.Cache.contents c.args.cache.now) in
+    let r = c.args.report.now in
+    let groups = c.args.groups.now in
+    let gs = map (λ (x : Bor (List LabelInfo)). x.now) groups in
+    let width = c.args.page.now.number_width in
+    let b = c.loop-rank.pen in
+    let z = c.push_group_of_rank.new.pen in
+    let k = c.loop-rank.rank in
+    let less : k < length groups = omega arith in
+    let here = some_mapped (λ (x : Bor (List LabelInfo)). x.now) groups k less in
+    let rows = c.in_ok-push_group_of_rank.ensures.drawn here.0 here.1 in
+    let page = c.loop-rank.invariant.page in
+    let next : DrawsRows b z (section_rows (texts_of r) width (section_of w r (length gs) (k, here.0))) =
+    subst (λ (p : PageFields). DrawsRows b z (section_rows (texts_of r) p.number_width (section_of w r (length gs) (k, here.0)))) page rows in
+    record {
+      page = rows_page b z _ rows ∙ page;
+      gutter = c.in_ok-push_group_of_rank.ensures.page ∙ c.loop-rank.invariant.gutter;
+      drawn =
+          rows_more (λ e. section_rows (texts_of r) width (section_of w r (length gs) e)) k c.args.pen.now b z gs here.0 here.1
+          c.loop-rank.invariant.drawn next;
+    }
 
--- the groups are written
+-- no group is left
 pub returns : goal.returns
 returns g c =
     let w = world g.S.Span.source_of g.S.Span.start_of g.S.Span.end_of g.S.SourceId.PartialEq.eq (g.C.Cache.names c.args.cache.now)
     (g.C.Cache.contents c.args.cache.now) in
     let r = c.args.report.now in
-    let gs = groups_of (same_source w r) c.args.infos.now in
-    subst (λ (p : PageFields).
-    OnOk c.push_groups_over.result (DrawsRows c.args.pen.now c.push_groups_over.new.pen (rows_from w r p.number_width (length gs) 0 gs)))
-    c.requires.page c.push_groups_over.ensures
+    let gs = map (λ (x : Bor (List LabelInfo)). x.now) c.args.groups.now in
+    let size = length-map c.args.groups.now (λ (x : Bor (List LabelInfo)). x.now) in
+    let all : length gs ≤ c.loop-rank.rank = omega arith in
+    subst (λ es. DrawsRows c.args.pen.now c.loop-rank.pen
+    (joined (λ e. section_rows (texts_of r) c.args.page.now.number_width (section_of w r (length gs) e)) es))
+    (all-enumerated gs c.loop-rank.rank all) c.loop-rank.invariant.drawn

@@ -1,10 +1,11 @@
 -- The header and the groups below it are the outline of the picture.
-use Rattle.std.proofs.Common.{◌≡◌, ◌∙◌, ap, sym}
+use Rattle.std.proofs.Common.{◌≡◌, ◌∙◌, List, ap, map, sym, Bor}
 use Rattle.std.proofs.lemmas.Result.{on_ok_weaker}
 use Rattle.std.specs.Option.{option_copied}
 use Rattle.ariadne_cells.specs.Pages.{PageFields, PenFields}
 use Rattle.ariadne_picture.specs.Canvas.{kind_name, texts_of}
 use Rattle.ariadne_picture.specs.Report.{ReportFields}
+use Rattle.ariadne_picture.specs.declared.label_info.LabelInfo.{LabelInfo}
 use Rattle.ariadne_accept.specs.Drawn.{world}
 use Rattle.ariadne_labels.specs.Kinds.{shown_kind}
 use Rattle.ariadne_drawing.proofs.WholePictures.{kind_text_is, message_is, outline_drawn}
@@ -27,7 +28,7 @@ push_groups-requires-clause-switches g c = ap (λ (x : PageFields). x.switches) 
 
 -- the groups follow
 pub returns : goal.returns
-returns g c = λ labels sorted.
+returns g c = λ labels same.
     let w = world g.S.Span.source_of g.S.Span.start_of g.S.Span.end_of g.S.SourceId.PartialEq.eq (g.C.Cache.names c.args.cache.now)
     (g.C.Cache.contents c.args.cache.now) in
     let r = c.args.report.now in
@@ -37,6 +38,6 @@ returns g c = λ labels sorted.
     (kind_text_is r (option_copied c.code.result) c.name.result.now c.code.ensures (c.name.ensures ∙ kind))
     (message_is r ∙ sym c.message.ensures) in
     on_ok_weaker c.push_groups.result
-    (outline_drawn w r labels c.args.infos.now sorted c.args.page.now.number_width c.args.pen.now c.push_header.new.pen c.push_groups.new.pen
+    (outline_drawn w r labels (map (λ (x : Bor (List LabelInfo)). x.now) c.args.groups.now) same c.args.page.now.number_width c.args.pen.now c.push_header.new.pen c.push_groups.new.pen
     (ap (λ (x : PageFields). x.number_width) c.requires.fields) header)
     c.push_groups.ensures
