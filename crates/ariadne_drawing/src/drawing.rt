@@ -23,7 +23,7 @@ ghost use Rattle.ariadne_picture.specs.Rows.{asides, group_header, help, note, s
 ghost use Rattle.ariadne_rows.specs.Gutters.{IsOfSheet};
 ghost use Rattle.ariadne_rows.specs.Headers.{IsOnPage, location_numbers};
 
-use crate::groups::{cut_groups, number_width};
+use crate::groups::{are_one_group, cut_groups, number_width};
 use crate::lines::{Lists, push_lines};
 use ariadne_accept::accept::offset_in_chars;
 use ariadne_accept::content::Content;
@@ -58,6 +58,9 @@ pub fn draw<S: Span, C: Cache<S::SourceId>>(
         IfOk result (λ text. string_bytes text ≡ printed (canvas w report.now infos.items)) }
 {
     let sorted = in_order(report.alloc, infos)?;
+    if are_one_group(report, &sorted) {
+        return picture(report, cache, &[sorted.as_slice()]);
+    }
     let groups = cut_groups(report, &sorted)?;
     picture(report, cache, &groups)
 }
