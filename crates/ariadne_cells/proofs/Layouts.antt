@@ -11,9 +11,10 @@ use Rattle.std.proofs.lemmas.Bool.Decides.{nat_tests}
 use Rattle.std.specs.List.{AllByRecursion}
 use Rattle.std.specs.Str.{chars, all_scalars, drop_trailing_whitespace, trim_end, IsAscii, IsCharBoundary, IsUtf8}
 use Rattle.std.proofs.lemmas.Bool.{cases_lt, cond_both, and_parts, and_from, le-leb, leb-true}
-use Rattle.std.proofs.lemmas.List.{take_more, map-append, length-append, get_or-drop, length-drop, take-append-drop}
+use Rattle.std.proofs.lemmas.List.{take_more, map-append, length-append, get_or-drop, length-drop, take-append-drop, take-append-le, take_all}
 use Rattle.std.proofs.lemmas.List.Recursion.{max_push}
-use Rattle.std.proofs.lemmas.Str.{chars-append, IsUtf8-take, chars-encodes, chars-IsAscii, encodes-chars, scalars-chars, length-encode, encode_ascii, length-le-encodes, len_utf8_bounds}
+use Rattle.std.proofs.lemmas.Str.{chars-append, encodes-append, IsCharBoundary-from_take, IsUtf8-take, chars-encodes, chars-IsAscii, encodes-chars, scalars-chars, length-encode, encode_ascii, length-le-encodes, len_utf8_bounds}
+use Rattle.ariadne_cells.specs.Ends.{shown_bytes}
 use Rattle.ariadne_picture.specs.declared.label_info.LineLabel.{LineLabel}
 use Rattle.ariadne_picture.specs.Columns.{Layout, places_to_end}
 use Rattle.ariadne_picture.specs.Groups.{greatest}
@@ -166,6 +167,50 @@ chars-trim_end bs u = chars-encodes (drop_trailing_whitespace (chars bs)) (scala
 pub trim_same_end : (xs ys : List ℕ) → drop_trailing_whitespace (chars xs) ≡ drop_trailing_whitespace (chars ys) → trim_end xs ≡ trim_end ys
 unfolding trim_end
 trim_same_end xs ys e = ap encode_utf8_all e
+
+-- the shown characters are the first of a line
+shown_first : (cs : List ℕ) → (ws : List ℕ) × (cs ≡ drop_trailing_whitespace cs ++ ws)
+shown_first [] = ([], refl)
+shown_first (c ∷ cs) =
+    let rest = shown_first cs in
+    let shown = drop_trailing_whitespace cs in
+    cond_both (is_whitespace c && eqb (length shown) 0) [] (c ∷ shown) (λ t. (ws : List ℕ) × (c ∷ cs ≡ t ++ ws)) (λ _. (c ∷ cs, refl))
+    (λ _. (rest.0, ap (λ t. c ∷ t) rest.1))
+
+-- so are the bytes of the trimmed text
+trim_first : (bs : List ℕ) → IsUtf8 bs → (ws : List ℕ) × (bs ≡ trim_end bs ++ ws)
+unfolding trim_end
+trim_first bs u =
+    let rest = shown_first (chars bs) in (
+      encode_utf8_all rest.0,
+      sym (encodes-chars bs u) ∙ ap encode_utf8_all rest.1 ∙ encodes-append (drop_trailing_whitespace (chars bs)) rest.0,
+    )
+
+-- they are as many as are shown
+trim_size : (bs : List ℕ) → length (trim_end bs) ≡ shown_bytes (chars bs)
+unfolding trim_end
+trim_size bs = refl
+
+-- so a text that is cut behind so many bytes is the trimmed one
+pub trim_cut : (bs : List ℕ) (n : ℕ) → IsUtf8 bs → n ≡ shown_bytes (chars bs) → take n bs ≡ trim_end bs
+trim_cut bs n u e =
+    let parts = trim_first bs u in
+    let size : length (trim_end bs) ≡ n = trim_size bs ∙ sym e in
+    ap (take n) parts.1 ∙ take-append-le n (trim_end bs) parts.0 (omega arith) ∙ take_all n (trim_end bs) (omega arith)
+
+-- the trimmed text is UTF-8
+utf8-trim_end : (bs : List ℕ) → IsUtf8 bs → IsUtf8 (trim_end bs)
+unfolding trim_end
+utf8-trim_end bs u = (drop_trailing_whitespace (chars bs), (scalars-shown (chars bs) (scalars-chars bs u), refl))
+
+-- it can be cut there
+pub shown_boundary : (bs : List ℕ) (n : ℕ) → IsUtf8 bs → n ≡ shown_bytes (chars bs) → IsCharBoundary bs n
+shown_boundary bs n u e =
+    let parts = trim_first bs u in
+    let size : length (trim_end bs) ≡ n = trim_size bs ∙ sym e in
+    let long = length-append (trim_end bs) parts.0 in
+    let whole = ap length parts.1 in
+    IsCharBoundary-from_take bs n u (omega (arith, size, long, whole)) (subst IsUtf8 (sym (trim_cut bs n u e)) (utf8-trim_end bs u))
 
 -- where a text has as many bytes as characters, so has what is shown of it
 length-shown : (cs : List ℕ) → length (encode_utf8_all cs) ≡ length cs

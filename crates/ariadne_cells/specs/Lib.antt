@@ -1,5 +1,6 @@
 pub mod Candidates
 pub mod Choices
+pub mod Ends
 pub mod Falling
 pub mod Pages
 pub mod Parts

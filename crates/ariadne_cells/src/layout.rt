@@ -1,9 +1,10 @@
 //! What is drawn at one line of a source: its labels, and its characters.
 
-ghost use Rattle.std.specs.Prelude.{◌≡◌, ℕ, ◌≤◌, ◌<◌, ◌^◌, ◌↔◌, IsTrue, chars, length, map, not};
+ghost use Rattle.std.specs.Prelude.{◌≡◌, ℕ, ◌≤◌, ◌<◌, ◌^◌, ◌↔◌, IfSome, IsTrue, chars, length, map, not};
 ghost use Rattle.std.specs.Prelude.{slice_index, true};
 ghost use Rattle.std.specs.Str.{drop_trailing_whitespace, trim_end};
 ghost use Rattle.std.specs.List.{AllByRecursion, list_any};
+ghost use Rattle.ariadne_cells.specs.Ends.{shown_bytes};
 ghost use Rattle.ariadne_picture.specs.Columns.{arrow_len, places_to_end, shown};
 ghost use Rattle.ariadne_picture.specs.Groups.{greatest};
 ghost use Rattle.ariadne_picture.specs.Ranks.{is_inline, is_margin};
@@ -57,15 +58,18 @@ impl<'a> LineLayout<'a> {
     /// The layout of a line with these labels.
     ///
     /// `offset` counts the characters of the source before the line; `text` is the whole line with
-    /// its terminator, and `len` the number of its characters.
+    /// its terminator, and `len` the number of its characters. `known` is how many of its bytes are
+    /// shown, where that was found before.
     pub fn new(
         margin: Option<LineLabel>,
         labels: &'a [LineLabel],
         offset: usize,
         len: usize,
         text: &'a str,
+        known: Option<usize>,
     ) -> LineLayout<'a>
         requires len { len ≡ length (chars text.now) }
+        requires known { IfSome known (λ n. n ≡ shown_bytes (chars text.now)) }
         ensures { result ≡ record {
           margin = margin;
           labels = labels.now;
@@ -73,7 +77,7 @@ impl<'a> LineLayout<'a> {
           text = chars text.now;
         } }
     {
-        let shown = without_end(text);
+        let shown = shown_part(text, known);
         let shown_len = if text.len() == len {
             shown.len()
         } else {
@@ -192,6 +196,18 @@ impl<'a> LineLayout<'a> {
             greatest = greatest.max(label.info.end.saturating_sub(self.offset));
         }
         greatest
+    }
+}
+
+/// A line without the white space at its end. `known` is how many bytes that leaves, where it was
+/// found before.
+fn shown_part(line: &str, known: Option<usize>) -> &str
+    requires known { IfSome known (λ n. n ≡ shown_bytes (chars line.now)) }
+    ensures { result.now ≡ trim_end line.now }
+{
+    match known {
+        Some(end) => &line[..end],
+        None => without_end(line),
     }
 }
 

@@ -1,5 +1,5 @@
 -- The labels of a group are over one source, and lie in its lines.
-use Rattle.std.proofs.Common.{◌≡◌, ℕ, suc, ◌<◌, ◌||◌, Bool, true, false, max, List, [], ◌∷◌, Option, Some, refl, sym, ap, ◌∙◌, length, get_or, arith, subst}
+use Rattle.std.proofs.Common.{◌≡◌, ℕ, suc, ◌<◌, ◌||◌, Bool, true, false, max, List, [], ◌∷◌, Option, Some, None, refl, sym, ap, ◌∙◌, length, get_or, arith, subst}
 use Rattle.std.specs.Cmp.{IsEquivalence}
 use Rattle.std.specs.HashMap.Eq.{lookup_congr}
 use Rattle.std.specs.Prelude.{slice_get, option_and_then, option_map, unwrap_or, nat_lt, not}
@@ -18,7 +18,7 @@ use Rattle.ariadne_picture.proofs.Lists.ListFacts.{all-weaker}
 use Rattle.ariadne_accept.specs.Drawn.{AreDrawn, AreThere, IsDrawn}
 use Rattle.ariadne_drawing.specs.Groups.{IsGroup}
 use Rattle.ariadne_drawing.specs.Lines.{AreOverLines, IsOverLines}
-use Rattle.ariadne_drawing.proofs.Grouping.{NoCuts, cut_first}
+use Rattle.ariadne_drawing.proofs.Grouping.{NoCuts, all_at, cut_first, some_label}
 use Rattle.ariadne_drawing.proofs.OverLines.{over-lines}
 
 -- equal ids find one source
@@ -54,27 +54,34 @@ module _ {S Id : Type 0} (w : World S Id) (r : ReportFields S) where
   unfolding same_source is_same_id
   same_is j k x y e f = ap (λ i. is_same_id w r i (label_id w r k)) (id_is j x e) ∙ ap (λ i. is_same_id w r (Some (w.id_of x.span)) i) (id_is k y f)
 
-  module _ (a b : LabelInfo) (x y : LabelFields S) (p q : Id) (n : Bool) (first : slice_get r.labels a.position ≡ Some x)
-      (second : slice_get r.labels b.position ≡ Some y) (ex : p ≡ w.id_of x.span) (ey : q ≡ w.id_of y.span) (e : n ≡ not (w.is_same p q)) where
-    -- whether a cut stands between them
-    cut_is : is_cut (same_source w r) a b ≡ (n || nat_lt b.end_line a.end_line)
-    unfolding is_cut
-    cut_is =
-        let ids : w.is_same p q ≡ same_source w r a.position b.position =
-        ap (λ i. w.is_same i q) ex ∙ ap (λ i. w.is_same (w.id_of x.span) i) ey ∙ sym (same_is a.position b.position x y first second) in
-        ap (λ s. not s || nat_lt b.end_line a.end_line) (sym ids) ∙ ap (λ s. s || nat_lt b.end_line a.end_line) (sym e)
+  -- their ids tell it
+  pub same_by_ids : (j k : ℕ) (x y : LabelFields S) (p q : Id) (n : Bool) → slice_get r.labels j ≡ Some x → slice_get r.labels k ≡ Some y
+      → p ≡ w.id_of x.span → q ≡ w.id_of y.span → n ≡ w.is_same p q → n ≡ same_source w r j k
+  same_by_ids j k x y p q n first second ex ey e =
+      e ∙ ap (λ i. w.is_same i q) ex ∙ ap (λ i. w.is_same (w.id_of x.span) i) ey ∙ sym (same_is j k x y first second)
 
-    -- their ids differ
-    pub cut_by_ids : n ≡ true → n ≡ is_cut (same_source w r) a b
-    cut_by_ids h = h ∙ sym (cut_is ∙ ap (λ s. s || nat_lt b.end_line a.end_line) h)
+  module _ (a b : LabelInfo) (n : Bool) (e : n ≡ same_source w r a.position b.position) where
+    -- whether a cut stands between them
+    cut_is : is_cut (same_source w r) a b ≡ (not n || nat_lt b.end_line a.end_line)
+    unfolding is_cut
+    cut_is = ap (λ s. not s || nat_lt b.end_line a.end_line) (sym e)
+
+    -- their sources differ
+    pub cut_by_sources : n ≡ false → not n ≡ is_cut (same_source w r) a b
+    cut_by_sources h = ap not h ∙ sym (cut_is ∙ ap (λ s. not s || nat_lt b.end_line a.end_line) h)
 
     -- they don't: the lines tell
-    pub cut_by_lines : n ≡ false → nat_lt b.end_line a.end_line ≡ is_cut (same_source w r) a b
-    cut_by_lines h = sym (cut_is ∙ ap (λ s. s || nat_lt b.end_line a.end_line) h)
+    pub cut_by_lines : n ≡ true → nat_lt b.end_line a.end_line ≡ is_cut (same_source w r) a b
+    cut_by_lines h = sym (cut_is ∙ ap (λ s. not s || nat_lt b.end_line a.end_line) h)
 
   -- labels that are drawn are there
   pub drawn_there : (infos : List LabelInfo) → AreDrawn w r infos → AreThere r infos
   drawn_there infos d = all-weaker (IsDrawn w r) (λ a. a.position < length r.labels) infos (λ a d. slice_get_within r.labels a.position d.label d.there) d
+
+  -- the first label of a group is there
+  pub first_there : (group : List LabelInfo) (d : LabelInfo) → IsGroup w r group → (get_or group 0 d).position < length r.labels
+  first_there group d g =
+      all_at (λ (a : LabelInfo). a.position < length r.labels) group 0 d (some_label (same_source w r) group g.whole) (drawn_there group g.drawn)
 
   -- the source of a group is that of its first label
   pub source_is : (a : LabelInfo) (group : List LabelInfo) (d : IsDrawn w r a) → group_source w r (a ∷ group) ≡ d.source
@@ -84,6 +91,27 @@ module _ {S Id : Type 0} (w : World S Id) (r : ReportFields S) where
       ap (λ o. unwrap_or (option_and_then w.source_of o) none) (id_is a.position d.label d.there) ∙ ap (λ o. unwrap_or o none) d.is_held
 
   module _ (one : HaveOneSource w) where
+    -- ids that count as one find one source
+    ids_found : (p q : Option Id) → is_same_id w r p q ≡ true → option_and_then w.source_of p ≡ option_and_then w.source_of q
+    unfolding is_same_id
+    ids_found (Some p) (Some q) e = one p q e
+    ids_found (Some p) None e = cc
+    ids_found None q e = cc
+
+    -- so groups have one source whose first labels are over one
+    pub one_group_source : (a b : LabelInfo) (g h : List LabelInfo) → slice_get g 0 ≡ Some a → slice_get h 0 ≡ Some b
+        → same_source w r a.position b.position ≡ true → group_source w r g ≡ group_source w r h
+    unfolding group_source group_id same_source
+    one_group_source a b [] h ea eb e = cc
+    one_group_source a b (x ∷ g) [] ea eb e = cc
+    one_group_source a b (x ∷ g) (y ∷ h) ea eb e =
+        let none : Listing = record { text = []; display_offset = 0 } in
+        let first : x ≡ a = cc in
+        let second : y ≡ b = cc in
+        let ids : is_same_id w r (label_id w r x.position) (label_id w r y.position) ≡ true =
+        (λ i. is_same_id w r (label_id w r (first i).position) (label_id w r (second i).position)) ∙ e in
+        ap (λ o. unwrap_or o none) (ids_found (label_id w r x.position) (label_id w r y.position) ids)
+
     -- labels without a cut lie in the lines of the source of the first
     over_rest : (a : LabelInfo) (group : List LabelInfo) (d : IsDrawn w r a) → AreDrawn w r group → HasNoCut (same_source w r) a group
         → (source : Listing) → d.source ≡ source → AreOverLines (listed_lines source) (a ∷ group)

@@ -12,5 +12,6 @@ pub mod LinesQuiet
 pub mod LinesRows
 pub mod LinesShown
 pub mod LinesWalk
+pub mod LongLines
 pub mod OverLines
 pub mod WholePictures

@@ -1,4 +1,5 @@
 pub mod Groups
 pub mod Headers
 pub mod Lines
+pub mod LongLines
 pub mod WholePages

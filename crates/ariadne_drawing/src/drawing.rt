@@ -1,6 +1,6 @@
 //! The picture of a report, as text: its header, and the rows of its groups.
 
-ghost use Rattle.std.specs.Prelude.{◌≡◌, ◌+◌, ◌<◌, ◌≤◌, ◌==◌, ◌++◌, ℕ, List, [], ◌∷◌, Option, Some};
+ghost use Rattle.std.specs.Prelude.{◌≡◌, ◌+◌, ◌-◌, ◌<◌, ◌≤◌, ◌==◌, ◌++◌, ℕ, List, [], ◌∷◌, Option, Some};
 ghost use Rattle.std.specs.Prelude.{None, true};
 ghost use Rattle.std.specs.Prelude.{IfOk, OnOk, chars, if◌then◌else◌, length, map, slice_get};
 ghost use Rattle.std.specs.Prelude.{string_bytes};
@@ -8,6 +8,7 @@ ghost use Rattle.std.specs.List.{enumerate_from};
 ghost use Rattle.ariadne_accept.specs.Drawn.{AreDrawn, world};
 ghost use Rattle.ariadne_drawing.specs.Groups.{AreGroups, IsGroup};
 ghost use Rattle.ariadne_drawing.specs.Headers.{IsOwnLocation, own_offset};
+ghost use Rattle.ariadne_drawing.specs.LongLines.{IsRemembered};
 ghost use Rattle.ariadne_drawing.specs.WholePages.{page_of, shown_palette};
 ghost use Rattle.ariadne_base.specs.Listing.{Listing, listed_lines};
 ghost use Rattle.ariadne_cells.specs.Pages.{DrawsRows};
@@ -25,6 +26,7 @@ ghost use Rattle.ariadne_rows.specs.Headers.{IsOnPage, location_numbers};
 
 use crate::groups::{are_one_group, cut_groups, number_width};
 use crate::lines::{Lists, push_lines};
+use crate::long_line::forget_of_other_source;
 use ariadne_accept::accept::offset_in_chars;
 use ariadne_accept::content::Content;
 use ariadne_base::{Cache, Source, SourceText, Span};
@@ -211,6 +213,14 @@ fn push_group_of_rank<'a, S: Span, C: Cache<S::SourceId>>(
         AreGroups w report.now (map (λ g. g.now) groups.now) }
     requires own { let w = world S.source_of S.start_of S.end_of S.SourceId.eq
         (C.names cache.now) (C.contents cache.now) in IsOwnLocation w report.now own }
+    requires known { let w = world S.source_of S.start_of S.end_of S.SourceId.eq
+        (C.names cache.now) (C.contents cache.now) in
+        (before : List LabelInfo) → slice_get (map (λ g. g.now) groups.now) (rank - 1) ≡ Some before →
+        IsRemembered (listed_lines (group_source w report.now before)) lists.old.long_line }
+    ensures known { let w = world S.source_of S.start_of S.end_of S.SourceId.eq
+        (C.names cache.now) (C.contents cache.now) in
+        (group : List LabelInfo) → slice_get (map (λ g. g.now) groups.now) rank ≡ Some group →
+        OnOk result (IsRemembered (listed_lines (group_source w report.now group)) lists.new.long_line) }
     ensures page { OnOk result (lists.new.gutter.page ≡ lists.old.gutter.page) }
     ensures drawn { let w = world S.source_of S.start_of S.end_of S.SourceId.eq
         (C.names cache.now) (C.contents cache.now) in let r = report.now in
@@ -219,7 +229,10 @@ fn push_group_of_rank<'a, S: Span, C: Cache<S::SourceId>>(
         OnOk result (DrawsRows pen.old pen.new (section_rows (texts_of r) pen.old.page.number_width
         (section_of w r (length gs) (rank, group)))) }
 {
-    lists.sheet.fill(groups[rank])?;
+    let group = groups[rank];
+    let before = groups[rank.saturating_sub(1)];
+    forget_of_other_source(&mut lists.long_line, report, &before[0], &group[0]);
+    lists.sheet.fill(group)?;
     let is_last = rank + 1 == groups.len();
     push_group(pen, lists, report, cache, own, rank == 0, is_last)
 }
@@ -242,6 +255,12 @@ fn push_group<S: Span, C: Cache<S::SourceId>>(
         IsGroup w report.now lists.old.sheet.labels }
     requires own { let w = world S.source_of S.start_of S.end_of S.SourceId.eq
         (C.names cache.now) (C.contents cache.now) in IsOwnLocation w report.now own }
+    requires known { let w = world S.source_of S.start_of S.end_of S.SourceId.eq
+        (C.names cache.now) (C.contents cache.now) in IsRemembered
+        (listed_lines (group_source w report.now lists.old.sheet.labels)) lists.old.long_line }
+    ensures known { let w = world S.source_of S.start_of S.end_of S.SourceId.eq
+        (C.names cache.now) (C.contents cache.now) in OnOk result (IsRemembered
+        (listed_lines (group_source w report.now lists.old.sheet.labels)) lists.new.long_line) }
     ensures page { OnOk result (lists.new.gutter.page ≡ lists.old.gutter.page) }
     ensures drawn { let w = world S.source_of S.start_of S.end_of S.SourceId.eq
         (C.names cache.now) (C.contents cache.now) in let r = report.now in

@@ -68,6 +68,25 @@ fn group_end<S: Span>(report: &Content<'_, S>, infos: &[LabelInfo], start: usize
     end
 }
 
+/// Whether two labels are over one source: their spans name it by equal ids.
+pub(crate) fn are_over_one_source<S: Span>(
+    report: &Content<'_, S>,
+    a: &LabelInfo,
+    b: &LabelInfo,
+) -> bool
+    requires first { a.now.position < length report.now.labels }
+    requires second { b.now.position < length report.now.labels }
+    ensures { (names : S.SourceId → Option (List ℕ)) (contents : List (S.SourceId × Listing)) →
+        result ≡ same_source
+        (world S.source_of S.start_of S.end_of S.SourceId.eq names contents) report.now
+        a.now.position b.now.position }
+{
+    let labels = report.labels();
+    let first = labels[a.position].span().source();
+    let second = labels[b.position].span().source();
+    *first == *second
+}
+
 /// Whether a cut stands between two neighbours: their sources differ, or the second ends on an
 /// earlier line.
 fn is_cut<S: Span>(report: &Content<'_, S>, a: &LabelInfo, b: &LabelInfo) -> bool
@@ -78,10 +97,7 @@ fn is_cut<S: Span>(report: &Content<'_, S>, a: &LabelInfo, b: &LabelInfo) -> boo
         (world S.source_of S.start_of S.end_of S.SourceId.eq names contents) report.now)
         a.now b.now }
 {
-    let labels = report.labels();
-    let first = labels[a.position].span().source();
-    let second = labels[b.position].span().source();
-    *first != *second || b.end_line < a.end_line
+    !are_over_one_source(report, a, b) || b.end_line < a.end_line
 }
 
 /// How many columns the greatest line number of all groups takes.

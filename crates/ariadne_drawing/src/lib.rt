@@ -23,3 +23,4 @@
 pub mod drawing;
 mod groups;
 mod lines;
+mod long_line;

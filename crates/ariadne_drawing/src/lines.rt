@@ -1,11 +1,12 @@
 //! The rows of the lines of a group, from its first line to its last.
 
 ghost use Rattle.std.specs.Prelude.{◌≡◌, ◌<◌, ◌≤◌, ◌+◌, ℕ, [], OnOk, false, length, map, replicate};
-ghost use Rattle.std.specs.Prelude.{IfSome, Some, ◌^◌, ◌-◌, option_map, slice_get};
+ghost use Rattle.std.specs.Prelude.{IfSome, None, Some, ◌^◌, ◌-◌, option_map, slice_get};
 ghost use Rattle.std.specs.Prelude.{slice_range, true};
 ghost use Rattle.std.specs.List.{AllByRecursion, enumerate_from, range_with_len};
 ghost use Rattle.ariadne_drawing.specs.Lines.{AreOverLines, IsAtLine, IsAtSome, IsBelowLine, IsBelowSome};
 ghost use Rattle.ariadne_drawing.specs.Lines.{IsDrawnGroup, IsLaidOut, begins_run};
+ghost use Rattle.ariadne_drawing.specs.LongLines.{IsRemembered};
 ghost use Rattle.ariadne_cells.specs.Pages.{DrawsRow, DrawsRows};
 ghost use Rattle.ariadne_picture.specs.declared.label_info.LineLabel.{LineLabel};
 ghost use Rattle.ariadne_picture.specs.Bars.{EndsNoEarlier};
@@ -24,6 +25,7 @@ ghost use Rattle.ariadne_rows.specs.Gutters.{IsBelow, IsBeside};
 ghost use Rattle.ariadne_base.specs.Listing.{listed_lines};
 ghost use Rattle.ariadne_base.specs.Locations.{line_text};
 
+use crate::long_line::{LongLine, known_bytes, remember};
 use ariadne_accept::content::Content;
 use ariadne_base::{Source, SourceText, Span};
 use ariadne_cells::layout::LineLayout;
@@ -46,6 +48,8 @@ pub(crate) struct Lists<'a> {
     pub(crate) gutter: Gutter<'a>,
     pub(crate) labels: Vec<LineLabel>,
     pub(crate) table: LineTable,
+    /// The last line of the source that was shown with much white space at its end.
+    pub(crate) long_line: Option<LongLine>,
 }
 
 impl<'a> Lists<'a> {
@@ -55,12 +59,14 @@ impl<'a> Lists<'a> {
         ensures gutter { result.gutter ≡ record { page = page.now; positions = []; bars = [] } }
         ensures labels { result.labels.items ≡ [] }
         ensures table { result.table.len ≡ 0 }
+        ensures long_line { result.long_line ≡ None }
     {
         Lists {
             sheet: GroupSheet::new(alloc),
             gutter: Gutter::new(alloc, page),
             labels: Vec::new(alloc),
             table: LineTable::new(alloc),
+            long_line: None,
         }
     }
 }
@@ -83,6 +89,8 @@ pub(crate) fn push_lines<S: Span, I: SourceText>(
     requires gutter { (s : Sheet) → s.labels ≡ lists.old.sheet.labels →
         (lists.old.gutter.positions ≡ map (λ a. a.position) (gutter_labels s))
         × (lists.old.gutter.bars ≡ replicate (length (gutter_labels s)) false) }
+    requires known { IsRemembered (listed_lines source.now) lists.old.long_line }
+    ensures known { OnOk result (IsRemembered (listed_lines source.now) lists.new.long_line) }
     ensures page { OnOk result (lists.new.gutter.page ≡ lists.old.gutter.page) }
     ensures positions { OnOk result
         (lists.new.gutter.positions ≡ lists.old.gutter.positions) }
@@ -227,6 +235,8 @@ fn push_line<S: Span, I: SourceText>(
         slice_range (events_of s) from to ≡ events_at s line }
     requires beside { (s : Sheet) → s.labels ≡ lists.old.sheet.labels →
         s.switches ≡ pen.old.page.switches → IsBeside s line lists.old.gutter }
+    requires known { IsRemembered (listed_lines source.now) lists.old.long_line }
+    ensures known { OnOk result (IsRemembered (listed_lines source.now) lists.new.long_line) }
     ensures page { OnOk result (lists.new.gutter.page ≡ lists.old.gutter.page) }
     ensures positions { OnOk result
         (lists.new.gutter.positions ≡ lists.old.gutter.positions) }
@@ -246,17 +256,20 @@ fn push_line<S: Span, I: SourceText>(
         gutter,
         labels,
         table,
+        long_line,
     } = lists;
     let _text = source.text();
     let display_offset = source.display_line_offset();
     let margin = sheet.rank(from, to, labels)?;
     let extent = source.line(line).unwrap();
     let text = source.get_line_text(extent).unwrap();
-    let layout = LineLayout::new(margin, labels, extent.offset(), extent.len(), text);
+    let known = known_bytes(*long_line, line);
+    let layout = LineLayout::new(margin, labels, extent.offset(), extent.len(), text, known);
     find_paints(pen, sheet, table, &layout, line)?;
     let number = line + 1 + display_offset;
     push_source_row(pen, gutter, &layout, &table.paints, number)?;
     start_margin(gutter, margin)?;
+    remember(long_line, line, &layout);
     push_rows_below(pen, gutter, table, &layout, report)
 }
 

@@ -8,6 +8,7 @@ use Rattle.ariadne_picture.specs.Canvas.{section_of, texts_of}
 use Rattle.ariadne_rows.specs.Gutters.{GutterFields}
 use Rattle.ariadne_accept.specs.Drawn.{world}
 use Rattle.ariadne_drawing.specs.Lines.{AreOverLines}
+use Rattle.ariadne_drawing.specs.LongLines.{IsRemembered}
 use Rattle.ariadne_drawing.proofs.Grouping.{some_label}
 use Rattle.ariadne_drawing.proofs.GroupingSources.{one_source, over_group}
 use Rattle.ariadne_drawing.proofs.GroupParts.{section_gutter, section_labels, section_last, section_page, section_source, section_switches, texts_switches}
@@ -26,6 +27,11 @@ push_group_head-requires-clause-labels g c = some_label _ c.args.lists.now.sheet
 -- so its lines do
 pub push_lines-requires-clause-labels : goal.push_lines-requires-clause-labels
 push_lines-requires-clause-labels g c = some_label _ c.args.lists.now.sheet.labels c.requires.group.whole
+
+-- what is remembered is of the source of the lines
+pub push_lines-requires-clause-known : goal.push_lines-requires-clause-known
+push_lines-requires-clause-known g c =
+    subst (λ (s : Listing). IsRemembered (listed_lines s) c.args.lists.now.long_line) (sym c.in_ok-source.ensures.source) c.requires.known
 
 -- the labels lie in the lines of the source
 pub push_lines-requires-clause-over : goal.push_lines-requires-clause-over

@@ -1,6 +1,6 @@
 -- A line is drawn from its extent, its text and its labels: its source row, then the rows below it.
-use Rattle.std.proofs.Common.{◌≡◌, ◌∙◌, ◌+◌, ◌<◌, ◌^◌, List, [], ◌∷◌, length, map, refl, sym, ap, subst, arith}
-use Rattle.std.specs.Prelude.{chars}
+use Rattle.std.proofs.Common.{◌≡◌, ◌∙◌, ◌+◌, ◌<◌, ◌^◌, ℕ, List, [], ◌∷◌, length, map, refl, sym, ap, subst, arith}
+use Rattle.std.specs.Prelude.{IfSome, chars}
 use Rattle.std.specs.List.{enumerate_from}
 use Rattle.std.specs.Option.{IsSome}
 use Rattle.std.specs.Str.{IsUtf8}
@@ -8,10 +8,11 @@ use Rattle.ariadne_base.specs.Listing.{listed_lines}
 use Rattle.ariadne_base.specs.Locations.{line_offset, line_text}
 use Rattle.ariadne_base.specs.Table.{LineExtent, line_extent}
 use Rattle.ariadne_base.proofs.LocationLemmas.{offset_is}
+use Rattle.ariadne_cells.specs.Ends.{shown_bytes}
 use Rattle.ariadne_cells.specs.Pages.{DrawsRow, DrawsRows, PageFields}
 use Rattle.ariadne_cells.specs.Tables.{ArePaints, tab_columns}
 use Rattle.ariadne_picture.specs.Canvas.{texts_of}
-use Rattle.ariadne_picture.specs.Columns.{layout_of}
+use Rattle.ariadne_picture.specs.Columns.{Layout, layout_of}
 use Rattle.ariadne_picture.specs.Groups.{printed_number}
 use Rattle.ariadne_picture.specs.Lists.{joined}
 use Rattle.ariadne_picture.specs.Pieces.{Section, row_pieces}
@@ -77,6 +78,10 @@ new-layout-requires g c = record {
       let l = c.args.line in
       let b = (goal.at.new-layout-requires g c).After-len in
       c.len.ensures ∙ ap (λ (e : LineExtent). e.len) (extent-is g b) ∙ len-is ls l ∙ ap length (sym (chars-are g b));
+  known =
+      let b = (goal.at.new-layout-requires g c).After-len in
+      subst (λ (text : List ℕ). IfSome c.known_bytes-known.result (λ n. n ≡ shown_bytes text)) (sym (chars-are g b))
+      (c.known_bytes-known.ensures (listed_lines c.args.source.now) c.requires.known);
 }
 
 -- ---- its layout
@@ -232,6 +237,14 @@ push_rows_below-requires-clause-there g c =
     }
 
 -- ---- the next line
+
+-- what is remembered is right for its source
+pub returns-clause-known : goal.returns-clause-known
+returns-clause-known g c =
+    let ls = listed_lines c.args.source.now in
+    let b = (goal.at.returns-clause-known g c).After-len in
+    let text = ap (λ (y : Layout). y.text) c.new-layout.ensures ∙ chars-are g b in
+    on_ok_weaker c.push_rows_below.result (λ page. c.remember.ensures ls text c.requires.known) c.push_rows_below.ensures.page
 
 -- below the rows the bars are those beside it
 pub returns-clause-beside : goal.returns-clause-beside

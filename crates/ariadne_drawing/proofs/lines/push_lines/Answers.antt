@@ -43,6 +43,7 @@ loop-next-init g c =
       pen = refl;
       page = refl;
       positions = refl;
+      known = c.requires.known;
       labels = refl;
       onward = omega (arith, at);
       walked = λ s own same.
@@ -244,6 +245,7 @@ loop-next-preserved g c =
           rows_page c.push_hidden_lines.new.pen c.push_line.new.pen (map (row_pieces t page.number_width some.0) (line_rows some.0.sheet n))
           (line-drawn g c some.0 some.1) ∙ hidden-page g b;
       page = c.in_ok-push_line.ensures.page ∙ inv.page;
+      known = c.in_ok-push_line.ensures.known;
       positions = c.in_ok-push_line.ensures.positions ∙ inv.positions;
       labels = c.in_ok-push_line.ensures.labels ∙ own_labels;
       onward = omega (arith, reached);

@@ -1,7 +1,9 @@
 -- The lines so far are written: the next event is the first that is not above the line.
 use Rattle.std.proofs.Common.{◌≡◌, ◌+◌, ◌-◌, ◌≤◌, map}
 use Rattle.std.specs.List.{range_with_len}
+use Rattle.ariadne_base.specs.Listing.{listed_lines}
 use Rattle.ariadne_drawing.specs.Lines.{IsDrawnGroup}
+use Rattle.ariadne_drawing.specs.LongLines.{IsRemembered}
 use Rattle.ariadne_cells.specs.Pages.{DrawsRows}
 use Rattle.ariadne_picture.specs.Canvas.{texts_of}
 use Rattle.ariadne_picture.specs.Groups.{group_end_line, group_start_line}
@@ -17,6 +19,7 @@ invariant-loop-next g l = record {
   pen : l.pen.page ≡ l.fn.pen.page;
   page : l.lists.gutter.page ≡ l.fn.lists.gutter.page;
   positions : l.lists.gutter.positions ≡ l.fn.lists.gutter.positions;
+  known : IsRemembered (listed_lines l.source) l.lists.long_line;
   labels : l.lists.sheet.labels ≡ l.fn.lists.sheet.labels;
   onward : l.lists.sheet.line ≤ l.line;
   walked : (s : Sheet) → s.labels ≡ l.fn.lists.sheet.labels → s.switches ≡ l.fn.pen.page.switches → IsWalked s l.line l.event l.lists.gutter;

@@ -8,8 +8,8 @@ use Rattle.ariadne_cells.proofs.layout.LineLayout.new.Goals.{then-text-len, else
 pub invariant_of-result : goal.invariant_of-result
 invariant_of-result c =
     let text = c.args.text.now in
-    let shown = c.without_end-shown.result.now in
-    let trim = c.without_end-shown.ensures in
+    let shown = c.shown_part-shown.result.now in
+    let trim = c.shown_part-shown.ensures in
     let trimmed : chars shown ≡ drop_trailing_whitespace (chars text) = ap chars trim ∙ chars-trim_end text c.utf8.text in
     let counted : c.if-text-len.shown_len ≡ length (chars shown) =
     elim c.if-text-len.branch [
