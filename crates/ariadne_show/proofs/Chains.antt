@@ -7,10 +7,11 @@ use Rattle.ariadne_visible.specs.Visible.{visible_bytes}
 use Rattle.ariadne_visible.specs.declared.text.TextKind.TheVariants.{OneRow}
 use Rattle.ariadne_safe.specs.declared.sources.SafeSource.{SafeSource}
 use Rattle.ariadne_told.specs.declared.diagnostic.Diagnostic.{Diagnostic}
-use Rattle.ariadne_show.specs.Drawn.{AreDrawn, IsAbout, IsBare, IsHeadDrawn, IsPicture, IsReportOf, IsSaid, IsSaidIfAny, IsToldDrawn}
-use Rattle.ariadne_show.specs.Drawn.{missing_main, one_picture_more, in_one, in_line, in_lines}
+use Rattle.ariadne_show.specs.Drawn.{AreSaid, IsAbout, IsBare, IsHeadDrawn, IsPicture, IsReportOf, IsSaid, IsToldDrawn}
+use Rattle.ariadne_show.specs.Drawn.{in_one, in_line, in_lines}
 use Rattle.ariadne_show.specs.Found.{Files, Found}
 use Rattle.ariadne_show.specs.Labels.{main_in}
+use Rattle.ariadne_show.specs.Said.{lines_of}
 use Rattle.ariadne_show.proofs.Heads.{said_bare}
 
 -- the picture of a text, after Ok
@@ -25,11 +26,6 @@ said_if (Ok x) text sources r0 built report o p bare made same picture = record 
   picture = picture;
 }
 said_if (Err e) text sources r0 built report o p bare made same picture = tt
-
--- it is one of some report
-pub one_more : (text : List ℕ) (o p q : Option (List ℕ)) → AreDrawn o p → IsSaid text p q → AreDrawn o q
-one_more text o p q drawn said =
-    one_picture_more drawn (record { sources = said.sources; report = said.report; picture = said.picture })
 
 -- of one about a diagnostic
 pub head_drawn_if : {T E : Type 0} (r : Result T E) (told : Diagnostic) (sources : List SafeSource)
@@ -57,8 +53,8 @@ told_if_in_line (Err e) is_short files sources told o p short head = tt
 
 -- others behind it
 pub told_if_in_lines : {T E : Type 0} (r : Result T E) (is_short : Bool) (files : Files) (sources : List SafeSource)
-    (told : Diagnostic) (o m p q : Option (List ℕ)) → is_short ≡ false → None ≡ main_in files told → IsHeadDrawn told o m → AreDrawn m p
-    → OnOk r (IsSaidIfAny (missing_main files told) p q) → OnOk r (IsToldDrawn is_short files sources told o q)
-told_if_in_lines (Ok x) is_short files sources told o m p q long missing head others why =
-    in_lines m p long (sym missing) head others why
-told_if_in_lines (Err e) is_short files sources told o m p q long missing head others why = tt
+    (told : Diagnostic) (o m q : Option (List ℕ)) → is_short ≡ false → None ≡ main_in files told → IsHeadDrawn told o m
+    → OnOk r (AreSaid (lines_of files told) m q) → OnOk r (IsToldDrawn is_short files sources told o q)
+told_if_in_lines (Ok x) is_short files sources told o m q long missing head others =
+    in_lines m long (sym missing) head others
+told_if_in_lines (Err e) is_short files sources told o m q long missing head others = tt

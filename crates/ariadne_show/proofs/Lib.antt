@@ -4,3 +4,4 @@ pub mod Lines
 pub mod Notes
 pub mod Ordered
 pub mod Reading
+pub mod Said

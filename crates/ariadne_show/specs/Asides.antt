@@ -1,7 +1,7 @@
 -- What a report says beside: the notes and helps of a diagnostic, and a note for each of its places
 -- that can't be drawn.
 use Rattle.std.specs.Prelude.{ℕ, ◌==◌, not, if◌then◌else◌, List, [], ◌++◌, length, map, filter}
-use Rattle.std.specs.Prelude.{Option, Some, None, is_some, String, string_bytes, codes, decimal}
+use Rattle.std.specs.Prelude.{Option, Some, None, String, string_bytes, codes, decimal}
 use Rattle.std.specs.declared.alloc.Global.{Global}
 use Rattle.std.specs.declared.ops.Range.{Range}
 use Rattle.ariadne.specs.Report.{ReportFields}
@@ -9,7 +9,7 @@ use Rattle.ariadne_visible.specs.Visible.{visible_bytes}
 use Rattle.ariadne_visible.specs.declared.text.TextKind.TheVariants.{Aside}
 use Rattle.ariadne_told.specs.declared.diagnostic.Diagnostic.{Diagnostic}
 use Rattle.ariadne_told.specs.declared.diagnostic.Place.{Place}
-use Rattle.ariadne_show.specs.Found.{Files, held_at, is_found}
+use Rattle.ariadne_show.specs.Found.{Files, is_found}
 
 -- a column behind a colon, if there is one
 abbrev pub column_text : Option ℕ → List ℕ
@@ -30,14 +30,6 @@ abbrev pub place_text : Place → List ℕ
 place_text place =
     if length (string_bytes place.text) == 0 then (if place.is_primary then codes "here" else [])
     else string_bytes place.text
-
--- why a place can't be drawn
-abbrev pub missing_text : Files → Place → List ℕ
-missing_text files place =
-    codes "not drawn, since " ++ string_bytes place.file
-    ++ (if is_some (held_at files (string_bytes place.file))
-    then codes " has no line " ++ decimal place.start.line
-    else codes " can't be read")
 
 -- the places that can't be drawn
 abbrev pub missing : Files → List Place → List Place

@@ -1,7 +1,7 @@
 -- What is drawn of a diagnostic: pictures of reports over the files that were read, of which the first
 -- has the diagnostic's kind, its code and its message. What input and output know of their bytes is
 -- given before and after each step.
-use Rattle.std.specs.Prelude.{ℕ, ◌≡◌, Bool, true, false, List, [], ◌++◌, Option, Some, None}
+use Rattle.std.specs.Prelude.{ℕ, ◌≡◌, Bool, true, false, List, [], ◌∷◌, ◌++◌, Option, Some, None}
 use Rattle.std.specs.Prelude.{option_map, Ok}
 use Rattle.std.specs.Prelude.{String, string_bytes, unwrap_or, Vec, ⊤}
 use Rattle.std.specs.declared.alloc.Global.{Global}
@@ -19,10 +19,10 @@ use Rattle.ariadne_told.specs.declared.diagnostic.Diagnostic.{Diagnostic}
 use Rattle.ariadne_told.specs.declared.diagnostic.OwnKind.{OwnKind}
 use Rattle.ariadne_told.specs.declared.diagnostic.Severity.{Severity}
 use Rattle.ariadne_told.specs.declared.diagnostic.Severity.TheVariants.{Error, Warning, Note}
-use Rattle.ariadne_told.specs.Told.{main_of}
-use Rattle.ariadne_show.specs.Asides.{helps_of, missing_text, notes_of}
+use Rattle.ariadne_show.specs.Asides.{helps_of, notes_of}
 use Rattle.ariadne_show.specs.Found.{Files, Found}
 use Rattle.ariadne_show.specs.Labels.{severity_color, AreOrdered, labels_of, main_in, shown_header}
+use Rattle.ariadne_show.specs.Said.{lines_of}
 
 -- ---- what a report is about
 
@@ -96,18 +96,7 @@ pub record IsPicture (sources : List SafeSource) (report : ReportFields (ℕ × 
   pub written : WrittenFor sources report before after (Ok left_out)
   pub hides : GotNothingHidden before after
 
--- that of some report has
-pub record IsDrawn (before after : Option (List ℕ)) : Type 0 where
-  pub sources : List SafeSource
-  pub report : ReportFields (ℕ × Range ℕ)
-  pub picture : IsPicture sources report before after
-
--- pictures have, one behind the other
-pub data AreDrawn : Option (List ℕ) → Option (List ℕ) → Type 0 where
-  no_picture : {o : Option (List ℕ)} → AreDrawn o o
-  one_picture_more : {o p q : Option (List ℕ)} → AreDrawn o p → IsDrawn p q → AreDrawn o q
-
--- that of a head with a text has, if there is one
+-- that of a head with a text has
 pub record IsSaid (text : List ℕ) (before after : Option (List ℕ)) : Type 0 where
   pub sources : List SafeSource
   pub report : ReportFields (ℕ × Range ℕ)
@@ -115,9 +104,11 @@ pub record IsSaid (text : List ℕ) (before after : Option (List ℕ)) : Type 0 
   pub bare : IsBare report
   pub picture : IsPicture sources report before after
 
-abbrev pub IsSaidIfAny : Option (List ℕ) → Option (List ℕ) → Option (List ℕ) → Type 0
-IsSaidIfAny None before after = after ≡ before
-IsSaidIfAny (Some text) before after = IsSaid text before after
+-- those of texts have, one behind the other
+pub data AreSaid : List (List ℕ) → Option (List ℕ) → Option (List ℕ) → Type 0 where
+  nothing_said : {o : Option (List ℕ)} → AreSaid [] o o
+  one_said_more : {texts : List (List ℕ)} {o p q : Option (List ℕ)} → AreSaid texts o p
+      → (text : List ℕ) → IsSaid text p q → AreSaid (texts ++ text ∷ []) o q
 
 -- that of a report about a diagnostic has, which has nothing but a head
 pub record IsHeadDrawn (told : Diagnostic) (before after : Option (List ℕ)) : Type 0 where
@@ -127,21 +118,16 @@ pub record IsHeadDrawn (told : Diagnostic) (before after : Option (List ℕ)) : 
   pub bare : IsBare report
   pub picture : IsPicture sources report before after
 
--- why the own place of a diagnostic can't be drawn, if it has one
-abbrev pub missing_main : Files → Diagnostic → Option (List ℕ)
-missing_main files told = option_map (missing_text files) (main_of told.places.items)
-
 -- where its own place was found, the picture of the report of a diagnostic has; else that of its head,
--- and then those of what it says beside, of which the last says why; and where it is to be short, that of
--- its head alone
+-- and then those of its other lines, of which the last says why; and where it is to be short, that of its
+-- head alone
 pub data IsToldDrawn (is_short : Bool) (files : Files) (sources : List SafeSource)
     (told : Diagnostic) (before after : Option (List ℕ)) : Type 0 where
   in_one : (main : Found) (report : ReportFields (ℕ × Range ℕ))
       → is_short ≡ false → main_in files told ≡ Some main → IsReportOf files told main sources report
       → IsPicture sources report before after → IsToldDrawn is_short files sources told before after
-  in_lines : (headed said : Option (List ℕ)) → is_short ≡ false → main_in files told ≡ None
-      → IsHeadDrawn told before headed → AreDrawn headed said
-      → IsSaidIfAny (missing_main files told) said after
+  in_lines : (headed : Option (List ℕ)) → is_short ≡ false → main_in files told ≡ None
+      → IsHeadDrawn told before headed → AreSaid (lines_of files told) headed after
       → IsToldDrawn is_short files sources told before after
   in_line : is_short ≡ true → IsHeadDrawn told before after
       → IsToldDrawn is_short files sources told before after

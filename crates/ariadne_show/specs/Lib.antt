@@ -5,5 +5,6 @@ pub mod Found
 pub mod Labels
 pub mod Pages
 pub mod Read
+pub mod Said
 pub mod Shown
 pub mod Sums

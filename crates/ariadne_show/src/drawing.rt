@@ -6,23 +6,24 @@ ghost use Rattle.ariadne_visible.specs.Visible.{is_shown, visible_bytes};
 ghost use Rattle.ariadne_visible.specs.declared.text.TextKind.TheVariants.{OneRow};
 ghost use Rattle.ariadne_safe.specs.Building.{kind_in, made_of, report_of as report_in};
 ghost use Rattle.ariadne_safe.specs.Building.{sources_below, sources_under};
-ghost use Rattle.ariadne_show.specs.Asides.{missing_text as text_of_missing};
-ghost use Rattle.ariadne_show.specs.Drawn.{coded, missing_main, own_name as own_name_in, AreDrawn};
+ghost use Rattle.ariadne_show.specs.Drawn.{coded, own_name as own_name_in, AreSaid};
 ghost use Rattle.ariadne_show.specs.Drawn.{IsHeadDrawn, IsOfKind, IsOfSeverity, IsPicture};
-ghost use Rattle.ariadne_show.specs.Drawn.{IsReportOf, IsSaid, IsSaidIfAny, IsToldDrawn, Says};
+ghost use Rattle.ariadne_show.specs.Drawn.{IsReportOf, IsSaid, IsToldDrawn, Says};
 ghost use Rattle.ariadne_show.specs.Found.{files_of, found_of};
 ghost use Rattle.ariadne_show.specs.Labels.{label_of as label_fields, labels_of, severity_color};
 ghost use Rattle.ariadne_show.specs.Labels.{with_labels as more_labels};
 ghost use Rattle.ariadne_show.specs.Read.{sources_in};
+ghost use Rattle.ariadne_show.specs.Said.{lines_of};
 
 use crate::asides::{place_text, spot_text, with_asides};
 use crate::fault::Fault;
 use crate::found::{FoundPlace, found_main, found_place, ordered_places};
 use crate::options::Style;
 use crate::shelf::Shelf;
+use crate::texts::{line_texts, missing_text};
 use ariadne::{CharSet, Color, Config, Label, ReportKind};
 use ariadne_safe::{SafeBuilder, SafeKind, SafeReport};
-use ariadne_told::{Diagnostic, Place, Severity};
+use ariadne_told::{Diagnostic, Severity};
 use ariadne_visible::{TextKind, visible};
 use std::alloc::{AllocError, Global};
 use std::io::Write;
@@ -111,8 +112,7 @@ fn draw_titled<W: Write>(
         }
         None => {
             draw_line(alloc, shelf, titled, style, out)?;
-            draw_asides(alloc, shelf, told, style, out)?;
-            draw_missing(alloc, shelf, told, style, out)
+            draw_lines(alloc, shelf, told, style, out)
         }
     }
 }
@@ -159,54 +159,23 @@ fn draw_line<W: Write>(
     draw_report(&builder.finish(), out)
 }
 
-/// Draws each place that says something, note and help of a diagnostic in a line.
-fn draw_asides<W: Write>(
+/// Draws each place that says something, note and help of a diagnostic in a line, and why its own
+/// place can't be drawn.
+fn draw_lines<W: Write>(
     alloc: Global,
     shelf: &Shelf,
     told: &Diagnostic,
     style: Style,
     out: &mut W,
 ) -> Result<(), Fault>
-    ensures { OnOk result (AreDrawn (W.contents out.old) (W.contents out.new)) }
+    ensures { OnOk result (AreSaid (lines_of (files_of shelf.now) told.now) (W.contents out.old)
+        (W.contents out.new)) }
 {
-    let asides = aside_texts(alloc, told)?;
-    for text in &asides {
+    let texts = line_texts(alloc, shelf, told)?;
+    for text in &texts {
         draw_text(alloc, shelf, note_kind(), text.as_str(), style, out)?;
     }
     Ok(())
-}
-
-/// Draws why the own place of a diagnostic can't be drawn, if it has one.
-fn draw_missing<W: Write>(
-    alloc: Global,
-    shelf: &Shelf,
-    told: &Diagnostic,
-    style: Style,
-    out: &mut W,
-) -> Result<(), Fault>
-    ensures { OnOk result (IsSaidIfAny (missing_main (files_of shelf.now) told.now)
-        (W.contents out.old) (W.contents out.new)) }
-{
-    let Some(place) = told.main_place() else {
-        return Ok(());
-    };
-    let text = missing_text(alloc, shelf, place)?;
-    draw_text(alloc, shelf, note_kind(), text.as_str(), style, out)
-}
-
-/// What the places of a diagnostic say, and its notes and helps.
-fn aside_texts(alloc: Global, told: &Diagnostic) -> Result<Vec<String>, AllocError> {
-    let mut texts = Vec::new(alloc);
-    for place in told.places.iter().filter(|place| !place.text.is_empty()) {
-        texts.push(spot_text(alloc, place, place.text.as_str())?)?;
-    }
-    for note in &told.notes {
-        texts.push(note.clone()?)?;
-    }
-    for help in &told.helps {
-        texts.push(help.clone()?)?;
-    }
-    Ok(texts)
 }
 
 /// Where a diagnostic is, and what it says; where this is its only line, also that its place can't be
@@ -229,19 +198,6 @@ fn line_text(
     }
     let missing = missing_text(alloc, shelf, place)?;
     format!(in alloc; "{text} ({missing})")
-}
-
-/// Why a place can't be drawn.
-fn missing_text(alloc: Global, shelf: &Shelf, place: &Place) -> Result<String, AllocError>
-    ensures { IfOk result (λ text. string_bytes text
-        ≡ text_of_missing (files_of shelf.now) place.now) }
-{
-    let file = place.file.as_str();
-    let line = place.start.line;
-    match shelf.get(file) {
-        Some(_) => format!(in alloc; "not drawn, since {file} has no line {line}"),
-        None => format!(in alloc; "not drawn, since {file} can't be read"),
-    }
 }
 
 /// The report of a diagnostic whose own place was found.

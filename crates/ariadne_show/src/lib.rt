@@ -11,6 +11,7 @@ pub mod pages;
 mod shelf;
 pub mod showing;
 pub mod sum;
+mod texts;
 
 pub use fault::{Fault, Status, tell_fault};
 pub use options::{Asked, Colors, Options, Style, read_words};

@@ -165,6 +165,8 @@ pub(crate) const CALLS: &[(&str, &[&str])] = &[
             "ordered_places",
             "spot_text",
             "with_asides",
+            "line_texts",
+            "missing_text",
             "Sum::text",
         ],
     ),

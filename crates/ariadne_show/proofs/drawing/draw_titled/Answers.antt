@@ -16,9 +16,8 @@ returns-in_ok-report-in-Some g c =
     c.if-style.false c.in-Some.ensures.found c.in_ok-report-in-Some.ensures.report c.in_ok-report-in-Some.ensures.sources
     c.draw_report.ensures
 
--- the line, what stands below it, and why there is no picture
-pub returns-in_ok-draw_asides-in-None : goal.returns-in_ok-draw_asides-in-None
-returns-in_ok-draw_asides-in-None g c =
-    told_if_in_lines c.draw_missing.result _ (files_of c.args.shelf.now) (sources_in c.args.shelf.now) _ _ _ _ _
-    c.if-style.false c.in-None.ensures.found c.in_ok-draw_line-in-None.ensures c.in_ok-draw_asides-in-None.ensures
-    c.draw_missing.ensures
+-- the line, and the others
+pub returns-in_ok-draw_line-in-None : goal.returns-in_ok-draw_line-in-None
+returns-in_ok-draw_line-in-None g c =
+    told_if_in_lines c.draw_lines.result _ (files_of c.args.shelf.now) (sources_in c.args.shelf.now) _ _ _ _
+    c.if-style.false c.in-None.ensures.found c.in_ok-draw_line-in-None.ensures c.draw_lines.ensures

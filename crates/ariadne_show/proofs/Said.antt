@@ -1,0 +1,60 @@
+-- What is said in lines, one after the other.
+use Rattle.std.proofs.Common.{◌≡◌, ◌∙◌, ℕ, ap, subst, sym, append_assoc, []}
+use Rattle.std.proofs.lemmas.List.{map-append}
+use Rattle.std.proofs.lemmas.List.Elements.{filter-append}
+use Rattle.std.specs.Prelude.{Bool, true, false, not, cond, ◌==◌, List, ◌∷◌, ◌++◌, Option, filter, length, map, take, String, string_bytes}
+use Rattle.std.specs.declared.alloc.Global.{Global}
+use Rattle.ariadne_told.specs.declared.diagnostic.Place.{Place}
+use Rattle.ariadne_show.specs.Asides.{spot_text}
+use Rattle.ariadne_show.specs.Drawn.{AreSaid, IsSaid, one_said_more}
+use Rattle.ariadne_show.specs.Said.{said_places, said_texts, says_something}
+
+-- one text more
+pub texts_more : (xs all : List (String Global)) (x : String Global) (text : List ℕ) → all ≡ xs ++ x ∷ []
+    → text ≡ string_bytes x → said_texts all ≡ said_texts xs ++ text ∷ []
+texts_more xs all x text more same =
+    ap said_texts more ∙ map-append (λ (t : String Global). string_bytes t) xs (x ∷ [])
+    ∙ ap (λ t. said_texts xs ++ t ∷ []) (sym same)
+
+pub said_more : (xs all : List (String Global)) (x : String Global) (text : List ℕ) (o p q : Option (List ℕ)) → all ≡ xs ++ x ∷ []
+    → text ≡ string_bytes x → AreSaid (said_texts xs) o p → IsSaid text p q → AreSaid (said_texts all) o q
+said_more xs all x text o p q more same before now =
+    subst (λ (texts : List (List ℕ)). AreSaid texts o q) (sym (texts_more xs all x text more same)) (one_said_more before text now)
+
+-- some, and some more
+pub and_more : (r0 r s xs ys zs : List (List ℕ)) → r ≡ r0 ++ xs → s ≡ r ++ ys → xs ++ ys ≡ zs → s ≡ r0 ++ zs
+and_more r0 r s xs ys zs is more all = more ∙ ap (λ l. l ++ ys) is ∙ append_assoc r0 xs ys ∙ ap (λ l. r0 ++ l) all
+
+-- ---- places
+
+said_of : Place → List ℕ
+said_of place = spot_text place (string_bytes place.text)
+
+pub places_more : (xs all : List Place) (x : Place) → all ≡ xs ++ x ∷ []
+    → said_places xs ++ said_places (x ∷ []) ≡ said_places all
+unfolding said_of
+places_more xs all x more =
+    sym (map-append said_of (filter says_something xs) (filter says_something (x ∷ [])))
+    ∙ ap (map said_of) (sym (filter-append says_something xs (x ∷ [])))
+    ∙ ap said_places (sym more)
+
+pub no_place : (x : Place) → (length (string_bytes x.text) == 0) ≡ true → said_places (x ∷ []) ≡ []
+unfolding said_of
+no_place x empty = ap (λ (b : Bool). map said_of (cond (not b) (x ∷ []) [])) empty
+
+pub one_place : (x : Place) → (length (string_bytes x.text) == 0) ≡ false
+    → said_places (x ∷ []) ≡ spot_text x (string_bytes x.text) ∷ []
+unfolding said_of
+one_place x filled = ap (λ (b : Bool). map said_of (cond (not b) (x ∷ []) [])) filled
+
+-- ---- all of them
+
+pub all_lines : (a b c d e places notes helps why : List (List ℕ)) → a ≡ [] → b ≡ a ++ places → c ≡ b ++ notes → d ≡ c ++ helps
+    → e ≡ d ++ why → e ≡ places ++ notes ++ helps ++ why
+all_lines a b c d e places notes helps why none one two three four =
+    four ∙ ap (λ l. l ++ why) (three ∙ ap (λ l. l ++ helps) (two ∙ ap (λ l. l ++ notes) (one ∙ ap (λ l. l ++ places) none)))
+
+pub all_said : (xs : List (String Global)) (i : ℕ) (lines : List (List ℕ)) (o q : Option (List ℕ)) → take i xs ≡ xs
+    → said_texts xs ≡ lines → AreSaid (said_texts (take i xs)) o q → AreSaid lines o q
+all_said xs i lines o q whole is before =
+    subst (λ (texts : List (List ℕ)). AreSaid texts o q) (ap said_texts whole ∙ is) before
