@@ -11,7 +11,7 @@ use Rattle.ariadne_show.specs.Drawn.{AreSaid, IsAbout, IsBare, IsHeadDrawn, IsPi
 use Rattle.ariadne_show.specs.Drawn.{in_one, in_line, in_lines}
 use Rattle.ariadne_show.specs.Found.{Files, Found}
 use Rattle.ariadne_show.specs.Labels.{main_in}
-use Rattle.ariadne_show.specs.Said.{lines_of}
+use Rattle.ariadne_show.specs.Said.{first_line, lines_of}
 use Rattle.ariadne_show.proofs.Heads.{said_bare}
 
 -- the picture of a text, after Ok
@@ -28,12 +28,12 @@ said_if (Ok x) text sources r0 built report o p bare made same picture = record 
 said_if (Err e) text sources r0 built report o p bare made same picture = tt
 
 -- of one about a diagnostic
-pub head_drawn_if : {T E : Type 0} (r : Result T E) (told : Diagnostic) (sources : List SafeSource)
-    (report : ReportFields (ℕ × Range ℕ)) (o p : Option (List ℕ)) → IsAbout told report → IsBare report
-    → OnOk r (IsPicture sources report o p) → OnOk r (IsHeadDrawn told o p)
-head_drawn_if (Ok x) told sources report o p about bare picture =
+pub head_drawn_if : {T E : Type 0} (r : Result T E) (is_short : Bool) (files : Files) (told : Diagnostic) (sources : List SafeSource)
+    (report : ReportFields (ℕ × Range ℕ)) (o p : Option (List ℕ)) → IsAbout told (first_line is_short files told) report → IsBare report
+    → OnOk r (IsPicture sources report o p) → OnOk r (IsHeadDrawn is_short files told o p)
+head_drawn_if (Ok x) is_short files told sources report o p about bare picture =
     record { sources = sources; report = report; about = about; bare = bare; picture = picture }
-head_drawn_if (Err e) told sources report o p about bare picture = tt
+head_drawn_if (Err e) is_short files told sources report o p about bare picture = tt
 
 -- of the report of one
 pub told_if_in_one : {T E : Type 0} (r : Result T E) (is_short : Bool) (files : Files) (sources : List SafeSource)
@@ -46,14 +46,14 @@ told_if_in_one (Err e) is_short files sources told main over report o p long fou
 
 -- a head alone
 pub told_if_in_line : {T E : Type 0} (r : Result T E) (is_short : Bool) (files : Files) (sources : List SafeSource)
-    (told : Diagnostic) (o p : Option (List ℕ)) → is_short ≡ true → OnOk r (IsHeadDrawn told o p)
+    (told : Diagnostic) (o p : Option (List ℕ)) → is_short ≡ true → OnOk r (IsHeadDrawn is_short files told o p)
     → OnOk r (IsToldDrawn is_short files sources told o p)
 told_if_in_line (Ok x) is_short files sources told o p short head = in_line short head
 told_if_in_line (Err e) is_short files sources told o p short head = tt
 
 -- others behind it
 pub told_if_in_lines : {T E : Type 0} (r : Result T E) (is_short : Bool) (files : Files) (sources : List SafeSource)
-    (told : Diagnostic) (o m q : Option (List ℕ)) → is_short ≡ false → None ≡ main_in files told → IsHeadDrawn told o m
+    (told : Diagnostic) (o m q : Option (List ℕ)) → is_short ≡ false → None ≡ main_in files told → IsHeadDrawn is_short files told o m
     → OnOk r (AreSaid (lines_of files told) m q) → OnOk r (IsToldDrawn is_short files sources told o q)
 told_if_in_lines (Ok x) is_short files sources told o m q long missing head others =
     in_lines m long (sym missing) head others

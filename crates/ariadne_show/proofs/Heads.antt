@@ -1,5 +1,5 @@
 -- Reports about diagnostics.
-use Rattle.std.proofs.Common.{◌≡◌, ◌∙◌, ap, refl, sym, append-nil, []}
+use Rattle.std.proofs.Common.{◌≡◌, ◌∙◌, ap, refl, sym}
 use Rattle.std.specs.Prelude.{ℕ, max, List, ◌++◌, Option, Some, None, option_map, String, string_bytes}
 use Rattle.std.specs.declared.alloc.Global.{Global}
 use Rattle.std.specs.declared.ops.Range.{Range}
@@ -8,7 +8,7 @@ use Rattle.ariadne.specs.Report.{ConfigFields, Kind, LabelFields, ReportFields, 
 use Rattle.ariadne_visible.specs.Visible.{visible_bytes}
 use Rattle.ariadne_visible.specs.declared.text.TextKind.TheVariants.{OneRow}
 use Rattle.ariadne_told.specs.declared.diagnostic.Diagnostic.{Diagnostic}
-use Rattle.ariadne_show.specs.Drawn.{coded, IsAbout, IsBare, IsOfKind, IsReportOf, Says}
+use Rattle.ariadne_show.specs.Drawn.{coded, IsAbout, IsBare, IsOfKind, IsReportOf}
 use Rattle.ariadne_show.specs.Asides.{helps_of, notes_of, with_helps, with_notes}
 use Rattle.ariadne_show.specs.Found.{Files, Found}
 use Rattle.ariadne_show.specs.Labels.{AreOrdered, header_of, labels_of, shown_header, with_labels}
@@ -28,22 +28,15 @@ coded-code : (code : Option (String Global)) (r : ReportFields (ℕ × Range ℕ
 coded-code None r none = none
 coded-code (Some code) r none = refl
 
--- a report that is begun with a kind and a text that has the message of a diagnostic, and with its code
+-- a report that is begun with the kind of a diagnostic and a text, and with its code
 pub about : (told : Diagnostic) (r0 r s : ReportFields (ℕ × Range ℕ)) (kind : Kind) (text : List ℕ) → r0.kind ≡ kind
     → r0.code ≡ None → r ≡ record r0 { message = Some (visible_bytes OneRow text) } → IsOfKind told kind
-    → Says told text → s ≡ coded told.code r → IsAbout told s
-about told r0 r s kind text kinds codes made is says same = rw same (record {
+    → s ≡ coded told.code r → IsAbout told text s
+about told r0 r s kind text kinds codes made is same = rw same (record {
   kind = rw (coded-kind told.code r ∙ ap (λ (x : ReportFields (ℕ × Range ℕ)). x.kind) made ∙ kinds) is;
   code = coded-code told.code r (ap (λ (x : ReportFields (ℕ × Range ℕ)). x.code) made ∙ codes);
-  before = says.0;
-  behind = says.1;
-  message = coded-message told.code r ∙ ap (λ (x : ReportFields (ℕ × Range ℕ)). x.message) made
-      ∙ ap (λ t. Some (visible_bytes OneRow t)) says.2;
+  message = coded-message told.code r ∙ ap (λ (x : ReportFields (ℕ × Range ℕ)). x.message) made;
 })
-
--- the message is a text that has it
-pub says_itself : (told : Diagnostic) (text : List ℕ) → text ≡ string_bytes told.message → Says told text
-says_itself told text same = ([], [], same ∙ sym (append-nil (string_bytes told.message)))
 
 -- a report that is begun so has nothing else
 coded_bare : (code : Option (String Global)) (r : ReportFields (ℕ × Range ℕ)) → IsBare r → IsBare (coded code r)
@@ -64,24 +57,23 @@ pub new_bare : (kind : Kind) (span : ℕ × Range ℕ) (config : ConfigFields) (
 new_bare kind span config r is = rw is (record { labels = refl; notes = refl; helps = refl })
 
 -- one with labels, notes and helps
-about_more : (told : Diagnostic) (r : ReportFields (ℕ × Range ℕ)) (labels : List (LabelFields (ℕ × Range ℕ)))
-    (notes helps : List (List ℕ)) → IsAbout told r → IsAbout told (with_helps helps (with_notes notes (with_labels labels r)))
-about_more told r labels notes helps about = record {
+about_more : (told : Diagnostic) (text : List ℕ) (r : ReportFields (ℕ × Range ℕ)) (labels : List (LabelFields (ℕ × Range ℕ)))
+    (notes helps : List (List ℕ)) → IsAbout told text r
+    → IsAbout told text (with_helps helps (with_notes notes (with_labels labels r)))
+about_more told text r labels notes helps about = record {
   kind = about.kind;
   code = about.code;
-  before = about.before;
-  behind = about.behind;
   message = about.message;
 }
 
 pub report_about : (files : Files) (told : Diagnostic) (main : Found) (ordered : List Found)
-    (r s : ReportFields (ℕ × Range ℕ)) (under sources : List SafeSource) → IsAbout told r → IsBare r
+    (r s : ReportFields (ℕ × Range ℕ)) (under sources : List SafeSource) → IsAbout told (string_bytes told.message) r → IsBare r
     → r.span ≡ shown_header r.config.index_type under main → AreOrdered files main.number told.places.items ordered
     → s ≡ with_helps (helps_of told) (with_notes (notes_of files told)
     (with_labels (labels_of r.config.index_type under told.severity ordered) r))
     → sources ≡ under → IsReportOf files told main sources s
 report_about files told main ordered r s under sources about bare span places is same = rw (is, same) (record {
-  about = about_more told r (labels_of r.config.index_type under told.severity ordered) (notes_of files told) (helps_of told) about;
+  about = about_more told (string_bytes told.message) r (labels_of r.config.index_type under told.severity ordered) (notes_of files told) (helps_of told) about;
   span = span;
   ordered = ordered;
   places = places;

@@ -22,7 +22,7 @@ use Rattle.ariadne_told.specs.declared.diagnostic.Severity.TheVariants.{Error, W
 use Rattle.ariadne_show.specs.Asides.{helps_of, notes_of}
 use Rattle.ariadne_show.specs.Found.{Files, Found}
 use Rattle.ariadne_show.specs.Labels.{severity_color, AreOrdered, labels_of, main_in, shown_header}
-use Rattle.ariadne_show.specs.Said.{lines_of}
+use Rattle.ariadne_show.specs.Said.{first_line, lines_of}
 
 -- ---- what a report is about
 
@@ -48,21 +48,13 @@ IsKindFor (Some own) severity kind =
 abbrev pub IsOfKind : Diagnostic → Kind → Type 0
 IsOfKind told kind = IsKindFor told.own_kind told.severity kind
 
--- a report has the kind, the code and the message of a diagnostic, as they can be shown; the place may
--- stand before the message, and why that is not drawn behind it
-pub record IsAbout (told : Diagnostic) (report : ReportFields (ℕ × Range ℕ)) : Type 0 where
+-- a report has the kind and the code of a diagnostic, and a text as its message, as they can be shown
+pub record IsAbout (told : Diagnostic) (text : List ℕ) (report : ReportFields (ℕ × Range ℕ))
+    : Type 0 where
   pub kind : IsOfKind told report.kind
   pub code : report.code
       ≡ option_map (λ code. filled_code (visible_bytes OneRow (string_bytes code))) told.code
-  pub before : List ℕ
-  pub behind : List ℕ
-  pub message : report.message
-      ≡ Some (visible_bytes OneRow (before ++ string_bytes told.message ++ behind))
-
--- a text has the message of a diagnostic in it
-abbrev pub Says : Diagnostic → List ℕ → Type 0
-Says told text =
-    (before : List ℕ) × (behind : List ℕ) × (text ≡ before ++ string_bytes told.message ++ behind)
+  pub message : report.message ≡ Some (visible_bytes OneRow text)
 
 -- a report with the code of a diagnostic, if it has one
 abbrev pub coded : Option (String Global) → ReportFields (ℕ × Range ℕ) → ReportFields (ℕ × Range ℕ)
@@ -79,7 +71,7 @@ pub record IsBare (report : ReportFields (ℕ × Range ℕ)) : Type 0 where
 -- a report has the head, the labels, the notes and the helps of a diagnostic whose own place was found
 pub record IsReportOf (files : Files) (told : Diagnostic) (main : Found) (sources : List SafeSource)
     (report : ReportFields (ℕ × Range ℕ)) : Type 0 where
-  pub about : IsAbout told report
+  pub about : IsAbout told (string_bytes told.message) report
   pub span : report.span ≡ shown_header report.config.index_type sources main
   pub ordered : List Found
   pub places : AreOrdered files main.number told.places.items ordered
@@ -110,24 +102,25 @@ pub data AreSaid : List (List ℕ) → Option (List ℕ) → Option (List ℕ) �
   one_said_more : {texts : List (List ℕ)} {o p q : Option (List ℕ)} → AreSaid texts o p
       → (text : List ℕ) → IsSaid text p q → AreSaid (texts ++ text ∷ []) o q
 
--- that of a report about a diagnostic has, which has nothing but a head
-pub record IsHeadDrawn (told : Diagnostic) (before after : Option (List ℕ)) : Type 0 where
+-- that of its first line has, which has nothing but a head
+pub record IsHeadDrawn (is_short : Bool) (files : Files) (told : Diagnostic)
+    (before after : Option (List ℕ)) : Type 0 where
   pub sources : List SafeSource
   pub report : ReportFields (ℕ × Range ℕ)
-  pub about : IsAbout told report
+  pub about : IsAbout told (first_line is_short files told) report
   pub bare : IsBare report
   pub picture : IsPicture sources report before after
 
--- where its own place was found, the picture of the report of a diagnostic has; else that of its head,
--- and then those of its other lines, of which the last says why; and where it is to be short, that of its
--- head alone
+-- where its own place was found, the picture of the report of a diagnostic has; else that of its first
+-- line, and then those of the others, of which the last says why; and where it is to be short, that of
+-- its first line alone
 pub data IsToldDrawn (is_short : Bool) (files : Files) (sources : List SafeSource)
     (told : Diagnostic) (before after : Option (List ℕ)) : Type 0 where
   in_one : (main : Found) (report : ReportFields (ℕ × Range ℕ))
       → is_short ≡ false → main_in files told ≡ Some main → IsReportOf files told main sources report
       → IsPicture sources report before after → IsToldDrawn is_short files sources told before after
   in_lines : (headed : Option (List ℕ)) → is_short ≡ false → main_in files told ≡ None
-      → IsHeadDrawn told before headed → AreSaid (lines_of files told) headed after
+      → IsHeadDrawn is_short files told before headed → AreSaid (lines_of files told) headed after
       → IsToldDrawn is_short files sources told before after
-  in_line : is_short ≡ true → IsHeadDrawn told before after
+  in_line : is_short ≡ true → IsHeadDrawn is_short files told before after
       → IsToldDrawn is_short files sources told before after

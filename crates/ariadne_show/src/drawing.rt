@@ -8,12 +8,12 @@ ghost use Rattle.ariadne_safe.specs.Building.{kind_in, made_of, report_of as rep
 ghost use Rattle.ariadne_safe.specs.Building.{sources_below, sources_under};
 ghost use Rattle.ariadne_show.specs.Drawn.{coded, own_name as own_name_in, AreSaid};
 ghost use Rattle.ariadne_show.specs.Drawn.{IsHeadDrawn, IsOfKind, IsOfSeverity, IsPicture};
-ghost use Rattle.ariadne_show.specs.Drawn.{IsReportOf, IsSaid, IsToldDrawn, Says};
+ghost use Rattle.ariadne_show.specs.Drawn.{IsReportOf, IsSaid, IsToldDrawn};
 ghost use Rattle.ariadne_show.specs.Found.{files_of, found_of};
 ghost use Rattle.ariadne_show.specs.Labels.{label_of as label_fields, labels_of, severity_color};
 ghost use Rattle.ariadne_show.specs.Labels.{with_labels as more_labels};
 ghost use Rattle.ariadne_show.specs.Read.{sources_in};
-ghost use Rattle.ariadne_show.specs.Said.{lines_of};
+ghost use Rattle.ariadne_show.specs.Said.{first_line, lines_of};
 
 use crate::asides::{place_text, spot_text, with_asides};
 use crate::fault::Fault;
@@ -149,8 +149,8 @@ fn draw_line<W: Write>(
     style: Style,
     out: &mut W,
 ) -> Result<(), Fault>
-    ensures { OnOk result
-        (IsHeadDrawn titled.now.told.now (W.contents out.old) (W.contents out.new)) }
+    ensures { OnOk result (IsHeadDrawn style.is_short (files_of shelf.now) titled.now.told.now
+        (W.contents out.old) (W.contents out.new)) }
 {
     let text = line_text(alloc, shelf, titled.told, style)?;
     let kind = titled.kind();
@@ -186,7 +186,8 @@ fn line_text(
     told: &Diagnostic,
     style: Style,
 ) -> Result<String, AllocError>
-    ensures { IfOk result (λ text. Says told.now (string_bytes text)) }
+    ensures { IfOk result (λ text.
+        string_bytes text ≡ first_line style.is_short (files_of shelf.now) told.now) }
 {
     let Some(place) = told.main_place() else {
         let text = told.message.clone()?;

@@ -1,4 +1,4 @@
-use Rattle.std.proofs.Common.{rules, ◌≡◌, ◌∙◌, ℕ, List, ap, map, subst, sym}
+use Rattle.std.proofs.Common.{rules, ◌≡◌, ◌∙◌, ℕ, List, ap, map, string_bytes, subst, sym}
 use Rattle.std.specs.declared.ops.Range.{Range}
 use Rattle.ariadne.specs.Kinds.{kind_of as kind_of_fields}
 use Rattle.ariadne.specs.Report.{ReportFields}
@@ -11,20 +11,20 @@ use Rattle.ariadne_show.specs.Asides.{helps_of, notes_of, with_helps, with_notes
 use Rattle.ariadne_show.specs.Found.{files_of, found_of}
 use Rattle.ariadne_show.specs.Labels.{labels_of, shown_header, with_labels, AreOrdered}
 use Rattle.ariadne_show.specs.Read.{sources_in}
-use Rattle.ariadne_show.proofs.Heads.{about, begun_bare, begun_span, header_ends, new_bare, report_about, says_itself}
+use Rattle.ariadne_show.proofs.Heads.{about, begun_bare, begun_span, header_ends, new_bare, report_about}
 use Rattle.ariadne_show.proofs.drawing.report_of.Goals as goal
 
 -- the head, which stays while labels, notes and helps are added
 pub returns : goal.returns
 returns c =
     let told = c.args.titled.now.told.now in
-    let head : IsAbout told (made_of c.in_ok-builder.builder) =
-    about told (made_of c.new-builder.result) (made_of c.in_ok-with_message.field-0) (made_of c.in_ok-builder.builder)
+    let head : IsAbout told (string_bytes told.message) (made_of c.in_ok-builder.builder) =
+    subst (λ (text : List ℕ). IsAbout told text (made_of c.in_ok-builder.builder)) c.as_str.ensures.value
+    (about told (made_of c.new-builder.result) (made_of c.in_ok-with_message.field-0) (made_of c.in_ok-builder.builder)
     (kind_of_fields (kind_in c.kind-kind.result)) c.as_str.result.now
     (ap (λ (r : ReportFields (ℕ × Range ℕ)). r.kind) c.new-builder.ensures.report)
     (ap (λ (r : ReportFields (ℕ × Range ℕ)). r.code) c.new-builder.ensures.report)
-    c.in_ok-with_message.ensures.report c.kind-kind.ensures (says_itself told _ c.as_str.ensures.value)
-    c.in_ok-builder.ensures.report in
+    c.in_ok-with_message.ensures.report c.kind-kind.ensures c.in_ok-builder.ensures.report) in
     let bare : IsBare (made_of c.in_ok-builder.builder) =
     begun_bare told (made_of c.new-builder.result) (made_of c.in_ok-with_message.field-0) (made_of c.in_ok-builder.builder) _
     (new_bare _ _ _ _ c.new-builder.ensures.report) c.in_ok-with_message.ensures.report c.in_ok-builder.ensures.report in
