@@ -10,10 +10,9 @@ use Rattle.ariadne_picture.specs.Report.{World, ReportFields}
 use Rattle.ariadne_picture.specs.Headline.{Headline}
 use Rattle.ariadne_picture.proofs.Worked.Sample.{Span, report, label, utf8, drawn}
 use Rattle.ariadne_accept.specs.declared.accept.LeftOut.{LeftOut}
-use Rattle.ariadne_accept.specs.declared.accept.Reason.{Reason}
 use Rattle.ariadne_accept.specs.declared.accept.Reason.TheVariants.{Unfetched, PastSource, CutsCharacter}
 use Rattle.ariadne_accept.specs.Drawn.{world}
-use Rattle.ariadne_accept.specs.Judging.{AreReasons, listed}
+use Rattle.ariadne_accept.specs.Judging.{AreOutcomes, Outcome, drawn_as, left_out_for, listed}
 use Rattle.ariadne.specs.declared.write_error.WriteError.{WriteError}
 use Rattle.ariadne.specs.declared.write_error.WriteError.TheVariants.{Memory, Io}
 use Rattle.ariadne.specs.Written.{IsPicture, Written}
@@ -40,26 +39,26 @@ Fails id e = e ≡ 7
 abbrev Tells : List ℕ → Result (Vec (LeftOut ℕ) Global) WriteError → Type 0
 Tells bytes result = Written Fails (reads (λ id. None) held) (reads (λ id. None) held) past (Some []) (Some bytes) result
 
-abbrev Reasons : Type 0
-Reasons = List (Option (Reason ℕ))
+abbrev Outcomes : Type 0
+Outcomes = List (Outcome ℕ)
 
-abbrev one_reason : Reasons
-one_reason = Some PastSource ∷ []
+abbrev one_outcome : Outcomes
+one_outcome = left_out_for PastSource ∷ []
 
 unfoldable computed : Unit {0}
 unfolding drawn held past chars
 computed = tt
 
--- these are the only reasons
-only_reasons : (reasons : Reasons) → AreReasons Fails (reads (λ id. None) held) (reads (λ id. None) held) past.config past.labels reasons
-    → reasons ≡ one_reason
+-- this is the only one that it may have
+only_outcomes : (outcomes : Outcomes)
+    → AreOutcomes Fails (reads (λ id. None) held) (reads (λ id. None) held) past.config past.labels outcomes → outcomes ≡ one_outcome
 unfolding computed
-only_reasons [] h = absurd h.judged
-only_reasons (None ∷ reasons) h = let e = h.judged.0.1 in cc
-only_reasons (Some PastSource ∷ []) h = refl
-only_reasons (Some PastSource ∷ reason ∷ reasons) h = absurd h.judged.1
-only_reasons (Some CutsCharacter ∷ reasons) h = let e = h.judged.0 in cc
-only_reasons (Some (Unfetched e) ∷ reasons) h = let z = h.judged.0.0 in cc
+only_outcomes [] h = absurd h.judged
+only_outcomes (drawn_as info ∷ outcomes) h = let e = h.judged.0 in cc
+only_outcomes (left_out_for PastSource ∷ []) h = refl
+only_outcomes (left_out_for PastSource ∷ outcome ∷ outcomes) h = absurd h.judged.1
+only_outcomes (left_out_for CutsCharacter ∷ outcomes) h = let e = h.judged.0 in cc
+only_outcomes (left_out_for (Unfetched e) ∷ outcomes) h = let z = h.judged.0.0 in cc
 
 -- ---- the picture that is made before it is sent
 
@@ -69,12 +68,12 @@ module _ (bytes : List ℕ) (list : List (LeftOut ℕ)) where
 
   its_label_is_listed : IsMade → list ≡ record { label = 0; reason = PastSource } ∷ []
   unfolding computed
-  its_label_is_listed h = h.left_out ∙ ap (listed 0) (only_reasons h.reasons h.are_reasons)
+  its_label_is_listed h = h.left_out ∙ ap (listed 0) (only_outcomes h.outcomes h.are_outcomes)
 
   -- it can be read
   its_headline : IsMade → Headline (reads (λ id. None) held) past [] bytes
   unfolding computed
-  its_headline h = rw (only_reasons h.reasons h.are_reasons) at h.drawn
+  its_headline h = rw (only_outcomes h.outcomes h.are_outcomes) at h.drawn
 
   -- the header of a report without message ends in a blank
   its_bytes_are_the_header : IsMade → bytes ≡ utf8 "Error: \n"

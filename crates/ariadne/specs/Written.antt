@@ -4,22 +4,20 @@ use Rattle.std.specs.Prelude.{ℕ, ◌<◌, ◌≡◌, List, length, take, Optio
 use Rattle.std.specs.Io.KnownBytes.{Appends, Keeps}
 use Rattle.std.specs.declared.alloc.Global.{Global}
 use Rattle.ariadne_accept.specs.declared.accept.LeftOut.{LeftOut}
-use Rattle.ariadne_accept.specs.declared.accept.Reason.{Reason}
 use Rattle.ariadne.specs.declared.write_error.WriteError.{WriteError}
 use Rattle.ariadne.specs.declared.write_error.WriteError.TheVariants.{Memory, Io}
-use Rattle.ariadne_accept.specs.Judging.{AreReasons, listed}
+use Rattle.ariadne_accept.specs.Judging.{AreOutcomes, Outcome, drawn_labels, listed}
 use Rattle.ariadne_picture.specs.Report.{ReportFields, World}
-use Rattle.ariadne_picture.specs.Accept.{drawn_labels}
 use Rattle.ariadne_picture.specs.Headline.{Headline}
 
 module _ {S Id E : Type 0} (fails : Id → E → Type 0) (old w : World S Id) (r : ReportFields S) where
-  -- the bytes are the picture of the labels that have no reason, and on it every message can be found;
-  -- the other labels are listed
+  -- the bytes are the picture of the labels that are drawn, and on it every message can be found; the
+  -- other labels are listed
   pub record IsPicture (bytes : List ℕ) (list : List (LeftOut E)) : Type 0 where
-    pub reasons : List (Option (Reason E))
-    pub are_reasons : AreReasons fails old w r.config r.labels reasons
-    pub left_out : list ≡ listed 0 reasons
-    pub drawn : Headline w r (drawn_labels w r.config 0 r.labels reasons) bytes
+    pub outcomes : List (Outcome E)
+    pub are_outcomes : AreOutcomes fails old w r.config r.labels outcomes
+    pub left_out : list ≡ listed 0 outcomes
+    pub drawn : Headline w r (drawn_labels outcomes) bytes
 
   -- the whole picture was written, and the list is that of its left-out labels
   pub record IsWritten (list : List (LeftOut E)) (before after : Option (List ℕ)) : Type 0 where

@@ -2,6 +2,7 @@
 #![tactic(auto)]
 
 pub mod builder;
+pub mod laws;
 pub mod report;
 pub mod write;
 pub mod write_error;
@@ -14,7 +15,6 @@ pub use ariadne_color::{Background, Color, ColorGenerator, Fmt, Foreground};
 pub use ariadne_labels::config::{CharSet, Config, IndexType, LabelAttach};
 pub use ariadne_labels::kind::ReportKind;
 pub use ariadne_labels::label::Label;
-pub use ariadne_picture::laws;
 pub use ariadne_send::sink::Sink;
 pub use builder::ReportBuilder;
 pub use report::Report;

@@ -1,7 +1,7 @@
--- One label more is judged: what the cache holds by then, the reasons of the labels so far, and what is drawn and what is left out of them.
+-- One label more is judged: what the cache holds by then, the outcomes of the labels so far, and what is drawn and what is left out of them.
 use Rattle.std.proofs.Common.{◌≡◌, ℕ, zero, suc, ◌+◌, ◌<◌, ◌≤◌, Bool, true, false, List, [], ◌∷◌, ◌++◌, Option, Some, None, length, take, get_or, not, refl}
-use Rattle.std.proofs.Common.{sym, ap, ◌∙◌, subst, arith, append_assoc}
-use Rattle.std.specs.Prelude.{IsSome, IsSomeAnd, option_and_then, option_to_list}
+use Rattle.std.proofs.Common.{sym, ap, ◌∙◌, subst, arith}
+use Rattle.std.specs.Prelude.{IsSome, IsSomeAnd}
 use Rattle.std.specs.List.{AllByRecursion, list_any}
 use Rattle.std.specs.Cmp.{IsEquivalence}
 use Rattle.std.specs.HashMap.Eq.{lookup_congr}
@@ -15,13 +15,14 @@ use Rattle.ariadne_picture.specs.declared.verdict.Verdict.TheVariants.{Accepted}
 use Rattle.ariadne_picture.specs.declared.verdict.Verdict.TheVariants.{PastSource as past}
 use Rattle.ariadne_picture.specs.declared.verdict.Verdict.TheVariants.{CutsCharacter as cuts}
 use Rattle.ariadne_picture.specs.Report.{ConfigFields, LabelFields, World, HaveOneSource}
-use Rattle.ariadne_picture.specs.Accept.{accepted_info, drawn_label, drawn_labels, verdict, verdict_in}
+use Rattle.ariadne_picture.specs.Accept.{verdict, verdict_in}
 use Rattle.ariadne_picture.proofs.Lists.ListFacts.{all-append}
 use Rattle.ariadne_accept.specs.declared.accept.LeftOut.{LeftOut}
 use Rattle.ariadne_accept.specs.declared.accept.Reason.{Reason}
 use Rattle.ariadne_accept.specs.declared.accept.Reason.TheVariants.{Unfetched, PastSource, CutsCharacter}
 use Rattle.ariadne_accept.specs.Drawn.{world}
-use Rattle.ariadne_accept.specs.Judging.{AreJudged, GrowsFor, IsJudged, NoneUnfetched, StayFetched, is_unfetched, listed}
+use Rattle.ariadne_accept.specs.Judging.{AreJudged, GrowsFor, IsJudged, NoneUnfetched, Outcome, StayFetched, drawn_as, drawn_labels, is_unfetched}
+use Rattle.ariadne_accept.specs.Judging.{left_out_for, listed}
 use Rattle.ariadne_accept.specs.Progress.{IsSourceAt, SoFar}
 
 -- ---- lists
@@ -105,56 +106,47 @@ module _ {S Id : Type 0} (id_of : S → Id) (eq : Id → Id → Bool) where
   grows_at labels items i x a b c same there is f g =
       grows_within labels (i + 1) a c (grows_more labels i x a b c (rw same at there) (rw same at is) f g)
 
--- ---- reasons
+-- ---- outcomes
 
--- the reasons of one label more
-listed_push : {E : Type 0} (n : ℕ) (reasons : List (Option (Reason E))) (reason : Option (Reason E))
-    → listed n (reasons ++ reason ∷ []) ≡ listed n reasons ++ listed (n + length reasons) (reason ∷ [])
-listed_push n [] reason = let z : n + 0 ≡ n = omega arith in rw z refl
-listed_push n (None ∷ reasons) reason =
-    let z : n + 1 + length reasons ≡ n + suc (length reasons) = omega arith in
-    listed_push (n + 1) reasons reason ∙ ap (λ m. listed (n + 1) reasons ++ listed m (reason ∷ [])) z
-listed_push n (Some first ∷ reasons) reason =
-    let z : n + 1 + length reasons ≡ n + suc (length reasons) = omega arith in
+-- one label more, where it is left out
+listed_push : {E : Type 0} (n : ℕ) (outcomes : List (Outcome E)) (outcome : Outcome E)
+    → listed n (outcomes ++ outcome ∷ []) ≡ listed n outcomes ++ listed (n + length outcomes) (outcome ∷ [])
+listed_push n [] outcome = let z : n + 0 ≡ n = omega arith in rw z refl
+listed_push n (drawn_as info ∷ outcomes) outcome =
+    let z : n + 1 + length outcomes ≡ n + suc (length outcomes) = omega arith in
+    listed_push (n + 1) outcomes outcome ∙ ap (λ m. listed (n + 1) outcomes ++ listed m (outcome ∷ [])) z
+listed_push n (left_out_for first ∷ outcomes) outcome =
+    let z : n + 1 + length outcomes ≡ n + suc (length outcomes) = omega arith in
     ap (λ xs. record { label = n; reason = first } ∷ xs)
-    (listed_push (n + 1) reasons reason ∙ ap (λ m. listed (n + 1) reasons ++ listed m (reason ∷ [])) z)
+    (listed_push (n + 1) outcomes outcome ∙ ap (λ m. listed (n + 1) outcomes ++ listed m (outcome ∷ [])) z)
+
+-- and where it is drawn
+drawn_push : {E : Type 0} (outcomes : List (Outcome E)) (outcome : Outcome E)
+    → drawn_labels (outcomes ++ outcome ∷ []) ≡ drawn_labels outcomes ++ drawn_labels (outcome ∷ [])
+drawn_push [] outcome = refl
+drawn_push (drawn_as info ∷ outcomes) outcome = ap (λ xs. info ∷ xs) (drawn_push outcomes outcome)
+drawn_push (left_out_for reason ∷ outcomes) outcome = drawn_push outcomes outcome
 
 module _ {S Id E : Type 0} (fails : Id → E → Type 0) (config : ConfigFields) where
   module _ (before after : World S Id) where
-    -- there is a reason, or none, for each label
-    judged_length : (k : ℕ) (labels : List (LabelFields S)) (reasons : List (Option (Reason E))) → AreJudged fails before after config k labels reasons
-        → length reasons ≡ length labels
+    -- there is one for each label
+    judged_length : (k : ℕ) (labels : List (LabelFields S)) (outcomes : List (Outcome E)) → AreJudged fails before after config k labels outcomes
+        → length outcomes ≡ length labels
     judged_length k [] [] h = refl
-    judged_length k [] (reason ∷ reasons) h = absurd h
+    judged_length k [] (outcome ∷ outcomes) h = absurd h
     judged_length k (label ∷ labels) [] h = absurd h
-    judged_length k (label ∷ labels) (reason ∷ reasons) h = ap suc (judged_length (suc k) labels reasons h.1)
+    judged_length k (label ∷ labels) (outcome ∷ outcomes) h = ap suc (judged_length (suc k) labels outcomes h.1)
 
     -- one label more is judged
-    judged_push : (k : ℕ) (labels : List (LabelFields S)) (reasons : List (Option (Reason E))) (x : LabelFields S) (r : Option (Reason E))
-        → AreJudged fails before after config k labels reasons → IsJudged fails before after config (k + length labels) x r
-        → AreJudged fails before after config k (labels ++ x ∷ []) (reasons ++ r ∷ [])
+    judged_push : (k : ℕ) (labels : List (LabelFields S)) (outcomes : List (Outcome E)) (x : LabelFields S) (r : Outcome E)
+        → AreJudged fails before after config k labels outcomes → IsJudged fails before after config (k + length labels) x r
+        → AreJudged fails before after config k (labels ++ x ∷ []) (outcomes ++ r ∷ [])
     judged_push k [] [] x r h j = let z : k + 0 ≡ k = omega arith in (subst (λ n. IsJudged fails before after config n x r) z j, tt)
-    judged_push k [] (reason ∷ reasons) x r h j = absurd h
+    judged_push k [] (outcome ∷ outcomes) x r h j = absurd h
     judged_push k (label ∷ labels) [] x r h j = absurd h
-    judged_push k (label ∷ labels) (reason ∷ reasons) x r h j =
+    judged_push k (label ∷ labels) (outcome ∷ outcomes) x r h j =
         let z : k + suc (length labels) ≡ suc k + length labels = omega arith in
-        (h.0, judged_push (suc k) labels reasons x r h.1 (subst (λ n. IsJudged fails before after config n x r) z j))
-
-    -- and what is drawn of it comes last
-    drawn_push : (k : ℕ) (labels : List (LabelFields S)) (reasons : List (Option (Reason E))) (x : LabelFields S) (r : Option (Reason E)) (w : World S Id)
-        → AreJudged fails before after config k labels reasons
-        → drawn_labels w config k (labels ++ x ∷ []) (reasons ++ r ∷ []) ≡ drawn_labels w config k labels reasons
-        ++ drawn_label w config (k + length labels) x r
-    unfolding drawn_labels
-    drawn_push k [] [] x r w h = let z : k + 0 ≡ k = omega arith in rw z (append-nil (drawn_label w config k x r))
-    drawn_push k [] (reason ∷ reasons) x r w h = absurd h
-    drawn_push k (label ∷ labels) [] x r w h = absurd h
-    drawn_push k (label ∷ labels) (reason ∷ reasons) x r w h =
-        let z : suc k + length labels ≡ k + suc (length labels) = omega arith in
-        ap (λ xs. drawn_label w config k label reason ++ xs) (drawn_push (suc k) labels reasons x r w h.1)
-        ∙ sym (append_assoc (drawn_label w config k label reason) (drawn_labels w config (suc k) labels reasons)
-        (drawn_label w config (suc k + length labels) x r))
-        ∙ ap (λ n. (drawn_label w config k label reason ++ drawn_labels w config (suc k) labels reasons) ++ drawn_label w config n x r) z
+        (h.0, judged_push (suc k) labels outcomes x r h.1 (subst (λ n. IsJudged fails before after config n x r) z j))
 
   -- ---- over a cache that grows
 
@@ -164,110 +156,88 @@ module _ {S Id E : Type 0} (fails : Id → E → Type 0) (config : ConfigFields)
     at = world id_of start_of end_of eq
 
     module _ (na nb nc nd : Id → Option (List ℕ)) (a b c d : List (Id × Listing)) (early : Grows eq a b) (late : Grows eq c d) where
-      -- a reason stays one where less was held before, and more is held after
-      judged_weaker : (k : ℕ) (label : LabelFields S) (r : Option (Reason E)) → IsJudged fails (at nb b) (at nc c) config k label r
+      -- an outcome stays one where less was held before, and more is held after
+      judged_weaker : (k : ℕ) (label : LabelFields S) (r : Outcome E) → IsJudged fails (at nb b) (at nc c) config k label r
           → IsJudged fails (at na a) (at nd d) config k label r
-      judged_weaker k label None h = kept_some _ _ _ (late (id_of label.span)) h
-      judged_weaker k label (Some (Unfetched e)) h = (was_none _ _ (early (id_of label.span)) h.0, h.1)
-      judged_weaker k label (Some PastSource) h = kept_some _ _ _ (late (id_of label.span)) h
-      judged_weaker k label (Some CutsCharacter) h = kept_some _ _ _ (late (id_of label.span)) h
+      judged_weaker k label (drawn_as info) h = kept_some _ _ _ (late (id_of label.span)) h
+      judged_weaker k label (left_out_for (Unfetched e)) h = (was_none _ _ (early (id_of label.span)) h.0, h.1)
+      judged_weaker k label (left_out_for PastSource) h = kept_some _ _ _ (late (id_of label.span)) h
+      judged_weaker k label (left_out_for CutsCharacter) h = kept_some _ _ _ (late (id_of label.span)) h
 
       -- so do those of all labels
-      judged_all : (k : ℕ) (labels : List (LabelFields S)) (reasons : List (Option (Reason E)))
-          → AreJudged fails (at nb b) (at nc c) config k labels reasons → AreJudged fails (at na a) (at nd d) config k labels reasons
+      judged_all : (k : ℕ) (labels : List (LabelFields S)) (outcomes : List (Outcome E))
+          → AreJudged fails (at nb b) (at nc c) config k labels outcomes → AreJudged fails (at na a) (at nd d) config k labels outcomes
       judged_all k [] [] h = tt
-      judged_all k [] (reason ∷ reasons) h = absurd h
+      judged_all k [] (outcome ∷ outcomes) h = absurd h
       judged_all k (label ∷ labels) [] h = absurd h
-      judged_all k (label ∷ labels) (reason ∷ reasons) h = (judged_weaker k label reason h.0, judged_all (suc k) labels reasons h.1)
-
-      -- what is drawn of a judged label stays
-      drawn_same : (k : ℕ) (label : LabelFields S) (r : Option (Reason E)) → IsJudged fails (at nb b) (at nc c) config k label r
-          → drawn_label (at nc c) config k label r ≡ drawn_label (at nd d) config k label r
-      unfolding drawn_label
-      drawn_same k label None h =
-          ap (λ o. option_to_list (option_and_then (λ s. accepted_info (verdict_in (at nc c) config k label s)) o))
-          (sym (late (id_of label.span) (some_and _ _ h)))
-      drawn_same k label (Some reason) h = refl
-
-      -- and of all of them
-      drawn_all : (k : ℕ) (labels : List (LabelFields S)) (reasons : List (Option (Reason E)))
-          → AreJudged fails (at nb b) (at nc c) config k labels reasons
-          → drawn_labels (at nc c) config k labels reasons ≡ drawn_labels (at nd d) config k labels reasons
-      unfolding drawn_labels
-      drawn_all k [] [] h = refl
-      drawn_all k [] (reason ∷ reasons) h = absurd h
-      drawn_all k (label ∷ labels) [] h = absurd h
-      drawn_all k (label ∷ labels) (reason ∷ reasons) h =
-          rw (drawn_same k label reason h.0, drawn_all (suc k) labels reasons h.1) refl
+      judged_all k (label ∷ labels) (outcome ∷ outcomes) h = (judged_weaker k label outcome h.0, judged_all (suc k) labels outcomes h.1)
 
     module _ (laws : IsEquivalence eq) (na nb nc : Id → Option (List ℕ)) (a b c : List (Id × Listing)) (n : ℕ) (x : LabelFields S)
-        (r : Option (Reason E)) (now : IsJudged fails (at nb b) (at nc c) config n x r) where
+        (r : Outcome E) (now : IsJudged fails (at nb b) (at nc c) config n x r) where
       -- the source of a label that was had is held
-      had : (k : ℕ) (label : LabelFields S) (reason : Option (Reason E)) → IsJudged fails (at na a) (at nb b) config k label reason
-          → is_unfetched reason ≡ false → IsSome (held eq b (id_of label.span))
-      had k label None h u = some_and _ _ h
-      had k label (Some (Unfetched e)) h u = cc
-      had k label (Some PastSource) h u = some_and _ _ h
-      had k label (Some CutsCharacter) h u = some_and _ _ h
+      had : (k : ℕ) (label : LabelFields S) (outcome : Outcome E) → IsJudged fails (at na a) (at nb b) config k label outcome
+          → is_unfetched outcome ≡ false → IsSome (held eq b (id_of label.span))
+      had k label (drawn_as info) h u = some_and _ _ h
+      had k label (left_out_for (Unfetched e)) h u = cc
+      had k label (left_out_for PastSource) h u = some_and _ _ h
+      had k label (left_out_for CutsCharacter) h u = some_and _ _ h
 
       -- so one of an equal id is had
-      fetched_now : (r : Option (Reason E)) → IsJudged fails (at nb b) (at nc c) config n x r → (label : LabelFields S)
+      fetched_now : (r : Outcome E) → IsJudged fails (at nb b) (at nc c) config n x r → (label : LabelFields S)
           → IsSome (held eq b (id_of label.span)) → eq (id_of label.span) (id_of x.span) ≡ true → is_unfetched r ≡ false
-      fetched_now None h label some same = refl
-      fetched_now (Some (Unfetched e)) h label some same =
+      fetched_now (drawn_as info) h label some same = refl
+      fetched_now (left_out_for (Unfetched e)) h label some same =
           absurd (not_none _ _ (one_source id_of start_of end_of eq laws nb b (id_of label.span) (id_of x.span) same) some h.0)
-      fetched_now (Some PastSource) h label some same = refl
-      fetched_now (Some CutsCharacter) h label some same = refl
+      fetched_now (left_out_for PastSource) h label some same = refl
+      fetched_now (left_out_for CutsCharacter) h label some same = refl
 
       -- and none of an equal id is unfetched, also where this label comes last
-      none_push : (label : LabelFields S) → IsSome (held eq b (id_of label.span)) → (labels : List (LabelFields S)) (reasons : List (Option (Reason E)))
-          → NoneUnfetched (at nb b) label labels reasons → NoneUnfetched (at nc c) label (labels ++ x ∷ []) (reasons ++ r ∷ [])
+      none_push : (label : LabelFields S) → IsSome (held eq b (id_of label.span)) → (labels : List (LabelFields S)) (outcomes : List (Outcome E))
+          → NoneUnfetched (at nb b) label labels outcomes → NoneUnfetched (at nc c) label (labels ++ x ∷ []) (outcomes ++ r ∷ [])
       none_push label some [] [] h = (fetched_now r now label some, tt)
-      none_push label some [] (reason ∷ reasons) h = absurd h
+      none_push label some [] (outcome ∷ outcomes) h = absurd h
       none_push label some (other ∷ labels) [] h = absurd h
-      none_push label some (other ∷ labels) (reason ∷ reasons) h = (h.0, none_push label some labels reasons h.1)
+      none_push label some (other ∷ labels) (outcome ∷ outcomes) h = (h.0, none_push label some labels outcomes h.1)
 
       -- so it is for each label that was had
-      stay_push : (k : ℕ) (labels : List (LabelFields S)) (reasons : List (Option (Reason E)))
-          → AreJudged fails (at na a) (at nb b) config k labels reasons
-          → StayFetched (at nb b) labels reasons → StayFetched (at nc c) (labels ++ x ∷ []) (reasons ++ r ∷ [])
+      stay_push : (k : ℕ) (labels : List (LabelFields S)) (outcomes : List (Outcome E))
+          → AreJudged fails (at na a) (at nb b) config k labels outcomes
+          → StayFetched (at nb b) labels outcomes → StayFetched (at nc c) (labels ++ x ∷ []) (outcomes ++ r ∷ [])
       stay_push k [] [] j h = (λ _. tt, tt)
-      stay_push k [] (reason ∷ reasons) j h = absurd j
+      stay_push k [] (outcome ∷ outcomes) j h = absurd j
       stay_push k (label ∷ labels) [] j h = absurd j
-      stay_push k (label ∷ labels) (reason ∷ reasons) j h =
-          (λ u. none_push label (had k label reason j.0 u) labels reasons (h.0 u), stay_push (suc k) labels reasons j.1 h.1)
+      stay_push k (label ∷ labels) (outcome ∷ outcomes) j h =
+          (λ u. none_push label (had k label outcome j.0 u) labels outcomes (h.0 u), stay_push (suc k) labels outcomes j.1 h.1)
 
 -- ---- the loop over the labels
 
 -- at first there are none
 pub so_far_start : {S Id E : Type 0} (fails : Id → E → Type 0) (config : ConfigFields) (before after : World S Id) (labels : List (LabelFields S))
     → SoFar fails config before after (take 0 labels) [] []
-unfolding drawn_labels
 so_far_start fails config before after labels =
-    record { reasons = []; are_reasons = record { judged = tt; stay_fetched = tt }; are_left_out = refl; are_drawn = refl; forward = tt }
+    record { outcomes = []; are_outcomes = record { judged = tt; stay_fetched = tt }; are_left_out = refl; are_drawn = refl; forward = tt }
 
 -- what some labels have come to stays as a cache grows
 module _ {S Id E : Type 0} (fails : Id → E → Type 0) (config : ConfigFields) (id_of : S → Id) (start_of end_of : S → ℕ) (eq : Id → Id → Bool)
     (na nb nc : Id → Option (List ℕ)) (a b c : List (Id × Listing)) (late : Grows eq b c) where
   -- none is unfetched that was not
-  stay_same : (labels : List (LabelFields S)) (reasons : List (Option (Reason E)))
-      → StayFetched (world id_of start_of end_of eq nb b) labels reasons → StayFetched (world id_of start_of end_of eq nc c) labels reasons
-  stay_same [] reasons h = tt
+  stay_same : (labels : List (LabelFields S)) (outcomes : List (Outcome E))
+      → StayFetched (world id_of start_of end_of eq nb b) labels outcomes → StayFetched (world id_of start_of end_of eq nc c) labels outcomes
+  stay_same [] outcomes h = tt
   stay_same (label ∷ labels) [] h = tt
-  stay_same (label ∷ labels) (reason ∷ reasons) h = (h.0, stay_same labels reasons h.1)
+  stay_same (label ∷ labels) (outcome ∷ outcomes) h = (h.0, stay_same labels outcomes h.1)
 
   pub so_far_grown : (labels : List (LabelFields S)) (left_out : List (LeftOut E)) (infos : List LabelInfo)
       → SoFar fails config (world id_of start_of end_of eq na a) (world id_of start_of end_of eq nb b) labels left_out infos
       → SoFar fails config (world id_of start_of end_of eq na a) (world id_of start_of end_of eq nc c) labels left_out infos
   so_far_grown labels left_out infos s = record {
-    reasons = s.reasons;
-    are_reasons = record {
-      judged = judged_all fails config id_of start_of end_of eq na na nb nc a a b c (λ q h. refl) late 0 labels s.reasons s.are_reasons.judged;
-      stay_fetched = stay_same labels s.reasons s.are_reasons.stay_fetched;
+    outcomes = s.outcomes;
+    are_outcomes = record {
+      judged = judged_all fails config id_of start_of end_of eq na na nb nc a a b c (λ q h. refl) late 0 labels s.outcomes s.are_outcomes.judged;
+      stay_fetched = stay_same labels s.outcomes s.are_outcomes.stay_fetched;
     };
     are_left_out = s.are_left_out;
-    are_drawn = s.are_drawn
-        ∙ drawn_all fails config id_of start_of end_of eq na na nb nc a a b c (λ q h. refl) late 0 labels s.reasons s.are_reasons.judged;
+    are_drawn = s.are_drawn;
     forward = s.forward;
   }
 
@@ -287,67 +257,45 @@ module _ {S Id E : Type 0} (fails : Id → E → Type 0) (config : ConfigFields)
   abbrev w2 : World S Id
   w2 = world id_of start_of end_of eq nc c
 
-  -- one label more, with its reason or without one
-  so_far_more : (r : Option (Reason E)) → IsJudged fails w1 w2 config i x r → SoFar fails config w0 w1 (take i labels) left_out infos
-      → SoFar fails config w0 w2 (take (i + 1) labels) (left_out ++ listed i (r ∷ [])) (infos ++ drawn_label w2 config i x r)
+  -- one label more
+  so_far_more : (r : Outcome E) → IsJudged fails w1 w2 config i x r → SoFar fails config w0 w1 (take i labels) left_out infos
+      → SoFar fails config w0 w2 (take (i + 1) labels) (left_out ++ listed i (r ∷ [])) (infos ++ drawn_labels (r ∷ []))
   so_far_more r now s =
-      let rs = s.reasons in
+      let rs = s.outcomes in
       let ls = take i labels in
       let len : length ls ≡ i = length-take-le i labels (omega arith) in
       let size : 0 + length ls ≡ i = omega arith in
-      let judged = s.are_reasons.judged in
+      let judged = s.are_outcomes.judged in
       let count : 0 + length rs ≡ i = omega (arith, judged_length fails config w0 w1 0 ls rs judged) in
       let all : AreJudged fails w0 w2 config 0 ls rs = judged_all fails config id_of start_of end_of eq na na nb nc a a b c (λ q h. refl) late 0 ls rs
       judged in
       let one : IsJudged fails w0 w2 config (0 + length ls) x r = subst (λ n. IsJudged fails w0 w2 config n x r) (sym size)
       (judged_weaker fails config id_of start_of end_of eq na nb nc nc a b c c early (λ q h. refl) i x r now) in
-      let drawn : infos ≡ drawn_labels w2 config 0 ls rs = s.are_drawn
-      ∙ drawn_all fails config id_of start_of end_of eq na na nb nc a a b c (λ q h. refl) late 0 ls rs judged in
-      subst (λ ls. SoFar fails config w0 w2 ls (left_out ++ listed i (r ∷ [])) (infos ++ drawn_label w2 config i x r)) (sym (taken labels i x there is))
+      subst (λ ls. SoFar fails config w0 w2 ls (left_out ++ listed i (r ∷ [])) (infos ++ drawn_labels (r ∷ []))) (sym (taken labels i x there is))
       (record {
-        reasons = rs ++ r ∷ [];
-        are_reasons = record {
+        outcomes = rs ++ r ∷ [];
+        are_outcomes = record {
           judged = judged_push fails config w0 w2 0 ls rs x r all one;
-          stay_fetched = stay_push fails config id_of start_of end_of eq laws na nb nc a b c i x r now 0 ls rs judged s.are_reasons.stay_fetched;
+          stay_fetched = stay_push fails config id_of start_of end_of eq laws na nb nc a b c i x r now 0 ls rs judged s.are_outcomes.stay_fetched;
         };
         are_left_out = ap (λ xs. xs ++ listed i (r ∷ [])) s.are_left_out ∙ ap (λ n. listed 0 rs ++ listed n (r ∷ [])) (sym count)
             ∙ sym (listed_push 0 rs r);
-        are_drawn = ap (λ xs. xs ++ drawn_label w2 config i x r) drawn
-            ∙ ap (λ n. drawn_labels w2 config 0 ls rs ++ drawn_label w2 config n x r) (sym size) ∙ sym (drawn_push fails config w0 w2 0 ls rs x r w2 all);
+        are_drawn = ap (λ xs. xs ++ drawn_labels (r ∷ [])) s.are_drawn ∙ sym (drawn_push rs r);
         forward = all-append (λ label. start_of label.span ≤ end_of label.span) ls (x ∷ []) s.forward (forward, tt);
       })
 
   -- one that is left out
-  pub so_far_left : (reason : Reason E) → IsJudged fails w1 w2 config i x (Some reason) → SoFar fails config w0 w1 (take i labels) left_out infos
+  pub so_far_left : (reason : Reason E) → IsJudged fails w1 w2 config i x (left_out_for reason) → SoFar fails config w0 w1 (take i labels) left_out infos
       → SoFar fails config w0 w2 (take (i + 1) labels) (left_out ++ record { label = i; reason = reason } ∷ []) infos
-  unfolding drawn_label
   so_far_left reason now s =
       subst (SoFar fails config w0 w2 (take (i + 1) labels) (left_out ++ record { label = i; reason = reason } ∷ [])) (append-nil infos)
-      (so_far_more (Some reason) now s)
-
-  -- what is drawn of an accepted label
-  drawn_one : (info : LabelInfo) (o : Option Listing) → IsSomeAnd o (λ s. verdict_in w2 config i x s ≡ Accepted info)
-      → option_to_list (option_and_then (λ s. accepted_info (verdict_in w2 config i x s)) o) ≡ info ∷ []
-  unfolding accepted_info
-  drawn_one info None h = absurd h
-  drawn_one info (Some s) h = rw h refl
-
-  -- and it has no reason
-  accepted_judged : (info : LabelInfo) (o : Option Listing) → IsSomeAnd o (λ s. verdict_in w2 config i x s ≡ Accepted info)
-      → IsSomeAnd o (λ s. (a : LabelInfo) × (verdict_in w2 config i x s ≡ Accepted a))
-  accepted_judged info None h = absurd h
-  accepted_judged info (Some s) h = (info, h)
+      (so_far_more (left_out_for reason) now s)
 
   -- one that is drawn
-  pub so_far_drawn : (info : LabelInfo) → IsSomeAnd (w2.source_of (w2.id_of x.span)) (λ s. verdict_in w2 config i x s ≡ Accepted info) → SoFar fails config w0 w1 (take i labels) left_out infos
+  pub so_far_drawn : (info : LabelInfo) → IsJudged fails w1 w2 config i x (drawn_as info) → SoFar fails config w0 w1 (take i labels) left_out infos
       → SoFar fails config w0 w2 (take (i + 1) labels) left_out (infos ++ info ∷ [])
-  unfolding drawn_label
   so_far_drawn info now s =
-      let source = held eq c (id_of x.span) in
-      let one : drawn_label {R = Reason E} w2 config i x None ≡ info ∷ [] = drawn_one info source now in
-      let more = so_far_more None (accepted_judged info source now) s in
-      subst (λ xs. SoFar fails config w0 w2 (take (i + 1) labels) xs (infos ++ info ∷ [])) (append-nil left_out)
-      (subst (λ xs. SoFar fails config w0 w2 (take (i + 1) labels) (left_out ++ []) (infos ++ xs)) one more)
+      subst (λ xs. SoFar fails config w0 w2 (take (i + 1) labels) xs (infos ++ info ∷ [])) (append-nil left_out) (so_far_more (drawn_as info) now s)
 
 -- one label more whose source is held
 module _ {S Id E : Type 0} (fails : Id → E → Type 0) (config : ConfigFields) (id_of : S → Id) (start_of end_of : S → ℕ) (eq : Id → Id → Bool)

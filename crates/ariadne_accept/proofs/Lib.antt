@@ -4,4 +4,5 @@ pub mod Judging
 pub mod KnownPlaces
 pub mod Locating
 pub mod Messages
+pub mod Outcomes
 pub mod Worked

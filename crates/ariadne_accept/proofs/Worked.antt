@@ -1,6 +1,6 @@
--- Which reasons `Judging` lets labels have, by examples: a list of reasons that is right, and lists that one condition alone
+-- Which outcomes `Judging` lets labels have, by examples: a list of outcomes that is right, and lists that one condition alone
 -- refuses. And what a cache may not have lost or won.
-use Rattle.std.proofs.Common.{◌≡◌, ℕ, true, List, [], ◌∷◌, Option, Some, None, refl, sym}
+use Rattle.std.proofs.Common.{◌≡◌, ℕ, true, List, [], ◌∷◌, refl, sym}
 use Rattle.std.specs.Prelude.{codes, pos, nat_eq}
 use Rattle.std.specs.Cmp.Lexicographic.{pointwise}
 use Rattle.std.specs.Str.{chars}
@@ -9,9 +9,8 @@ use Rattle.ariadne_base.specs.Listing.{Listing}
 use Rattle.ariadne_picture.specs.declared.label_info.LabelInfo.{LabelInfo}
 use Rattle.ariadne_picture.specs.Report.{LabelFields, World}
 use Rattle.ariadne_picture.proofs.Worked.Sample.{Span, world, one, label, label_in, byte_config, drawn}
-use Rattle.ariadne_accept.specs.declared.accept.Reason.{Reason}
 use Rattle.ariadne_accept.specs.declared.accept.Reason.TheVariants.{Unfetched, PastSource, CutsCharacter}
-use Rattle.ariadne_accept.specs.Judging.{AreReasons, GrowsFor}
+use Rattle.ariadne_accept.specs.Judging.{AreOutcomes, GrowsFor, Outcome, drawn_as, left_out_for}
 
 -- ---- caches, and labels in bytes
 
@@ -54,22 +53,22 @@ info = record {
   has_message = true;
 }
 
-abbrev Reasons : Type 0
-Reasons = List (Option (Reason ℕ))
+abbrev Outcomes : Type 0
+Outcomes = List (Outcome ℕ)
 
-abbrev Have : List (LabelFields Span) → Reasons → Type 0
-Have labels reasons = AreReasons Fails before after byte_config labels reasons
+abbrev Have : List (LabelFields Span) → Outcomes → Type 0
+Have labels outcomes = AreOutcomes Fails before after byte_config labels outcomes
 
 unfoldable computed : Unit {0}
 unfolding drawn before after whole past cutting elsewhere chars
 computed = tt
 
--- ---- a list of reasons that is right
+-- ---- a list of outcomes that is right
 
-each_has_its_reason : Have (whole ∷ past ∷ cutting ∷ elsewhere ∷ []) (None ∷ Some PastSource ∷ Some CutsCharacter ∷ Some (Unfetched 7) ∷ [])
+each_has_its_outcome : Have (whole ∷ past ∷ cutting ∷ elsewhere ∷ []) (drawn_as info ∷ left_out_for PastSource ∷ left_out_for CutsCharacter ∷ left_out_for (Unfetched 7) ∷ [])
 unfolding computed
-each_has_its_reason = record {
-  judged = ((info, refl), (refl, (refl, ((refl, refl), tt))));
+each_has_its_outcome = record {
+  judged = (refl, (refl, (refl, ((refl, refl), tt))));
   stay_fetched = (
     (λ had. (λ same. refl, (λ same. refl, (λ same. sym same, tt)))),
     (
@@ -81,46 +80,46 @@ each_has_its_reason = record {
 
 -- ---- lists that are wrong
 
-a_label_past_its_source_is_not_drawn : Have (past ∷ []) (None ∷ []) → ⊥
+a_label_past_its_source_is_not_drawn : (a : LabelInfo) → Have (past ∷ []) (drawn_as a ∷ []) → ⊥
 unfolding computed
-a_label_past_its_source_is_not_drawn h = let e = h.judged.0.1 in cc
+a_label_past_its_source_is_not_drawn a h = let e = h.judged.0 in cc
 
-a_drawn_label_is_not_past_its_source : Have (whole ∷ []) (Some PastSource ∷ []) → ⊥
+a_drawn_label_is_not_past_its_source : Have (whole ∷ []) (left_out_for PastSource ∷ []) → ⊥
 unfolding computed
 a_drawn_label_is_not_past_its_source h = let e = h.judged.0 in cc
 
-a_drawn_label_cuts_no_character : Have (whole ∷ []) (Some CutsCharacter ∷ []) → ⊥
+a_drawn_label_cuts_no_character : Have (whole ∷ []) (left_out_for CutsCharacter ∷ []) → ⊥
 unfolding computed
 a_drawn_label_cuts_no_character h = let e = h.judged.0 in cc
 
-an_error_that_is_never_returned : Have (elsewhere ∷ []) (Some (Unfetched 8) ∷ []) → ⊥
+an_error_that_is_never_returned : Have (elsewhere ∷ []) (left_out_for (Unfetched 8) ∷ []) → ⊥
 unfolding computed
 an_error_that_is_never_returned h = let e = h.judged.0.1 in cc
 
 -- its source was held before
-an_error_of_a_source_that_was_held : AreReasons Fails after after byte_config (whole ∷ []) (Some (Unfetched 7) ∷ []) → ⊥
+an_error_of_a_source_that_was_held : AreOutcomes Fails after after byte_config (whole ∷ []) (left_out_for (Unfetched 7) ∷ []) → ⊥
 unfolding computed
 an_error_of_a_source_that_was_held h = let e = h.judged.0.0 in cc
 
 -- the label behind one
-a_later_label_past_its_source_is_not_drawn : Have (whole ∷ past ∷ []) (None ∷ None ∷ []) → ⊥
+a_later_label_past_its_source_is_not_drawn : (a : LabelInfo) → Have (whole ∷ past ∷ []) (drawn_as info ∷ drawn_as a ∷ []) → ⊥
 unfolding computed
-a_later_label_past_its_source_is_not_drawn h = let e = h.judged.1.0.1 in cc
+a_later_label_past_its_source_is_not_drawn a h = let e = h.judged.1.0 in cc
 
 a_label_that_nothing_is_said_of : Have (whole ∷ []) [] → ⊥
 unfolding computed
 a_label_that_nothing_is_said_of h = h.judged
 
-a_reason_of_no_label : Have [] (None ∷ []) → ⊥
+an_outcome_of_no_label : Have [] (drawn_as info ∷ []) → ⊥
 unfolding computed
-a_reason_of_no_label h = h.judged
+an_outcome_of_no_label h = h.judged
 
 -- its source is held by then: each label is judged, but the second can't have failed
-an_error_behind_a_drawn_label : Have (whole ∷ whole ∷ []) (None ∷ Some (Unfetched 7) ∷ []) → ⊥
+an_error_behind_a_drawn_label : Have (whole ∷ whole ∷ []) (drawn_as info ∷ left_out_for (Unfetched 7) ∷ []) → ⊥
 unfolding computed
 an_error_behind_a_drawn_label h = absurd (true≢false ((h.stay_fetched.0 refl).0 refl))
 
-an_error_behind_a_later_drawn_label : Have (elsewhere ∷ whole ∷ whole ∷ []) (Some (Unfetched 7) ∷ None ∷ Some (Unfetched 7) ∷ []) → ⊥
+an_error_behind_a_later_drawn_label : Have (elsewhere ∷ whole ∷ whole ∷ []) (left_out_for (Unfetched 7) ∷ drawn_as (record info { position = 1 }) ∷ left_out_for (Unfetched 7) ∷ []) → ⊥
 unfolding computed
 an_error_behind_a_later_drawn_label h = absurd (true≢false ((h.stay_fetched.1.0 refl).0 refl))
 

@@ -8,9 +8,10 @@ ghost use Rattle.ariadne_base.specs.Locations.{column_at, line_at};
 ghost use Rattle.ariadne_base.specs.Table.{line_extent};
 ghost use Rattle.ariadne_accept.specs.Counting.{IsKnown};
 ghost use Rattle.ariadne_accept.specs.Drawn.{world};
-ghost use Rattle.ariadne_accept.specs.Judging.{AreReasons, GrowsFor, listed};
+ghost use Rattle.ariadne_accept.specs.Judging.{AreOutcomes, GrowsFor, Outcome, drawn_labels};
+ghost use Rattle.ariadne_accept.specs.Judging.{listed};
 ghost use Rattle.ariadne_accept.specs.Progress.{IsSourceAt, SoFar};
-ghost use Rattle.ariadne_picture.specs.Accept.{attach_offset as attached_offset, drawn_labels};
+ghost use Rattle.ariadne_picture.specs.Accept.{attach_offset as attached_offset};
 ghost use Rattle.ariadne_picture.specs.Accept.{info_of, offset_in_chars as in_chars};
 ghost use Rattle.ariadne_picture.specs.Accept.{text_len as counted_len, verdict};
 ghost use Rattle.ariadne_picture.specs.Report.{AreForward};
@@ -83,10 +84,10 @@ pub fn accept<S: Span, C: Cache<S::SourceId>>(
         let w = world S.source_of S.start_of S.end_of S.SourceId.eq
         (C.names cache.new) (C.contents cache.new) in
         let r = report.now in
-        IfOk result (λ judged. (reasons : List (Option (Reason C.Error)))
-        × AreReasons C.fails old w r.config r.labels reasons
-        × (judged.left_out.items ≡ listed 0 reasons)
-        × (judged.infos.items ≡ drawn_labels w r.config 0 r.labels reasons)) }
+        IfOk result (λ judged. (outcomes : List (Outcome C.Error))
+        × AreOutcomes C.fails old w r.config r.labels outcomes
+        × (judged.left_out.items ≡ listed 0 outcomes)
+        × (judged.infos.items ≡ drawn_labels outcomes)) }
 {
     let infos = Vec::with_capacity(report.alloc, report.labels.len())?;
     let left_out = Vec::new(report.alloc);

@@ -16,10 +16,9 @@ use Rattle.ariadne.specs.Report.{ConfigFields, LabelFields, ReportFields, error,
 use Rattle.ariadne.specs.IndexType.TheVariants.{Char}
 use Rattle.ariadne.specs.LabelInfo.{LabelInfo}
 use Rattle.ariadne.specs.Verdict.TheVariants.{Accepted, CutsCharacter as cuts, PastSource as past}
-use Rattle.ariadne.specs.Judging.{AreJudged, GrowsFor, IsJudged, listed}
+use Rattle.ariadne.specs.Judging.{AreJudged, GrowsFor, IsJudged, Outcome as LabelOutcome, drawn_as, is_drawn, left_out_for, listed}
 use Rattle.ariadne.specs.Written.{IsCutOff, IsPicture, IsWritten}
 use Rattle.ariadne.specs.LeftOut.{LeftOut}
-use Rattle.ariadne.specs.Reason.{Reason}
 use Rattle.ariadne.specs.Reason.TheVariants.{Unfetched, PastSource, CutsCharacter}
 use Rattle.ariadne_brackets.specs.Brackets.{IsFirstOffence}
 use Rattle.ariadne_brackets.specs.Linted.{IsCut, Prints, files, labels_of, labels_of_offence, labels_of_outcome, plain_config, report_of, report_with, same_path}
@@ -138,38 +137,39 @@ accepted config source k label start end is_char starts ends =
 -- ---- no label is left out
 
 module _ (old new : Contents) (config : ConfigFields) where
-  -- a label that lies inside its source has no reason
-  none_first : (k : ℕ) (label : LabelFields Place) (reason : Option (Reason FileError)) → config.index_type ≡ Char → IsInside old label → IsInside new label
-      → IsJudged {E = FileError} (λ id e. ⊤) (files old) (files new) config k label reason
-      → (reason ≡ None) × IsJudged {E = FileError} (λ id e. ⊤) (files new) (files new) config k label reason
-  none_first k label None is_char before after is = (refl, is)
-  none_first k label (Some PastSource) is_char before after is =
+  -- a label that lies inside its source is drawn
+  drawn_first : (k : ℕ) (label : LabelFields Place) (outcome : LabelOutcome FileError) → config.index_type ≡ Char → IsInside old label → IsInside new label
+      → IsJudged {E = FileError} (λ id e. ⊤) (files old) (files new) config k label outcome
+      → (is_drawn outcome ≡ true) × IsJudged {E = FileError} (λ id e. ⊤) (files new) (files new) config k label outcome
+  drawn_first k label (drawn_as info) is_char before after is = (refl, is)
+  drawn_first k label (left_out_for PastSource) is_char before after is =
       let drawn = accepted config after.source k label label.span.1.start label.span.1.end is_char after.starts after.ends in
       let other : verdict config after.source k label label.span.1.start label.span.1.end ≡ past = rw after.is_held at is in
       absurd (cc (drawn.1, other))
-  none_first k label (Some CutsCharacter) is_char before after is =
+  drawn_first k label (left_out_for CutsCharacter) is_char before after is =
       let drawn = accepted config after.source k label label.span.1.start label.span.1.end is_char after.starts after.ends in
       let other : verdict config after.source k label label.span.1.start label.span.1.end ≡ cuts = rw after.is_held at is in
       absurd (cc (drawn.1, other))
-  none_first k label (Some (Unfetched e)) is_char before after is = absurd (cc (is.0, before.is_held))
+  drawn_first k label (left_out_for (Unfetched e)) is_char before after is = absurd (cc (is.0, before.is_held))
 
-  -- so none of these labels has
-  none_judged : (k : ℕ) (labels : List (LabelFields Place)) (reasons : List (Option (Reason FileError))) → config.index_type ≡ Char
+  -- so each of these labels is
+  drawn_judged : (k : ℕ) (labels : List (LabelFields Place)) (outcomes : List (LabelOutcome FileError)) → config.index_type ≡ Char
       → AllByRecursion (IsInside old) labels → AllByRecursion (IsInside new) labels
-      → AreJudged {E = FileError} (λ id e. ⊤) (files old) (files new) config k labels reasons
-      → AllByRecursion (λ reason. reason ≡ None) reasons × AreJudged {E = FileError} (λ id e. ⊤) (files new) (files new) config k labels reasons
-  none_judged k [] [] is_char before after judged = (tt, tt)
-  none_judged k [] (reason ∷ reasons) is_char before after judged = elim judged [ ]
-  none_judged k (label ∷ labels) [] is_char before after judged = elim judged [ ]
-  none_judged k (label ∷ labels) (reason ∷ reasons) is_char before after judged =
-      let first = none_first k label reason is_char before.0 after.0 judged.0 in
-      let rest = none_judged (suc k) labels reasons is_char before.1 after.1 judged.1 in
+      → AreJudged {E = FileError} (λ id e. ⊤) (files old) (files new) config k labels outcomes
+      → AllByRecursion (λ outcome. is_drawn outcome ≡ true) outcomes × AreJudged {E = FileError} (λ id e. ⊤) (files new) (files new) config k labels outcomes
+  drawn_judged k [] [] is_char before after judged = (tt, tt)
+  drawn_judged k [] (outcome ∷ outcomes) is_char before after judged = elim judged [ ]
+  drawn_judged k (label ∷ labels) [] is_char before after judged = elim judged [ ]
+  drawn_judged k (label ∷ labels) (outcome ∷ outcomes) is_char before after judged =
+      let first = drawn_first k label outcome is_char before.0 after.0 judged.0 in
+      let rest = drawn_judged (suc k) labels outcomes is_char before.1 after.1 judged.1 in
       ((first.0, rest.0), (first.1, rest.1))
 
--- reasons that are none are no list
-none_listed : (n : ℕ) (reasons : List (Option (Reason FileError))) → AllByRecursion (λ reason. reason ≡ None) reasons → listed n reasons ≡ []
-none_listed n [] none = refl
-none_listed n (reason ∷ reasons) none = rw none.0 (none_listed (n + 1) reasons none.1)
+-- labels that are drawn are not listed
+none_listed : (n : ℕ) (outcomes : List (LabelOutcome FileError)) → AllByRecursion (λ outcome. is_drawn outcome ≡ true) outcomes → listed n outcomes ≡ []
+none_listed n [] drawn = refl
+none_listed n (drawn_as info ∷ outcomes) drawn = none_listed (n + 1) outcomes drawn.1
+none_listed n (left_out_for reason ∷ outcomes) drawn = absurd (let off : false ≡ true = drawn.0 in cc)
 
 module _ (old new : Contents) (r : ReportFields Place) (is_char : r.config.index_type ≡ Char) (before : AllByRecursion (IsInside old) r.labels)
     (after : AllByRecursion (IsInside new) r.labels) (sent_before sent_after : Option (List ℕ)) where
@@ -177,11 +177,11 @@ module _ (old new : Contents) (r : ReportFields Place) (is_char : r.config.index
   pictured : (bytes : List ℕ) (list : List (LeftOut FileError)) → IsPicture {E = FileError} (λ id e. ⊤) (files old) (files new) r bytes list
       → IsPicture {E = FileError} (λ id e. ⊤) (files new) (files new) r bytes []
   pictured bytes list is =
-      let none = none_judged old new r.config 0 r.labels is.reasons is_char before after is.are_reasons.judged in
+      let drawn = drawn_judged old new r.config 0 r.labels is.outcomes is_char before after is.are_outcomes.judged in
       record {
-        reasons = is.reasons;
-        are_reasons = record { judged = none.1; stay_fetched = is.are_reasons.stay_fetched };
-        left_out = sym (none_listed 0 is.reasons none.0);
+        outcomes = is.outcomes;
+        are_outcomes = record { judged = drawn.1; stay_fetched = is.are_outcomes.stay_fetched };
+        left_out = sym (none_listed 0 is.outcomes drawn.0);
         drawn = is.drawn;
       }
 

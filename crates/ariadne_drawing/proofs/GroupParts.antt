@@ -23,7 +23,8 @@ use Rattle.ariadne_picture.specs.Rows.{Row, asides, group_header, help, line_row
 use Rattle.ariadne_picture.proofs.Labels.DrawnLabels.{offset-order}
 use Rattle.ariadne_rows.specs.Gutters.{GutterFields, IsOfSheet}
 use Rattle.ariadne_rows.specs.Headers.{IsOnPage}
-use Rattle.ariadne_accept.specs.Drawn.{AreDrawn, IsDrawn}
+use Rattle.ariadne_picture.specs.Accept.{IsAccepted}
+use Rattle.ariadne_accept.specs.Drawn.{AreDrawn}
 use Rattle.ariadne_drawing.specs.Lines.{IsDrawnGroup}
 use Rattle.ariadne_drawing.proofs.Grouping.{all_at}
 use Rattle.ariadne_drawing.proofs.GroupingSources.{drawn_there, found_source, id_is, label_there, source_is}
@@ -77,7 +78,7 @@ module _ {S Id : Type 0} (w : World S Id) (r : ReportFields S) where
     pub starts : info.start ≤ length (chars source.text)
 
   -- the source of a group is that of its first label
-  first_source : (labels : List LabelInfo) (a : LabelInfo) (d : IsDrawn w r a) → slice_get labels 0 ≡ Some a → group_source w r labels ≡ d.source
+  first_source : (labels : List LabelInfo) (a : LabelInfo) (d : IsAccepted w r a) → slice_get labels 0 ≡ Some a → group_source w r labels ≡ d.source
   first_source [] a d e = cc
   first_source (x ∷ labels) a d e = let same : x ≡ a = cc in ap (λ y. group_source w r (y ∷ labels)) same ∙ source_is w r a labels d
 
@@ -96,7 +97,7 @@ module _ {S Id : Type 0} (w : World S Id) (r : ReportFields S) where
   first_is labels listed nothing same some drawn all x are at id is o get source found =
       let info : LabelInfo = get_or listed 0 nothing in
       let info_is : get_or labels 0 nothing ≡ info = ap (λ (ls : List LabelInfo). get_or ls 0 nothing) (sym same) in
-      let d : IsDrawn w r info = subst (IsDrawn w r) info_is (all_at (IsDrawn w r) labels 0 nothing some drawn) in
+      let d : IsAccepted w r info = subst (IsAccepted w r) info_is (all_at (IsAccepted w r) labels 0 nothing some drawn) in
       let low : info.position < length r.labels =
       subst (λ (a : LabelInfo). a.position < length r.labels) info_is
       (all_at (λ (a : LabelInfo). a.position < length r.labels) labels 0 nothing some (drawn_there w r labels drawn)) in

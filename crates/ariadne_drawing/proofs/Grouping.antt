@@ -13,7 +13,8 @@ use Rattle.ariadne_picture.specs.Canvas.{same_source}
 use Rattle.ariadne_picture.specs.Groups.{ahead, groups_of, is_cut, HasNoCut, AreCut}
 use Rattle.ariadne_picture.specs.Lists.{joined}
 use Rattle.ariadne_picture.specs.Report.{ReportFields, World}
-use Rattle.ariadne_accept.specs.Drawn.{AreDrawn, IsDrawn}
+use Rattle.ariadne_picture.specs.Accept.{IsAccepted}
+use Rattle.ariadne_accept.specs.Drawn.{AreDrawn}
 use Rattle.ariadne_drawing.specs.Groups.{AreGroups}
 
 -- ---- ranges of a list
@@ -265,5 +266,5 @@ pub groups_drawn : {S Id : Type 0} (w : World S Id) (r : ReportFields S) (gs : L
 unfolding joined
 groups_drawn w r [] d h = tt
 groups_drawn w r (g ∷ gs) d h =
-    let parts = all_split (IsDrawn w r) g (joined (λ g. g) gs) d in
+    let parts = all_split (IsAccepted w r) g (joined (λ g. g) gs) d in
     (record { drawn = parts.0; whole = whole_first (same_source w r) g gs h }, groups_drawn w r gs parts.1 (behind_first (same_source w r) g gs h))

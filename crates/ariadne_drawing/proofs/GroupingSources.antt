@@ -15,7 +15,8 @@ use Rattle.ariadne_picture.specs.Canvas.{label_id, is_same_id, same_source, grou
 use Rattle.ariadne_picture.specs.Groups.{is_cut, group_end_line, greatest, HasNoCut, printed_number}
 use Rattle.ariadne_picture.specs.Report.{HaveOneSource, LabelFields, ReportFields, World}
 use Rattle.ariadne_picture.proofs.Lists.ListFacts.{all-weaker}
-use Rattle.ariadne_accept.specs.Drawn.{AreDrawn, AreThere, IsDrawn}
+use Rattle.ariadne_picture.specs.Accept.{IsAccepted}
+use Rattle.ariadne_accept.specs.Drawn.{AreDrawn, AreThere}
 use Rattle.ariadne_drawing.specs.Groups.{IsGroup}
 use Rattle.ariadne_drawing.specs.Lines.{AreOverLines, IsOverLines}
 use Rattle.ariadne_drawing.proofs.Grouping.{NoCuts, all_at, cut_first, some_label}
@@ -76,7 +77,7 @@ module _ {S Id : Type 0} (w : World S Id) (r : ReportFields S) where
 
   -- labels that are drawn are there
   pub drawn_there : (infos : List LabelInfo) → AreDrawn w r infos → AreThere r infos
-  drawn_there infos d = all-weaker (IsDrawn w r) (λ a. a.position < length r.labels) infos (λ a d. slice_get_within r.labels a.position d.label d.there) d
+  drawn_there infos d = all-weaker (IsAccepted w r) (λ a. a.position < length r.labels) infos (λ a d. slice_get_within r.labels a.position d.label d.there) d
 
   -- the first label of a group is there
   pub first_there : (group : List LabelInfo) (d : LabelInfo) → IsGroup w r group → (get_or group 0 d).position < length r.labels
@@ -84,7 +85,7 @@ module _ {S Id : Type 0} (w : World S Id) (r : ReportFields S) where
       all_at (λ (a : LabelInfo). a.position < length r.labels) group 0 d (some_label (same_source w r) group g.whole) (drawn_there group g.drawn)
 
   -- the source of a group is that of its first label
-  pub source_is : (a : LabelInfo) (group : List LabelInfo) (d : IsDrawn w r a) → group_source w r (a ∷ group) ≡ d.source
+  pub source_is : (a : LabelInfo) (group : List LabelInfo) (d : IsAccepted w r a) → group_source w r (a ∷ group) ≡ d.source
   unfolding group_source group_id
   source_is a group d =
       let none : Listing = record { text = []; display_offset = 0 } in
@@ -113,7 +114,7 @@ module _ {S Id : Type 0} (w : World S Id) (r : ReportFields S) where
         ap (λ o. unwrap_or o none) (ids_found (label_id w r x.position) (label_id w r y.position) ids)
 
     -- labels without a cut lie in the lines of the source of the first
-    over_rest : (a : LabelInfo) (group : List LabelInfo) (d : IsDrawn w r a) → AreDrawn w r group → HasNoCut (same_source w r) a group
+    over_rest : (a : LabelInfo) (group : List LabelInfo) (d : IsAccepted w r a) → AreDrawn w r group → HasNoCut (same_source w r) a group
         → (source : Listing) → d.source ≡ source → AreOverLines (listed_lines source) (a ∷ group)
     unfolding is_cut
     over_rest a [] d ds h source e = (subst (λ s. IsOverLines (listed_lines s) a) e (over-lines w r a d), tt)
@@ -144,7 +145,7 @@ module _ {S Id : Type 0} (w : World S Id) (r : ReportFields S) where
         (all-weaker (IsOverLines ls) (λ a. a.end_line < length ls) group (λ a o. o.within) (over_group group g))
 
   -- the source that is found for a label that is drawn
-  pub found_source : (a : LabelInfo) (d : IsDrawn w r a) (x : LabelFields S) → slice_get r.labels a.position ≡ Some x → (id : Id) → id ≡ w.id_of x.span
+  pub found_source : (a : LabelInfo) (d : IsAccepted w r a) (x : LabelFields S) → slice_get r.labels a.position ≡ Some x → (id : Id) → id ≡ w.id_of x.span
       → (o : Option Listing) → o ≡ w.source_of id → (source : Listing) → o ≡ Some source → d.source ≡ source
   found_source a d x there id is o get source found =
       let label : Some d.label ≡ Some x = sym d.there ∙ there in

@@ -1,7 +1,7 @@
 -- What is known of each label that is drawn: it is the report's, its source is held and accepts it, and it lies in the lines of that source.
-use Rattle.std.proofs.Common.{◌≡◌, ℕ, suc, ◌+◌, ◌<◌, ◌≤◌, min, ◌||◌, List, [], ◌∷◌, Option, Some, None, length}
+use Rattle.std.proofs.Common.{◌≡◌, ℕ, ◌+◌, ◌<◌, ◌≤◌, min, ◌||◌, List, [], ◌∷◌, Option, Some, None, length}
 use Rattle.std.proofs.Common.{refl, sym, ap, ◌∙◌, subst, arith, inl, inr, sum_by}
-use Rattle.std.specs.Prelude.{chars, nat_lt, option_and_then, option_to_list, slice_get}
+use Rattle.std.specs.Prelude.{chars, nat_lt}
 use Rattle.std.proofs.lemmas.Bool.{and_parts, cases_Bool, cases_lt, leb-true, ltb-true}
 use Rattle.std.proofs.lemmas.List.{get_or_past}
 use Rattle.std.proofs.lemmas.List.Sums.{sum_by-cons}
@@ -13,22 +13,19 @@ use Rattle.ariadne_base.proofs.LineLaws.{lines_length, some_line}
 use Rattle.ariadne_base.proofs.LocationLemmas.{line_at_is, line_at_up}
 use Rattle.ariadne_picture.specs.declared.label_info.LabelInfo.{LabelInfo}
 use Rattle.ariadne_picture.specs.declared.switches.LabelAttach.{LabelAttach}
-use Rattle.ariadne_picture.specs.declared.verdict.Verdict.{Verdict}
-use Rattle.ariadne_picture.specs.declared.verdict.Verdict.TheVariants.{Accepted, PastSource, CutsCharacter}
-use Rattle.ariadne_picture.specs.Accept.{accepted_info, drawn_label, drawn_labels, info_of, offset_in_chars, text_len, verdict, verdict_in, within}
+use Rattle.ariadne_picture.specs.declared.verdict.Verdict.TheVariants.{Accepted}
+use Rattle.ariadne_picture.specs.Accept.{IsAccepted, info_of, offset_in_chars, text_len, verdict, within}
 use Rattle.ariadne_picture.specs.Lists.{total}
 use Rattle.ariadne_picture.specs.Report.{ConfigFields, LabelFields, ReportFields, World}
 use Rattle.ariadne_picture.specs.Strokes.{holds}
 use Rattle.ariadne_picture.proofs.Labels.DrawnLabels.{offset-order}
-use Rattle.ariadne_picture.proofs.Lists.ListFacts.{all-append}
-use Rattle.ariadne_accept.specs.Drawn.{AreDrawn, IsDrawn}
 use Rattle.ariadne_drawing.specs.Lines.{IsOverLines}
 use Rattle.ariadne_accept.proofs.Locating.{inside_line}
 
 -- ---- what an accepted label is
 
 -- it goes from one number of characters to another, which is at most that of the source
-pub record IsAccepted {S : Type 0} (attach : LabelAttach) (text : List ℕ) (k : ℕ) (label : LabelFields S) (a : LabelInfo) : Type 0 where
+pub record IsInfoOf {S : Type 0} (attach : LabelAttach) (text : List ℕ) (k : ℕ) (label : LabelFields S) (a : LabelInfo) : Type 0 where
   pub start : ℕ
   pub end : ℕ
   pub ends_within : end ≤ length text
@@ -41,7 +38,7 @@ module _ {S : Type 0} (config : ConfigFields) (source : Listing) (k : ℕ) (labe
 
   -- by both ends in characters
   accepted_within : (o : ℕ) → o ≤ text_len config.index_type text → (x y : Option ℕ) → offset_in_chars config.index_type text o ≡ y
-      → within config.label_attach (listed_lines source) k label x y ≡ Accepted a → IsAccepted config.label_attach text k label a
+      → within config.label_attach (listed_lines source) k label x y ≡ Accepted a → IsInfoOf config.label_attach text k label a
   unfolding within
   accepted_within o few (Some n) (Some m) at e = record {
     start = n;
@@ -53,7 +50,7 @@ module _ {S : Type 0} (config : ConfigFields) (source : Listing) (k : ℕ) (labe
   accepted_within o few None y at e = cc
 
   -- by its verdict
-  pub accepted_from : (start end : ℕ) → verdict config source k label start end ≡ Accepted a → IsAccepted config.label_attach text k label a
+  pub accepted_from : (start end : ℕ) → verdict config source k label start end ≡ Accepted a → IsInfoOf config.label_attach text k label a
   unfolding verdict
   accepted_from start end e =
       let size = text_len config.index_type text in
@@ -98,7 +95,7 @@ module _ (ls : List (List ℕ)) (some : 0 < length ls) where
   }
 
 -- a label that is drawn lies in the lines of its source
-pub over-lines : {S Id : Type 0} (w : World S Id) (r : ReportFields S) (a : LabelInfo) (d : IsDrawn w r a) → IsOverLines (listed_lines d.source) a
+pub over-lines : {S Id : Type 0} (w : World S Id) (r : ReportFields S) (a : LabelInfo) (d : IsAccepted w r a) → IsOverLines (listed_lines d.source) a
 over-lines w r a d =
     let text = chars d.source.text in
     let i = accepted_from r.config d.source a.position d.label a (w.start_of d.label.span) (w.end_of d.label.span) d.accepted in
@@ -106,60 +103,3 @@ over-lines w r a d =
     let all = lines_length text in
     subst (IsOverLines (lines_of text)) (sym i.is)
     (over_info (lines_of text) (some_line text) r.config.label_attach a.position d.label i.start i.end (omega arith))
-
--- ---- all labels that are drawn
-
--- an accepted label has the position that it was judged at
-accepted_position : {S : Type 0} (config : ConfigFields) (source : Listing) (k : ℕ) (label : LabelFields S) (start end : ℕ) (a : LabelInfo)
-    → verdict config source k label start end ≡ Accepted a → a.position ≡ k
-unfolding info_of
-accepted_position config source k label start end a e = ap (λ (a : LabelInfo). a.position) (accepted_from config source k label a start end e).is
-
-module _ {S Id : Type 0} (w : World S Id) (r : ReportFields S) where
-  -- a label that its source accepts
-  accepted_drawn : (k : ℕ) (label : LabelFields S) (source : Listing) → slice_get r.labels k ≡ Some label
-      → w.source_of (w.id_of label.span) ≡ Some source → (v : Verdict) → verdict_in w r.config k label source ≡ v
-      → AreDrawn w r (option_to_list (accepted_info v))
-  unfolding accepted_info
-  accepted_drawn k label source there held (Accepted a) e =
-      let same = accepted_position r.config source k label (w.start_of label.span) (w.end_of label.span) a e in (
-        record {
-          label = label;
-          there = ap (slice_get r.labels) same ∙ there;
-          source = source;
-          is_held = held;
-          accepted = ap (λ n. verdict_in w r.config n label source) same ∙ e;
-        },
-        tt,
-      )
-  accepted_drawn k label source there held PastSource e = tt
-  accepted_drawn k label source there held CutsCharacter e = tt
-
-  -- a label whose source may not be held
-  found_drawn : (k : ℕ) (label : LabelFields S) → slice_get r.labels k ≡ Some label → (o : Option Listing) → w.source_of (w.id_of label.span) ≡ o
-      → AreDrawn w r (option_to_list (option_and_then (λ s. accepted_info (verdict_in w r.config k label s)) o))
-  found_drawn k label there None e = tt
-  found_drawn k label there (Some source) e = accepted_drawn k label source there e (verdict_in w r.config k label source) refl
-
-  -- a label that may have a reason beside it
-  one_drawn : {R : Type 0} (k : ℕ) (label : LabelFields S) (reason : Option R) → slice_get r.labels k ≡ Some label
-      → AreDrawn w r (drawn_label w r.config k label reason)
-  unfolding drawn_label
-  one_drawn k label (Some reason) there = tt
-  one_drawn k label None there = found_drawn k label there (w.source_of (w.id_of label.span)) refl
-
-  -- the labels from position k on
-  drawn_from : {R : Type 0} (k : ℕ) (labels : List (LabelFields S)) (reasons : List (Option R))
-      → ((j : ℕ) → slice_get labels j ≡ slice_get r.labels (k + j)) → AreDrawn w r (drawn_labels w r.config k labels reasons)
-  unfolding drawn_labels
-  drawn_from k [] reasons at = tt
-  drawn_from k (label ∷ labels) [] at = tt
-  drawn_from k (label ∷ labels) (reason ∷ reasons) at =
-      let z : k + 0 ≡ k = omega arith in
-      all-append (IsDrawn w r) (drawn_label w r.config k label reason) (drawn_labels w r.config (suc k) labels reasons)
-      (one_drawn k label reason (ap (slice_get r.labels) (sym z) ∙ sym (at 0)))
-      (drawn_from (suc k) labels reasons (λ j. let e : k + suc j ≡ suc k + j = omega arith in at (suc j) ∙ ap (slice_get r.labels) e))
-
-  -- each label that is drawn is the report's, over a source that is held, which accepts it
-  pub drawn : {R : Type 0} (reasons : List (Option R)) → AreDrawn w r (drawn_labels w r.config 0 r.labels reasons)
-  drawn reasons = drawn_from 0 r.labels reasons (λ j. let z : j ≡ 0 + j = omega arith in ap (slice_get r.labels) z)

@@ -20,7 +20,8 @@ use Rattle.ariadne_picture.proofs.Lists.Joined.{joined-map}
 use Rattle.ariadne_picture.proofs.Labels.Cutting.{groups-exist}
 use Rattle.ariadne_picture.proofs.Lists.ListFacts.{all-in_order}
 use Rattle.ariadne_rows.proofs.Listing.{joined-more, put-back}
-use Rattle.ariadne_accept.specs.Drawn.{AreDrawn, IsDrawn}
+use Rattle.ariadne_picture.specs.Accept.{IsAccepted}
+use Rattle.ariadne_accept.specs.Drawn.{AreDrawn}
 use Rattle.ariadne_drawing.specs.Groups.{AreGroups}
 use Rattle.ariadne_drawing.specs.WholePages.{shown_palette}
 use Rattle.ariadne_drawing.proofs.Grouping.{groups_drawn}
@@ -52,7 +53,7 @@ pub sorted_drawn : {S Id : Type 0} (w : World S Id) (r : ReportFields S) (infos 
     → AreDrawn w r sorted
 unfolding ordered
 sorted_drawn w r infos sorted e drawn =
-    subst (AreDrawn w r) (sym e) (all-in_order (IsDrawn w r) (λ (a b : LabelInfo). int_lt a.order b.order) infos drawn)
+    subst (AreDrawn w r) (sym e) (all-in_order (IsAccepted w r) (λ (a b : LabelInfo). int_lt a.order b.order) infos drawn)
 
 -- so their groups are those of labels that are drawn
 pub sorted_groups : {S Id : Type 0} (w : World S Id) (r : ReportFields S) (sorted : List LabelInfo) (gs : List (List LabelInfo))

@@ -1,5 +1,5 @@
 -- A report whose one label lies within its text is drawn whole.
-use Rattle.std.proofs.Common.{◌≡◌, refl, arith, tests}
+use Rattle.std.proofs.Common.{◌≡◌, refl, sym, ◌∙◌, arith, tests}
 use Rattle.std.specs.Prelude.{ℕ, ◌+◌, ◌≤◌, ⊤, true, false, nat_lt, List, [], ◌∷◌, length, chars, min, Option, Some, None, Result, Ok, Err, IfOk, OnOk, Vec}
 use Rattle.std.specs.declared.alloc.Global.{Global}
 use Rattle.std.specs.Io.KnownBytes.{Appends}
@@ -7,11 +7,11 @@ use Rattle.std.specs.declared.ops.Range.{Range}
 use Rattle.ariadne.specs.Accept.{info_of, offset_in_chars, text_len, verdict, within}
 use Rattle.ariadne.specs.Cache.{listing_of}
 use Rattle.ariadne.specs.Drawn.{world}
-use Rattle.ariadne.specs.Judging.{AreJudged, GrowsFor}
+use Rattle.ariadne.specs.Judging.{AreJudged, GrowsFor, Outcome, drawn_as, left_out_for}
 use Rattle.ariadne.specs.LabelInfo.{LabelInfo}
 use Rattle.ariadne.specs.LeftOut.{LeftOut}
-use Rattle.ariadne.specs.Listing.{Listing, listed_lines}
-use Rattle.ariadne.specs.Reason.{Reason}
+use Rattle.ariadne.specs.Lines.{lines_of}
+use Rattle.ariadne.specs.Listing.{Listing}
 use Rattle.ariadne.specs.Reason.TheVariants.{Unfetched, PastSource, CutsCharacter}
 use Rattle.ariadne.specs.Report.{ReportFields, World}
 use Rattle.ariadne.specs.Verdict.TheVariants.{Accepted}
@@ -28,30 +28,35 @@ not_below : (a b : ℕ) → b ≤ a → nat_lt a b ≡ false
 not_below a b le = grind (arith, tests)
 
 module _ (text : List ℕ) (place : Range ℕ) (forward : place.start ≤ place.end) (inside : place.end ≤ length (chars text)) where
-  -- the label is accepted
-  accepted : (info : LabelInfo) × (verdict (unknown_name place).config (listing_of text) 0 (here place) place.start place.end ≡ Accepted info)
+  -- the label as it is drawn
+  abbrev info : LabelInfo
+  info = info_of (unknown_name place).config.label_attach (lines_of (chars text)) 0 (here place) place.start place.end
+
+  -- it is accepted as that
+  accepted : verdict (unknown_name place).config (listing_of text) 0 (here place) place.start place.end ≡ Accepted info
   unfolding verdict text_len offset_in_chars within
   accepted =
       let size = length (chars text) in
-      (info_of (unknown_name place).config.label_attach (listed_lines (listing_of text)) 0 (here place) place.start (min place.end size), rw (not_below size place.start (omega arith), not_below (size + 1) place.end (omega arith)) refl)
+      let whole : min place.end size ≡ place.end = omega arith in
+      rw (not_below size place.start (omega arith), not_below (size + 1) place.end (omega arith), whole) refl
 
-  -- so it has no reason
-  no_reason : (reasons : List (Option (Reason ⊤))) → AreJudged (λ id e. ⊥) (over text) (over text) (unknown_name place).config 0 (here place ∷ []) reasons → reasons ≡ None ∷ []
-  no_reason [] judged = elim judged [ ]
-  no_reason (None ∷ []) judged = refl
-  no_reason (None ∷ (x ∷ xs)) judged = elim judged.1 [ ]
-  no_reason (Some PastSource ∷ xs) judged = absurd (cc (accepted.1, judged.0))
-  no_reason (Some CutsCharacter ∷ xs) judged = absurd (cc (accepted.1, judged.0))
-  no_reason (Some (Unfetched e) ∷ xs) judged = absurd (cc judged.0.0)
+  -- so it is drawn
+  one_drawn : (outcomes : List (Outcome ⊤)) → AreJudged (λ id e. ⊥) (over text) (over text) (unknown_name place).config 0 (here place ∷ []) outcomes → outcomes ≡ drawn_as info ∷ []
+  one_drawn [] judged = elim judged [ ]
+  one_drawn (drawn_as own ∷ []) judged = let both : Accepted own ≡ Accepted info = sym judged.0 ∙ accepted in cc
+  one_drawn (drawn_as own ∷ (x ∷ xs)) judged = elim judged.1 [ ]
+  one_drawn (left_out_for PastSource ∷ xs) judged = absurd (cc (accepted, judged.0))
+  one_drawn (left_out_for CutsCharacter ∷ xs) judged = absurd (cc (accepted, judged.0))
+  one_drawn (left_out_for (Unfetched e) ∷ xs) judged = absurd (cc judged.0.0)
 
   -- and all is drawn
   pub drawn_whole : (list : List (LeftOut ⊤)) (before after : Option (List ℕ)) → IsWritten (λ id e. ⊥) (over text) (over text) (unknown_name place) list before after
       → (list ≡ []) × Appends before after (picture text (unknown_name place)) × MessagesHaveRows text (unknown_name place)
   drawn_whole list before after is =
-      let none = no_reason is.picture.reasons is.picture.are_reasons.judged in
-      let drawn = rw none at is.picture.drawn in
+      let one = one_drawn is.picture.outcomes is.picture.are_outcomes.judged in
+      let drawn = rw one at is.picture.drawn in
       let traced = drawn.each_message_is_traced in
-      (rw none at is.picture.left_out, rw drawn.they_are_exactly_the_printed_canvas at is.sent, (traced.placing, traced.reads.rows_belong_together, traced.reads.each_message_has_one_row_of_its_own))
+      (rw one at is.picture.left_out, rw drawn.they_are_exactly_the_printed_canvas at is.sent, (traced.placing, traced.reads.rows_belong_together, traced.reads.each_message_has_one_row_of_its_own))
 
   -- the text stays held
   pub still_held : (new : Listing) → GrowsFor {Id = ⊤} (λ (it : Range ℕ). tt) (λ p q. true) (unknown_name place).labels ((tt, listing_of text) ∷ []) ((tt, new) ∷ []) → new ≡ listing_of text

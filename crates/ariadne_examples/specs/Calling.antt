@@ -1,15 +1,16 @@
 -- What the caller in `calling` draws: a report with one label, over one text that is held, which draws
 -- it. What is said of the picture is said in the library's own words.
-use Rattle.std.specs.Prelude.{ℕ, ⊤, true, false, List, [], ◌∷◌, Some, None, codes}
+use Rattle.std.specs.Prelude.{ℕ, ⊤, true, false, List, [], ◌∷◌, Some, None, chars, codes, map}
+use Rattle.std.specs.List.{enumerate_from}
 use Rattle.std.specs.declared.ops.Range.{Range}
-use Rattle.ariadne.specs.Accept.{drawn_labels}
+use Rattle.ariadne.specs.Accept.{info_of}
 use Rattle.ariadne.specs.Canvas.{Cell, canvas, sections, texts_of}
 use Rattle.ariadne.specs.Drawn.{world}
 use Rattle.ariadne.specs.Headline.{CanBeRead}
 use Rattle.ariadne.specs.LabelInfo.{LabelInfo}
+use Rattle.ariadne.specs.Lines.{lines_of}
 use Rattle.ariadne.specs.Placing.{has_message_rows}
 use Rattle.ariadne.specs.Print.{printed}
-use Rattle.ariadne.specs.Reason.{Reason}
 use Rattle.ariadne.specs.Report.{LabelFields, ReportFields, World, default_config, error, new_label}
 use Rattle.ariadne.specs.Report.{new_report}
 
@@ -30,9 +31,11 @@ abbrev pub over : List ℕ → World (Range ℕ) ⊤
 over text = world (λ place. tt) (λ place. place.start) (λ place. place.end) (λ p q. true)
     (λ id. None) ((tt, record { text = text; display_offset = 0 }) ∷ [])
 
--- what is drawn of a report over a text: each label
+-- what is drawn of a report over a text: each label, as its span has it
 abbrev pub all_drawn : List ℕ → ReportFields (Range ℕ) → List LabelInfo
-all_drawn text r = drawn_labels {R = Reason ⊤} (over text) r.config 0 r.labels (None ∷ [])
+all_drawn text r =
+    let drawn = info_of r.config.label_attach (lines_of (chars text)) in
+    map (λ e. drawn e.0 e.1 e.1.span.start e.1.span.end) (enumerate_from 0 r.labels)
 
 -- its picture, row by row
 abbrev pub rows : List ℕ → ReportFields (Range ℕ) → List (List Cell)

@@ -6,5 +6,4 @@ pub mod GroupLines
 pub mod LineLabels
 pub mod LabelPlaces
 pub mod DrawnLabels
-pub mod DrawnOrListed
 pub mod LabelsAtLine

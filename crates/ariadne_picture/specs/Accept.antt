@@ -1,9 +1,9 @@
--- Which labels are drawn, and what they are in characters. Offsets count characters or, in byte
+-- Which labels are accepted, and what they are in characters. Offsets count characters or, in byte
 -- mode, bytes; the one past the end of a source is taken as its end. A label whose source is held
 -- is left out where it reaches further, or where one of its ends lies inside a character.
-use Rattle.std.specs.Prelude.{ℕ, suc, ◌+◌, ◌-◌, ◌/◌, min, ◌||◌, nat_lt, if◌then◌else◌, List, []}
-use Rattle.std.specs.Prelude.{◌∷◌, ◌++◌, length, Option, Some, None, is_some, chars}
-use Rattle.std.specs.Prelude.{option_and_then, option_to_list}
+use Rattle.std.specs.Prelude.{◌≡◌, ◌≢◌, ℕ, ◌+◌, ◌-◌, ◌/◌, min, ◌||◌, nat_lt, if◌then◌else◌, List}
+use Rattle.std.specs.Prelude.{length, Option, Some, is_some, chars, slice_get, AllPairs}
+use Rattle.std.specs.List.{AllByRecursion}
 use Rattle.ariadne_base.specs.Locations.{byte_len, line_at, column_at, line_offset, char_offset}
 use Rattle.ariadne_base.specs.Ranges.{last_offset}
 use Rattle.ariadne_base.specs.Listing.{Listing, listed_lines}
@@ -15,7 +15,7 @@ use Rattle.ariadne_picture.specs.declared.verdict.Verdict.{Verdict}
 use Rattle.ariadne_picture.specs.declared.verdict.Verdict.TheVariants.{Accepted, PastSource}
 use Rattle.ariadne_picture.specs.declared.verdict.Verdict.TheVariants.{CutsCharacter}
 use Rattle.ariadne_picture.specs.declared.label_info.LabelInfo.{LabelInfo}
-use Rattle.ariadne_picture.specs.Report.{ConfigFields, LabelFields, World}
+use Rattle.ariadne_picture.specs.Report.{ConfigFields, LabelFields, ReportFields, World}
 
 -- ---- offsets
 
@@ -73,13 +73,7 @@ verdict config source k label start end =
     (offset_in_chars config.index_type text start)
     (offset_in_chars config.index_type text (min end size))
 
--- ---- all labels
-
--- the label of a verdict that accepts it
-unfoldable pub accepted_info : Verdict → Option LabelInfo
-accepted_info (Accepted info) = Some info
-accepted_info PastSource = None
-accepted_info CutsCharacter = None
+-- ---- labels of a report
 
 -- the verdict on a label of a world over this source
 abbrev pub verdict_in : {S Id : Type 0} → World S Id → ConfigFields → ℕ → LabelFields S → Listing
@@ -87,18 +81,16 @@ abbrev pub verdict_in : {S Id : Type 0} → World S Id → ConfigFields → ℕ 
 verdict_in w config k label source =
     verdict config source k label (w.start_of label.span) (w.end_of label.span)
 
--- a label without a reason, in characters
-unfoldable pub drawn_label : {S Id R : Type 0} → World S Id → ConfigFields → ℕ → LabelFields S
-    → Option R → List LabelInfo
-drawn_label w config k label (Some reason) = []
-drawn_label w config k label None =
-    let source = w.source_of (w.id_of label.span) in
-    option_to_list (option_and_then (λ listing. accepted_info (verdict_in w config k label listing)) source)
+module _ {S Id : Type 0} (w : World S Id) (r : ReportFields S) where
+  -- a is a label of the report, over a source that is held, which accepts it
+  pub record IsAccepted (a : LabelInfo) : Type 0 where
+    pub label : LabelFields S
+    pub there : slice_get r.labels a.position ≡ Some label
+    pub source : Listing
+    pub is_held : w.source_of (w.id_of label.span) ≡ Some source
+    pub accepted : verdict_in w r.config a.position label source ≡ Accepted a
 
--- the labels that have no reason beside them; the first is at position k
-unfoldable pub drawn_labels : {S Id R : Type 0} → World S Id → ConfigFields → ℕ
-    → List (LabelFields S) → List (Option R) → List LabelInfo
-drawn_labels w config k [] reasons = []
-drawn_labels w config k (label ∷ labels) [] = []
-drawn_labels w config k (label ∷ labels) (reason ∷ reasons) =
-    drawn_label w config k label reason ++ drawn_labels w config (suc k) labels reasons
+  -- each of these is so, and no label stands twice
+  pub record AreAccepted (infos : List LabelInfo) : Type 0 where
+    pub each : AllByRecursion IsAccepted infos
+    pub none_twice : AllPairs (λ (a b : LabelInfo). a.position ≢ b.position) infos

@@ -1,9 +1,9 @@
 //! Laws of the definitions that a picture is drawn by. Each is the contract of a function that does
 //! nothing: calling it tells the law.
 
-ghost use Rattle.std.specs.Prelude.{◌≡◌, ◌↔◌, ◌⊎◌, ℕ, Bool, true, List, [], Option, Some, None};
+ghost use Rattle.std.specs.Prelude.{◌≡◌, ◌↔◌, ◌⊎◌, ℕ, Bool, true, List, [], Some, None};
 ghost use Rattle.std.specs.Prelude.{◌≤◌, nat_lt, int_lt, length, slice_get, IsTrue, IsFalse};
-ghost use Rattle.std.specs.Prelude.{◌≢◌, is_some, map, option_and_then};
+ghost use Rattle.std.specs.Prelude.{is_some, option_and_then};
 ghost use Rattle.std.specs.Prelude.{All, AllPairs, Contains, IsPermutation, IsSortedBy};
 ghost use Rattle.std.specs.Cmp.{IsStrictWeakOrder};
 ghost use Rattle.std.specs.List.{AllByRecursion, IsFirstBest};
@@ -11,11 +11,9 @@ ghost use Rattle.std.specs.List.Sorted.{IsStableBy};
 ghost use Rattle.ariadne_picture.specs.declared.cell.Glyph.TheVariants.{Blank, Hbar, Vbar, Xbar};
 ghost use Rattle.ariadne_picture.specs.declared.cell.Glyph.TheVariants.{Lbot, Lcross, Ltop};
 ghost use Rattle.ariadne_picture.specs.declared.cell.Glyph.TheVariants.{Rarrow, VbarGap};
-ghost use Rattle.ariadne_base.specs.Listing.{Listing};
 ghost use Rattle.ariadne_picture.specs.declared.label_info.LabelInfo.{LabelInfo};
-ghost use Rattle.ariadne_picture.specs.declared.verdict.Verdict.TheVariants.{Accepted};
 ghost use Rattle.ariadne_picture.specs.declared.label_info.Side.TheVariants.{Starts, Ends};
-ghost use Rattle.ariadne_picture.specs.Accept.{drawn_labels, verdict_in};
+ghost use Rattle.ariadne_picture.specs.Accept.{AreAccepted};
 ghost use Rattle.ariadne_picture.specs.Bars.{BarBesideAlternate, BarBesideArrow, BarBesideLine};
 ghost use Rattle.ariadne_picture.specs.Bars.{EndsNoEarlier, IsLineLabel, IsMarginLabel};
 ghost use Rattle.ariadne_picture.specs.Bars.{IsGutterLabel, IsOfLine};
@@ -35,8 +33,7 @@ ghost use Rattle.ariadne_picture.specs.Ranks.{Sheet, is_before, is_hidden, is_ne
 ghost use Rattle.ariadne_picture.specs.Ranks.{gutter_labels};
 ghost use Rattle.ariadne_picture.specs.Ranks.{span_len};
 ghost use Rattle.ariadne_picture.specs.Readings.{AgreeOnEnds, AgreeOnHeads, AgreeOnLines};
-ghost use Rattle.ariadne_picture.specs.Report.{AreForward, ConfigFields, HaveOneSource};
-ghost use Rattle.ariadne_picture.specs.Report.{LabelFields, ReportFields, World};
+ghost use Rattle.ariadne_picture.specs.Report.{AreForward, HaveOneSource, ReportFields, World};
 ghost use Rattle.ariadne_picture.specs.RowNames.{HasRow};
 ghost use Rattle.ariadne_picture.specs.Rows.{Row, source, alternate, arrow, gap, before, rows};
 ghost use Rattle.ariadne_picture.specs.Sent.{HaveColumnsOfTexts, HaveNoLineFeeds, RowsAreLines};
@@ -85,24 +82,6 @@ pub fn groups_are_the_only_cutting()
         → AreGroupsOf same_source labels groups → groups ≡ groups_of same_source labels }
 {}
 
-/// A label with a reason beside it is not drawn, and an accepted one without a reason is. Which
-/// labels are drawn hangs on the positions alone that have a reason.
-pub fn labels_are_drawn_or_listed<S, Id, R>()
-    ensures never_both { (w : World S Id) (r : ReportFields S) (reasons : List (Option R)) (k : ℕ)
-        (reason : R) (a : LabelInfo)
-        → AreForward w r → slice_get reasons k ≡ Some (Some reason)
-        → Contains (drawn_labels w r.config 0 r.labels reasons) a → a.position ≢ k }
-    ensures drawn { (w : World S Id) (r : ReportFields S) (reasons : List (Option R)) (k : ℕ)
-        (label : LabelFields S) (source : Listing) (a : LabelInfo)
-        → slice_get r.labels k ≡ Some label → slice_get reasons k ≡ Some None
-        → w.source_of (w.id_of label.span) ≡ Some source
-        → verdict_in w r.config k label source ≡ Accepted a
-        → Contains (drawn_labels w r.config 0 r.labels reasons) a }
-    ensures determined { (w : World S Id) (r : ReportFields S) (reasons others : List (Option R))
-        → map is_some reasons ≡ map is_some others
-        → drawn_labels w r.config 0 r.labels reasons ≡ drawn_labels w r.config 0 r.labels others }
-{}
-
 /// A group begins at the least line where one of its labels starts: none starts on an earlier line,
 /// and one starts there.
 pub fn groups_begin_at_their_least_line()
@@ -114,18 +93,18 @@ pub fn groups_begin_at_their_least_line()
 {}
 
 /// The source of each group is held, so `group_source` never takes its default.
-pub fn groups_have_their_sources<S, Id, R>()
-    ensures { (w : World S Id) (r : ReportFields S) (reasons : List (Option R)) → AreForward w r
+pub fn groups_have_their_sources<S, Id>()
+    ensures { (w : World S Id) (r : ReportFields S) (infos : List LabelInfo)
+        → AreAccepted w r infos
         → AllByRecursion (λ group. is_some (option_and_then w.source_of (group_id w r group)) ≡ true)
-        (groups w r (drawn_labels w r.config 0 r.labels reasons)) }
+        (groups w r infos) }
 {}
 
 /// Each label that is drawn ends on the line where it starts or on a later one, and so does each
 /// that owns a gutter column of a group of such labels.
-pub fn labels_end_no_earlier<S, Id, R>()
-    ensures drawn { (w : World S Id) (config : ConfigFields) (k : ℕ)
-        (labels : List (LabelFields S)) (reasons : List (Option R))
-        → All EndsNoEarlier (drawn_labels w config k labels reasons) }
+pub fn labels_end_no_earlier<S, Id>()
+    ensures drawn { (w : World S Id) (r : ReportFields S) (infos : List LabelInfo)
+        → AreAccepted w r infos → All EndsNoEarlier infos }
     ensures gutter_labels { (same_source : ℕ → ℕ → Bool) (labels : List LabelInfo)
         (s : Sheet) (k i : ℕ) (a : LabelInfo)
         → All EndsNoEarlier labels
@@ -228,90 +207,81 @@ pub fn the_last_gutter_column_has_no_bar()
 
 /// Each accepted message has one row of its own, which ends in it; every other row below a line
 /// ends with its text.
-pub fn messages_have_rows_of_their_own<S, Id, R>()
-    ensures { (w : World S Id) (r : ReportFields S) (reasons : List (Option R))
-        → HaveOneSource w → AreForward w r
-        → let infos = drawn_labels w r.config 0 r.labels reasons in
-        let rows = canvas w r infos in let groups = sections w r infos in
+pub fn messages_have_rows_of_their_own<S, Id>()
+    ensures { (w : World S Id) (r : ReportFields S) (infos : List LabelInfo)
+        → AreAccepted w r infos → HaveOneSource w → AreForward w r
+        → let rows = canvas w r infos in let groups = sections w r infos in
         CanBeRead rows groups (λ placing. has_message_rows rows groups placing
         (texts_of r).message_of) }
 {}
 
 /// From the message of a label within one line strokes lead to its attach character.
-pub fn inline_labels_are_traced<S, Id, R>()
-    ensures { (w : World S Id) (r : ReportFields S) (reasons : List (Option R))
-        → HaveOneSource w → AreForward w r
-        → let infos = drawn_labels w r.config 0 r.labels reasons in
-        let rows = canvas w r infos in let groups = sections w r infos in
+pub fn inline_labels_are_traced<S, Id>()
+    ensures { (w : World S Id) (r : ReportFields S) (infos : List LabelInfo)
+        → AreAccepted w r infos → HaveOneSource w → AreForward w r
+        → let rows = canvas w r infos in let groups = sections w r infos in
         CanBeRead rows groups (λ placing. has_inline_traces rows groups placing) }
 {}
 
 /// From the message of a label over several lines strokes lead into its gutter column, and out of
 /// it to the line where the label starts.
-pub fn ends_of_gutter_labels_are_traced<S, Id, R>()
-    ensures { (w : World S Id) (r : ReportFields S) (reasons : List (Option R))
-        → HaveOneSource w → AreForward w r
-        → let infos = drawn_labels w r.config 0 r.labels reasons in
-        let rows = canvas w r infos in let groups = sections w r infos in
+pub fn ends_of_gutter_labels_are_traced<S, Id>()
+    ensures { (w : World S Id) (r : ReportFields S) (infos : List LabelInfo)
+        → AreAccepted w r infos → HaveOneSource w → AreForward w r
+        → let rows = canvas w r infos in let groups = sections w r infos in
         CanBeRead rows groups (λ placing. has_ends_of_gutter_traces rows groups placing) }
 {}
 
 /// The gutter column of a label has a stroke in each row from its head to its message, and none
 /// elsewhere.
-pub fn gutter_bars_are_whole<S, Id, R>()
-    ensures { (w : World S Id) (r : ReportFields S) (reasons : List (Option R))
-        → HaveOneSource w → AreForward w r
-        → let infos = drawn_labels w r.config 0 r.labels reasons in
-        let rows = canvas w r infos in let groups = sections w r infos in
+pub fn gutter_bars_are_whole<S, Id>()
+    ensures { (w : World S Id) (r : ReportFields S) (infos : List LabelInfo)
+        → AreAccepted w r infos → HaveOneSource w → AreForward w r
+        → let rows = canvas w r infos in let groups = sections w r infos in
         CanBeRead rows groups (λ placing. has_gutter_bars rows groups placing) }
 {}
 
 /// Below a line each place stands in the columns where the source row shows its character.
-pub fn rows_keep_the_columns_of_their_line<S, Id, R>()
-    ensures { (w : World S Id) (r : ReportFields S) (reasons : List (Option R))
-        → HaveOneSource w → AreForward w r
-        → let infos = drawn_labels w r.config 0 r.labels reasons in
-        let rows = canvas w r infos in let groups = sections w r infos in
+pub fn rows_keep_the_columns_of_their_line<S, Id>()
+    ensures { (w : World S Id) (r : ReportFields S) (infos : List LabelInfo)
+        → AreAccepted w r infos → HaveOneSource w → AreForward w r
+        → let rows = canvas w r infos in let groups = sections w r infos in
         CanBeRead rows groups (λ placing. is_aligned rows groups placing) }
 {}
 
 /// The block of a line has the rows of its labels and no other.
-pub fn blocks_are_whole<S, Id, R>()
-    ensures { (w : World S Id) (r : ReportFields S) (reasons : List (Option R))
-        → HaveOneSource w → AreForward w r
-        → let infos = drawn_labels w r.config 0 r.labels reasons in
-        let rows = canvas w r infos in let groups = sections w r infos in
+pub fn blocks_are_whole<S, Id>()
+    ensures { (w : World S Id) (r : ReportFields S) (infos : List LabelInfo)
+        → AreAccepted w r infos → HaveOneSource w → AreForward w r
+        → let rows = canvas w r infos in let groups = sections w r infos in
         CanBeRead rows groups (λ placing. has_whole_blocks groups placing) }
 {}
 
 /// No stroke without a cause: in the rows below a line each cell of a place is blank, or shows a
 /// vertical, a corner, a horizontal or an underline that a label has there.
-pub fn no_stroke_is_without_a_cause<S, Id, R>()
-    ensures { (w : World S Id) (r : ReportFields S) (reasons : List (Option R))
-        → HaveOneSource w → AreForward w r
-        → let infos = drawn_labels w r.config 0 r.labels reasons in
-        let rows = canvas w r infos in let groups = sections w r infos in
+pub fn no_stroke_is_without_a_cause<S, Id>()
+    ensures { (w : World S Id) (r : ReportFields S) (infos : List LabelInfo)
+        → AreAccepted w r infos → HaveOneSource w → AreForward w r
+        → let rows = canvas w r infos in let groups = sections w r infos in
         CanBeRead rows groups (λ placing. has_no_other_strokes rows groups placing) }
 {}
 
 /// No stroke without a cause in the gutter. Each cell of a gutter column is blank, or shows a head, a
 /// corner, a tee or a bar of the column's own label. Or it shows an arrow head, or a horizontal of a
 /// label that owns a column in front of it.
-pub fn no_gutter_stroke_is_without_a_cause<S, Id, R>()
-    ensures { (w : World S Id) (r : ReportFields S) (reasons : List (Option R))
-        → HaveOneSource w → AreForward w r
-        → let infos = drawn_labels w r.config 0 r.labels reasons in
-        let rows = canvas w r infos in let groups = sections w r infos in
+pub fn no_gutter_stroke_is_without_a_cause<S, Id>()
+    ensures { (w : World S Id) (r : ReportFields S) (infos : List LabelInfo)
+        → AreAccepted w r infos → HaveOneSource w → AreForward w r
+        → let rows = canvas w r infos in let groups = sections w r infos in
         CanBeRead rows groups (λ placing. has_no_other_gutter_strokes rows groups placing) }
 {}
 
 /// Colours lead too: the strokes in a label's own rows, its bars, and its verticals where no other is
 /// seen, have its colour.
-pub fn strokes_have_the_colors_of_their_labels<S, Id, R>()
-    ensures { (w : World S Id) (r : ReportFields S) (reasons : List (Option R))
-        → HaveOneSource w → AreForward w r
-        → let infos = drawn_labels w r.config 0 r.labels reasons in
-        let rows = canvas w r infos in let groups = sections w r infos in
+pub fn strokes_have_the_colors_of_their_labels<S, Id>()
+    ensures { (w : World S Id) (r : ReportFields S) (infos : List LabelInfo)
+        → AreAccepted w r infos → HaveOneSource w → AreForward w r
+        → let rows = canvas w r infos in let groups = sections w r infos in
         CanBeRead rows groups (λ placing.
         has_label_colors rows groups placing (label_color r)) }
 {}
@@ -319,40 +289,36 @@ pub fn strokes_have_the_colors_of_their_labels<S, Id, R>()
 /// Every picture can be read, under one choice of row numbers for all of this. Its rows belong
 /// together. Each accepted message has a row of its own, and strokes lead from it to its label, in
 /// the columns where the source row shows them and in the label's colour. No stroke stands elsewhere.
-/// The two premises hold wherever sources are looked up by their ids, and each label's start is at
-/// most its end.
-pub fn every_picture_can_be_read<S, Id, R>()
-    ensures { (w : World S Id) (r : ReportFields S) (reasons : List (Option R))
-        → HaveOneSource w → AreForward w r
-        → let infos = drawn_labels w r.config 0 r.labels reasons in
-        IsTraced (canvas w r infos) (sections w r infos) (texts_of r).message_of (label_color r) }
+/// The premises hold of the labels that are drawn, wherever sources are looked up by their ids, and
+/// each label's start is at most its end.
+pub fn every_picture_can_be_read<S, Id>()
+    ensures { (w : World S Id) (r : ReportFields S) (infos : List LabelInfo)
+        → AreAccepted w r infos → HaveOneSource w → AreForward w r
+        → IsTraced (canvas w r infos) (sections w r infos) (texts_of r).message_of (label_color r) }
 {}
 
 /// The source row of each line is found in one way: row numbers under which the rows of a picture
 /// belong together have the same row for it.
-pub fn lines_are_found_in_one_way<S, Id, R>()
-    ensures { (w : World S Id) (r : ReportFields S) (reasons : List (Option R))
-        → AreForward w r
-        → let infos = drawn_labels w r.config 0 r.labels reasons in
-        let rows = canvas w r infos in let groups = sections w r infos in
+pub fn lines_are_found_in_one_way<S, Id>()
+    ensures { (w : World S Id) (r : ReportFields S) (infos : List LabelInfo)
+        → AreAccepted w r infos → AreForward w r
+        → let rows = canvas w r infos in let groups = sections w r infos in
         (p q : Placing) → is_placing rows groups p ≡ true → is_placing rows groups q ≡ true
         → AgreeOnLines groups p q }
 {}
 
 /// Labels over several lines are read in one way: row numbers that a picture is read by agree on the
 /// head and the message of each such label that has one.
-pub fn gutter_labels_are_read_in_one_way<S, Id, R>()
-    ensures heads { (w : World S Id) (r : ReportFields S) (reasons : List (Option R))
-        → AreForward w r
-        → let infos = drawn_labels w r.config 0 r.labels reasons in
-        let rows = canvas w r infos in let groups = sections w r infos in
+pub fn gutter_labels_are_read_in_one_way<S, Id>()
+    ensures heads { (w : World S Id) (r : ReportFields S) (infos : List LabelInfo)
+        → AreAccepted w r infos → AreForward w r
+        → let rows = canvas w r infos in let groups = sections w r infos in
         let message_of = (texts_of r).message_of in
         (p q : Placing) → IsReadBy rows groups message_of p → IsReadBy rows groups message_of q
         → AgreeOnHeads groups p q }
-    ensures ends { (w : World S Id) (r : ReportFields S) (reasons : List (Option R))
-        → AreForward w r
-        → let infos = drawn_labels w r.config 0 r.labels reasons in
-        let rows = canvas w r infos in let groups = sections w r infos in
+    ensures ends { (w : World S Id) (r : ReportFields S) (infos : List LabelInfo)
+        → AreAccepted w r infos → AreForward w r
+        → let rows = canvas w r infos in let groups = sections w r infos in
         let message_of = (texts_of r).message_of in
         (p q : Placing) → IsReadBy rows groups message_of p → IsReadBy rows groups message_of q
         → AgreeOnEnds groups p q }
@@ -361,11 +327,10 @@ pub fn gutter_labels_are_read_in_one_way<S, Id, R>()
 /// Pictures are read in one way: row numbers that a picture is read by agree on source rows, on
 /// heads and on messages, but that those of twins may change places. Twins are two labels within one
 /// line, with one message, attached at one column.
-pub fn pictures_are_read_in_one_way<S, Id, R>()
-    ensures { (w : World S Id) (r : ReportFields S) (reasons : List (Option R))
-        → HaveOneSource w → AreForward w r
-        → let infos = drawn_labels w r.config 0 r.labels reasons in
-        AreReadInOneWay (canvas w r infos) (sections w r infos) (texts_of r).message_of }
+pub fn pictures_are_read_in_one_way<S, Id>()
+    ensures { (w : World S Id) (r : ReportFields S) (infos : List LabelInfo)
+        → AreAccepted w r infos → HaveOneSource w → AreForward w r
+        → AreReadInOneWay (canvas w r infos) (sections w r infos) (texts_of r).message_of }
 {}
 
 /// Each cell of a picture takes the columns of the characters of its text. So alignment is a fact of
@@ -399,7 +364,7 @@ pub fn cells_hold_no_escapes<S, Id>()
 
 /// Bytes draw as characters: the report with the same offsets in characters accepts each label as
 /// it is, and has the same picture where its own start is a boundary.
-pub fn bytes_draw_as_characters<S, Id, R>()
-    ensures { (w : World S Id) (r : ReportFields S) (reasons : List (Option R)) → HaveOneSource w
-        → BytesDrawAsCharacters w r (drawn_labels w r.config 0 r.labels reasons) }
+pub fn bytes_draw_as_characters<S, Id>()
+    ensures { (w : World S Id) (r : ReportFields S) (infos : List LabelInfo)
+        → AreAccepted w r infos → HaveOneSource w → BytesDrawAsCharacters w r infos }
 {}

@@ -11,7 +11,7 @@ use Rattle.std.proofs.lemmas.List.{append-nil}
 use Rattle.std.proofs.lemmas.List.Folds.{list_all-append}
 use Rattle.std.proofs.lemmas.Str.{IsUtf8-append, IsUtf8-from_is_utf8, is_utf8-from_IsUtf8, chars-append}
 use Rattle.ariadne.specs.LeftOut.{LeftOut}
-use Rattle.ariadne.specs.Accept.{drawn_labels}
+use Rattle.ariadne.specs.Judging.{drawn_labels}
 use Rattle.ariadne.specs.Canvas.{canvas}
 use Rattle.ariadne.specs.Print.{printed}
 use Rattle.ariadne.specs.Report.{ReportFields}
@@ -99,8 +99,8 @@ pub hidden_none : (old new : List SafeSource) (r : ReportFields (ℕ × Range �
     (result : Result (Vec (LeftOut NoSource) Global) WriteError) → is_shown_report r ≡ true
     → Written {E = NoSource} says_number (over old) (over new) r before after result → OnOk result (GotNothingHidden before after)
 hidden_none old new r before after (Ok list) shown w = (
-  printed (canvas (over new) r (drawn_labels (over new) r.config 0 r.labels w.picture.reasons)),
-  pictures_hide_nothing (over new) r (drawn_labels (over new) r.config 0 r.labels w.picture.reasons) (nothing_hidden new r shown),
+  printed (canvas (over new) r (drawn_labels w.picture.outcomes)),
+  pictures_hide_nothing (over new) r (drawn_labels w.picture.outcomes) (nothing_hidden new r shown),
   rw w.picture.drawn.they_are_exactly_the_printed_canvas at w.sent,
 )
 hidden_none old new r before after (Err e) shown w = tt

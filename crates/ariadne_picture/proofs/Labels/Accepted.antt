@@ -1,6 +1,6 @@
 -- An accepted label ends no earlier than it starts, and so does each label of each group of accepted labels.
 use Rattle.std.proofs.Common.{◌≡◌, ℕ, zero, suc, ◌+◌, ◌-◌, ◌≤◌, max, min, Bool, true, List, [], ◌∷◌, ◌++◌, Option, Some, None, length, sym, subst}
-use Rattle.std.proofs.Common.{arith, filter, nat_le, unwrap_or, option_and_then, option_to_list, slice_get, All, chars, ◌||◌, nat_lt, inl, inr}
+use Rattle.std.proofs.Common.{arith, filter, nat_le, unwrap_or, slice_get, All, chars, ◌||◌, nat_lt, inl, inr}
 use Rattle.std.specs.List.{AllByRecursion, last_or, range_with_len}
 use Rattle.std.proofs.lemmas.Bool.{cond_both, cases_Bool, le-leb, leb-true}
 use Rattle.std.proofs.lemmas.List.Elements.{All-from_recursion, recursion_from_All}
@@ -8,14 +8,14 @@ use Rattle.ariadne_base.specs.Locations.{line_offset, line_at}
 use Rattle.ariadne_base.specs.Listing.{Listing, listed_lines}
 use Rattle.ariadne_picture.specs.declared.switches.LabelAttach.{LabelAttach}
 use Rattle.ariadne_picture.specs.declared.label_info.LabelInfo.{LabelInfo}
-use Rattle.ariadne_picture.specs.Report.{ConfigFields, LabelFields, World}
-use Rattle.ariadne_picture.specs.declared.verdict.Verdict.TheVariants.{PastSource}
-use Rattle.ariadne_picture.specs.Accept.{text_len, offset_in_chars, info_of, within, verdict, verdict_in, accepted_info, drawn_label, drawn_labels}
+use Rattle.ariadne_picture.specs.Report.{ConfigFields, LabelFields, ReportFields, World}
+use Rattle.ariadne_picture.specs.declared.verdict.Verdict.TheVariants.{Accepted, PastSource}
+use Rattle.ariadne_picture.specs.Accept.{text_len, offset_in_chars, info_of, within, verdict, IsAccepted, AreAccepted}
 use Rattle.ariadne_picture.specs.Lists.{joined}
 use Rattle.ariadne_picture.specs.Groups.{ordered, groups_of}
 use Rattle.ariadne_picture.specs.Ranks.{Sheet, span_len, is_on_one_line, multi_line_labels, gutter_labels}
 use Rattle.ariadne_picture.specs.Bars.{EndsNoEarlier, IsGutterLabel}
-use Rattle.ariadne_picture.proofs.Lists.ListFacts.{all-append, all-filter, all-in_order, all-at}
+use Rattle.ariadne_picture.proofs.Lists.ListFacts.{all-weaker, all-filter, all-in_order, all-at}
 use Rattle.ariadne_picture.proofs.Labels.Cutting.{together, groups-exist}
 
 -- ---- a later offset lies in no earlier line
@@ -48,62 +48,39 @@ info-rises : {S : Type 0} (attach : LabelAttach) (ls : List (List ℕ)) (k : ℕ
 unfolding info_of
 info-rises attach ls k label start end = line-grows length ls start (max (end - 1) start) (omega arith)
 
--- each label that is accepted ends no earlier than it starts
+-- each of these ends no earlier than it starts
 abbrev AllRise : List LabelInfo → Type 0
 AllRise infos = AllByRecursion EndsNoEarlier infos
 
--- so is that of a label whose ends lie inside no character
-within-rises : {S : Type 0} (attach : LabelAttach) (ls : List (List ℕ)) (k : ℕ) (label : LabelFields S) (start end : Option ℕ)
-    → AllRise (option_to_list (accepted_info (within attach ls k label start end)))
-unfolding within accepted_info
-within-rises attach ls k label (Some start) (Some end) = (info-rises attach ls k label start end, tt)
-within-rises attach ls k label (Some start) None = tt
-within-rises attach ls k label None end = tt
+-- nor is that of a label whose ends lie inside no character
+within-rises : {S : Type 0} (attach : LabelAttach) (ls : List (List ℕ)) (k : ℕ) (label : LabelFields S) (start end : Option ℕ) (a : LabelInfo)
+    → within attach ls k label start end ≡ Accepted a → EndsNoEarlier a
+unfolding within
+within-rises attach ls k label (Some start) (Some end) a e =
+    let same : info_of attach ls k label start end ≡ a = cc in subst EndsNoEarlier same (info-rises attach ls k label start end)
+within-rises attach ls k label (Some start) None a e = absurd (cc)
+within-rises attach ls k label None end a e = absurd (cc)
 
--- so is that of a label that is judged against its source
-verdict-rises : {S Id : Type 0} (w : World S Id) (config : ConfigFields) (source : Listing) (k : ℕ) (label : LabelFields S)
-    → AllRise (option_to_list (accepted_info (verdict_in w config k label source)))
-unfolding verdict accepted_info
-verdict-rises w config source k label =
+-- nor is that of a label that its source accepts
+verdict-rises : {S : Type 0} (config : ConfigFields) (source : Listing) (k : ℕ) (label : LabelFields S) (start end : ℕ) (a : LabelInfo)
+    → verdict config source k label start end ≡ Accepted a → EndsNoEarlier a
+unfolding verdict
+verdict-rises config source k label start end a =
     let text = chars source.text in
     let size = text_len config.index_type text in
-    let start = w.start_of label.span in
-    let end = w.end_of label.span in
     cond_both (nat_lt size start || nat_lt (size + 1) end) PastSource
     (within config.label_attach (listed_lines source) k label (offset_in_chars config.index_type text start)
     (offset_in_chars config.index_type text (min end size)))
-    (λ v. AllRise (option_to_list (accepted_info v))) (λ _. tt)
+    (λ v. v ≡ Accepted a → EndsNoEarlier a) (λ _ e. absurd (cc))
     (λ _. within-rises config.label_attach (listed_lines source) k label (offset_in_chars config.index_type text start)
-    (offset_in_chars config.index_type text (min end size)))
+    (offset_in_chars config.index_type text (min end size)) a)
 
--- so is that of a label whose source may not be held
-source-rises : {S Id : Type 0} (w : World S Id) (config : ConfigFields) (k : ℕ) (label : LabelFields S) (o : Option Listing)
-    → AllRise (option_to_list (option_and_then (λ s. accepted_info (verdict_in w config k label s)) o))
-source-rises w config k label None = tt
-source-rises w config k label (Some s) = verdict-rises w config s k label
-
--- so is that of a label that may have a reason beside it
-drawn-label-rises : {S Id R : Type 0} (w : World S Id) (config : ConfigFields) (k : ℕ) (label : LabelFields S) (reason : Option R)
-    → AllRise (drawn_label w config k label reason)
-unfolding drawn_label
-drawn-label-rises w config k label (Some reason) = tt
-drawn-label-rises w config k label None = source-rises w config k label (w.source_of (w.id_of label.span))
-
--- so is that of every drawn label
-drawn-labels-rise : {S Id R : Type 0} (w : World S Id) (config : ConfigFields) (k : ℕ) (labels : List (LabelFields S)) (reasons : List (Option R))
-    → AllRise (drawn_labels w config k labels reasons)
-unfolding drawn_labels
-drawn-labels-rise w config k [] reasons = tt
-drawn-labels-rise w config k (label ∷ labels) [] = tt
-drawn-labels-rise w config k (label ∷ labels) (reason ∷ reasons) =
-    all-append EndsNoEarlier (drawn_label w config k label reason) (drawn_labels w config (suc k) labels reasons)
-    (drawn-label-rises w config k label reason) (drawn-labels-rise w config (suc k) labels reasons)
-
--- the same by places
-pub drawn-rise : {S Id R : Type 0} (w : World S Id) (config : ConfigFields) (k : ℕ) (labels : List (LabelFields S)) (reasons : List (Option R))
-    → All EndsNoEarlier (drawn_labels w config k labels reasons)
-drawn-rise w config k labels reasons =
-    All-from_recursion EndsNoEarlier (drawn_labels w config k labels reasons) (drawn-labels-rise w config k labels reasons)
+-- so each label that is accepted ends no earlier than it starts
+pub drawn-rise : {S Id : Type 0} (w : World S Id) (r : ReportFields S) (infos : List LabelInfo) → AreAccepted w r infos → All EndsNoEarlier infos
+drawn-rise w r infos accepted =
+    All-from_recursion EndsNoEarlier infos
+    (all-weaker (IsAccepted w r) EndsNoEarlier infos
+    (λ a d. verdict-rises r.config d.source a.position d.label (w.start_of d.label.span) (w.end_of d.label.span) a d.accepted) accepted.each)
 
 -- ---- groups and gutter labels
 

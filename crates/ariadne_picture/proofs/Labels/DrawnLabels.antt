@@ -1,7 +1,7 @@
 -- Each drawn label lies in the lines of its group's sheet, and no two have one number.
 use Rattle.std.proofs.Common.{◌≢◌, map, ◌≡◌, ℕ, zero, suc, ◌+◌, ◌<◌, ◌≤◌, min, Bool, true, false, not, ◌||◌, List, [], ◌∷◌, ◌++◌, Option, Some}
 use Rattle.std.proofs.Common.{None, length, take, slice_get, refl, sym, ap, ◌∙◌, subst, arith, ◌==◌, nat_lt, inl, inr, chars, unwrap_or}
-use Rattle.std.proofs.Common.{option_and_then, option_to_list, find, is_some}
+use Rattle.std.proofs.Common.{option_and_then, find, is_some}
 use Rattle.std.specs.List.{AllByRecursion, range_with_len, enumerate_from}
 use Rattle.std.proofs.lemmas.Bool.{cond_both, cases_Bool, cases_lt, cases_eq, true≢false, eqb-true, eq-eqb, or_parts}
 use Rattle.std.proofs.lemmas.Bool.{ltb-false, not-false}
@@ -14,15 +14,17 @@ use Rattle.ariadne_base.specs.Listing.{Listing, listed_lines}
 use Rattle.ariadne_base.proofs.LineLaws.{lines_length, some_line}
 use Rattle.ariadne_picture.specs.declared.switches.IndexType.{IndexType}
 use Rattle.ariadne_picture.specs.declared.switches.IndexType.TheVariants.{Byte, Char}
-use Rattle.ariadne_picture.specs.declared.verdict.Verdict.TheVariants.{PastSource}
+use Rattle.ariadne_picture.specs.declared.switches.LabelAttach.{LabelAttach}
+use Rattle.ariadne_picture.specs.declared.verdict.Verdict.TheVariants.{Accepted, PastSource}
 use Rattle.ariadne_picture.specs.declared.label_info.LabelInfo.{LabelInfo}
-use Rattle.ariadne_picture.specs.Report.{ConfigFields, LabelFields, ReportFields, World}
-use Rattle.ariadne_picture.specs.Accept.{text_len, offset_in_chars, info_of, within, verdict, verdict_in, accepted_info, drawn_label, drawn_labels}
+use Rattle.ariadne_picture.specs.Report.{AreForward, ConfigFields, LabelFields, ReportFields, World}
+use Rattle.ariadne_picture.specs.Accept.{text_len, offset_in_chars, info_of, within, verdict, IsAccepted, AreAccepted}
 use Rattle.ariadne_picture.specs.Lists.{joined}
 use Rattle.ariadne_picture.specs.Groups.{ordered, is_cut, HasNoCut, AreCut, groups_of}
 use Rattle.ariadne_picture.specs.Pieces.{Section}
 use Rattle.ariadne_picture.specs.Canvas.{section_of, sections, label_id, is_same_id, same_source, group_id, group_source, groups}
-use Rattle.ariadne_picture.proofs.Lists.ListFacts.{Increasing, increasing-append, none≢some, all-append, all-at, all-in_order, all-weaker}
+use Rattle.ariadne_picture.proofs.Lists.Elements.{all-from, increasing-from}
+use Rattle.ariadne_picture.proofs.Lists.ListFacts.{Increasing, none≢some, all-at, all-in_order}
 use Rattle.ariadne_picture.proofs.Labels.Cutting.{together, groups-exist}
 use Rattle.ariadne_picture.proofs.Labels.LabelPlaces.{IsPlaced, info-placed}
 use Rattle.ariadne_picture.proofs.Parts.{sheet_of}
@@ -86,20 +88,25 @@ offset-order Byte t b c n m h j e f =
 
 -- ---- one label
 
--- what a verdict accepts lies in the lines of the source
-verdict-placed : {S Id : Type 0} (w : World S Id) (config : ConfigFields) (source : Listing) (k : ℕ) (label : LabelFields S)
-    → w.start_of label.span ≤ w.end_of label.span
-    → AllByRecursion (λ a. IsPlaced (listed_lines source) a × (a.position ≡ k)) (option_to_list (accepted_info (verdict_in w config k label source)))
-unfolding verdict accepted_info within info_of
-verdict-placed {S} w config source k label forward =
+-- what its source accepts as a label has both ends in it
+record IsOver {S : Type 0} (attach : LabelAttach) (text : List ℕ) (k : ℕ) (label : LabelFields S) (a : LabelInfo) : Type 0 where
+  start : ℕ
+  end : ℕ
+  rises : start ≤ end
+  within_text : end ≤ length text
+  is : info_of attach (lines_of text) k label start end ≡ a
+
+-- where its span starts no later than it ends
+verdict-over : {S : Type 0} (config : ConfigFields) (source : Listing) (k : ℕ) (label : LabelFields S) (start end : ℕ) (a : LabelInfo) → start ≤ end
+    → verdict config source k label start end ≡ Accepted a → IsOver config.label_attach (chars source.text) k label a
+unfolding verdict within
+verdict-over {S} config source k label start end a forward =
     let text = chars source.text in
     let size = text_len config.index_type text in
-    let start = w.start_of label.span in
-    let end = w.end_of label.span in
     cond_both (nat_lt size start || nat_lt (size + 1) end) PastSource
     (within config.label_attach (listed_lines source) k label (offset_in_chars config.index_type text start)
     (offset_in_chars config.index_type text (min end size)))
-    (λ v. AllByRecursion (λ a. IsPlaced (listed_lines source) a × (a.position ≡ k)) (option_to_list (accepted_info v))) (λ _. tt)
+    (λ v. v ≡ Accepted a → IsOver config.label_attach (chars source.text) k label a) (λ _ e. absurd (cc))
     (λ off. let two = or_parts (nat_lt size start) (nat_lt (size + 1) end) off in
     let low = ltb-false size start two.0 in
     both start (min end size) (omega arith) (omega arith) (offset_in_chars config.index_type text start)
@@ -107,91 +114,34 @@ verdict-placed {S} w config source k label forward =
   where
     both : (b c : ℕ) → b ≤ c → c ≤ text_len config.index_type (chars source.text) → (x y : Option ℕ)
         → offset_in_chars config.index_type (chars source.text) b ≡ x → offset_in_chars config.index_type (chars source.text) c ≡ y
-        → AllByRecursion (λ a. IsPlaced (listed_lines source) a × (a.position ≡ k))
-        (option_to_list (accepted_info (within config.label_attach (listed_lines source) k label x y)))
-    both b c h j None y e f = tt
-    both b c h j (Some n) None e f = tt
-    both b c h j (Some n) (Some m) e f =
-        let text = chars source.text in
-        let two = offset-order config.index_type text b c n m h j e f in
-        let high = two.1 in
-        let all = lines_length text in
-        ((info-placed config.label_attach (lines_of text) k label n m (some_line text) two.0 (omega arith), refl), tt)
+        → within config.label_attach (listed_lines source) k label x y ≡ Accepted a → IsOver config.label_attach (chars source.text) k label a
+    both b c h j None y e f is = absurd (cc)
+    both b c h j (Some n) None e f is = absurd (cc)
+    both b c h j (Some n) (Some m) e f is =
+        let two = offset-order config.index_type (chars source.text) b c n m h j e f in
+        record { start = n; end = m; rises = two.0; within_text = two.1; is = cc }
+
+-- so it lies in the lines of that source
+over-placed : {S : Type 0} (attach : LabelAttach) (text : List ℕ) (k : ℕ) (label : LabelFields S) (a : LabelInfo) → IsOver attach text k label a
+    → IsPlaced (lines_of text) a
+over-placed attach text k label a over =
+    let high = over.within_text in
+    let all = lines_length text in
+    subst (IsPlaced (lines_of text)) over.is (info-placed attach (lines_of text) k label over.start over.end (some_line text) over.rises (omega arith))
 
 -- ---- all labels of a report
 
 module _ {S Id : Type 0} (w : World S Id) (r : ReportFields S) where
-  -- a drawn label is one of the report's, over a source that is held
-  pub record IsDrawn (a : LabelInfo) : Type 0 where
-    pub label : LabelFields S
-    pub there : slice_get r.labels a.position ≡ Some label
-    pub source : Listing
-    pub held : w.source_of (w.id_of label.span) ≡ Some source
-    pub placed : IsPlaced (listed_lines source) a
+  -- a label that is drawn lies in the lines of its source
+  drawn-placed : AreForward w r → (a : LabelInfo) (d : IsAccepted w r a) → IsPlaced (listed_lines d.source) a
+  drawn-placed forward a d =
+      over-placed r.config.label_attach (chars d.source.text) a.position d.label a
+      (verdict-over r.config d.source a.position d.label (w.start_of d.label.span) (w.end_of d.label.span) a
+      (all-at (λ label. w.start_of label.span ≤ w.end_of label.span) r.labels a.position d.label d.there forward) d.accepted)
 
-  -- a label without a reason, where its source may not be held
-  source-drawn : (k : ℕ) (label : LabelFields S) → slice_get r.labels k ≡ Some label → w.start_of label.span ≤ w.end_of label.span
-      → (o : Option Listing) → w.source_of (w.id_of label.span) ≡ o
-      → AllByRecursion (λ a. IsDrawn a × (a.position ≡ k)) (option_to_list (option_and_then (λ s. accepted_info (verdict_in w r.config k label s)) o))
-  source-drawn k label there forward None e = tt
-  source-drawn k label there forward (Some source) e =
-      all-weaker (λ a. IsPlaced (listed_lines source) a × (a.position ≡ k)) (λ a. IsDrawn a × (a.position ≡ k))
-      (option_to_list (accepted_info (verdict_in w r.config k label source)))
-      (λ a h. (record { label = label; there = ap (slice_get r.labels) h.1 ∙ there; source = source; held = e; placed = h.0 }, h.1))
-      (verdict-placed w r.config source k label forward)
-
-  -- one that may have a reason beside it
-  pub one-drawn : {R : Type 0} (k : ℕ) (label : LabelFields S) (reason : Option R) → slice_get r.labels k ≡ Some label
-      → w.start_of label.span ≤ w.end_of label.span → AllByRecursion (λ a. IsDrawn a × (a.position ≡ k)) (drawn_label w r.config k label reason)
-  unfolding drawn_label
-  one-drawn k label (Some reason) there forward = tt
-  one-drawn k label None there forward = source-drawn k label there forward (w.source_of (w.id_of label.span)) refl
-
-  -- all
-  pub drawn-from : {R : Type 0} (k : ℕ) (labels : List (LabelFields S)) (reasons : List (Option R))
-      → ((j : ℕ) → slice_get labels j ≡ slice_get r.labels (k + j)) → AllByRecursion (λ label. w.start_of label.span ≤ w.end_of label.span) labels
-      → AllByRecursion (λ a. IsDrawn a × (k ≤ a.position)) (drawn_labels w r.config k labels reasons)
-  unfolding drawn_labels
-  drawn-from k [] reasons g h = tt
-  drawn-from k (label ∷ labels) [] g h = tt
-  drawn-from k (label ∷ labels) (reason ∷ reasons) g h =
-      let z : k + 0 ≡ k = omega arith in
-      all-append (λ a. IsDrawn a × (k ≤ a.position)) (drawn_label w r.config k label reason) (drawn_labels w r.config (suc k) labels reasons)
-      (all-weaker (λ a. IsDrawn a × (a.position ≡ k)) (λ a. IsDrawn a × (k ≤ a.position)) (drawn_label w r.config k label reason)
-      (λ a d. let e = d.1 in (d.0, omega arith)) (one-drawn k label reason (ap (slice_get r.labels) (sym z) ∙ sym (g 0)) h.0))
-      (all-weaker (λ a. IsDrawn a × (suc k ≤ a.position)) (λ a. IsDrawn a × (k ≤ a.position)) (drawn_labels w r.config (suc k) labels reasons)
-      (λ a d. let e = d.1 in (d.0, omega arith))
-      (drawn-from (suc k) labels reasons (λ j. let e : k + suc j ≡ suc k + j = omega arith in g (suc j) ∙ ap (slice_get r.labels) e) h.1))
-
-  -- each has another number than the later ones
-  increasing-from : {R : Type 0} (k : ℕ) (labels : List (LabelFields S)) (reasons : List (Option R))
-      → ((j : ℕ) → slice_get labels j ≡ slice_get r.labels (k + j)) → AllByRecursion (λ label. w.start_of label.span ≤ w.end_of label.span) labels
-      → Increasing (λ (a b : LabelInfo). a.position ≢ b.position) (drawn_labels w r.config k labels reasons)
-  unfolding drawn_labels drawn_label
-  increasing-from k [] reasons g h = tt
-  increasing-from k (label ∷ labels) [] g h = tt
-  increasing-from {R = R} k (label ∷ labels) (reason ∷ reasons) g h =
-      let z : k + 0 ≡ k = omega arith in
-      let next : (j : ℕ) → slice_get labels j ≡ slice_get r.labels (suc k + j) = λ j. let e : k + suc j ≡ suc k + j = omega arith in g (suc j)
-      ∙ ap (slice_get r.labels) e in
-      increasing-append (λ (a b : LabelInfo). a.position ≢ b.position) (λ a. IsDrawn a × (a.position ≡ k)) (λ a. IsDrawn a × (suc k ≤ a.position))
-      (drawn_label w r.config k label reason) (drawn_labels w r.config (suc k) labels reasons)
-      (λ a b p q same. let e = p.1 in let low = q.1 in omega arith)
-      (one-drawn k label reason (ap (slice_get r.labels) (sym z) ∙ sym (g 0)) h.0) (drawn-from (suc k) labels reasons next h.1)
-      (alone label reason) (increasing-from (suc k) labels reasons next h.1)
-    where
-      some : (o : Option LabelInfo) → Increasing (λ (a b : LabelInfo). a.position ≢ b.position) (option_to_list o)
-      some None = tt
-      some (Some a) = (tt, tt)
-
-      alone : (label : LabelFields S) (reason : Option R)
-          → Increasing (λ (a b : LabelInfo). a.position ≢ b.position) (drawn_label w r.config k label reason)
-      alone label (Some reason) = tt
-      alone label None = some (option_and_then (λ s. accepted_info (verdict_in w r.config k label s)) (w.source_of (w.id_of label.span)))
-
-  pub drawn-numbers : {R : Type 0} (reasons : List (Option R)) → AllByRecursion (λ label. w.start_of label.span ≤ w.end_of label.span) r.labels
-      → Increasing (λ (a b : LabelInfo). a.position ≢ b.position) (drawn_labels w r.config 0 r.labels reasons)
-  drawn-numbers reasons forward = increasing-from 0 r.labels reasons (λ j. let z : j ≡ 0 + j = omega arith in ap (slice_get r.labels) z) forward
+  -- no two of them have one number
+  pub drawn-numbers : (infos : List LabelInfo) → AreAccepted w r infos → Increasing (λ (a b : LabelInfo). a.position ≢ b.position) infos
+  drawn-numbers infos accepted = increasing-from (λ (a b : LabelInfo). a.position ≢ b.position) infos accepted.none_twice
 
 -- ---- groups
 
@@ -234,46 +184,40 @@ group-some same ((b ∷ g) ∷ (d ∷ next) ∷ gs) (suc k) c e = group-some sam
 
 module _ {S Id : Type 0} (w : World S Id) (r : ReportFields S) where
   -- the id of a drawn label
-  drawn-id : (a : LabelInfo) (d : IsDrawn w r a) → label_id w r a.position ≡ Some (w.id_of d.label.span)
+  drawn-id : (a : LabelInfo) (d : IsAccepted w r a) → label_id w r a.position ≡ Some (w.id_of d.label.span)
   unfolding label_id
   drawn-id a d = let e = d.there in rw e
 
   -- the labels of groups of drawn labels are drawn
-  groups-drawn : {R : Type 0} (reasons : List (Option R))
-      → AllByRecursion (λ label. w.start_of label.span ≤ w.end_of label.span) r.labels
-      → AllByRecursion (AllByRecursion (IsDrawn w r)) (groups w r (drawn_labels w r.config 0 r.labels reasons))
+  groups-drawn : (infos : List LabelInfo) → AreAccepted w r infos → AllByRecursion (AllByRecursion (IsAccepted w r)) (groups w r infos)
   unfolding groups ordered
-  groups-drawn reasons forward =
-      let infos = drawn_labels w r.config 0 r.labels reasons in
+  groups-drawn infos accepted =
       let exist = groups-exist (same_source w r) (ordered infos) in
-      let drawn : AllByRecursion (IsDrawn w r) infos = all-weaker (λ a. IsDrawn w r a × (0 ≤ a.position)) (IsDrawn w r) infos (λ a d. d.0)
-      (drawn-from w r 0 r.labels reasons (λ j. let z : j ≡ 0 + j = omega arith in ap (slice_get r.labels) z) forward) in
-      all-groups (IsDrawn w r) (groups_of (same_source w r) (ordered infos))
-      (subst (AllByRecursion (IsDrawn w r)) (sym exist.joins)
-      (all-in_order (IsDrawn w r) (λ a b. Rattle.std.specs.Prelude.int_lt a.order b.order) infos drawn))
+      all-groups (IsAccepted w r) (groups_of (same_source w r) (ordered infos))
+      (subst (AllByRecursion (IsAccepted w r)) (sym exist.joins)
+      (all-in_order (IsAccepted w r) (λ a b. Rattle.std.specs.Prelude.int_lt a.order b.order) infos accepted.each))
 
   -- so the source of a group is held
-  group-held : (group : List LabelInfo) → (group ≡ [] → ⊥) → AllByRecursion (IsDrawn w r) group
+  group-held : (group : List LabelInfo) → (group ≡ [] → ⊥) → AllByRecursion (IsAccepted w r) group
       → is_some (option_and_then w.source_of (group_id w r group)) ≡ true
   unfolding group_id
   group-held [] some all = absurd (some refl)
-  group-held (a ∷ group) some all = ap is_some (ap (option_and_then w.source_of) (drawn-id a all.0) ∙ all.0.held)
+  group-held (a ∷ group) some all = ap is_some (ap (option_and_then w.source_of) (drawn-id a all.0) ∙ all.0.is_held)
 
-  pub groups-held : {R : Type 0} (reasons : List (Option R)) → AllByRecursion (λ label. w.start_of label.span ≤ w.end_of label.span) r.labels
-      → AllByRecursion (λ group. is_some (option_and_then w.source_of (group_id w r group)) ≡ true)
-      (groups w r (drawn_labels w r.config 0 r.labels reasons))
+  pub groups-held : (infos : List LabelInfo) → AreAccepted w r infos
+      → AllByRecursion (λ group. is_some (option_and_then w.source_of (group_id w r group)) ≡ true) (groups w r infos)
   unfolding groups
-  groups-held reasons forward =
-      let infos = drawn_labels w r.config 0 r.labels reasons in
+  groups-held infos accepted =
       let exist = groups-exist (same_source w r) (ordered infos) in
-      let drawn = groups-drawn reasons forward in
-      Rattle.ariadne_picture.proofs.Lists.Elements.all-from _ (groups w r infos) (λ k group e.
+      let drawn = groups-drawn infos accepted in
+      all-from _ (groups w r infos) (λ k group e.
       group-held group (λ none. group-some (same_source w r) (groups w r infos) k exist.cut (e ∙ ap Some none))
-      (all-at (AllByRecursion (IsDrawn w r)) (groups w r infos) k group e drawn))
+      (all-at (AllByRecursion (IsAccepted w r)) (groups w r infos) k group e drawn))
 
-module _ {S Id : Type 0} (w : World S Id) (r : ReportFields S) (law : (p q : Id) → w.is_same p q ≡ true → w.source_of p ≡ w.source_of q) where
+module _ {S Id : Type 0} (w : World S Id) (r : ReportFields S) (law : (p q : Id) → w.is_same p q ≡ true → w.source_of p ≡ w.source_of q)
+    (forward : AreForward w r) where
   -- two drawn labels without a cut between them are over one source
-  one-source : (a b : LabelInfo) (d : IsDrawn w r a) (e : IsDrawn w r b) → is_cut (same_source w r) a b ≡ false → d.source ≡ e.source
+  one-source : (a b : LabelInfo) (d : IsAccepted w r a) (e : IsAccepted w r b) → is_cut (same_source w r) a b ≡ false → d.source ≡ e.source
   unfolding is_cut same_source is_same_id
   one-source a b d e uncut =
       let two = or_parts (not (is_same_id w r (label_id w r a.position) (label_id w r b.position))) (nat_lt b.end_line a.end_line) uncut in
@@ -281,57 +225,52 @@ module _ {S Id : Type 0} (w : World S Id) (r : ReportFields S) (law : (p q : Id)
       (is_same_id w r (label_id w r a.position) (label_id w r b.position)) two.0 in
       let ids : w.is_same (w.id_of d.label.span) (w.id_of e.label.span) ≡ true = rw (drawn-id w r a d, drawn-id w r b e) at same in
       let sources = law (w.id_of d.label.span) (w.id_of e.label.span) ids in
-      let p = d.held in
-      let q = e.held in
+      let p = d.is_held in
+      let q = e.is_held in
       cc
 
   -- so all labels of a group lie in the lines of the first one's source
-  group-placed : (a : LabelInfo) (group : List LabelInfo) (source : Listing) (d : IsDrawn w r a) → d.source ≡ source
-      → AllByRecursion (IsDrawn w r) group → HasNoCut (same_source w r) a group → AllByRecursion (IsPlaced (listed_lines source)) (a ∷ group)
-  group-placed a [] source d e all uncut = (subst (λ s. IsPlaced (listed_lines s) a) e d.placed, tt)
+  group-placed : (a : LabelInfo) (group : List LabelInfo) (source : Listing) (d : IsAccepted w r a) → d.source ≡ source
+      → AllByRecursion (IsAccepted w r) group → HasNoCut (same_source w r) a group → AllByRecursion (IsPlaced (listed_lines source)) (a ∷ group)
+  group-placed a [] source d e all uncut = (subst (λ s. IsPlaced (listed_lines s) a) e (drawn-placed w r forward a d), tt)
   group-placed a (b ∷ group) source d e all uncut = (
-    subst (λ s. IsPlaced (listed_lines s) a) e d.placed,
+    subst (λ s. IsPlaced (listed_lines s) a) e (drawn-placed w r forward a d),
     group-placed b group source all.0 (sym (one-source a b d all.0 uncut.0) ∙ e) all.1 uncut.1,
   )
 
   -- that of the sheet
-  sheet-placed : (group : List LabelInfo) → AllByRecursion (IsDrawn w r) group
+  sheet-placed : (group : List LabelInfo) → AllByRecursion (IsAccepted w r) group
       → ((a : LabelInfo) (rest : List LabelInfo) → group ≡ a ∷ rest → HasNoCut (same_source w r) a rest)
       → AllByRecursion (IsPlaced (sheet_of w r group).lines) group
   unfolding group_source group_id
   sheet-placed [] all uncut = tt
   sheet-placed (a ∷ group) all uncut =
-      let d : IsDrawn w r a = all.0 in
-      let held : option_and_then w.source_of (label_id w r a.position) ≡ Some d.source = ap (option_and_then w.source_of) (drawn-id w r a d) ∙ d.held in
+      let d : IsAccepted w r a = all.0 in
+      let held : option_and_then w.source_of (label_id w r a.position) ≡ Some d.source = ap (option_and_then w.source_of) (drawn-id w r a d) ∙ d.is_held in
       let is : unwrap_or (option_and_then w.source_of (label_id w r a.position)) (record { text = []; display_offset = 0 }) ≡ d.source = ap
       (λ o. unwrap_or o (record { text = []; display_offset = 0 })) held in
       subst (λ s. AllByRecursion (IsPlaced (listed_lines s)) (a ∷ group)) (sym is) (group-placed a group d.source d refl all.1 (uncut a group refl))
 
   -- each label of each group of drawn labels lies in the lines of the group's sheet
-  pub groups-placed : {R : Type 0} (reasons : List (Option R)) (k : ℕ) (group : List LabelInfo)
-      → AllByRecursion (λ label. w.start_of label.span ≤ w.end_of label.span) r.labels
-      → slice_get (groups w r (drawn_labels w r.config 0 r.labels reasons)) k ≡ Some group
+  groups-placed : (infos : List LabelInfo) → AreAccepted w r infos → (k : ℕ) (group : List LabelInfo) → slice_get (groups w r infos) k ≡ Some group
       → AllByRecursion (IsPlaced (sheet_of w r group).lines) group
   unfolding groups ordered
-  groups-placed reasons k group forward e =
-      let infos = drawn_labels w r.config 0 r.labels reasons in
+  groups-placed infos accepted k group e =
       let exist = groups-exist (same_source w r) (ordered infos) in
-      let each : AllByRecursion (AllByRecursion (IsDrawn w r)) (groups_of (same_source w r) (ordered infos)) = groups-drawn w r reasons forward in
-      sheet-placed group (all-at (AllByRecursion (IsDrawn w r)) (groups_of (same_source w r) (ordered infos)) k group e each)
+      let each : AllByRecursion (AllByRecursion (IsAccepted w r)) (groups_of (same_source w r) (ordered infos)) = groups-drawn w r infos accepted in
+      sheet-placed group (all-at (AllByRecursion (IsAccepted w r)) (groups_of (same_source w r) (ordered infos)) k group e each)
       (λ a rest same. group-uncut (same_source w r) (groups_of (same_source w r) (ordered infos)) k a rest exist.cut (e ∙ ap Some same))
 
   -- the sections of the picture are those groups
-  pub sections-placed : {R : Type 0} (reasons : List (Option R)) (g : ℕ) (s : Section)
-      → AllByRecursion (λ label. w.start_of label.span ≤ w.end_of label.span) r.labels
-      → slice_get (sections w r (drawn_labels w r.config 0 r.labels reasons)) g ≡ Some s → AllByRecursion (IsPlaced s.sheet.lines) s.sheet.labels
+  pub sections-placed : (infos : List LabelInfo) → AreAccepted w r infos → (g : ℕ) (s : Section) → slice_get (sections w r infos) g ≡ Some s
+      → AllByRecursion (IsPlaced s.sheet.lines) s.sheet.labels
   unfolding sections section_of
-  sections-placed reasons g s forward e =
-      let infos = drawn_labels w r.config 0 r.labels reasons in
+  sections-placed infos accepted g s e =
       let gs = groups w r infos in
       let k = section-group (section_of w r (length gs)) gs 0 g s e in
       let group : List LabelInfo = k.0 in
       let there : slice_get gs g ≡ Some group = k.1 in
-      subst (λ (u : Section). AllByRecursion (IsPlaced u.sheet.lines) u.sheet.labels) (sym k.2) (groups-placed reasons g group forward there)
+      subst (λ (u : Section). AllByRecursion (IsPlaced u.sheet.lines) u.sheet.labels) (sym k.2) (groups-placed infos accepted g group there)
     where
       section-group : (f : ℕ × List LabelInfo → Section) (gs : List (List LabelInfo)) (a g : ℕ) (s : Section)
           → slice_get (map f (enumerate_from a gs)) g ≡ Some s → (group : List LabelInfo) × (slice_get gs g ≡ Some group) × (s ≡ f (a + g, group))

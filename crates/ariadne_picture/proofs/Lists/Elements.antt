@@ -1,12 +1,13 @@
 -- Which elements lists have that are made of others, and tests of each element and of some element.
 use Rattle.std.proofs.Common.{◌≡◌, ℕ, zero, suc, ◌+◌, ◌<◌, Bool, true, false, ◌&&◌, ◌||◌, List, [], ◌∷◌, ◌++◌, map, length, Some, refl, sym, ap, ◌∙◌}
-use Rattle.std.proofs.Common.{subst, arith, inl, inr}
+use Rattle.std.proofs.Common.{subst, arith, inl, inr, AllPairs}
 use Rattle.std.specs.Prelude.{slice_get, filter, slice_index_or, nat_eq}
 use Rattle.std.specs.Cmp.Lexicographic.{pointwise}
 use Rattle.std.specs.List.{AllByRecursion, enumerate_from, range_with_len, list_all, list_any}
 use Rattle.std.proofs.lemmas.Bool.{cond_both, true≢false, eq-eqb, cases_Bool}
+use Rattle.std.proofs.lemmas.Option.{slice_get_within, get_or_from_slice_get}
 use Rattle.ariadne_picture.specs.Lists.{inserted, in_order, joined}
-use Rattle.ariadne_picture.proofs.Lists.ListFacts.{none≢some, all-at, all-enumerated}
+use Rattle.ariadne_picture.proofs.Lists.ListFacts.{none≢some, all-at, all-enumerated, Increasing}
 use Rattle.ariadne_picture.proofs.Rows.RowNumbers.{at-front, at-back}
 
 -- x stands in xs
@@ -33,6 +34,16 @@ has-back xs ys x h = record { place = length xs + h.place; there = at-back xs ys
 pub all-from : {X : Type 0} (P : X → Type 0) (xs : List X) → ((k : ℕ) (x : X) → slice_get xs k ≡ Some x → P x) → AllByRecursion P xs
 all-from P [] f = tt
 all-from P (x ∷ xs) f = (f 0 x refl, all-from P xs (λ k y e. f (suc k) y e))
+
+-- each later element of a list in order stands in the order
+pub increasing-from : {X : Type 0} (R : X → X → Type 0) (xs : List X) → AllPairs R xs → Increasing R xs
+increasing-from R [] pairs = tt
+increasing-from R (x ∷ xs) pairs = (
+  all-from (R x) xs (λ k y e.
+      let few = slice_get_within xs k y e in
+      subst (R x) (get_or_from_slice_get xs k y x e) (pairs 0 (suc k) x (omega arith) (omega arith))),
+  increasing-from R xs (λ i j d less few. pairs (suc i) (suc j) d (omega arith) (omega arith)),
+)
 
 -- an element that passes a filter's test
 pub has-filter : {X : Type 0} (test : X → Bool) (xs : List X) (k : ℕ) (x : X) → slice_get xs k ≡ Some x → test x ≡ true → Has (filter test xs) x

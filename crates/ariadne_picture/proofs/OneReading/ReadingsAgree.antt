@@ -1,6 +1,6 @@
 -- Two placings that read a picture agree: on its lines and heads, and on its messages, but that those of twins may change places.
 use Rattle.std.proofs.Common.{◌≡◌, ℕ, ◌≤◌, true, List, length}
-use Rattle.std.proofs.Common.{Option, Some, refl, sym, ap, ◌∙◌, subst, arith, inl, inr}
+use Rattle.std.proofs.Common.{Some, refl, sym, ap, ◌∙◌, subst, arith, inl, inr}
 use Rattle.std.specs.Prelude.{slice_get}
 use Rattle.std.specs.List.{AllByRecursion}
 use Rattle.std.proofs.lemmas.Bool.{cases_Bool, true≢false}
@@ -13,7 +13,7 @@ use Rattle.ariadne_picture.specs.Columns.{layout_of, column_of}
 use Rattle.ariadne_picture.specs.Pieces.{Section}
 use Rattle.ariadne_picture.specs.Placing.Group.{messages_of}
 use Rattle.ariadne_picture.specs.Placing.Rows.{Placing, row_at}
-use Rattle.ariadne_picture.specs.Accept.{drawn_labels}
+use Rattle.ariadne_picture.specs.Accept.{AreAccepted}
 use Rattle.ariadne_picture.specs.Report.{ReportFields, World}
 use Rattle.ariadne_picture.specs.Canvas.{canvas, sections, texts_of}
 use Rattle.ariadne_picture.specs.Headline.{IsReadBy, AreReadInOneWay}
@@ -129,12 +129,10 @@ readings-agree v placed p q h k = record {
 }
 
 -- and so do those of each report
-pub every-agree : {S Id R : Type 0} (w : World S Id) (r : ReportFields S) (reasons : List (Option R))
+pub every-agree : {S Id : Type 0} (w : World S Id) (r : ReportFields S) (infos : List LabelInfo) → AreAccepted w r infos
     → (law : (p q : Id) → w.is_same p q ≡ true → w.source_of p ≡ w.source_of q)
     → (forward : AllByRecursion (λ label. w.start_of label.span ≤ w.end_of label.span) r.labels)
-    → let infos = drawn_labels w r.config 0 r.labels reasons in
-    AreReadInOneWay (canvas w r infos) (sections w r infos) (texts_of r).message_of
-every-agree w r reasons law forward p q h k =
-    let infos = drawn_labels w r.config 0 r.labels reasons in
-    readings-agree (picture_of w r infos (numbered w r reasons forward)) (all-placed w r reasons forward law) p q
-    (read-picture w r reasons forward p h) (read-picture w r reasons forward q k)
+    → AreReadInOneWay (canvas w r infos) (sections w r infos) (texts_of r).message_of
+every-agree w r infos accepted law forward p q h k =
+    readings-agree (picture_of w r infos (numbered w r infos accepted forward)) (all-placed w r infos accepted forward law) p q
+    (read-picture w r infos accepted forward p h) (read-picture w r infos accepted forward q k)

@@ -1,6 +1,6 @@
 -- Row numbers that read a picture find the heads of its gutter labels, and their messages, where the names of its rows say.
 use Rattle.std.proofs.Common.{◌≡◌, ◌≢◌, ℕ, suc, ◌+◌, ◌≤◌, true, false, not, ◌&&◌, List, [], ◌∷◌, map}
-use Rattle.std.proofs.Common.{Option, Some, refl, sym, ap, ◌∙◌, subst, arith, ◌==◌, inl, inr, ◌⊎◌, nat_lt}
+use Rattle.std.proofs.Common.{Some, refl, sym, ap, ◌∙◌, subst, arith, ◌==◌, inl, inr, ◌⊎◌, nat_lt}
 use Rattle.std.specs.Prelude.{slice_get, option_map}
 use Rattle.std.specs.List.{AllByRecursion, list_all}
 use Rattle.std.proofs.lemmas.Bool.{cond_both, cases_Bool, eq-eqb, eqb-true, true≢false}
@@ -38,7 +38,7 @@ use Rattle.ariadne_picture.proofs.Reading.MessagePlaces.{label-here, arrow-shows
 use Rattle.ariadne_picture.proofs.Reading.Pictures.{Picture, RowAt, rows_of, number, message_row, head_row, number-at}
 use Rattle.ariadne_picture.proofs.Reading.ShownLine.{IsShownLine, IsArrowRow, arrow-row, arrow-at, block-row-is, source-is, rows_above}
 use Rattle.ariadne_picture.proofs.Reading.TextRows.{arrow-text, alternate-text}
-use Rattle.ariadne_picture.specs.Accept.{drawn_labels}
+use Rattle.ariadne_picture.specs.Accept.{AreAccepted}
 use Rattle.ariadne_picture.specs.Report.{ReportFields, World}
 use Rattle.ariadne_picture.specs.Canvas.{canvas, sections, texts_of}
 use Rattle.ariadne_picture.proofs.Cells.CanvasRows.{canvas-rows}
@@ -327,15 +327,11 @@ module _ (v : Picture) (p : Placing) (h : IsReadBy (rows_of v) v.sections v.text
 
 -- ---- every report
 
-module _ {S Id R : Type 0} (w : World S Id) (r : ReportFields S) (reasons : List (Option R))
+module _ {S Id : Type 0} (w : World S Id) (r : ReportFields S) (infos : List LabelInfo) (accepted : AreAccepted w r infos)
     (forward : AllByRecursion (λ label. w.start_of label.span ≤ w.end_of label.span) r.labels) where
-  -- its labels
-  abbrev infos : List LabelInfo
-  infos = drawn_labels w r.config 0 r.labels reasons
-
   -- its picture
   abbrev picture : Picture
-  picture = picture_of w r infos (numbered w r reasons forward)
+  picture = picture_of w r infos (numbered w r infos accepted forward)
 
   -- row numbers that its canvas is read by read its picture
   pub read-picture : (p : Placing) → IsReadBy (canvas w r infos) (sections w r infos) (texts_of r).message_of p

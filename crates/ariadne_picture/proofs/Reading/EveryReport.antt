@@ -1,10 +1,10 @@
 -- The clauses of the tracing promise, for every report over sources of which equal ids name one.
-use Rattle.std.proofs.Common.{◌≡◌, ◌≤◌, true, List, Option}
+use Rattle.std.proofs.Common.{◌≡◌, ◌≤◌, true, List}
 use Rattle.std.specs.List.{AllByRecursion}
 use Rattle.std.proofs.lemmas.List.Elements.{recursion_from_All}
 use Rattle.ariadne_picture.specs.declared.label_info.LabelInfo.{LabelInfo}
 use Rattle.ariadne_picture.specs.Report.{ReportFields, World}
-use Rattle.ariadne_picture.specs.Accept.{drawn_labels}
+use Rattle.ariadne_picture.specs.Accept.{AreAccepted}
 use Rattle.ariadne_picture.specs.Bars.{EndsNoEarlier}
 use Rattle.ariadne_picture.specs.Headline.{IsTraced}
 use Rattle.ariadne_picture.specs.Canvas.{canvas, sections, texts_of}
@@ -28,17 +28,13 @@ use Rattle.ariadne_picture.specs.LabelColors.{label_color, has_label_colors}
 use Rattle.ariadne_picture.proofs.Reading.Pictures.{Picture}
 use Rattle.ariadne_picture.proofs.Rows.RowPlacing.{row_placing}
 
-module _ {S Id R : Type 0} (w : World S Id) (r : ReportFields S) (reasons : List (Option R))
+module _ {S Id : Type 0} (w : World S Id) (r : ReportFields S) (infos : List LabelInfo) (accepted : AreAccepted w r infos)
     (forward : AllByRecursion (λ label. w.start_of label.span ≤ w.end_of label.span) r.labels) where
-  -- the labels that acceptance lets in
-  abbrev infos : List LabelInfo
-  infos = drawn_labels w r.config 0 r.labels reasons
-
   -- acceptance orders the ends of a label, counts the labels and places them
   pub numbered : AreNumbered infos
   numbered = record {
-    rises = recursion_from_All EndsNoEarlier infos (drawn-rise w r.config 0 r.labels reasons);
-    numbers = drawn-numbers w r reasons forward;
+    rises = recursion_from_All EndsNoEarlier infos (drawn-rise w r infos accepted);
+    numbers = drawn-numbers w r infos accepted;
   }
 
   -- the report's picture
@@ -48,7 +44,7 @@ module _ {S Id R : Type 0} (w : World S Id) (r : ReportFields S) (reasons : List
   module _ (law : (p q : Id) → w.is_same p q ≡ true → w.source_of p ≡ w.source_of q) where
     -- each is placed within the source of its group, as the law gives each group one source
     pub all-placed : ArePlaced picture
-    all-placed g s = sections-placed w r law reasons g s forward
+    all-placed g s = sections-placed w r law forward infos accepted g s
 
     -- its labels within a line are led to their characters, its gutter labels into and out of their columns, in which their
     -- bars stand

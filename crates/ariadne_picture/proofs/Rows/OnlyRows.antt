@@ -5,7 +5,6 @@ use Rattle.std.specs.Prelude.{slice_get, IsTrue}
 use Rattle.std.specs.List.{AllByRecursion, enumerate_from}
 use Rattle.std.specs.Str.Lines.{lines}
 use Rattle.std.proofs.lemmas.Bool.{cond_both, cases_Bool, cases_lt, lt-ltb, le-ltb, and_left, and_right, true≢false}
-use Rattle.std.proofs.lemmas.Option.{slice_get_within, get_or_from_slice_get}
 use Rattle.ariadne_base.specs.Locations.{upto}
 use Rattle.ariadne_picture.specs.declared.label_info.LineLabel.{LineLabel}
 use Rattle.ariadne_picture.specs.Lists.{joined}
@@ -15,23 +14,13 @@ use Rattle.ariadne_picture.specs.Rows.{Aside, help, note, Row, group_header, spa
 use Rattle.ariadne_picture.specs.Rows.{before, label_rows, is_inside, line_rows, aside_rows, asides, rows}
 use Rattle.ariadne_picture.specs.RowNames.{asides_of, HasLine, BeginsHidden, HasMessage, HasAside, HasRow}
 use Rattle.ariadne_picture.proofs.Lists.ListFacts.{none≢some, all-append, all-joined, all-map, all-at, Increasing}
-use Rattle.ariadne_picture.proofs.Lists.Elements.{Has, has-first, has-later, has-front, has-back, has-joined, has-map, all-from, all-range, all-numbered}
+use Rattle.ariadne_picture.proofs.Lists.Elements.{Has, has-first, has-later, has-front, has-back, has-joined, has-map, all-range, all-numbered, increasing-from}
 use Rattle.ariadne_picture.proofs.Labels.GroupLines.{has-place, contained}
 use Rattle.ariadne_picture.proofs.Rows.RowOrder.{before-irreflexive, before-chain, rows-ordered}
 use Rattle.ariadne_picture.proofs.Rows.RowsThere.{range-at, shown-by-label, arrow-there}
 use Rattle.ariadne_picture.proofs.Reading.ShownLine.{all-group-lines, group-line-at, numbered-at}
 
 -- ---- lists in an order
-
--- each later element of a list in order stands in the order
-increasing-from : {X : Type 0} (R : X → X → Type 0) (xs : List X) → AllPairs R xs → Increasing R xs
-increasing-from R [] pairs = tt
-increasing-from R (x ∷ xs) pairs = (
-  all-from (R x) xs (λ k y e.
-      let few = slice_get_within xs k y e in
-      subst (R x) (get_or_from_slice_get xs k y x e) (pairs 0 (suc k) x (omega arith) (omega arith))),
-  increasing-from R xs (λ i j d less few. pairs (suc i) (suc j) d (omega arith) (omega arith)),
-)
 
 -- an element is the first one or one of the others
 first-or-later : {X : Type 0} (y : X) (ys : List X) (x : X) → Has (y ∷ ys) x → (y ≡ x) ⊎ Has ys x

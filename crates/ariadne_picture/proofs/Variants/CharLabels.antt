@@ -1,20 +1,17 @@
 -- Each label that is drawn is accepted as the very same one in the report whose offsets are in characters,
 -- so a report whose offsets count bytes draws as that one.
-use Rattle.std.proofs.Common.{◌≡◌, ℕ, suc, ◌+◌, ◌≤◌, min, nat_lt, ◌||◌, List, [], ◌∷◌, ◌++◌, Option, Some, None, length, chars}
-use Rattle.std.proofs.Common.{refl, sym, ap, ◌∙◌, subst, arith, add-one, slice_get, unwrap_or, option_and_then, option_to_list}
-use Rattle.std.specs.List.{AllByRecursion, enumerate_from}
+use Rattle.std.proofs.Common.{◌≡◌, ℕ, ◌+◌, ◌≤◌, min, nat_lt, ◌||◌, List, Option, Some, None, length, chars}
+use Rattle.std.proofs.Common.{refl, sym, ap, ◌∙◌, subst, arith, slice_get, unwrap_or}
 use Rattle.std.proofs.lemmas.Bool.{cond_both, or_parts, ltb-false, le-ltb}
-use Rattle.std.proofs.lemmas.Option.{option_and_then_some}
 use Rattle.ariadne_base.specs.Listing.{Listing, listed_lines}
 use Rattle.ariadne_picture.specs.declared.switches.IndexType.{IndexType}
 use Rattle.ariadne_picture.specs.declared.switches.IndexType.TheVariants.{Char}
-use Rattle.ariadne_picture.specs.declared.verdict.Verdict.{Verdict}
-use Rattle.ariadne_picture.specs.declared.verdict.Verdict.TheVariants.{Accepted, PastSource, CutsCharacter}
+use Rattle.ariadne_picture.specs.declared.verdict.Verdict.TheVariants.{Accepted, PastSource}
 use Rattle.ariadne_picture.specs.declared.label_info.LabelInfo.{LabelInfo}
 use Rattle.ariadne_picture.specs.Report.{ConfigFields, LabelFields, ReportFields, World, HaveOneSource}
-use Rattle.ariadne_picture.specs.Accept.{text_len, offset_in_chars, info_of, within, verdict, verdict_in, accepted_info, drawn_label, drawn_labels}
+use Rattle.ariadne_picture.specs.Accept.{text_len, offset_in_chars, info_of, within, verdict, verdict_in, IsAccepted, AreAccepted}
 use Rattle.ariadne_picture.specs.Variants.{text_of, in_chars, char_world, verdict_at, char_report, BytesDrawAsCharacters}
-use Rattle.ariadne_picture.proofs.Lists.Elements.{all-numbered}
+use Rattle.ariadne_picture.proofs.Lists.ListFacts.{all-weaker}
 use Rattle.ariadne_picture.proofs.Labels.DrawnLabels.{offset-order}
 use Rattle.ariadne_picture.proofs.Variants.Bytes.{same-canvas}
 
@@ -68,12 +65,11 @@ over-accepted config source k label start end a over =
     let end : min a.end size ≡ a.end = omega arith in
     rw (le-ltb size a.start starts, le-ltb (size + 1) a.end (omega arith), end) (ap Accepted over.is)
 
--- what was accepted as an info had that verdict
-info-accepted : (v : Verdict) (a : LabelInfo) → accepted_info v ≡ Some a → v ≡ Accepted a
-unfolding accepted_info
-info-accepted (Accepted b) a e = cc
-info-accepted PastSource a e = cc
-info-accepted CutsCharacter a e = cc
+-- and it has the position that it was judged at
+pub accepted-position : {S : Type 0} (config : ConfigFields) (source : Listing) (k : ℕ) (label : LabelFields S) (start end : ℕ) (a : LabelInfo)
+    → verdict config source k label start end ≡ Accepted a → a.position ≡ k
+unfolding info_of
+accepted-position config source k label start end a e = sym (ap (λ b. b.position) (accepted-over config source k label start end a e).is)
 
 -- ---- all labels, by their numbers
 
@@ -103,33 +99,12 @@ module _ {S Id : Type 0} (w : World S Id) (r : ReportFields S) where
       ∙ ap Some (over-accepted r.config source k label (w.start_of label.span) (w.end_of label.span) a over)) in
       subst (λ n. verdict_at (char_world w r) (char_report w r) n ≡ Some (Accepted a)) (sym position) kept
 
-  -- so is each label that is drawn
-  all-kept : {R : Type 0} (k : ℕ) (labels : List (LabelFields S)) (reasons : List (Option R))
-      → AllByRecursion (λ e. slice_get r.labels e.0 ≡ Some e.1) (enumerate_from k labels)
-      → AllByRecursion IsKept (drawn_labels w r.config k labels reasons)
-  unfolding drawn_labels drawn_label
-  all-kept k [] reasons h = tt
-  all-kept k (label ∷ labels) [] h = tt
-  all-kept k (label ∷ labels) (Some reason ∷ reasons) h = all-kept (suc k) labels reasons (rw add-one at h.1)
-  all-kept k (label ∷ labels) (None ∷ reasons) h =
-      let o : Option LabelInfo =
-      option_and_then (λ s. accepted_info (verdict_in w r.config k label s)) (w.source_of (w.id_of label.span)) in
-      in-front o _
-      (λ a e. option_and_then_some (λ s. accepted_info (verdict_in w r.config k label s)) (w.source_of (w.id_of label.span)) a e
-      (λ source held is. one-kept k label source a h.0 held (info-accepted (verdict_in w r.config k label source) a is)))
-      (all-kept (suc k) labels reasons (rw add-one at h.1))
-    where
-      in-front : (o : Option LabelInfo) (infos : List LabelInfo) → ((a : LabelInfo) → o ≡ Some a → IsKept a) → AllByRecursion IsKept infos
-          → AllByRecursion IsKept (option_to_list o ++ infos)
-      in-front None infos f h = h
-      in-front (Some a) infos f h = (f a refl, h)
-
 -- ---- the report
 
 -- bytes draw as characters: each drawn label is accepted, and the canvas is the same where the own start is a boundary
-pub bytes-draw : {S Id R : Type 0} (w : World S Id) (r : ReportFields S) (reasons : List (Option R)) → HaveOneSource w
-    → BytesDrawAsCharacters w r (drawn_labels w r.config 0 r.labels reasons)
-bytes-draw w r reasons law = record {
-  labels = all-kept w r 0 r.labels reasons (all-numbered (λ e. slice_get r.labels e.0 ≡ Some e.1) r.labels (λ k label there. there));
-  cells = same-canvas w r (drawn_labels w r.config 0 r.labels reasons) law;
+pub bytes-draw : {S Id : Type 0} (w : World S Id) (r : ReportFields S) (infos : List LabelInfo) → AreAccepted w r infos → HaveOneSource w
+    → BytesDrawAsCharacters w r infos
+bytes-draw w r infos accepted law = record {
+  labels = all-weaker (IsAccepted w r) (IsKept w r) infos (λ a d. one-kept w r a.position d.label d.source a d.there d.is_held d.accepted) accepted.each;
+  cells = same-canvas w r infos law;
 }

@@ -1,6 +1,6 @@
 -- Pictures of several lines, groups and sources, and of the numbers and places that they show.
-use Rattle.std.specs.Prelude.{◌≡◌, refl, ◌∷◌, [], Some, None, pos}
-use Rattle.ariadne_picture.proofs.Worked.Sample.{drawn, picture, picture_for, left_out, rows, one, named, nameless, shown_from, span_in, span}
+use Rattle.std.specs.Prelude.{◌≡◌, refl, ◌∷◌, [], Some, None, pos, drop}
+use Rattle.ariadne_picture.proofs.Worked.Sample.{drawn, world, accepted, picture, picture_of, left_out, rows, one, named, nameless, shown_from, span_in, span}
 use Rattle.ariadne_picture.proofs.Worked.Sample.{label_in, label, byte_config, report, titled, unfetched}
 
 -- a row without gutter stands in place of the hidden line
@@ -257,9 +257,9 @@ brackets_of_two_files = refl
 
 -- its first fetch failed: the label is left out, and the other is drawn
 source_that_comes_at_the_second_label :
-    picture_for (Some unfetched ∷ None ∷ []) (named "x" "ab" ∷ [])
-    (record (report (label_in "x" 0 1 "p" ∷ label_in "x" 1 2 "q" ∷ [])) { span = span_in "x" 0 0 })
-    ≡ rows (
+    let entries = named "x" "ab" ∷ [] in
+    let r = record (report (label_in "x" 0 1 "p" ∷ label_in "x" 1 2 "q" ∷ [])) { span = span_in "x" 0 0 } in
+    picture_of (drop 1 (accepted (world entries) r)) entries r ≡ rows (
     "Error: " ∷
     "   ,-[ x:1:1 ]" ∷
     "   |" ∷

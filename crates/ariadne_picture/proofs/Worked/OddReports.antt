@@ -4,14 +4,13 @@ use Rattle.std.proofs.Common.{◌≡◌, ℕ, true, false, List, [], ◌∷◌, 
 use Rattle.std.specs.Str.{chars}
 use Rattle.ariadne_picture.specs.declared.label_info.LabelInfo.{LabelInfo}
 use Rattle.ariadne_picture.specs.Report.{World, ReportFields}
-use Rattle.ariadne_picture.specs.Accept.{drawn_labels}
 use Rattle.ariadne_picture.specs.Canvas.{canvas, sections, texts_of}
 use Rattle.ariadne_picture.specs.Placing.Cells.{no_cell}
 use Rattle.ariadne_picture.specs.Placing.Together.{is_placing}
 use Rattle.ariadne_picture.specs.Placing.MessageRows.{has_message_rows}
 use Rattle.ariadne_picture.specs.Placing.InlineTraces.{has_inline_traces}
 use Rattle.ariadne_picture.proofs.Rows.RowPlacing.{row_placing}
-use Rattle.ariadne_picture.proofs.Worked.Sample.{Span, Entry, world, reasons, report, label_in, silent_label_in, utf8, ascii_config, drawn}
+use Rattle.ariadne_picture.proofs.Worked.Sample.{Span, Entry, world, reasons, accepted, report, label_in, silent_label_in, utf8, ascii_config, drawn}
 use Rattle.ariadne_picture.specs.declared.switches.LabelAttach.TheVariants.{Start}
 
 held : List Entry
@@ -28,12 +27,11 @@ two_labels : ReportFields Span
 two_labels = report (label_in "b" 0 3 "over b" ∷ label_in "a" 9 10 "over a" ∷ [])
 
 infos : List LabelInfo
-infos = drawn_labels one_id two_labels.config 0 two_labels.labels (reasons one_id two_labels)
+infos = accepted one_id two_labels
 
--- both are accepted
-accepted : reasons one_id two_labels ≡ None ∷ None ∷ []
+both_are_accepted : reasons one_id two_labels ≡ None ∷ None ∷ []
 unfolding drawn held one_id two_labels
-accepted = refl
+both_are_accepted = refl
 
 -- placed, with message rows and aligned, but the inline label's attach character has no place
 placed : is_placing (canvas one_id two_labels infos) (sections one_id two_labels infos)
@@ -60,7 +58,7 @@ one_line : List Entry
 one_line = record { id = utf8 "b"; name = None; listing = record { text = utf8 "bbbbbbbb"; display_offset = 0 } } ∷ []
 
 back_infos : List LabelInfo
-back_infos = drawn_labels (world one_line) back.config 0 back.labels (reasons (world one_line) back)
+back_infos = accepted (world one_line) back
 
 -- it is accepted
 back_accepted : reasons (world one_line) back ≡ None ∷ []
@@ -89,9 +87,7 @@ silent : ReportFields Span
 silent = report (silent_label_in "b" 0 1 ∷ [])
 
 -- its label is accepted, and its source row shows the escape
-shows_escape : get_or
-    (get_or (canvas (world over_no_text) silent (drawn_labels (world over_no_text) silent.config 0 silent.labels
-    (reasons (world over_no_text) silent))) 3 []) 3 no_cell
+shows_escape : get_or (get_or (canvas (world over_no_text) silent (accepted (world over_no_text) silent)) 3 []) 3 no_cell
     ≡ record { text = 27 ∷ []; color = None; columns = 1 }
 unfolding drawn no_text over_no_text silent chars
 shows_escape = refl

@@ -5,17 +5,16 @@ use Rattle.ariadne_color.specs.declared.color.Color.TheVariants.{Blue}
 use Rattle.ariadne_picture.specs.declared.switches.IndexType.TheVariants.{Byte}
 use Rattle.ariadne_picture.specs.declared.label_info.LabelInfo.{LabelInfo}
 use Rattle.ariadne_picture.specs.Report.{ReportFields, custom}
-use Rattle.ariadne_picture.specs.Accept.{drawn_labels}
 use Rattle.ariadne_picture.specs.Pieces.{Section}
 use Rattle.ariadne_picture.specs.Canvas.{Cell, canvas, sections, texts_of}
 use Rattle.ariadne_picture.specs.Print.{erased, unescaped, printed}
 use Rattle.ariadne_picture.specs.Placing.Rows.{Placing}
 use Rattle.ariadne_picture.specs.Variants.{colorless, text_of, in_chars, char_world, char_report}
 use Rattle.ariadne_picture.proofs.Rows.RowPlacing.{is_read}
-use Rattle.ariadne_picture.proofs.Worked.Sample.{Span, Entry, world, reasons, ascii_config, one, label, report, drawn}
+use Rattle.ariadne_picture.proofs.Worked.Sample.{Span, Entry, world, accepted, ascii_config, one, label, report, drawn}
 
 unfoldable pub infos : List Entry → ReportFields Span → List LabelInfo
-infos entries r = let w = world entries in drawn_labels w r.config 0 r.labels (reasons w r)
+infos entries r = accepted (world entries) r
 
 unfoldable pub cells_of : List Entry → ReportFields Span → List (List Cell)
 cells_of entries r = canvas (world entries) r (infos entries r)

@@ -2,6 +2,7 @@
 use Rattle.std.specs.Prelude.{ℕ, pos, true, false, ◌==◌, if◌then◌else◌, List, [], ◌∷◌, Option, Some, None, map, codes, encode_utf8_all, find}
 use Rattle.std.specs.Prelude.{option_map, ◌++◌}
 use Rattle.std.specs.Cmp.Lexicographic.{pointwise}
+use Rattle.std.specs.List.{enumerate_from}
 use Rattle.std.specs.Prelude.{nat_eq}
 use Prim.Native.String.{String}
 use Rattle.unicode_width.proofs.Computing.{unicode_width}
@@ -12,7 +13,9 @@ use Rattle.ariadne_picture.specs.declared.switches.IndexType.TheVariants.{Byte, 
 use Rattle.ariadne_picture.specs.Report.{ConfigFields, LabelFields, ReportFields, World, error}
 use Rattle.ariadne_picture.specs.declared.verdict.Verdict.{Verdict}
 use Rattle.ariadne_picture.specs.declared.verdict.Verdict.TheVariants.{Accepted, PastSource, CutsCharacter}
-use Rattle.ariadne_picture.specs.Accept.{verdict_in, drawn_labels}
+use Rattle.ariadne_picture.specs.Accept.{verdict_in}
+use Rattle.ariadne_picture.specs.Lists.{joined}
+use Rattle.ariadne_picture.specs.declared.label_info.LabelInfo.{LabelInfo}
 use Rattle.ariadne_picture.specs.Canvas.{canvas, sections, texts_of}
 use Rattle.ariadne_picture.specs.Print.{printed}
 use Rattle.ariadne_picture.proofs.Worked.Unfold.{evaluated}
@@ -71,19 +74,33 @@ reasons w r = map (λ label. reason_over w r.config label (w.source_of label.spa
 abbrev pub left_out : List Entry → ReportFields Span → List (Option Reason)
 left_out entries r = reasons (world entries) r
 
+-- ---- the labels that are drawn
+
+unfoldable pub info_of_verdict : Verdict → List LabelInfo
+info_of_verdict (Accepted info) = info ∷ []
+info_of_verdict PastSource = []
+info_of_verdict CutsCharacter = []
+
+unfoldable pub info_over : World Span (List ℕ) → ConfigFields → ℕ → LabelFields Span → Option Listing → List LabelInfo
+info_over w config k label None = []
+info_over w config k label (Some source) = info_of_verdict (verdict_in w config k label source)
+
+-- each that its source accepts
+unfoldable pub accepted : World Span (List ℕ) → ReportFields Span → List LabelInfo
+accepted w r = joined (λ e. info_over w r.config e.0 e.1 (w.source_of e.1.span.id)) (enumerate_from 0 r.labels)
+
 -- ---- the bytes of a picture
 
--- where these are the reasons of its labels: none if the placing that its rows' names give doesn't read it
-abbrev pub picture_for : List (Option Reason) → List Entry → ReportFields Span → List ℕ
-picture_for why entries r =
+-- where these labels are drawn: none if the placing that its rows' names give doesn't read it
+abbrev pub picture_of : List LabelInfo → List Entry → ReportFields Span → List ℕ
+picture_of infos entries r =
     let w = world entries in
-    let infos = drawn_labels w r.config 0 r.labels why in
     let cells = canvas w r infos in
     let parts = sections w r infos in
     if is_read cells parts (texts_of r) (row_placing (texts_of r) parts) then printed cells else []
 
 unfoldable pub picture : List Entry → ReportFields Span → List ℕ
-picture entries r = picture_for (reasons (world entries) r) entries r
+picture entries r = picture_of (accepted (world entries) r) entries r
 
 -- ---- texts
 
@@ -195,7 +212,7 @@ configured config labels = record (report labels) { config = config }
 
 -- `unfolding drawn` lets `refl` compute all this
 unfoldable pub drawn : Unit {0}
-unfolding evaluated unicode_width read_by_rows text entry world reason_of reason_over reasons picture utf8 texts rows escape rows_in_color named
-    nameless one shown_from span_in span silent_label_in silent_label label_in label ascii_config byte_config compact_config color_config
+unfolding evaluated unicode_width read_by_rows text entry world reason_of reason_over reasons info_of_verdict info_over accepted picture utf8 texts
+    rows escape rows_in_color named nameless one shown_from span_in span silent_label_in silent_label label_in label ascii_config byte_config compact_config color_config
     unicode_config report titled configured
 drawn = tt

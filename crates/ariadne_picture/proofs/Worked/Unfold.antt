@@ -3,7 +3,7 @@ use Rattle.std.specs.Fmt.{digits}
 use Rattle.ariadne_base.specs.Lines.{is_separator, begins_with_line_feed, ends_line, in_front, full_lines_of, lines_of}
 use Rattle.ariadne_base.specs.Locations.{line_offset, line_at, column_at, char_offset}
 use Rattle.ariadne_picture.specs.Lists.{inserted, in_order, best, joined, total}
-use Rattle.ariadne_picture.specs.Accept.{text_len, offset_in_chars, attach_offset, info_of, within, verdict, accepted_info, drawn_label, drawn_labels}
+use Rattle.ariadne_picture.specs.Accept.{text_len, offset_in_chars, attach_offset, info_of, within, verdict}
 use Rattle.ariadne_picture.specs.Groups.{ordered, is_cut, last_of, ahead, groups_of, greatest, least_below, group_end_line, group_start_line}
 use Rattle.ariadne_picture.specs.Groups.{group_lines, printed_number}
 use Rattle.ariadne_picture.specs.Ranks.{is_inline, is_start, is_end, span_len, is_on_one_line, multi_line_labels, gutter_labels, gutter_label_ends}
@@ -42,7 +42,7 @@ use Rattle.ariadne_picture.specs.LabelColors.{is_start_colored, is_pointer_color
 
 unfoldable pub evaluated : Unit {0}
 unfolding digits is_separator begins_with_line_feed ends_line in_front full_lines_of lines_of line_offset line_at column_at char_offset inserted
-    in_order best joined total text_len offset_in_chars attach_offset info_of within verdict accepted_info drawn_label drawn_labels ordered is_cut
+    in_order best joined total text_len offset_in_chars attach_offset info_of within verdict ordered is_cut
     last_of ahead groups_of greatest least_below group_end_line group_start_line group_lines printed_number is_inline is_start is_end
     span_len is_on_one_line multi_line_labels gutter_labels gutter_label_ends ends_at is_nearer_margin margin_label is_of_gutter_label is_margin
     inline_labels is_before line_labels is_hidden aside_part row_key before label_rows is_inside line_rows aside_rows asides rows

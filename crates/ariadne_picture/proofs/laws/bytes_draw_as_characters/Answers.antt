@@ -3,4 +3,4 @@ use Rattle.ariadne_picture.proofs.Variants.CharLabels.{bytes-draw}
 use Rattle.ariadne_picture.proofs.laws.bytes_draw_as_characters.Goals as goal
 
 pub returns : goal.returns
-returns g c w r reasons law = bytes-draw w r reasons law
+returns g c w r infos accepted law = bytes-draw w r infos accepted law

@@ -3,6 +3,6 @@ use Rattle.ariadne_picture.proofs.Reading.EveryReport.{every-traced}
 use Rattle.ariadne_picture.proofs.laws.gutter_bars_are_whole.Goals as goal
 
 pub returns : goal.returns
-returns g c w r reasons law forward =
-    let all = every-traced w r reasons forward law in
+returns g c w r infos accepted law forward =
+    let all = every-traced w r infos accepted forward law in
     (all.placing, all.reads.rows_belong_together, all.reads.and_along_the_gutter_column)

@@ -3,4 +3,4 @@ use Rattle.ariadne_picture.proofs.OneReading.StrokesFound.{every-line-agrees}
 use Rattle.ariadne_picture.proofs.laws.lines_are_found_in_one_way.Goals as goal
 
 pub returns : goal.returns
-returns g c w r reasons forward p q h k = every-line-agrees w r reasons forward p q h k
+returns g c w r infos accepted forward p q h k = every-line-agrees w r infos accepted forward p q h k

@@ -5,7 +5,7 @@ use Rattle.ariadne_picture.specs.Canvas.{canvas}
 use Rattle.ariadne_picture.specs.Print.{printed}
 use Rattle.ariadne_picture.proofs.Reading.EveryHeadline.{every-headline}
 use Rattle.ariadne_accept.proofs.Judging.{one_source}
-use Rattle.ariadne_drawing.proofs.OverLines.{drawn}
+use Rattle.ariadne_accept.proofs.Outcomes.{are-accepted}
 use Rattle.ariadne.proofs.report.Report.picture.Goals as goal
 
 -- the accepted labels are drawn over sources that the cache holds
@@ -14,7 +14,8 @@ draw-requires g c =
     let s = g.S.Span in
     let w = world s.source_of s.start_of s.end_of g.S.SourceId.PartialEq.eq (g.C.Cache.names c.accept.new.cache) (g.C.Cache.contents c.accept.new.cache) in
     let judged = c.in_ok-judged.ensures.judged in
-    record { drawn = rw judged.3 (drawn w c.self.inside.content judged.0) }
+    let accepted = are-accepted _ _ w c.self.inside.content judged.0 judged.1 in
+    record { drawn = rw judged.3 accepted.each }
 
 -- their picture is drawn, and of every picture the headline holds
 pub returns-clause-drawn : goal.returns-clause-drawn
@@ -28,10 +29,10 @@ returns-clause-drawn g c =
     let r = c.self.inside.content in
     rw (← c.self.view_is)
     record {
-      reasons = judged.0;
-      are_reasons = judged.1;
+      outcomes = judged.0;
+      are_outcomes = judged.1;
       left_out = judged.2;
       drawn =
-          every-headline w r judged.0 (one_source s.source_of s.start_of s.end_of eq g.met.S.SourceId.Eq.laws names contents)
+          every-headline w r _ (are-accepted _ _ w r judged.0 judged.1) (one_source s.source_of s.start_of s.end_of eq g.met.S.SourceId.Eq.laws names contents)
           c.in_ok-judged.ensures.forward _ (c.in_ok-text.ensures ∙ ap (λ infos. printed (canvas w r infos)) judged.3);
     }

@@ -1,0 +1,17 @@
+//! Laws of what becomes of labels, and of the definitions that a picture is drawn by. Each is the
+//! contract of a function that does nothing: calling it tells the law.
+
+pub use ariadne_accept::laws::labels_are_drawn_or_listed;
+pub use ariadne_picture::laws::{
+    bars_stand_case_by_case, best_is_the_first_unbeaten, blocks_are_whole,
+    bytes_draw_as_characters, cells_hold_no_escapes, cells_take_the_columns_of_their_texts,
+    colors_move_nothing, ends_of_gutter_labels_are_traced, every_picture_can_be_read,
+    groups_are_the_only_cutting, groups_begin_at_their_least_line, groups_have_their_sources,
+    gutter_bars_are_whole, gutter_columns_show_their_strokes, gutter_labels_are_read_in_one_way,
+    gutter_labels_have_a_first_and_a_last_row, in_order_is_a_stable_sort, inline_labels_are_traced,
+    labels_end_no_earlier, lines_are_found_in_one_way, messages_have_rows_of_their_own,
+    no_gutter_stroke_is_without_a_cause, no_stroke_is_without_a_cause, orders_of_a_picture,
+    pictures_are_read_in_one_way, rows_are_lines, rows_are_the_only_list,
+    rows_keep_the_columns_of_their_line, rows_stand_in_order,
+    strokes_have_the_colors_of_their_labels, the_last_gutter_column_has_no_bar,
+};
