@@ -22,4 +22,5 @@ mod WrongColors
 mod TwoReadings
 mod OddReports
 pub mod Premises
+mod ReadBack
 mod Sentences

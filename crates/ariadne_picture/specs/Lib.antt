@@ -19,5 +19,6 @@ pub mod Causes
 pub mod GutterCauses
 pub mod LabelColors
 pub mod Readings
+pub mod ReadBack
 pub mod Variants
 pub mod Headline
