@@ -5,6 +5,7 @@ pub mod Rows
 pub mod Cells
 pub mod Reading
 pub mod OneReading
+pub mod ReadingBack
 pub mod Variants
 pub mod Sent
 pub mod Worked

@@ -3,4 +3,5 @@ pub mod ListFacts
 pub mod Elements
 pub mod Occurrences
 pub mod StableOrder
+pub mod Permutations
 pub mod Joined

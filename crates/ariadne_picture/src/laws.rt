@@ -32,6 +32,7 @@ ghost use Rattle.ariadne_picture.specs.Placing.{Placing, is_placing};
 ghost use Rattle.ariadne_picture.specs.Ranks.{Sheet, is_before, is_hidden, is_nearer_margin};
 ghost use Rattle.ariadne_picture.specs.Ranks.{gutter_labels};
 ghost use Rattle.ariadne_picture.specs.Ranks.{span_len};
+ghost use Rattle.ariadne_picture.specs.ReadBack.{HaveShortNumbers, IsReadBack};
 ghost use Rattle.ariadne_picture.specs.Readings.{AgreeOnEnds, AgreeOnHeads, AgreeOnLines};
 ghost use Rattle.ariadne_picture.specs.Report.{AreForward, HaveOneSource, ReportFields, World};
 ghost use Rattle.ariadne_picture.specs.RowNames.{HasRow};
@@ -331,6 +332,16 @@ pub fn pictures_are_read_in_one_way<S, Id>()
     ensures { (w : World S Id) (r : ReportFields S) (infos : List LabelInfo)
         → AreAccepted w r infos → HaveOneSource w → AreForward w r
         → AreReadInOneWay (canvas w r infos) (sections w r infos) (texts_of r).message_of }
+{}
+
+/// Pictures can be read back: from the rows, the sources of the groups and the switches alone, without
+/// any label, each message is found with the line and the column, or the two ends, that its strokes
+/// lead to. That is what the labels are, in another order. The numbers of lines have to be below
+/// 2 ^ 64, as those of a `Source` are, so that no two are printed alike.
+pub fn pictures_can_be_read_back<S, Id>()
+    ensures { (w : World S Id) (r : ReportFields S) (infos : List LabelInfo)
+        → AreAccepted w r infos → HaveOneSource w → AreForward w r → HaveShortNumbers w
+        → IsReadBack w r infos }
 {}
 
 /// Each cell of a picture takes the columns of the characters of its text. So alignment is a fact of

@@ -35,6 +35,7 @@ use Rattle.ariadne_picture.proofs.Reading.Pictures.{Picture, RowAt, rows_of, pla
 use Rattle.ariadne_picture.proofs.Reading.ShownLine.{numbered-at, IsShownLine, source-is, group-line-at}
 use Rattle.ariadne_picture.proofs.Reading.TextRows.{row-read}
 use Rattle.ariadne_picture.specs.Readings.{AgreeOnLines}
+use Rattle.ariadne_picture.specs.ReadBack.Rows.{begins_with_digit}
 
 -- ---- tests that pass
 
@@ -114,11 +115,6 @@ same-rising (y ∷ ys) (x ∷ xs) i j a e =
 
 -- ---- margins with a number
 
--- a text begins with a digit
-unfoldable begins_with_digit : List ℕ → Bool
-begins_with_digit [] = false
-begins_with_digit (b ∷ t) = nat_le 48 b && nat_le b 57
-
 -- a cell shows blanks and then a digit
 abbrev is_numbered : Cell → Bool
 is_numbered c = begins_with_digit (unindented c.text)
@@ -139,7 +135,7 @@ digits-begin (suc k) n d t h u =
     cond_both (n / 10 == 0) more (digits_onto k 10 false (n / 10) more) (λ s. begins_with_digit (s ++ u) ≡ true)
     (λ _. digit-begins (n % 10) (digit_glyph false d ∷ t ++ u) less) (λ _. digits-begin k (n / 10) (n % 10) (digit_glyph false d ∷ t) less u)
 
-decimal-begins : (n : ℕ) (u : List ℕ) → begins_with_digit (decimal n ++ u) ≡ true
+pub decimal-begins : (n : ℕ) (u : List ℕ) → begins_with_digit (decimal n ++ u) ≡ true
 unfolding digits
 decimal-begins n u =
     let less : n % 10 < 10 = omega arith in
@@ -258,7 +254,7 @@ glyph-unnumbered Ascii Blank = refl
 glyph-unnumbered Unicode glyph = refl
 glyph-unnumbered Ascii glyph = refl
 
-glyph-no-digit : (set : CharSet) (glyph : Glyph) → begins_with_digit (glyph_text set glyph) ≡ false
+pub glyph-no-digit : (set : CharSet) (glyph : Glyph) → begins_with_digit (glyph_text set glyph) ≡ false
 unfolding glyph_text glyph_code lib.Utf8.encode begins_with_digit
 glyph-no-digit Unicode Blank = refl
 glyph-no-digit Ascii Blank = refl
@@ -297,7 +293,7 @@ unfolding tail_pieces spacer_pieces
 tail-unnumbered palette set w false = glyph-unnumbered set Vbar
 tail-unnumbered palette set w true = nothing-unnumbered
 
-row-unnumbered : (palette : Palette) (t : Texts) (w : ℕ) (s : Section) (x : Row) → IsOther x
+pub row-unnumbered : (palette : Palette) (t : Texts) (w : ℕ) (s : Section) (x : Row) → IsOther x
     → is_numbered (slice_index_or (map (cell_of palette) (row_pieces t w s x)) 1 no_cell) ≡ false
 unfolding row_pieces group_header_pieces spacer_pieces margin_pieces
 row-unnumbered palette t w s group_header h = glyph-unnumbered s.sheet.switches.char_set (if s.is_first then Ltop else Lcross)
@@ -307,21 +303,21 @@ row-unnumbered palette t w s x h = margin-unnumbered s.sheet.switches.char_set w
 
 -- ---- a picture
 
-section-at : (ss : List Section) (m : ℕ) → m < length ss → (s : Section) × (slice_get ss m ≡ Some s)
+pub section-at : (ss : List Section) (m : ℕ) → m < length ss → (s : Section) × (slice_get ss m ≡ Some s)
 section-at [] m h = absurd (omega arith)
 section-at (s ∷ ss) zero h = (s, refl)
 section-at (s ∷ ss) (suc m) h = section-at ss m (omega arith)
 
 -- row n stands in group g, which is s
-record IsWithin (v : Picture) (n : ℕ) : Type 0 where
-  group : ℕ
-  section : Section
-  there : slice_get v.sections group ≡ Some section
-  low : start_of v group ≤ n
-  high : n < start_of v (suc group)
+pub record IsWithin (v : Picture) (n : ℕ) : Type 0 where
+  pub group : ℕ
+  pub section : Section
+  pub there : slice_get v.sections group ≡ Some section
+  pub low : start_of v group ≤ n
+  pub high : n < start_of v (suc group)
 
 module _ (v : Picture) where
-  group-of : (n m : ℕ) → m ≤ length v.sections → 1 ≤ n → n < start_of v m → IsWithin v n
+  pub group-of : (n m : ℕ) → m ≤ length v.sections → 1 ≤ n → n < start_of v m → IsWithin v n
   group-of n zero few low high = let first = start-first v.texts v.sections in absurd (omega arith)
   group-of n (suc m) few low high = elim (cases_lt n (start_of v m)) [
     | inl less ↦ group-of n m (omega arith) low less

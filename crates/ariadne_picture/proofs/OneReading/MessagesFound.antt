@@ -1,7 +1,7 @@
 -- What row numbers that read a picture say of its rows. Their blocks are those of the rows' names, and each message stands in the arrow row
 -- of a line label that shows the same text.
 use Rattle.std.proofs.Common.{◌≡◌, ℕ, zero, suc, ◌+◌, ◌-◌, ◌<◌, ◌≤◌, Bool, true, false, not, ◌||◌, List, [], ◌∷◌, ◌++◌, length, filter}
-use Rattle.std.proofs.Common.{Option, Some, refl, sym, ap, ◌∙◌, subst, arith, ◌==◌, inl, inr, ◌⊎◌, nat_lt}
+use Rattle.std.proofs.Common.{Some, refl, sym, ap, ◌∙◌, subst, arith, ◌==◌, inl, inr, ◌⊎◌, nat_lt}
 use Rattle.std.specs.Prelude.{slice_get, slice_index_or, nat_le}
 use Rattle.std.specs.List.{list_all, list_any, enumerate_from}
 use Rattle.std.proofs.lemmas.Bool.{cases_Bool, eq-eqb, eqb-true, ltb-true, leb-true, true≢false}
@@ -14,7 +14,7 @@ use Rattle.ariadne_picture.specs.Lists.{all_numbered}
 use Rattle.ariadne_picture.specs.Ranks.{is_hidden, is_start}
 use Rattle.ariadne_picture.specs.Rows.{Row, source, arrow}
 use Rattle.ariadne_picture.specs.Columns.{layout_of}
-use Rattle.ariadne_picture.specs.Pieces.{Section, Texts, blank_piece, plain_text, message_pieces}
+use Rattle.ariadne_picture.specs.Pieces.{Section, blank_piece, plain_text}
 use Rattle.ariadne_picture.specs.Canvas.{Cell, cell_of}
 use Rattle.ariadne_picture.specs.Placing.Cells.{no_cell}
 use Rattle.ariadne_picture.specs.Placing.Group.{text_cell, shown_lines, messages_of}
@@ -27,7 +27,7 @@ use Rattle.ariadne_picture.proofs.Rows.LineBlock.{IsBlockRow, block-rows-are}
 use Rattle.ariadne_picture.proofs.Rows.RowNumbers.{at-back}
 use Rattle.ariadne_picture.proofs.Rows.RowOrder.{shown_rows}
 use Rattle.ariadne_picture.proofs.Rows.RowsThere.{range-at}
-use Rattle.ariadne_picture.proofs.Reading.MessageRows.{message-shown}
+use Rattle.ariadne_picture.proofs.Reading.MessageRows.{message-shown, message-hidden}
 use Rattle.ariadne_picture.proofs.Reading.MessagePlaces.{message-place, two-true}
 use Rattle.ariadne_picture.proofs.Reading.Pictures.{Picture, RowAt, rows_of, placing_of, number, source_row, number-at}
 use Rattle.ariadne_picture.proofs.Reading.ShownLine.{IsShownLine, IsArrowRow, arrow-row, arrow-at, block-row-is, source-at, numbered-at, group-line-at, rows_above}
@@ -135,11 +135,6 @@ module _ (v : Picture) {g : ℕ} {s : Section} {l : ℕ} (h : IsShownLine v g s 
     message_end : (n r : ℕ) (x : LineLabel) → IsArrowRow v g s l r x → is_start x.side ≡ false → number v g s (arrow l r) ≡ n
         → length (row_at (rows_of v) n) ≡ text_cell s + count + 2
         → (slice_index_or (row_at (rows_of v) n) (text_cell s + count + 1) no_cell).text ≡ v.texts.message_of x.info.position → RowEnd n
-
--- a start shows nothing
-message-hidden : (t : Texts) (o : Option LineLabel) (x : LineLabel) → o ≡ Some x → is_start x.side ≡ true → message_pieces t o ≡ []
-unfolding message_pieces
-message-hidden t o x e on = ap (message_pieces t) e ∙ (rw on refl)
 
 module _ (v : Picture) {g : ℕ} {s : Section} {l : ℕ} (h : IsShownLine v g s l) where
   places-end : {x : Row} (ink : ℕ → Ink) → IsTextRow v g s x (area s l ink ++ []) → length (row_at (rows_of v) (number v g s x)) ≡ text_cell s + count v h

@@ -206,7 +206,7 @@ same-rank v {s = s} {l} q q' same =
 -- ---- row numbers that read the picture
 
 -- numbers of which no two are the same
-distinct-from : (ns : List ℕ) → all_pairs (λ n m. not (n == m)) ns ≡ true → Increasing (λ (n m : ℕ). n ≢ m) ns
+pub distinct-from : (ns : List ℕ) → all_pairs (λ n m. not (n == m)) ns ≡ true → Increasing (λ (n m : ℕ). n ≢ m) ns
 unfolding all_pairs
 distinct-from [] e = tt
 distinct-from (n ∷ ns) e =

@@ -29,12 +29,12 @@ use Rattle.ariadne_picture.proofs.Cells.CanvasRows.{row_cells}
 use Rattle.ariadne_picture.proofs.Lists.ListFacts.{all-filtered}
 
 -- two blanks or more are no single one
-wide-text : (w : ℕ) → is_text (spaces (w + 2)) (32 ∷ []) ≡ false
+pub wide-text : (w : ℕ) → is_text (spaces (w + 2)) (32 ∷ []) ≡ false
 unfolding spaces
 wide-text w = let z : w + 2 ≡ suc (suc w) = omega arith in rw z refl
 
 -- nor are horizontals
-level-text : (set : CharSet) (w : ℕ) → is_text (repeated (w + 2) (glyph_text set Hbar) ++ glyph_text set Rbot) (32 ∷ []) ≡ false
+pub level-text : (set : CharSet) (w : ℕ) → is_text (repeated (w + 2) (glyph_text set Hbar) ++ glyph_text set Rbot) (32 ∷ []) ≡ false
 unfolding repeated joined glyph_text glyph_code lib.Utf8.encode
 level-text Unicode w = let z : w + 2 ≡ suc (suc w) = omega arith in rw z refl
 level-text Ascii w = let z : w + 2 ≡ suc (suc w) = omega arith in rw z refl

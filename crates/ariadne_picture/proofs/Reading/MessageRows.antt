@@ -35,7 +35,7 @@ unfolding message_pieces
 message-shown t o x e off = ap (message_pieces t) e ∙ (rw off refl)
 
 -- a start shows nothing
-message-hidden : (t : Texts) (o : Option LineLabel) (x : LineLabel) → o ≡ Some x → is_start x.side ≡ true → message_pieces t o ≡ []
+pub message-hidden : (t : Texts) (o : Option LineLabel) (x : LineLabel) → o ≡ Some x → is_start x.side ≡ true → message_pieces t o ≡ []
 unfolding message_pieces
 message-hidden t o x e on = ap (message_pieces t) e ∙ (rw on refl)
 

@@ -31,7 +31,7 @@ pub record IsLabelRow (s : Sheet) (l r : ℕ) : Type 0 where
 -- what the name of a row tells
 abbrev pub IsName : Sheet → Row → Type 0
 IsName s (source l) = (group_start_line s.labels ≤ l) × (l ≤ group_end_line s.labels) × (is_hidden s l ≡ false)
-IsName s (alternate l r) = IsLabelRow s l r
+IsName s (alternate l r) = IsLabelRow s l r × (s.switches.compact ≡ false)
 IsName s (arrow l r) = IsLabelRow s l r
 IsName s (gap l) = is_hidden s l ≡ true
 IsName s (bare l) = (is_hidden s l ≡ true) × (is_inside s l ≡ false)
@@ -63,7 +63,7 @@ module _ (s : Sheet) where
       name seen y b =
           let is : IsLabelRow s l b.rank =
           record { low = low; high = high; seen = seen; label = b.label; there = b.there; message = b.message } in
-          elim b.kind [ inl e ↦ rw e is | inr e ↦ rw e.0 is ]
+          elim b.kind [ inl e ↦ rw e is | inr e ↦ rw e.0 (is, e.1) ]
 
   -- of helps and notes nothing is asked
   aside-names : (compact : Bool) (a : Aside) (texts : List (List ℕ)) → all (asides compact a texts)
