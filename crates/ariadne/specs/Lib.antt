@@ -55,6 +55,7 @@ pub use Rattle.ariadne_picture.specs.Causes
 pub use Rattle.ariadne_picture.specs.GutterCauses
 pub use Rattle.ariadne_picture.specs.LabelColors
 pub use Rattle.ariadne_picture.specs.Readings
+pub use Rattle.ariadne_picture.specs.ReadBack
 pub use Rattle.ariadne_picture.specs.Variants
 pub use Rattle.ariadne_picture.specs.Headline
 -- ---- making a report and writing it

@@ -3,9 +3,10 @@
 -- to the label's attach character or gutter column, in the columns where the source row shows them.
 -- In the text below a line and in the gutter no stroke stands elsewhere, and strokes have the colours
 -- of their labels.
--- All of this is read in one way, but that the messages of twins may change places. A cell takes the
--- columns of its text, and the rows are the lines that are sent. Colours move nothing, and offsets in
--- bytes draw as the same offsets in characters.
+-- All of this is read in one way, but that the messages of twins may change places. And it can be read
+-- back: the rows, with the sources and the switches alone, tell where each message's strokes lead to.
+-- A cell takes the columns of its text, and the rows are the lines that are sent. Colours move nothing,
+-- and offsets in bytes draw as the same offsets in characters.
 use Rattle.std.specs.Prelude.{ℕ, ◌≡◌, Bool, true, List, Option}
 use Rattle.ariadne_color.specs.declared.color.Color.{Color}
 use Rattle.ariadne_picture.specs.declared.label_info.LabelInfo.{LabelInfo}
@@ -20,6 +21,7 @@ use Rattle.ariadne_picture.specs.Blocks.{has_whole_blocks}
 use Rattle.ariadne_picture.specs.Causes.{has_no_other_strokes}
 use Rattle.ariadne_picture.specs.GutterCauses.{has_no_other_gutter_strokes}
 use Rattle.ariadne_picture.specs.LabelColors.{label_color, has_label_colors}
+use Rattle.ariadne_picture.specs.ReadBack.{HaveShortNumbers, IsReadBack}
 use Rattle.ariadne_picture.specs.Readings.{AgreeOnStrokes}
 use Rattle.ariadne_picture.specs.Variants.{HaveNoEscapes, ColorsMoveNothing}
 use Rattle.ariadne_picture.specs.Variants.{BytesDrawAsCharacters}
@@ -64,6 +66,7 @@ pub record Headline {S Id : Type 0} (w : World S Id) (r : ReportFields S) (infos
   pub each_message_is_traced : IsTraced (canvas w r infos) (sections w r infos)
       (texts_of r).message_of (label_color r)
   pub in_one_way : AreReadInOneWay (canvas w r infos) (sections w r infos) (texts_of r).message_of
+  pub and_can_be_read_back : HaveShortNumbers w → IsReadBack w r infos
   pub each_cell_takes_the_columns_of_its_text : HaveColumnsOfTexts (canvas w r infos)
   pub its_rows_are_the_lines_that_are_sent : HaveNoEscapes w r → HaveNoLineFeeds w r
       → RowsAreLines (canvas w r infos)

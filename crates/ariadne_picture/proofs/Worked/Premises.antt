@@ -1,17 +1,20 @@
 -- The premises of the promise. Each is met by a report in colours, so none is a condition that nothing meets. And each text
 -- that two of them name is needed: an escape sequence in that text alone goes, where all sequences are taken away, and a line
 -- feed in that text alone cuts a row.
-use Rattle.std.specs.Prelude.{ℕ, ◌≡◌, Bool, true, false, not, [], ◌∷◌, ◌++◌, map, Some, None, List, refl, nat_eq}
+use Rattle.std.specs.Prelude.{ℕ, ◌≡◌, ◌+◌, ◌<◌, ◌^◌, Bool, true, false, cond, not, [], ◌∷◌, ◌++◌, length, map, Some, None, List, refl, nat_eq, option_map}
 use Rattle.std.specs.Str.{chars}
 use Rattle.std.specs.Cmp.Lexicographic.{pointwise}
-use Rattle.std.proofs.Common.{sym}
+use Rattle.std.proofs.Common.{sym, subst, arith}
 use Rattle.std.proofs.lemmas.Bool.{true≢false}
 use Rattle.ariadne_color.specs.declared.color.Color.TheVariants.{Primary}
+use Rattle.ariadne_base.specs.Lines.{lines_of}
+use Rattle.ariadne_base.specs.Listing.{Listing, listed_lines}
 use Rattle.ariadne_picture.specs.declared.switches.IndexType.TheVariants.{Byte}
 use Rattle.ariadne_picture.specs.Report.{ReportFields, custom}
 use Rattle.ariadne_picture.specs.Canvas.{canvas}
 use Rattle.ariadne_picture.specs.Print.{printed, unescaped}
 use Rattle.ariadne_picture.specs.Sent.{row_text, lines_sent, HaveNoLineFeeds}
+use Rattle.ariadne_picture.specs.ReadBack.{HaveShortNumbers}
 use Rattle.ariadne_picture.specs.Variants.{HaveNoEscapes, OwnStartIsBoundary, colorless, text_of, in_chars, char_world, char_report}
 use Rattle.ariadne_picture.proofs.Worked.Sample.{Span, Entry, world, utf8, named, one, report, label, silent_label, label_in, color_config, byte_config, drawn}
 use Rattle.ariadne_picture.proofs.Worked.Readings.{infos, cells_of}
@@ -50,6 +53,31 @@ no_text_has_an_escape = record {
 pub no_row_is_cut : HaveNoLineFeeds (world sources) colored
 unfolding drawn sources colored
 no_row_is_cut = record { kind = refl; code = refl; message = refl; labels = (refl, tt); names = (refl, tt) }
+
+-- the numbers of its lines are small
+pub lines_have_short_numbers : HaveShortNumbers (world sources)
+unfolding drawn sources chars lines_of
+lines_have_short_numbers id source = short (pointwise nat_eq (utf8 "a") id) (pointwise nat_eq (utf8 "b") id)
+  where
+    first : Listing
+    first = record { text = utf8 "x\ny"; display_offset = 0 }
+
+    second : Listing
+    second = record { text = 27 ∷ []; display_offset = 0 }
+
+    short : (is_first is_second : Bool)
+        → option_map (λ (e : Entry). e.listing) (cond is_first (Some (named "a" "x\ny"))
+        (cond is_second (Some (record { id = utf8 "b"; name = Some (27 ∷ []); listing = second })) None)) ≡ Some source
+        → length (listed_lines source) + source.display_offset < 2 ^ 64
+    short true is_second e =
+        let same : first ≡ source = cc in
+        let two : length (listed_lines first) ≡ 2 = refl in
+        subst (λ s. length (listed_lines s) + s.display_offset < 2 ^ 64) same (omega (arith, two))
+    short false true e =
+        let same : second ≡ source = cc in
+        let one : length (listed_lines second) ≡ 1 = refl in
+        subst (λ s. length (listed_lines s) + s.display_offset < 2 ^ 64) same (omega (arith, one))
+    short false false e = absurd cc
 
 -- ---- a report in bytes whose own start is a boundary of its source, behind a character of two bytes
 

@@ -2,12 +2,12 @@
 -- premise that these reports don't meet.
 use Rattle.std.proofs.Common.{◌≡◌, ℕ, true, List, Option}
 use Rattle.std.specs.Cmp.Derive.{both_true}
-use Rattle.std.specs.Prelude.{Some, [], ◌∷◌, slice_get, Contains}
+use Rattle.std.specs.Prelude.{Some, [], ◌∷◌, slice_get, Contains, IsPermutation}
 use Rattle.std.specs.List.{AllByRecursion}
 use Rattle.ariadne_color.specs.declared.color.Color.{Color}
 use Rattle.ariadne_picture.specs.declared.label_info.LabelInfo.{LabelInfo}
 use Rattle.ariadne_picture.specs.declared.verdict.Verdict.TheVariants.{Accepted}
-use Rattle.ariadne_picture.specs.Report.{ReportFields, World}
+use Rattle.ariadne_picture.specs.Report.{ReportFields, World, switches_of}
 use Rattle.ariadne_picture.specs.Pieces.{Section, Texts}
 use Rattle.ariadne_picture.specs.Canvas.{Cell, canvas, sections, texts_of}
 use Rattle.ariadne_picture.specs.Print.{printed, erased, unescaped}
@@ -16,6 +16,7 @@ use Rattle.ariadne_picture.specs.Ranks.{gutter_labels}
 use Rattle.ariadne_picture.specs.Placing.Group.{messages_of, shown_lines}
 use Rattle.ariadne_picture.specs.Placing.Rows.{Placing}
 use Rattle.ariadne_picture.specs.LabelColors.{label_color, has_label_colors}
+use Rattle.ariadne_picture.specs.ReadBack.{HaveShortNumbers, IsReadBack, group_sources, labels_told, read_back}
 use Rattle.ariadne_picture.specs.Readings.{HasSameRow}
 use Rattle.ariadne_picture.specs.Variants.{HaveNoEscapes, ColorsMoveNothing, BytesDrawAsCharacters, colorless, char_world, char_report, verdict_at}
 use Rattle.ariadne_picture.specs.Headline.{IsReadBy, IsTraced, AreReadInOneWay, Headline}
@@ -23,7 +24,7 @@ use Rattle.ariadne_picture.proofs.Rows.RowPlacing.{is_read}
 use Rattle.ariadne_picture.proofs.Worked.Sample.{world, one, drawn}
 use Rattle.ariadne_picture.proofs.Worked.Readings.{infos}
 use Rattle.ariadne_picture.proofs.Worked.Changes.{plain}
-use Rattle.ariadne_picture.proofs.Worked.Premises.{sources, colored, no_text_has_an_escape, no_row_is_cut, in_bytes, its_own_start_is_a_boundary}
+use Rattle.ariadne_picture.proofs.Worked.Premises.{sources, colored, no_text_has_an_escape, no_row_is_cut, lines_have_short_numbers, in_bytes, its_own_start_is_a_boundary}
 
 -- row numbers that a picture is read by meet every clause
 all_clauses : (rows : List (List Cell)) (groups : List Section) (t : Texts) (p : Placing) → IsReadBy rows groups t.message_of p
@@ -41,12 +42,14 @@ all_sentences : {S Id : Type 0} (w : World S Id) (r : ReportFields S) (labels : 
     → (bytes ≡ printed (canvas w r labels))
     × IsTraced (canvas w r labels) (sections w r labels) (texts_of r).message_of (label_color r)
     × AreReadInOneWay (canvas w r labels) (sections w r labels) (texts_of r).message_of
+    × (HaveShortNumbers w → IsReadBack w r labels)
     × HaveColumnsOfTexts (canvas w r labels) × (HaveNoEscapes w r → HaveNoLineFeeds w r → RowsAreLines (canvas w r labels))
     × ColorsMoveNothing w r labels × BytesDrawAsCharacters w r labels
 all_sentences w r labels bytes h = (
   h.they_are_exactly_the_printed_canvas,
   h.each_message_is_traced,
   h.in_one_way,
+  h.and_can_be_read_back,
   h.each_cell_takes_the_columns_of_its_text,
   h.its_rows_are_the_lines_that_are_sent,
   h.colors_move_nothing,
@@ -59,6 +62,14 @@ without_colors : let labels = infos sources colored in
     → (erased (canvas (world sources) colored labels) ≡ canvas (world sources) (colorless colored) labels)
     × (unescaped (printed (canvas (world sources) colored labels)) ≡ printed (canvas (world sources) (colorless colored) labels))
 without_colors h = (h.cells, h.bytes no_text_has_an_escape)
+
+-- what its rows tell, with its sources and switches alone, is what its labels are
+told_back : let w = world sources in
+    let labels = infos sources colored in
+    (HaveShortNumbers w → IsReadBack w colored labels)
+    → IsPermutation (read_back (canvas w colored labels) (group_sources w colored labels) (switches_of colored.config))
+    (labels_told (texts_of colored).message_of (sections w colored labels))
+told_back h = h lines_have_short_numbers
 
 -- its rows are the lines that are sent
 whole_lines : let labels = infos sources colored in
