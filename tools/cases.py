@@ -26,7 +26,6 @@ SETTINGS = {
 }
 # What the model of reports has no words for.
 NOT_RECKONED = {"painted", "safe", "takes", "fails"}
-PAIRS = ("(id, Source)", "(id, &Source)")
 
 
 def old_escape(found):
@@ -142,14 +141,13 @@ def given_sources(case):
     """The sources of a case that its cache has. Those of a FileCache are files."""
     if "source" in case:
         return [{"id": None, "text": case["source"], "offset": int(case.get("line_offset", 0))}]
-    sources = case["sources"][:1] if case.get("cache") in PAIRS else case["sources"]
     return [
         {
             "id": source["id"],
             "text": source["text"] if "text" in source else (DATA / source["id"]).read_bytes().decode(),
             "offset": int(source.get("line_offset", 0)),
         }
-        for source in sources
+        for source in case["sources"]
     ]
 
 
@@ -163,7 +161,7 @@ def report_of(case):
     if NOT_RECKONED & case.keys() or case.get("cache") == "no memory":
         return None
     sources = given_sources(case)
-    first, last = sources[0]["id"], slice(-1, None) if case.get("builder") == "set" else slice(None)
+    first = sources[0]["id"]
     labels = []
     for label in case.get("labels", []):
         start, end = ends_of(label["at"])
@@ -177,8 +175,8 @@ def report_of(case):
         "message": case.get("message"),
         "span": [case.get("id", first), *ends_of(case.get("at", "0..0"))],
         "labels": labels,
-        "helps": case.get("helps", [])[last],
-        "notes": case.get("notes", [])[last],
+        "helps": case.get("helps", []),
+        "notes": case.get("notes", []),
         "config": {**settings, "tab_width": int(settings["tab_width"])},
         "cache": "source" if "source" in case else "custom" if "hidden" in case else "sources",
         "sources": sources,

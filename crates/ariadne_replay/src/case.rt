@@ -6,7 +6,7 @@ use crate::mistake::{Mistake, Read};
 use toml::Value;
 
 /// The members of a case.
-static CASE: [(&str, Form); 27] = [
+static CASE: [(&str, Form); 25] = [
     ("name", Form::Text),
     ("kind", Form::Text),
     ("kind_color", Form::Color),
@@ -26,8 +26,6 @@ static CASE: [(&str, Form); 27] = [
     ("notes", Form::Texts),
     ("painted", Form::Colors),
     ("settings", Form::Table),
-    ("builder", Form::Text),
-    ("call", Form::Text),
     ("safe", Form::Text),
     ("takes", Form::Count),
     ("worked", Form::Text),
@@ -67,21 +65,19 @@ static LABEL: [(&str, Form); 6] = [
 ];
 
 /// Members that don't stand together: one, another, and what the first is beside that.
-static CLASHES: [(&str, &str, &str); 13] = [
+static CLASHES: [(&str, &str, &str); 11] = [
     ("sources", "source", "no member beside 'source'"),
     ("missing", "source", "no member beside 'source'"),
     ("hidden", "source", "no member beside 'source'"),
     ("id", "source", "no member beside 'source'"),
+    ("cache", "source", "no member beside 'source'"),
     (
         "line_offset",
         "sources",
         "a member of each of the 'sources'",
     ),
     ("cache", "hidden", "no member beside 'hidden'"),
-    ("call", "takes", "no member beside 'takes'"),
     ("cache", "safe", "no member beside 'safe'"),
-    ("builder", "safe", "no member beside 'safe'"),
-    ("call", "safe", "no member beside 'safe'"),
     ("takes", "safe", "no member beside 'safe'"),
     ("number", "safe", "no member beside 'safe'"),
     ("painted", "safe", "no member beside 'safe'"),
@@ -90,22 +86,12 @@ static CLASHES: [(&str, &str, &str); 13] = [
 /// The cache that reads the texts of its sources from files.
 const FILES: &str = "FileCache";
 
-/// Members of a source that a cache doesn't read: the cache, the member, and what that is.
-static UNREAD: [(&str, &str, &str); 3] = [
+/// Members of a source that this cache doesn't read, and what each is.
+static UNREAD: [(&str, &str); 2] = [
+    ("text", "no member beside a FileCache, which reads files"),
     (
-        FILES,
-        "text",
-        "no member beside a FileCache, which reads files",
-    ),
-    (
-        FILES,
         "line_offset",
         "no member beside a FileCache, which counts from 1",
-    ),
-    (
-        "FnCache",
-        "line_offset",
-        "no member beside an FnCache, whose function returns texts",
     ),
 ];
 
@@ -140,10 +126,10 @@ fn check_labels(case: &Value) -> Read<'_, ()> {
     Ok(())
 }
 
-/// Refuses a source that has a member which a cache of this name doesn't read.
-fn check_unread<'c>(source: &'c Value, cache: &str) -> Read<'c, ()> {
-    for (unread, name, wrong) in UNREAD.iter() {
-        if *unread == cache && has(source, name) {
+/// Refuses a source of a file that tells what the file does.
+fn check_unread(source: &Value) -> Read<'_, ()> {
+    for (name, wrong) in UNREAD.iter() {
+        if has(source, name) {
             return Err(Mistake::Odd(name, wrong));
         }
     }
@@ -153,10 +139,9 @@ fn check_unread<'c>(source: &'c Value, cache: &str) -> Read<'c, ()> {
 /// Refuses a source that has an odd member, or lacks its id, or its text where that is in no file.
 fn check_source<'c>(source: &'c Value, cache: &str) -> Read<'c, ()> {
     check(source, &SOURCE)?;
-    check_unread(source, cache)?;
     check_has(source, "id")?;
     if cache == FILES {
-        return Ok(());
+        return check_unread(source);
     }
     check_has(source, "text")
 }

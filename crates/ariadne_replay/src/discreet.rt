@@ -9,19 +9,19 @@ use ariadne::{Cache, FetchError, Source};
 
 /// A cache that shows no name for one of its ids, and is in all else the cache that it holds.
 #[derive(Drop)]
-pub struct Discreet<C: Cache<String>> {
+pub struct Discreet<'h, C: Cache<String>> {
     pub cache: C,
-    pub hidden: String,
+    pub hidden: &'h str,
 }
 
-impl<C: Cache<String>> Cache<String> for Discreet<C> {
+impl<'h, C: Cache<String>> Cache<String> for Discreet<'h, C> {
     type Storage = C::Storage;
 
     type Error = C::Error;
 
     ghost contents = { λ c. C.contents c.cache };
 
-    ghost names = { λ c id. cond (bytes_eq (string_bytes id) (string_bytes c.hidden)) None
+    ghost names = { λ c id. cond (bytes_eq (string_bytes id) c.hidden.now) None
         (C.names c.cache id) };
 
     ghost fails = { C.fails };
@@ -29,7 +29,7 @@ impl<C: Cache<String>> Cache<String> for Discreet<C> {
     ghost can_fetch = { λ c. C.can_fetch c.cache };
 
     ghost names_respect_eq = { λ c p q h.
-        ap₂ (λ text name. cond (bytes_eq text (string_bytes c.hidden)) None name)
+        ap₂ (λ text name. cond (bytes_eq text c.hidden.now) None name)
         ((bytes_decides (string_bytes p) (string_bytes q)).0 h)
         (C.names_respect_eq c.cache p q h) };
 
@@ -42,7 +42,7 @@ impl<C: Cache<String>> Cache<String> for Discreet<C> {
     }
 
     fn display<'a>(&'a self, id: &'a String) -> Option<&'a str> {
-        if *id == self.hidden {
+        if id.as_str() == self.hidden {
             return None;
         }
         self.cache.display(id)

@@ -44,22 +44,32 @@ fn task_of(words: &[String]) -> (Task<'_>, &[String]) {
     }
 }
 
-fn main(rt: HostRuntime) -> io::Result<ExitCode> {
-    let words: Vec<String> = env::args(&rt)?.skip(1).collect(rt.alloc())?;
-    let (task, files) = task_of(words.as_slice());
-    let mut run = Run::new(rt.alloc());
+/// Takes the cases of standard input where the task asks for them, and those of files.
+fn take(rt: &HostRuntime, run: &mut Run, task: Task<'_>, files: &[String]) -> io::Result<()> {
     if matches!(task, Task::Answer) {
-        let text = io::read_to_string(rt.alloc(), rt.stdin())?;
-        run.take_all(&rt, task, "standard input", text.as_str())?;
+        run.take_input(rt, task)?;
     }
     for file in files {
-        run.take_file(&rt, task, file.as_str())?;
+        run.take_file(rt, task, file.as_str())?;
     }
+    Ok(())
+}
+
+/// Does a task with the cases of files, and returns whether all is well.
+fn does(rt: &HostRuntime, task: Task<'_>, files: &[String]) -> io::Result<bool> {
+    let mut run = Run::new(rt.alloc());
+    take(rt, &mut run, task, files)?;
     if matches!(task, Task::Compare) {
         println!(rt; "{} cases, {} differ", run.count, run.otherwise)?;
     }
     let is_found = run.count > 0 || !matches!(task, Task::Accept(_));
-    if is_found && run.otherwise == 0 {
+    Ok(is_found && run.otherwise == 0)
+}
+
+fn main(rt: HostRuntime) -> io::Result<ExitCode> {
+    let words: Vec<String> = env::args(&rt)?.skip(1).collect(rt.alloc())?;
+    let (task, files) = task_of(words.as_slice());
+    if does(&rt, task, files)? {
         Ok(ExitCode::SUCCESS)
     } else {
         Ok(ExitCode::FAILURE)

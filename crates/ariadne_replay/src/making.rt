@@ -8,7 +8,7 @@ use crate::mistake::{Mistake, Read};
 use crate::offsets::Placed;
 use ariadne::{
     CharSet, Config, Fmt, IndexType, Label, LabelAttach, Report, ReportBuilder, ReportKind, Source,
-    SourceText, Span,
+    Span,
 };
 use std::alloc::{AllocError, Global};
 use toml::Value;
@@ -113,32 +113,6 @@ pub fn label_of<S: Placed>(
     }
 }
 
-/// Labels of a case.
-fn labels_of<S: Placed>(
-    alloc: Global,
-    case: &Value,
-    all_told: &[Value],
-) -> Result<Vec<Label<S>>, AllocError> {
-    let mut labels = Vec::new(alloc);
-    for told in all_told {
-        labels.push(label_of(alloc, case, told)?)?;
-    }
-    Ok(labels)
-}
-
-/// How helps, notes and labels are given to a report.
-#[derive(Clone, Copy)]
-enum Way {
-    /// One behind the other.
-    Add,
-    /// Each help or note in place of those before it.
-    Set,
-    /// The first by a call of its own that returns the builder, and the others together.
-    With,
-}
-
-static WAYS: [(&str, Way); 3] = [("add", Way::Add), ("set", Way::Set), ("with", Way::With)];
-
 /// A report of a kind, in the place of its case, and with its code and its message.
 fn begun<'c, S: Placed>(
     alloc: Global,
@@ -160,96 +134,38 @@ fn begun<'c, S: Placed>(
     }
 }
 
-/// Adds helps, or sets each in place of those before it.
+/// Adds helps.
 fn add_helps<S: Span>(
     builder: &mut ReportBuilder<'_, S>,
-    way: Way,
     helps: &[Value],
 ) -> Result<(), AllocError> {
     for help in helps {
-        match way {
-            Way::Set => builder.set_help(text_of(help))?,
-            _ => builder.add_help(text_of(help))?,
-        }
+        builder.add_help(text_of(help))?;
     }
     Ok(())
 }
 
-/// Adds notes, or sets each in place of those before it.
+/// Adds notes.
 fn add_notes<S: Span>(
     builder: &mut ReportBuilder<'_, S>,
-    way: Way,
     notes: &[Value],
 ) -> Result<(), AllocError> {
     for note in notes {
-        match way {
-            Way::Set => builder.set_note(text_of(note))?,
-            _ => builder.add_note(text_of(note))?,
-        }
+        builder.add_note(text_of(note))?;
     }
     Ok(())
 }
 
-/// A report with helps: the first by `with_help`, and the others by `with_helps`.
-fn with_helps<'c, S: Span + Drop>(
-    builder: ReportBuilder<'c, S>,
-    helps: &[Value],
-) -> Result<ReportBuilder<'c, S>, AllocError> {
-    let [first, others @ ..] = helps else {
-        return Ok(builder);
-    };
-    let mut builder = builder.with_help(text_of(first))?;
-    builder.with_helps(others.iter().map(text_of))?;
-    Ok(builder)
-}
-
-/// A report with notes: the first by `with_note`, and the others by `with_notes`.
-fn with_notes<'c, S: Span + Drop>(
-    builder: ReportBuilder<'c, S>,
-    notes: &[Value],
-) -> Result<ReportBuilder<'c, S>, AllocError> {
-    let [first, others @ ..] = notes else {
-        return Ok(builder);
-    };
-    let mut builder = builder.with_note(text_of(first))?;
-    builder.with_notes(others.iter().map(text_of))?;
-    Ok(builder)
-}
-
-/// A report with the labels of its case: the first by `with_label`, and the others by `with_labels`.
-fn with_labels<'c, S: Placed>(
-    alloc: Global,
-    builder: ReportBuilder<'c, S>,
-    case: &Value,
-) -> Result<ReportBuilder<'c, S>, AllocError> {
-    let [first, others @ ..] = list(case, "labels") else {
-        return Ok(builder);
-    };
-    let builder = builder.with_label(label_of(alloc, case, first)?)?;
-    builder.with_labels(labels_of(alloc, case, others)?)
-}
-
-/// A report with the helps, the notes and the labels of its case, by calls that return it.
-fn with_parts<'c, S: Placed>(
-    alloc: Global,
-    builder: ReportBuilder<'c, S>,
-    case: &Value,
-) -> Result<ReportBuilder<'c, S>, AllocError> {
-    let builder = with_helps(builder, list(case, "helps"))?;
-    let builder = with_notes(builder, list(case, "notes"))?;
-    with_labels(alloc, builder, case)
-}
-
-/// Adds the helps, the notes and the labels of a case.
-fn add_parts<S: Placed>(
+/// Adds the labels of a case.
+fn add_labels<S: Placed>(
     alloc: Global,
     builder: &mut ReportBuilder<'_, S>,
-    way: Way,
     case: &Value,
 ) -> Result<(), AllocError> {
-    add_helps(builder, way, list(case, "helps"))?;
-    add_notes(builder, way, list(case, "notes"))?;
-    builder.add_labels(labels_of(alloc, case, list(case, "labels"))?)
+    for told in list(case, "labels") {
+        builder.add_label(label_of(alloc, case, told)?)?;
+    }
+    Ok(())
 }
 
 /// The name of a colour, in the colour and on it.
@@ -271,18 +187,16 @@ fn add_painted<S: Span>(
     Ok(())
 }
 
-/// A report with the helps, the notes and the labels of its case.
-fn filled<'c, S: Placed>(
+/// Adds the helps, the notes and the labels of a case.
+fn add_parts<S: Placed>(
     alloc: Global,
-    mut builder: ReportBuilder<'c, S>,
-    way: Way,
+    builder: &mut ReportBuilder<'_, S>,
     case: &Value,
-) -> Result<ReportBuilder<'c, S>, AllocError> {
-    if let Way::With = way {
-        return with_parts(alloc, builder, case);
-    }
-    add_parts(alloc, &mut builder, way, case)?;
-    Ok(builder)
+) -> Result<(), AllocError> {
+    add_helps(builder, list(case, "helps"))?;
+    add_notes(builder, list(case, "notes"))?;
+    add_labels(alloc, builder, case)?;
+    add_painted(alloc, builder, case)
 }
 
 /// The report of a case, of a kind and with a configuration.
@@ -291,20 +205,17 @@ fn made<'c, S: Placed>(
     case: &Value,
     kind: ReportKind<'c>,
     config: Config,
-    way: Way,
 ) -> Result<Report<'c, S>, AllocError> {
-    let builder = begun(alloc, case, kind)?.with_config(config);
-    let mut builder = filled(alloc, builder, way, case)?;
-    add_painted(alloc, &mut builder, case)?;
-    Ok(builder.finish())
+    let mut builder = begun(alloc, case, kind)?;
+    add_parts(alloc, &mut builder, case)?;
+    Ok(builder.with_config(config).finish())
 }
 
 /// The report of a case.
 pub fn report_of<S: Placed>(alloc: Global, case: &Value) -> Read<'_, Report<'_, S>> {
     let kind = kind_of(case)?;
     let config = config_of(case)?;
-    let way = word(case, "builder", &WAYS, Way::Add, "not a way of the builder")?;
-    Ok(made(alloc, case, kind, config, way)?)
+    Ok(made(alloc, case, kind, config)?)
 }
 
 /// How far the line numbers of a source are moved that has so many lines.
@@ -319,12 +230,8 @@ pub fn line_offset(told: &Value, lines: usize) -> Read<'_, usize>
 }
 
 /// A text as a source whose lines are counted as a case tells.
-pub fn counted<'c, I: SourceText + Drop>(
-    alloc: Global,
-    text: I,
-    told: &'c Value,
-) -> Read<'c, Source<I>> {
-    let source = Source::from(alloc, text)?;
+pub fn counted<'c>(alloc: Global, text: &str, told: &'c Value) -> Read<'c, Source<String>> {
+    let source = Source::from(alloc, text.to_string(alloc)?)?;
     let offset = line_offset(told, source.lines().len())?;
     Ok(source.with_display_line_offset(offset))
 }

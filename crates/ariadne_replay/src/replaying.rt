@@ -8,50 +8,23 @@ use crate::members::{has, list, text, word};
 use crate::mistake::{Mistake, Read};
 use crate::offsets::{Placed, offsets_at};
 use crate::safely::answer_safely;
-use crate::sending::{Answer, Call, Sending, call_of};
+use crate::sending::{Answer, Sending, sending_of};
 use ariadne::{FileCache, FnCache, Source, Span, sources};
 use std::alloc::{AllocError, Global};
 use std::collections::HashMap;
 use std::ops::{Range, RangeInclusive};
-use std::rc::RcStr;
 use toml::Value;
-
-/// In which form a cache is that has one source.
-#[derive(Clone, Copy)]
-enum Single {
-    Owned,
-    OfStr,
-    OfRcStr,
-    Ref,
-    RefMut,
-    Boxed,
-}
-
-static SINGLES: [(&str, Single); 6] = [
-    ("Source<String>", Single::Owned),
-    ("Source<&str>", Single::OfStr),
-    ("Source<RcStr>", Single::OfRcStr),
-    ("&Source", Single::Ref),
-    ("&mut Source", Single::RefMut),
-    ("Box<Source>", Single::Boxed),
-];
 
 /// Which cache has sources with ids.
 #[derive(Clone, Copy)]
 enum Several {
     Map,
     Given,
-    Pair,
-    LentPair,
-    Function,
     Files,
     NoMemory,
 }
 
-static SEVERALS: [(&str, Several); 5] = [
-    ("(id, Source)", Several::Pair),
-    ("(id, &Source)", Several::LentPair),
-    ("FnCache", Several::Function),
+static SEVERALS: [(&str, Several); 2] = [
     ("FileCache", Several::Files),
     ("no memory", Several::NoMemory),
 ];
@@ -91,43 +64,26 @@ pub fn answer_of<'c>(rt: &HostRuntime, case: &'c Value) -> Read<'c, Answer> {
     if has(case, "safe") {
         return answer_safely(rt.alloc(), case);
     }
-    let call = call_of(case)?;
     match (has(case, "source"), with_last) {
-        (true, false) => plain::<Range<usize>>(rt.alloc(), call, case),
-        (true, true) => plain::<RangeInclusive<usize>>(rt.alloc(), call, case),
-        (false, false) => named::<(String, Range<usize>)>(rt, call, case),
-        (false, true) => named::<(String, RangeInclusive<usize>)>(rt, call, case),
+        (true, false) => plain::<Range<usize>>(rt.alloc(), case),
+        (true, true) => plain::<RangeInclusive<usize>>(rt.alloc(), case),
+        (false, false) => named::<(String, Range<usize>)>(rt, case),
+        (false, true) => named::<(String, RangeInclusive<usize>)>(rt, case),
     }
 }
 
 /// What is drawn of a case over one source without an id.
-fn plain<S: Placed + Span<SourceId = ()>>(
-    alloc: Global,
-    call: Call,
-    case: &Value,
-) -> Read<'_, Answer> {
-    let report = report_of::<S>(alloc, case)?;
-    let sending = Sending {
-        alloc,
-        call,
-        report,
-    };
+fn plain<S: Placed + Span<SourceId = ()>>(alloc: Global, case: &Value) -> Read<'_, Answer> {
+    let sending = sending_of::<S>(alloc, case)?;
     over_source(&sending, case)
 }
 
 /// What is drawn of a case over sources that have ids.
 fn named<'c, S: Placed + Span<SourceId = String>>(
     rt: &HostRuntime,
-    call: Call,
     case: &'c Value,
 ) -> Read<'c, Answer> {
-    let alloc = rt.alloc();
-    let report = report_of::<S>(alloc, case)?;
-    let sending = Sending {
-        alloc,
-        call,
-        report,
-    };
+    let sending = sending_of::<S>(rt.alloc(), case)?;
     over_sources(rt, &sending, case)
 }
 
@@ -136,39 +92,9 @@ fn over_source<'c, S: Span<SourceId = ()>>(
     sending: &Sending<'c, S>,
     case: &'c Value,
 ) -> Read<'c, Answer> {
-    let alloc = sending.alloc;
     let words = text(case, "source").unwrap_or("");
-    match word(
-        case,
-        "cache",
-        &SINGLES,
-        Single::Owned,
-        "not a cache of one source",
-    )? {
-        Single::OfStr => Ok(sending.over(&mut counted(alloc, words, case)?)?),
-        Single::OfRcStr => {
-            let words = RcStr::from_str(alloc, words)?;
-            Ok(sending.over(&mut counted(alloc, words, case)?)?)
-        }
-        form => {
-            let source = counted(alloc, words.to_string(alloc)?, case)?;
-            Ok(over_string(sending, source, form)?)
-        }
-    }
-}
-
-/// What is drawn of a report over a source in a form.
-fn over_string<S: Span<SourceId = ()>>(
-    sending: &Sending<'_, S>,
-    mut source: Source<String>,
-    form: Single,
-) -> Result<Answer, AllocError> {
-    match form {
-        Single::Ref => sending.over(&mut &source),
-        Single::RefMut => sending.over(&mut &mut source),
-        Single::Boxed => sending.over(&mut Box::new(sending.alloc, source)?),
-        _ => sending.over(&mut source),
-    }
+    let mut source = counted(sending.alloc, words, case)?;
+    sending.over(&mut source)
 }
 
 /// The cache of a case that names none: a map, where it can be one.
@@ -196,20 +122,9 @@ fn over_sources<'c, S: Span<SourceId = String>>(
     )? {
         Several::Map => over_map(sending, case),
         Several::Given => over_given_sources(sending, case),
-        Several::Pair => over_pair(sending, case, false),
-        Several::LentPair => over_pair(sending, case, true),
-        Several::Function => over_function(sending, case),
-        Several::Files => over_files(rt, sending),
-        Several::NoMemory => Ok(sending.over(&mut Forgetful)?),
+        Several::Files => sending.over(&mut FileCache::new(rt, sending.alloc)),
+        Several::NoMemory => sending.over(&mut Forgetful),
     }
-}
-
-/// What is drawn of a report over the files that its ids name.
-fn over_files<'c, S: Span<SourceId = String>>(
-    rt: &HostRuntime,
-    sending: &Sending<'c, S>,
-) -> Read<'c, Answer> {
-    Ok(sending.over(&mut FileCache::new(rt, sending.alloc))?)
 }
 
 /// The id of a source.
@@ -222,16 +137,23 @@ fn text_in(source: &Value) -> &str {
     text(source, "text").unwrap_or("")
 }
 
+/// The ids of the sources of a case, with their texts.
+fn texts_of(alloc: Global, case: &Value) -> Result<Vec<(String, &str)>, AllocError> {
+    let mut texts = Vec::new(alloc);
+    for source in list(case, "sources") {
+        texts.push((id_in(alloc, source)?, text_in(source)))?;
+    }
+    Ok(texts)
+}
+
 /// What is drawn of a report over a map of the sources.
 fn over_map<'c, S: Span<SourceId = String>>(
     sending: &Sending<'c, S>,
     case: &'c Value,
 ) -> Read<'c, Answer> {
-    let mut texts = Vec::new(sending.alloc);
-    for source in list(case, "sources") {
-        texts.push((id_in(sending.alloc, source)?, text_in(source)))?;
-    }
-    Ok(sending.over(&mut sources(sending.alloc, texts)?)?)
+    let texts = texts_of(sending.alloc, case)?;
+    let mut map = sources(sending.alloc, texts)?;
+    sending.over(&mut map)
 }
 
 /// Fails for every id.
@@ -243,7 +165,7 @@ fn missing(_id: &String) -> Result<String, ()> {
 fn given_sources(alloc: Global, case: &Value) -> Read<'_, HashMap<String, Source<String>>> {
     let mut given = HashMap::new(alloc);
     for told in list(case, "sources") {
-        let source = counted(alloc, text_in(told).to_string(alloc)?, told)?;
+        let source = counted(alloc, text_in(told), told)?;
         given.insert(id_in(alloc, told)?, source)?;
     }
     Ok(given)
@@ -257,44 +179,8 @@ fn over_given_sources<'c, S: Span<SourceId = String>>(
 ) -> Read<'c, Answer> {
     let given = given_sources(sending.alloc, case)?;
     let mut cache = FnCache::new(sending.alloc, missing).with_sources(given)?;
-    let Some(hidden) = text(case, "hidden") else {
-        return Ok(sending.over(&mut cache)?);
-    };
-    let hidden = hidden.to_string(sending.alloc)?;
-    Ok(sending.over(&mut Discreet { cache, hidden })?)
-}
-
-/// What is drawn of a report over the first source alone, or over a reference to it.
-fn over_pair<'c, S: Span<SourceId = String>>(
-    sending: &Sending<'c, S>,
-    case: &'c Value,
-    is_lent: bool,
-) -> Read<'c, Answer> {
-    let Some(first) = list(case, "sources").first() else {
-        return Err(Mistake::Odd("sources", "empty"));
-    };
-    let source = counted(sending.alloc, text_in(first), first)?;
-    let id = id_in(sending.alloc, first)?;
-    if is_lent {
-        return Ok(sending.over(&mut (id, &source))?);
+    match text(case, "hidden") {
+        Some(hidden) => sending.over(&mut Discreet { cache, hidden }),
+        None => sending.over(&mut cache),
     }
-    Ok(sending.over(&mut (id, source))?)
-}
-
-/// The text of an id among these sources.
-fn answered(alloc: Global, sources: &[Value], id: &str) -> Result<String, ()> {
-    match sources.iter().find(|source| text(source, "id") == Some(id)) {
-        Some(source) => text_in(source).to_string(alloc).or(Err(())),
-        None => Err(()),
-    }
-}
-
-/// What is drawn of a report over a cache whose function returns the texts.
-fn over_function<'c, S: Span<SourceId = String>>(
-    sending: &Sending<'c, S>,
-    case: &'c Value,
-) -> Read<'c, Answer> {
-    let (alloc, sources) = (sending.alloc, list(case, "sources"));
-    let get = |id: &String| -> Result<String, ()> { answered(alloc, sources, id.as_str()) };
-    Ok(sending.over(&mut FnCache::new(alloc, get))?)
 }

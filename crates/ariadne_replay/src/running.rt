@@ -189,6 +189,12 @@ impl Run {
         Ok(())
     }
 
+    /// Does the task with each case of standard input.
+    pub fn take_input(&mut self, rt: &HostRuntime, task: Task<'_>) -> io::Result<()> {
+        let text = io::read_to_string(rt.alloc(), rt.stdin())?;
+        self.take_all(rt, task, "standard input", text.as_str())
+    }
+
     /// Does the task with each case of a file.
     pub fn take_file(&mut self, rt: &HostRuntime, task: Task<'_>, file: &str) -> io::Result<()> {
         match fs::read_to_string(rt, file) {

@@ -87,6 +87,23 @@ fn labelled<'r>(
     Ok(builder)
 }
 
+/// What is drawn of a report of a kind over sources.
+fn drawn_over(
+    alloc: Global,
+    case: &Value,
+    sources: &SafeSources,
+    kind: SafeKind<'_>,
+    config: Config,
+) -> Result<Answer, AllocError> {
+    let place = Placed::placed(alloc, case, case)?;
+    let builder = SafeBuilder::new(alloc, sources, kind, place, config);
+    let builder = texted(headed(builder, case)?, case)?;
+    let report = labelled(alloc, builder, case)?.finish();
+    let mut out = Vec::new(alloc);
+    let told = report.write(&mut out);
+    answer_to(alloc, out, told)
+}
+
 /// What is drawn of a report of a kind over the sources of its case.
 fn answer_over<'c>(
     alloc: Global,
@@ -96,13 +113,7 @@ fn answer_over<'c>(
     config: Config,
 ) -> Read<'c, Answer> {
     let sources = sources_of(alloc, case, lines)?;
-    let place = Placed::placed(alloc, case, case)?;
-    let builder = SafeBuilder::new(alloc, &sources, kind, place, config);
-    let builder = texted(headed(builder, case)?, case)?;
-    let report = labelled(alloc, builder, case)?.finish();
-    let mut out = Vec::new(alloc);
-    let told = report.write(&mut out);
-    Ok(answer_to(alloc, out, told)?)
+    Ok(drawn_over(alloc, case, &sources, kind, config)?)
 }
 
 /// A kind under another name, if it has a name of its own.

@@ -1,13 +1,12 @@
-//! Sends the picture of a case's report by the call that it names, and tells what was sent.
+//! Sends the picture of a case's report, and tells what was sent.
 
-ghost use Rattle.std.specs.Prelude.{Some};
-
-use crate::members::{count, word};
+use crate::making::report_of;
+use crate::members::count;
 use crate::mistake::Read;
-use ariadne::{Cache, LeftOut, Reason, Report, Sink, Span, WriteError};
+use crate::offsets::Placed;
+use ariadne::{Cache, LeftOut, Reason, Report, Span, WriteError};
 use ariadne_fakes::Taker;
 use std::alloc::{AllocError, Global};
-use std::io;
 use std::io::ErrorKind;
 use toml::Value;
 
@@ -47,66 +46,26 @@ pub struct Answer {
     pub picture: String,
 }
 
-/// By which call a report is written.
-#[derive(Clone, Copy)]
-pub enum Call {
-    Write,
-    WriteForStdout,
-    WriteTo,
-    /// To a writer that takes so many bytes, and then fails.
-    WriteInPart(usize),
-}
-
-static CALLS: [(&str, Call); 3] = [
-    ("write", Call::Write),
-    ("write_for_stdout", Call::WriteForStdout),
-    ("write_to", Call::WriteTo),
-];
-
-/// The call that a case names.
-pub fn call_of(case: &Value) -> Read<'_, Call> {
-    if let Some(room) = count(case, "takes") {
-        return Ok(Call::WriteInPart(room as usize));
-    }
-    word(case, "call", &CALLS, Call::Write, "not a call that writes")
-}
-
-/// A sink that takes all that it is given.
-#[derive(Drop)]
-struct Keeper {
-    bytes: Vec<u8>,
-    met_fault: bool,
-}
-
-impl Sink for Keeper {
-    ghost contents = { λ keeper. Some keeper.bytes.items };
-
-    ghost has_failed = { λ keeper. keeper.met_fault };
-
-    fn take(&mut self, bytes: &[u8]) -> io::Result<usize> {
-        match self.bytes.extend_from_slice(bytes) {
-            Ok(()) => Ok(bytes.len()),
-            Err(refused) => {
-                self.met_fault = true;
-                Err(refused.into())
-            }
-        }
-    }
-
-    fn failed(&self) -> bool {
-        self.met_fault
-    }
-}
-
-/// A report, and the call that sends it.
+/// A report, and how much of its picture is taken.
 #[derive(Drop)]
 pub struct Sending<'c, S: Span> {
     pub alloc: Global,
-    pub call: Call,
-    pub report: Report<'c, S>,
+    /// How many bytes the writer takes before it fails, if it does.
+    room: Option<usize>,
+    report: Report<'c, S>,
 }
 
-impl<S: Span> Sending<'_, S> {
+/// The report of a case, and how much of its picture is taken.
+pub fn sending_of<S: Placed>(alloc: Global, case: &Value) -> Read<'_, Sending<'_, S>> {
+    let report = report_of(alloc, case)?;
+    Ok(Sending {
+        alloc,
+        room: count(case, "takes").map(|room| room as usize),
+        report,
+    })
+}
+
+impl<'c, S: Span> Sending<'c, S> {
     /// Sends the picture over a cache to `out`.
     fn send<C: Cache<S::SourceId>>(
         &self,
@@ -115,35 +74,22 @@ impl<S: Span> Sending<'_, S> {
     ) -> Result<Vec<LeftOut<C::Error>>, WriteError>
         requires { C.can_fetch cache.old }
     {
-        match self.call {
-            Call::Write => self.report.write(cache, out),
-            Call::WriteForStdout => self.report.write_for_stdout(cache, out),
-            Call::WriteTo => {
-                let mut keeper = Keeper {
-                    bytes: Vec::new(self.alloc),
-                    met_fault: false,
-                };
-                let told = self.report.write_to(cache, &mut keeper);
-                *out = keeper.bytes;
-                told
-            }
-            Call::WriteInPart(room) => {
-                let fault = Some(ErrorKind::BrokenPipe);
-                let mut taker = Taker::narrow(self.alloc, room, 1, fault);
-                let told = self.report.write(cache, &mut taker);
-                *out = taker.held;
-                told
-            }
-        }
+        let Some(room) = self.room else {
+            return self.report.write(cache, out);
+        };
+        let mut taker = Taker::narrow(self.alloc, room, 1, Some(ErrorKind::BrokenPipe));
+        let told = self.report.write(cache, &mut taker);
+        *out = taker.held;
+        told
     }
 
     /// What is drawn over a cache.
-    pub fn over<C: Cache<S::SourceId>>(&self, cache: &mut C) -> Result<Answer, AllocError>
+    pub fn over<C: Cache<S::SourceId>>(&self, cache: &mut C) -> Read<'c, Answer>
         requires { C.can_fetch cache.old }
     {
         let mut out = Vec::new(self.alloc);
         let told = self.send(cache, &mut out);
-        answer_to(self.alloc, out, told)
+        Ok(answer_to(self.alloc, out, told)?)
     }
 }
 

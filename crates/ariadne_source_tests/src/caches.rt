@@ -101,10 +101,22 @@ fn a_report_is_drawn_alike_over_a_pair_that_lends_its_source_or_has_it(rt: HostR
 }
 
 #[test]
+fn a_pair_has_the_labels_on_its_source_alone(rt: HostRuntime) {
+    let report = report_at(&rt, "x", &[("z", 0, 1, "lost"), ("x", 1, 2, "q")]);
+    let lost = [(0, Why::Unfetched)];
+    let source = Source::from(rt.alloc(), "ab").expect(&rt, "memory");
+    assert_over(&rt, &report, &mut ("x", &source), &lost, &SECOND);
+    assert_over(&rt, &report, &mut ("x", source), &lost, &SECOND)
+}
+
+#[test]
 fn a_source_without_a_name_is_unknown(rt: HostRuntime) {
     let mut source = Source::from(rt.alloc(), "ab").expect(&rt, "memory");
     assert_unnamed(&rt, &mut (&source));
-    assert_unnamed(&rt, &mut source)
+    assert_unnamed(&rt, &mut (&mut source));
+    assert_unnamed(&rt, &mut source);
+    let mut boxed = Box::new(rt.alloc(), source).expect(&rt, "memory");
+    assert_unnamed(&rt, &mut boxed)
 }
 
 #[test]

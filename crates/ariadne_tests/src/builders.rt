@@ -83,12 +83,37 @@ const ASIDES: [&str; 17] = [
 
 #[test]
 fn helps_and_notes_stand_behind_those_that_are_there(rt: HostRuntime) {
-    let mut report = begun(&rt).with_label(first(&rt)).expect(&rt, "memory");
-    report.add_help("a").expect(&rt, "memory");
+    let report = begun(&rt).with_label(first(&rt)).expect(&rt, "memory");
+    let report = report.with_help("a").expect(&rt, "memory");
+    let mut report = report.with_note("d").expect(&rt, "memory");
     report.with_helps(["b", "c"]).expect(&rt, "memory");
-    report.add_note("d").expect(&rt, "memory");
     report.with_notes(["e"]).expect(&rt, "memory");
     assert_picture(&rt, &report.finish(), "ab", &ASIDES).expect(&rt, "the picture")
+}
+
+/// The picture of the report with a help and a note.
+const ASIDE: [&str; 11] = [
+    "Error: m",
+    "   ,-[ <unknown>:1:1 ]",
+    "   |",
+    " 1 | ab",
+    "   | |",
+    "   | `-- p",
+    "   |",
+    "   | Help: b",
+    "   |",
+    "   | Note: d",
+    "---'",
+];
+
+#[test]
+fn a_help_or_a_note_that_is_set_takes_the_place_of_those_before(rt: HostRuntime) {
+    let report = begun(&rt).with_label(first(&rt)).expect(&rt, "memory");
+    let report = report.with_help("a").expect(&rt, "memory");
+    let mut report = report.with_note("c").expect(&rt, "memory");
+    report.set_help("b").expect(&rt, "memory");
+    report.set_note("d").expect(&rt, "memory");
+    assert_picture(&rt, &report.finish(), "ab", &ASIDE).expect(&rt, "the picture")
 }
 
 #[test]
