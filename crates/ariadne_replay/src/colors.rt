@@ -34,15 +34,17 @@ pub fn color_of(text: &str) -> Option<Color> {
 
 /// A colour that has numbers.
 fn numbered_color(text: &str) -> Option<Color> {
-    if let Some(number) = text.strip_prefix("Fixed ") {
-        return Some(Color::Fixed(byte_of(number)?));
+    match text.strip_prefix("Fixed ") {
+        Some(number) => Some(Color::Fixed(byte_of(number)?)),
+        None => rgb_of(text.strip_prefix("Rgb ")?),
     }
-    let (red, rest) = text.strip_prefix("Rgb ")?.split_once(' ')?;
+}
+
+/// A colour of three numbers: `1 2 3`.
+fn rgb_of(numbers: &str) -> Option<Color> {
+    let (red, rest) = numbers.split_once(' ')?;
     let (green, blue) = rest.split_once(' ')?;
-    match (byte_of(red), byte_of(green), byte_of(blue)) {
-        (Some(red), Some(green), Some(blue)) => Some(Color::Rgb(red, green, blue)),
-        _ => None,
-    }
+    Some(Color::Rgb(byte_of(red)?, byte_of(green)?, byte_of(blue)?))
 }
 
 /// A number of a colour.

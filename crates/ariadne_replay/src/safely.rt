@@ -45,13 +45,24 @@ fn named_source<'c>(
 /// The sources of a case, in their order.
 fn sources_of(alloc: Global, case: &Value, lines: LineEnds) -> Read<'_, SafeSources> {
     let mut sources = SafeSources::new(alloc);
+    add_sources(alloc, &mut sources, case, lines)?;
+    Ok(sources)
+}
+
+/// Adds the sources of a case, in their order.
+fn add_sources<'c>(
+    alloc: Global,
+    sources: &mut SafeSources,
+    case: &'c Value,
+    lines: LineEnds,
+) -> Read<'c, ()> {
     if let Some(only) = text(case, "source") {
         sources.add(source_of(alloc, only, case, lines)?)?;
     }
     for told in list(case, "sources") {
         sources.add(named_source(alloc, case, told, lines)?)?;
     }
-    Ok(sources)
+    Ok(())
 }
 
 /// A report with the code and the message of its case.

@@ -99,20 +99,28 @@ pub fn answer_to<E: Drop>(
     bytes: Vec<u8>,
     told: Result<Vec<LeftOut<E>>, WriteError>,
 ) -> Result<Answer, AllocError> {
+    let left_out = listed(alloc, left_out_in(&told))?;
     let end = end_of(&told, bytes.len());
-    let left_out = match told {
-        Ok(left_out) => listed(alloc, left_out.as_slice())?,
-        Err(_) => String::from_str(alloc, "[]")?,
-    };
-    let (picture, end) = match String::from_utf8(bytes) {
-        Ok(picture) => (picture, end),
-        Err(_) => (String::new(alloc), End::NoText),
-    };
-    Ok(Answer {
-        left_out,
-        end,
-        picture,
+    Ok(match String::from_utf8(bytes) {
+        Ok(picture) => Answer {
+            left_out,
+            end,
+            picture,
+        },
+        Err(_) => Answer {
+            left_out,
+            end: End::NoText,
+            picture: String::new(alloc),
+        },
     })
+}
+
+/// The labels that a call left out.
+fn left_out_in<E>(told: &Result<Vec<LeftOut<E>>, WriteError>) -> &[LeftOut<E>] {
+    match told {
+        Ok(left_out) => left_out.as_slice(),
+        Err(_) => &[],
+    }
 }
 
 /// What came of a call, of which the writer took so many bytes.
