@@ -1,6 +1,6 @@
 -- What may be taken from each sentence of the headline: what is proved here needs each field of the records, and no field of a
 -- premise that these reports don't meet.
-use Rattle.std.proofs.Common.{◌≡◌, ℕ, true, List, Option}
+use Rattle.std.proofs.Common.{◌≡◌, ◌⊎◌, ℕ, true, List, Option}
 use Rattle.std.specs.Cmp.Derive.{both_true}
 use Rattle.std.specs.Prelude.{Some, [], ◌∷◌, slice_get, Contains, IsPermutation}
 use Rattle.std.specs.List.{AllByRecursion}
@@ -12,12 +12,12 @@ use Rattle.ariadne_picture.specs.Pieces.{Section, Texts}
 use Rattle.ariadne_picture.specs.Canvas.{Cell, canvas, sections, texts_of}
 use Rattle.ariadne_picture.specs.Print.{printed, erased, unescaped}
 use Rattle.ariadne_picture.specs.Sent.{HaveColumnsOfTexts, HaveNoLineFeeds, RowsAreLines, row_text}
-use Rattle.ariadne_picture.specs.Ranks.{gutter_labels}
+use Rattle.ariadne_picture.specs.Ranks.{gutter_labels, is_on_one_line}
 use Rattle.ariadne_picture.specs.Placing.Group.{messages_of, shown_lines}
 use Rattle.ariadne_picture.specs.Placing.Rows.{Placing}
 use Rattle.ariadne_picture.specs.LabelColors.{label_color, has_label_colors}
 use Rattle.ariadne_picture.specs.ReadBack.{HaveShortNumbers, IsReadBack, group_sources, labels_told, read_back}
-use Rattle.ariadne_picture.specs.Readings.{HasSameRow}
+use Rattle.ariadne_picture.specs.Readings.{AgreeOnEnds, HasSameRow, AreTwins, attach_column}
 use Rattle.ariadne_picture.specs.Variants.{HaveNoEscapes, ColorsMoveNothing, BytesDrawAsCharacters, colorless, char_world, char_report, verdict_at}
 use Rattle.ariadne_picture.specs.Headline.{IsReadBy, IsTraced, AreReadInOneWay, Headline}
 use Rattle.ariadne_picture.proofs.Rows.RowPlacing.{is_read}
@@ -104,6 +104,24 @@ module _ (rows : List (List Cell)) (groups : List Section) (message_of : ℕ →
   one_row_of_a_message : (g : ℕ) (s : Section) (a : LabelInfo) → slice_get groups g ≡ Some s → Contains (messages_of s) a
       → HasSameRow message_of s p q a
   one_row_of_a_message = (one p q by_p by_q).messages
+
+-- the message of a gutter label has one row in two placings that agree on ends
+one_row_of_an_end : (groups : List Section) (p q : Placing) → AgreeOnEnds groups p q
+    → (g : ℕ) (s : Section) (i : ℕ) (a : LabelInfo) → slice_get groups g ≡ Some s → slice_get (gutter_labels s.sheet) i ≡ Some a
+    → p.message_row a.position ≡ q.message_row a.position
+one_row_of_an_end groups p q h = h
+
+-- a row that has a message in two placings has that of one label in both, or those of twins
+whose_message_it_has : (message_of : ℕ → List ℕ) (s : Section) (p q : Placing) (a : LabelInfo) → HasSameRow message_of s p q a
+    → (b : LabelInfo) × Contains (messages_of s) b × (p.message_row a.position ≡ q.message_row b.position)
+    × ((a ≡ b) ⊎ AreTwins message_of s a b)
+whose_message_it_has message_of s p q a h = (h.label, h.there, h.same_row, h.same_label)
+
+-- twins are two labels within one line, with one message, attached at one column
+what_twins_share : (message_of : ℕ → List ℕ) (s : Section) (a b : LabelInfo) → AreTwins message_of s a b
+    → (is_on_one_line a ≡ true) × (is_on_one_line b ≡ true) × (a.start_line ≡ b.start_line)
+    × (message_of a.position ≡ message_of b.position) × (attach_column s a ≡ attach_column s b)
+what_twins_share message_of s a b h = (h.first_within_a_line, h.second_within_a_line, h.same_line, h.same_message, h.same_column)
 
 -- rows whose cells don't take the columns of their texts, and that are no lines
 a_wide_character_in_one_column : HaveColumnsOfTexts ((plain "漢" ∷ []) ∷ []) → ⊥

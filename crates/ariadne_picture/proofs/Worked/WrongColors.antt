@@ -7,7 +7,7 @@ use Rattle.ariadne_picture.specs.Report.{ConfigFields, LabelFields, ReportFields
 use Rattle.ariadne_picture.specs.Canvas.{Cell, texts_of}
 use Rattle.ariadne_picture.specs.LabelColors.{label_color, has_label_colors}
 use Rattle.ariadne_picture.proofs.Rows.RowPlacing.{row_placing}
-use Rattle.ariadne_picture.proofs.Worked.Sample.{Span, Entry, one, label, silent_label, configured, ascii_config, color_config, compact_config}
+use Rattle.ariadne_picture.proofs.Worked.Sample.{Span, Entry, nameless, one, label, label_in, silent_label, configured, ascii_config, color_config, compact_config}
 use Rattle.ariadne_picture.proofs.Worked.Sample.{unicode_config}
 use Rattle.ariadne_picture.proofs.Worked.Readings.{cells_of, parts_of}
 use Rattle.ariadne_picture.proofs.Worked.Changes.{Rows, as_drawn, on_row, on_cell, further_verdicts, judged}
@@ -62,13 +62,18 @@ of_crossed = color_verdicts (one "aa\nbb\ncc") (configured crossed_config (in_co
 unfoldable of_apart : (Rows → Rows) → List Bool
 of_apart = color_verdicts (one "aa\nbb\ncc") (configured color_config (in_color Red (label 0 8 "all") ∷ in_color Green (label 1 4 "mid") ∷ []))
 
+-- two groups of one line
+unfoldable of_files : (Rows → Rows) → List Bool
+of_files = color_verdicts (nameless "a" "x" ∷ nameless "b" "yz" ∷ [])
+    (configured color_config (in_color Red (label_in "a" 0 1 "p") ∷ in_color Green (label_in "b" 0 1 "q") ∷ []))
+
 unfoldable tangled : ConfigFields → (Rows → Rows) → List Bool
 tangled config = color_verdicts (one "ab漢d\nefgh\nijkl\nm") (configured (record config { color = true })
     (in_color Red (label 0 12 "a") ∷ in_color Blue (label 2 7 "b") ∷ in_color Green (label 1 8 "c") ∷ in_color (Fixed 9) (label 5 6 "d")
     ∷ in_color Blue (silent_label 1 2) ∷ label 0 3 "e" ∷ []))
 
 unfoldable computed : Unit {0}
-unfolding judged color_verdicts has in_color fruit of_fruit of_plain on_one_character of_nested crossed_config of_crossed of_apart tangled
+unfolding judged color_verdicts has in_color fruit of_fruit of_plain on_one_character of_nested crossed_config of_crossed of_apart of_files tangled
 computed = tt
 
 -- ---- finished pictures
@@ -205,6 +210,10 @@ a_vertical_of_an_end = refl
 a_broken_bar : of_crossed (has 6 3 (Some Green)) ≡ miscolored
 unfolding computed
 a_broken_bar = refl
+
+a_corner_in_the_second_group : of_files (has 11 3 (Some Red)) ≡ miscolored
+unfolding computed
+a_corner_in_the_second_group = refl
 
 a_bar_in_the_second_group : of_apart (has 12 3 (Some Red)) ≡ miscolored
 unfolding computed

@@ -9,8 +9,8 @@ use Rattle.ariadne_picture.proofs.Worked.Changes.{no_message_rows, no_inline_tra
 
 -- ---- the pictures
 
--- a label over two lines within one over three; here, and for two labels on one line, a group of one line stands in front
--- that isn't counted
+-- a label over two lines within one over three; here, for two labels on one line and for one on a wide character, a group of
+-- one line stands in front that isn't counted
 unfoldable of_nested : (Rows → Rows) → List Bool
 of_nested = verdicts_behind (one "aa\nbb\ncc") nested
 
@@ -20,7 +20,7 @@ of_apart = verdicts (one "aa\nbb\ncc") apart
 
 -- a label on a wide character behind a tab
 unfoldable of_wide : (Rows → Rows) → List Bool
-of_wide = verdicts (one "\t漢x") wide
+of_wide = verdicts_behind (one "\t漢x") wide
 
 -- two labels on one line
 unfoldable of_fruit : (Rows → Rows) → List Bool
