@@ -1,30 +1,34 @@
 -- The clause on colours, by computation: it holds on finished pictures, by the placing that the names of their rows give, and alone
--- refuses pictures where a stroke has another colour.
-use Rattle.std.specs.Prelude.{◌≡◌, ℕ, Bool, true, false, refl, [], ◌∷◌, ◌++◌, List, Option, Some, None}
+-- refuses pictures where a stroke has another colour. Each picture is judged alone, and behind another group.
+use Rattle.std.specs.Prelude.{◌≡◌, ℕ, pos, Bool, true, false, refl, [], ◌∷◌, ◌++◌, List, Option, Some, None}
 use Rattle.ariadne_color.specs.declared.color.Color.{Color}
 use Rattle.ariadne_color.specs.declared.color.Color.TheVariants.{Red, Blue, Green, Fixed}
 use Rattle.ariadne_picture.specs.Report.{ConfigFields, LabelFields, ReportFields}
 use Rattle.ariadne_picture.specs.Canvas.{Cell, texts_of}
 use Rattle.ariadne_picture.specs.LabelColors.{label_color, has_label_colors}
 use Rattle.ariadne_picture.proofs.Rows.RowPlacing.{row_placing}
-use Rattle.ariadne_picture.proofs.Worked.Sample.{Span, Entry, nameless, one, label, label_in, silent_label, configured, ascii_config, color_config, compact_config}
+use Rattle.ariadne_picture.proofs.Worked.Sample.{Span, Entry, one, label, silent_label, configured, ascii_config, color_config, compact_config}
 use Rattle.ariadne_picture.proofs.Worked.Sample.{unicode_config}
 use Rattle.ariadne_picture.proofs.Worked.Readings.{cells_of, parts_of}
-use Rattle.ariadne_picture.proofs.Worked.Changes.{Rows, as_drawn, on_row, on_cell, further_verdicts, judged}
+use Rattle.ariadne_picture.proofs.Worked.Changes.{Rows, as_drawn, on_row, on_cell, further_verdicts, sources_behind, report_behind, change_behind, judged}
 
--- the six clauses of `verdicts`, whole blocks, no other strokes, colours
+-- the six clauses of `verdicts`, whole blocks, no other strokes, colours: alone, and behind another group
 abbrev all_hold : List Bool
-all_hold = true ∷ true ∷ true ∷ true ∷ []
+all_hold = true ∷ true ∷ true ∷ true ∷ true ∷ true ∷ true ∷ true ∷ []
 
 -- only the last one refuses it
 abbrev miscolored : List Bool
-miscolored = true ∷ true ∷ true ∷ false ∷ []
+miscolored = true ∷ true ∷ true ∷ false ∷ true ∷ true ∷ true ∷ false ∷ []
 
-unfoldable color_verdicts : List Entry → ReportFields Span → (Rows → Rows) → List Bool
-color_verdicts entries r change =
+unfoldable verdicts_alone : List Entry → ReportFields Span → (Rows → Rows) → List Bool
+verdicts_alone entries r change =
     let parts = parts_of entries r in
     further_verdicts entries r change
     ++ has_label_colors (change (cells_of entries r)) parts (row_placing (texts_of r) parts) (label_color r) ∷ []
+
+unfoldable color_verdicts : List Entry → ReportFields Span → (Rows → Rows) → List Bool
+color_verdicts entries r change =
+    verdicts_alone entries r change ++ verdicts_alone (sources_behind entries) (report_behind r) (change_behind change)
 
 -- cell c of row n has this colour
 unfoldable has : ℕ → ℕ → Option Color → Rows → Rows
@@ -58,14 +62,18 @@ crossed_config = record unicode_config { color = true }
 unfoldable of_crossed : (Rows → Rows) → List Bool
 of_crossed = color_verdicts (one "aa\nbb\ncc") (configured crossed_config (in_color Red (label 0 8 "far") ∷ in_color Green (label 1 7 "near") ∷ []))
 
--- two groups
-unfoldable of_apart : (Rows → Rows) → List Bool
-of_apart = color_verdicts (one "aa\nbb\ncc") (configured color_config (in_color Red (label 0 8 "all") ∷ in_color Green (label 1 4 "mid") ∷ []))
+-- a bar stands in the way from the margin to the line beside which the outer label ends
+unfoldable of_barred : (Rows → Rows) → List Bool
+of_barred = color_verdicts (one "aa\nbb\ncc\ndd") (configured color_config (in_color Red (label 0 8 "far") ∷ in_color Green (label 4 11 "near") ∷ []))
 
--- two groups of one line
-unfoldable of_files : (Rows → Rows) → List Bool
-of_files = color_verdicts (nameless "a" "x" ∷ nameless "b" "yz" ∷ [])
-    (configured color_config (in_color Red (label_in "a" 0 1 "p") ∷ in_color Green (label_in "b" 0 1 "q") ∷ []))
+-- one label ends beside its line, and below its message another one ends at the same place
+unfoldable of_hanging : (Rows → Rows) → List Bool
+of_hanging = color_verdicts (one "aa\nbb") (configured color_config
+    (in_color Red (label 0 4 "far") ∷ record (in_color Green (label 3 4 "b")) { order = pos 1 } ∷ []))
+
+-- the place of the first label has no cell: the text is e, U+0301, x
+unfoldable of_accent : (Rows → Rows) → List Bool
+of_accent = color_verdicts (one "éx") (configured color_config (in_color Red (label 1 2 "a") ∷ in_color Green (label 2 3 "b") ∷ []))
 
 unfoldable tangled : ConfigFields → (Rows → Rows) → List Bool
 tangled config = color_verdicts (one "ab漢d\nefgh\nijkl\nm") (configured (record config { color = true })
@@ -73,7 +81,8 @@ tangled config = color_verdicts (one "ab漢d\nefgh\nijkl\nm") (configured (recor
     ∷ in_color Blue (silent_label 1 2) ∷ label 0 3 "e" ∷ []))
 
 unfoldable computed : Unit {0}
-unfolding judged color_verdicts has in_color fruit of_fruit of_plain on_one_character of_nested crossed_config of_crossed of_apart of_files tangled
+unfolding judged verdicts_alone color_verdicts has in_color fruit of_fruit of_plain on_one_character of_nested crossed_config of_crossed of_barred of_hanging
+    of_accent tangled
 computed = tt
 
 -- ---- finished pictures
@@ -98,9 +107,13 @@ crossed_labels : of_crossed as_drawn ≡ all_hold
 unfolding computed
 crossed_labels = refl
 
-labels_in_two_groups : of_apart as_drawn ≡ all_hold
+a_bar_before_an_arrow_head : of_barred as_drawn ≡ all_hold
 unfolding computed
-labels_in_two_groups = refl
+a_bar_before_an_arrow_head = refl
+
+a_place_without_a_cell : of_accent as_drawn ≡ all_hold
+unfolding computed
+a_place_without_a_cell = refl
 
 tangled_labels : tangled ascii_config as_drawn ≡ all_hold
 unfolding computed
@@ -183,6 +196,10 @@ a_head_below_a_line : of_nested (has 5 5 (Some Green)) ≡ miscolored
 unfolding computed
 a_head_below_a_line = refl
 
+a_gutter_cell_of_a_head : of_nested (has 5 6 (Some Green)) ≡ miscolored
+unfolding computed
+a_gutter_cell_of_a_head = refl
+
 a_horizontal_of_a_head : of_nested (has 5 9 (Some Green)) ≡ miscolored
 unfolding computed
 a_horizontal_of_a_head = refl
@@ -199,6 +216,10 @@ a_corner_of_an_end : of_nested (has 8 5 (Some Green)) ≡ miscolored
 unfolding computed
 a_corner_of_an_end = refl
 
+a_gutter_cell_of_an_end : of_nested (has 8 6 (Some Green)) ≡ miscolored
+unfolding computed
+a_gutter_cell_of_an_end = refl
+
 a_horizontal_of_an_end : of_nested (has 8 10 (Some Green)) ≡ miscolored
 unfolding computed
 a_horizontal_of_an_end = refl
@@ -211,13 +232,10 @@ a_broken_bar : of_crossed (has 6 3 (Some Green)) ≡ miscolored
 unfolding computed
 a_broken_bar = refl
 
-a_corner_in_the_second_group : of_files (has 11 3 (Some Red)) ≡ miscolored
+-- the label above it ends at the same place, but it doesn't turn there
+a_vertical_below_the_end_of_another_label : of_hanging (has 5 7 (Some Red)) ≡ miscolored
 unfolding computed
-a_corner_in_the_second_group = refl
-
-a_bar_in_the_second_group : of_apart (has 12 3 (Some Red)) ≡ miscolored
-unfolding computed
-a_bar_in_the_second_group = refl
+a_vertical_below_the_end_of_another_label = refl
 
 -- ---- what a label's horizontal crosses is not its own
 
