@@ -35,9 +35,14 @@ def old_escape(found):
     return escape if escape == r"\\" else r"\u00" + code
 
 
+def members_of(text):
+    """The members of a file, or of a case as it stands there."""
+    return tomllib.loads(NEW_ESCAPE.sub(old_escape, text))
+
+
 def cases_of(text):
     """The cases of a file."""
-    return tomllib.loads(NEW_ESCAPE.sub(old_escape, text)).get("case", [])
+    return members_of(text).get("case", [])
 
 
 def stored_cases():

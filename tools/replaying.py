@@ -21,16 +21,17 @@ def program():
     return ran.stdout.decode().removesuffix("\n")
 
 
-def ask(cases):
-    """The status with which the program ends, and what it says of each of these cases, by name."""
-    ran = subprocess.run([program(), "--answer"], input=cases.encode(), stdout=subprocess.PIPE)
+def ask(cases, folder=None):
+    """The status with which the program ends, and what it says of each of these cases, by name. The
+    files that they name lie in a folder."""
+    ran = subprocess.run([program()], input=cases.encode(), stdout=subprocess.PIPE, cwd=folder)
     lines = (it for it in ran.stdout.split(b"\n") if it.startswith(b'{"answer": ') and it.endswith(b"}"))
     return ran.returncode, {answer.pop("answer"): answer for answer in map(json.loads, lines)}
 
 
-def answers_to(cases):
+def answers_to(cases, folder=None):
     """What the program says of each of these cases, by name. A run that fails ends this one."""
-    status, answers = ask(cases)
+    status, answers = ask(cases, folder)
     if status:
         sys.exit(f"ariadne_replay ended with status {status}")
     return answers

@@ -42,9 +42,11 @@ fn numbered_color(text: &str) -> Option<Color> {
 
 /// A colour of three numbers: `1 2 3`.
 fn rgb_of(numbers: &str) -> Option<Color> {
-    let (red, rest) = numbers.split_once(' ')?;
-    let (green, blue) = rest.split_once(' ')?;
-    Some(Color::Rgb(byte_of(red)?, byte_of(green)?, byte_of(blue)?))
+    let mut bytes = numbers.split(' ').map(byte_of);
+    match (bytes.next()?, bytes.next()?, bytes.next()?) {
+        (Some(red), Some(green), Some(blue)) => Some(Color::Rgb(red, green, blue)),
+        _ => None,
+    }
 }
 
 /// A number of a colour.

@@ -1,16 +1,17 @@
-//! A cache that shows no name for one of its ids.
+//! A cache that may show no name for one of its ids.
 
-ghost use Rattle.std.specs.Prelude.{None, cond, string_bytes};
+ghost use Rattle.std.specs.Prelude.{◌&&◌, None, cond, string_bytes};
 ghost use Rattle.std.specs.Str.{bytes_eq};
 ghost use Rattle.std.specs.Cmp.Lexicographic.{bytes_decides};
 ghost use Rattle.std.proofs.Common.{ap₂};
 
 use ariadne::{Cache, FetchError, Source};
 
-/// A cache that shows no name for one of its ids, and is in all else the cache that it holds.
+/// A cache that shows no name for an id, if it hides one, and is in all else the cache that it holds.
 #[derive(Drop)]
 pub struct Discreet<'h, C: Cache<String>> {
     pub cache: C,
+    pub is_hiding: bool,
     pub hidden: &'h str,
 }
 
@@ -21,7 +22,7 @@ impl<'h, C: Cache<String>> Cache<String> for Discreet<'h, C> {
 
     ghost contents = { λ c. C.contents c.cache };
 
-    ghost names = { λ c id. cond (bytes_eq (string_bytes id) c.hidden.now) None
+    ghost names = { λ c id. cond (c.is_hiding && bytes_eq (string_bytes id) c.hidden.now) None
         (C.names c.cache id) };
 
     ghost fails = { C.fails };
@@ -29,7 +30,7 @@ impl<'h, C: Cache<String>> Cache<String> for Discreet<'h, C> {
     ghost can_fetch = { λ c. C.can_fetch c.cache };
 
     ghost names_respect_eq = { λ c p q h.
-        ap₂ (λ text name. cond (bytes_eq text c.hidden.now) None name)
+        ap₂ (λ text name. cond (c.is_hiding && bytes_eq text c.hidden.now) None name)
         ((bytes_decides (string_bytes p) (string_bytes q)).0 h)
         (C.names_respect_eq c.cache p q h) };
 
@@ -42,7 +43,7 @@ impl<'h, C: Cache<String>> Cache<String> for Discreet<'h, C> {
     }
 
     fn display<'a>(&'a self, id: &'a String) -> Option<&'a str> {
-        if id.as_str() == self.hidden {
+        if self.is_hiding && id.as_str() == self.hidden {
             return None;
         }
         self.cache.display(id)

@@ -1,10 +1,9 @@
 //! The report and the sources of a case, made with the public calls.
 
-ghost use Rattle.std.specs.Prelude.{◌+◌, ◌<◌, ◌^◌, IfOk};
+ghost use Rattle.std.specs.Prelude.{◌+◌, ◌<◌, ◌^◌};
 
 use crate::colors::color_of;
 use crate::members::{color, count, list, number, switch, text, text_of, word};
-use crate::mistake::{Mistake, Read};
 use crate::offsets::Placed;
 use ariadne::{
     CharSet, Config, Fmt, IndexType, Label, LabelAttach, Report, ReportBuilder, ReportKind, Source,
@@ -21,16 +20,10 @@ const KINDS: [(&str, ReportKind<'static>); 3] = [
 ];
 
 /// The kind of a case's report.
-pub fn kind_of(case: &Value) -> Read<'_, ReportKind<'_>> {
+pub fn kind_of(case: &Value) -> ReportKind<'_> {
     match color(case, "kind_color") {
-        Some(color) => Ok(ReportKind::Custom(text(case, "kind").unwrap_or("Error"), color)),
-        None => word(
-            case,
-            "kind",
-            &KINDS,
-            ReportKind::Error,
-            "a kind without a kind_color",
-        ),
+        Some(color) => ReportKind::Custom(text(case, "kind").unwrap_or("Error"), color),
+        None => word(case, "kind", &KINDS, ReportKind::Error),
     }
 }
 
@@ -62,36 +55,13 @@ fn switched(told: &Value) -> Config {
 
 /// The settings of a case. Where it tells nothing else they are in ASCII. (A case has no members of
 /// the names of settings.)
-pub fn config_of(case: &Value) -> Read<'_, Config> {
+pub fn config_of(case: &Value) -> Config {
     let told = case.get("settings").unwrap_or(case);
     let middle = LabelAttach::Middle;
-    let attach = word(
-        told,
-        "label_attach",
-        &LABEL_ATTACHES,
-        middle,
-        "not Start, Middle or End",
-    )?;
-    let set = word(
-        told,
-        "char_set",
-        &CHAR_SETS,
-        CharSet::Ascii,
-        "not Unicode or Ascii",
-    )?;
-    let index = word(
-        told,
-        "index_type",
-        &INDEX_TYPES,
-        IndexType::Char,
-        "not Char or Byte",
-    )?;
-    Ok(
-        switched(told)
-            .with_label_attach(attach)
-            .with_char_set(set)
-            .with_index_type(index),
-    )
+    switched(told)
+        .with_label_attach(word(told, "label_attach", &LABEL_ATTACHES, middle))
+        .with_char_set(word(told, "char_set", &CHAR_SETS, CharSet::Ascii))
+        .with_index_type(word(told, "index_type", &INDEX_TYPES, IndexType::Char))
 }
 
 /// A label of a case.
@@ -113,24 +83,36 @@ pub fn label_of<S: Placed>(
     }
 }
 
-/// A report of a kind, in the place of its case, and with its code and its message.
-fn begun<'c, S: Placed>(
-    alloc: Global,
+/// A report with the code of its case that is a number.
+fn numbered<'c, S: Placed>(
+    builder: ReportBuilder<'c, S>,
     case: &Value,
-    kind: ReportKind<'c>,
 ) -> Result<ReportBuilder<'c, S>, AllocError> {
-    let builder = Report::build(alloc, kind, S::placed(alloc, case, case)?);
-    let builder = match count(case, "number") {
-        Some(number) => builder.with_code(number)?,
-        None => builder,
-    };
-    let builder = match text(case, "code") {
-        Some(code) => builder.with_code_text(code)?,
-        None => builder,
-    };
-    match text(case, "message") {
-        Some(message) => builder.with_message(message),
+    match count(case, "number") {
+        Some(number) => builder.with_code(number),
         None => Ok(builder),
+    }
+}
+
+/// A report with the code of its case that is a text.
+fn coded<'c, S: Placed>(
+    builder: ReportBuilder<'c, S>,
+    case: &Value,
+) -> Result<ReportBuilder<'c, S>, AllocError> {
+    match text(case, "code") {
+        Some(code) => builder.with_code_text(code),
+        None => Ok(builder),
+    }
+}
+
+/// Sets the message of a case.
+fn set_message<S: Span>(
+    builder: &mut ReportBuilder<'_, S>,
+    case: &Value,
+) -> Result<(), AllocError> {
+    match text(case, "message") {
+        Some(message) => builder.set_message(message),
+        None => Ok(()),
     }
 }
 
@@ -187,51 +169,44 @@ fn add_painted<S: Span>(
     Ok(())
 }
 
-/// Adds the helps, the notes and the labels of a case.
+/// Sets the message of a case, and adds its helps, its notes and its labels.
 fn add_parts<S: Placed>(
     alloc: Global,
     builder: &mut ReportBuilder<'_, S>,
     case: &Value,
 ) -> Result<(), AllocError> {
+    set_message(builder, case)?;
     add_helps(builder, list(case, "helps"))?;
     add_notes(builder, list(case, "notes"))?;
     add_labels(alloc, builder, case)?;
     add_painted(alloc, builder, case)
 }
 
-/// The report of a case, of a kind and with a configuration.
-fn made<'c, S: Placed>(
-    alloc: Global,
-    case: &Value,
-    kind: ReportKind<'c>,
-    config: Config,
-) -> Result<Report<'c, S>, AllocError> {
-    let mut builder = begun(alloc, case, kind)?;
-    add_parts(alloc, &mut builder, case)?;
-    Ok(builder.with_config(config).finish())
-}
-
 /// The report of a case.
-pub fn report_of<S: Placed>(alloc: Global, case: &Value) -> Read<'_, Report<'_, S>> {
-    let kind = kind_of(case)?;
-    let config = config_of(case)?;
-    Ok(made(alloc, case, kind, config)?)
+pub fn report_of<S: Placed>(alloc: Global, case: &Value) -> Result<Report<'_, S>, AllocError> {
+    let place = S::placed(alloc, case, case)?;
+    let builder = Report::build(alloc, kind_of(case), place);
+    let mut builder = coded(numbered(builder, case)?, case)?;
+    add_parts(alloc, &mut builder, case)?;
+    Ok(builder.with_config(config_of(case)).finish())
 }
 
-/// How far the line numbers of a source are moved that has so many lines.
-pub fn line_offset(told: &Value, lines: usize) -> Read<'_, usize>
-    ensures { IfOk result (λ offset. offset + lines < 2 ^ 64) }
+/// The text of a source of several.
+pub fn text_in(source: &Value) -> &str {
+    text(source, "text").unwrap_or("")
+}
+
+/// How far the line numbers of a source are moved that has so many lines: no further than they can be.
+pub fn line_offset(told: &Value, lines: usize) -> usize
+    ensures { result + lines < 2 ^ 64 }
 {
     let offset = count(told, "line_offset").unwrap_or(0) as usize;
-    if lines > usize::MAX - offset {
-        return Err(Mistake::Odd("line_offset", "too great for the lines of the source"));
-    }
-    Ok(offset)
+    offset.min(usize::MAX - lines)
 }
 
 /// A text as a source whose lines are counted as a case tells.
-pub fn counted<'c>(alloc: Global, text: &str, told: &'c Value) -> Read<'c, Source<String>> {
+pub fn counted(alloc: Global, text: &str, told: &Value) -> Result<Source<String>, AllocError> {
     let source = Source::from(alloc, text.to_string(alloc)?)?;
-    let offset = line_offset(told, source.lines().len())?;
+    let offset = line_offset(told, source.lines().len());
     Ok(source.with_display_line_offset(offset))
 }

@@ -1,8 +1,6 @@
-//! The members of a case, or of a table in it, each of its type. They are read once their forms are
-//! checked, so one that is not there reads as one of another type does.
+//! The members of a case, or of a table in it. A member of another type reads as one that is not there.
 
 use crate::colors::color_of;
-use crate::mistake::{Mistake, Read};
 use ariadne::Color;
 use toml::Value;
 
@@ -26,18 +24,12 @@ pub fn meaning<T: Copy>(words: &[(&str, T)], word: &str) -> Option<T> {
     None
 }
 
-/// What a member says by one of these words, or its default. `wrong` is told of another word.
-pub fn word<'c, T: Copy>(
-    told: &'c Value,
-    name: &str,
-    words: &[(&str, T)],
-    default: T,
-    wrong: &'c str,
-) -> Read<'c, T> {
-    let Some(word) = text(told, name) else {
-        return Ok(default);
-    };
-    meaning(words, word).ok_or(Mistake::Odd(word, wrong))
+/// What a member says by one of these words, or its default.
+pub fn word<T: Copy>(told: &Value, name: &str, words: &[(&str, T)], default: T) -> T {
+    match text(told, name) {
+        Some(word) => meaning(words, word).unwrap_or(default),
+        None => default,
+    }
 }
 
 /// A member that is a colour.
@@ -50,40 +42,28 @@ pub fn switch(told: &Value, name: &str, default: bool) -> bool {
     told.get(name).and_then(Value::as_bool).unwrap_or(default)
 }
 
-/// A number from 0 on. One that is past a TOML number's is given as a text, by its digits.
-pub fn count_of(value: &Value) -> Option<u64> {
+/// A member that is a number from 0 on. One that is past a TOML number's is given as a text, by its
+/// digits.
+pub fn count(told: &Value, name: &str) -> Option<u64> {
+    let value = told.get(name)?;
     match value.as_str() {
         Some(digits) => digits.parse().ok(),
         None => u64::try_from(value.as_integer()?).ok(),
     }
 }
 
-/// A member that is a number from 0 on.
-pub fn count(told: &Value, name: &str) -> Option<u64> {
-    count_of(told.get(name)?)
-}
-
-/// A number of either sign.
-pub fn number_of(value: &Value) -> Option<i32> {
-    i32::try_from(value.as_integer()?).ok()
-}
-
 /// A member that is a number of either sign, or 0.
 pub fn number(told: &Value, name: &str) -> i32 {
-    told.get(name).and_then(number_of).unwrap_or(0)
-}
-
-/// The items of a list. What is no list has none.
-pub fn items_of(value: &Value) -> &[Value] {
-    match value.as_array() {
-        Some(items) => items.as_slice(),
-        None => &[],
-    }
+    let number = told.get(name).and_then(Value::as_integer).unwrap_or(0);
+    i32::try_from(number).unwrap_or(0)
 }
 
 /// A member that is a list. One that is not there is empty.
 pub fn list<'c>(told: &'c Value, name: &str) -> &'c [Value] {
-    told.get(name).map_or(&[], items_of)
+    match told.get(name).and_then(Value::as_array) {
+        Some(items) => items.as_slice(),
+        None => &[],
+    }
 }
 
 /// An item of a list of texts.

@@ -26,20 +26,15 @@ impl Offsets {
     };
 }
 
-/// The offsets of a text: `0..5`, or `0..=4`. The start is at most the end.
-pub fn offsets_of(text: &str) -> Option<Offsets> {
+/// The offsets of a text: `0..5`, or `0..=4`.
+fn offsets_of(text: &str) -> Option<Offsets> {
     let (start, end) = text.split_once("..")?;
     let last = end.strip_prefix('=');
-    let offsets = Offsets {
+    Some(Offsets {
         start: start.parse().ok()?,
         end: last.unwrap_or(end).parse().ok()?,
         is_inclusive: last.is_some(),
-    };
-    if offsets.start <= offsets.end {
-        Some(offsets)
-    } else {
-        None
-    }
+    })
 }
 
 /// The offsets of a case's report or of a label. Those of a report that tells none are `0..0`.

@@ -2,7 +2,6 @@
 
 use crate::making::report_of;
 use crate::members::count;
-use crate::mistake::Read;
 use crate::offsets::Placed;
 use ariadne::{Cache, LeftOut, Reason, Report, Span, WriteError};
 use ariadne_fakes::Taker;
@@ -56,7 +55,7 @@ pub struct Sending<'c, S: Span> {
 }
 
 /// The report of a case, and how much of its picture is taken.
-pub fn sending_of<S: Placed>(alloc: Global, case: &Value) -> Read<'_, Sending<'_, S>> {
+pub fn sending_of<S: Placed>(alloc: Global, case: &Value) -> Result<Sending<'_, S>, AllocError> {
     let report = report_of(alloc, case)?;
     Ok(Sending {
         alloc,
@@ -65,7 +64,7 @@ pub fn sending_of<S: Placed>(alloc: Global, case: &Value) -> Read<'_, Sending<'_
     })
 }
 
-impl<'c, S: Span> Sending<'c, S> {
+impl<S: Span> Sending<'_, S> {
     /// Sends the picture over a cache to `out`.
     fn send<C: Cache<S::SourceId>>(
         &self,
@@ -84,12 +83,12 @@ impl<'c, S: Span> Sending<'c, S> {
     }
 
     /// What is drawn over a cache.
-    pub fn over<C: Cache<S::SourceId>>(&self, cache: &mut C) -> Read<'c, Answer>
+    pub fn over<C: Cache<S::SourceId>>(&self, cache: &mut C) -> Result<Answer, AllocError>
         requires { C.can_fetch cache.old }
     {
         let mut out = Vec::new(self.alloc);
         let told = self.send(cache, &mut out);
-        Ok(answer_to(self.alloc, out, told)?)
+        answer_to(self.alloc, out, told)
     }
 }
 
