@@ -8,12 +8,17 @@ use Rattle.ariadne.specs.Report.{ConfigFields, Kind, LabelFields, ReportFields, 
 use Rattle.ariadne_visible.specs.Visible.{visible_bytes}
 use Rattle.ariadne_visible.specs.declared.text.TextKind.TheVariants.{OneRow}
 use Rattle.ariadne_told.specs.declared.diagnostic.Diagnostic.{Diagnostic}
-use Rattle.ariadne_show.specs.Drawn.{coded, IsAbout, IsBare, IsOfKind, IsReportOf}
+use Rattle.ariadne_show.specs.declared.options.Style.{Style}
+use Rattle.ariadne_show.specs.Drawn.{coded, config_of, kind_of, IsAbout, IsBare, IsReportOf}
 use Rattle.ariadne_show.specs.Asides.{helps_of, notes_of, with_helps, with_notes}
 use Rattle.ariadne_show.specs.Found.{Files, Found}
 use Rattle.ariadne_show.specs.Labels.{AreOrdered, header_of, labels_of, shown_header, with_labels}
 use Rattle.ariadne_safe.specs.Reports.{shown_place}
 use Rattle.ariadne_safe.specs.declared.sources.SafeSource.{SafeSource}
+
+coded-config : (code : Option (String Global)) (r : ReportFields (ℕ × Range ℕ)) → (coded code r).config ≡ r.config
+coded-config None r = refl
+coded-config (Some code) r = refl
 
 coded-kind : (code : Option (String Global)) (r : ReportFields (ℕ × Range ℕ)) → (coded code r).kind ≡ r.kind
 coded-kind None r = refl
@@ -29,12 +34,16 @@ coded-code None r none = none
 coded-code (Some code) r none = refl
 
 -- a report that is begun with the kind of a diagnostic and a text, and with its code
-pub about : (told : Diagnostic) (r0 r s : ReportFields (ℕ × Range ℕ)) (kind : Kind) (text : List ℕ) → r0.kind ≡ kind
-    → r0.code ≡ None → r ≡ record r0 { message = Some (visible_bytes OneRow text) } → IsOfKind told kind
-    → s ≡ coded told.code r → IsAbout told text s
-about told r0 r s kind text kinds codes made is same = rw same (record {
-  kind = rw (coded-kind told.code r ∙ ap (λ (x : ReportFields (ℕ × Range ℕ)). x.kind) made ∙ kinds) is;
-  code = coded-code told.code r (ap (λ (x : ReportFields (ℕ × Range ℕ)). x.code) made ∙ codes);
+pub about : (style : Style) (told : Diagnostic) (kind : Kind) (span : ℕ × Range ℕ) (config : ConfigFields)
+    (r0 r s : ReportFields (ℕ × Range ℕ)) (text : List ℕ) → r0 ≡ record (new_report kind span) { config = config }
+    → config ≡ config_of style → kind ≡ kind_of told → r ≡ record r0 { message = Some (visible_bytes OneRow text) }
+    → s ≡ coded told.code r → IsAbout style told text s
+about style told kind span config r0 r s text begun looks is made same = rw same (record {
+  config = coded-config told.code r ∙ ap (λ (x : ReportFields (ℕ × Range ℕ)). x.config) made
+      ∙ ap (λ (x : ReportFields (ℕ × Range ℕ)). x.config) begun ∙ looks;
+  kind = coded-kind told.code r ∙ ap (λ (x : ReportFields (ℕ × Range ℕ)). x.kind) made
+      ∙ ap (λ (x : ReportFields (ℕ × Range ℕ)). x.kind) begun ∙ is;
+  code = coded-code told.code r (ap (λ (x : ReportFields (ℕ × Range ℕ)). x.code) made ∙ ap (λ (x : ReportFields (ℕ × Range ℕ)). x.code) begun);
   message = coded-message told.code r ∙ ap (λ (x : ReportFields (ℕ × Range ℕ)). x.message) made;
 })
 
@@ -57,23 +66,24 @@ pub new_bare : (kind : Kind) (span : ℕ × Range ℕ) (config : ConfigFields) (
 new_bare kind span config r is = rw is (record { labels = refl; notes = refl; helps = refl })
 
 -- one with labels, notes and helps
-about_more : (told : Diagnostic) (text : List ℕ) (r : ReportFields (ℕ × Range ℕ)) (labels : List (LabelFields (ℕ × Range ℕ)))
-    (notes helps : List (List ℕ)) → IsAbout told text r
-    → IsAbout told text (with_helps helps (with_notes notes (with_labels labels r)))
-about_more told text r labels notes helps about = record {
+about_more : (style : Style) (told : Diagnostic) (text : List ℕ) (r : ReportFields (ℕ × Range ℕ))
+    (labels : List (LabelFields (ℕ × Range ℕ))) (notes helps : List (List ℕ)) → IsAbout style told text r
+    → IsAbout style told text (with_helps helps (with_notes notes (with_labels labels r)))
+about_more style told text r labels notes helps about = record {
+  config = about.config;
   kind = about.kind;
   code = about.code;
   message = about.message;
 }
 
-pub report_about : (files : Files) (told : Diagnostic) (main : Found) (ordered : List Found)
-    (r s : ReportFields (ℕ × Range ℕ)) (under sources : List SafeSource) → IsAbout told (string_bytes told.message) r → IsBare r
+pub report_about : (style : Style) (files : Files) (told : Diagnostic) (main : Found) (ordered : List Found)
+    (r s : ReportFields (ℕ × Range ℕ)) (under sources : List SafeSource) → IsAbout style told (string_bytes told.message) r → IsBare r
     → r.span ≡ shown_header r.config.index_type under main → AreOrdered files main.number told.places.items ordered
     → s ≡ with_helps (helps_of told) (with_notes (notes_of files told)
     (with_labels (labels_of r.config.index_type under told.severity ordered) r))
-    → sources ≡ under → IsReportOf files told main sources s
-report_about files told main ordered r s under sources about bare span places is same = rw (is, same) (record {
-  about = about_more told (string_bytes told.message) r (labels_of r.config.index_type under told.severity ordered) (notes_of files told) (helps_of told) about;
+    → sources ≡ under → IsReportOf style files told main sources s
+report_about style files told main ordered r s under sources about bare span places is same = rw (is, same) (record {
+  about = about_more style told (string_bytes told.message) r (labels_of r.config.index_type under told.severity ordered) (notes_of files told) (helps_of told) about;
   span = span;
   ordered = ordered;
   places = places;
@@ -93,10 +103,6 @@ header_ends main end same = ap (header_to main) same
 coded-span : (code : Option (String Global)) (r : ReportFields (ℕ × Range ℕ)) → (coded code r).span ≡ r.span
 coded-span None r = refl
 coded-span (Some code) r = refl
-
-coded-config : (code : Option (String Global)) (r : ReportFields (ℕ × Range ℕ)) → (coded code r).config ≡ r.config
-coded-config None r = refl
-coded-config (Some code) r = refl
 
 pub begun_span : (told : Diagnostic) (main : Found) (place : ℕ × Range ℕ) (kind : Kind) (config : ConfigFields) (message : Option (List ℕ))
     (r0 r s : ReportFields (ℕ × Range ℕ)) (sources under : List SafeSource)

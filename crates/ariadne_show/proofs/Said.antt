@@ -5,6 +5,7 @@ use Rattle.std.proofs.lemmas.List.Elements.{filter-append}
 use Rattle.std.specs.Prelude.{Bool, true, false, not, cond, ◌==◌, List, ◌∷◌, ◌++◌, Option, filter, length, map, take, String, string_bytes}
 use Rattle.std.specs.declared.alloc.Global.{Global}
 use Rattle.ariadne_told.specs.declared.diagnostic.Place.{Place}
+use Rattle.ariadne_show.specs.declared.options.Style.{Style}
 use Rattle.ariadne_show.specs.Asides.{spot_text}
 use Rattle.ariadne_show.specs.Drawn.{AreSaid, IsSaid, one_said_more}
 use Rattle.ariadne_show.specs.Said.{said_places, said_texts, says_something}
@@ -16,10 +17,10 @@ texts_more xs all x text more same =
     ap said_texts more ∙ map-append (λ (t : String Global). string_bytes t) xs (x ∷ [])
     ∙ ap (λ t. said_texts xs ++ t ∷ []) (sym same)
 
-pub said_more : (xs all : List (String Global)) (x : String Global) (text : List ℕ) (o p q : Option (List ℕ)) → all ≡ xs ++ x ∷ []
-    → text ≡ string_bytes x → AreSaid (said_texts xs) o p → IsSaid text p q → AreSaid (said_texts all) o q
-said_more xs all x text o p q more same before now =
-    subst (λ (texts : List (List ℕ)). AreSaid texts o q) (sym (texts_more xs all x text more same)) (one_said_more before text now)
+pub said_more : (style : Style) (xs all : List (String Global)) (x : String Global) (text : List ℕ) (o p q : Option (List ℕ)) → all ≡ xs ++ x ∷ []
+    → text ≡ string_bytes x → AreSaid style (said_texts xs) o p → IsSaid style text p q → AreSaid style (said_texts all) o q
+said_more style xs all x text o p q more same before now =
+    subst (λ (texts : List (List ℕ)). AreSaid style texts o q) (sym (texts_more xs all x text more same)) (one_said_more before text now)
 
 -- some, and some more
 pub and_more : (r0 r s xs ys zs : List (List ℕ)) → r ≡ r0 ++ xs → s ≡ r ++ ys → xs ++ ys ≡ zs → s ≡ r0 ++ zs
@@ -54,7 +55,7 @@ pub all_lines : (a b c d e places notes helps why : List (List ℕ)) → a ≡ [
 all_lines a b c d e places notes helps why none one two three four =
     four ∙ ap (λ l. l ++ why) (three ∙ ap (λ l. l ++ helps) (two ∙ ap (λ l. l ++ notes) (one ∙ ap (λ l. l ++ places) none)))
 
-pub all_said : (xs : List (String Global)) (i : ℕ) (lines : List (List ℕ)) (o q : Option (List ℕ)) → take i xs ≡ xs
-    → said_texts xs ≡ lines → AreSaid (said_texts (take i xs)) o q → AreSaid lines o q
-all_said xs i lines o q whole is before =
-    subst (λ (texts : List (List ℕ)). AreSaid texts o q) (ap said_texts whole ∙ is) before
+pub all_said : (style : Style) (xs : List (String Global)) (i : ℕ) (lines : List (List ℕ)) (o q : Option (List ℕ)) → take i xs ≡ xs
+    → said_texts xs ≡ lines → AreSaid style (said_texts (take i xs)) o q → AreSaid style lines o q
+all_said style xs i lines o q whole is before =
+    subst (λ (texts : List (List ℕ)). AreSaid style texts o q) (ap said_texts whole ∙ is) before

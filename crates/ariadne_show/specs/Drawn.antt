@@ -1,14 +1,16 @@
 -- What is drawn of a diagnostic: pictures of reports over the files that were read, of which the first
 -- has the diagnostic's kind, its code and its message. What input and output know of their bytes is
 -- given before and after each step.
-use Rattle.std.specs.Prelude.{ℕ, ◌≡◌, Bool, true, false, List, [], ◌∷◌, ◌++◌, Option, Some, None}
-use Rattle.std.specs.Prelude.{option_map, Ok}
-use Rattle.std.specs.Prelude.{String, string_bytes, unwrap_or, Vec, ⊤}
+use Rattle.std.specs.Prelude.{ℕ, ◌≡◌, true, false, if◌then◌else◌, List, [], ◌∷◌, ◌++◌, Option}
+use Rattle.std.specs.Prelude.{Some, None, codes, option_map, Ok}
+use Rattle.std.specs.Prelude.{String, string_bytes, unwrap_or, Vec}
 use Rattle.std.specs.declared.alloc.Global.{Global}
 use Rattle.std.specs.declared.ops.Range.{Range}
 use Rattle.ariadne.specs.Building.{filled_code}
+use Rattle.ariadne.specs.CharSet.TheVariants.{Ascii, Unicode}
 use Rattle.ariadne.specs.LeftOut.{LeftOut}
-use Rattle.ariadne.specs.Report.{Kind, ReportFields, error, warning, custom}
+use Rattle.ariadne.specs.Report.{ConfigFields, Kind, ReportFields, custom, default_config}
+use Rattle.ariadne.specs.Report.{error, warning}
 use Rattle.ariadne_visible.specs.Pictures.{GotNothingHidden}
 use Rattle.ariadne_visible.specs.Visible.{visible_bytes}
 use Rattle.ariadne_visible.specs.declared.text.TextKind.TheVariants.{OneRow}
@@ -19,6 +21,7 @@ use Rattle.ariadne_told.specs.declared.diagnostic.Diagnostic.{Diagnostic}
 use Rattle.ariadne_told.specs.declared.diagnostic.OwnKind.{OwnKind}
 use Rattle.ariadne_told.specs.declared.diagnostic.Severity.{Severity}
 use Rattle.ariadne_told.specs.declared.diagnostic.Severity.TheVariants.{Error, Warning, Note}
+use Rattle.ariadne_show.specs.declared.options.Style.{Style}
 use Rattle.ariadne_show.specs.Asides.{helps_of, notes_of}
 use Rattle.ariadne_show.specs.Found.{Files, Found}
 use Rattle.ariadne_show.specs.Labels.{severity_color, AreOrdered, labels_of, main_in, shown_header}
@@ -26,32 +29,41 @@ use Rattle.ariadne_show.specs.Said.{first_line, lines_of}
 
 -- ---- what a report is about
 
--- errors and warnings are of these kinds
-abbrev pub IsOfSeverity : Severity → Kind → Type 0
-IsOfSeverity Error kind = kind ≡ error
-IsOfSeverity Warning kind = kind ≡ warning
-IsOfSeverity Note kind = ⊤
+-- the kind of a severity: a note is named `Note`
+abbrev pub severity_kind : Severity → Kind
+severity_kind Error = error
+severity_kind Warning = warning
+severity_kind Note = custom (codes "Note") (severity_color Note)
 
 -- the name of a diagnostic's own kind
 abbrev pub own_name : Option OwnKind → List ℕ
 own_name None = []
 own_name (Some own) = string_bytes own.name
 
--- a kind is a diagnostic's own, with its name as it can be shown, and the colour of the severity where
--- it has none; or that of the severity
-abbrev pub IsKindFor : Option OwnKind → Severity → Kind → Type 0
-IsKindFor None severity kind = IsOfSeverity severity kind
-IsKindFor (Some own) severity kind =
-    kind ≡ custom (visible_bytes OneRow (string_bytes own.name))
+-- a diagnostic's own kind, with its name as it can be shown, and the colour of the severity where it
+-- has none; or that of the severity
+abbrev pub kind_for : Option OwnKind → Severity → Kind
+kind_for None severity = severity_kind severity
+kind_for (Some own) severity =
+    custom (visible_bytes OneRow (string_bytes own.name))
     (unwrap_or own.color (severity_color severity))
 
-abbrev pub IsOfKind : Diagnostic → Kind → Type 0
-IsOfKind told kind = IsKindFor told.own_kind told.severity kind
+abbrev pub kind_of : Diagnostic → Kind
+kind_of told = kind_for told.own_kind told.severity
+
+-- the default configuration, but for the colours, the strokes and the size that are asked for
+abbrev pub config_of : Style → ConfigFields
+config_of style = record default_config {
+  color = style.is_colored;
+  char_set = if style.is_ascii then Ascii else Unicode;
+  compact = style.is_compact;
+}
 
 -- a report has the kind and the code of a diagnostic, and a text as its message, as they can be shown
-pub record IsAbout (told : Diagnostic) (text : List ℕ) (report : ReportFields (ℕ × Range ℕ))
-    : Type 0 where
-  pub kind : IsOfKind told report.kind
+pub record IsAbout (style : Style) (told : Diagnostic) (text : List ℕ)
+    (report : ReportFields (ℕ × Range ℕ)) : Type 0 where
+  pub config : report.config ≡ config_of style
+  pub kind : report.kind ≡ kind_of told
   pub code : report.code
       ≡ option_map (λ code. filled_code (visible_bytes OneRow (string_bytes code))) told.code
   pub message : report.message ≡ Some (visible_bytes OneRow text)
@@ -69,9 +81,9 @@ pub record IsBare (report : ReportFields (ℕ × Range ℕ)) : Type 0 where
   pub helps : report.helps ≡ []
 
 -- a report has the head, the labels, the notes and the helps of a diagnostic whose own place was found
-pub record IsReportOf (files : Files) (told : Diagnostic) (main : Found) (sources : List SafeSource)
-    (report : ReportFields (ℕ × Range ℕ)) : Type 0 where
-  pub about : IsAbout told (string_bytes told.message) report
+pub record IsReportOf (style : Style) (files : Files) (told : Diagnostic) (main : Found)
+    (sources : List SafeSource) (report : ReportFields (ℕ × Range ℕ)) : Type 0 where
+  pub about : IsAbout style told (string_bytes told.message) report
   pub span : report.span ≡ shown_header report.config.index_type sources main
   pub ordered : List Found
   pub places : AreOrdered files main.number told.places.items ordered
@@ -88,39 +100,43 @@ pub record IsPicture (sources : List SafeSource) (report : ReportFields (ℕ × 
   pub written : WrittenFor sources report before after (Ok left_out)
   pub hides : GotNothingHidden before after
 
--- that of a head with a text has
-pub record IsSaid (text : List ℕ) (before after : Option (List ℕ)) : Type 0 where
+-- that of a note with a text has
+pub record IsSaid (style : Style) (text : List ℕ) (before after : Option (List ℕ)) : Type 0 where
   pub sources : List SafeSource
   pub report : ReportFields (ℕ × Range ℕ)
+  pub config : report.config ≡ config_of style
+  pub kind : report.kind ≡ severity_kind Note
+  pub code : report.code ≡ None
   pub message : report.message ≡ Some (visible_bytes OneRow text)
   pub bare : IsBare report
   pub picture : IsPicture sources report before after
 
 -- those of texts have, one behind the other
-pub data AreSaid : List (List ℕ) → Option (List ℕ) → Option (List ℕ) → Type 0 where
-  nothing_said : {o : Option (List ℕ)} → AreSaid [] o o
-  one_said_more : {texts : List (List ℕ)} {o p q : Option (List ℕ)} → AreSaid texts o p
-      → (text : List ℕ) → IsSaid text p q → AreSaid (texts ++ text ∷ []) o q
+pub data AreSaid (style : Style) : List (List ℕ) → Option (List ℕ) → Option (List ℕ) → Type 0 where
+  nothing_said : {o : Option (List ℕ)} → AreSaid style [] o o
+  one_said_more : {texts : List (List ℕ)} {o p q : Option (List ℕ)} → AreSaid style texts o p
+      → (text : List ℕ) → IsSaid style text p q → AreSaid style (texts ++ text ∷ []) o q
 
 -- that of its first line has, which has nothing but a head
-pub record IsHeadDrawn (is_short : Bool) (files : Files) (told : Diagnostic)
+pub record IsHeadDrawn (style : Style) (files : Files) (told : Diagnostic)
     (before after : Option (List ℕ)) : Type 0 where
   pub sources : List SafeSource
   pub report : ReportFields (ℕ × Range ℕ)
-  pub about : IsAbout told (first_line is_short files told) report
+  pub about : IsAbout style told (first_line style.is_short files told) report
   pub bare : IsBare report
   pub picture : IsPicture sources report before after
 
 -- where its own place was found, the picture of the report of a diagnostic has; else that of its first
 -- line, and then those of the others, of which the last says why; and where it is to be short, that of
 -- its first line alone
-pub data IsToldDrawn (is_short : Bool) (files : Files) (sources : List SafeSource)
+pub data IsToldDrawn (style : Style) (files : Files) (sources : List SafeSource)
     (told : Diagnostic) (before after : Option (List ℕ)) : Type 0 where
   in_one : (main : Found) (report : ReportFields (ℕ × Range ℕ))
-      → is_short ≡ false → main_in files told ≡ Some main → IsReportOf files told main sources report
-      → IsPicture sources report before after → IsToldDrawn is_short files sources told before after
-  in_lines : (headed : Option (List ℕ)) → is_short ≡ false → main_in files told ≡ None
-      → IsHeadDrawn is_short files told before headed → AreSaid (lines_of files told) headed after
-      → IsToldDrawn is_short files sources told before after
-  in_line : is_short ≡ true → IsHeadDrawn is_short files told before after
-      → IsToldDrawn is_short files sources told before after
+      → style.is_short ≡ false → main_in files told ≡ Some main
+      → IsReportOf style files told main sources report
+      → IsPicture sources report before after → IsToldDrawn style files sources told before after
+  in_lines : (headed : Option (List ℕ)) → style.is_short ≡ false → main_in files told ≡ None
+      → IsHeadDrawn style files told before headed → AreSaid style (lines_of files told) headed after
+      → IsToldDrawn style files sources told before after
+  in_line : style.is_short ≡ true → IsHeadDrawn style files told before after
+      → IsToldDrawn style files sources told before after

@@ -9,6 +9,7 @@ use Rattle.std.specs.declared.alloc.Global.{Global}
 use Rattle.ariadne_told.specs.Told.{IsTold}
 use Rattle.ariadne_told.specs.declared.diagnostic.Diagnostic.{Diagnostic}
 use Rattle.ariadne_told.specs.declared.telling.Format.{Format}
+use Rattle.ariadne_show.specs.declared.options.Style.{Style}
 use Rattle.ariadne_show.specs.declared.shelf.Shelf.{Shelf}
 use Rattle.ariadne_show.specs.declared.sum.Sum.{Sum}
 use Rattle.ariadne_show.specs.Drawn.{IsToldDrawn}
@@ -18,14 +19,14 @@ use Rattle.ariadne_show.specs.Sums.{counted, line_end, no_sum, sum_text}
 
 -- the files of diagnostics were read, and they were drawn over them in their order, each in one picture
 -- at least, and counted
-pub data AreTold (is_short : Bool) : List Diagnostic → Shelf → Shelf → Option (List ℕ)
+pub data AreTold (style : Style) : List Diagnostic → Shelf → Shelf → Option (List ℕ)
     → Option (List ℕ) → Sum → Sum → Type 0 where
-  none_told : {a : Shelf} {o : Option (List ℕ)} {sum : Sum} → AreTold is_short [] a a o o sum sum
+  none_told : {a : Shelf} {o : Option (List ℕ)} {sum : Sum} → AreTold style [] a a o o sum sum
   one_told_more : {all : List Diagnostic} {a b c : Shelf} {o p q : Option (List ℕ)} {sum total : Sum}
-      → AreTold is_short all a b o p sum total → (told : Diagnostic)
+      → AreTold style all a b o p sum total → (told : Diagnostic)
       → HaveTried (paths_of told.places.items) b c
-      → IsToldDrawn is_short (files_of c) (sources_in c) told p q
-      → AreTold is_short (all ++ told ∷ []) a c o q sum (counted told total)
+      → IsToldDrawn style (files_of c) (sources_in c) told p q
+      → AreTold style (all ++ told ∷ []) a c o q sum (counted told total)
 
 -- the text of a line: without what ends it, and with U+FFFD in place of what is not UTF-8
 abbrev pub text_of : List ℕ → List ℕ
@@ -37,14 +38,14 @@ IsToldBy format line told = IsTold format (text_of line) told
 
 -- of a line the output got the line as it is, where it tells nothing, and in its place the pictures of
 -- its diagnostics, where it tells some; what it got is open, where it is a line that no line feed ends
-pub data IsShownOf (format : Format) (is_short : Bool) (line : List ℕ) (first last : Shelf)
+pub data IsShownOf (format : Format) (style : Style) (line : List ℕ) (first last : Shelf)
     (before after : Option (List ℕ)) (sum total : Sum) (is_open : Bool) : Type 0 where
   as_it_is : IsToldBy format line None → Appends before after line → last ≡ first → total ≡ sum
       → is_open ≡ not (ends_with_byte 10 line)
-      → IsShownOf format is_short line first last before after sum total is_open
+      → IsShownOf format style line first last before after sum total is_open
   drawn : (all : Vec Diagnostic Global) → IsToldBy format line (Some all) → 0 < vec_len all
-      → AreTold is_short all.items first last before after sum total → is_open ≡ false
-      → IsShownOf format is_short line first last before after sum total is_open
+      → AreTold style all.items first last before after sum total → is_open ≡ false
+      → IsShownOf format style line first last before after sum total is_open
 
 -- the next line of an input, with the line feed that ends it, was read
 pub record ReadsLine (before after : Option (List ℕ)) (line : List ℕ) : Type 0 where
@@ -52,32 +53,32 @@ pub record ReadsLine (before after : Option (List ℕ)) (line : List ℕ) : Type
   pub whole : IfSome before (λ bytes. line ≡ take_through 10 bytes)
 
 -- lines were read, and each was shown and counted, in their order
-pub data AreShown (format : Format) (is_short : Bool) : Option (List ℕ) → Option (List ℕ) → Shelf
+pub data AreShown (format : Format) (style : Style) : Option (List ℕ) → Option (List ℕ) → Shelf
     → Shelf → Option (List ℕ) → Option (List ℕ) → Sum → Sum → Bool → Type 0 where
   no_line : {i o : Option (List ℕ)} {a : Shelf} {sum : Sum}
-      → AreShown format is_short i i a a o o sum sum false
+      → AreShown format style i i a a o o sum sum false
   one_line_more : {i j k o p q : Option (List ℕ)} {a b c : Shelf} {sum part total : Sum}
-      {was_open is_open : Bool} → AreShown format is_short i j a b o p sum part was_open
+      {was_open is_open : Bool} → AreShown format style i j a b o p sum part was_open
       → (line : List ℕ) → ReadsLine j k line
-      → IsShownOf format is_short line b c p q part total is_open
-      → AreShown format is_short i k a c o q sum total is_open
+      → IsShownOf format style line b c p q part total is_open
+      → AreShown format style i k a c o q sum total is_open
 
 -- all lines of an input were, and no file was read before
-pub record AreAllShown (format : Format) (is_short : Bool) (input before after : Option (List ℕ))
+pub record AreAllShown (format : Format) (style : Style) (input before after : Option (List ℕ))
     (sum total : Sum) (is_open : Bool) : Type 0 where
   pub rest : Option (List ℕ)
   pub first : Shelf
   pub last : Shelf
   pub unread : (path : List ℕ) → files_of first path ≡ None
-  pub shown : AreShown format is_short input rest first last before after sum total is_open
+  pub shown : AreShown format style input rest first last before after sum total is_open
   pub ended : IsAtEnd rest
 
 -- and then the sum of what was told, if there is one, on a line of its own
-pub record IsAllShown (format : Format) (is_short : Bool) (input before after : Option (List ℕ)) (sum : Sum)
-    : Type 0 where
+pub record IsAllShown (format : Format) (style : Style) (input before after : Option (List ℕ))
+    (sum : Sum) : Type 0 where
   pub lines : Option (List ℕ)
   pub ended : Option (List ℕ)
   pub is_open : Bool
-  pub shown : AreAllShown format is_short input before lines no_sum sum is_open
+  pub shown : AreAllShown format style input before lines no_sum sum is_open
   pub ending : Appends lines ended (line_end is_open (sum_text sum))
   pub total : Appends ended after (sum_text sum)

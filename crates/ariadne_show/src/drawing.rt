@@ -4,11 +4,13 @@ ghost use Rattle.std.specs.Prelude.{◌≡◌, true, map, string_bytes, IfOk, On
 ghost use Rattle.ariadne.specs.Kinds.{kind_of as kind_of_fields};
 ghost use Rattle.ariadne_visible.specs.Visible.{is_shown, visible_bytes};
 ghost use Rattle.ariadne_visible.specs.declared.text.TextKind.TheVariants.{OneRow};
+ghost use Rattle.ariadne_told.specs.declared.diagnostic.Severity.TheVariants.{Note};
 ghost use Rattle.ariadne_safe.specs.Building.{kind_in, made_of, report_of as report_in};
 ghost use Rattle.ariadne_safe.specs.Building.{sources_below, sources_under};
-ghost use Rattle.ariadne_show.specs.Drawn.{coded, own_name as own_name_in, AreSaid};
-ghost use Rattle.ariadne_show.specs.Drawn.{IsHeadDrawn, IsOfKind, IsOfSeverity, IsPicture};
-ghost use Rattle.ariadne_show.specs.Drawn.{IsReportOf, IsSaid, IsToldDrawn};
+ghost use Rattle.ariadne_show.specs.Drawn.{coded, config_of as config_fields, severity_kind};
+ghost use Rattle.ariadne_show.specs.Drawn.{kind_of as told_kind, own_name as own_name_in};
+ghost use Rattle.ariadne_show.specs.Drawn.{AreSaid, IsHeadDrawn, IsPicture, IsReportOf, IsSaid};
+ghost use Rattle.ariadne_show.specs.Drawn.{IsToldDrawn};
 ghost use Rattle.ariadne_show.specs.Found.{files_of, found_of};
 ghost use Rattle.ariadne_show.specs.Labels.{label_of as label_fields, labels_of, severity_color};
 ghost use Rattle.ariadne_show.specs.Labels.{with_labels as more_labels};
@@ -58,7 +60,7 @@ impl<'a> Titled<'a> {
 
     /// The kind of its reports.
     fn kind(&self) -> SafeKind<'_>
-        ensures { IsOfKind self.now.told.now (kind_of_fields (kind_in result)) }
+        ensures { kind_of_fields (kind_in result) ≡ told_kind self.now.told.now }
     {
         let severity = self.told.severity;
         match &self.told.own_kind {
@@ -83,8 +85,8 @@ pub fn draw<W: Write>(
     style: Style,
     out: &mut W,
 ) -> Result<(), Fault>
-    ensures { OnOk result (IsToldDrawn style.is_short (files_of shelf.now)
-        (sources_in shelf.now) told.now (W.contents out.old) (W.contents out.new)) }
+    ensures { OnOk result (IsToldDrawn style (files_of shelf.now) (sources_in shelf.now) told.now
+        (W.contents out.old) (W.contents out.new)) }
 {
     let titled = Titled::new(alloc, told)?;
     draw_titled(alloc, shelf, &titled, style, out)
@@ -98,8 +100,8 @@ fn draw_titled<W: Write>(
     style: Style,
     out: &mut W,
 ) -> Result<(), Fault>
-    ensures { OnOk result (IsToldDrawn style.is_short (files_of shelf.now)
-        (sources_in shelf.now) titled.now.told.now (W.contents out.old) (W.contents out.new)) }
+    ensures { OnOk result (IsToldDrawn style (files_of shelf.now) (sources_in shelf.now)
+        titled.now.told.now (W.contents out.old) (W.contents out.new)) }
 {
     let told = titled.told;
     if style.is_short {
@@ -126,18 +128,18 @@ fn draw_report<W: Write>(report: &SafeReport<'_>, out: &mut W) -> Result<(), Fau
     Ok(())
 }
 
-/// Draws a text as a report that has no place.
+/// Draws a text as a note that has no place.
 fn draw_text<W: Write>(
     alloc: Global,
     shelf: &Shelf,
-    kind: SafeKind<'static>,
     text: &str,
     style: Style,
     out: &mut W,
 ) -> Result<(), Fault>
-    ensures { OnOk result (IsSaid text.now (W.contents out.old) (W.contents out.new)) }
+    ensures { OnOk result (IsSaid style text.now (W.contents out.old) (W.contents out.new)) }
 {
-    let builder = SafeBuilder::new(alloc, shelf.sources(), kind, (0, 0..0), config_of(style));
+    let config = config_of(style);
+    let builder = SafeBuilder::new(alloc, shelf.sources(), note_kind(), (0, 0..0), config);
     draw_report(&builder.with_message(text)?.finish(), out)
 }
 
@@ -149,7 +151,7 @@ fn draw_line<W: Write>(
     style: Style,
     out: &mut W,
 ) -> Result<(), Fault>
-    ensures { OnOk result (IsHeadDrawn style.is_short (files_of shelf.now) titled.now.told.now
+    ensures { OnOk result (IsHeadDrawn style (files_of shelf.now) titled.now.told.now
         (W.contents out.old) (W.contents out.new)) }
 {
     let text = line_text(alloc, shelf, titled.told, style)?;
@@ -168,12 +170,12 @@ fn draw_lines<W: Write>(
     style: Style,
     out: &mut W,
 ) -> Result<(), Fault>
-    ensures { OnOk result (AreSaid (lines_of (files_of shelf.now) told.now) (W.contents out.old)
-        (W.contents out.new)) }
+    ensures { OnOk result (AreSaid style (lines_of (files_of shelf.now) told.now)
+        (W.contents out.old) (W.contents out.new)) }
 {
     let texts = line_texts(alloc, shelf, told)?;
     for text in &texts {
-        draw_text(alloc, shelf, note_kind(), text.as_str(), style, out)?;
+        draw_text(alloc, shelf, text.as_str(), style, out)?;
     }
     Ok(())
 }
@@ -209,8 +211,8 @@ fn report_of<'s>(
     main: FoundPlace<'_>,
     style: Style,
 ) -> Result<SafeReport<'s>, AllocError>
-    ensures report { IfOk result (λ report. IsReportOf (files_of shelf.now) titled.now.told.now
-        (found_of main.entry) (sources_in shelf.now) (report_in report)) }
+    ensures report { IfOk result (λ report. IsReportOf style (files_of shelf.now)
+        titled.now.told.now (found_of main.entry) (sources_in shelf.now) (report_in report)) }
     ensures sources { IfOk result (λ report. sources_below report ≡ sources_in shelf.now) }
 {
     let told = titled.told;
@@ -289,7 +291,7 @@ fn own_name(told: &Diagnostic) -> &str
 
 /// The kind of the reports of diagnostics without a kind of their own.
 fn kind_of(severity: Severity) -> SafeKind<'static>
-    ensures { IsOfSeverity severity (kind_of_fields (kind_in result)) }
+    ensures { kind_of_fields (kind_in result) ≡ severity_kind severity }
 {
     match severity {
         Severity::Error => SafeKind::error(),
@@ -299,7 +301,9 @@ fn kind_of(severity: Severity) -> SafeKind<'static>
 }
 
 /// The kind of notes.
-fn note_kind() -> SafeKind<'static> {
+fn note_kind() -> SafeKind<'static>
+    ensures { kind_of_fields (kind_in result) ≡ severity_kind Note }
+{
     match SafeKind::new(ReportKind::Custom("Note", NOTE)) {
         Some(kind) => kind,
         None => SafeKind::advice(),
@@ -318,7 +322,9 @@ fn color_of(severity: Severity) -> Color
 }
 
 /// The configuration of pictures.
-fn config_of(style: Style) -> Config {
+fn config_of(style: Style) -> Config
+    ensures { result ≡ config_fields style }
+{
     let char_set = if style.is_ascii {
         CharSet::Ascii
     } else {

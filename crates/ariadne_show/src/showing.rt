@@ -33,7 +33,7 @@ pub fn show<R: Files, I: BufRead, W: Write>(
     input: &mut I,
     out: &mut W,
 ) -> Result<Sum, Fault>
-    ensures { IfOk result (λ sum. IsAllShown options.reading.format options.style.is_short
+    ensures { IfOk result (λ sum. IsAllShown options.reading.format options.style
         (I.remaining input.old) (W.contents out.old) (W.contents out.new) sum) }
 {
     let mut sum = Sum {
@@ -71,7 +71,7 @@ fn show_lines<R: Files, I: BufRead, W: Write>(
     out: &mut W,
 ) -> Result<bool, Fault>
     ensures { IfOk result (λ is_open. AreAllShown options.reading.format
-        options.style.is_short (I.remaining input.old) (W.contents out.old) (W.contents out.new)
+        options.style (I.remaining input.old) (W.contents out.old) (W.contents out.new)
         sum.old sum.new is_open) }
 {
     let mut shelf = Shelf::new(alloc);
@@ -115,7 +115,7 @@ fn show_line<R: Files, W: Write>(
     out: &mut W,
 ) -> Result<bool, Fault>
     requires { HaveSources (files_of shelf.old) (sources_in shelf.old) }
-    ensures shown { IfOk result (λ is_open. IsShownOf options.reading.format options.style.is_short
+    ensures shown { IfOk result (λ is_open. IsShownOf options.reading.format options.style
         line.now shelf.old shelf.new (W.contents out.old) (W.contents out.new) sum.old sum.new
         is_open) }
     ensures sources { OnOk result (HaveSources (files_of shelf.new) (sources_in shelf.new)) }
@@ -178,7 +178,7 @@ fn show_all<R: Files, W: Write>(
     out: &mut W,
 ) -> Result<(), Fault>
     requires { HaveSources (files_of shelf.old) (sources_in shelf.old) }
-    ensures told { OnOk result (AreTold style.is_short all.now shelf.old shelf.new
+    ensures told { OnOk result (AreTold style all.now shelf.old shelf.new
         (W.contents out.old) (W.contents out.new) sum.old sum.new) }
     ensures sources { OnOk result (HaveSources (files_of shelf.new) (sources_in shelf.new)) }
 {
@@ -200,7 +200,7 @@ fn show_one<R: Files, W: Write>(
 ) -> Result<(), Fault>
     requires { HaveSources (files_of shelf.old) (sources_in shelf.old) }
     ensures read { OnOk result (HaveTried (paths_of told.now.places.items) shelf.old shelf.new) }
-    ensures drawn { OnOk result (IsToldDrawn style.is_short (files_of shelf.new)
+    ensures drawn { OnOk result (IsToldDrawn style (files_of shelf.new)
         (sources_in shelf.new) told.now (W.contents out.old) (W.contents out.new)) }
     ensures counted { sum.new ≡ counted told.now sum.old }
 {

@@ -1,4 +1,4 @@
-use Rattle.std.proofs.Common.{ℕ, ◌∙◌, List, ap, subst, sym}
+use Rattle.std.proofs.Common.{ℕ, ◌∙◌, List, subst, sym}
 use Rattle.std.specs.declared.ops.Range.{Range}
 use Rattle.ariadne.specs.Kinds.{kind_of as kind_of_fields}
 use Rattle.ariadne.specs.Report.{ReportFields}
@@ -14,19 +14,16 @@ use Rattle.ariadne_show.proofs.drawing.draw_line.Goals as goal
 pub returns : goal.returns
 returns g c =
     let told = c.args.titled.now.told.now in
-    let short = c.args.style.is_short in
     let files = files_of c.args.shelf.now in
-    let head : IsAbout told (first_line short files told) (made_of c.in_ok-builder.builder) =
-    subst (λ (text : List ℕ). IsAbout told text (made_of c.in_ok-builder.builder)) (c.as_str.ensures.value ∙ c.in_ok-text.ensures)
-    (about told (made_of c.new-builder.result) (made_of c.in_ok-with_message.field-0) (made_of c.in_ok-builder.builder)
-    (kind_of_fields (kind_in c.kind-kind.result)) c.as_str.result.now
-    (ap (λ (r : ReportFields (ℕ × Range ℕ)). r.kind) c.new-builder.ensures.report)
-    (ap (λ (r : ReportFields (ℕ × Range ℕ)). r.code) c.new-builder.ensures.report)
-    c.in_ok-with_message.ensures.report c.kind-kind.ensures c.in_ok-builder.ensures.report) in
+    let head : IsAbout c.args.style told (first_line c.args.style.is_short files told) (made_of c.in_ok-builder.builder) =
+    subst (λ (text : List ℕ). IsAbout c.args.style told text (made_of c.in_ok-builder.builder)) (c.as_str.ensures.value ∙ c.in_ok-text.ensures)
+    (about c.args.style told (kind_of_fields (kind_in c.kind-kind.result)) _ _ (made_of c.new-builder.result)
+    (made_of c.in_ok-with_message.field-0) (made_of c.in_ok-builder.builder) c.as_str.result.now c.new-builder.ensures.report
+    c.config_of.ensures c.kind-kind.ensures c.in_ok-with_message.ensures.report c.in_ok-builder.ensures.report) in
     let bare : IsBare (made_of c.in_ok-builder.builder) =
     begun_bare told (made_of c.new-builder.result) (made_of c.in_ok-with_message.field-0) (made_of c.in_ok-builder.builder) _
     (new_bare _ _ _ _ c.new-builder.ensures.report) c.in_ok-with_message.ensures.report c.in_ok-builder.ensures.report in
-    head_drawn_if c.draw_report.result short files told (sources_below c.finish.result) (report_in c.finish.result)
+    head_drawn_if c.draw_report.result c.args.style files told (sources_below c.finish.result) (report_in c.finish.result)
     (g.W.Write.contents c.args.out.now) (g.W.Write.contents c.draw_report.new.out)
-    (subst (λ (r : ReportFields (ℕ × Range ℕ)). IsAbout told (first_line short files told) r) (sym c.finish.ensures.report) head)
+    (subst (λ (r : ReportFields (ℕ × Range ℕ)). IsAbout c.args.style told (first_line c.args.style.is_short files told) r) (sym c.finish.ensures.report) head)
     (subst IsBare (sym c.finish.ensures.report) bare) c.draw_report.ensures

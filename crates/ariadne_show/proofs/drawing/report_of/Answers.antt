@@ -18,13 +18,11 @@ use Rattle.ariadne_show.proofs.drawing.report_of.Goals as goal
 pub returns : goal.returns
 returns c =
     let told = c.args.titled.now.told.now in
-    let head : IsAbout told (string_bytes told.message) (made_of c.in_ok-builder.builder) =
-    subst (λ (text : List ℕ). IsAbout told text (made_of c.in_ok-builder.builder)) c.as_str.ensures.value
-    (about told (made_of c.new-builder.result) (made_of c.in_ok-with_message.field-0) (made_of c.in_ok-builder.builder)
-    (kind_of_fields (kind_in c.kind-kind.result)) c.as_str.result.now
-    (ap (λ (r : ReportFields (ℕ × Range ℕ)). r.kind) c.new-builder.ensures.report)
-    (ap (λ (r : ReportFields (ℕ × Range ℕ)). r.code) c.new-builder.ensures.report)
-    c.in_ok-with_message.ensures.report c.kind-kind.ensures c.in_ok-builder.ensures.report) in
+    let head : IsAbout c.args.style told (string_bytes told.message) (made_of c.in_ok-builder.builder) =
+    subst (λ (text : List ℕ). IsAbout c.args.style told text (made_of c.in_ok-builder.builder)) c.as_str.ensures.value
+    (about c.args.style told (kind_of_fields (kind_in c.kind-kind.result)) _ _ (made_of c.new-builder.result)
+    (made_of c.in_ok-with_message.field-0) (made_of c.in_ok-builder.builder) c.as_str.result.now c.new-builder.ensures.report
+    c.config_of.ensures c.kind-kind.ensures c.in_ok-with_message.ensures.report c.in_ok-builder.ensures.report) in
     let bare : IsBare (made_of c.in_ok-builder.builder) =
     begun_bare told (made_of c.new-builder.result) (made_of c.in_ok-with_message.field-0) (made_of c.in_ok-builder.builder) _
     (new_bare _ _ _ _ c.new-builder.ensures.report) c.in_ok-with_message.ensures.report c.in_ok-builder.ensures.report in
@@ -52,7 +50,7 @@ returns c =
     let begun : under ≡ sources_in c.args.shelf.now =
     c.in_ok-builder.ensures.sources ∙ c.in_ok-with_message.ensures.sources ∙ c.new-builder.ensures.sources
     ∙ c.sources.ensures in record {
-      report = report_about files told main ordered built report under (sources_in c.args.shelf.now) head bare span placed whole
+      report = report_about c.args.style files told main ordered built report under (sources_in c.args.shelf.now) head bare span placed whole
           (sym begun);
       sources = c.finish.ensures.sources ∙ c.in_ok-with_asides.ensures.sources ∙ c.in_ok-builder-2.ensures.sources ∙ begun;
     }

@@ -25,9 +25,9 @@ loop-told-preserved g c =
     let after = g.W.Write.contents c.show_one.new.out in
     let more : take (i + 1) all ≡ take i all ++ told ∷ [] =
     take_more all i told c.loop-told-test.true ∙ ap (λ x. take i all ++ x ∷ []) (sym c.told-item.is) in record {
-      told = subst (λ (part : List Diagnostic). AreTold c.args.style.is_short part first last before after c.args.sum.now c.show_one.new.sum)
+      told = subst (λ (part : List Diagnostic). AreTold c.args.style part first last before after c.args.sum.now c.show_one.new.sum)
           (sym more)
-          (subst (λ (sum : Sum). AreTold c.args.style.is_short (take i all ++ told ∷ []) first last before after c.args.sum.now sum)
+          (subst (λ (sum : Sum). AreTold c.args.style (take i all ++ told ∷ []) first last before after c.args.sum.now sum)
           (sym c.in_ok-show_one.ensures.counted)
           (one_told_more c.loop-told.invariant.told told c.in_ok-show_one.ensures.read c.in_ok-show_one.ensures.drawn));
       sources = c.in_ok-show_one.ensures.read.sources;

@@ -7,7 +7,7 @@ use Rattle.ariadne_show.proofs.showing.show_all.Given as goal
 -- the diagnostics that are passed have been drawn and counted, and the files that were read have their sources
 abbrev pub invariant-loop-told : goal.invariant-loop-told
 invariant-loop-told g l = record {
-  told : AreTold l.style.is_short (take l.told-index l.all) l.initial.shelf l.shelf (g.W.Write.contents l.initial.out)
+  told : AreTold l.style (take l.told-index l.all) l.initial.shelf l.shelf (g.W.Write.contents l.initial.out)
       (g.W.Write.contents l.out) l.initial.sum l.sum;
   sources : HaveSources (files_of l.shelf) (sources_in l.shelf);
 }

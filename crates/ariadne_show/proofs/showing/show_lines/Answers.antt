@@ -16,7 +16,7 @@ show_line-requires g c = c.lines.invariant.sources
 pub lines-preserved : goal.lines-preserved
 lines-preserved g c = record {
   shown = one_line_more c.lines.invariant.shown c.read_line.new.line.items (c.in_ok-more.ensures).line
-      (subst (λ (line : List ℕ). IsShownOf c.args.options.reading.format c.args.options.style.is_short line c.lines.shelf
+      (subst (λ (line : List ℕ). IsShownOf c.args.options.reading.format c.args.options.style line c.lines.shelf
       c.show_line.new.shelf (g.W.Write.contents c.lines.out) (g.W.Write.contents c.show_line.new.out) c.lines.sum
       c.show_line.new.sum c.in_ok-shown.shown) c.as_slice.ensures.value c.in_ok-shown.ensures.shown);
   sources = c.in_ok-shown.ensures.sources;
