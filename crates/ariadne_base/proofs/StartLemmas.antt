@@ -73,7 +73,7 @@ starts-nil = refl
 -- ---- what stands at a number
 
 -- a line begins for each, and the text ends
-pub length-begins : (ls : List (List ℕ)) → length (line_begins ls) ≡ length ls
+length-begins : (ls : List (List ℕ)) → length (line_begins ls) ≡ length ls
 unfolding line_begins
 length-begins ls = length-map-range_with_len (line_start ls) 0 (length ls)
 
@@ -86,7 +86,7 @@ starts_map : (ls : List (List ℕ)) → line_starts ls ≡ map (line_start ls) (
 unfolding line_starts line_begins
 starts_map ls = sym (map-range_with_len_more (line_start ls) 0 (length ls) (length ls) (omega arith))
 
-pub get_or-starts : (ls : List (List ℕ)) (n : ℕ) (d : Start) → n ≤ length ls → get_or (line_starts ls) n d ≡ line_start ls n
+get_or-starts : (ls : List (List ℕ)) (n : ℕ) (d : Start) → n ≤ length ls → get_or (line_starts ls) n d ≡ line_start ls n
 get_or-starts ls n d h =
     ap (λ xs. get_or xs n d) (starts_map ls) ∙ get_or-map-range_with_len (line_start ls) 0 (length ls + 1) n n d (omega arith) (omega arith)
 
@@ -96,7 +96,7 @@ unfolding line_starts
 take-starts ls n e = take_at (line_begins ls) (line_start ls (length ls) ∷ []) n (length-begins ls ∙ sym e)
 
 -- a line lies between its start and the next
-pub extent_is : (ls : List (List ℕ)) (n : ℕ) → n < length ls → extent (line_start ls n) (line_start ls (n + 1)) ≡ line_extent ls n
+extent_is : (ls : List (List ℕ)) (n : ℕ) → n < length ls → extent (line_start ls n) (line_start ls (n + 1)) ≡ line_extent ls n
 unfolding line_start line_extent
 extent_is ls n h =
     let more = offset_more length ls n h in
@@ -106,7 +106,7 @@ extent_is ls n h =
     rw (len, bytes) refl
 
 -- no line begins before the one in front of it
-pub start_up : (ls : List (List ℕ)) (n : ℕ) → ((line_start ls n).chars ≤ (line_start ls (n + 1)).chars) × ((line_start ls n).bytes ≤ (line_start ls (n + 1)).bytes)
+start_up : (ls : List (List ℕ)) (n : ℕ) → ((line_start ls n).chars ≤ (line_start ls (n + 1)).chars) × ((line_start ls n).bytes ≤ (line_start ls (n + 1)).bytes)
 unfolding line_start
 start_up ls n = (offset_up length ls n (n + 1) (omega arith), offset_up byte_len ls n (n + 1) (omega arith))
 

@@ -2,7 +2,7 @@
 -- and end at line feeds alone, as compilers count them. Columns count from 1, offsets count characters
 -- from 0, and a text is a list of characters.
 use Rattle.std.specs.Prelude.{ℕ, zero, suc, ◌+◌, ◌-◌, ◌%◌, Bool, false, not, ◌&&◌, ◌||◌, ◌==◌, nat_le}
-use Rattle.std.specs.Prelude.{max, if◌then◌else◌, List, [], ◌∷◌, drop, take, length, Option, None}
+use Rattle.std.specs.Prelude.{max, if◌then◌else◌, List, [], ◌∷◌, drop, Option, None}
 use Rattle.std.specs.Prelude.{option_map, unwrap_or, slice_get}
 use Rattle.std.specs.List.{prefix_len}
 use Rattle.std.specs.Char.{is_ascii_alphanumeric, len_utf8}

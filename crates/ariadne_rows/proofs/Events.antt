@@ -1,8 +1,7 @@
 -- The events of a group: they rise by line, those of a line are its labels, and a line without one is hidden.
 use Rattle.std.proofs.Common.{◌≡◌, ◌≢◌, ℕ, ◌+◌, ◌<◌, ◌≤◌, Bool, true, false, not, ◌&&◌, ◌==◌, cond, List, [], ◌∷◌, ◌++◌, length, map, get_or, filter, nat_le, nat_lt}
 use Rattle.std.proofs.Common.{refl, sym, ap, ◌∙◌, subst, arith, inl, inr, Some, None, if◌then◌else◌, ◌-◌, take, drop}
-use Rattle.std.specs.Prelude.{slice_get, slice_range, is_some, option_map, option_to_list}
-use Rattle.std.specs.Cmp.{IsStrictWeakOrder}
+use Rattle.std.specs.Prelude.{slice_get, slice_range, is_some, option_to_list}
 use Rattle.std.specs.List.{AllByRecursion, enumerate_from, prefix_len}
 use Rattle.std.specs.List.Sorted.{ties}
 use Rattle.std.proofs.lemmas.Bool.{cond_both, cases_Bool, cases_lt, cases_order, true≢false, ltb-false, lt-ltb, le-ltb, le-leb, lt-leb, eq-eqb, ne_eqb, eqb-true, and_parts, not-true}

@@ -1,6 +1,6 @@
 -- Lists of values, and their items.
 use Rattle.std.proofs.Common.{◌≡◌, ap, refl, arith}
-use Rattle.std.specs.Prelude.{ℕ, ◌<◌, Bool, true, false, ◌&&◌, List, [], ◌∷◌, length}
+use Rattle.std.specs.Prelude.{◌<◌, Bool, false, ◌&&◌, List, [], ◌∷◌, length}
 use Rattle.std.specs.List.{list_all}
 use Rattle.serde_json.specs.Data.{Data}
 use Rattle.serde_json.specs.View.{items_view, view}

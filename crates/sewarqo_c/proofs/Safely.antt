@@ -1,6 +1,6 @@
 -- What is written of a safe report over the sources that a call gives is the safe picture.
-use Rattle.std.proofs.Common.{◌≡◌, ◌++◌, ◌∙◌, ap, sym, subst}
-use Rattle.std.specs.Prelude.{ℕ, List, [], Option, Some, Ok, Vec, map}
+use Rattle.std.proofs.Common.{◌≡◌, ◌∙◌, ap, sym, subst}
+use Rattle.std.specs.Prelude.{ℕ, List, [], Some, Ok, Vec, map}
 use Rattle.std.specs.declared.alloc.Global.{Global}
 use Rattle.std.specs.declared.ops.Range.{Range}
 use Rattle.ariadne.specs.LeftOut.{LeftOut}

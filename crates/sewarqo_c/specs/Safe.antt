@@ -1,7 +1,7 @@
 -- A call whose texts are shown by signs: what is read of its sources, and the report that is drawn. A
 -- sign stands for each character that a terminal obeys or shows nothing of, character for character.
 -- Offsets are those of the given texts.
-use Rattle.std.specs.Prelude.{◌≡◌, ℕ, ⊤, List, [], ◌∷◌, map, Option, option_map}
+use Rattle.std.specs.Prelude.{◌≡◌, ℕ, ⊤, List, [], ◌∷◌, map, option_map}
 use Rattle.std.specs.declared.ops.Range.{Range}
 use Rattle.ariadne.specs.Building.{filled_code}
 use Rattle.ariadne.specs.Canvas.{kind_name}

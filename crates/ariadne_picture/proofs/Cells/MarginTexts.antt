@@ -1,6 +1,6 @@
 -- The texts of a source row and of the margins of the rows below it.
-use Rattle.std.proofs.Common.{◌≡◌, ◌≢◌, ℕ, zero, suc, ◌+◌, ◌-◌, ◌*◌, ◌/◌, ◌%◌, ◌<◌, ◌≤◌, Bool, true, false, ◌&&◌, cond, List, [], ◌∷◌, ◌++◌, map}
-use Rattle.std.proofs.Common.{take, drop, length, replicate, Some, refl, sym, ap, ◌∙◌, subst, arith, ◌==◌, inl, inr, if◌then◌else◌, append_assoc}
+use Rattle.std.proofs.Common.{◌≡◌, ◌≢◌, ℕ, zero, suc, ◌+◌, ◌-◌, ◌/◌, ◌%◌, ◌<◌, Bool, false, List, [], ◌∷◌, ◌++◌, map}
+use Rattle.std.proofs.Common.{drop, length, replicate, Some, refl, sym, ap, ◌∙◌, subst, arith, ◌==◌, inl, inr, append_assoc}
 use Rattle.std.proofs.Common.{one-add}
 use Rattle.std.specs.Prelude.{slice_get, slice_index, decimal, codes}
 use Rattle.std.specs.Fmt.{digits, digits_onto, digit_glyph}

@@ -15,7 +15,7 @@ use Rattle.ariadne_picture.specs.Ranks.{Sheet, multi_line_labels}
 use Rattle.ariadne_picture.specs.Rows.{Row, source, alternate, arrow}
 use Rattle.ariadne_picture.specs.Columns.{Layout, layout_of, width, column_of, arrow_len}
 use Rattle.ariadne_picture.specs.Cells.{column_ink, alternate_place, arrow_place}
-use Rattle.ariadne_picture.specs.Pieces.{Piece, Texts, Section, stroke, ink_pieces, area_pieces, margin_pieces, margin_text, column_size, gutter_len}
+use Rattle.ariadne_picture.specs.Pieces.{Piece, Texts, Section, stroke, ink_pieces, area_pieces, margin_pieces, column_size, gutter_len}
 use Rattle.ariadne_picture.specs.Pieces.{gutter_pieces, shown_pieces, message_pieces, rest_pieces, row_pieces, text_pieces}
 use Rattle.ariadne_picture.specs.Canvas.{Cell}
 use Rattle.ariadne_picture.specs.Placing.Group.{column_cell, text_cell}

@@ -7,7 +7,7 @@ use Rattle.std.specs.List.{AllByRecursion, enumerate_from, range_with_len, list_
 use Rattle.std.proofs.lemmas.Bool.{cond_both, true≢false, eq-eqb, cases_Bool}
 use Rattle.std.proofs.lemmas.Option.{slice_get_within, get_or_from_slice_get}
 use Rattle.ariadne_picture.specs.Lists.{inserted, in_order, joined}
-use Rattle.ariadne_picture.proofs.Lists.ListFacts.{none≢some, all-at, all-enumerated, Increasing}
+use Rattle.ariadne_picture.proofs.Lists.ListFacts.{none≢some, all-enumerated, Increasing}
 use Rattle.ariadne_picture.proofs.Rows.RowNumbers.{at-front, at-back}
 
 -- x stands in xs

@@ -14,7 +14,7 @@ use Rattle.ariadne_picture.specs.declared.label_info.Side.TheVariants.{Inline}
 use Rattle.ariadne_picture.specs.declared.cell.Glyph.{Glyph}
 use Rattle.ariadne_picture.specs.declared.cell.Glyph.TheVariants.{Blank, Hbar, Vbar, Xbar, Lbot, Rbot, Mbot, Uarrow, Underbar}
 use Rattle.ariadne_picture.specs.declared.cell.Ink.{Ink}
-use Rattle.ariadne_picture.specs.Ranks.{is_start, is_on_one_line, gutter_labels, line_labels}
+use Rattle.ariadne_picture.specs.Ranks.{gutter_labels}
 use Rattle.ariadne_picture.specs.Columns.{Layout, layout_of, width, column_of}
 use Rattle.ariadne_picture.specs.Strokes.{is_crossed, vertical_at}
 use Rattle.ariadne_picture.specs.Cells.{glyph_code, arrow_ink, corner_glyph}

@@ -35,7 +35,7 @@ use Rattle.ariadne_picture.proofs.Cells.InkCells.{glyph_cell, shows-glyph, shows
 use Rattle.ariadne_picture.proofs.Reading.InOrder.{in-order}
 use Rattle.ariadne_picture.proofs.Reading.MessagePlaces.{two-true}
 use Rattle.ariadne_picture.proofs.Reading.Pictures.{Picture, RowAt, placing_of, read, number, source_row, number-at}
-use Rattle.ariadne_picture.proofs.Reading.ShownLine.{IsShownLine, IsArrowRow, arrow-row, arrow-at, block-row-is, source-at, block-at, numbered-at, places-are, places_of}
+use Rattle.ariadne_picture.proofs.Reading.ShownLine.{IsShownLine, IsArrowRow, arrow-row, arrow-at, block-row-is, source-at, block-at}
 use Rattle.ariadne_picture.proofs.Reading.ShownLine.{every-shown-line}
 use Rattle.ariadne_picture.proofs.Reading.TextRows.{arrow_inks, alternate_inks, arrow-text, alternate-text}
 use Rattle.ariadne_picture.specs.Causes.{is_upright}

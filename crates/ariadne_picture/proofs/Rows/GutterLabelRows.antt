@@ -7,7 +7,7 @@ use Rattle.ariadne_picture.specs.declared.label_info.LabelInfo.{LabelInfo}
 use Rattle.ariadne_picture.specs.declared.label_info.LineLabel.{LineLabel}
 use Rattle.ariadne_picture.specs.declared.label_info.Side.{Side}
 use Rattle.ariadne_picture.specs.declared.label_info.Side.TheVariants.{Inline, Starts, Ends}
-use Rattle.ariadne_picture.specs.Ranks.{Sheet, is_inline, is_start, is_on_one_line, gutter_labels, ends_at, margin_label, is_of_gutter_label}
+use Rattle.ariadne_picture.specs.Ranks.{Sheet, is_inline, is_start, is_on_one_line, gutter_labels, ends_at, margin_label}
 use Rattle.ariadne_picture.specs.Ranks.{is_margin, inline_labels, is_before, line_labels}
 use Rattle.ariadne_picture.specs.Rows.{source, arrow}
 use Rattle.ariadne_picture.specs.Strokes.{is_at_margin, rank_at, first_row, last_row}

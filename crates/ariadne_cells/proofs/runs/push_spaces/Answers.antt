@@ -1,4 +1,4 @@
-use Rattle.std.proofs.Common.{refl, encode_utf8}
+use Rattle.std.proofs.Common.{refl}
 use Rattle.ariadne_picture.specs.Lists.{joined}
 use Rattle.ariadne_picture.specs.Pieces.{repeated}
 use Rattle.ariadne_cells.proofs.Copies.{repeated_blank}

@@ -1,5 +1,3 @@
-use Rattle.std.proofs.Common.{◌++◌, ap, ◌∙◌}
-use Rattle.ariadne_columns.specs.Columns.{begins_behind}
 use Rattle.ariadne_columns.proofs.Lines.{begins_pushed, begins_kept, begins_whole}
 use Rattle.ariadne_columns.proofs.columns.begins_of.Goals as goal
 use Rattle.ariadne_columns.proofs.columns.begins_of.Goals.{then-c-eq10+in_ok-push, else-c-eq10}

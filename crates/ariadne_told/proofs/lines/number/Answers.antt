@@ -1,7 +1,5 @@
 use Rattle.std.proofs.Common.{◌≡◌, ◌∙◌, ap, arith}
-use Rattle.std.proofs.lemmas.List.Sums.{prefix_len-le-length}
 use Rattle.std.proofs.lemmas.Str.{IsCharBoundary-end, IsCharBoundary-start}
-use Rattle.std.specs.Char.{is_ascii_digit}
 use Rattle.ariadne_told.specs.Heads.{digits_in}
 use Rattle.ariadne_told.proofs.Texts.{digits_boundary, no_number, a_number}
 use Rattle.ariadne_told.proofs.lines.number.Goals as goal
