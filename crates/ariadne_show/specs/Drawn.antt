@@ -59,7 +59,8 @@ config_of style = record default_config {
   compact = style.is_compact;
 }
 
--- a report has the kind and the code of a diagnostic, and a text as its message, as they can be shown
+-- a report has the configuration that is asked for, the kind and the code of a diagnostic, and a text as
+-- its message, as they can be shown
 pub record IsAbout (style : Style) (told : Diagnostic) (text : List ℕ)
     (report : ReportFields (ℕ × Range ℕ)) : Type 0 where
   pub config : report.config ≡ config_of style
