@@ -15,6 +15,7 @@ pub use ariadne_color::{Background, Color, ColorGenerator, Fmt, Foreground};
 pub use ariadne_labels::config::{CharSet, Config, IndexType, LabelAttach};
 pub use ariadne_labels::kind::ReportKind;
 pub use ariadne_labels::label::Label;
+pub use ariadne_send::retry::RetryInterrupted;
 pub use ariadne_send::sink::Sink;
 pub use builder::ReportBuilder;
 pub use report::Report;

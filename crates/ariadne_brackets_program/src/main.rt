@@ -1,6 +1,7 @@
 //! `ariadne-brackets`: draws the first offence of the brackets of each file.
 #![tactic(auto)]
 
+use ariadne::RetryInterrupted;
 use ariadne_brackets::{Fault, lint, tell_fault};
 use std::alloc::AllocError;
 use std::env;
@@ -26,7 +27,7 @@ fn main(rt: HostRuntime) -> ExitCode {
             &rt,
             rt.alloc(),
             words.as_slice(),
-            &mut rt.stdout(),
+            &mut RetryInterrupted::new(rt.stdout()),
             &mut faults,
         ),
         Err(fault) => tell_fault(&mut faults, &fault),

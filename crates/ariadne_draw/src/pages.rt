@@ -30,6 +30,10 @@ Colours are on in a pipe and a file too, unless --plain or NO_COLOR says otherwi
 Codes, helps, notes, other kinds and labels without text can't be given here: they are for calls of
 the library.
 
+The text, the words and the name of the file are written as they are, on standard error too, with
+all that a terminal obeys in them. Where others may have written them use ariadne-show, or the
+library's crate ariadne_safe: they show signs for it.
+
 Two labels on one line:
 
   printf 'apple == orange;' | ariadne-draw --ascii --plain 'not the same' 0 5 apple 9 15 orange
@@ -65,6 +69,8 @@ Status:
   2  nothing was drawn: the words ask for no report, or standard input can't be read or is not UTF-8
   3  writing failed on the way, or there was no memory and nothing was written
   4  nothing was run: bin/ariadne-draw could not build the program
+
+A write that a signal interrupts is made again.
 ";
 
 /// What `--version` writes: the program's name and version, and the version of what it ports.

@@ -1,6 +1,7 @@
 //! `ariadne-draw`: draws a report over the text on its standard input, or over a file.
 #![tactic(auto)]
 
+use ariadne::RetryInterrupted;
 use ariadne_draw::{Fault, Watched, draw, tell_fault, without_colors};
 use std::alloc::AllocError;
 use std::env;
@@ -40,7 +41,7 @@ fn main(rt: HostRuntime) -> ExitCode {
             rt.alloc(),
             words.as_slice(),
             &mut Watched::new(rt.stdin()),
-            &mut rt.stdout(),
+            &mut RetryInterrupted::new(rt.stdout()),
             &mut faults,
         ),
         Err(fault) => tell_fault(&mut faults, &fault),

@@ -61,6 +61,8 @@ Status:
   2  the words ask for nothing that the program does: standard error says which, and what may stand there
   3  reading or writing failed, or there was no memory
   4  nothing was run: bin/ariadne-show could not build the program
+
+A write that a signal interrupts is made again.
 ";
 
 /// What `--version` writes.

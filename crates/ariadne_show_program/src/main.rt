@@ -1,6 +1,7 @@
 //! `ariadne-show`: draws what compilers print over the files that it is about.
 #![tactic(auto)]
 
+use ariadne::RetryInterrupted;
 use ariadne_show::{
     Asked, Colors, Fault, Options, Status, read_words, show, show_page, tell_fault,
 };
@@ -39,7 +40,8 @@ fn show_input(rt: &HostRuntime, mut options: Options) -> Result<Status, Fault> {
         Ok(input) => input,
         Err(error) => return Err(Fault::of_reading(&error)),
     };
-    let sum = show(rt, rt.alloc(), options, &mut input, &mut rt.stdout())?;
+    let mut out = RetryInterrupted::new(rt.stdout());
+    let sum = show(rt, rt.alloc(), options, &mut input, &mut out)?;
     Ok(sum.status())
 }
 
@@ -48,7 +50,10 @@ fn run(rt: &HostRuntime) -> Result<Status, Fault> {
     let words = given_words(rt)?;
     match read_words(words.as_slice()) {
         Asked::Show(options) => show_input(rt, options),
-        Asked::Page(page) => Ok(show_page(page, &mut rt.stdout(), &mut rt.stderr())),
+        Asked::Page(page) => {
+            let mut out = RetryInterrupted::new(rt.stdout());
+            Ok(show_page(page, &mut out, &mut rt.stderr()))
+        }
         Asked::Unknown(word) => Err(Fault::unknown(rt.alloc(), word)?),
         Asked::Expected {
             option,

@@ -199,4 +199,12 @@ pub(crate) const OTHERS: &[(&str, &str)] = &[
     ("Background::clone", "copies what is Copy"),
     ("Sink::take", "is the caller's own"),
     ("Watched::read", "hands on what its reader returns"),
+    (
+        "RetryInterrupted::write",
+        "hands on what its writer returns",
+    ),
+    (
+        "RetryInterrupted::flush",
+        "hands on what its writer returns",
+    ),
 ];

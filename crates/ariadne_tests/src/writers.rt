@@ -2,7 +2,7 @@
 
 ghost use Rattle.std.specs.Prelude.{Some};
 
-use ariadne::{LeftOut, Report, Sink, WriteError};
+use ariadne::{LeftOut, Report, RetryInterrupted, Sink, WriteError};
 use ariadne_asserts::asserts::{
     APPLE_LABELS, APPLES, Why, assert_left_out, joined, labelled, plain, plain_error, source_of,
 };
@@ -50,6 +50,29 @@ impl Sink for Drain {
 
     fn failed(&self) -> bool {
         self.met_fault
+    }
+}
+
+/// A writer of which each second call is interrupted, from the first on.
+#[derive(Drop)]
+struct Halting {
+    taker: Taker,
+    was_interrupted: bool,
+}
+
+impl Write for Halting {
+    ghost contents = { λ halting. Some halting.taker.held.items };
+
+    fn write(&mut self, buf: &[u8]) -> io::Result<usize> {
+        self.was_interrupted = !self.was_interrupted;
+        if self.was_interrupted {
+            return Err(io::Error::from(ErrorKind::Interrupted));
+        }
+        self.taker.write(buf)
+    }
+
+    fn flush(&mut self) -> io::Result<()> {
+        Ok(())
     }
 }
 
@@ -184,6 +207,19 @@ fn a_writer_that_fails_holds_what_was_sent(rt: HostRuntime) {
     for stop in STOPS {
         assert_writer(&rt, stop);
     }
+}
+
+#[test]
+fn an_interrupted_write_is_tried_again_where_that_is_asked_for(rt: HostRuntime) {
+    let picture = joined(rt.alloc(), &APPLES).expect(&rt, "memory");
+    let mut source = source_of(rt.alloc(), "apple == orange;").expect(&rt, "memory");
+    let mut out = RetryInterrupted::new(Halting {
+        taker: Taker::narrow(rt.alloc(), 7, LEN, None),
+        was_interrupted: false,
+    });
+    let answer = apples(&rt).write(&mut source, &mut out);
+    assert_eq!(rt; told(&rt, answer), None);
+    assert_eq!(rt; out.into_inner().taker.held.as_slice(), picture.as_bytes());
 }
 
 #[test]
