@@ -13,8 +13,6 @@ mod safe;
 mod safe_sources;
 mod settings;
 mod sources;
-#[cfg(test)]
-mod tests;
 mod texts;
 
 ghost use Rattle.sewarqo_c.specs.Ending.{GivesNumber};
