@@ -5,12 +5,14 @@
 //!         source ID SHOWN TEXT LINE_OFFSET .. label ID START END MESSAGE COLOR ORDER PRIORITY ..
 //!         help TEXT .. note TEXT ..
 //!
-//! The last line is 'N cases, M differ', and the status 1 where M > 0.
+//! With a number as its word, so many lines more stand behind each source. The last line is 'N cases, M
+//! differ', and the status 1 where M > 0.
 
 use ariadne::{
     Cache, CharSet, Color, Config, IndexType, Label, LabelAttach, Report, ReportBuilder, ReportKind, Source,
 };
 use std::collections::HashMap;
+use std::env;
 use std::fmt;
 use std::io::{self, BufRead};
 use std::ops::Range;
@@ -115,19 +117,19 @@ impl Words<'_> {
         label.with_order(self.number()).with_priority(self.number())
     }
 
-    fn source(&mut self) -> (String, (bool, Source)) {
+    fn source(&mut self, behind: &str) -> (String, (bool, Source)) {
         let id = self.text().expect("an id");
         let is_shown = self.number::<u8>() != 0;
-        let source = Source::from(self.text().expect("a text")).with_display_line_offset(self.number());
-        (id, (is_shown, source))
+        let text = self.text().expect("a text") + behind;
+        (id, (is_shown, Source::from(text).with_display_line_offset(self.number())))
     }
 
     /// What stands behind the report's own words.
-    fn rest(&mut self, builder: &mut ReportBuilder<'_, Place>) -> Shown {
+    fn rest(&mut self, builder: &mut ReportBuilder<'_, Place>, behind: &str) -> Shown {
         let mut shown = Shown::default();
         while let Some(word) = self.0.next() {
             match word {
-                "source" => shown.0.extend([self.source()]),
+                "source" => shown.0.extend([self.source(behind)]),
                 "label" => builder.add_label(self.label()),
                 "help" => builder.add_help(self.text().expect("a help")),
                 "note" => builder.add_note(self.text().expect("a note")),
@@ -138,8 +140,8 @@ impl Words<'_> {
     }
 }
 
-/// The name of a case, where its picture differs.
-fn differing(line: &str) -> Option<String> {
+/// The name of a case, where its picture differs with this text behind each source.
+fn differing(line: &str, behind: &str) -> Option<String> {
     let mut words = Words(line.split_whitespace());
     let name = words.text().expect("a name");
     let kind = words.text().expect("a kind");
@@ -159,15 +161,16 @@ fn differing(line: &str) -> Option<String> {
     if let Some(message) = message {
         builder.set_message(message);
     }
-    let shown = words.rest(&mut builder);
+    let shown = words.rest(&mut builder, behind);
     let mut picture = Vec::new();
     builder.finish().write(shown, &mut picture).expect("a picture");
     (picture != wanted.into_bytes()).then_some(name)
 }
 
 fn main() -> ExitCode {
+    let behind = "z\n".repeat(env::args().nth(1).map_or(0, |lines| lines.parse().expect("a number")));
     let lines: Vec<String> = io::stdin().lock().lines().map(|line| line.expect("a line")).collect();
-    let names: Vec<String> = lines.iter().filter_map(|line| differing(line)).collect();
+    let names: Vec<String> = lines.iter().filter_map(|line| differing(line, &behind)).collect();
     for name in &names {
         println!("{name}");
     }

@@ -1,16 +1,22 @@
 //! What the library is lent of a source.
 //!
-//! It reads a source from its beginning to its end, to find its lines. So of a long one it is lent the lines
-//! alone that a label or the header touches. A line between them stands there as an empty one, and those in
-//! front are counted by the line offset: so each line keeps its number.
+//! It reads a source from its beginning to its end, to find its lines. So of a long one it is lent only the
+//! lines that a label begins or ends on, and the header's. Each line keeps its number: those in front are
+//! counted by the line offset, and for each one between stands an empty one. And each label keeps its length,
+//! since the gutter and the colours go by it: where a label runs over hidden lines, blanks stand for their
+//! characters.
 
 use crate::source::Source;
+use std::ops::Range;
 
 /// From how many bytes on a source is long.
 const LONG: usize = 1 << 16;
 
 /// An empty line. (Its end joins no character beside it, as a line feed would join a carriage return.)
 const EMPTY_LINE: &str = "\x0c";
+
+/// What stands for a character of a hidden line. (It is one byte, so it counts as one in bytes too.)
+const BLANK: &str = " ";
 
 /// A source, or what is lent of it.
 pub(crate) struct Excerpt {
@@ -26,15 +32,40 @@ struct Piece {
     in_excerpt: usize,
 }
 
+/// A line that a span begins or ends on, and the last line of that span.
+struct End {
+    line: usize,
+    last_line: usize,
+}
+
+/// The lines that these spans begin or end on, in their order. A line is there as often as one does.
+fn ends_of<I: AsRef<str>>(
+    source: &Source<I>,
+    spans: impl Iterator<Item = [usize; 2]>,
+    in_bytes: bool,
+) -> Vec<End> {
+    let mut ends = Vec::new();
+    for span in spans {
+        let [line, last_line] = span.map(|offset| source.line_number(offset, in_bytes));
+        ends.push(End { line, last_line });
+        if line < last_line {
+            ends.push(End { line: last_line, last_line });
+        }
+    }
+    ends.sort_unstable_by_key(|end| end.line);
+    ends
+}
+
 impl Excerpt {
-    /// The whole source, or of a long one the lines that these offsets are on.
+    /// The whole source, or of a long one what these spans need, each given by the offsets of its first and its
+    /// last character.
     pub(crate) fn new<I: AsRef<str>>(
         source: &Source<I>,
-        offsets: impl Iterator<Item = usize>,
+        spans: impl Iterator<Item = [usize; 2]>,
         in_bytes: bool,
     ) -> Excerpt {
         if source.text().len() >= LONG {
-            return Excerpt::of_lines(source, offsets, in_bytes);
+            return Excerpt::of_lines(source, spans, in_bytes);
         }
         Excerpt {
             text: source.text().to_string(),
@@ -43,32 +74,47 @@ impl Excerpt {
         }
     }
 
-    /// The lines that these offsets are on.
+    /// The lines that these spans begin or end on, and what stands for those between.
     fn of_lines<I: AsRef<str>>(
         source: &Source<I>,
-        offsets: impl Iterator<Item = usize>,
+        spans: impl Iterator<Item = [usize; 2]>,
         in_bytes: bool,
     ) -> Excerpt {
-        let mut numbers: Vec<usize> = offsets.map(|offset| source.line_number(offset, in_bytes)).collect();
-        numbers.sort_unstable();
-        numbers.dedup();
-        let first = numbers.first().copied().unwrap_or(0);
+        let ends = ends_of(source, spans, in_bytes);
+        let first = ends.first().map_or(0, |end| end.line);
         let mut excerpt = Excerpt {
             text: String::new(),
             line_offset: source.display_line_offset().saturating_add(first),
             pieces: Vec::new(),
         };
-        let (mut next, mut len) = (first, 0);
-        for number in numbers {
-            let (start, line_len, text) = source.line_with_text(number, in_bytes);
-            len += number - next;
-            excerpt.text.push_str(&EMPTY_LINE.repeat(number - next));
-            excerpt.text.push_str(text);
-            excerpt.pieces.push(Piece { in_source: start, in_excerpt: len });
-            len += line_len;
-            next = number + 1;
+        let (mut next, mut reached, mut len) = (first, first, 0);
+        for End { line, last_line } in ends {
+            if next <= line {
+                len += excerpt.hide(source, next..line, line <= reached);
+                len += excerpt.lend(len, source.line_with_text(line, in_bytes));
+                next = line + 1;
+            }
+            reached = reached.max(last_line);
         }
         excerpt
+    }
+
+    /// Appends what stands for these lines: empty lines, and where a span runs over them blanks for all their
+    /// other characters. Returns how many characters that are, each of one byte.
+    fn hide<I: AsRef<str>>(&mut self, source: &Source<I>, lines: Range<usize>, is_within: bool) -> usize {
+        let count = lines.len();
+        let len = if is_within { source.len_of(lines) } else { count };
+        self.text.push_str(&BLANK.repeat(len - count));
+        self.text.push_str(&EMPTY_LINE.repeat(count));
+        len
+    }
+
+    /// Appends a line that starts here, given by its start in the source, its length and its text. Returns its
+    /// length.
+    fn lend(&mut self, in_excerpt: usize, (in_source, len, text): (usize, usize, &str)) -> usize {
+        self.pieces.push(Piece { in_source, in_excerpt });
+        self.text.push_str(text);
+        len
     }
 
     /// Where an offset into the source, on a line that is lent, is in what is lent.
@@ -83,50 +129,84 @@ impl Excerpt {
 #[cfg(test)]
 mod tests {
     use super::Excerpt;
-    use crate::{CharSet, Config, IndexType, Label, Report, ReportKind, Source};
+    use crate::{CharSet, Color, Config, IndexType, Label, Report, ReportKind, Source};
     use std::ops::Range;
 
-    /// A text with each end that a line may have.
-    const TEXT: &str = "ab\r\n\u{e9}c\n\nd\r\re\u{2028}f\x0bgh\x0ci\u{85}j\n\r\nk\u{6f22}l\nm";
+    /// A text with each end that a line may have, and with short and long lines.
+    const TEXT: &str =
+        "ab\r\n\u{e9}c\n\nd\r\re\u{2028}f\x0bg\u{6f22}\u{e9}ggggggggggggh\x0ci\u{85}j\n\r\nk\u{6f22}l\nm";
 
-    /// The picture of two labels, over a text with a line offset.
-    fn picture(text: &str, line_offset: usize, spans: &[Range<usize>; 2], at: usize, index: IndexType) -> String {
-        let config = Config::new().with_color(false).with_char_set(CharSet::Ascii).with_index_type(index);
+    /// The picture of two labels, over a text with a line offset. Without a word the first only marks.
+    fn picture(
+        (text, line_offset): (&str, usize),
+        word: Option<&str>,
+        spans: &[Range<usize>; 2],
+        at: usize,
+        index: IndexType,
+    ) -> String {
+        let mut first = Label::new(spans[0].clone()).with_color(Color::Red);
+        if let Some(word) = word {
+            first = first.with_message(word);
+        }
         let mut out = Vec::new();
         Report::build(ReportKind::Error, at..at)
-            .with_config(config)
-            .with_label(Label::new(spans[0].clone()).with_message("x"))
-            .with_label(Label::new(spans[1].clone()).with_message("y"))
+            .with_config(Config::new().with_char_set(CharSet::Ascii).with_index_type(index))
+            .with_label(first)
+            .with_label(Label::new(spans[1].clone()).with_message("y").with_color(Color::Blue))
             .finish()
             .write(Source::from(text).with_display_line_offset(line_offset), &mut out)
             .unwrap();
         String::from_utf8(out).unwrap()
     }
 
-    /// A span as it is in an excerpt.
-    fn placed(excerpt: &Excerpt, span: &Range<usize>) -> Range<usize> {
-        crate::write::placed(excerpt, span)
+    /// Asserts that an excerpt draws as the whole text.
+    fn assert_draws_alike(word: Option<&str>, spans: &[Range<usize>; 2], at: usize, index: IndexType) {
+        let source = Source::from(TEXT).with_display_line_offset(7);
+        let touched = spans.iter().map(crate::write::touched).chain([[at; 2]]);
+        let excerpt = Excerpt::of_lines(&source, touched, index == IndexType::Byte);
+        let moved = spans.clone().map(|span| crate::write::placed(&excerpt, &span));
+        assert_eq!(
+            picture((&excerpt.text, excerpt.line_offset), word, &moved, excerpt.place(at), index),
+            picture((TEXT, 7), word, spans, at, index),
+            "{spans:?} at {at}, {index:?}"
+        );
+    }
+
+    #[test]
+    fn hidden_lines_are_as_long_as_a_span_needs() {
+        let source = Source::from("ab\ncd\u{e9}fg\nij\n");
+        for in_bytes in [false, true] {
+            let last = 9 + usize::from(in_bytes);
+            let apart = Excerpt::of_lines(&source, [[0, 1], [last, last]].into_iter(), in_bytes);
+            assert_eq!(apart.text, "ab\n\x0cij\n");
+            let over = Excerpt::of_lines(&source, [[0, last]].into_iter(), in_bytes);
+            assert_eq!(over.text, "ab\n     \x0cij\n");
+        }
     }
 
     #[test]
     fn an_excerpt_draws_as_its_source() {
-        for (index, in_bytes) in [(IndexType::Char, false), (IndexType::Byte, true)] {
-            let source = Source::from(TEXT).with_display_line_offset(7);
-            let past = 3 + if in_bytes { TEXT.len() } else { source.len() };
+        for (index, len) in [(IndexType::Char, TEXT.chars().count()), (IndexType::Byte, TEXT.len())] {
+            let (past, half) = (len + 3, len / 2);
             for start in 0..past {
                 for end in start..past {
-                    let spans = [start..end, past / 2..past / 2 + 2];
-                    let at = end / 3;
-                    let offsets = spans.iter().flat_map(crate::write::touched).chain([at]);
-                    let excerpt = Excerpt::of_lines(&source, offsets, in_bytes);
-                    let moved = [placed(&excerpt, &spans[0]), placed(&excerpt, &spans[1])];
-                    assert_eq!(
-                        picture(&excerpt.text, excerpt.line_offset, &moved, excerpt.place(at), index),
-                        picture(TEXT, 7, &spans, at, index),
-                        "{spans:?} at {at}, in bytes: {in_bytes}"
-                    );
+                    for other in [half..half + 2, 0..half, 4..len] {
+                        for word in [Some("x"), None] {
+                            assert_draws_alike(word, &[start..end, other.clone()], end / 3, index);
+                        }
+                    }
                 }
             }
+        }
+    }
+
+    #[test]
+    fn lines_behind_change_no_picture() {
+        let text = "aa\nbbbbbbbb\ncc\ndddd\nee\n";
+        let long = text.to_string() + &"z\n".repeat(1 << 15);
+        for (word, spans) in [(Some("x"), [0..4, 11..16]), (None, [0..8, 6..16])] {
+            let [short, long] = [text, &long].map(|it| picture((it, 0), word, &spans, 0, IndexType::Char));
+            assert_eq!(long, short, "{spans:?}");
         }
     }
 }

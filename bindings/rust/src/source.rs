@@ -148,6 +148,11 @@ impl<I: AsRef<str>> Source<I> {
         if in_bytes { (line.byte_offset, line.byte_len, text) } else { (line.offset, line.len, text) }
     }
 
+    /// How many characters these lines have together.
+    pub(crate) fn len_of(&self, lines: Range<usize>) -> usize {
+        self.lines[lines].iter().map(Line::len).sum()
+    }
+
     /// The last line that starts at most at an offset, its number, and how far the offset is behind its start.
     fn place(&self, offset: usize, start: impl Fn(&Line) -> usize) -> (Line, usize, usize) {
         let number = self.lines.partition_point(|line| start(line) <= offset).saturating_sub(1);

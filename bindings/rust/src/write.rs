@@ -146,10 +146,10 @@ fn named<S: Span, C: Cache<S::SourceId>>(
     let name = cache.display(id).map(|name| name.to_string());
     match cache.fetch(id) {
         Ok(source) => {
-            let spans = report.labels.iter().map(|label| &label.span).filter(|span| span.source() == id);
-            let offsets = spans.flat_map(touched).chain(at(&report.span, id));
+            let labelled = report.labels.iter().map(|label| &label.span).filter(|span| span.source() == id);
+            let spans = labelled.map(touched).chain(at(&report.span, id).map(|start| [start; 2]));
             let in_bytes = report.content.config.index_type == IndexType::Byte;
-            Some(Named { name, excerpt: Excerpt::new(source, offsets, in_bytes) })
+            Some(Named { name, excerpt: Excerpt::new(source, spans, in_bytes) })
         }
         Err(error) => {
             eprintln!("no source '{}': {error:?}", name.as_deref().unwrap_or("<unknown>"));
