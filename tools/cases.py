@@ -114,10 +114,10 @@ def sources_of(report):
     )
 
 
-def case_of(name, report):
-    """The text of a report as a case of a name, without a picture."""
+def members_told(name, report):
+    """The members of a report as a case of a name, without a picture."""
     source_id, start, end = report["span"]
-    members = told(
+    return told(
         name=name,
         kind=report.get("kind"),
         kind_color=report.get("kind_color"),
@@ -133,7 +133,11 @@ def case_of(name, report):
         takes=report.get("takes"),
         safe=report.get("safe"),
     )
-    return text_of_case(members)
+
+
+def case_of(name, report):
+    """The text of a report as a case of a name, without a picture."""
+    return text_of_case(members_told(name, report))
 
 
 def ends_of(piece):
