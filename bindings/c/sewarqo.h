@@ -36,9 +36,10 @@ typedef struct {
 /* A source. Sources have numbers, from 0, in the order in which the call is handed them. */
 typedef struct {
     sewarqo_optional name; /* shown in front of its lines; none is shown as <unknown> */
-    sewarqo_text text;
-    size_t line_offset; /* in lines: added to each line's number. An excerpt has the number of lines
-                           above it here */
+    sewarqo_text text;     /* the whole text, or an excerpt: all lines from the first to the last that a
+                              label or the report's start is on */
+    size_t line_offset;    /* in lines: added to each line's number. An excerpt has the number of lines
+                              above it here */
 } sewarqo_source;
 
 /* A colour is SEWARQO_NO_COLOR, or one with a name, or one of the palette of 256, or red, green and

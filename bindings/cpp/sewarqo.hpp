@@ -80,7 +80,8 @@ struct Label {
     std::int32_t priority;
 };
 
-// A source. An excerpt has the number of lines above it as its line_offset.
+// A source, or an excerpt: all its lines from the first to the last that a label or the report's `at` is on.
+// An excerpt has the number of lines above it as its line_offset.
 struct Source {
     std::string_view text;
     std::optional<std::string_view> name = std::nullopt;

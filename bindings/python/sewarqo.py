@@ -130,7 +130,10 @@ class Label(NamedTuple):
 
 
 class Source(NamedTuple):
-    """A text, and what is added to its line numbers: an excerpt has the number of lines above it.
+    """A text, and what is added to its line numbers.
+
+    The text may be an excerpt: all lines from the first to the last that a label or the report's `at` is on.
+    Then `line_offset` is the number of lines above it, and offsets count from its beginning.
 
     `name` is what is shown, where that is not the source's key; "" is the empty name.
     """
