@@ -15,10 +15,18 @@ from pages import rows_of, trimmed
 SEQUENCE = re.compile(r"(?:\x1b\[|\x9b)([0-?]*)[ -/]*([@-~])")
 STRING = re.compile(r"(?:\x1b[\]PX^_]|[\x90\x98\x9d-\x9f])(.*?)(?:\x07|\x1b\\|\x9c|\Z)", re.DOTALL)
 DIRECTION_MARKS = "\u061c\u200e\u200f\u202a\u202b\u202c\u202d\u202e\u2066\u2067\u2068\u2069"
-# The first of the characters that are not seen, and the one behind the last.
+# The first of the characters that are not seen, and the one behind the last: Unicode's
+# Default_Ignorable_Code_Point, without the selectors of text and emoji and the marks of direction above.
+IGNORABLE = (
+    (0xAD, 0xAE), (0x34F, 0x350), (0x115F, 0x1161), (0x17B4, 0x17B6), (0x180B, 0x1810), (0x200B, 0x200E),
+    (0x2060, 0x2066), (0x206A, 0x2070), (0x3164, 0x3165), (0xFE00, 0xFE0E), (0xFEFF, 0xFF00),
+    (0xFFA0, 0xFFA1), (0xFFF0, 0xFFF9), (0x1BCA0, 0x1BCA4), (0x1D173, 0x1D17B), (0xE0000, 0xE1000),
+)  # fmt: skip
+# And the separators, Braille without dots, the marks of annotations, the controls of hieroglyphs, the filler of
+# Khitan and the notehead that is null.
 UNSEEN = (
-    (0x180B, 0x1810), (0x200B, 0x200E), (0x2028, 0x202A), (0x2060, 0x2066), (0x206A, 0x2070),
-    (0xFEFF, 0xFF00), (0xFFF0, 0xFFFC), (0xE0000, 0xE1000),
+    *IGNORABLE, (0x2028, 0x202A), (0x2800, 0x2801), (0xFFF9, 0xFFFC), (0x13430, 0x13460), (0x16FE4, 0x16FE5),
+    (0x1D159, 0x1D15A),
 )  # fmt: skip
 TITLES, LINK, CLIPBOARD = ("0", "1", "2"), "8", "52"
 

@@ -28,6 +28,13 @@ fn hidden_characters_have_signs(rt: HostRuntime) {
         TextKind::OneRow,
         "\u{fffc}\u{1810}",
     );
+    let blank = "\u{ad}\u{34f}\u{115f}\u{1160}\u{17b5}\u{2800}\u{3164}\u{ffa0}\u{16fe4}\u{1d159}";
+    let signs = "\u{fffd}".repeat(rt.alloc(), 10).expect(&rt, "memory");
+    assert_shown(&rt, blank, TextKind::Lines, signs.as_str());
+    let notation = "\u{fe00}\u{fe0d}\u{13430}\u{1345f}\u{1bca0}\u{1bca3}\u{1d173}\u{1d17a}";
+    let signs = "\u{fffd}".repeat(rt.alloc(), 8).expect(&rt, "memory");
+    assert_shown(&rt, notation, TextKind::OneRow, signs.as_str());
+    assert!(rt; is_seen("\u{26a0}\u{fe0f}\u{fe0e}\u{2801}\u{1161}\u{1342f}"));
     assert!(rt; is_seen("é漢"));
     assert!(rt; !is_seen("a\u{200d}b"));
 }

@@ -1,6 +1,6 @@
 -- A report whose texts hide nothing is drawn safely: besides what its pictures hide, its texts have no escape, and none that a
 -- row shows whole has a line feed. So pictures without colours have no escape at all.
-use Rattle.std.proofs.Common.{◌≡◌, ◌≢◌, ℕ, true, false, List, [], ◌∷◌, map, Option, Some, None, sym, ap, ◌∙◌, subst, arith, refl}
+use Rattle.std.proofs.Common.{◌≡◌, ℕ, true, false, List, [], ◌∷◌, map, Option, Some, None, sym, ap, ◌∙◌, subst, arith, refl}
 use Rattle.std.specs.Prelude.{encode_utf8, encode_utf8_all, IfSome}
 use Rattle.std.specs.List.{AllByRecursion, list_all}
 use Rattle.std.specs.Str.{chars, is_utf8}

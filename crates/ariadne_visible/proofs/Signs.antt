@@ -11,8 +11,8 @@ use Rattle.std.proofs.lemmas.Str.{chars_past_char, IsUtf8-past_char, chars_from_
 use Rattle.ariadne_base.specs.Lines.{begins_with_line_feed}
 use Rattle.ariadne_visible.specs.declared.text.TextKind.{TextKind}
 use Rattle.ariadne_visible.specs.declared.text.TextKind.TheVariants.{OneRow, Aside, Lines, CompilerLines}
-use Rattle.ariadne_visible.specs.Visible.{is_between, is_control, is_direction_mark, is_joiner, is_tag, is_hidden, symbol_of, stays, shown_code}
-use Rattle.ariadne_visible.specs.Visible.{visible_text, is_layout, is_seen_in, is_shown}
+use Rattle.ariadne_visible.specs.Visible.{is_between, is_control, is_direction_mark, is_joiner, is_blank_letter, is_tag, is_notation_control, is_hidden}
+use Rattle.ariadne_visible.specs.Visible.{symbol_of, stays, shown_code, visible_text, is_layout, is_seen_in, is_shown}
 
 -- ---- tests
 
@@ -58,15 +58,26 @@ plain_is_seen c least less =
     neither (neither (neither (ne_eqb c 0x61C (λ e. omega (arith, e, less))) (below 0x200E 0x200F c (omega (arith, less))))
     (below 0x202A 0x202E c (omega (arith, less)))) (below 0x2066 0x2069 c (omega (arith, less))) in
     let joiners : is_joiner c ≡ false =
-    neither (neither (neither (below 0x180B 0x180F c (omega (arith, less))) (below 0x200B 0x200D c (omega (arith, less))))
-    (below 0x2028 0x2029 c (omega (arith, less)))) (below 0x2060 0x2065 c (omega (arith, less))) in
+    neither (neither (neither (neither (neither (ne_eqb c 0xAD (λ e. omega (arith, e, less)))
+    (ne_eqb c 0x34F (λ e. omega (arith, e, less)))) (below 0x180B 0x180F c (omega (arith, less))))
+    (below 0x200B 0x200D c (omega (arith, less)))) (below 0x2028 0x2029 c (omega (arith, less))))
+    (below 0x2060 0x2065 c (omega (arith, less))) in
+    let blanks : is_blank_letter c ≡ false =
+    neither (neither (neither (neither (neither (neither (below 0x115F 0x1160 c (omega (arith, less)))
+    (below 0x17B4 0x17B5 c (omega (arith, less)))) (ne_eqb c 0x2800 (λ e. omega (arith, e, less))))
+    (ne_eqb c 0x3164 (λ e. omega (arith, e, less)))) (ne_eqb c 0xFFA0 (λ e. omega (arith, e, less))))
+    (ne_eqb c 0x16FE4 (λ e. omega (arith, e, less)))) (ne_eqb c 0x1D159 (λ e. omega (arith, e, less))) in
     let tags : is_tag c ≡ false =
-    neither (neither (neither (below 0x206A 0x206F c (omega (arith, less))) (ne_eqb c 0xFEFF (λ e. omega (arith, e, less))))
+    neither (neither (neither (neither (below 0x206A 0x206F c (omega (arith, less)))
+    (below 0xFE00 0xFE0D c (omega (arith, less)))) (ne_eqb c 0xFEFF (λ e. omega (arith, e, less))))
     (below 0xFFF0 0xFFFB c (omega (arith, less)))) (below 0xE0000 0xE0FFF c (omega (arith, less))) in
-    neither (neither (neither control marks) joiners) tags
+    let controls : is_notation_control c ≡ false =
+    neither (neither (below 0x13430 0x1345F c (omega (arith, less))) (below 0x1BCA0 0x1BCA3 c (omega (arith, less))))
+    (below 0x1D173 0x1D17A c (omega (arith, less))) in
+    neither (neither (neither (neither (neither control marks) joiners) blanks) tags) controls
 
 -- symbols
-symbols_are_seen : (c : ℕ) → 0x206F < c → c < 0xFEFF → is_hidden c ≡ false
+symbols_are_seen : (c : ℕ) → 0x206F < c → c < 0x2800 → is_hidden c ≡ false
 unfolding is_hidden
 symbols_are_seen c least less =
     let control : is_control c ≡ false = neither (le-ltb c 32 (omega (arith, least))) (above 0x7F 0x9F c (omega (arith, least))) in
@@ -74,12 +85,23 @@ symbols_are_seen c least less =
     neither (neither (neither (ne_eqb c 0x61C (λ e. omega (arith, e, least))) (above 0x200E 0x200F c (omega (arith, least))))
     (above 0x202A 0x202E c (omega (arith, least)))) (above 0x2066 0x2069 c (omega (arith, least))) in
     let joiners : is_joiner c ≡ false =
-    neither (neither (neither (above 0x180B 0x180F c (omega (arith, least))) (above 0x200B 0x200D c (omega (arith, least))))
-    (above 0x2028 0x2029 c (omega (arith, least)))) (above 0x2060 0x2065 c (omega (arith, least))) in
+    neither (neither (neither (neither (neither (ne_eqb c 0xAD (λ e. omega (arith, e, least)))
+    (ne_eqb c 0x34F (λ e. omega (arith, e, least)))) (above 0x180B 0x180F c (omega (arith, least))))
+    (above 0x200B 0x200D c (omega (arith, least)))) (above 0x2028 0x2029 c (omega (arith, least))))
+    (above 0x2060 0x2065 c (omega (arith, least))) in
+    let blanks : is_blank_letter c ≡ false =
+    neither (neither (neither (neither (neither (neither (above 0x115F 0x1160 c (omega (arith, least)))
+    (above 0x17B4 0x17B5 c (omega (arith, least)))) (ne_eqb c 0x2800 (λ e. omega (arith, e, less))))
+    (ne_eqb c 0x3164 (λ e. omega (arith, e, less)))) (ne_eqb c 0xFFA0 (λ e. omega (arith, e, less))))
+    (ne_eqb c 0x16FE4 (λ e. omega (arith, e, less)))) (ne_eqb c 0x1D159 (λ e. omega (arith, e, less))) in
     let tags : is_tag c ≡ false =
-    neither (neither (neither (above 0x206A 0x206F c least) (ne_eqb c 0xFEFF (λ e. omega (arith, e, less))))
-    (below 0xFFF0 0xFFFB c (omega (arith, less)))) (below 0xE0000 0xE0FFF c (omega (arith, less))) in
-    neither (neither (neither control marks) joiners) tags
+    neither (neither (neither (neither (above 0x206A 0x206F c least) (below 0xFE00 0xFE0D c (omega (arith, less))))
+    (ne_eqb c 0xFEFF (λ e. omega (arith, e, less)))) (below 0xFFF0 0xFFFB c (omega (arith, less))))
+    (below 0xE0000 0xE0FFF c (omega (arith, less))) in
+    let controls : is_notation_control c ≡ false =
+    neither (neither (below 0x13430 0x1345F c (omega (arith, less))) (below 0x1BCA0 0x1BCA3 c (omega (arith, less))))
+    (below 0x1D173 0x1D17A c (omega (arith, less))) in
+    neither (neither (neither (neither (neither control marks) joiners) blanks) tags) controls
 
 -- the replacement character
 replacement_is_seen : is_hidden 0xFFFD ≡ false

@@ -1,4 +1,4 @@
--- Texts as they can be shown: each character of the table below, which a terminal obeys or shows
+-- Texts as they can be shown: each character of the tests below, which a terminal obeys or shows
 -- nothing of, stands as one that can be seen. Characters stay one for one, and so do offsets that
 -- count them. What lays a text out may stay: the tabs of a source and the ends of its lines, and
 -- the line feeds of a help or note.
@@ -28,23 +28,38 @@ is_direction_mark c =
     (c == 0x61C) || is_between 0x200E 0x200F c || is_between 0x202A 0x202E c
     || is_between 0x2066 0x2069 c
 
--- joiners and spaces of no width, separators of lines and paragraphs, invisible operators, and the
--- marks of Mongolian letters
+-- what joins or parts without being seen: the soft hyphen, the grapheme joiner, joiners and spaces
+-- of no width, separators of lines and paragraphs, invisible operators, and the marks of Mongolian
+-- letters
 abbrev pub is_joiner : ℕ → Bool
 is_joiner c =
-    is_between 0x180B 0x180F c || is_between 0x200B 0x200D c || is_between 0x2028 0x2029 c
-    || is_between 0x2060 0x2065 c
+    (c == 0xAD) || (c == 0x34F) || is_between 0x180B 0x180F c || is_between 0x200B 0x200D c
+    || is_between 0x2028 0x2029 c || is_between 0x2060 0x2065 c
 
--- deprecated format characters, the byte order mark, the marks of annotations, and the plane of
--- tags and selectors
+-- letters and signs that are blank: the fillers of Hangul and Khitan, two vowels of Khmer, Braille
+-- without dots, and the notehead that is null
+abbrev pub is_blank_letter : ℕ → Bool
+is_blank_letter c =
+    is_between 0x115F 0x1160 c || is_between 0x17B4 0x17B5 c || (c == 0x2800) || (c == 0x3164)
+    || (c == 0xFFA0) || (c == 0x16FE4) || (c == 0x1D159)
+
+-- deprecated format characters, the selectors of variants but those of text and emoji, the byte
+-- order mark, the marks of annotations, and the plane of tags and selectors
 abbrev pub is_tag : ℕ → Bool
 is_tag c =
-    is_between 0x206A 0x206F c || (c == 0xFEFF) || is_between 0xFFF0 0xFFFB c
-    || is_between 0xE0000 0xE0FFF c
+    is_between 0x206A 0x206F c || is_between 0xFE00 0xFE0D c || (c == 0xFEFF)
+    || is_between 0xFFF0 0xFFFB c || is_between 0xE0000 0xE0FFF c
 
--- any of these: what a terminal obeys, and characters that it shows nothing of
+-- what lays out hieroglyphs, shorthand and music
+abbrev pub is_notation_control : ℕ → Bool
+is_notation_control c =
+    is_between 0x13430 0x1345F c || is_between 0x1BCA0 0x1BCA3 c || is_between 0x1D173 0x1D17A c
+
+-- any of these: what a terminal obeys that reads UTF-8, and characters that it shows nothing of
 unfoldable pub is_hidden : ℕ → Bool
-is_hidden c = is_control c || is_direction_mark c || is_joiner c || is_tag c
+is_hidden c =
+    is_control c || is_direction_mark c || is_joiner c || is_blank_letter c || is_tag c
+    || is_notation_control c
 
 -- ---- what is shown of it
 

@@ -1,12 +1,13 @@
 //! Texts as they can be shown: a sign for each hidden character. Hidden are the controls, which a
-//! terminal obeys, what turns the direction of a text, and the characters of no width in the tables
-//! below.
+//! terminal obeys, what turns the direction of a text, and the characters in the tests below of
+//! which nothing is seen.
 
 ghost use Rattle.std.specs.Prelude.{◌≡◌, IfOk, string_bytes, chars, length, true};
 ghost use Rattle.ariadne_base.specs.Lines.{begins_with_line_feed as begins_in_line_feed};
 ghost use Rattle.ariadne_visible.specs.declared.text.TextKind.TheVariants.{OneRow};
 ghost use Rattle.ariadne_visible.specs.Visible.{is_control as controls, is_direction_mark as turns};
-ghost use Rattle.ariadne_visible.specs.Visible.{is_joiner as joins, is_tag as tags};
+ghost use Rattle.ariadne_visible.specs.Visible.{is_joiner as joins, is_blank_letter as blanks};
+ghost use Rattle.ariadne_visible.specs.Visible.{is_tag as tags, is_notation_control as lays_out};
 ghost use Rattle.ariadne_visible.specs.Visible.{is_hidden as hides, stays as is_kept};
 ghost use Rattle.ariadne_visible.specs.Visible.{symbol_of as sign, shown_code, visible_bytes};
 ghost use Rattle.ariadne_visible.specs.Visible.{is_shown};
@@ -44,25 +45,50 @@ fn is_direction_mark(c: char) -> bool
         || '\u{2066}' <= c && c <= '\u{2069}'
 }
 
-/// Whether a character joins, parts, operates or selects without being seen.
+/// Whether a character joins, parts or operates without being seen.
 fn is_joiner(c: char) -> bool
     ensures { result ≡ joins c }
 {
-    '\u{180b}' <= c && c <= '\u{180f}'
+    c == '\u{ad}'
+        || c == '\u{34f}'
+        || '\u{180b}' <= c && c <= '\u{180f}'
         || '\u{200b}' <= c && c <= '\u{200d}'
         || '\u{2028}' <= c && c <= '\u{2029}'
         || '\u{2060}' <= c && c <= '\u{2065}'
 }
 
-/// Whether a character is a deprecated format character, the byte order mark, the mark of an
-/// annotation, or in the plane of tags and selectors.
+/// Whether a character is a letter or a sign that is blank.
+fn is_blank_letter(c: char) -> bool
+    ensures { result ≡ blanks c }
+{
+    '\u{115f}' <= c && c <= '\u{1160}'
+        || '\u{17b4}' <= c && c <= '\u{17b5}'
+        || c == '\u{2800}'
+        || c == '\u{3164}'
+        || c == '\u{ffa0}'
+        || c == '\u{16fe4}'
+        || c == '\u{1d159}'
+}
+
+/// Whether a character is a deprecated format character, a selector of variants but that of text or
+/// emoji, the byte order mark, the mark of an annotation, or in the plane of tags and selectors.
 fn is_tag(c: char) -> bool
     ensures { result ≡ tags c }
 {
     '\u{206a}' <= c && c <= '\u{206f}'
+        || '\u{fe00}' <= c && c <= '\u{fe0d}'
         || c == '\u{feff}'
         || '\u{fff0}' <= c && c <= '\u{fffb}'
         || '\u{e0000}' <= c && c <= '\u{e0fff}'
+}
+
+/// Whether a character lays out hieroglyphs, shorthand or music.
+fn is_notation_control(c: char) -> bool
+    ensures { result ≡ lays_out c }
+{
+    '\u{13430}' <= c && c <= '\u{1345f}'
+        || '\u{1bca0}' <= c && c <= '\u{1bca3}'
+        || '\u{1d173}' <= c && c <= '\u{1d17a}'
 }
 
 /// Whether a character is hidden.
@@ -70,7 +96,15 @@ fn is_tag(c: char) -> bool
 fn is_hidden(c: char) -> bool
     ensures { result ≡ hides c }
 {
-    is_control(c) || is_direction_mark(c) || is_joiner(c) || is_tag(c)
+    if c < '\u{7f}' {
+        return c < ' '; // (ASCII, which most texts are, takes no more than this)
+    }
+    is_control(c)
+        || is_direction_mark(c)
+        || is_joiner(c)
+        || is_blank_letter(c)
+        || is_tag(c)
+        || is_notation_control(c)
 }
 
 /// The sign of a hidden character: its symbol, or the replacement character where it has none.
