@@ -4,10 +4,15 @@ It obeys what terminals in use obey, as far as a picture could misuse it. It mov
 scrolls back, hides text, and has titles, clipboards and links. Strings swallow what follows. It obeys
 backspaces, tabs, carriage returns and the controls of the second page, and tells marks that turn a text.
 A line feed begins the next row, as on a terminal in its usual mode. Columns aren't told apart by width.
+
+The usual one reads UTF-8, and its rows are as long as what they show. A `Terminal` may differ: it reads
+8 bits, its rows end, its background is a colour that texts may have, or it turns letters.
 """
 
+import math
 import re
 from dataclasses import dataclass, field
+from unicodedata import bidirectional
 
 from pages import rows_of, trimmed
 
@@ -31,25 +36,42 @@ UNSEEN = (
 TITLES, LINK, CLIPBOARD = ("0", "1", "2"), "8", "52"
 
 
+@dataclass(frozen=True)
+class Terminal:
+    """What a terminal is that differs from the usual one."""
+
+    is_8_bit: bool = False  # it reads each byte as a character
+    width: float = math.inf  # the columns of a row, behind which it goes on in the next one
+    background: tuple = None  # red, green and blue
+    turns_letters: bool = False  # letters from right to left are turned
+
+
 @dataclass
 class Screen:
     """The rows of a terminal, from the top, and what was done beside showing text."""
 
+    terminal: Terminal = Terminal()
     rows: list = field(default_factory=lambda: [[]])
     row: int = 0
     column: int = 0
     is_hidden: bool = False
+    is_wrapped: bool = True
+    foreground: tuple = ()
     misused: list = field(default_factory=list)
 
     def text(self):
         """What is seen, row by row, without the blanks at the ends of rows."""
-        return trimmed("".join(row) for row in self.rows)
+        rows = trimmed("".join(row) for row in self.rows)
+        return list(map(turned, rows)) if self.terminal.turns_letters else rows
 
     def put(self, character):
         """Shows a character where the cursor is, in place of what stands there."""
+        if self.column == self.terminal.width:
+            self.move(*((self.row + 1, 0) if self.is_wrapped else (self.row, self.column - 1)))
         row = self.rows[self.row]
         row.extend(" " * (self.column + 1 - len(row)))
-        row[self.column] = " " if self.is_hidden else character
+        is_unseen = self.is_hidden or self.foreground == self.terminal.background
+        row[self.column] = " " if is_unseen else character
         self.column += 1
 
     def move(self, row, column):
@@ -84,6 +106,9 @@ class Screen:
             self.paint(numbers)
             return
         self.misused.append(f"sequence {final}")
+        if parameters == "?7":
+            self.is_wrapped = final == "h"
+            return
         moves = {"A": (-count, 0), "B": (count, 0), "C": (0, count), "D": (0, -count)}
         if final in moves:
             self.move(self.row + moves[final][0], self.column + moves[final][1])
@@ -114,10 +139,14 @@ class Screen:
         left = list(numbers)
         while left:
             number = left.pop(0)
-            if number in (38, 48):  # (5 and one number follow, or 2 and three)
-                del left[: 2 if left[:1] == [5] else 4]
+            if number in (38, 48):  # 5 and one number follow, or 2 and three
+                count = 2 if left[:1] == [5] else 4
+                if number == 38:
+                    self.foreground = tuple(left[1:count])
+                del left[:count]
             elif number in (0, 28):
                 self.is_hidden = False
+                self.foreground = self.foreground if number else ()
             elif number == 8:
                 self.is_hidden = True
                 self.misused.append("hidden text")
@@ -148,9 +177,19 @@ class Screen:
             self.move(self.row, self.column // 8 * 8 + 8)
 
 
-def shown(text):
-    """The screen after a text was sent to it."""
-    screen, at = Screen(), 0
+def turned(row):
+    """A row that runs from left to right, as the bidirectional algorithm shows it: letters from right to left
+    are turned, with what stands between them. (It does else where digits do.)"""
+    kinds = "".join({"R": "R", "AL": "R", "L": "L", "EN": "L"}.get(bidirectional(it), " ") for it in row)
+    for run in re.finditer("R(?:[R ]*R)?", kinds):
+        row = row[: run.start()] + row[run.start() : run.end()][::-1] + row[run.end() :]
+    return row
+
+
+def shown(text, terminal=Terminal()):
+    """The screen of a terminal after a text was sent to it."""
+    text = text.encode().decode("latin-1") if terminal.is_8_bit else text
+    screen, at = Screen(terminal), 0
     while at < len(text):
         sequence, string = SEQUENCE.match(text, at), STRING.match(text, at)
         if sequence or string:
@@ -189,8 +228,8 @@ COLORS = re.compile("\x1b\\[[0-9;]*m")
 
 
 def faults_of(picture):
-    """What is wrong with a picture on a terminal: what it did beside showing text, and the first row that
-    is not seen as it is sent. A picture that hides nothing has none."""
+    """What is wrong with a picture on the usual terminal: what it did beside showing text, and the first row
+    that is not seen as it is sent. A picture that hides nothing has none."""
     screen = shown(picture)
     rows = rows_of(COLORS.sub("", picture))
     seen = screen.text()

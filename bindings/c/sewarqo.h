@@ -4,9 +4,10 @@
    writes meanwhile. It may not be called from a signal handler. Each pointer that a struct or the
    call is handed is the caller's before, during and after it: the library keeps none.
 
-   Whatever the texts hold, a picture hides nothing and its only escapes are the library's own: a sign
-   stands for each character that a terminal obeys or shows nothing of. Under SEWARQO_AS_IS texts are
-   drawn as they are, and an escape character in one reaches the terminal.
+   Whatever the texts hold, the only escapes of a picture are the library's own, for a terminal that
+   reads UTF-8: a sign stands for each character that it obeys, and for those that it shows nothing of
+   which SAFE.md lists. That page tells what is not promised too. Under SEWARQO_AS_IS texts are drawn as
+   they are, and an escape character in one reaches the terminal.
 
    A pointer may be null where its length is 0. With a length it must point to so many values, and
    `len` and `count` must point to one. What the call writes overlaps nothing else that it is given. */

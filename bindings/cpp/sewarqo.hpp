@@ -5,8 +5,8 @@
 //     std::string picture = report.render({{"apple == orange;", "main.fruit"}});
 //
 // Texts are UTF-8. Offsets count from 0, in characters or (Config::byte_offsets) in bytes, and the end
-// of a label is exclusive. Whatever the texts hold, a picture hides nothing and has no escapes but the
-// library's: a sign stands for each character that a terminal obeys or shows nothing of (Config::safe).
+// of a label is exclusive. Whatever the texts hold, a picture has no escapes but the library's, for a
+// terminal that reads UTF-8: a sign stands for each character that SAFE.md lists (Config::safe).
 // A report keeps copies of its texts; those of sources are read by the call alone. Any number of threads
 // may draw at once.
 #ifndef SEWARQO_HPP

@@ -18,8 +18,8 @@ Error: can't compare apples with oranges
 
 Offsets count from 0, and the end of a label is exclusive. Over sources of type `str` they count
 characters, over sources of type `bytes` (in UTF-8) they count bytes. Whatever the texts hold, a picture
-hides nothing and has no escapes but the library's: a sign stands for each character that a terminal obeys
-or shows nothing of. With `Config(safe=False)` texts are drawn as they are.
+has no escapes but the library's, for a terminal that reads UTF-8: a sign stands for each character that
+SAFE.md lists. With `Config(safe=False)` texts are drawn as they are.
 
 The module needs the shared library libsewarqo.so: the one that the environment variable
 SEWARQO_LIBRARY names, or the one beside this file, or the one that the system finds. It works with

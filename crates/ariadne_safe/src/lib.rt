@@ -1,5 +1,6 @@
 //! Safe reports: whatever sources, names and messages hold, every escape of a picture is the
-//! library's own, and a sign stands for each character that `visible` lists as hidden.
+//! library's own, and a sign stands for each character that `visible` lists as hidden. The terminal
+//! has to read UTF-8.
 #![tactic(auto)]
 
 mod places;

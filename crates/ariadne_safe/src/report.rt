@@ -219,7 +219,7 @@ impl<'a> SafeReport<'a> {
     /// No picture that it draws hides anything: no text of it has an escape, so each is that of a
     /// colour of the library's own, and with colours off there is none. Outside of the colours,
     /// `ESC [ digits and semicolons m`, the only hidden characters are the line feeds at the ends
-    /// of rows.
+    /// of rows. This speaks of characters: the terminal has to read UTF-8.
     ///
     /// A label is left out where no source has its number, and where `write` of `Report` leaves it
     /// out; the result lists these by their positions, from 0. On `Memory` nothing was sent. On

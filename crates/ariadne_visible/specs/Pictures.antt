@@ -1,6 +1,7 @@
--- Pictures that can be shown on any terminal: outside of the colours there is no control but the
--- line feeds at the ends of rows, and no character that hides or turns what stands beside it. Each
--- of the colours is the library's own, since no text of a cell has an escape.
+-- Pictures that hide nothing on a terminal which reads UTF-8: outside of the colours no character
+-- is hidden (`Visible`), but the line feeds at the ends of rows. Each of the colours is the
+-- library's own, since no text of a cell has an escape. All this speaks of characters: a byte of
+-- one may be what a terminal of 8 bits obeys.
 use Rattle.std.specs.Prelude.{ℕ, ◌≡◌, ◌<◌, ◌⊎◌, Bool, true, false, not, ◌&&◌, ◌==◌, List, Option}
 use Rattle.std.specs.Prelude.{Some, None, IfSome}
 use Rattle.std.specs.List.{list_all, AllByRecursion}

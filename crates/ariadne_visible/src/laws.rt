@@ -64,7 +64,8 @@ pub fn such_reports_are_drawn_safely<S, Id>()
     ensures { (w : World S Id) (r : ReportFields S) → HideNothing w r → IsDrawnSafely w r }
 {}
 
-/// And no byte of such a picture is a control but these line feeds, and those of the sequences.
+/// And no byte of such a picture is a control of ASCII, or DEL, but these line feeds and those of
+/// the sequences. One that a terminal of 8 bits obeys may be a byte of a letter.
 pub fn such_bytes_have_no_control()
     ensures { (picture : List ℕ) → HidesNothing picture → HasNoControl picture }
 {}

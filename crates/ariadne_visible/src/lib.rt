@@ -1,5 +1,6 @@
 //! Texts that can be shown, and pictures of such texts: a sign for each control, each character
-//! that turns the direction of a text, and each of the characters of no width that `text` lists.
+//! that turns the direction of a text, and each that `text` lists since nothing is seen of it. The
+//! terminal has to read UTF-8.
 #![tactic(auto)]
 
 pub mod laws;

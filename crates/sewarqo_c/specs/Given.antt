@@ -18,7 +18,7 @@ given_text t = if t.is_given == 0 then None else Some t.text.bytes.now
 abbrev pub listing_of : GivenSource → Listing
 listing_of s = record { text = s.text.bytes.now; display_offset = s.line_offset }
 
--- the same with a sign for each character that a terminal obeys or shows nothing of
+-- the same with a sign for each hidden character
 abbrev pub shown_listing : GivenSource → Listing
 shown_listing s = record {
   text = visible_bytes Lines s.text.bytes.now;

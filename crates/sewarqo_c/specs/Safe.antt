@@ -1,5 +1,5 @@
 -- A call whose texts are shown by signs: what is read of its sources, and the report that is drawn. A
--- sign stands for each character that a terminal obeys or shows nothing of, character for character.
+-- sign stands for each hidden character, character for character.
 -- Offsets are those of the given texts.
 use Rattle.std.specs.Prelude.{◌≡◌, ℕ, ⊤, List, [], ◌∷◌, map, option_map}
 use Rattle.std.specs.declared.ops.Range.{Range}

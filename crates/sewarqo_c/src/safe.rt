@@ -1,5 +1,4 @@
-//! Pictures that hide nothing: a sign stands for each character of a text that a terminal obeys or
-//! shows nothing of.
+//! Pictures that hide nothing: a sign stands for each hidden character of a text.
 
 ghost use Rattle.std.specs.Prelude.{◌≡◌, ◌++◌, [], true, map, None, option_map, string_bytes};
 ghost use Rattle.std.specs.Prelude.{IfOk, OnOk, IfErr};
