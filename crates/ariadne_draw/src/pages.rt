@@ -30,9 +30,9 @@ Colours are on in a pipe and a file too, unless --plain or NO_COLOR says otherwi
 Codes, helps, notes, other kinds and labels without text can't be given here: they are for calls of
 the library.
 
-The text, the words and the name of the file are written as they are, on standard error too, with
-all that a terminal obeys in them. Where others may have written them use ariadne-show, or the
-library's crate ariadne_safe: they show signs for it.
+The text, the words and the name of the file are written as they are, with all that a terminal obeys
+in them. Where others may have written them use ariadne-show, or the library's crate ariadne_safe:
+they show signs for it.
 
 Two labels on one line:
 

@@ -33,7 +33,8 @@ how many errors, warnings and notes there were.
   --version        writes the program's version
 
 The word behind an option may be joined to it by a =. Whatever files and messages hold, a picture
-shows a sign for each character that a terminal obeys or shows nothing of.
+shows a sign for each character that a terminal of UTF-8 obeys, and for others of which nothing is
+seen: docs/SAFE.md lists them.
 
 Examples:
 

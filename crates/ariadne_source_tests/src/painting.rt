@@ -7,6 +7,7 @@ use ariadne::{Color, ColorGenerator, Fmt};
 use ariadne_color::color::{numbers_rise_evenly, push_painted, push_painted_char};
 use std::alloc::{AllocError, Global};
 use std::fmt::Display;
+use std::process::Abort;
 
 const RED: Option<Color> = Some(Color::Red);
 
@@ -77,7 +78,7 @@ fn greatest_after_one() -> ColorGenerator
 }
 
 /// Colours, each with the parameters of its escape in front and behind.
-const COLORS: [(Color, &str, &str); 21] = [
+const COLORS: &[(Color, &str, &str)] = &[
     (Color::Primary, "39", "49"),
     (Color::Fixed(0), "38;5;0", "48;5;0"),
     (Color::Fixed(99), "38;5;99", "48;5;99"),
@@ -101,107 +102,120 @@ const COLORS: [(Color, &str, &str); 21] = [
     (Color::BrightWhite, "97", "107"),
 ];
 
-#[test]
-fn every_color_in_front(rt: HostRuntime) {
-    for (color, front, _) in COLORS {
-        let want = format!(in rt.alloc(); "\x1b[{front}mé\x1b[0m").expect(&rt, "memory");
-        let painted = painted_char(rt.alloc(), 'é', Some(color)).expect(&rt, "memory");
-        assert_eq!(rt; painted, want, "{color:?}");
-    }
+/// Asserts that a text was made, and is this.
+fn assert_text(rt: &impl Abort, text: Result<String, AllocError>, want: &str) {
+    assert_eq!(rt; text.expect(rt, "memory").as_str(), want)
+}
+
+/// A letter between an escape with these parameters and the closing one.
+fn escaped(alloc: Global, parameters: &str) -> Result<String, AllocError> {
+    format!(in alloc; "\x1b[{parameters}mé\x1b[0m")
+}
+
+/// Two letters, each between an escape with these parameters and the closing one.
+fn escaped_twice(alloc: Global, parameters: &str) -> Result<String, AllocError> {
+    format!(in alloc; "\x1b[{parameters}mé\x1b[0m\x1b[{parameters}me\x1b[0m")
+}
+
+/// What is pushed of a text.
+fn pushed(alloc: Global, color: Option<Color>, text: &str) -> Result<String, AllocError> {
+    let mut out = String::new(alloc);
+    push_painted(&mut out, color, text)?;
+    Ok(out)
+}
+
+/// What is pushed of a character, and of a text behind it.
+fn pushed_twice(alloc: Global, color: Color) -> Result<String, AllocError> {
+    let mut out = String::new(alloc);
+    push_painted_char(&mut out, Some(color), 'é')?;
+    push_painted(&mut out, Some(color), "e")?;
+    Ok(out)
+}
+
+/// What is pushed without a colour behind a text.
+fn pushed_plain(alloc: Global) -> Result<String, AllocError> {
+    let mut out = String::from_str(alloc, "a")?;
+    push_painted(&mut out, None, "b")?;
+    push_painted_char(&mut out, None, 'c')?;
+    Ok(out)
+}
+
+/// Asserts what a colour looks like in front, where it is pushed, and behind.
+fn assert_color(rt: &(impl Abort + AllocGlobal), color: Color, front: &str, behind: &str) {
+    let alloc = rt.alloc();
+    let want = escaped(alloc, front).expect(rt, "memory");
+    assert_text(rt, painted_char(alloc, 'é', Some(color)), want.as_str());
+    let want = escaped_twice(alloc, front).expect(rt, "memory");
+    assert_text(rt, pushed_twice(alloc, color), want.as_str());
+    let want = escaped(alloc, behind).expect(rt, "memory");
+    assert_text(rt, painted_text(alloc, "é", Some(color)), want.as_str())
 }
 
 #[test]
-fn every_color_is_pushed(rt: HostRuntime) {
-    for (color, front, _) in COLORS {
-        let want = format!(in rt.alloc(); "\x1b[{front}mé\x1b[0m\x1b[{front}me\x1b[0m");
-        let mut out = String::new(rt.alloc());
-        push_painted_char(&mut out, Some(color), 'é').expect(&rt, "memory");
-        push_painted(&mut out, Some(color), "e").expect(&rt, "memory");
-        assert_eq!(rt; out, want.expect(&rt, "memory"), "{color:?}");
-    }
-}
-
-#[test]
-fn every_color_behind(rt: HostRuntime) {
-    for (color, _, behind) in COLORS {
-        let want = format!(in rt.alloc(); "\x1b[{behind}mé\x1b[0m").expect(&rt, "memory");
-        let painted = painted_text(rt.alloc(), "é", Some(color)).expect(&rt, "memory");
-        assert_eq!(rt; painted, want, "{color:?}");
+fn every_color_is_painted(rt: HostRuntime) {
+    for (color, front, behind) in COLORS {
+        assert_color(&rt, *color, *front, *behind)
     }
 }
 
 #[test]
 fn values_without_color_stand_alone(rt: HostRuntime) {
     let alloc = rt.alloc();
-    assert_eq!(rt;
-        format!(in alloc; "{}{}", "x".fg(None), 7.bg(None))
-            .expect(&rt, "memory")
-            .as_str(),
-        "x7"
+    assert_text(
+        &rt,
+        format!(in alloc; "{}{}", "x".fg(None), 7.bg(None)),
+        "x7",
     );
-    let mut out = String::from_str(alloc, "a").expect(&rt, "memory");
-    push_painted(&mut out, None, "b").expect(&rt, "memory");
-    push_painted_char(&mut out, None, 'c').expect(&rt, "memory");
-    assert_eq!(rt; out.as_str(), "abc");
+    assert_text(&rt, pushed_plain(alloc), "abc")
 }
 
 #[test]
 fn options_of_the_format_are_ignored(rt: HostRuntime) {
     let alloc = rt.alloc();
-    assert_eq!(rt;
-        format!(in alloc; "{:5}|", "x".fg(None))
-            .expect(&rt, "memory")
-            .as_str(),
-        "x|"
+    assert_text(&rt, format!(in alloc; "{:5}|", "x".fg(None)), "x|");
+    assert_text(&rt, format!(in alloc; "{:>5}|", "x".bg(None)), "x|");
+    assert_text(
+        &rt,
+        format!(in alloc; "{:05}", 7.fg(RED)),
+        "\x1b[31m7\x1b[0m",
     );
-    assert_eq!(rt;
-        format!(in alloc; "{:>5}|", "x".bg(None))
-            .expect(&rt, "memory")
-            .as_str(),
-        "x|"
-    );
-    assert_eq!(rt;
-        format!(in alloc; "{:05}", 7.fg(RED))
-            .expect(&rt, "memory")
-            .as_str(),
-        "\x1b[31m7\x1b[0m"
-    );
-    assert_eq!(rt;
-        format!(in alloc; "{:.1}", "xyz".bg(RED))
-            .expect(&rt, "memory")
-            .as_str(),
-        "\x1b[41mxyz\x1b[0m"
-    );
+    assert_text(
+        &rt,
+        format!(in alloc; "{:.1}", "xyz".bg(RED)),
+        "\x1b[41mxyz\x1b[0m",
+    )
 }
 
 #[test]
 fn numbers_and_empty_texts_are_painted(rt: HostRuntime) {
     let alloc = rt.alloc();
-    let seven = format!(in alloc; "{}", 7.bg(Some(Color::Rgb(1, 2, 3)))).expect(&rt, "memory");
-    assert_eq!(rt; seven.as_str(), "\x1b[48;2;1;2;3m7\x1b[0m");
-    let nothing = ""
-        .fg(Some(Color::Primary))
-        .to_string(alloc)
-        .expect(&rt, "memory");
-    assert_eq!(rt; nothing.as_str(), "\x1b[39m\x1b[0m");
-    let mut out = String::new(alloc);
-    push_painted(&mut out, Some(Color::Red), "").expect(&rt, "memory");
-    assert_eq!(rt; out.as_str(), "\x1b[31m\x1b[0m");
+    let mixed = Some(Color::Rgb(1, 2, 3));
+    assert_text(
+        &rt,
+        format!(in alloc; "{}", 7.bg(mixed)),
+        "\x1b[48;2;1;2;3m7\x1b[0m",
+    );
+    assert_text(
+        &rt,
+        "".fg(Some(Color::Primary)).to_string(alloc),
+        "\x1b[39m\x1b[0m",
+    );
+    assert_text(&rt, pushed(alloc, RED, ""), "\x1b[31m\x1b[0m")
 }
 
 #[test]
 fn values_of_any_kind_are_painted(rt: HostRuntime) {
     let alloc = rt.alloc();
-    assert_eq!(rt;
-        painted_number(alloc, 42, RED)
-            .expect(&rt, "memory")
-            .as_str(),
-        "\x1b[31m42\x1b[0m\x1b[41m42\x1b[0m"
+    assert_text(
+        &rt,
+        painted_number(alloc, 42, RED),
+        "\x1b[31m42\x1b[0m\x1b[41m42\x1b[0m",
     );
-    assert_eq!(rt;
-        printed_twice(alloc, 'x').expect(&rt, "memory").as_str(),
-        "\x1b[31mx\x1b[0m\x1b[31mx\x1b[0m"
-    );
+    assert_text(
+        &rt,
+        printed_twice(alloc, 'x'),
+        "\x1b[31mx\x1b[0m\x1b[31mx\x1b[0m",
+    )
 }
 
 #[test]
