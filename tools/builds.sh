@@ -3,12 +3,13 @@
 #     root   the clone's folder
 #     name   the name that lines on standard error begin with
 #
-# A build that HUP, INT or TERM interrupts ends with its script, and nothing stays of it. Where nothing
-# can be built the script ends with status 4, and tells why, with the lines of `rt`.
+# A build that HUP, INT or TERM interrupts ends before its script does, with all its processes, and nothing
+# stays of it. Where nothing can be built the script ends with status 4, and tells why, with the lines of
+# `rt`.
 made=       # a temporary folder, while there is one
 lines=      # the file that gets what `rt` says
-unfinished= # a folder in out/unproved/ that is not whole yet
-running=    # the process of `rt`, while it runs
+unfinished= # a folder that is not whole yet, beside the place where it is to stand
+running=    # the process at the head of the session that runs, while one does
 
 # tell LINE: writes the line to standard error.
 tell() {
@@ -30,7 +31,8 @@ clear_up() {
 
 # end SIGNAL: ends the build, removes what it has made, and ends the script by the signal.
 end() {
-    [ -z "$running" ] || kill "$running" 2> /dev/null
+    trap '' HUP INT TERM
+    [ -z "$running" ] || "$root/tools/processes.py" "$running" || kill -- "-$running"
     wait
     clear_up
     trap - "$1"
@@ -40,6 +42,11 @@ end() {
 # begin: sees that `rt` is there, and makes the folder of a build.
 begin() {
     [ -x "$(command -v rt)" ] || refuse "not built yet, and rt, the command of Rattle's kit, is not on the path"
+    make_folder
+}
+
+# make_folder: makes the temporary folder, which goes with the script where that is interrupted.
+make_folder() {
     for signal in HUP INT TERM; do
         trap "end $signal" "$signal"
     done
@@ -55,15 +62,22 @@ ended() {
     trap - HUP INT TERM
 }
 
-# run_rt FOLDER WORD..: runs `rt` with the words in the folder. What it says goes to $lines. (It
-# runs in the background, since a trap waits for what runs in front.)
-run_rt() {
-    (cd "$1" && shift && exec rt "$@") < /dev/null >> "$lines" 2>&1 &
+# run WORD..: runs the words in a session of their own, by which all that they begin is found. (They run
+# in the background, since a trap waits for what runs in front.)
+run() {
+    setsid "$@" < /dev/null &
     running=$!
     wait "$running"
     set -- $?
     running=
     return "$1"
+}
+
+# run_rt FOLDER WORD..: runs `rt` with the words in the folder. What it says goes to $lines.
+run_rt() {
+    folder=$1
+    shift
+    run env -C "$folder" rt "$@" >> "$lines" 2>&1
 }
 
 # below CRATE: the crates of this repository that it stands on, lowest first, and itself at last.

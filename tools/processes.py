@@ -1,7 +1,6 @@
 #!/usr/bin/env python3
 """The processes of this machine, and how one is ended with all that it has begun.
-Run: tools/processes.py SESSION, which ends the processes of a session, and waits for it, but no longer
-than ten seconds.
+Run: tools/processes.py SESSION, which ends the processes of a session, and waits until they have ended.
 """
 
 import os
@@ -10,50 +9,72 @@ import sys
 import time
 from contextlib import suppress
 from pathlib import Path
+from typing import NamedTuple
+
+GRACE = 10  # seconds that a process has to end in
+PAUSE = 0.02  # seconds between two looks at those that are left
+
+
+class Process(NamedTuple):
+    """A process that has not ended. Its number and its start tell it from all others."""
+
+    number: int
+    start: int
+    parent: int
+    session: int
 
 
 def all_processes():
-    """Each process with its parent and its session."""
     for path in Path("/proc").glob("[0-9]*/stat"):
         with suppress(OSError):  # (it may have ended)
             fields = path.read_text(errors="replace").rpartition(")")[2].split()
-            yield int(path.parent.name), int(fields[1]), int(fields[3])
+            if fields[0] not in "ZX":
+                yield Process(int(path.parent.name), int(fields[19]), int(fields[1]), int(fields[3]))
 
 
 def below(above):
-    """A process, and all that it has begun, by way of others too, as far as these go on."""
+    """The number of a process, and of all that it has begun, by way of others too, as far as these go on."""
+    return with_begun([above], list(all_processes()))
+
+
+def with_begun(numbers, among):
+    """These numbers, and those of all that these processes have begun."""
     children = {}
-    for process, parent, _ in all_processes():
-        children.setdefault(parent, []).append(process)
-    found = [above]
-    for process in found:
-        found += children.get(process, [])
+    for it in among:
+        children.setdefault(it.parent, []).append(it.number)
+    found = list(numbers)
+    for number in found:
+        found += [child for child in children.get(number, []) if child not in found]
     return found
 
 
-def end_all(processes, number=signal.SIGTERM):
-    for process in processes:
+def left_of(sessions, known):
+    """The known processes, those of the sessions, and all below these, as far as they go on, each as its
+    number and its start."""
+    among = list(all_processes())
+    first = [it.number for it in among if it.session in sessions or (it.number, it.start) in known]
+    found = set(with_begun(first, among))
+    return {(it.number, it.start) for it in among if it.number in found}
+
+
+def end_sessions(sessions):
+    """Ends the processes of these sessions, with all below them, and returns when they have ended. What
+    goes on for too long is killed."""
+    known, until = set(), time.monotonic() + GRACE
+    while left := left_of(sessions, known):
+        if time.monotonic() < until:
+            send(signal.SIGTERM, left - known)
+        else:
+            send(signal.SIGKILL, left)
+        known = left
+        time.sleep(PAUSE)
+
+
+def send(signal_number, processes):
+    for number, _ in processes:
         with suppress(ProcessLookupError):
-            os.kill(process, number)
-
-
-def end_session(session, number=signal.SIGTERM):
-    """Ends the process that began a session, all below it, and all others of the session."""
-    end_all(below(session), number)
-    end_all(of_session(session), number)
-
-
-def of_session(session):
-    return [process for process, _, its_session in all_processes() if its_session == session]
-
-
-def main():
-    session = int(sys.argv[1])
-    end_session(session)
-    until = time.monotonic() + 10
-    while of_session(session) and time.monotonic() < until:
-        time.sleep(0.05)
+            os.kill(number, signal_number)
 
 
 if __name__ == "__main__":
-    main()
+    end_sessions([int(sys.argv[1])])
