@@ -6,6 +6,7 @@
 # A build that HUP, INT or TERM interrupts ends before its script does, with all its processes, and nothing
 # stays of it. Where nothing can be built the script ends with status 4, and tells why, with the lines of
 # `rt`.
+unset RT_ALLOW_C RT_BACKEND # (what is built hangs on the words alone)
 made=       # a temporary folder, while there is one
 lines=      # the file that gets what `rt` says
 unfinished= # a folder that is not whole yet, beside the place where it is to stand
@@ -95,28 +96,46 @@ below() {
         END { visit(last) }' "$root/crates.txt"
 }
 
-# checksum CLONE CRATE..: a checksum of what an unproved build of the last crate is made of.
-checksum() (
-    cd "$1" && shift || exit
-    {
-        for crate; do
-            grep "^$crate[ :]" crates.txt
-            find "crates/$crate/src" -type f | LC_ALL=C sort | tr '\n' '\0' | xargs -0 sha256sum
-        done
-        cat "$root/tools/keeping"
-    } | sha256sum | cut -d ' ' -f 1
+# checksum: a checksum of what is read. (b2sum takes half the time of sha256sum.)
+checksum() {
+    set -- $(b2sum -l 256)
+    echo "$1"
+}
+
+# files FOLDER PLACE..: a checksum and the name of each file in these places of the folder.
+files() (
+    cd "$1" && shift && find "$@" -type f -print0 | LC_ALL=C sort -z | xargs -0 b2sum -l 256
 )
+
+# places PARTS CRATE..: the folders that the crates have for these parts, from the clone's folder.
+places() (
+    cd "$root" && parts=$1 && shift || exit
+    for crate; do
+        for part in $parts; do
+            [ ! -d "crates/$crate/$part" ] || echo "crates/$crate/$part"
+        done
+    done
+)
+
+# entries CLONE CRATE..: the lines that the crates have in crates.txt.
+entries() (
+    clone=$1 && shift && IFS='|'
+    grep -E "^($*)[ :]" "$clone/crates.txt"
+)
+
+# unproved_sources CLONE CRATE..: a checksum of what an unproved build of the last crate is made of.
+unproved_sources() {
+    { entries "$@" && files "$1" $(shift && places src "$@") && cat "$root/tools/keeping"; } | checksum
+}
 
 # copy CLONE CRATE..: makes a clone of what unproved builds of these crates are made of.
 copy() {
     clone=$1
     shift
     for crate; do
-        mkdir -p "$clone/crates/$crate" &&
-            cp -R "$root/crates/$crate/src" "$clone/crates/$crate" &&
-            grep "^$crate[ :]" "$root/crates.txt" >> "$clone/crates.txt" || return
+        mkdir -p "$clone/crates/$crate" && cp -R "$root/crates/$crate/src" "$clone/crates/$crate" || return
     done
-    chmod -R u+w "$clone"
+    entries "$root" "$@" > "$clone/crates.txt" && chmod -R u+w "$clone"
 }
 
 # with_keeping MAIN: the text of a program that is that of MAIN, a `main.rt`, but keeps itself where it
@@ -155,7 +174,7 @@ kit() {
 # find_unproved CRATE: sets `kept` to the folder of the program's unproved build from these sources.
 # It may not be there yet.
 find_unproved() {
-    kept=$root/out/unproved/$1-$(checksum "$root" $(below "$1"))
+    kept=$root/out/unproved/$1-$(unproved_sources "$root" $(below "$1"))
 }
 
 # is_kept: whether this build is there, the loader that starts it too, and no other kit made it than the
@@ -176,7 +195,7 @@ is_kept() {
 build_unproved() {
     copy "$made/clone" $(below "$1") || refuse 'the sources could not be copied'
     # (They may have changed on the way.)
-    kept=$root/out/unproved/$1-$(checksum "$made/clone" $(below "$1"))
+    kept=$root/out/unproved/$1-$(unproved_sources "$made/clone" $(below "$1"))
     main=$made/clone/crates/$1/src/main.rt
     with_keeping "$main" > "$made/main" && mv "$made/main" "$main" && mkdir "$made/kept" ||
         refuse 'the sources could not be copied'
@@ -204,18 +223,83 @@ keep() {
     fi 2> /dev/null
 }
 
+# ---- proved builds. BUILD is the path of one, from the clone's folder: a program, or the folder of the
+# library. Beside it stands BUILD.record, which has a line each:
+#
+#     the words of `rt` that made it
+#     which kit that was, as `kit` tells
+#     a checksum of what it was made of and of its own bytes
+
+# proved_places CRATE..: where the files stand of which proved builds of these crates are made.
+proved_places() {
+    places 'src specs proofs' "$@"
+    case $* in
+        *sewarqo_c*) printf '%s\n' bindings/c/heap.c tools/library ;;
+    esac
+}
+
+# proved_checksum CRATE [BUILD]: a checksum of what a proved build of the crate is made of, and of its bytes.
+proved_checksum() {
+    crates=$(below "$1")
+    shift
+    { entries "$root" $crates && files "$root" $(proved_places $crates) "$@"; } | checksum
+}
+
+# state CRATE..: a line that differs after each edit of what proved builds of these crates are made of, also
+# after one that was taken back: the kit, and checksums of the files and of since when each is as it is.
+state() (
+    cd "$root" || exit
+    set -- $(proved_places "$@")
+    echo "$(kit) $(files . crates.txt "$@" | checksum) $(
+        find crates.txt "$@" -printf '%p %i %C@\n' | LC_ALL=C sort | checksum)"
+)
+
+# put_record WORDS BUILD CHECKSUM: writes the record.
+put_record() {
+    record=$root/$2.record
+    printf '%s\n' "$1" "$(kit)" "$3" > "$record.$$" && mv -T "$record.$$" "$record" ||
+        refuse "$record can't be written"
+}
+
+# record WORDS CRATE BUILD STATE: takes down by which words the build was made, and of what, if the crates
+# below still have the state that they had before.
+record() {
+    whole=$(proved_checksum "$2" "$3")
+    [ "$(state $(below "$2"))" != "$4" ] || put_record "$1" "$3" "$whole"
+}
+
+# is_current CRATE BUILD: whether this proved build is there as its record tells, of these sources, and no
+# other kit made it than the one that is there, if any is.
+is_current() {
+    [ -x "$root/$2" ] && [ -f "$root/$2.record" ] &&
+        { read -r words && read -r maker && read -r whole; } < "$root/$2.record" || return
+    case $words in
+        'rt ci' | 'rt lib' | 'rt run' | 'rt test') ;;
+        *) return 1 ;;
+    esac
+    present=$(kit)
+    [ "${present:-$maker}" = "$maker" ] && [ -n "$whole" ] && [ "$(proved_checksum "$1" "$2")" = "$whole" ]
+}
+
+# has_proved LINE CRATE WORD..: runs `rt` with the words in the crate's folder. Where it fails the script
+# ends with its last lines and this one.
+has_proved() {
+    line=$1
+    crate=$2
+    shift 2
+    run_rt "$root/crates/$crate" "$@" || {
+        tail -n 60 "$lines" >&2
+        refuse "$line: rt says why above"
+    }
+}
+
 # build_proved CRATE WORD..: has `rt` prove the program and build it, as crates/CRATE/out/CRATE. The words
 # are those of a run that ends with status 0, since `rt` has no command that builds a program and does
 # not run it.
 build_proved() {
-    : > "$made/began"
-    program=$root/crates/$1/out/$1
-    folder=$root/crates/$1
+    before=$(state $(below "$1"))
+    crate=$1
     shift
-    run_rt "$folder" run -- "$@" || {
-        tail -n 60 "$lines" >&2
-        refuse 'could not be built: rt says why above'
-    }
-    # (An edit while it was built counts as newer.)
-    touch -r "$made/began" "$program"
+    has_proved 'could not be built' "$crate" run -- "$@"
+    record 'rt run' "$crate" "crates/$crate/out/$crate" "$before"
 }
