@@ -125,7 +125,7 @@ entries() (
 
 # unproved_sources CLONE CRATE..: a checksum of what an unproved build of the last crate is made of.
 unproved_sources() {
-    { entries "$@" && files "$1" $(shift && places src "$@") && cat "$root/tools/keeping"; } | checksum
+    { entries "$@" && files "$1" $(shift && places src "$@") && files "$root/tools" keeping gathered.py; } | checksum
 }
 
 # copy CLONE CRATE..: makes a clone of what unproved builds of these crates are made of.
@@ -138,29 +138,17 @@ copy() {
     entries "$root" "$@" > "$clone/crates.txt" && chmod -R u+w "$clone"
 }
 
-# with_keeping MAIN: the text of a program that is that of MAIN, a `main.rt`, but keeps itself where it
-# has no environment.
-with_keeping() {
-    sed 's/^fn main(/fn program(/' "$1" || return
-    case $(sed -n 's/^fn main(.*) -> \(.*\) {$/\1/p' "$1") in
-        ExitCode) status='Ok(program(rt))' ;;
-        'io::Result<ExitCode>') status='program(rt)' ;;
-        'io::Result<()>') status='program(rt).map(|()| std::process::ExitCode::SUCCESS)' ;;
-        *) return 1 ;;
-    esac
-    sed "s/PROGRAM/$status/" "$root/tools/keeping"
-}
-
 # loader FILE: the words that started a program when it kept itself, before its own two, a line each: the
 # kit's loader and its words, or none. The file has all these words, with a NUL behind each.
 loader() {
     tr '\0' '\n' < "$1" | sed '$d' | sed '$d'
 }
 
-# starter FILE: a script that starts the program beside it, as the file tells that it was started.
+# starter FILE CRATE: a script that starts the program beside it as that of the crate, in the way in which
+# the file tells that it was started.
 starter() {
     echo '#!/bin/sh'
-    printf 'ARIADNE_BUILD=unproved exec '
+    printf 'ARIADNE_BUILD=unproved ARIADNE_PROGRAM=%s exec ' "$2"
     loader "$1" | sed "s/'/'\\\\''/g; s/.*/'&'/" | tr '\n' ' '
     echo '"${0%/*}/program" "$@"'
 }
@@ -187,40 +175,42 @@ is_kept() {
     [ "${present:-$maker}" = "$maker" ]
 }
 
-# build_unproved CRATE: builds the program without a proof, and sets `kept` to the folder with it, whose
-# script `start` starts it. Where out/unproved/ can't be written this is below $made, which stays.
+# build_unproved CRATE..: builds these programs without a proof, as one, and sets `kept` to the folder of the
+# last, whose script `start` starts it. Where out/unproved/ can't be written this is below $made, which stays.
 #
 # `rt try` runs what it builds and keeps nothing. So it is given a copy of the sources whose program,
 # where it has no environment, copies itself into a folder.
 build_unproved() {
-    copy "$made/clone" $(below "$1") || refuse 'the sources could not be copied'
-    # (They may have changed on the way.)
-    kept=$root/out/unproved/$1-$(unproved_sources "$made/clone" $(below "$1"))
-    main=$made/clone/crates/$1/src/main.rt
-    with_keeping "$main" > "$made/main" && mv "$made/main" "$main" && mkdir "$made/kept" ||
+    copy "$made/clone" $(for crate; do below "$crate"; done | awk '!seen[$0]++') &&
+        "$root/tools/gathered.py" "$made/clone" "$@" && mkdir "$made/kept" ||
         refuse 'the sources could not be copied'
-    if ! run_rt "$made/clone/crates/$1" try -- "$made/kept" || ! [ -s "$made/kept/started" ]; then
+    if ! run_rt "$made/clone/crates/gathered_programs" try -- "$made/kept" || ! [ -s "$made/kept/started" ]; then
         cat "$lines" >&2
         refuse 'could not be built: rt says why above'
     fi
-    starter "$made/kept/started" > "$made/kept/start" &&
-        printf '%s\n' "$(kit)" "$(loader "$made/kept/started" | sed 1q)" > "$made/kept/kit" &&
-        chmod -R a+rx "$made/kept" || refuse 'the build could not be kept'
-    keep "$1"
+    for crate; do
+        starter "$made/kept/started" "$crate" > "$made/kept/start" &&
+            printf '%s\n' "$(kit)" "$(loader "$made/kept/started" | sed 1q)" > "$made/kept/kit" &&
+            chmod -R a+rx "$made/kept" || refuse 'the build could not be kept'
+        keep "$crate"
+    done
+    if [ "$kept" = "$made/kept" ]; then rm -rf "$made/clone"; else ended; fi
 }
 
-# keep CRATE: moves the build to $kept, in place of the crate's older ones. Another run may have done so
-# meanwhile.
+# keep CRATE: sets `kept` to the folder of the crate's build, and moves it there in place of older ones.
+# Another run may have done so meanwhile.
 keep() {
+    # (The sources may have changed on the way.)
+    kept=$root/out/unproved/$1-$(unproved_sources "$made/clone" $(below "$1"))
     unfinished=$root/out/unproved/.$1.$$
     if mkdir -p "$root/out/unproved" && cp -R "$made/kept" "$unfinished"; then
         is_kept || rm -rf "$root/out/unproved/$1"-*
-        mv -T "$unfinished" "$kept"
-        ended
+        mv -T "$unfinished" "$kept" || rm -rf "$unfinished"
     else
-        rm -rf "$unfinished" "$made/clone"
+        rm -rf "$unfinished"
         kept=$made/kept
     fi 2> /dev/null
+    unfinished=
 }
 
 # ---- proved builds. BUILD is the path of one, from the clone's folder: a program, or the folder of the
