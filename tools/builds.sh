@@ -153,10 +153,12 @@ starter() {
     echo '"${0%/*}/program" "$@"'
 }
 
-# kit: which file `rt` is, and since when it is as it is; nothing where there is none. (It takes a
-# millisecond, and `rt version` takes 50.)
+# kit: which files `rt` and the provers beside it are, and since when each is as it is; nothing where there is
+# no `rt`. (It takes three milliseconds, and `rt version` takes 50.)
 kit() {
-    ! found=$(command -v rt) || stat -L -c %i:%.9Z "$found"
+    found=$(command -v rt) || return 0
+    folder=$(dirname -- "$(readlink -f -- "$found")")
+    echo $(stat -L -c %i:%.9Z "$folder"/rt* "$folder"/rattle* 2> /dev/null)
 }
 
 # find_unproved CRATE: sets `kept` to the folder of the program's unproved build from these sources.
