@@ -2,18 +2,17 @@
 
 ghost use Rattle.std.specs.Prelude.{◌≤◌};
 
-use ariadne::{Cache, Label, Report, Source, SourceMap, Span, sources};
+use ariadne::{Cache, Label, Report, Source, SourceMap, Span, UnknownSource, sources};
 use ariadne_asserts::asserts::{
     Piece, Why, assert_left_out, assert_picture_over, assert_trimmed, assert_unknown, labelled,
     labelled_in, plain_error, plain_error_at, written,
 };
 use std::alloc::{AllocError, Global};
-use std::ops::{Range, RangeInclusive};
 use std::process::Abort;
 use std::rc::RcStr;
 
 /// The picture of two labels in the source `ab` of `x`.
-pub(crate) const TWO: [&str; 9] = [
+pub(crate) const TWO: &[&str] = &[
     "Error:",
     "   ,-[ x:1:1 ]",
     "   |",
@@ -25,8 +24,21 @@ pub(crate) const TWO: [&str; 9] = [
     "---'",
 ];
 
+/// The same picture where the source has no name.
+const TWO_UNNAMED: &[&str] = &[
+    "Error:",
+    "   ,-[ <unknown>:1:1 ]",
+    "   |",
+    " 1 | ab",
+    "   | ||",
+    "   | `--- p",
+    "   |  |",
+    "   |  `-- q",
+    "---'",
+];
+
 /// The picture of the second label alone.
-pub(crate) const SECOND: [&str; 7] = [
+pub(crate) const SECOND: &[&str] = &[
     "Error:",
     "   ,-[ x:1:1 ]",
     "   |",
@@ -50,6 +62,27 @@ pub(crate) fn two_labels(rt: &(impl Abort + AllocGlobal)) -> Report<'static, Pie
     report_at(rt, "x", &[("x", 0, 1, "p"), ("x", 1, 2, "q")])
 }
 
+/// The same report on a source without an id.
+fn two_labels_unnamed(rt: &(impl Abort + AllocGlobal)) -> Report<'static> {
+    labelled(rt, plain_error(rt.alloc()), &[(0, 1, "p"), (1, 2, "q")]).expect(rt, "memory")
+}
+
+/// A report that points at a place, with a label.
+pub(crate) fn one_label<S: Span + Drop>(
+    rt: &(impl Abort + AllocGlobal),
+    place: S,
+    label: S,
+    message: &str,
+) -> Report<'static, S>
+    requires { S.start_of label ≤ S.end_of label }
+{
+    let label = Label::new(label)
+        .with_message(rt.alloc(), message)
+        .expect(rt, "memory");
+    let builder = plain_error_at(rt.alloc(), place);
+    builder.with_label(label).expect(rt, "memory").finish()
+}
+
 /// Asserts that over a cache a report leaves out exactly these labels, and has these rows.
 pub(crate) fn assert_over<S: Span, C: Cache<S::SourceId>>(
     rt: &(impl Abort + AllocGlobal),
@@ -69,7 +102,7 @@ pub(crate) fn assert_two<C: Cache<&'static str>>(rt: &(impl Abort + AllocGlobal)
     requires { C.can_fetch cache.old }
     ensures { C.can_fetch cache.new }
 {
-    assert_over(rt, &two_labels(rt), cache, &[], &TWO)
+    assert_over(rt, &two_labels(rt), cache, &[], TWO)
 }
 
 /// Asserts that over a cache of one source without a name two labels are drawn.
@@ -77,16 +110,22 @@ fn assert_unnamed<C: Cache<()>>(rt: &(impl Abort + AllocGlobal), cache: &mut C)
     requires { C.can_fetch cache.old }
     ensures { C.can_fetch cache.new }
 {
-    let report = labelled(rt, plain_error(rt.alloc()), &[(0, 1, "p"), (1, 2, "q")]);
-    let report = report.expect(rt, "memory");
-    let mut rows = TWO;
-    rows[1] = "   ,-[ <unknown>:1:1 ]";
-    assert_over(rt, &report, cache, &[], &rows)
+    assert_over(rt, &two_labels_unnamed(rt), cache, &[], TWO_UNNAMED)
+}
+
+/// The source `ab`.
+pub(crate) fn source(rt: &(impl Abort + AllocGlobal)) -> Source<&'static str> {
+    Source::from(rt.alloc(), "ab").expect(rt, "memory")
+}
+
+/// A map that has it as `x`.
+pub(crate) fn map(rt: &(impl Abort + AllocGlobal)) -> SourceMap<&'static str, &'static str> {
+    sources(rt.alloc(), [("x", "ab")]).expect(rt, "memory")
 }
 
 #[test]
 fn a_report_is_drawn_alike_over_a_map_lent_or_in_a_box(rt: HostRuntime) {
-    let mut map = sources(rt.alloc(), [("x", "ab")]).expect(&rt, "memory");
+    let mut map = map(&rt);
     assert_two(&rt, &mut map);
     assert_two(&rt, &mut (&mut map));
     let mut boxed = Box::new(rt.alloc(), map).expect(&rt, "memory");
@@ -95,23 +134,32 @@ fn a_report_is_drawn_alike_over_a_map_lent_or_in_a_box(rt: HostRuntime) {
 
 #[test]
 fn a_report_is_drawn_alike_over_a_pair_that_lends_its_source_or_has_it(rt: HostRuntime) {
-    let source = Source::from(rt.alloc(), "ab").expect(&rt, "memory");
+    let source = source(&rt);
     assert_two(&rt, &mut ("x", &source));
     assert_two(&rt, &mut ("x", source))
 }
 
+/// Labels, of which the first is in a source that there isn't.
+const LOST: &[(&str, usize, usize, &str)] = &[("z", 0, 1, "lost"), ("x", 1, 2, "q")];
+
+/// Asserts that over a cache of `x` alone the first of them is left out, and the second drawn.
+fn assert_second<C: Cache<&'static str>>(rt: &(impl Abort + AllocGlobal), cache: &mut C)
+    requires { C.can_fetch cache.old }
+{
+    let report = report_at(rt, "x", LOST);
+    assert_over(rt, &report, cache, &[(0, Why::Unfetched)], SECOND)
+}
+
 #[test]
 fn a_pair_has_the_labels_on_its_source_alone(rt: HostRuntime) {
-    let report = report_at(&rt, "x", &[("z", 0, 1, "lost"), ("x", 1, 2, "q")]);
-    let lost = [(0, Why::Unfetched)];
-    let source = Source::from(rt.alloc(), "ab").expect(&rt, "memory");
-    assert_over(&rt, &report, &mut ("x", &source), &lost, &SECOND);
-    assert_over(&rt, &report, &mut ("x", source), &lost, &SECOND)
+    let source = source(&rt);
+    assert_second(&rt, &mut ("x", &source));
+    assert_second(&rt, &mut ("x", source))
 }
 
 #[test]
 fn a_source_without_a_name_is_unknown(rt: HostRuntime) {
-    let mut source = Source::from(rt.alloc(), "ab").expect(&rt, "memory");
+    let mut source = source(&rt);
     assert_unnamed(&rt, &mut (&source));
     assert_unnamed(&rt, &mut (&mut source));
     assert_unnamed(&rt, &mut source);
@@ -128,11 +176,9 @@ fn a_source_that_shares_its_text_is_drawn(rt: HostRuntime) {
     )
 }
 
-/// The report of a label on a source whose id is a `String`.
-fn report_of_string(alloc: Global) -> Result<Report<'static, (String, Range<usize>)>, AllocError> {
-    let label = Label::new(("x".to_string(alloc)?, 0..2)).with_message(alloc, "m")?;
-    let builder = plain_error_at(alloc, ("x".to_string(alloc)?, 1..1));
-    Ok(builder.with_label(label)?.finish())
+/// The id `x` as a `String`.
+fn owned_id(rt: &(impl Abort + AllocGlobal)) -> String {
+    "x".to_string(rt.alloc()).expect(rt, "memory")
 }
 
 /// A map of one source, whose id and text are `String`s.
@@ -140,80 +186,60 @@ fn map_of_string(alloc: Global) -> Result<SourceMap<String, String>, AllocError>
     sources(alloc, [("x".to_string(alloc)?, "ab".to_string(alloc)?)])
 }
 
+/// The picture of a label on the whole source, of a report that points at its second character.
+const WHOLE: &[&str] = &[
+    "Error:",
+    "   ,-[ x:1:2 ]",
+    "   |",
+    " 1 | ab",
+    "   | ^|",
+    "   |  `-- m",
+    "---'",
+];
+
 #[test]
 fn ids_may_be_strings(rt: HostRuntime) {
-    let report = report_of_string(rt.alloc()).expect(&rt, "memory");
+    let report = one_label(&rt, (owned_id(&rt), 1..1), (owned_id(&rt), 0..2), "m");
     let mut map = map_of_string(rt.alloc()).expect(&rt, "memory");
-    let rows = [
-        "Error:",
-        "   ,-[ x:1:2 ]",
-        "   |",
-        " 1 | ab",
-        "   | ^|",
-        "   |  `-- m",
-        "---'",
-    ];
-    assert_over(&rt, &report, &mut map, &[], &rows)
+    assert_over(&rt, &report, &mut map, &[], WHOLE)
 }
 
-/// The report of a label between two offsets of `x`, the last included.
-fn report_to(
+/// The picture of a report over a cache. One label is left out since its source is missing, and this is
+/// said of it.
+fn picture_without<C: Cache<&'static str, Error = UnknownSource>>(
     rt: &(impl Abort + AllocGlobal),
-    start: usize,
-    last: usize,
-) -> Report<'static, (&'static str, RangeInclusive<usize>)>
-    requires { start ≤ last }
+    report: &Report<'_, Piece>,
+    cache: &mut C,
+    label: usize,
+    said: &str,
+) -> String
+    requires { C.can_fetch cache.old }
 {
-    let label = Label::new(("x", start..=last))
-        .with_message(rt.alloc(), "q")
-        .expect(rt, "memory");
-    let builder = plain_error_at(rt.alloc(), ("x", 0..=0));
-    builder.with_label(label).expect(rt, "memory").finish()
+    let (picture, left_out) = written(rt, report, cache).expect(rt, "a picture");
+    assert_left_out(&left_out, &[(label, Why::Unfetched)]).expect(rt, "the labels");
+    assert_unknown(rt, &left_out, &[said]).expect(rt, "the report");
+    picture
 }
 
-#[test]
-fn an_inclusive_span_holds_its_last_offset(rt: HostRuntime) {
-    let mut map = sources(rt.alloc(), [("x", "ab")]).expect(&rt, "memory");
-    assert_over(&rt, &report_to(&rt, 1, 1), &mut map, &[], &SECOND)
-}
-
-#[test]
-fn an_inclusive_span_up_to_the_greatest_offset_is_past_its_source(rt: HostRuntime) {
-    let mut map = sources(rt.alloc(), [("x", "ab")]).expect(&rt, "memory");
-    let report = report_to(&rt, 0, usize::MAX);
-    assert_over(&rt, &report, &mut map, &[(0, Why::PastSource)], &["Error:"])
-}
-
-#[test]
-fn an_inclusive_range_holds_its_last_offset(rt: HostRuntime) {
-    let last = Label::new(1..=1)
-        .with_message(rt.alloc(), "q")
-        .expect(&rt, "memory");
-    let builder = plain_error_at(rt.alloc(), 0..=0);
-    let report = builder.with_label(last).expect(&rt, "memory").finish();
-    let mut rows = SECOND;
-    rows[1] = "   ,-[ <unknown>:1:1 ]";
-    let mut source = Source::from(rt.alloc(), "ab").expect(&rt, "memory");
-    assert_over(&rt, &report, &mut source, &[], &rows)
-}
+/// Labels, of which the second is in a source that a map lacks.
+const LACKED: &[(&str, usize, usize, &str)] = &[
+    ("x", 0, 1, "p"),
+    ("zz", 0, 1, "z"),
+    ("x", 1, 2, "q"),
+];
 
 #[test]
 fn a_source_that_a_map_lacks_is_named(rt: HostRuntime) {
-    let labels = [("x", 0, 1, "p"), ("zz", 0, 1, "z"), ("x", 1, 2, "q")];
-    let report = report_at(&rt, "x", &labels);
-    let mut map = sources(rt.alloc(), [("x", "ab")]).expect(&rt, "memory");
-    let (picture, left_out) = written(&rt, &report, &mut map).expect(&rt, "a picture");
-    assert_trimmed(&rt, picture.as_str(), &TWO).expect(&rt, "the picture");
-    assert_left_out(&left_out, &[(1, Why::Unfetched)]).expect(&rt, "the labels");
-    assert_unknown(&rt, &left_out, &["Failed to fetch source 'zz'"]).expect(&rt, "the report")
+    let report = report_at(&rt, "x", LACKED);
+    let said = "Failed to fetch source 'zz'";
+    let picture = picture_without(&rt, &report, &mut map(&rt), 1, said);
+    assert_trimmed(&rt, picture.as_str(), TWO).expect(&rt, "the picture")
 }
 
 #[test]
 fn a_pair_has_no_source_of_another_id(rt: HostRuntime) {
     let report = report_at(&rt, "a", &[("b", 0, 1, "m")]);
-    let mut pair = ("a", Source::from(rt.alloc(), "ab").expect(&rt, "memory"));
-    let (picture, left_out) = written(&rt, &report, &mut pair).expect(&rt, "a picture");
-    assert_eq!(rt; picture.as_str(), "Error: \n");
-    assert_left_out(&left_out, &[(0, Why::Unfetched)]).expect(&rt, "the labels");
-    assert_unknown(&rt, &left_out, &["Failed to fetch source 'b'"]).expect(&rt, "the report")
+    let said = "Failed to fetch source 'b'";
+    let picture = picture_without(&rt, &report, &mut ("a", source(&rt)), 0, said);
+    assert_eq!(rt; picture.as_str(), "Error: \n")
 }

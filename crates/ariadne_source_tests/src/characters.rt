@@ -6,23 +6,25 @@ use ariadne_base::blocks::place::byte_of_char;
 /// 66 characters of one to four bytes in turn: sixteen times four, in ten bytes, and two more.
 const MIXED: &str = "aé漢😀aé漢😀aé漢😀aé漢😀aé漢😀aé漢😀aé漢😀aé漢😀aé漢😀aé漢😀aé漢😀aé漢😀aé漢😀aé漢😀aé漢😀aé漢😀aé";
 
+/// Numbers of its characters, each with the byte at which the character begins.
+const PLACES: &[(usize, usize)] = &[
+    (0, 0),
+    (1, 1),
+    (3, 6),
+    (4, 10),
+    (64, 160),
+    (65, 161),
+    (66, 163),
+    (67, 163),
+];
+
 #[test]
 fn characters_are_counted_and_found(rt: HostRuntime) {
     assert_eq!(rt;
         (count_chars(""), count_chars("é漢"), count_chars(MIXED)),
         (0, 2, 66)
     );
-    let places = [
-        (0, 0),
-        (1, 1),
-        (3, 6),
-        (4, 10),
-        (64, 160),
-        (65, 161),
-        (66, 163),
-        (67, 163),
-    ];
-    for (number, place) in places {
-        assert_eq!(rt; byte_of_char(MIXED, number), place, "of character {number}");
+    for (number, place) in PLACES {
+        assert_eq!(rt; (*number, byte_of_char(MIXED, *number)), (*number, *place));
     }
 }

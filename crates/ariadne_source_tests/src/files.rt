@@ -1,8 +1,8 @@
 //! Reports over files: what is drawn once they change.
 
-use crate::caches::assert_over;
-use ariadne::{FileCache, Label, Report};
-use ariadne_asserts::asserts::{Why, plain_error_at};
+use crate::caches::{assert_over, one_label};
+use ariadne::{FileCache, Report};
+use ariadne_asserts::asserts::Why;
 use ariadne_fakes::Folder;
 use std::fs;
 use std::ops::Range;
@@ -14,11 +14,7 @@ fn report_of_file<'p>(
     rt: &(impl Abort + AllocGlobal),
     path: &'p str,
 ) -> Report<'static, (&'p str, Range<usize>)> {
-    let label = Label::new((path, 1..2))
-        .with_message(rt.alloc(), "q")
-        .expect(rt, "memory");
-    let builder = plain_error_at(rt.alloc(), (path, 0..0));
-    builder.with_label(label).expect(rt, "memory").finish()
+    one_label(rt, (path, 0..0), (path, 1..2), "q")
 }
 
 /// Asserts that of the file at a path the second character is drawn, in this row.
@@ -41,35 +37,38 @@ fn assert_file<R: Files + Drop>(
     assert_over(rt, &report_of_file(rt, path), cache, &[], &rows)
 }
 
+/// Asserts that the file at a path is drawn as it was first read, by each cache.
+fn assert_read_once(rt: &(impl Abort + AllocGlobal + Files), path: &str) {
+    let mut cache = FileCache::new(rt, rt.alloc());
+    assert_file(rt, &mut cache, path, " 1 | ab");
+    fs::write(rt, path, "cd").expect(rt, "a file");
+    assert_file(rt, &mut cache, path, " 1 | ab");
+    assert_file(rt, &mut FileCache::new(rt, rt.alloc()), path, " 1 | cd")
+}
+
 #[test]
 fn a_file_is_drawn_as_it_was_first_read(rt: HostRuntime) {
     let folder = Folder::new(&rt).expect(&rt, "a folder");
     let path = folder
         .file_of(&rt, "line\nfeed.txt", b"ab")
         .expect(&rt, "a file");
-    let mut cache = FileCache::new(&rt, rt.alloc());
-    assert_file(&rt, &mut cache, path.as_str(), " 1 | ab");
-    fs::write(&rt, path.as_path(), "cd").expect(&rt, "a file");
-    assert_file(&rt, &mut cache, path.as_str(), " 1 | ab");
-    let mut later = FileCache::new(&rt, rt.alloc());
-    assert_file(&rt, &mut later, path.as_str(), " 1 | cd");
+    assert_read_once(&rt, path.as_str());
     folder.remove(&rt).expect(&rt, "no folder")
+}
+
+/// Asserts that the file at a path, which is not there yet, is drawn once it is.
+fn assert_asked_again(rt: &(impl Abort + AllocGlobal + Files), path: &str) {
+    let report = report_of_file(rt, path);
+    let mut cache = FileCache::new(rt, rt.alloc());
+    assert_over(rt, &report, &mut cache, &[(0, Why::Unfetched)], &["Error:"]);
+    fs::write(rt, path, "ab").expect(rt, "a file");
+    assert_file(rt, &mut cache, path, " 1 | ab")
 }
 
 #[test]
 fn a_file_that_is_not_there_is_asked_for_again(rt: HostRuntime) {
     let folder = Folder::new(&rt).expect(&rt, "a folder");
     let path = folder.path_of(&rt, "later.txt").expect(&rt, "memory");
-    let report = report_of_file(&rt, path.as_str());
-    let mut cache = FileCache::new(&rt, rt.alloc());
-    assert_over(
-        &rt,
-        &report,
-        &mut cache,
-        &[(0, Why::Unfetched)],
-        &["Error:"],
-    );
-    fs::write(&rt, path.as_path(), "ab").expect(&rt, "a file");
-    assert_file(&rt, &mut cache, path.as_str(), " 1 | ab");
+    assert_asked_again(&rt, path.as_str());
     folder.remove(&rt).expect(&rt, "no folder")
 }

@@ -1,27 +1,31 @@
 //! Reports over functions that give the texts of their sources: how often each is called.
 
-use crate::caches::{SECOND, TWO, assert_over, assert_two, report_at, two_labels};
+use crate::caches::{SECOND, TWO, assert_over, assert_two, report_at, source, two_labels};
 use ariadne::{Cache, FnCache, LeftOut, Reason, Source};
 use ariadne_asserts::asserts::{Why, assert_left_out, assert_shown, written};
 use std::cell::Cell;
 use std::collections::HashMap;
 use std::process::Abort;
 
-/// Asserts that all these labels are left out by what is named since their sources can't be had, and
-/// which number is told of each.
-fn assert_told(rt: &impl Abort, name: &str, left_out: &[LeftOut<u8>], wanted: &[u8]) {
-    assert_eq!(rt; left_out.len(), wanted.len(), "of {name}");
+/// Whether all these labels are left out since their sources can't be had, and these numbers are told
+/// of them.
+fn tells(left_out: &[LeftOut<u8>], wanted: &[u8]) -> bool {
+    if left_out.len() != wanted.len() {
+        return false;
+    }
     for (left, want) in left_out.iter().zip(wanted) {
         let is_told = match left.reason {
             Reason::Unfetched(told) => told == *want,
             _ => false,
         };
-        assert!(rt; is_told, "of {name}");
+        if !is_told {
+            return false;
+        }
     }
+    true
 }
 
 /// What comes of writing the two labels once more.
-#[derive(Clone, Copy)]
 struct Round {
     rows: &'static [&'static str],
     is_whole: bool,
@@ -33,7 +37,6 @@ struct Round {
 }
 
 /// A function whose first calls fail, and what comes of it.
-#[derive(Clone, Copy)]
 struct Faulty {
     name: &'static str,
     /// How many of its first calls fail.
@@ -53,14 +56,14 @@ const FAULTY: &[Faulty] = &[
         told: 0,
         rounds: &[
             Round {
-                rows: &TWO,
+                rows: TWO,
                 is_whole: false,
                 left_out: &[],
                 told: &[],
                 calls: 1,
             },
             Round {
-                rows: &TWO,
+                rows: TWO,
                 is_whole: false,
                 left_out: &[],
                 told: &[],
@@ -75,7 +78,7 @@ const FAULTY: &[Faulty] = &[
         told: 6,
         rounds: &[
             Round {
-                rows: &SECOND,
+                rows: SECOND,
                 is_whole: false,
                 left_out: &[(0, Why::Unfetched)],
                 told: &[7],
@@ -83,7 +86,7 @@ const FAULTY: &[Faulty] = &[
             },
             // By now the source is held.
             Round {
-                rows: &TWO,
+                rows: TWO,
                 is_whole: false,
                 left_out: &[],
                 told: &[],
@@ -126,6 +129,19 @@ impl Counted {
     }
 }
 
+/// Asserts that this picture and these labels that are left out are those of a round.
+fn assert_round(
+    rt: &(impl Abort + AllocGlobal),
+    name: &str,
+    round: &Round,
+    picture: &str,
+    left_out: &[LeftOut<u8>],
+) {
+    assert_shown(rt, picture, round.rows, round.is_whole).expect(rt, name);
+    assert_left_out(left_out, round.left_out).expect(rt, name);
+    assert!(rt; tells(left_out, round.told), "of {name}");
+}
+
 /// Asserts what comes of a function.
 fn assert_called(rt: &(impl Abort + AllocGlobal), faulty: &'static Faulty) {
     let name = faulty.name;
@@ -140,9 +156,7 @@ fn assert_called(rt: &(impl Abort + AllocGlobal), faulty: &'static Faulty) {
     let report = two_labels(rt);
     for round in faulty.rounds {
         let (picture, left_out) = written(rt, &report, &mut cache).expect(rt, "a picture");
-        assert_shown(rt, picture.as_str(), round.rows, round.is_whole).expect(rt, name);
-        assert_left_out(&left_out, round.left_out).expect(rt, name);
-        assert_told(rt, name, &left_out, round.told);
+        assert_round(rt, name, round, picture.as_str(), &left_out);
         assert_eq!(rt; counted.calls.get(), round.calls, "of {name}");
     }
     assert_eq!(rt; cache.get(&"x").is_some(), faulty.is_held, "of {name}");
@@ -156,7 +170,7 @@ fn a_function_is_called_until_it_returns_a_text(rt: HostRuntime) {
 }
 
 /// The picture of the label that is not on `z`.
-const ONE: [&str; 7] = [
+const ONE: &[&str] = &[
     "Error:",
     "   ,-[ x:1:1 ]",
     "   |",
@@ -177,11 +191,10 @@ fn the_sources_of_labels_are_fetched_and_that_of_the_report_is_not(rt: HostRunti
         },
     );
     let report = report_at(&rt, "r", &[("z", 0, 1, "l"), ("x", 0, 1, "m")]);
-    assert_over(&rt, &report, &mut cache, &[(0, Why::Unfetched)], &ONE);
+    assert_over(&rt, &report, &mut cache, &[(0, Why::Unfetched)], ONE);
+    let held = (cache.get(&"x"), cache.get(&"z"), cache.get(&"r"));
     assert_eq!(rt; calls.get(), 2);
-    assert!(rt; cache.get(&"x").is_some());
-    assert!(rt; cache.get(&"z").is_none());
-    assert!(rt; cache.get(&"r").is_none());
+    assert!(rt; matches!(held, (Some(_), None, None)))
 }
 
 /// Fails for every id.
@@ -189,13 +202,20 @@ fn missing(_id: &&'static str) -> Result<&'static str, ()> {
     Err(())
 }
 
+/// A source for `x` that is given to a cache.
+fn given(rt: &(impl Abort + AllocGlobal)) -> HashMap<&'static str, Source<&'static str>> {
+    let mut given = HashMap::new(rt.alloc());
+    assert!(rt; given.insert("x", source(rt)).is_ok());
+    given
+}
+
 #[test]
 fn sources_that_were_given_are_drawn_without_a_call(rt: HostRuntime) {
-    let mut given = HashMap::new(rt.alloc());
-    let source = Source::from(rt.alloc(), "ab").expect(&rt, "memory");
-    assert!(rt; given.insert("x", source).is_ok());
     let cache: FnCache<&'static str, _, &'static str> = FnCache::new(rt.alloc(), missing);
-    assert_two(&rt, &mut cache.with_sources(given).expect(&rt, "memory"))
+    assert_two(
+        &rt,
+        &mut cache.with_sources(given(&rt)).expect(&rt, "memory"),
+    )
 }
 
 /// A function that fails once for each id.
@@ -213,13 +233,38 @@ impl Hesitant {
         } else {
             &self.has_asked_y
         };
-        if has_asked.get() {
-            return Ok("ab");
+        if has_asked.replace(true) {
+            Ok("ab")
+        } else {
+            Err(7)
         }
-        has_asked.set(true);
-        Err(7)
     }
 }
+
+/// Two labels on each of two sources.
+const FOUR: &[(&str, usize, usize, &str)] = &[
+    ("x", 0, 1, "p"),
+    ("y", 0, 1, "p"),
+    ("x", 1, 2, "q"),
+    ("y", 1, 2, "q"),
+];
+
+/// The picture of the second label on each.
+const SECONDS: &[&str] = &[
+    "Error:",
+    "   ,-[ x:1:1 ]",
+    "   |",
+    " 1 | ab",
+    "   |  |",
+    "   |  `-- q",
+    "   |",
+    "   |-[ y:1:2 ]",
+    "   |",
+    " 1 | ab",
+    "   |  |",
+    "   |  `-- q",
+    "---'",
+];
 
 #[test]
 fn each_id_that_failed_is_asked_for_again(rt: HostRuntime) {
@@ -231,33 +276,12 @@ fn each_id_that_failed_is_asked_for_again(rt: HostRuntime) {
         rt.alloc(),
         |id: &&str| -> Result<&str, u8> { hesitant.answer(*id) },
     );
-    let labels = [
-        ("x", 0, 1, "p"),
-        ("y", 0, 1, "p"),
-        ("x", 1, 2, "q"),
-        ("y", 1, 2, "q"),
-    ];
-    let rows = [
-        "Error:",
-        "   ,-[ x:1:1 ]",
-        "   |",
-        " 1 | ab",
-        "   |  |",
-        "   |  `-- q",
-        "   |",
-        "   |-[ y:1:2 ]",
-        "   |",
-        " 1 | ab",
-        "   |  |",
-        "   |  `-- q",
-        "---'",
-    ];
     let left_out = [(0, Why::Unfetched), (1, Why::Unfetched)];
     assert_over(
         &rt,
-        &report_at(&rt, "x", &labels),
+        &report_at(&rt, "x", FOUR),
         &mut cache,
         &left_out,
-        &rows,
+        SECONDS,
     )
 }

@@ -3,6 +3,7 @@
 
 use ariadne::{Cache, FetchError, FileCache, FileError, FnCache, Source, SourceTable, sources};
 use ariadne_fakes::Folder;
+use std::alloc::AllocError;
 use std::collections::HashMap;
 use std::fs;
 use std::process::Abort;
@@ -22,68 +23,72 @@ fn fetches<Id: Eq, C: Cache<Id>>(cache: &mut C, id: &Id, text: &str) -> bool
     }
 }
 
-/// Asserts that a fetch of a path tells that its file has no text, in these words.
-fn assert_no_text<R: Files + Drop>(
-    rt: &(impl Abort + AllocGlobal),
-    cache: &mut FileCache<R>,
-    path: &str,
-    words: &str,
-) {
-    let Err(FetchError::Failed(error)) = cache.ensure(&path) else {
+/// The error of its own that a cache returns for an id.
+fn error_of<Id: Eq, C: Cache<Id>>(rt: &impl Abort, cache: &mut C, id: &Id) -> C::Error
+    requires { C.can_fetch cache.old }
+    ensures { C.can_fetch cache.new }
+{
+    let Err(FetchError::Failed(error)) = C::ensure(cache, id) else {
         panic!(rt; "no error of the cache's own");
     };
-    let told = error.to_string(rt.alloc()).expect(rt, "memory");
-    assert_eq!(rt; told.as_str(), words, "of {path}");
-    assert!(rt; cache.get(&path).is_none(), "of {path}");
+    error
+}
+
+/// Asserts that what is told was made, and is this.
+fn assert_text(rt: &impl Abort, told: Result<String, AllocError>, want: &str) {
+    assert_eq!(rt; told.expect(rt, "memory").as_str(), want)
+}
+
+/// Asserts that a cache has a source of this text that has no name.
+fn assert_unnamed<C: Cache<()>>(rt: &impl Abort, cache: &mut C, text: &str)
+    requires { C.can_fetch cache.old }
+{
+    assert!(rt; fetches(cache, &(), text));
+    assert!(rt; cache.display(&()).is_none())
 }
 
 #[test]
 fn a_source_is_a_cache_without_names(rt: HostRuntime) {
-    let alloc = rt.alloc();
-    let mut source = Source::from(alloc, "ab").expect(&rt, "memory");
-    assert!(rt; fetches(&mut source, &(), "ab"));
-    assert!(rt; source.display(&()).is_none());
-    let mut lent = &source;
-    assert!(rt; fetches(&mut lent, &(), "ab"));
-    assert!(rt; lent.display(&()).is_none());
+    let mut source = Source::from(rt.alloc(), "ab").expect(&rt, "memory");
+    assert_unnamed(&rt, &mut source, "ab");
+    assert_unnamed(&rt, &mut (&source), "ab")
 }
 
 #[test]
 fn an_error_names_the_id_that_a_cache_lacks(rt: HostRuntime) {
     let mut pair = ("a", Source::from(rt.alloc(), "ab").expect(&rt, "memory"));
-    let Err(FetchError::Failed(error)) = pair.ensure(&"b") else {
-        panic!(rt; "no error of the cache's own");
-    };
-    assert_eq!(rt; error.name(), "b");
+    assert_eq!(rt; error_of(&rt, &mut pair, &"b").name(), "b")
 }
 
 #[test]
 fn a_map_shows_the_name_of_an_id_that_it_lacks(rt: HostRuntime) {
     let mut map = sources(rt.alloc(), [("a", "x")]).expect(&rt, "memory");
     assert!(rt; !fetches(&mut map, &"z", "x"));
-    assert_eq!(rt; map.display(&"z"), Some("z"));
+    assert_eq!(rt; map.display(&"z"), Some("z"))
+}
+
+/// Asserts that a text which is added to a table has this number, and is had by it.
+fn assert_added(
+    rt: &impl Abort,
+    table: &mut SourceTable<&'static str>,
+    text: &'static str,
+    number: usize,
+) {
+    let added = table.add("a.txt", text).expect(rt, "memory");
+    assert_eq!(rt; added, number);
+    assert!(rt; fetches(table, &number, text))
 }
 
 #[test]
 fn a_table_has_its_sources_by_number(rt: HostRuntime) {
     let mut table = SourceTable::new(rt.alloc());
-    for (number, text) in [(0, "x"), (1, "y")] {
-        let added = table.add("a.txt", text).expect(&rt, "memory");
-        assert_eq!(rt; added, number);
-        assert!(rt; fetches(&mut table, &number, text));
-    }
-    assert_eq!(rt;
-        (table.display(&1), table.display(&2)),
-        (Some("a.txt"), None)
-    );
-    let Err(FetchError::Failed(error)) = table.ensure(&2) else {
-        panic!(rt; "no error of the table's own");
-    };
-    let told = error.to_string(rt.alloc()).expect(&rt, "memory");
-    assert_eq!(rt;
-        (error.number, told.as_str()),
-        (2, "Failed to fetch source 2")
-    );
+    assert_added(&rt, &mut table, "x", 0);
+    assert_added(&rt, &mut table, "y", 1);
+    let names = (table.display(&1), table.display(&2));
+    assert_eq!(rt; names, (Some("a.txt"), None));
+    let error = error_of(&rt, &mut table, &2);
+    assert_eq!(rt; error.number, 2);
+    assert_text(&rt, error.to_string(rt.alloc()), "Failed to fetch source 2")
 }
 
 /// Returns the same text for every id.
@@ -99,16 +104,33 @@ fn given(rt: &(impl Abort + AllocGlobal)) -> HashMap<&'static str, Source<&'stat
     given
 }
 
+/// Asserts that what is told was made, and has this in it.
+fn assert_holds(rt: &impl Abort, told: Result<String, AllocError>, part: &str) {
+    assert!(rt; told.expect(rt, "memory").contains(part))
+}
+
 #[test]
 fn sources_that_are_given_replace_those_that_are_held(rt: HostRuntime) {
     let mut cache: FnCache<&'static str, _, &'static str> = FnCache::new(rt.alloc(), got);
     assert!(rt; fetches(&mut cache, &"a", "got"));
     assert!(rt; fetches(&mut cache, &"b", "got"));
     let mut cache = cache.with_sources(given(&rt)).expect(&rt, "memory");
-    let told = format!(in rt.alloc(); "{cache:?}").expect(&rt, "memory");
-    assert!(rt; told.contains("given"));
+    assert_holds(&rt, format!(in rt.alloc(); "{cache:?}"), "given");
     assert!(rt; fetches(&mut cache, &"a", "given"));
-    assert!(rt; fetches(&mut cache, &"b", "got"));
+    assert!(rt; fetches(&mut cache, &"b", "got"))
+}
+
+/// Asserts that the file at a path is read once, whether the path is a `String` or not.
+fn assert_read_once(rt: &(impl Abort + AllocGlobal + Files), path: &str) {
+    let owned = path.to_string(rt.alloc()).expect(rt, "memory");
+    let mut cache = FileCache::new(rt, rt.alloc());
+    assert!(rt; fetches(&mut cache, &path, "\u{feff}a\r\n"));
+    assert_eq!(rt; cache.display(&path), Some(path));
+
+    // What is held stays, under the same path as a `String` too.
+    fs::write(rt, path, "cd").expect(rt, "a file");
+    assert!(rt; fetches(&mut cache, &owned, "\u{feff}a\r\n"));
+    assert_eq!(rt; cache.display(&owned), Some(path))
 }
 
 #[test]
@@ -117,28 +139,37 @@ fn a_file_is_read_once_under_either_kind_of_path(rt: HostRuntime) {
     let file = folder
         .file_of(&rt, "file.txt", b"\xef\xbb\xbfa\r\n")
         .expect(&rt, "a file");
-    let path = file.as_str();
-    let owned = path.to_string(rt.alloc()).expect(&rt, "memory");
-    let mut cache = FileCache::new(&rt, rt.alloc());
-    assert!(rt; fetches(&mut cache, &path, "\u{feff}a\r\n"));
-    assert_eq!(rt; cache.display(&path), Some(path));
-
-    // What is held stays, under the same path as a `String` too.
-    fs::write(&rt, file.as_path(), "cd").expect(&rt, "a file");
-    assert!(rt; fetches(&mut cache, &owned, "\u{feff}a\r\n"));
-    assert_eq!(rt; cache.display(&owned), Some(path));
+    assert_read_once(&rt, file.as_str());
     folder.remove(&rt).expect(&rt, "no folder")
+}
+
+/// Asserts that the file at a path is read where the path is a `String`, and had by it as it is.
+fn assert_read_first(rt: &(impl Abort + AllocGlobal + Files), path: &str) {
+    let owned = path.to_string(rt.alloc()).expect(rt, "memory");
+    let mut cache = FileCache::new(rt, rt.alloc());
+    assert!(rt; fetches(&mut cache, &owned, "cd"));
+    assert!(rt; fetches(&mut cache, &path, "cd"))
 }
 
 #[test]
 fn a_file_is_read_under_a_string_first(rt: HostRuntime) {
     let folder = Folder::new(&rt).expect(&rt, "a folder");
     let file = folder.file_of(&rt, "file.txt", b"cd").expect(&rt, "a file");
-    let owned = file.as_str().to_string(rt.alloc()).expect(&rt, "memory");
-    let mut cache = FileCache::new(&rt, rt.alloc());
-    assert!(rt; fetches(&mut cache, &owned, "cd"));
-    assert!(rt; fetches(&mut cache, &file.as_str(), "cd"));
+    assert_read_first(&rt, file.as_str());
     folder.remove(&rt).expect(&rt, "no folder")
+}
+
+/// Asserts that a fetch of a path tells that its file has no text, in these words.
+fn assert_no_text<R: Files + Drop>(
+    rt: &(impl Abort + AllocGlobal),
+    cache: &mut FileCache<R>,
+    path: &str,
+    words: &str,
+) {
+    let error = error_of(rt, cache, &path);
+    let told = error.to_string(rt.alloc()).expect(rt, "memory");
+    let is_held = cache.get(&path).is_some();
+    assert_eq!(rt; (path, told.as_str(), is_held), (path, words, false))
 }
 
 #[test]
@@ -149,18 +180,31 @@ fn what_can_not_be_read_is_an_error(rt: HostRuntime) {
     assert_no_text(&rt, &mut cache, "a\0b", "file can't be read")
 }
 
+/// What the system tells of an error.
+fn told_of(rt: &(impl Abort + AllocGlobal), error: FileError) -> Result<String, AllocError> {
+    error.fault().expect(rt, "a fault").to_string(rt.alloc())
+}
+
 #[test]
 fn the_system_tells_why_a_file_can_not_be_read(rt: HostRuntime) {
     let mut cache = FileCache::new(&rt, rt.alloc());
-    let Err(FetchError::Failed(error)) = cache.ensure(&"no such file") else {
-        panic!(rt; "no error of the cache's own");
-    };
-    let fault = error.fault().expect(&rt, "a fault");
-    let told = fault.to_string(rt.alloc()).expect(&rt, "memory");
-    assert_eq!(rt; told.as_str(), "No such file or directory (os error 2)");
+    let error = error_of(&rt, &mut cache, &"no such file");
+    assert_text(
+        &rt,
+        told_of(&rt, error),
+        "No such file or directory (os error 2)",
+    );
     let held = format!(in rt.alloc(); "{cache:?}").expect(&rt, "memory");
     assert!(rt; held.starts_with("FileCache"));
-    assert!(rt; FileError::NotUtf8.fault().is_none());
+    assert!(rt; FileError::NotUtf8.fault().is_none())
+}
+
+/// Asserts that the bytes of the file at a path are no text, and that it is read again.
+fn assert_read_again(rt: &(impl Abort + AllocGlobal + Files), path: &str) {
+    let mut cache = FileCache::new(rt, rt.alloc());
+    assert_no_text(rt, &mut cache, path, "file isn't UTF-8");
+    fs::write(rt, path, "ab").expect(rt, "a file");
+    assert!(rt; fetches(&mut cache, &path, "ab"))
 }
 
 #[test]
@@ -169,9 +213,6 @@ fn bytes_of_no_text_are_an_error_and_read_again(rt: HostRuntime) {
     let file = folder
         .file_of(&rt, "file.txt", b"a\xff")
         .expect(&rt, "a file");
-    let mut cache = FileCache::new(&rt, rt.alloc());
-    assert_no_text(&rt, &mut cache, file.as_str(), "file isn't UTF-8");
-    fs::write(&rt, file.as_path(), "ab").expect(&rt, "a file");
-    assert!(rt; fetches(&mut cache, &file.as_str(), "ab"));
+    assert_read_again(&rt, file.as_str());
     folder.remove(&rt).expect(&rt, "no folder")
 }

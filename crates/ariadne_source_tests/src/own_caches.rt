@@ -5,10 +5,10 @@ ghost use Rattle.std.specs.Str.{bytes_eq};
 ghost use Rattle.std.specs.Cmp.Lexicographic.{bytes_decides};
 ghost use Rattle.std.proofs.Common.{ap};
 
-use crate::caches::{assert_over, assert_two, report_at};
-use ariadne::{Cache, FetchError, Source, SourceMap, UnknownSource, WriteError, sources};
-use ariadne_asserts::asserts::Why;
-use std::alloc::AllocError;
+use crate::caches::{assert_over, assert_two, map, report_at};
+use ariadne::{Cache, FetchError, Report, Source, SourceMap, UnknownSource, WriteError, sources};
+use ariadne_asserts::asserts::{Piece, Why};
+use std::alloc::{AllocError, Global};
 use std::process::Abort;
 
 /// A map of sources that shows no name for one of its ids.
@@ -45,28 +45,43 @@ impl<'s> Cache<&'s str> for Discreet<'s> {
     }
 }
 
+/// Labels in two sources, and in one that there isn't.
+const LABELS: &[(&str, usize, usize, &str)] = &[
+    ("x", 1, 2, "q"),
+    ("y", 0, 1, "m"),
+    ("z", 0, 1, "l"),
+];
+
+/// Their picture where the name of `x` is hidden.
+const HIDDEN: &[&str] = &[
+    "Error:",
+    "   ,-[ <unknown>:1:1 ]",
+    "   |",
+    " 1 | ab",
+    "   |  |",
+    "   |  `-- q",
+    "   |",
+    "   |-[ y:1:1 ]",
+    "   |",
+    " 1 | c",
+    "   | |",
+    "   | `-- m",
+    "---'",
+];
+
+/// A map of two sources that shows no name for the first.
+fn discreet_map(rt: &(impl Abort + AllocGlobal)) -> Discreet<'static> {
+    Discreet {
+        map: sources(rt.alloc(), [("x", "ab"), ("y", "c")]).expect(rt, "memory"),
+        hidden: "x",
+    }
+}
+
 #[test]
 fn a_cache_of_the_callers_own_may_show_no_name(rt: HostRuntime) {
-    let map = sources(rt.alloc(), [("x", "ab"), ("y", "c")]).expect(&rt, "memory");
-    let labels = [("x", 1, 2, "q"), ("y", 0, 1, "m"), ("z", 0, 1, "l")];
-    let rows = [
-        "Error:",
-        "   ,-[ <unknown>:1:1 ]",
-        "   |",
-        " 1 | ab",
-        "   |  |",
-        "   |  `-- q",
-        "   |",
-        "   |-[ y:1:1 ]",
-        "   |",
-        " 1 | c",
-        "   | |",
-        "   | `-- m",
-        "---'",
-    ];
-    let report = report_at(&rt, "x", &labels);
-    let mut cache = Discreet { map, hidden: "x" };
-    assert_over(&rt, &report, &mut cache, &[(2, Why::Unfetched)], &rows)
+    let report = report_at(&rt, "x", LABELS);
+    let left_out = [(2, Why::Unfetched)];
+    assert_over(&rt, &report, &mut discreet_map(&rt), &left_out, HIDDEN)
 }
 
 /// A map of sources that returns want of memory at its second fetch of an id that it does not hold.
@@ -112,20 +127,30 @@ impl<'s> Cache<&'s str> for Stingy<'s> {
 /// A stingy map with the source `ab` of `x`.
 fn stingy_map(rt: &(impl Abort + AllocGlobal)) -> Stingy<'static> {
     Stingy {
-        map: sources(rt.alloc(), [("x", "ab")]).expect(rt, "memory"),
+        map: map(rt),
         has_failed: false,
     }
+}
+
+/// Labels in two sources that a stingy map lacks, and in the one that it has.
+const LACKED: &[(&str, usize, usize, &str)] = &[
+    ("z", 0, 1, "l"),
+    ("x", 1, 2, "q"),
+    ("w", 0, 1, "l"),
+];
+
+/// Whether a report sends nothing over a cache, for want of memory.
+fn wants_memory(alloc: Global, report: &Report<'_, Piece>, cache: &mut Stingy<'static>) -> bool {
+    let mut out = Vec::new(alloc);
+    let answer = report.write(cache, &mut out);
+    matches!(answer, Err(WriteError::Memory(_))) && out.is_empty()
 }
 
 #[test]
 fn where_a_cache_wants_memory_nothing_is_sent(rt: HostRuntime) {
     let mut cache = stingy_map(&rt);
-    let labels = [("z", 0, 1, "l"), ("x", 1, 2, "q"), ("w", 0, 1, "l")];
-    let report = report_at(&rt, "x", &labels);
-    let mut out = Vec::new(rt.alloc());
-    let answer = report.write(&mut cache, &mut out);
-    assert!(rt; matches!(answer, Err(WriteError::Memory(_))));
-    assert!(rt; out.is_empty());
+    let report = report_at(&rt, "x", LACKED);
+    assert!(rt; wants_memory(rt.alloc(), &report, &mut cache));
     // What it holds is drawn.
     assert_two(&rt, &mut cache)
 }
