@@ -7,7 +7,6 @@ use ariadne_asserts::asserts::{
     Piece, Why, assert_left_out, assert_picture_over, assert_trimmed, assert_unknown, labelled,
     labelled_in, plain_error, plain_error_at, written,
 };
-use std::alloc::{AllocError, Global};
 use std::process::Abort;
 use std::rc::RcStr;
 
@@ -118,9 +117,18 @@ pub(crate) fn source(rt: &(impl Abort + AllocGlobal)) -> Source<&'static str> {
     Source::from(rt.alloc(), "ab").expect(rt, "memory")
 }
 
-/// A map that has it as `x`.
+/// A map of one source.
+pub(crate) fn map_of(
+    rt: &(impl Abort + AllocGlobal),
+    id: &'static str,
+    text: &'static str,
+) -> SourceMap<&'static str, &'static str> {
+    sources(rt.alloc(), [(id, text)]).expect(rt, "memory")
+}
+
+/// A map that has the source `ab` as `x`.
 pub(crate) fn map(rt: &(impl Abort + AllocGlobal)) -> SourceMap<&'static str, &'static str> {
-    sources(rt.alloc(), [("x", "ab")]).expect(rt, "memory")
+    map_of(rt, "x", "ab")
 }
 
 #[test]
@@ -176,14 +184,14 @@ fn a_source_that_shares_its_text_is_drawn(rt: HostRuntime) {
     )
 }
 
-/// The id `x` as a `String`.
-fn owned_id(rt: &(impl Abort + AllocGlobal)) -> String {
-    "x".to_string(rt.alloc()).expect(rt, "memory")
+/// A text as a `String`.
+pub(crate) fn owned(rt: &(impl Abort + AllocGlobal), text: &str) -> String {
+    text.to_string(rt.alloc()).expect(rt, "memory")
 }
 
 /// A map of one source, whose id and text are `String`s.
-fn map_of_string(alloc: Global) -> Result<SourceMap<String, String>, AllocError> {
-    sources(alloc, [("x".to_string(alloc)?, "ab".to_string(alloc)?)])
+fn map_of_string(rt: &(impl Abort + AllocGlobal)) -> SourceMap<String, String> {
+    sources(rt.alloc(), [(owned(rt, "x"), owned(rt, "ab"))]).expect(rt, "memory")
 }
 
 /// The picture of a label on the whole source, of a report that points at its second character.
@@ -199,9 +207,8 @@ const WHOLE: &[&str] = &[
 
 #[test]
 fn ids_may_be_strings(rt: HostRuntime) {
-    let report = one_label(&rt, (owned_id(&rt), 1..1), (owned_id(&rt), 0..2), "m");
-    let mut map = map_of_string(rt.alloc()).expect(&rt, "memory");
-    assert_over(&rt, &report, &mut map, &[], WHOLE)
+    let report = one_label(&rt, (owned(&rt, "x"), 1..1), (owned(&rt, "x"), 0..2), "m");
+    assert_over(&rt, &report, &mut map_of_string(&rt), &[], WHOLE)
 }
 
 /// The picture of a report over a cache. One label is left out since its source is missing, and this is

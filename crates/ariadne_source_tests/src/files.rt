@@ -56,11 +56,20 @@ fn a_file_is_drawn_as_it_was_first_read(rt: HostRuntime) {
     folder.remove(&rt).expect(&rt, "no folder")
 }
 
+/// Asserts that the label in the file at a path is left out.
+fn assert_left_out<R: Files + Drop>(
+    rt: &(impl Abort + AllocGlobal),
+    cache: &mut FileCache<R>,
+    path: &str,
+) {
+    let lost = [(0, Why::Unfetched)];
+    assert_over(rt, &report_of_file(rt, path), cache, &lost, &["Error:"])
+}
+
 /// Asserts that the file at a path, which is not there yet, is drawn once it is.
 fn assert_asked_again(rt: &(impl Abort + AllocGlobal + Files), path: &str) {
-    let report = report_of_file(rt, path);
     let mut cache = FileCache::new(rt, rt.alloc());
-    assert_over(rt, &report, &mut cache, &[(0, Why::Unfetched)], &["Error:"]);
+    assert_left_out(rt, &mut cache, path);
     fs::write(rt, path, "ab").expect(rt, "a file");
     assert_file(rt, &mut cache, path, " 1 | ab")
 }

@@ -1,37 +1,18 @@
 //! Reports over functions that give the texts of their sources: how often each is called.
 
 use crate::caches::{SECOND, TWO, assert_over, assert_two, report_at, source, two_labels};
-use ariadne::{Cache, FnCache, LeftOut, Reason, Source};
-use ariadne_asserts::asserts::{Why, assert_left_out, assert_shown, written};
+use ariadne::{Cache, FnCache, LeftOut, Source};
+use ariadne_asserts::asserts::{Why, assert_shown, written};
 use std::cell::Cell;
 use std::collections::HashMap;
 use std::process::Abort;
-
-/// Whether all these labels are left out since their sources can't be had, and these numbers are told
-/// of them.
-fn tells(left_out: &[LeftOut<u8>], wanted: &[u8]) -> bool {
-    if left_out.len() != wanted.len() {
-        return false;
-    }
-    for (left, want) in left_out.iter().zip(wanted) {
-        let is_told = match left.reason {
-            Reason::Unfetched(told) => told == *want,
-            _ => false,
-        };
-        if !is_told {
-            return false;
-        }
-    }
-    true
-}
 
 /// What comes of writing the two labels once more.
 struct Round {
     rows: &'static [&'static str],
     is_whole: bool,
-    left_out: &'static [(usize, Why)],
-    /// What is told of each label that is left out.
-    told: &'static [u8],
+    /// The labels that are left out, each with the number that is told of it, as they are printed.
+    left_out: &'static str,
     /// How often the function was called by now.
     calls: u8,
 }
@@ -58,15 +39,13 @@ const FAULTY: &[Faulty] = &[
             Round {
                 rows: TWO,
                 is_whole: false,
-                left_out: &[],
-                told: &[],
+                left_out: "[]",
                 calls: 1,
             },
             Round {
                 rows: TWO,
                 is_whole: false,
-                left_out: &[],
-                told: &[],
+                left_out: "[]",
                 calls: 1,
             },
         ],
@@ -80,16 +59,14 @@ const FAULTY: &[Faulty] = &[
             Round {
                 rows: SECOND,
                 is_whole: false,
-                left_out: &[(0, Why::Unfetched)],
-                told: &[7],
+                left_out: "[LeftOut { label: 0, reason: Unfetched(7) }]",
                 calls: 2,
             },
             // By now the source is held.
             Round {
                 rows: TWO,
                 is_whole: false,
-                left_out: &[],
-                told: &[],
+                left_out: "[]",
                 calls: 2,
             },
         ],
@@ -102,8 +79,8 @@ const FAULTY: &[Faulty] = &[
         rounds: &[Round {
             rows: &["Error: "],
             is_whole: true,
-            left_out: &[(0, Why::Unfetched), (1, Why::Unfetched)],
-            told: &[1, 2],
+            left_out: "[LeftOut { label: 0, reason: Unfetched(1) }, \
+                       LeftOut { label: 1, reason: Unfetched(2) }]",
             calls: 2,
         }],
         is_held: false,
@@ -138,8 +115,8 @@ fn assert_round(
     left_out: &[LeftOut<u8>],
 ) {
     assert_shown(rt, picture, round.rows, round.is_whole).expect(rt, name);
-    assert_left_out(left_out, round.left_out).expect(rt, name);
-    assert!(rt; tells(left_out, round.told), "of {name}");
+    let left_out = format!(in rt.alloc(); "{left_out:?}").expect(rt, "memory");
+    assert_eq!(rt; left_out.as_str(), round.left_out, "of {name}");
 }
 
 /// Asserts what comes of a function.
@@ -180,6 +157,11 @@ const ONE: &[&str] = &[
     "---'",
 ];
 
+/// Whether a cache holds a source.
+fn holds<C: Cache<&'static str>>(cache: &C, id: &'static str) -> bool {
+    cache.get(&id).is_some()
+}
+
 #[test]
 fn the_sources_of_labels_are_fetched_and_that_of_the_report_is_not(rt: HostRuntime) {
     let calls = Cell::new(0u8);
@@ -192,9 +174,9 @@ fn the_sources_of_labels_are_fetched_and_that_of_the_report_is_not(rt: HostRunti
     );
     let report = report_at(&rt, "r", &[("z", 0, 1, "l"), ("x", 0, 1, "m")]);
     assert_over(&rt, &report, &mut cache, &[(0, Why::Unfetched)], ONE);
-    let held = (cache.get(&"x"), cache.get(&"z"), cache.get(&"r"));
     assert_eq!(rt; calls.get(), 2);
-    assert!(rt; matches!(held, (Some(_), None, None)))
+    let held = (holds(&cache, "x"), holds(&cache, "z"), holds(&cache, "r"));
+    assert_eq!(rt; held, (true, false, false))
 }
 
 /// Fails for every id.

@@ -1,7 +1,8 @@
 //! What sources and caches hold, return and show, by their own calls. What is not here is tried where
 //! memory is refused.
 
-use ariadne::{Cache, FetchError, FileCache, FileError, FnCache, Source, SourceTable, sources};
+use crate::caches::{map_of, owned, source};
+use ariadne::{Cache, FetchError, FileCache, FileError, FnCache, Source, SourceTable};
 use ariadne_fakes::Folder;
 use std::alloc::AllocError;
 use std::collections::HashMap;
@@ -9,18 +10,20 @@ use std::fs;
 use std::process::Abort;
 use std::rt::Files;
 
+/// Whether a cache holds a source of this text.
+fn holds<Id: Eq, C: Cache<Id>>(cache: &C, id: &Id, text: &str) -> bool {
+    match C::get(cache, id) {
+        Some(source) => source.text() == text,
+        None => false,
+    }
+}
+
 /// Whether a fetch returns a source of this text.
 fn fetches<Id: Eq, C: Cache<Id>>(cache: &mut C, id: &Id, text: &str) -> bool
     requires { C.can_fetch cache.old }
     ensures { C.can_fetch cache.new }
 {
-    if C::ensure(cache, id).is_err() {
-        return false;
-    }
-    match C::get(cache, id) {
-        Some(source) => source.text() == text,
-        None => false,
-    }
+    C::ensure(cache, id).is_ok() && holds(cache, id, text)
 }
 
 /// The error of its own that a cache returns for an id.
@@ -49,20 +52,19 @@ fn assert_unnamed<C: Cache<()>>(rt: &impl Abort, cache: &mut C, text: &str)
 
 #[test]
 fn a_source_is_a_cache_without_names(rt: HostRuntime) {
-    let mut source = Source::from(rt.alloc(), "ab").expect(&rt, "memory");
+    let mut source = source(&rt);
     assert_unnamed(&rt, &mut source, "ab");
     assert_unnamed(&rt, &mut (&source), "ab")
 }
 
 #[test]
 fn an_error_names_the_id_that_a_cache_lacks(rt: HostRuntime) {
-    let mut pair = ("a", Source::from(rt.alloc(), "ab").expect(&rt, "memory"));
-    assert_eq!(rt; error_of(&rt, &mut pair, &"b").name(), "b")
+    assert_eq!(rt; error_of(&rt, &mut ("a", source(&rt)), &"b").name(), "b")
 }
 
 #[test]
 fn a_map_shows_the_name_of_an_id_that_it_lacks(rt: HostRuntime) {
-    let mut map = sources(rt.alloc(), [("a", "x")]).expect(&rt, "memory");
+    let mut map = map_of(&rt, "a", "x");
     assert!(rt; !fetches(&mut map, &"z", "x"));
     assert_eq!(rt; map.display(&"z"), Some("z"))
 }
@@ -122,7 +124,7 @@ fn sources_that_are_given_replace_those_that_are_held(rt: HostRuntime) {
 
 /// Asserts that the file at a path is read once, whether the path is a `String` or not.
 fn assert_read_once(rt: &(impl Abort + AllocGlobal + Files), path: &str) {
-    let owned = path.to_string(rt.alloc()).expect(rt, "memory");
+    let owned = owned(rt, path);
     let mut cache = FileCache::new(rt, rt.alloc());
     assert!(rt; fetches(&mut cache, &path, "\u{feff}a\r\n"));
     assert_eq!(rt; cache.display(&path), Some(path));
@@ -145,7 +147,7 @@ fn a_file_is_read_once_under_either_kind_of_path(rt: HostRuntime) {
 
 /// Asserts that the file at a path is read where the path is a `String`, and had by it as it is.
 fn assert_read_first(rt: &(impl Abort + AllocGlobal + Files), path: &str) {
-    let owned = path.to_string(rt.alloc()).expect(rt, "memory");
+    let owned = owned(rt, path);
     let mut cache = FileCache::new(rt, rt.alloc());
     assert!(rt; fetches(&mut cache, &owned, "cd"));
     assert!(rt; fetches(&mut cache, &path, "cd"))

@@ -1,6 +1,6 @@
 //! The lines of texts, look-ups in them, and spans.
 
-use ariadne::{Line, Place, Source, SourceText, Span};
+use ariadne::{Line, Place, Source, SourceLines, SourceText, Span};
 use std::hash::{DefaultHasher, Hash, Hasher};
 use std::ops::Range;
 use std::process::Abort;
@@ -9,6 +9,11 @@ use std::rc::RcStr;
 /// A source of a text.
 fn source<I: SourceText + Drop>(rt: &(impl Abort + AllocGlobal), text: I) -> Source<I> {
     Source::from(rt.alloc(), text).expect(rt, "memory")
+}
+
+/// The offset of a line of a source, its length, and its text.
+fn told_in<I: SourceText>(source: &Source<I>, line: Line) -> (usize, usize, Option<&str>) {
+    (line.offset(), line.len(), source.get_line_text(line))
 }
 
 /// Asserts that there is a line, that it stands at an offset of its source, and is this. Returns the
@@ -21,9 +26,9 @@ fn assert_line<I: SourceText>(
     want: &str,
 ) -> usize {
     let line = line.expect(rt, "a line");
-    let told = (line.offset(), line.len(), source.get_line_text(line));
-    assert_eq!(rt; told, (offset, want.chars().count(), Some(want)));
-    offset.saturating_add(line.len())
+    let len = want.chars().count();
+    assert_eq!(rt; told_in(source, line), (offset, len, Some(want)));
+    offset.saturating_add(len)
 }
 
 /// Asserts that the lines of a source are these, each behind those before it, and no other.
@@ -42,11 +47,7 @@ fn assert_lines_of<I: SourceText>(rt: &impl Abort, source: &Source<I>, lines: &[
 
 /// The text of these lines.
 fn joined(rt: &(impl Abort + AllocGlobal), lines: &[&str]) -> String {
-    let mut text = String::new(rt.alloc());
-    for line in lines {
-        text.push_str(*line).expect(rt, "memory");
-    }
-    text
+    lines.concat(rt.alloc()).expect(rt, "memory")
 }
 
 /// The lines of texts.
@@ -130,21 +131,21 @@ fn told_of_line(line: Line) -> (usize, usize, bool, Range<usize>) {
     (line.offset(), line.len(), line.is_empty(), line.span())
 }
 
+/// Asserts how many lines are still to come.
+fn assert_rest(rt: &impl Abort, lines: &SourceLines<'_>, count: usize) {
+    let told = (lines.len(), lines.size_hint());
+    assert_eq!(rt; told, (count, (count, Some(count))))
+}
+
 #[test]
 fn a_line_tells_where_it_is_and_how_long(rt: HostRuntime) {
     let source = source(&rt, "\u{e9}b\r\nc");
     assert_eq!(rt; (source.len(), source.is_empty()), (5, false));
     let mut lines = source.lines();
-    assert_eq!(rt; (lines.len(), lines.size_hint()), (2, (2, Some(2))));
-    let told = (
-        lines.next().map(told_of_line),
-        lines.next().map(told_of_line),
-    );
-    assert_eq!(rt;
-        told,
-        (Some((0, 4, false, 0..4)), Some((4, 1, false, 4..5)))
-    );
-    assert_eq!(rt; (lines.len(), lines.size_hint()), (0, (0, Some(0))))
+    assert_rest(&rt, &lines, 2);
+    assert_eq!(rt; lines.next().map(told_of_line), Some((0, 4, false, 0..4)));
+    assert_eq!(rt; lines.next().map(told_of_line), Some((4, 1, false, 4..5)));
+    assert_rest(&rt, &lines, 0)
 }
 
 /// A place in a source: a line, its number and a column in it.
@@ -201,7 +202,7 @@ const BYTES: &[(usize, usize, usize)] = &[(0, 0, 0), (1, 0, 1), (2, 0, 2), (3, 1
 fn bytes_are_not_taken_for_characters(rt: HostRuntime) {
     let source = source(&rt, "\u{e9}\nb");
     assert_eq!(rt; source.len(), 3);
-    assert!(rt; source.chars().eq(['\u{e9}', '\n', 'b']));
+    assert!(rt; source.chars().eq("\u{e9}\nb".chars()));
     for (offset, number, column) in BYTES {
         let want = spot_in(&source, *number, *column);
         assert_eq!(rt; source.get_byte_line(*offset), want);
