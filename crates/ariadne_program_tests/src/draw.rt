@@ -1,32 +1,31 @@
 //! `draw` over inputs and writers that fail.
 
+ghost use Rattle.std.specs.Prelude.{◌<◌};
+
+use crate::outcome::Outcome;
 use ariadne_draw::{Page, Status, Watched, draw};
-use ariadne_fakes::{Given, Taker, texts};
+use ariadne_fakes::{Given, Taker, refuse, texts};
 use std::io::ErrorKind;
 use std::process::Abort;
 use std::rt::Files;
 
-/// What a run returned, whether a read failed, and what its writers took.
-#[derive(Drop)]
-struct Outcome {
-    status: Status,
-    has_failed: bool,
-    out: Vec<u8>,
-    faults: Vec<u8>,
-}
-
-/// Runs the program over an input and an output.
-fn run(
+/// Runs the program over an input and an output, with this request for memory refused, counted from
+/// 1, or with none where it is 0. Returns what that came to, and whether a read failed.
+pub fn run(
     rt: &(impl Files + AllocGlobal + Abort),
     words: &[&str],
     input: Given<'_>,
     out: Taker,
-) -> Outcome {
+    nth: usize,
+) -> (Outcome<Status>, bool)
+    requires { nth < 100000 }
+{
     let alloc = rt.alloc();
     let words = texts(alloc, words).expect(rt, "memory");
     let mut input = Watched::new(input);
     let mut out = out;
     let mut faults = Taker::whole(alloc).expect(rt, "memory");
+    refuse(alloc, nth);
     let status = draw(
         rt,
         alloc,
@@ -35,59 +34,65 @@ fn run(
         &mut out,
         &mut faults,
     );
-    Outcome {
+    let outcome = Outcome {
+        nth,
         status,
-        has_failed: input.has_failed(),
         out: out.held,
         faults: faults.held,
-    }
+    };
+    (outcome, input.has_failed())
+}
+
+/// Told of an input that can't be read.
+const UNREAD: &[u8] = b"input: can't be read\n";
+
+/// Inputs, each with the fault behind it, and the status and the line that it leads to.
+const INPUTS: &[(&[u8], Option<ErrorKind>, Status, &[u8])] = &[
+    (b"ab", Some(ErrorKind::TimedOut), Status::BadInput, UNREAD),
+    // (that these are no text is not told)
+    (
+        b"a\xff",
+        Some(ErrorKind::TimedOut),
+        Status::BadInput,
+        UNREAD,
+    ),
+    (b"a\xff", None, Status::BadInput, b"input: not UTF-8\n"),
+    (
+        b"ab",
+        Some(ErrorKind::OutOfMemory),
+        Status::Failed,
+        b"no memory\n",
+    ),
+];
+
+/// Words that ask for a picture of one label.
+static ONE_LABEL: [&str; 6] = ["--ascii", "--plain", "m", "0", "1", "x"];
+
+/// Asserts that of an input with a fault behind it nothing is drawn, and that this is told.
+fn assert_unread(
+    rt: &(impl Files + AllocGlobal + Abort),
+    input: Given<'_>,
+    status: Status,
+    told: &[u8],
+) {
+    let is_faulty = input.fault.is_some();
+    let out = Taker::whole(rt.alloc()).expect(rt, "memory");
+    let (outcome, has_failed) = run(rt, &ONE_LABEL, input, out, 0);
+    assert!(rt; has_failed == is_faulty);
+    outcome.assert_is(rt, status, b"", told)
 }
 
 #[test]
 fn an_input_that_can_not_be_read_is_told(rt: HostRuntime) {
-    let unread = b"input: can't be read\n".as_slice();
-    let cases = [
-        (
-            b"ab".as_slice(),
-            Some(ErrorKind::TimedOut),
-            Status::BadInput,
-            unread,
-        ),
-        // (that these are no text is not told)
-        (
-            b"a\xff".as_slice(),
-            Some(ErrorKind::TimedOut),
-            Status::BadInput,
-            unread,
-        ),
-        (
-            b"a\xff".as_slice(),
-            None,
-            Status::BadInput,
-            b"input: not UTF-8\n".as_slice(),
-        ),
-        (
-            b"ab".as_slice(),
-            Some(ErrorKind::OutOfMemory),
-            Status::Failed,
-            b"no memory\n".as_slice(),
-        ),
-    ];
-    for (rest, fault, status, told) in cases {
-        let out = Taker::whole(rt.alloc()).expect(&rt, "memory");
-        let words = ["--ascii", "--plain", "m", "0", "1", "x"];
-        let outcome = run(&rt, &words, Given { rest, fault }, out);
-        assert_eq!(rt; outcome.status, status, "of {rest:?}");
-        assert_eq!(rt; outcome.has_failed, fault.is_some(), "of {rest:?}");
-        assert!(rt; outcome.out.is_empty(), "of {rest:?}");
-        assert_eq!(rt; outcome.faults.as_slice(), told, "of {rest:?}");
+    for &(rest, fault, status, told) in INPUTS {
+        assert_unread(&rt, Given { rest, fault }, status, told)
     }
 }
 
 /// A text and words that ask for its picture.
-const TEXT: &[u8] = b"apple == orange;";
+pub const TEXT: &[u8] = b"apple == orange;";
 
-const WORDS: [&str; 9] = [
+static WORDS: [&str; 9] = [
     "--ascii",
     "--plain",
     "can't compare apples with oranges",
@@ -100,7 +105,7 @@ const WORDS: [&str; 9] = [
 ];
 
 /// The picture.
-const PICTURE: &str = "\
+static PICTURE: &str = "\
 Error: can't compare apples with oranges
    ,-[ <unknown>:1:1 ]
    |
@@ -110,33 +115,34 @@ Error: can't compare apples with oranges
 ---'
 ";
 
-/// Asserts that of what these words write a writer that fails behind so many calls of one byte holds
-/// the beginning, and that this is told.
+/// Asserts that a writer that fails behind calls of one byte holds these bytes, and that this is told.
 fn assert_cut(
     rt: &(impl Files + AllocGlobal + Abort),
     words: &[&str],
-    whole: &str,
+    held: &[u8],
     fault: Option<ErrorKind>,
 ) {
+    let calls = held.len();
+    let out = Taker::narrow(rt.alloc(), 1, calls, fault);
+    let (outcome, _) = run(rt, words, Given::whole(TEXT), out, 0);
+    let told = format!(in rt.alloc(); "write failed after {calls} bytes\n").expect(rt, "memory");
+    outcome.assert_is(rt, Status::Failed, held, told.as_bytes())
+}
+
+/// Asserts this of each beginning of what the words write, of a writer with a fault and of one that
+/// takes nothing.
+fn assert_cuts(rt: &(impl Files + AllocGlobal + Abort), words: &[&str], whole: &str) {
     let whole = whole.as_bytes();
     for calls in 0..whole.len() {
-        let out = Taker::narrow(rt.alloc(), 1, calls, fault);
-        let outcome = run(rt, words, Given::whole(TEXT), out);
-        let told = format!(in rt.alloc(); "write failed after {calls} bytes\n").expect(
-            rt, "memory",
-        );
-        assert_eq!(rt; outcome.status, Status::Failed, "at {calls}");
-        assert_eq!(rt; outcome.out.as_slice(), &whole[..calls]);
-        assert_eq!(rt; outcome.faults.as_slice(), told.as_bytes());
+        assert_cut(rt, words, &whole[..calls], Some(ErrorKind::BrokenPipe));
+        assert_cut(rt, words, &whole[..calls], None);
     }
 }
 
 #[test]
 fn a_writer_that_fails_at_each_call_holds_a_beginning(rt: HostRuntime) {
     assert_eq!(rt; PICTURE.len(), 223);
-    for fault in [Some(ErrorKind::BrokenPipe), None] {
-        assert_cut(&rt, &WORDS, PICTURE, fault);
-        assert_cut(&rt, &["--help"], Page::Help.text(), fault);
-        assert_cut(&rt, &["--version"], Page::Version.text(), fault);
-    }
+    assert_cuts(&rt, &WORDS, PICTURE);
+    assert_cuts(&rt, &["--help"], Page::Help.text());
+    assert_cuts(&rt, &["--version"], Page::Version.text())
 }

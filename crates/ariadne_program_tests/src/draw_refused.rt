@@ -1,56 +1,66 @@
 //! The program with each of its requests for memory refused in turn.
 
-use ariadne_draw::{Status, Watched, draw, without_colors};
+ghost use Rattle.std.specs.Prelude.{◌<◌};
+
+use crate::draw::{TEXT, run};
+use crate::outcome::is_served;
+use ariadne_draw::{Status, without_colors};
 use ariadne_fakes::{Given, Taker, refuse, texts, was_refused};
+use std::process::Abort;
+use std::rt::Files;
+
+/// Words that ask for a picture of two labels.
+static WORDS: [&str; 9] = ["--ascii", "--plain", "m", "0", "5", "a", "9", "15", "b"];
+
+/// Refuses the nth request of drawing. Where there is none the report is drawn, and the result is
+/// true.
+fn is_drawn(rt: &(impl Files + AllocGlobal + Abort), nth: usize) -> bool
+    requires { nth < 100000 }
+{
+    let out = Taker::whole(rt.alloc()).expect(rt, "memory");
+    let (outcome, _) = run(rt, &WORDS, Given::whole(TEXT), out, nth);
+    if was_refused(rt.alloc()) {
+        outcome.assert_is(rt, Status::Failed, b"", b"no memory\n");
+        return false;
+    }
+    outcome.assert_status(rt, Status::Drawn);
+    true
+}
 
 #[test]
 fn a_refused_request_is_told_as_no_memory(rt: HostRuntime) {
-    let alloc = rt.alloc();
-    let words = texts(
-        alloc,
-        &["--ascii", "--plain", "m", "0", "5", "a", "9", "15", "b"],
-    )
-    .expect(&rt, "memory");
     for nth in 1..1000 {
-        let mut input = Watched::new(Given::whole(b"apple == orange;"));
-        let mut out = Taker::whole(alloc).expect(&rt, "memory");
-        let mut faults = Taker::whole(alloc).expect(&rt, "memory");
-        refuse(alloc, nth);
-        let status = draw(
-            &rt,
-            alloc,
-            words.as_slice(),
-            &mut input,
-            &mut out,
-            &mut faults,
-        );
-        if !was_refused(alloc) {
-            assert_eq!(rt; status, Status::Drawn, "at request {nth}");
+        if is_drawn(&rt, nth) {
             return;
         }
-        assert_eq!(rt; status, Status::Failed, "at request {nth}");
-        assert!(rt; out.held.is_empty(), "at request {nth}");
-        assert_eq!(rt;
-            faults.held.as_slice(),
-            b"no memory\n".as_slice(),
-            "at request {nth}"
-        );
     }
     panic!(rt; "a request was refused each time")
 }
 
+/// Refuses the nth request of adding a word. Where there is none the word is added, and the result is
+/// true.
+fn is_added(rt: &(impl AllocGlobal + Abort), nth: usize) -> bool
+    requires { nth < 100000 }
+{
+    let alloc = rt.alloc();
+    let words = texts(alloc, &["--ascii", "m"]).expect(rt, "memory");
+    refuse(alloc, nth);
+    let is_ok = match without_colors(alloc, words) {
+        Ok(plain) => {
+            assert_eq!(rt; plain.len(), 3);
+            true
+        }
+        Err(_) => false,
+    };
+    is_served(rt, nth, is_ok)
+}
+
 #[test]
 fn a_refused_word_is_an_error(rt: HostRuntime) {
-    let alloc = rt.alloc();
     for nth in 1..1000 {
-        let words = texts(alloc, &["--ascii", "m"]).expect(&rt, "memory");
-        refuse(alloc, nth);
-        let plain = without_colors(alloc, words);
-        if !was_refused(alloc) {
-            assert_eq!(rt; plain.expect(&rt, "memory").len(), 3, "at request {nth}");
+        if is_added(&rt, nth) {
             return;
         }
-        assert!(rt; plain.is_err(), "at request {nth}");
     }
     panic!(rt; "a request was refused each time")
 }

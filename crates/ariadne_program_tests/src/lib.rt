@@ -11,6 +11,8 @@ mod lint;
 #[cfg(test)]
 mod lint_refused;
 #[cfg(test)]
+mod outcome;
+#[cfg(test)]
 mod show;
 #[cfg(test)]
 mod show_refused;

@@ -2,73 +2,88 @@
 
 ghost use Rattle.std.specs.Prelude.{◌<◌};
 
-use crate::show::{FILE, options_of, with_path};
+use crate::outcome::{Outcome, is_served};
+use crate::show::{FILE, run, with_path};
 use ariadne_fakes::{Folder, Given, Taker, refuse, was_refused};
-use ariadne_show::{Fault, Sum, show};
-use std::io::BufReader;
+use ariadne_show::{Fault, Status};
 use std::process::Abort;
 use std::rt::Files;
 
-#[test]
-fn a_refused_request_is_told_and_no_line_is_cut(rt: HostRuntime) {
-    let alloc = rt.alloc();
-    let folder = Folder::new(&rt).expect(&rt, "a folder");
-    let path = folder.file_of(&rt, "a", FILE).expect(&rt, "a file");
-    let line =
-        "{\"kind\":\"error\",\"name\":\"n\",\"message\":\"m\",\"labels\":[{\"file\":\"@\",\"start\":[1,5]}]}\n@:9: note: n\n";
-    let line = with_path(alloc, line, path.as_str()).expect(&rt, "memory");
-    let (shown, whole) = show_refused(&rt, line.as_bytes(), 0);
-    assert!(rt; shown.is_ok(), "with nothing refused");
+/// Shows a line, with this request refused, counted from 1, or with none where it is 0.
+fn show_refused(rt: &(impl Files + AllocGlobal + Abort), line: &[u8], nth: usize) -> Outcome<Status>
+    requires { nth < 100000 }
+{
+    let out = Taker::whole(rt.alloc()).expect(rt, "memory");
+    run(rt, &["--ascii"], Given::whole(line), out, nth)
+}
+
+/// Asserts that no line was cut of what was shown with the nth request refused.
+fn assert_uncut(rt: &impl Abort, shown: &[u8], nth: usize) {
+    assert!(rt;
+        shown.is_empty() || shown.ends_with(b"\n"),
+        "at request {nth}"
+    )
+}
+
+/// Refuses the nth request of showing a line. Where there is none the whole is shown, and the result
+/// is true.
+fn is_shown(rt: &(impl Files + AllocGlobal + Abort), line: &[u8], whole: &[u8], nth: usize) -> bool
+    requires { nth < 100000 }
+{
+    let outcome = show_refused(rt, line, nth);
+    let is_refused = was_refused(rt.alloc());
+    let shown = outcome.out.as_slice();
+    assert_uncut(rt, shown, nth);
+    // A vector that is collected asks again, for less, where it was refused what it may need.
+    if is_refused && outcome.status == Status::Failed {
+        outcome.assert_is(rt, Status::Failed, shown, b"ariadne-show: no memory\n");
+    } else {
+        outcome.assert_is(rt, Status::WithErrors, whole, b"");
+    }
+    !is_refused
+}
+
+/// Refuses each request of showing a line in turn, up to the one that there is none of.
+fn refuse_each(rt: &(impl Files + AllocGlobal + Abort), line: &[u8]) {
+    let whole = show_refused(rt, line, 0);
+    whole.assert_status(rt, Status::WithErrors);
     for nth in 1..10000 {
-        let (shown, held) = show_refused(&rt, line.as_bytes(), nth);
-        if !was_refused(alloc) {
-            assert_eq!(rt; held.as_slice(), whole.as_slice(), "at request {nth}");
-            return folder.remove(&rt).expect(&rt, "no folder");
+        if is_shown(rt, line, whole.out.as_slice(), nth) {
+            return;
         }
-        // A vector that is collected asks again, for less, where it was refused what it may need.
-        let is_whole = shown.is_ok() && held == whole;
-        let is_told = matches!(shown, Err(Fault::Memory(_)));
-        assert!(rt; is_whole || is_told, "at request {nth}");
-        assert!(rt;
-            held.is_empty() || held.ends_with(b"\n"),
-            "at request {nth}"
-        );
     }
     panic!(rt; "a request was refused each time")
 }
 
-/// Shows a line, with this request refused, counted from 1, or with none where it is 0. Returns what
-/// came of it, and what was written.
-fn show_refused(
-    rt: &(impl Files + AllocGlobal + Abort),
-    line: &[u8],
-    nth: usize,
-) -> (Result<Sum, Fault>, Vec<u8>)
+#[test]
+fn a_refused_request_is_told_and_no_line_is_cut(rt: HostRuntime) {
+    let folder = Folder::new(&rt).expect(&rt, "a folder");
+    let path = folder.file_of(&rt, "a", FILE).expect(&rt, "a file");
+    let line =
+        "{\"kind\":\"error\",\"name\":\"n\",\"message\":\"m\",\"labels\":[{\"file\":\"@\",\"start\":[1,5]}]}\n@:9: note: n\n";
+    let line = with_path(rt.alloc(), line, path.as_str()).expect(&rt, "memory");
+    refuse_each(&rt, line.as_bytes());
+    folder.remove(&rt).expect(&rt, "no folder")
+}
+
+/// Refuses the nth request of making two faults. Where there is none both are made, and the result is
+/// true.
+fn are_made(rt: &(impl AllocGlobal + Abort), nth: usize) -> bool
     requires { nth < 100000 }
 {
     let alloc = rt.alloc();
-    let options = options_of(rt, &["--ascii"]);
-    let mut out = Taker::whole(alloc).expect(rt, "memory");
     refuse(alloc, nth);
-    let shown = match BufReader::new(alloc, Given::whole(line)) {
-        Ok(mut input) => show(rt, alloc, options, &mut input, &mut out),
-        Err(fault) => Err(Fault::of_reading(&fault)),
-    };
-    (shown, out.held)
+    let is_unfit = Fault::unfit(alloc, "--color", "auto, always or never", Some("red")).is_ok();
+    let is_unknown = Fault::unknown(alloc, "--odd").is_ok();
+    is_served(rt, nth, is_unfit && is_unknown)
 }
 
 #[test]
 fn a_refused_fault_is_want_of_memory(rt: HostRuntime) {
-    let alloc = rt.alloc();
     for nth in 1..1000 {
-        refuse(alloc, nth);
-        let unfit = Fault::unfit(alloc, "--color", "auto, always or never", Some("red"));
-        let unknown = Fault::unknown(alloc, "--odd");
-        if !was_refused(alloc) {
-            assert!(rt; unfit.is_ok() && unknown.is_ok(), "at request {nth}");
+        if are_made(&rt, nth) {
             return;
         }
-        assert!(rt; unfit.is_err() || unknown.is_err(), "at request {nth}");
     }
     panic!(rt; "a request was refused each time")
 }

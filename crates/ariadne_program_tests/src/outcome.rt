@@ -1,0 +1,38 @@
+//! What runs of the programs came to, and how it is compared.
+
+use ariadne_fakes::was_refused;
+use std::fmt::Debug;
+use std::process::Abort;
+
+/// What a run returned, and what its writers took.
+#[derive(Drop)]
+pub struct Outcome<S> {
+    /// The request for memory that was refused, counted from 1, or 0 where there was none.
+    pub nth: usize,
+    pub status: S,
+    pub out: Vec<u8>,
+    pub faults: Vec<u8>,
+}
+
+impl<S: Copy + Debug + PartialEq> Outcome<S> {
+    /// Asserts what the run returned.
+    pub fn assert_status(&self, rt: &impl Abort, status: S) {
+        let nth = self.nth;
+        assert_eq!(rt; self.status, status, "at request {nth}")
+    }
+
+    /// Asserts what the run returned, and what its writers took.
+    pub fn assert_is(&self, rt: &impl Abort, status: S, out: &[u8], faults: &[u8]) {
+        self.assert_status(rt, status);
+        assert_eq!(rt; self.out.as_slice(), out);
+        assert_eq!(rt; self.faults.as_slice(), faults)
+    }
+}
+
+/// Asserts that a call failed exactly where the nth request for memory was refused, and returns whether
+/// it was served.
+pub fn is_served(rt: &(impl AllocGlobal + Abort), nth: usize, is_ok: bool) -> bool {
+    let is_served = !was_refused(rt.alloc());
+    assert!(rt; is_ok == is_served, "at request {nth}");
+    is_served
+}
