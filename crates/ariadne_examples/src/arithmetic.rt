@@ -4,9 +4,10 @@
 
 ghost use Rattle.std.specs.Prelude.{◌≤◌, ◌<◌, IfOk, length};
 
-use crate::pictures::{assert_rows, picture_of, plain};
-use ariadne::{Label, Report, ReportKind, Source};
+use crate::pictures::{assert_rows, picture_over, plain};
+use ariadne::{Label, Report, ReportKind};
 use std::alloc::{AllocError, Global};
+use std::process::Abort;
 
 /// Where a sum stops, and which bracket is open there. Offsets count characters from 0.
 #[derive(Clone, Copy)]
@@ -88,14 +89,16 @@ static ROWS: [&str; 9] = [
     "---'",
 ];
 
+/// The value of the sum that a text begins with, and the offset behind it.
+fn sum_of(rt: &(impl Abort + AllocGlobal), text: &str) -> Result<(u64, usize), Fault> {
+    let text: Vec<char> = text.chars().collect(rt.alloc()).expect(rt, "memory");
+    sum(&text, 0)
+}
+
 #[test]
 fn a_bracket_is_not_closed(rt: HostRuntime) {
-    let closed: Vec<char> = "2*(3+4)".chars().collect(rt.alloc()).expect(&rt, "memory");
-    assert_eq!(rt; sum(&closed, 0).ok(), Some((14, 7)));
-    let open: Vec<char> = "2*(3+4".chars().collect(rt.alloc()).expect(&rt, "memory");
-    let fault = sum(&open, 0).expect_err(&rt, "a bracket that is open");
-    let mut source = Source::from(rt.alloc(), "2*(3+4").expect(&rt, "memory");
-    let report = report(rt.alloc(), fault).expect(&rt, "memory");
-    let picture = picture_of(&rt, &report, &mut source);
+    assert_eq!(rt; sum_of(&rt, "2*(3+4)").ok(), Some((14, 7)));
+    let fault = sum_of(&rt, "2*(3+4").expect_err(&rt, "a bracket that is open");
+    let picture = picture_over(&rt, report(rt.alloc(), fault), "2*(3+4");
     assert_rows(&rt, picture.as_str(), &ROWS)
 }

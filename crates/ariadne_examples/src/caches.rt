@@ -12,6 +12,8 @@ use crate::pictures::{assert_rows, picture_of, plain};
 use ariadne::{
     Cache, FetchError, Label, Report, ReportKind, Source, SourceMap, UnknownSource, sources,
 };
+use std::alloc::{AllocError, Global};
+use std::ops::Range;
 
 /// A map of sources that shows one id under a title, and the others as they are.
 #[derive(Drop)]
@@ -53,6 +55,25 @@ impl<'s> Cache<&'s str> for Titled<'s> {
     }
 }
 
+/// Two texts, of which the first stands for standard input.
+fn cache(alloc: Global) -> Result<Titled<'static>, AllocError> {
+    Ok(Titled {
+        map: sources(alloc, [("-", "use pear"), ("fruit", "apple")])?,
+        id: "-",
+        title: "<stdin>",
+    })
+}
+
+/// The report that a name of the first is none of the second.
+fn report(alloc: Global) -> Result<Report<'static, (&'static str, Range<usize>)>, AllocError> {
+    let report = Report::build(alloc, ReportKind::Error, ("-", 4..8))
+        .with_config(plain())
+        .with_message("unknown fruit")?
+        .with_label(Label::new(("-", 4..8)).with_message(alloc, "not among the fruit")?)?
+        .with_label(Label::new(("fruit", 0..5)).with_message(alloc, "there is only this one")?)?;
+    Ok(report.finish())
+}
+
 /// The picture of the report.
 static ROWS: [&str; 13] = [
     "Error: unknown fruit",
@@ -72,29 +93,8 @@ static ROWS: [&str; 13] = [
 
 #[test]
 fn an_id_is_shown_under_a_title(rt: HostRuntime) {
-    let alloc = rt.alloc();
-    let map = sources(alloc, [("-", "use pear"), ("fruit", "apple")]).expect(&rt, "memory");
-    let mut cache = Titled {
-        map,
-        id: "-",
-        title: "<stdin>",
-    };
-    let report = Report::build(alloc, ReportKind::Error, ("-", 4..8))
-        .with_config(plain())
-        .with_message("unknown fruit")
-        .expect(&rt, "memory")
-        .with_label(
-            Label::new(("-", 4..8))
-                .with_message(alloc, "not among the fruit")
-                .expect(&rt, "memory"),
-        )
-        .expect(&rt, "memory")
-        .with_label(
-            Label::new(("fruit", 0..5))
-                .with_message(alloc, "there is only this one")
-                .expect(&rt, "memory"),
-        )
-        .expect(&rt, "memory")
-        .finish();
-    assert_rows(&rt, picture_of(&rt, &report, &mut cache).as_str(), &ROWS)
+    let mut cache = cache(rt.alloc()).expect(&rt, "memory");
+    let report = report(rt.alloc()).expect(&rt, "memory");
+    let picture = picture_of(&rt, &report, &mut cache);
+    assert_rows(&rt, picture.as_str(), &ROWS)
 }

@@ -2,8 +2,8 @@
 //! its text is the report's message, and its fields say where the label stands. The test `start <=
 //! end` is what `Label::new` asks for; `lexer` shows an invariant in its place.
 
-use crate::pictures::{assert_rows, picture_of, plain};
-use ariadne::{Label, Report, ReportKind, Source};
+use crate::pictures::{assert_rows, picture_over, plain};
+use ariadne::{Label, Report, ReportKind};
 use std::alloc::{AllocError, Global};
 use std::process::Abort;
 use thiserror::Error;
@@ -65,9 +65,7 @@ impl Refusal {
 /// The picture of what is told of a text that is no number.
 fn refused(rt: &(impl Abort + AllocGlobal), text: &str) -> String {
     let refusal = number(text).expect_err(rt, "a refusal");
-    let report = refusal.report(rt.alloc()).expect(rt, "memory");
-    let mut source = Source::from(rt.alloc(), text).expect(rt, "memory");
-    picture_of(rt, &report, &mut source)
+    picture_over(rt, refusal.report(rt.alloc()), text)
 }
 
 /// The picture of the report.

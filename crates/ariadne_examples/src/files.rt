@@ -53,6 +53,12 @@ fn pie(rt: &(impl Abort + AllocGlobal + Files), folder: &Folder) -> PathBuf {
     folder.file_of(rt, "pie.txt", text).expect(rt, "a file")
 }
 
+/// The file of the second label, in this folder.
+fn fruit(rt: &(impl Abort + AllocGlobal + Files), folder: &Folder) -> PathBuf {
+    let text = b"let apple = 3;\n";
+    folder.file_of(rt, "fruit.txt", text).expect(rt, "a file")
+}
+
 /// The picture over two files, and the labels that are left out.
 fn drawn(
     rt: &(impl Abort + AllocGlobal + Files),
@@ -64,17 +70,17 @@ fn drawn(
     (String::from_utf8(out).expect(rt, "text"), left_out)
 }
 
-#[test]
-fn labels_in_two_files(rt: HostRuntime) {
-    let folder = Folder::new(&rt).expect(&rt, "a folder");
-    let pie = pie(&rt, &folder);
-    let fruit = folder
-        .file_of(&rt, "fruit.txt", b"let apple = 3;\n")
-        .expect(&rt, "a file");
-    let (picture, left_out) = drawn(&rt, pie.as_str(), fruit.as_str());
+/// The row of a picture that names a file, of these signs, the file and a place.
+fn named(rt: &(impl Abort + AllocGlobal), signs: &str, path: &str, place: &str) -> String {
+    format!(in rt.alloc(); "   {signs}[ {path}:{place} ]").expect(rt, "memory")
+}
+
+/// Asserts that no label is left out of the picture over these files, and that it is this one.
+fn assert_both(rt: &(impl Abort + AllocGlobal + Files), pie: &str, fruit: &str) {
+    let (picture, left_out) = drawn(rt, pie, fruit);
     assert!(rt; left_out.is_empty());
-    let first = format!(in rt.alloc(); "   ,-[ {}:1:19 ]", pie.as_str()).expect(&rt, "memory");
-    let second = format!(in rt.alloc(); "   |-[ {}:1:5 ]", fruit.as_str()).expect(&rt, "memory");
+    let first = named(rt, ",-", pie, "1:19");
+    let second = named(rt, "|-", fruit, "1:5");
     let rows = [
         "Error: can't add a text to a number",
         first.as_str(),
@@ -90,7 +96,23 @@ fn labels_in_two_files(rt: HostRuntime) {
         "   |       `---- declared as a number here",
         "---'",
     ];
-    assert_rows(&rt, picture.as_str(), &rows);
+    assert_rows(rt, picture.as_str(), &rows)
+}
+
+/// Asserts that the second label is left out since its file is not there.
+fn assert_missing(rt: &(impl Abort + AllocGlobal), left: &LeftOut<FileError>) {
+    assert_eq!(rt; left.label, 1);
+    let fault = fault(left).expect(rt, "a fault");
+    let told = fault.to_string(rt.alloc()).expect(rt, "memory");
+    assert_eq!(rt; told.as_str(), "No such file or directory (os error 2)")
+}
+
+#[test]
+fn labels_in_two_files(rt: HostRuntime) {
+    let folder = Folder::new(&rt).expect(&rt, "a folder");
+    let pie = pie(&rt, &folder);
+    let fruit = fruit(&rt, &folder);
+    assert_both(&rt, pie.as_str(), fruit.as_str());
     folder.remove(&rt).expect(&rt, "no folder")
 }
 
@@ -99,13 +121,10 @@ fn a_file_that_is_not_there_takes_away_its_labels_alone(rt: HostRuntime) {
     let folder = Folder::new(&rt).expect(&rt, "a folder");
     let pie = pie(&rt, &folder);
     let (picture, left_out) = drawn(&rt, pie.as_str(), "no such file");
+    assert!(rt; picture.ends_with("this is a text\n---'\n"));
     assert_eq!(rt; left_out.len(), 1);
     for left in &left_out {
-        assert_eq!(rt; left.label, 1);
-        let fault = fault(left).expect(&rt, "a fault");
-        let told = fault.to_string(rt.alloc()).expect(&rt, "memory");
-        assert_eq!(rt; told.as_str(), "No such file or directory (os error 2)");
+        assert_missing(&rt, left)
     }
-    assert!(rt; picture.ends_with("this is a text\n---'\n"));
     folder.remove(&rt).expect(&rt, "no folder")
 }

@@ -2,8 +2,8 @@
 //! `with_index_type(IndexType::Byte)`, and how a `Place` is made: it starts at most at its end, which
 //! is what `Label::new` asks for. `errors` shows a test instead.
 
-use crate::pictures::{assert_rows, picture_of, plain};
-use ariadne::{IndexType, Label, Place, Report, ReportKind, Source};
+use crate::pictures::{assert_rows, picture_over, plain};
+use ariadne::{IndexType, Label, Place, Report, ReportKind};
 use std::alloc::{AllocError, Global};
 
 /// What a character is part of.
@@ -78,14 +78,19 @@ static ROWS: [&str; 7] = [
     "---'",
 ];
 
+/// How many tokens a text has, and where an unknown character ends them.
+fn lexed(alloc: Global, text: &str) -> Result<(usize, Option<Place>), AllocError> {
+    let mut tokens = Vec::new(alloc);
+    let place = lex(&mut tokens, text)?;
+    Ok((tokens.len(), place))
+}
+
 #[test]
 fn an_unknown_character_behind_others_of_two_bytes(rt: HostRuntime) {
-    let mut tokens = Vec::new(rt.alloc());
     let text = "äpplë = 3 € 4";
-    let place = lex(&mut tokens, text).expect(&rt, "memory");
+    let (count, place) = lexed(rt.alloc(), text).expect(&rt, "memory");
     let place = place.expect(&rt, "an unknown character");
-    assert_eq!(rt; (tokens.len(), place.start, place.end), (3, 12, 15));
-    let report = unknown(rt.alloc(), place).expect(&rt, "memory");
-    let mut source = Source::from(rt.alloc(), text).expect(&rt, "memory");
-    assert_rows(&rt, picture_of(&rt, &report, &mut source).as_str(), &ROWS)
+    assert_eq!(rt; (count, place.start, place.end), (3, 12, 15));
+    let picture = picture_over(&rt, unknown(rt.alloc(), place), text);
+    assert_rows(&rt, picture.as_str(), &ROWS)
 }

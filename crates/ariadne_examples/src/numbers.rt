@@ -19,6 +19,18 @@ fn again(alloc: Global, here: Spot, before: Spot) -> Result<Report<'static, Spot
     Ok(report.finish())
 }
 
+/// Adds two files that declare a name, and returns the report of that.
+fn report(
+    alloc: Global,
+    files: &mut SourceTable<&str>,
+) -> Result<Report<'static, Spot>, AllocError> {
+    let fruit = files.add("fruit.txt", "let apple = 3;\n")?;
+    let pie = files.add("pie.txt", "let crust = 1;\nlet apple = 4;\n")?;
+    let here = (pie, Place::at(19).to(Place::at(24)));
+    let before = (fruit, Place::at(4).to(Place::at(9)));
+    again(alloc, here, before)
+}
+
 /// The picture of the report.
 static ROWS: [&str; 13] = [
     "Error: declared twice",
@@ -38,16 +50,8 @@ static ROWS: [&str; 13] = [
 
 #[test]
 fn labels_in_files_by_number(rt: HostRuntime) {
-    let alloc = rt.alloc();
-    let mut files = SourceTable::new(alloc);
-    let fruit = files
-        .add("fruit.txt", "let apple = 3;\n")
-        .expect(&rt, "memory");
-    let pie = files
-        .add("pie.txt", "let crust = 1;\nlet apple = 4;\n")
-        .expect(&rt, "memory");
-    let here = (pie, Place::at(19).to(Place::at(24)));
-    let before = (fruit, Place::at(4).to(Place::at(9)));
-    let report = again(alloc, here, before).expect(&rt, "memory");
-    assert_rows(&rt, picture_of(&rt, &report, &mut files).as_str(), &ROWS)
+    let mut files = SourceTable::new(rt.alloc());
+    let report = report(rt.alloc(), &mut files).expect(&rt, "memory");
+    let picture = picture_of(&rt, &report, &mut files);
+    assert_rows(&rt, picture.as_str(), &ROWS)
 }

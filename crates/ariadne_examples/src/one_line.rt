@@ -3,6 +3,7 @@
 
 use ariadne::{Label, Report, ReportKind, Source, SourceText, Span};
 use std::alloc::{AllocError, Global};
+use std::process::Abort;
 
 /// The line of a report that points into a source of this name. Lines and columns count from 1; both
 /// are 0 where it points past the source.
@@ -24,24 +25,40 @@ fn one_line<S: Span, I: SourceText>(
     }
 }
 
-/// Two reports over `let pie = aple + 1;`, with and without a code.
-fn reports(alloc: Global) -> Result<(Report<'static>, Report<'static>), AllocError> {
+/// A report with a code, over `let pie = aple + 1;`.
+fn unknown(alloc: Global) -> Result<Report<'static>, AllocError> {
     let label = Label::new(10..14).with_message(alloc, "no such name")?;
-    let unknown = Report::build(alloc, ReportKind::Error, 10..14)
+    let report = Report::build(alloc, ReportKind::Error, 10..14)
         .with_code(3)?
         .with_message("unknown name")?
         .with_label(label)?;
-    let unused = Report::build(alloc, ReportKind::Warning, 4..7).with_message("unused name")?;
-    Ok((unknown.finish(), unused.finish()))
+    Ok(report.finish())
+}
+
+/// A report without a code, over the same text.
+fn unused(alloc: Global) -> Result<Report<'static>, AllocError> {
+    let report = Report::build(alloc, ReportKind::Warning, 4..7).with_message("unused name")?;
+    Ok(report.finish())
+}
+
+/// Asserts that a report over the text has this line.
+fn assert_line(
+    rt: &(impl Abort + AllocGlobal),
+    report: Result<Report<'_>, AllocError>,
+    want: &str,
+) {
+    let report = report.expect(rt, "memory");
+    let source = Source::from(rt.alloc(), "let pie = aple + 1;").expect(rt, "memory");
+    let line = one_line(rt.alloc(), &report, "pie.txt", &source).expect(rt, "memory");
+    assert_eq!(rt; line.as_str(), want)
 }
 
 #[test]
 fn a_report_is_one_line(rt: HostRuntime) {
-    let alloc = rt.alloc();
-    let source = Source::from(alloc, "let pie = aple + 1;").expect(&rt, "memory");
-    let (unknown, unused) = reports(alloc).expect(&rt, "memory");
-    let line = one_line(alloc, &unknown, "pie.txt", &source).expect(&rt, "memory");
-    assert_eq!(rt; line.as_str(), "pie.txt:1:11: Error[03]: unknown name");
-    let line = one_line(alloc, &unused, "pie.txt", &source).expect(&rt, "memory");
-    assert_eq!(rt; line.as_str(), "pie.txt:1:5: Warning: unused name");
+    assert_line(
+        &rt,
+        unknown(rt.alloc()),
+        "pie.txt:1:11: Error[03]: unknown name",
+    );
+    assert_line(&rt, unused(rt.alloc()), "pie.txt:1:5: Warning: unused name")
 }

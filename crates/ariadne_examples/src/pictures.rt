@@ -1,6 +1,6 @@
 //! Pictures in tests: ASCII without colours, the picture as a text, and its rows compared without
-//! the blanks at their ends. Copy `plain`, `picture_of` and `assert_rows`, which the other examples
-//! use too.
+//! the blanks at their ends. Copy `plain`, `picture_of`, `picture_over` and `assert_rows`, which the
+//! other examples use too.
 
 use ariadne::{Cache, CharSet, Config, Label, Report, ReportKind, Source, Span};
 use std::alloc::{AllocError, Global};
@@ -27,6 +27,27 @@ pub(crate) fn picture_of<S: Span, C: Cache<S::SourceId>>(
     String::from_utf8(out).expect(rt, "text")
 }
 
+/// The picture that a report writes over a text. No label may be left out.
+pub(crate) fn picture_over<S: Span<SourceId = ()> + Drop>(
+    rt: &(impl Abort + AllocGlobal),
+    report: Result<Report<'_, S>, AllocError>,
+    text: &str,
+) -> String {
+    let report = report.expect(rt, "memory");
+    let mut source = Source::from(rt.alloc(), text).expect(rt, "memory");
+    picture_of(rt, &report, &mut source)
+}
+
+/// Rows, each with a line feed behind it.
+fn joined(alloc: Global, rows: &[&str]) -> Result<String, AllocError> {
+    let mut text = String::new(alloc);
+    for row in rows {
+        text.push_str(row)?;
+        text.push('\n')?;
+    }
+    Ok(text)
+}
+
 /// A text without the blanks at the ends of its rows, each of which ends in a line feed.
 fn trimmed(alloc: Global, picture: &str) -> Result<String, AllocError> {
     let mut text = String::new(alloc);
@@ -39,45 +60,36 @@ fn trimmed(alloc: Global, picture: &str) -> Result<String, AllocError> {
 
 /// Asserts that a picture has these rows, but for the blanks at their ends.
 pub(crate) fn assert_rows(rt: &(impl Abort + AllocGlobal), picture: &str, rows: &[&str]) {
-    let mut want = String::new(rt.alloc());
-    for row in rows {
-        want.push_str(row).expect(rt, "memory");
-        want.push('\n').expect(rt, "memory");
-    }
+    let want = joined(rt.alloc(), rows).expect(rt, "memory");
     let picture = trimmed(rt.alloc(), picture).expect(rt, "memory");
     assert_eq!(rt; picture.as_str(), want.as_str());
 }
 
-#[test]
-fn a_picture_is_compared_by_its_rows(rt: HostRuntime) {
-    let alloc = rt.alloc();
-    let list = Label::new(10..34)
-        .with_message(alloc, "this list is not sorted")
-        .expect(&rt, "memory");
+/// A warning over a list of more than one line.
+fn report(alloc: Global) -> Result<Report<'static>, AllocError> {
+    let list = Label::new(10..34).with_message(alloc, "this list is not sorted")?;
     let report = Report::build(alloc, ReportKind::Warning, 10..34)
         .with_config(plain())
-        .with_label(list)
-        .expect(&rt, "memory")
-        .finish();
+        .with_label(list)?;
+    Ok(report.finish())
+}
+
+/// The picture of the report.
+static ROWS: [&str; 9] = [
+    "Warning:",
+    "   ,-[ <unknown>:1:11 ]",
+    "   |",
+    " 1 | ,-> let pie = [",
+    "   : :",
+    " 4 | |-> ];",
+    "   | |",
+    "   | `------- this list is not sorted",
+    "---'",
+];
+
+#[test]
+fn a_picture_is_compared_by_its_rows(rt: HostRuntime) {
     let text = "let pie = [\n    pear,\n    apple,\n];";
-    let picture = picture_of(
-        &rt,
-        &report,
-        &mut Source::from(alloc, text).expect(&rt, "memory"),
-    );
-    assert_rows(
-        &rt,
-        picture.as_str(),
-        &[
-            "Warning:",
-            "   ,-[ <unknown>:1:11 ]",
-            "   |",
-            " 1 | ,-> let pie = [",
-            "   : :",
-            " 4 | |-> ];",
-            "   | |",
-            "   | `------- this list is not sorted",
-            "---'",
-        ],
-    )
+    let picture = picture_over(&rt, report(rt.alloc()), text);
+    assert_rows(&rt, picture.as_str(), &ROWS)
 }

@@ -63,6 +63,13 @@ fn report(alloc: Global) -> Result<Report<'static>, AllocError> {
     Ok(report.finish())
 }
 
+/// Draws the report to a board.
+fn draw(alloc: Global, board: &mut Board) -> Result<(), WriteError> {
+    let mut source = Source::from(alloc, "pear")?;
+    report(alloc)?.write_to(&mut source, board)?;
+    Ok(())
+}
+
 /// The picture of the report.
 static ROWS: [&str; 7] = [
     "Error: unknown fruit",
@@ -75,23 +82,19 @@ static ROWS: [&str; 7] = [
 ];
 
 #[test]
-fn a_board_holds_the_picture_or_its_first_bytes(rt: HostRuntime) {
-    let alloc = rt.alloc();
-    let report = report(alloc).expect(&rt, "memory");
-    let mut source = Source::from(alloc, "pear").expect(&rt, "memory");
-    let mut large = Board::new(alloc, 500);
-    report
-        .write_to(&mut source, &mut large)
-        .expect(&rt, "memory");
+fn a_board_holds_the_picture(rt: HostRuntime) {
+    let mut large = Board::new(rt.alloc(), 500);
+    draw(rt.alloc(), &mut large).expect(&rt, "memory");
     assert!(rt; !large.failed());
-    assert_rows(
-        &rt,
-        String::from_utf8(large.bytes).expect(&rt, "text").as_str(),
-        &ROWS,
-    );
-    let mut small = Board::new(alloc, 14);
-    let answer = report.write_to(&mut source, &mut small);
-    assert!(rt; matches!(answer, Err(WriteError::Io { sent: 14, .. })));
+    let picture = String::from_utf8(large.bytes).expect(&rt, "text");
+    assert_rows(&rt, picture.as_str(), &ROWS)
+}
+
+#[test]
+fn a_board_holds_the_first_bytes_of_the_picture(rt: HostRuntime) {
+    let mut small = Board::new(rt.alloc(), 14);
+    let drawn = draw(rt.alloc(), &mut small);
+    assert!(rt; matches!(drawn, Err(WriteError::Io { sent: 14, .. })));
     assert!(rt; small.failed());
-    assert_eq!(rt; small.bytes.as_slice(), b"Error: unknown".as_slice());
+    assert_eq!(rt; small.bytes.as_slice(), b"Error: unknown".as_slice())
 }
