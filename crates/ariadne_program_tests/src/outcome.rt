@@ -21,11 +21,18 @@ impl<S: Copy + Debug + PartialEq> Outcome<S> {
         assert_eq!(rt; self.status, status, "at request {nth}")
     }
 
+    /// Asserts what the run returned, and what it told of faults.
+    pub fn assert_told(&self, rt: &impl Abort, status: S, faults: &[u8]) {
+        self.assert_status(rt, status);
+        let nth = self.nth;
+        assert_eq!(rt; self.faults.as_slice(), faults, "at request {nth}")
+    }
+
     /// Asserts what the run returned, and what its writers took.
     pub fn assert_is(&self, rt: &impl Abort, status: S, out: &[u8], faults: &[u8]) {
-        self.assert_status(rt, status);
-        assert_eq!(rt; self.out.as_slice(), out);
-        assert_eq!(rt; self.faults.as_slice(), faults)
+        self.assert_told(rt, status, faults);
+        let nth = self.nth;
+        assert_eq!(rt; self.out.as_slice(), out, "at request {nth}")
     }
 }
 

@@ -32,11 +32,10 @@ fn is_shown(rt: &(impl Files + AllocGlobal + Abort), line: &[u8], whole: &[u8], 
 {
     let outcome = show_refused(rt, line, nth);
     let is_refused = was_refused(rt.alloc());
-    let shown = outcome.out.as_slice();
-    assert_uncut(rt, shown, nth);
+    assert_uncut(rt, outcome.out.as_slice(), nth);
     // A vector that is collected asks again, for less, where it was refused what it may need.
     if is_refused && outcome.status == Status::Failed {
-        outcome.assert_is(rt, Status::Failed, shown, b"ariadne-show: no memory\n");
+        outcome.assert_told(rt, Status::Failed, b"ariadne-show: no memory\n");
     } else {
         outcome.assert_is(rt, Status::WithErrors, whole, b"");
     }
