@@ -1,7 +1,7 @@
 //! What the words order: a workload, and how often.
 
 /// How the labels of a report lie that is drawn over one source.
-#[derive(Clone, Copy, Debug, PartialEq, Eq)]
+#[derive(Clone, Copy)]
 pub enum Shape {
     /// Two labels in one line.
     Two,
@@ -32,7 +32,7 @@ pub enum Shape {
 }
 
 /// What a long line has, and where its labels lie.
-#[derive(Clone, Copy, Debug, PartialEq, Eq)]
+#[derive(Clone, Copy)]
 pub enum LongLine {
     /// The report's own span, far from its start and by bytes, beside a group for each other label.
     Header,
@@ -47,7 +47,7 @@ pub enum LongLine {
 }
 
 /// How many labels lie over few or many lines.
-#[derive(Clone, Copy, Debug, PartialEq, Eq)]
+#[derive(Clone, Copy)]
 pub enum ManyLabels {
     /// Nested ones without message, over lines of which each second one has a label.
     Under,
@@ -70,7 +70,7 @@ pub enum ManyLabels {
 }
 
 /// Which names the sources of a report have.
-#[derive(Clone, Copy, Debug, PartialEq, Eq)]
+#[derive(Clone, Copy)]
 pub enum Named {
     /// Each label has a source of its own.
     Each,
@@ -81,7 +81,7 @@ pub enum Named {
 }
 
 /// What is measured.
-#[derive(Clone, Copy, Debug, PartialEq, Eq)]
+#[derive(Clone, Copy)]
 pub enum Kind {
     /// Indexes the lines of a large text of one-byte characters.
     Index,
@@ -144,7 +144,7 @@ static NUMBERED: [(&str, Kind); 25] = [
 
 /// A workload: what is measured, and a number. That is the number of its labels, of its sources or
 /// of the copies of its lines, or of the characters of its line.
-#[derive(Clone, Copy, Debug, PartialEq, Eq)]
+#[derive(Clone, Copy)]
 pub struct Workload {
     pub kind: Kind,
     pub number: u16,
