@@ -1,11 +1,11 @@
 //! Calls of the builder, each by the picture that it makes.
 
-use ariadne::{Color, Label, Report, ReportBuilder, ReportKind};
-use ariadne_asserts::asserts::{assert_picture, plain_error};
-use std::process::Abort;
+use ariadne::{Label, Report, ReportBuilder};
+use ariadne_asserts::asserts::{Mismatch, assert_picture, plain_error};
+use std::alloc::{AllocError, Global};
 
 /// The picture of two labels added in turn.
-const TWO: [&str; 9] = [
+const TWO: &[&str] = &[
     "Error: m",
     "   ,-[ <unknown>:1:1 ]",
     "   |",
@@ -18,50 +18,53 @@ const TWO: [&str; 9] = [
 ];
 
 /// The first of the two labels.
-fn first(rt: &(impl Abort + AllocGlobal)) -> Label {
-    Label::new(0..1)
-        .with_message(rt.alloc(), "p")
-        .expect(rt, "memory")
+fn first(alloc: Global) -> Result<Label, AllocError> {
+    Label::new(0..1).with_message(alloc, "p")
 }
 
 /// The second of the two labels.
-fn second(rt: &(impl Abort + AllocGlobal)) -> Label {
-    Label::new(1..2)
-        .with_message(rt.alloc(), "q")
-        .expect(rt, "memory")
+fn second(alloc: Global) -> Result<Label, AllocError> {
+    Label::new(1..2).with_message(alloc, "q")
 }
 
 /// Their report in the making, without labels.
-fn begun(rt: &(impl Abort + AllocGlobal)) -> ReportBuilder<'static> {
-    plain_error(rt.alloc())
-        .with_message("m")
-        .expect(rt, "memory")
+fn begun(alloc: Global) -> Result<ReportBuilder<'static>, AllocError> {
+    plain_error(alloc).with_message("m")
 }
 
-/// Asserts that this report has the two labels, in turn.
-fn assert_two(rt: &(impl Abort + AllocGlobal), report: &Report<'_>) {
-    assert_picture(rt, report, "ab", &TWO).expect(rt, "the picture")
+/// The same with the first of them.
+fn labelled(alloc: Global) -> Result<ReportBuilder<'static>, AllocError> {
+    begun(alloc)?.with_label(first(alloc)?)
 }
 
-#[test]
-fn labels_stand_behind_those_that_are_there(rt: HostRuntime) {
-    let report = begun(&rt).with_label(first(&rt)).expect(&rt, "memory");
-    let report = report.with_labels([second(&rt)]).expect(&rt, "memory");
-    assert_two(&rt, &report.finish())
+/// The report with both, by calls by value.
+fn with_labels(alloc: Global) -> Result<Report<'static>, AllocError> {
+    let builder = labelled(alloc)?.with_labels([second(alloc)?])?;
+    Ok(builder.finish())
 }
 
 #[test]
-fn added_labels_stand_behind_those_that_are_there(rt: HostRuntime) {
-    let mut report = begun(&rt);
-    report.add_label(first(&rt)).expect(&rt, "memory");
-    report.add_labels([second(&rt)]).expect(&rt, "memory");
-    report.add_labels([]).expect(&rt, "memory");
-    assert_two(&rt, &report.finish())
+fn labels_stand_behind_those_that_are_there(rt: HostRuntime) -> Result<(), Mismatch> {
+    assert_picture(&rt, &with_labels(rt.alloc())?, "ab", TWO)
+}
+
+/// The same by calls by reference.
+fn with_added_labels(alloc: Global) -> Result<Report<'static>, AllocError> {
+    let mut builder = begun(alloc)?;
+    builder.add_label(first(alloc)?)?;
+    builder.add_labels([second(alloc)?])?;
+    builder.add_labels([])?;
+    Ok(builder.finish())
+}
+
+#[test]
+fn added_labels_stand_behind_those_that_are_there(rt: HostRuntime) -> Result<(), Mismatch> {
+    assert_picture(&rt, &with_added_labels(rt.alloc())?, "ab", TWO)
 }
 
 /// The picture of a report with three helps and two notes, which are numbered since there are
 /// several.
-const ASIDES: [&str; 17] = [
+const ASIDES: &[&str] = &[
     "Error: m",
     "   ,-[ <unknown>:1:1 ]",
     "   |",
@@ -81,18 +84,21 @@ const ASIDES: [&str; 17] = [
     "---'",
 ];
 
+/// The report with these.
+fn with_asides(alloc: Global) -> Result<Report<'static>, AllocError> {
+    let mut builder = labelled(alloc)?.with_help("a")?.with_note("d")?;
+    builder.with_helps(["b", "c"])?;
+    builder.with_notes(["e"])?;
+    Ok(builder.finish())
+}
+
 #[test]
-fn helps_and_notes_stand_behind_those_that_are_there(rt: HostRuntime) {
-    let report = begun(&rt).with_label(first(&rt)).expect(&rt, "memory");
-    let report = report.with_help("a").expect(&rt, "memory");
-    let mut report = report.with_note("d").expect(&rt, "memory");
-    report.with_helps(["b", "c"]).expect(&rt, "memory");
-    report.with_notes(["e"]).expect(&rt, "memory");
-    assert_picture(&rt, &report.finish(), "ab", &ASIDES).expect(&rt, "the picture")
+fn helps_and_notes_stand_behind_those_that_are_there(rt: HostRuntime) -> Result<(), Mismatch> {
+    assert_picture(&rt, &with_asides(rt.alloc())?, "ab", ASIDES)
 }
 
 /// The picture of the report with a help and a note.
-const ASIDE: [&str; 11] = [
+const ASIDE: &[&str] = &[
     "Error: m",
     "   ,-[ <unknown>:1:1 ]",
     "   |",
@@ -106,32 +112,17 @@ const ASIDE: [&str; 11] = [
     "---'",
 ];
 
-#[test]
-fn a_help_or_a_note_that_is_set_takes_the_place_of_those_before(rt: HostRuntime) {
-    let report = begun(&rt).with_label(first(&rt)).expect(&rt, "memory");
-    let report = report.with_help("a").expect(&rt, "memory");
-    let mut report = report.with_note("c").expect(&rt, "memory");
-    report.set_help("b").expect(&rt, "memory");
-    report.set_note("d").expect(&rt, "memory");
-    assert_picture(&rt, &report.finish(), "ab", &ASIDE).expect(&rt, "the picture")
+/// The report with these, set in place of others.
+fn with_set_asides(alloc: Global) -> Result<Report<'static>, AllocError> {
+    let mut builder = labelled(alloc)?.with_help("a")?.with_note("c")?;
+    builder.set_help("b")?;
+    builder.set_note("d")?;
+    Ok(builder.finish())
 }
 
 #[test]
-fn kinds_are_shown_by_their_names(rt: HostRuntime) {
-    let cases = [
-        (ReportKind::Error, "Error"),
-        (ReportKind::Warning, "Warning"),
-        (ReportKind::Advice, "Advice"),
-        (ReportKind::Custom("Hint", Color::Blue), "Hint"),
-        (ReportKind::Custom("", Color::Primary), ""),
-    ];
-    for (kind, want) in cases {
-        assert_eq!(rt;
-            kind.to_string(rt.alloc()).expect(&rt, "memory").as_str(),
-            want
-        );
-        assert!(rt; kind == kind);
-    }
-    assert!(rt; ReportKind::Custom("Hint", Color::Blue) != ReportKind::Custom("Hint", Color::Red));
-    assert!(rt; ReportKind::Custom("Error", Color::Red) != ReportKind::Error);
+fn a_help_or_a_note_that_is_set_takes_the_place_of_those_before(
+    rt: HostRuntime,
+) -> Result<(), Mismatch> {
+    assert_picture(&rt, &with_set_asides(rt.alloc())?, "ab", ASIDE)
 }

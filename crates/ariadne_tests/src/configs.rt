@@ -1,7 +1,8 @@
 //! Configurations: the default one, and which one counts.
 
 use ariadne::{CharSet, Color, Config, IndexType, Label, LabelAttach, Report, ReportKind};
-use ariadne_asserts::asserts::{assert_bytes, plain};
+use ariadne_asserts::asserts::{Mismatch, assert_bytes, plain};
+use std::alloc::{AllocError, Global};
 
 #[test]
 fn a_new_configuration_is_the_default(rt: HostRuntime) {
@@ -23,29 +24,37 @@ fn a_new_configuration_is_the_default(rt: HostRuntime) {
     assert!(rt; IndexType::Byte != IndexType::Char);
 }
 
-#[test]
-fn a_report_is_in_colors_where_none_says_otherwise(rt: HostRuntime) {
-    let builder = Report::build(rt.alloc(), ReportKind::Error, 0..0);
-    let report = builder.with_message("m").expect(&rt, "memory").finish();
-    assert_bytes(&rt, &report, "", &["\x1b[31mError:\x1b[0m m"]).expect(&rt, "the picture")
+/// A report of one word, in the colours that a report has where none says otherwise.
+fn colored(alloc: Global) -> Result<Report<'static>, AllocError> {
+    let builder = Report::build(alloc, ReportKind::Error, 0..0).with_message("m")?;
+    Ok(builder.finish())
 }
 
 #[test]
-fn a_configuration_behind_a_label_takes_its_color_away(rt: HostRuntime) {
+fn a_report_is_in_colors_where_none_says_otherwise(rt: HostRuntime) -> Result<(), Mismatch> {
+    assert_bytes(&rt, &colored(rt.alloc())?, "", &["\x1b[31mError:\x1b[0m m"])
+}
+
+/// The rows of a label whose report has no colours, with the blanks at their ends.
+const ROWS: &[&str] = &[
+    "Error: ",
+    "   ,-[ <unknown>:1:1 ]",
+    "   |",
+    " 1 | a",
+    "   | |  ",
+    "   | `-- m",
+    "---'",
+];
+
+/// A report that is configured after it has got a label with a colour.
+fn configured(alloc: Global) -> Result<Report<'static>, AllocError> {
     let label = Label::new(0..1).with_color(Color::Blue);
-    let label = label.with_message(rt.alloc(), "m").expect(&rt, "memory");
-    let builder = Report::build(rt.alloc(), ReportKind::Error, 0..0)
-        .with_label(label)
-        .expect(&rt, "memory");
-    let report = builder.with_config(plain()).finish();
-    let rows = [
-        "Error: ",
-        "   ,-[ <unknown>:1:1 ]",
-        "   |",
-        " 1 | a",
-        "   | |  ",
-        "   | `-- m",
-        "---'",
-    ];
-    assert_bytes(&rt, &report, "a", &rows).expect(&rt, "the picture")
+    let label = label.with_message(alloc, "m")?;
+    let builder = Report::build(alloc, ReportKind::Error, 0..0).with_label(label)?;
+    Ok(builder.with_config(plain()).finish())
+}
+
+#[test]
+fn a_configuration_behind_a_label_takes_its_color_away(rt: HostRuntime) -> Result<(), Mismatch> {
+    assert_bytes(&rt, &configured(rt.alloc())?, "a", ROWS)
 }

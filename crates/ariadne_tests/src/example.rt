@@ -2,7 +2,9 @@
 //! with this file.
 
 use crate::readme::tell;
+use ariadne::WriteError;
 use ariadne_asserts::asserts::assert_trimmed;
+use std::alloc::Global;
 
 /// The picture of README.md.
 const README: [&str; 14] = [
@@ -22,12 +24,18 @@ const README: [&str; 14] = [
     "---'",
 ];
 
-#[test]
-fn the_example_of_the_readme(rt: HostRuntime) {
+/// What the example draws over its text.
+fn picture(alloc: Global) -> Result<Vec<u8>, WriteError> {
     let text =
         "def five = match () in {\n\t() => 5,\n\t() => \"5\",\n}\n\ndef six =\n    five\n    + 1\n";
-    let mut out = Vec::new(rt.alloc());
-    tell(rt.alloc(), text, &mut out).expect(&rt, "a picture");
-    let picture = String::from_utf8(out).expect(&rt, "text");
+    let mut out = Vec::new(alloc);
+    tell(alloc, text, &mut out)?;
+    Ok(out)
+}
+
+#[test]
+fn the_example_of_the_readme(rt: HostRuntime) {
+    let picture = picture(rt.alloc()).expect(&rt, "a picture");
+    let picture = String::from_utf8(picture).expect(&rt, "text");
     assert_trimmed(&rt, picture.as_str(), &README).expect(&rt, "the picture")
 }

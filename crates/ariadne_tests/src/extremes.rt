@@ -1,35 +1,47 @@
 //! The greatest numbers.
 
 use ariadne::{Config, Label, Report, ReportKind, WriteError};
-use ariadne_asserts::asserts::{Why, assert_left_out, plain, plain_error, source_of, written};
+use ariadne_asserts::asserts::{
+    Mismatch, Why, assert_left_out, assert_shown, plain, plain_error, source_of, written,
+};
+use std::alloc::{AllocError, Global};
+use std::ops::RangeInclusive;
+use std::process::Abort;
+
+/// A report that points at all offsets, and so does its label.
+fn greatest(alloc: Global) -> Result<Report<'static, RangeInclusive<usize>>, AllocError> {
+    let builder = Report::build(alloc, ReportKind::Error, 0..=usize::MAX).with_config(plain());
+    let builder = builder.with_label(Label::new(0..=usize::MAX))?;
+    Ok(builder.finish())
+}
 
 #[test]
-fn a_span_up_to_the_greatest_offset_is_past_its_source(rt: HostRuntime) {
-    let mut source = source_of(rt.alloc(), "ab").expect(&rt, "memory");
-    let builder = Report::build(rt.alloc(), ReportKind::Error, 0..=usize::MAX);
-    let builder = builder.with_config(plain());
-    let report = builder
-        .with_label(Label::new(0..=usize::MAX))
-        .expect(&rt, "memory")
-        .finish();
-    let (picture, left_out) = written(&rt, &report, &mut source).expect(&rt, "a picture");
-    assert_left_out(&left_out, &[(0, Why::PastSource)]).expect(&rt, "the labels");
-    assert_eq!(rt; picture.as_str(), "Error: \n");
+fn a_span_up_to_the_greatest_offset_is_past_its_source(rt: HostRuntime) -> Result<(), Mismatch> {
+    let mut source = source_of(rt.alloc(), "ab")?;
+    let (picture, left_out) = written(&rt, &greatest(rt.alloc())?, &mut source)?;
+    assert_left_out(&left_out, &[(0, Why::PastSource)])?;
+    assert_shown(&rt, picture.as_str(), &["Error: "], true)
+}
+
+/// A report with this configuration, and the greatest tab.
+fn tabbed(alloc: Global, config: Config) -> Result<Report<'static>, AllocError> {
+    let label = Label::new(1..2).with_message(alloc, "m")?;
+    let builder = plain_error(alloc).with_config(config.with_tab_width(usize::MAX));
+    Ok(builder.with_label(label)?.finish())
+}
+
+/// Asserts that there is no memory for its picture, of which nothing is sent.
+fn assert_no_memory(rt: &(impl Abort + AllocGlobal), config: Config) {
+    let report = tabbed(rt.alloc(), config).expect(rt, "memory");
+    let mut source = source_of(rt.alloc(), "\tx").expect(rt, "memory");
+    let mut out = Vec::new(rt.alloc());
+    let answer = report.write(&mut source, &mut out);
+    assert!(rt; matches!(answer, Err(WriteError::Memory(_))) && out.is_empty())
 }
 
 #[test]
 fn the_greatest_tab_is_want_of_memory(rt: HostRuntime) {
-    let alloc = rt.alloc();
-    for config in [plain(), plain().with_compact(true), Config::new()] {
-        let label = Label::new(1..2)
-            .with_message(alloc, "m")
-            .expect(&rt, "memory");
-        let builder = plain_error(alloc).with_config(config.with_tab_width(usize::MAX));
-        let report = builder.with_label(label).expect(&rt, "memory").finish();
-        let mut source = source_of(alloc, "\tx").expect(&rt, "memory");
-        let mut out = Vec::new(alloc);
-        let answer = report.write(&mut source, &mut out);
-        assert!(rt; matches!(answer, Err(WriteError::Memory(_))));
-        assert!(rt; out.is_empty());
-    }
+    assert_no_memory(&rt, plain());
+    assert_no_memory(&rt, plain().with_compact(true));
+    assert_no_memory(&rt, Config::new())
 }

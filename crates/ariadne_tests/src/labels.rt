@@ -3,6 +3,7 @@
 use ariadne::{Color, Label};
 use std::alloc::{AllocError, Global};
 use std::hash::{DefaultHasher, Hash, Hasher};
+use std::process::Abort;
 
 /// A label with all that a label may have.
 fn full(alloc: Global) -> Result<Label, AllocError> {
@@ -18,38 +19,42 @@ fn hash_of(label: &Label) -> u64 {
     state.finish()
 }
 
+/// Asserts that a copy of a label equals it, and has its hash.
+fn assert_copied(rt: &(impl Abort + AllocGlobal), label: &Label) {
+    let copy = label.clone().expect(rt, "memory");
+    assert!(rt; copy == *label);
+    assert_eq!(rt; hash_of(&copy), hash_of(label))
+}
+
 #[test]
 fn a_copy_equals_its_label(rt: HostRuntime) {
-    let alloc = rt.alloc();
-    for label in [full(alloc).expect(&rt, "memory"), Label::new(0..0)] {
-        let copy = label.clone().expect(&rt, "memory");
-        assert!(rt; copy == label);
-        assert_eq!(rt; hash_of(&copy), hash_of(&label));
+    assert_copied(&rt, &full(rt.alloc()).expect(&rt, "memory"));
+    assert_copied(&rt, &Label::new(0..0))
+}
+
+/// A label without the other fields, or the full one with another field: its span, its message, its
+/// colour, its order or its priority.
+fn other(alloc: Global, field: u8) -> Result<Label, AllocError> {
+    match field {
+        0 => Ok(Label::new(1..3)),
+        1 => Label::new(1..4).with_message(alloc, "m"),
+        2 => full(alloc)?.with_message(alloc, ""),
+        3 => Ok(full(alloc)?.with_color(Color::Rgb(1, 2, 4))),
+        4 => Ok(full(alloc)?.with_order(-3)),
+        _ => Ok(full(alloc)?.with_priority(4)),
     }
+}
+
+/// Whether the full label equals another one.
+fn is_full(rt: &(impl Abort + AllocGlobal), label: Result<Label, AllocError>) -> bool {
+    full(rt.alloc()).expect(rt, "memory") == label.expect(rt, "memory")
 }
 
 #[test]
 fn each_field_makes_a_label_another(rt: HostRuntime) {
-    let alloc = rt.alloc();
-    let others = [
-        Label::new(1..3),
-        Label::new(1..4)
-            .with_message(alloc, "m")
-            .expect(&rt, "memory"),
-        full(alloc)
-            .expect(&rt, "memory")
-            .with_message(alloc, "")
-            .expect(&rt, "memory"),
-        full(alloc)
-            .expect(&rt, "memory")
-            .with_color(Color::Rgb(1, 2, 4)),
-        full(alloc).expect(&rt, "memory").with_order(-3),
-        full(alloc).expect(&rt, "memory").with_priority(4),
-    ];
-    let label = full(alloc).expect(&rt, "memory");
-    assert!(rt; label == full(alloc).expect(&rt, "memory"));
-    for other in others {
-        assert!(rt; other != label);
+    assert!(rt; is_full(&rt, full(rt.alloc())));
+    for field in 0..6u8 {
+        assert!(rt; !is_full(&rt, other(rt.alloc(), field)), "{field}");
     }
 }
 

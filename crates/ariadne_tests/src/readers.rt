@@ -2,6 +2,7 @@
 
 use ariadne::{Color, Config, IndexType, Label, LabelAttach, Report, ReportKind};
 use std::alloc::{AllocError, Global};
+use std::process::Abort;
 
 /// A label with all that a label may have.
 fn full(alloc: Global) -> Result<Label, AllocError> {
@@ -26,6 +27,11 @@ fn report(alloc: Global) -> Result<Report<'static>, AllocError> {
     Ok(builder.finish())
 }
 
+/// Asserts that a text was made, and is this.
+pub(crate) fn assert_text(rt: &impl Abort, text: Result<String, AllocError>, want: &str) {
+    assert_eq!(rt; text.expect(rt, "memory").as_str(), want)
+}
+
 #[test]
 fn a_label_tells_what_it_was_made_of(rt: HostRuntime) {
     let label = full(rt.alloc()).expect(&rt, "memory");
@@ -37,34 +43,63 @@ fn a_label_tells_what_it_was_made_of(rt: HostRuntime) {
     assert_eq!(rt; (label.order(), label.priority()), (-4, 5));
 }
 
-#[test]
-fn a_report_tells_what_it_was_made_of(rt: HostRuntime) {
-    let report = report(rt.alloc()).expect(&rt, "memory");
+/// Asserts that a list has one text, and this one.
+fn assert_only(rt: &impl Abort, texts: &[String], want: &str) {
+    assert_eq!(rt; texts.len(), 1);
+    assert_eq!(rt; texts[0].as_str(), want)
+}
+
+/// Asserts that a list has one label, and this one.
+fn assert_label(rt: &impl Abort, labels: &[Label], want: Result<Label, AllocError>) {
+    assert_eq!(rt; labels.len(), 1);
+    assert!(rt; labels[0] == want.expect(rt, "memory"))
+}
+
+/// Asserts what the report says of itself.
+fn assert_head(rt: &impl Abort, report: &Report<'_>) {
     assert_eq!(rt; report.kind(), ReportKind::Custom("Hint", Color::Red));
     assert_eq!(rt;
         (report.code(), report.message()),
         (Some("07"), Some("odd"))
     );
     assert_eq!(rt; *report.span(), 2..2);
-    assert_eq!(rt; report.config().index_type(), IndexType::Byte);
-    for (texts, want) in [(report.notes(), "see there"), (report.helps(), "turn it")] {
-        assert_eq!(rt; texts.len(), 1);
-        assert_eq!(rt; texts[0].as_str(), want);
-    }
-    assert_eq!(rt; report.labels().len(), 1);
-    assert!(rt; report.labels()[0] == full(rt.alloc()).expect(&rt, "memory"));
+    assert_eq!(rt; report.config().index_type(), IndexType::Byte)
 }
 
 #[test]
+fn a_report_tells_what_it_was_made_of(rt: HostRuntime) {
+    let report = report(rt.alloc()).expect(&rt, "memory");
+    assert_head(&rt, &report);
+    assert_only(&rt, report.notes(), "see there");
+    assert_only(&rt, report.helps(), "turn it");
+    assert_label(&rt, report.labels(), full(rt.alloc()))
+}
+
+/// Kinds, each with its name and its colour.
+const KINDS: &[(ReportKind<'static>, &str, Color)] = &[
+    (ReportKind::Error, "Error", Color::Red),
+    (ReportKind::Warning, "Warning", Color::Yellow),
+    (ReportKind::Advice, "Advice", Color::Fixed(147)),
+    (ReportKind::Custom("Hint", Color::Blue), "Hint", Color::Blue),
+    (ReportKind::Custom("", Color::Primary), "", Color::Primary),
+];
+
+#[test]
 fn a_kind_tells_its_name_and_its_color(rt: HostRuntime) {
-    for (kind, name, color) in [
-        (ReportKind::Error, "Error", Color::Red),
-        (ReportKind::Warning, "Warning", Color::Yellow),
-        (ReportKind::Advice, "Advice", Color::Fixed(147)),
-        (ReportKind::Custom("Hint", Color::Blue), "Hint", Color::Blue),
-    ] {
-        assert_eq!(rt; (kind.name(), kind.color()), (name, color));
+    for (kind, name, color) in KINDS {
+        assert_eq!(rt; (kind.name(), kind.color()), (*name, *color));
     }
+}
+
+#[test]
+fn kinds_are_shown_by_their_names(rt: HostRuntime) {
+    for (kind, name, _) in KINDS {
+        assert_text(&rt, kind.to_string(rt.alloc()), *name);
+        assert!(rt; *kind == *kind);
+    }
+    let hint = ReportKind::Custom("Hint", Color::Blue);
+    assert!(rt; hint != ReportKind::Custom("Hint", Color::Red));
+    assert!(rt; ReportKind::Custom("Error", Color::Red) != ReportKind::Error)
 }
 
 #[test]
@@ -81,11 +116,19 @@ fn a_configuration_tells_what_was_set(rt: HostRuntime) {
     );
 }
 
+/// The report as `Debug` shows it.
+fn debug_text(alloc: Global) -> Result<String, AllocError> {
+    let report = report(alloc)?;
+    format!(in alloc; "{report:?}")
+}
+
+/// What the report is made of.
+const SAID: &[&str] = &["Hint", "07", "odd", "here", "see there", "turn it"];
+
 #[test]
 fn a_debug_text_has_what_the_report_says(rt: HostRuntime) {
-    let report = report(rt.alloc()).expect(&rt, "memory");
-    let text = format!(in rt.alloc(); "{report:?}").expect(&rt, "memory");
-    for said in ["Hint", "07", "odd", "here", "see there", "turn it"] {
-        assert!(rt; text.contains(said), "{said}");
+    let text = debug_text(rt.alloc()).expect(&rt, "memory");
+    for said in SAID {
+        assert!(rt; text.contains(*said), "{said}");
     }
 }

@@ -1,24 +1,27 @@
 //! Labels and builders when memory is refused: each request in turn, until a call meets no refusal.
 
-ghost use Rattle.std.specs.Prelude.{◌<◌};
-
 use ariadne::{Label, Report, ReportBuilder};
-use ariadne_asserts::asserts::{
-    Mismatch, assert_left_out, assert_shown, plain_error, source_of, written,
-};
+use ariadne_asserts::asserts::{assert_picture, plain_error};
 use ariadne_fakes::{refuse, was_refused};
 use std::alloc::{AllocError, Global};
 use std::process::Abort;
 
 /// More than any call here makes.
-pub(crate) const MOST_REQUESTS: usize = 1000;
+pub(crate) const MOST_REQUESTS: u16 = 1000;
+
+/// Has the nth request from here on refused.
+pub(crate) fn refuse_at(rt: &impl AllocGlobal, nth: u16) {
+    refuse(rt.alloc(), usize::from(nth))
+}
+
+/// The name of a call, and which of its requests is refused.
+pub(crate) type At<'a> = (&'a str, u16);
 
 /// Asserts that a call has failed exactly where its request was refused, and returns whether it
 /// was.
 pub(crate) fn assert_refused(
     rt: &(impl Abort + AllocGlobal),
-    name: &str,
-    nth: usize,
+    (name, nth): At<'_>,
     has_failed: bool,
 ) -> bool {
     let is_refused = was_refused(rt.alloc());
@@ -26,7 +29,18 @@ pub(crate) fn assert_refused(
     is_refused
 }
 
-/// The middle rows of a picture of one label.
+/// Asserts that something is right once a call has returned.
+pub(crate) fn assert_at(rt: &impl Abort, (name, nth): At<'_>, what: &str, is_right: bool) {
+    assert!(rt; is_right, "{what} of {name} at request {nth}")
+}
+
+/// The rows of a picture over `ab`, in pieces.
+type Rows = &'static [&'static [&'static str]];
+
+/// The header of a report that says nothing.
+const HEADER: &[&str] = &["Error:"];
+
+/// The rows of one label that says `x`.
 const LABEL: &[&str] = &[
     "   ,-[ <unknown>:1:1 ]",
     "   |",
@@ -38,85 +52,76 @@ const LABEL: &[&str] = &[
 /// The rows of labels that say nothing.
 const SILENT: &[&str] = &["   ,-[ <unknown>:1:1 ]", "   |", " 1 | ab"];
 
-/// What is to be seen of a report over `ab`: its header, what is below it, and helps and notes.
-#[derive(Clone, Copy)]
-struct Seen {
-    header: &'static str,
-    middle: &'static [&'static str],
-    asides: &'static [&'static str],
-}
+/// The last row.
+const TAIL: &[&str] = &["---'"];
 
-/// A report with a label and no more.
-const LABELLED: Seen = Seen {
-    header: "Error:",
-    middle: LABEL,
-    asides: &[],
-};
+/// The picture of a label and no more.
+const LABELLED: Rows = &[HEADER, LABEL, TAIL];
 
-/// Asserts that over `ab` a report has these rows: its header, what is below it, and helps and
-/// notes.
-fn assert_rows(
-    rt: &(impl Abort + AllocGlobal),
-    name: &str,
-    report: &Report<'_>,
-    (header, middle, asides): (&'static str, &[&'static str], &[&'static str]),
-) {
-    let mut rows = vec![in rt.alloc(); header].expect(rt, "memory");
-    rows.extend_from_slice(middle).expect(rt, "memory");
-    rows.extend_from_slice(asides).expect(rt, "memory");
-    if !middle.is_empty() {
-        rows.push("---'").expect(rt, "memory");
+/// The rows of these pieces.
+fn rows_of(alloc: Global, pieces: Rows) -> Result<Vec<&'static str>, AllocError> {
+    let mut rows = Vec::new(alloc);
+    for piece in pieces {
+        rows.extend_from_slice(*piece)?;
     }
-    let mut source = source_of(rt.alloc(), "ab").expect(rt, "memory");
-    let (picture, left_out) = written(rt, report, &mut source).expect(rt, "a picture");
-    assert_left_out(&left_out, &[]).expect(rt, name);
-    assert_shown(rt, picture.as_str(), &rows, false).expect(rt, name)
+    Ok(rows)
 }
 
-/// Asserts what is to be seen of a report.
-fn assert_seen(rt: &(impl Abort + AllocGlobal), name: &str, report: &Report<'_>, seen: &Seen) {
-    assert_rows(rt, name, report, (seen.header, seen.middle, seen.asides))
+/// Asserts that over `ab` a report has these rows.
+fn assert_seen(rt: &(impl Abort + AllocGlobal), name: &str, report: &Report<'_>, pieces: Rows) {
+    let rows = rows_of(rt.alloc(), pieces).expect(rt, "memory");
+    assert_picture(rt, report, "ab", &rows).expect(rt, name)
 }
 
-/// A report in the making with a label.
-fn labelled(alloc: Global) -> Result<ReportBuilder<'static>, AllocError> {
-    plain_error(alloc).with_label(Label::new(0..2).with_message(alloc, "x")?)
-}
-
-/// Refuses the nth request of giving a label a message.
-fn try_message(rt: &(impl Abort + AllocGlobal), nth: usize) -> bool
-    requires { nth < 100000 }
-{
-    let label = Label::new(0..2);
-    refuse(rt.alloc(), nth);
-    let label = label.with_message(rt.alloc(), "x");
-    let is_refused = assert_refused(rt, "with_message", nth, label.is_err());
-    if let Ok(label) = label {
-        let builder = plain_error(rt.alloc())
-            .with_label(label)
-            .expect(rt, "memory");
-        assert_seen(rt, "with_message", &builder.finish(), &LABELLED);
+/// Asserts that a report was refused exactly where a request was, and returns whether it was. Where
+/// it was not, it has these rows.
+fn assert_made(
+    rt: &(impl Abort + AllocGlobal),
+    at: At<'_>,
+    made: Result<ReportBuilder<'_>, AllocError>,
+    pieces: Rows,
+) -> bool {
+    let is_refused = assert_refused(rt, at, made.is_err());
+    if let Ok(builder) = made {
+        assert_seen(rt, at.0, &builder.finish(), pieces);
     }
     is_refused
 }
 
-/// Refuses the nth request of a copy of a label.
-fn try_copy(rt: &(impl Abort + AllocGlobal), nth: usize) -> bool
-    requires { nth < 100000 }
-{
-    let label = Label::new(0..2)
-        .with_message(rt.alloc(), "x")
-        .expect(rt, "memory");
-    refuse(rt.alloc(), nth);
-    let copy = label.clone();
-    let is_refused = assert_refused(rt, "clone", nth, copy.is_err());
-    if let Ok(copy) = copy {
-        assert!(rt; copy == label);
+/// A label that says `x`.
+fn label(alloc: Global) -> Result<Label, AllocError> {
+    Label::new(0..2).with_message(alloc, "x")
+}
+
+/// A report in the making with this label.
+fn labelled(alloc: Global) -> Result<ReportBuilder<'static>, AllocError> {
+    plain_error(alloc).with_label(label(alloc)?)
+}
+
+/// Refuses the nth request of giving a label a message, and the label to a report.
+fn try_message(rt: &(impl Abort + AllocGlobal), nth: u16) -> bool {
+    refuse_at(rt, nth);
+    assert_made(rt, ("with_message", nth), labelled(rt.alloc()), LABELLED)
+}
+
+/// Whether a label can't be copied. A copy of it equals it.
+fn copy_fails(rt: &impl Abort, label: &Label) -> bool {
+    match label.clone() {
+        Ok(copy) => {
+            assert!(rt; copy == *label);
+            false
+        }
+        Err(_) => true,
     }
-    let builder = plain_error(rt.alloc())
-        .with_label(label)
-        .expect(rt, "memory");
-    assert_seen(rt, "clone", &builder.finish(), &LABELLED);
+}
+
+/// Refuses the nth request of a copy of a label, which stays as it was.
+fn try_copy(rt: &(impl Abort + AllocGlobal), nth: u16) -> bool {
+    let label = label(rt.alloc()).expect(rt, "memory");
+    refuse_at(rt, nth);
+    let is_refused = assert_refused(rt, ("clone", nth), copy_fails(rt, &label));
+    let builder = plain_error(rt.alloc()).with_label(label);
+    assert_made(rt, ("clone", nth), builder, LABELLED);
     is_refused
 }
 
@@ -136,7 +141,6 @@ fn a_refused_label_is_an_error(rt: HostRuntime) {
 }
 
 /// A call of the builder by value.
-#[derive(Clone, Copy, Debug)]
 enum Step {
     Code,
     CodeText,
@@ -147,61 +151,43 @@ enum Step {
     Labels,
 }
 
-/// What is to be seen after each such call. The labels that are added say nothing.
-const STEPS: &[(Step, Seen)] = &[
-    (
-        Step::Code,
-        Seen {
-            header: "[03] Error:",
-            ..LABELLED
-        },
-    ),
+/// Each such call, its name, and the picture behind it. The labels that are added say nothing.
+const STEPS: &[(Step, &str, Rows)] = &[
+    (Step::Code, "with_code", &[&["[03] Error:"], LABEL, TAIL]),
     (
         Step::CodeText,
-        Seen {
-            header: "[E ] Error:",
-            ..LABELLED
-        },
+        "with_code_text",
+        &[&["[E ] Error:"], LABEL, TAIL],
     ),
     (
         Step::Message,
-        Seen {
-            header: "Error: new",
-            ..LABELLED
-        },
+        "with_message",
+        &[&["Error: new"], LABEL, TAIL],
     ),
     (
         Step::Note,
-        Seen {
-            asides: &["   |", "   | Note: new"],
-            ..LABELLED
-        },
+        "with_note",
+        &[HEADER, LABEL, &["   |", "   | Note: new"], TAIL],
     ),
     (
         Step::Help,
-        Seen {
-            asides: &["   |", "   | Help: new"],
-            ..LABELLED
-        },
+        "with_help",
+        &[HEADER, LABEL, &["   |", "   | Help: new"], TAIL],
     ),
-    (
-        Step::Label,
-        Seen {
-            middle: SILENT,
-            ..LABELLED
-        },
-    ),
-    (
-        Step::Labels,
-        Seen {
-            middle: SILENT,
-            ..LABELLED
-        },
-    ),
+    (Step::Label, "with_label", &[HEADER, SILENT, TAIL]),
+    (Step::Labels, "with_labels", &[HEADER, SILENT, TAIL]),
 ];
 
+/// The report in the making that such a call is made of.
+fn begun(alloc: Global, step: &Step) -> Result<ReportBuilder<'static>, AllocError> {
+    match step {
+        Step::Label | Step::Labels => Ok(plain_error(alloc)),
+        _ => labelled(alloc),
+    }
+}
+
 /// Makes a call of the builder by value.
-fn take(step: Step, builder: ReportBuilder<'_>) -> Result<ReportBuilder<'_>, AllocError> {
+fn take<'a>(step: &Step, builder: ReportBuilder<'a>) -> Result<ReportBuilder<'a>, AllocError> {
     let label = || Label::new(0..2);
     match step {
         Step::Code => builder.with_code(3),
@@ -215,28 +201,18 @@ fn take(step: Step, builder: ReportBuilder<'_>) -> Result<ReportBuilder<'_>, All
 }
 
 /// Refuses the nth request of a call by value, of which a refusal drops the report.
-fn try_step(rt: &(impl Abort + AllocGlobal), step: Step, seen: &Seen, nth: usize) -> bool
-    requires { nth < 100000 }
-{
-    let builder = match step {
-        Step::Label | Step::Labels => plain_error(rt.alloc()),
-        _ => labelled(rt.alloc()).expect(rt, "memory"),
-    };
-    let name = format!(in rt.alloc(); "{step:?}").expect(rt, "memory");
-    refuse(rt.alloc(), nth);
-    let builder = take(step, builder);
-    let is_refused = assert_refused(rt, name.as_str(), nth, builder.is_err());
-    if let Ok(builder) = builder {
-        assert_seen(rt, name.as_str(), &builder.finish(), seen);
-    }
-    is_refused
+fn try_step(rt: &(impl Abort + AllocGlobal), row: &(Step, &str, Rows), nth: u16) -> bool {
+    let (step, name, pieces) = row;
+    let builder = begun(rt.alloc(), step).expect(rt, "memory");
+    refuse_at(rt, nth);
+    assert_made(rt, (*name, nth), take(step, builder), *pieces)
 }
 
 #[test]
 fn a_refused_call_by_value_is_an_error(rt: HostRuntime) {
-    for (step, seen) in STEPS {
+    for row in STEPS {
         for nth in 1..MOST_REQUESTS {
-            if !try_step(&rt, *step, seen, nth) {
+            if !try_step(&rt, row, nth) {
                 break;
             }
         }
@@ -244,7 +220,6 @@ fn a_refused_call_by_value_is_an_error(rt: HostRuntime) {
 }
 
 /// A call of the builder by reference.
-#[derive(Clone, Copy, Debug)]
 enum Call {
     SetMessage,
     SetNote,
@@ -254,88 +229,82 @@ enum Call {
     AddLabel,
 }
 
-/// A report with a message, a label, a help and a note.
-const OLD: Seen = Seen {
-    header: "Error: old",
-    middle: LABEL,
-    asides: &["   |", "   | Help: old", "   |", "   | Note: old"],
-};
+/// The header of a report that says `old`.
+const OLD: &[&str] = &["Error: old"];
 
-/// A report that has a header alone.
-const HEADER: Seen = Seen {
-    middle: &[],
-    asides: &[],
-    ..OLD
-};
+/// The rows of a help that says `old`.
+const HELP: &[&str] = &["   |", "   | Help: old"];
 
-/// What is to be seen before and after each such call.
-const CALLS: &[(Call, Seen, Seen)] = &[
+/// The rows of a note that says `old`.
+const NOTE: &[&str] = &["   |", "   | Note: old"];
+
+/// The picture of a label, a help and a note.
+const WHOLE: Rows = &[OLD, LABEL, HELP, NOTE, TAIL];
+
+/// Each such call, its name, and the picture before it and behind it.
+const CALLS: &[(Call, &str, Rows, Rows)] = &[
     (
         Call::SetMessage,
-        OLD,
-        Seen {
-            header: "Error: new",
-            ..OLD
-        },
+        "set_message",
+        WHOLE,
+        &[&["Error: new"], LABEL, HELP, NOTE, TAIL],
     ),
     (
         Call::SetNote,
-        OLD,
-        Seen {
-            asides: &["   |", "   | Help: old", "   |", "   | Note: new"],
-            ..OLD
-        },
+        "set_note",
+        WHOLE,
+        &[OLD, LABEL, HELP, &["   |", "   | Note: new"], TAIL],
     ),
     (
         Call::AddNote,
-        OLD,
-        Seen {
-            asides: &[
-                "   |",
-                "   | Help: old",
-                "   |",
-                "   | Note 1: old",
-                "   |",
-                "   | Note 2: new",
-            ],
-            ..OLD
-        },
+        "add_note",
+        WHOLE,
+        &[
+            OLD,
+            LABEL,
+            HELP,
+            &["   |", "   | Note 1: old", "   |", "   | Note 2: new"],
+            TAIL,
+        ],
     ),
     (
         Call::SetHelp,
-        OLD,
-        Seen {
-            asides: &["   |", "   | Help: new", "   |", "   | Note: old"],
-            ..OLD
-        },
+        "set_help",
+        WHOLE,
+        &[OLD, LABEL, &["   |", "   | Help: new"], NOTE, TAIL],
     ),
     (
         Call::AddHelp,
-        OLD,
-        Seen {
-            asides: &[
-                "   |",
-                "   | Help 1: old",
-                "   |",
-                "   | Help 2: new",
-                "   |",
-                "   | Note: old",
-            ],
-            ..OLD
-        },
+        "add_help",
+        WHOLE,
+        &[
+            OLD,
+            LABEL,
+            &["   |", "   | Help 1: old", "   |", "   | Help 2: new"],
+            NOTE,
+            TAIL,
+        ],
     ),
-    (
-        Call::AddLabel,
-        HEADER,
-        Seen {
-            middle: SILENT,
-            ..HEADER
-        },
-    ),
+    (Call::AddLabel, "add_label", &[OLD], &[OLD, SILENT, TAIL]),
 ];
 
+/// A report in the making with a label, a help and a note.
+fn whole(alloc: Global) -> Result<ReportBuilder<'static>, AllocError> {
+    labelled(alloc)?.with_help("old")?.with_note("old")
+}
+
+/// The report in the making that such a call is made of, with a message.
+fn called(alloc: Global, call: &Call) -> Result<ReportBuilder<'static>, AllocError> {
+    let mut builder = match call {
+        Call::AddLabel => plain_error(alloc),
+        _ => whole(alloc)?,
+    };
+    builder.set_message("old")?;
+    Ok(builder)
+}
+
 /// Makes a call of the builder by reference.
-fn make(call: Call, builder: &mut ReportBuilder<'_>) -> Result<(), AllocError> {
+fn make(call: &Call, builder: &mut ReportBuilder<'_>) -> Result<(), AllocError> {
     match call {
         Call::SetMessage => builder.set_message("new"),
         Call::SetNote => builder.set_note("new"),
@@ -347,34 +316,22 @@ fn make(call: Call, builder: &mut ReportBuilder<'_>) -> Result<(), AllocError> {
 }
 
 /// Refuses the nth request of a call by reference, of which a refusal changes nothing.
-fn try_call(rt: &(impl Abort + AllocGlobal), change: &(Call, Seen, Seen), nth: usize) -> bool
-    requires { nth < 100000 }
-{
-    let (call, before, after) = change;
-    let mut builder = match *call {
-        Call::AddLabel => plain_error(rt.alloc()),
-        _ => labelled(rt.alloc())
-            .expect(rt, "memory")
-            .with_help("old")
-            .expect(rt, "memory")
-            .with_note("old")
-            .expect(rt, "memory"),
-    };
-    builder.set_message("old").expect(rt, "memory");
-    let name = format!(in rt.alloc(); "{call:?}").expect(rt, "memory");
-    refuse(rt.alloc(), nth);
-    let answer = make(*call, &mut builder);
-    let is_refused = assert_refused(rt, name.as_str(), nth, answer.is_err());
-    let seen = if is_refused { before } else { after };
-    assert_seen(rt, name.as_str(), &builder.finish(), seen);
+fn try_call(rt: &(impl Abort + AllocGlobal), row: &(Call, &str, Rows, Rows), nth: u16) -> bool {
+    let (call, name, before, behind) = row;
+    let mut builder = called(rt.alloc(), call).expect(rt, "memory");
+    refuse_at(rt, nth);
+    let has_failed = make(call, &mut builder).is_err();
+    let is_refused = assert_refused(rt, (*name, nth), has_failed);
+    let pieces = if is_refused { *before } else { *behind };
+    assert_seen(rt, *name, &builder.finish(), pieces);
     is_refused
 }
 
 #[test]
 fn a_refused_call_by_reference_changes_nothing(rt: HostRuntime) {
-    for call in CALLS {
+    for row in CALLS {
         for nth in 1..MOST_REQUESTS {
-            if !try_call(&rt, call, nth) {
+            if !try_call(&rt, row, nth) {
                 break;
             }
         }
@@ -384,141 +341,150 @@ fn a_refused_call_by_reference_changes_nothing(rt: HostRuntime) {
 /// The texts of helps or notes.
 const TEXTS: [&str; 3] = ["first", "second", "third"];
 
-/// The rows of none of these helps, of the first, of two and of all.
-const HELPS: [&[&str]; 4] = [
-    &[],
-    &["   |", "   | Help: first"],
-    &["   |", "   | Help 1: first", "   |", "   | Help 2: second"],
+/// The pictures of none of these helps, of the first, of two and of all.
+const HELPS: &[Rows] = &[
+    LABELLED,
+    &[HEADER, LABEL, &["   |", "   | Help: first"], TAIL],
     &[
-        "   |",
-        "   | Help 1: first",
-        "   |",
-        "   | Help 2: second",
-        "   |",
-        "   | Help 3: third",
+        HEADER,
+        LABEL,
+        &["   |", "   | Help 1: first", "   |", "   | Help 2: second"],
+        TAIL,
+    ],
+    &[
+        HEADER,
+        LABEL,
+        &["   |", "   | Help 1: first", "   |", "   | Help 2: second"],
+        &["   |", "   | Help 3: third"],
+        TAIL,
     ],
 ];
 
-/// The rows of none of these notes, of the first, of two and of all.
-const NOTES: [&[&str]; 4] = [
-    &[],
-    &["   |", "   | Note: first"],
-    &["   |", "   | Note 1: first", "   |", "   | Note 2: second"],
+/// The pictures of none of these notes, of the first, of two and of all.
+const NOTES: &[Rows] = &[
+    LABELLED,
+    &[HEADER, LABEL, &["   |", "   | Note: first"], TAIL],
     &[
-        "   |",
-        "   | Note 1: first",
-        "   |",
-        "   | Note 2: second",
-        "   |",
-        "   | Note 3: third",
+        HEADER,
+        LABEL,
+        &["   |", "   | Note 1: first", "   |", "   | Note 2: second"],
+        TAIL,
+    ],
+    &[
+        HEADER,
+        LABEL,
+        &["   |", "   | Note 1: first", "   |", "   | Note 2: second"],
+        &["   |", "   | Note 3: third"],
+        TAIL,
     ],
 ];
 
-/// How many of the texts stand in the picture of a report.
-fn count_texts(rt: &impl AllocGlobal, report: &Report<'_>) -> Result<usize, Mismatch> {
-    let mut source = source_of(rt.alloc(), "ab")?;
-    let (picture, _) = written(rt, report, &mut source)?;
-    Ok(TEXTS.iter().filter(|text| picture.contains(**text)).count())
+/// Adds the texts as helps or as notes.
+fn add_texts(builder: &mut ReportBuilder<'_>, is_help: bool) -> Result<(), AllocError> {
+    if is_help {
+        builder.with_helps(TEXTS)
+    } else {
+        builder.with_notes(TEXTS)
+    }
 }
 
-/// The report to which the texts are added as helps or notes, until the nth request, and whether
-/// that was refused.
-fn with_texts(rt: &(impl Abort + AllocGlobal), is_help: bool, nth: usize) -> (Report<'static>, bool)
-    requires { nth < 100000 }
-{
-    let mut builder = labelled(rt.alloc()).expect(rt, "memory");
-    refuse(rt.alloc(), nth);
-    let has_failed = if is_help {
-        builder.with_helps(TEXTS).is_err()
+/// Asserts that a report has the first of the texts, and all where none was refused. Returns how
+/// many it has.
+fn assert_texts(
+    rt: &(impl Abort + AllocGlobal),
+    report: &Report<'_>,
+    is_help: bool,
+    is_refused: bool,
+) -> usize {
+    let (texts, pictures) = if is_help {
+        (report.helps(), HELPS)
     } else {
-        builder.with_notes(TEXTS).is_err()
+        (report.notes(), NOTES)
     };
-    let is_refused = assert_refused(rt, "texts", nth, has_failed);
-    (builder.finish(), is_refused)
+    let added = texts.len();
+    assert_eq!(rt; added < 3, is_refused);
+    match pictures.get(added) {
+        Some(pieces) => assert_seen(rt, "texts", report, *pieces),
+        None => panic!(rt; "more texts than were added"),
+    }
+    added
 }
 
 /// Refuses the nth request of adding helps or notes, and returns how many were added.
-fn try_texts(
-    rt: &(impl Abort + AllocGlobal),
-    rows: &[&'static [&'static str]; 4],
-    is_help: bool,
-    nth: usize,
-) -> usize
-    requires { nth < 100000 }
-{
-    let (report, is_refused) = with_texts(rt, is_help, nth);
-    let added = count_texts(rt, &report).expect(rt, "a picture");
-    assert_eq!(rt; added < 3, is_refused, "at request {nth}");
-    let seen = Seen {
-        asides: rows[added.min(3)],
-        ..LABELLED
-    };
-    assert_seen(rt, "texts", &report, &seen);
-    added
+fn try_texts(rt: &(impl Abort + AllocGlobal), is_help: bool, nth: u16) -> usize {
+    let mut builder = labelled(rt.alloc()).expect(rt, "memory");
+    refuse_at(rt, nth);
+    let has_failed = add_texts(&mut builder, is_help).is_err();
+    let is_refused = assert_refused(rt, ("texts", nth), has_failed);
+    assert_texts(rt, &builder.finish(), is_help, is_refused)
+}
+
+/// Refuses each request of adding helps or notes. A later one leaves no fewer of them.
+fn try_each_text(rt: &(impl Abort + AllocGlobal), is_help: bool) {
+    let mut most = 0;
+    for nth in 1..MOST_REQUESTS {
+        let added = try_texts(rt, is_help, nth);
+        assert_at(rt, ("texts", nth), "the count", added >= most);
+        most = added;
+        if added == 3 {
+            return;
+        }
+    }
+    panic!(rt; "every request was refused")
 }
 
 #[test]
 fn of_refused_helps_and_notes_those_before_stay(rt: HostRuntime) {
-    for (is_help, rows) in [(true, HELPS), (false, NOTES)] {
-        let mut most = 0;
-        for nth in 1..MOST_REQUESTS {
-            let added = try_texts(&rt, &rows, is_help, nth);
-            assert!(rt; added >= most, "at request {nth}");
-            most = added;
-            if added == 3 {
-                break;
-            }
-        }
-        assert_eq!(rt; most, 3);
-    }
+    try_each_text(&rt, true);
+    try_each_text(&rt, false)
 }
 
 /// Nine labels of one character that say `x`.
-fn nine_labels(rt: &(impl Abort + AllocGlobal)) -> Vec<Label> {
-    let mut labels = Vec::new(rt.alloc());
+fn nine_labels(alloc: Global) -> Result<Vec<Label>, AllocError> {
+    let mut labels = Vec::new(alloc);
     for _ in 0..9 {
-        let label = Label::new(0..1).with_message(rt.alloc(), "x");
-        labels.push(label.expect(rt, "memory")).expect(rt, "memory");
+        labels.push(Label::new(0..1).with_message(alloc, "x")?)?;
     }
-    labels
+    Ok(labels)
 }
 
-/// How many of them stand in the picture of a report.
-fn count_labels(rt: &(impl Abort + AllocGlobal), report: &Report<'_>) -> usize {
-    let mut source = source_of(rt.alloc(), "ab").expect(rt, "memory");
-    let (picture, _) = written(rt, report, &mut source).expect(rt, "a picture");
-    let rows = picture.split_terminator('\n');
-    rows.filter(|row| row.ends_with("`-- x")).count()
-}
-
-/// Asserts that a report has so many of them.
-fn assert_labels(rt: &(impl Abort + AllocGlobal), report: &Report<'_>, count: usize) {
-    let mut middle = Vec::new(rt.alloc());
-    if count > 0 {
-        middle.extend_from_slice(SILENT).expect(rt, "memory");
-    }
+/// The rows of so many of them.
+fn rows_of_labels(alloc: Global, count: usize) -> Result<Vec<&'static str>, AllocError> {
+    let mut rows = rows_of(
+        alloc,
+        if count == 0 {
+            &[HEADER]
+        } else {
+            &[HEADER, SILENT]
+        },
+    )?;
     for _ in 0..count {
-        middle
-            .extend_from_slice(&["   | |", "   | `-- x"])
-            .expect(rt, "memory");
+        rows.extend_from_slice(&["   | |", "   | `-- x"])?;
     }
-    assert_rows(rt, "add_labels", report, ("Error:", &middle, &[]))
+    if count > 0 {
+        rows.push("---'")?;
+    }
+    Ok(rows)
+}
+
+/// Asserts that a report has the first of them, and all where none was refused. Returns how many it
+/// has.
+fn assert_labels(rt: &(impl Abort + AllocGlobal), report: &Report<'_>, is_refused: bool) -> usize {
+    let added = report.labels().len();
+    assert_eq!(rt; added < 9, is_refused);
+    let rows = rows_of_labels(rt.alloc(), added).expect(rt, "memory");
+    assert_picture(rt, report, "ab", &rows).expect(rt, "add_labels");
+    added
 }
 
 /// Refuses the nth request of adding labels, and returns how many were added.
-fn try_labels(rt: &(impl Abort + AllocGlobal), nth: usize) -> usize
-    requires { nth < 100000 }
-{
-    let labels = nine_labels(rt);
+fn try_labels(rt: &(impl Abort + AllocGlobal), nth: u16) -> usize {
+    let labels = nine_labels(rt.alloc()).expect(rt, "memory");
     let mut builder = plain_error(rt.alloc());
-    refuse(rt.alloc(), nth);
-    let answer = builder.add_labels(labels);
-    let is_refused = assert_refused(rt, "add_labels", nth, answer.is_err());
-    let report = builder.finish();
-    let added = count_labels(rt, &report);
-    assert_eq!(rt; added < 9, is_refused, "at request {nth}");
-    assert_labels(rt, &report, added);
-    added
+    refuse_at(rt, nth);
+    let has_failed = builder.add_labels(labels).is_err();
+    let is_refused = assert_refused(rt, ("add_labels", nth), has_failed);
+    assert_labels(rt, &builder.finish(), is_refused)
 }
 
 #[test]
@@ -526,7 +492,8 @@ fn of_refused_labels_those_before_stay(rt: HostRuntime) {
     let mut most = 0;
     for nth in 1..MOST_REQUESTS {
         let added = try_labels(&rt, nth);
-        assert!(rt; nth == 1 || added > most, "at request {nth}");
+        let has_more = nth == 1 || added > most;
+        assert_at(&rt, ("add_labels", nth), "the count", has_more);
         most = added;
         if added == 9 {
             return;

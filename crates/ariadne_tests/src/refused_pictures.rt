@@ -1,21 +1,25 @@
 //! Pictures when memory is refused: each request in turn, until a call meets no refusal.
 
-ghost use Rattle.std.specs.Prelude.{◌<◌};
-
-use crate::refused::{MOST_REQUESTS, assert_refused};
+use crate::refused::{MOST_REQUESTS, assert_at, assert_refused, refuse_at};
+use crate::refused_sources::holds;
 use crate::writers::Drain;
 use ariadne::{
     Cache, Color, Config, FnCache, Label, LeftOut, Report, ReportBuilder, ReportKind, Sink,
     WriteError,
 };
-use ariadne_asserts::asserts::{Piece, Why, assert_left_out, assert_trimmed, plain, written};
-use ariadne_fakes::{Taker, refuse};
+use ariadne_asserts::asserts::{
+    Mismatch, Piece, Why, assert_left_out, assert_trimmed, plain, written,
+};
+use ariadne_fakes::Taker;
 use std::alloc::{AllocError, Global};
 use std::io::Stderr;
 use std::process::Abort;
 
-/// The labels of a report over two sources and one that can't be had.
-const LABELS: [(&str, usize, usize, &str); 6] = [
+/// The texts of two sources, under their ids. There is no other.
+const TEXTS: &[(&str, &str)] = &[("x", "aa\nbb\ncc\ndd"), ("y", "e\nf\n\tg")];
+
+/// The labels of a report over these and a source that can't be had.
+const LABELS: &[(&str, usize, usize, &str)] = &[
     ("x", 1, 4, "mid"),
     ("x", 0, 11, "all"),
     ("x", 12, 12, "past"),
@@ -25,10 +29,10 @@ const LABELS: [(&str, usize, usize, &str); 6] = [
 ];
 
 /// The labels that are left out.
-const LEFT_OUT: [(usize, Why); 2] = [(2, Why::PastSource), (3, Why::Unfetched)];
+const LEFT_OUT: &[(usize, Why)] = &[(2, Why::PastSource), (3, Why::Unfetched)];
 
 /// The rows of the report, with a code, a help and a note of two lines, but for its colours.
-const ROWS: [&str; 29] = [
+const ROWS: &[&str] = &[
     "[03] Error: m",
     "   ,-[ x:1:2 ]",
     "   |",
@@ -60,7 +64,7 @@ const ROWS: [&str; 29] = [
     "---'",
 ];
 
-/// The texts of `x` and `y`, and no other.
+/// The text of one of the ids.
 fn text_of(id: &&str) -> Result<&'static str, u8> {
     match *id {
         "x" => Ok("aa\nbb\ncc\ndd"),
@@ -79,16 +83,22 @@ fn begun(alloc: Global, config: Config) -> Result<ReportBuilder<'static, Piece>,
         .with_note("n\nk")
 }
 
+/// A label of the report.
+fn label(
+    alloc: Global,
+    (id, start, end, message): (&'static str, usize, usize, &str),
+) -> Result<Label<Piece>, AllocError> {
+    let label = Label::new((id, start..end.max(start))).with_color(Color::Fixed(70));
+    label.with_message(alloc, message)
+}
+
 /// The report.
-fn rich(rt: &(impl Abort + AllocGlobal), config: Config) -> Report<'static, Piece> {
-    let mut builder = begun(rt.alloc(), config).expect(rt, "memory");
-    for (id, start, end, message) in LABELS {
-        assert!(rt; start <= end);
-        let label = Label::new((id, start..end)).with_color(Color::Fixed(70));
-        let label = label.with_message(rt.alloc(), message).expect(rt, "memory");
-        builder = builder.with_label(label).expect(rt, "memory");
+fn rich(alloc: Global, config: Config) -> Result<Report<'static, Piece>, AllocError> {
+    let mut builder = begun(alloc, config)?;
+    for row in LABELS {
+        builder.add_label(label(alloc, *row)?)?;
     }
-    builder.finish()
+    Ok(builder.finish())
 }
 
 /// A picture without its colours.
@@ -107,8 +117,17 @@ fn without_colors(alloc: Global, picture: &str) -> Result<String, AllocError> {
     Ok(text)
 }
 
+/// The picture of the report, which has its rows.
+fn picture_of(rt: &impl AllocGlobal, report: &Report<'static, Piece>) -> Result<String, Mismatch> {
+    let mut cache: FnCache<&'static str, _, &'static str> = FnCache::new(rt.alloc(), text_of);
+    let (picture, _) = written(rt, report, &mut cache)?;
+    let shown = without_colors(rt.alloc(), picture.as_str())?;
+    assert_trimmed(rt, shown.as_str(), ROWS)?;
+    Ok(picture)
+}
+
 /// A way to write a report.
-#[derive(Clone, Copy, Debug)]
+#[derive(Clone, Copy)]
 enum Way {
     Write,
     WriteForStdout,
@@ -117,13 +136,13 @@ enum Way {
     Eprint,
 }
 
-/// All of them.
-const WAYS: [Way; 5] = [
-    Way::Write,
-    Way::WriteForStdout,
-    Way::WriteTo,
-    Way::Print,
-    Way::Eprint,
+/// All of them, each with its name and whether it hands on what is sent.
+const WAYS: &[(Way, &str, bool)] = &[
+    (Way::Write, "write", true),
+    (Way::WriteForStdout, "write_for_stdout", true),
+    (Way::WriteTo, "write_to", true),
+    (Way::Print, "print", false),
+    (Way::Eprint, "eprint", false),
 ];
 
 /// Writes a report.
@@ -157,17 +176,15 @@ fn roomy(alloc: Global) -> Result<Drain, AllocError> {
     })
 }
 
-/// Asserts that a cache holds sources of labels alone, and each of them whole.
-fn assert_grown<C: Cache<&'static str>>(rt: &impl Abort, cache: &C, is_whole: bool, nth: usize) {
-    for (id, text) in [("x", "aa\nbb\ncc\ndd"), ("y", "e\nf\n\tg")] {
-        match cache.get(&id) {
-            Some(source) => assert!(rt; source.text() == text, "{id} at request {nth}"),
-            None => assert!(rt; !is_whole, "{id} at request {nth}"),
+/// Whether a cache holds sources of labels alone, and each of them whole.
+fn has_grown<C: Cache<&'static str>>(cache: &C, is_whole: bool) -> bool {
+    for (id, text) in TEXTS {
+        let is_held = holds(cache, id, Some(*text));
+        if !is_held && (is_whole || !holds(cache, id, None)) {
+            return false;
         }
     }
-    for id in ["z", "r"] {
-        assert!(rt; cache.get(&id).is_none(), "{id} at request {nth}");
-    }
+    holds(cache, &"z", None) && holds(cache, &"r", None)
 }
 
 /// Asserts that over a cache the whole picture is written.
@@ -176,76 +193,86 @@ fn assert_whole<C: Cache<&'static str>>(
     report: &Report<'static, Piece>,
     cache: &mut C,
     picture: &str,
-    nth: usize,
 )
     requires { C.can_fetch cache.old }
     ensures { C.can_fetch cache.new }
 {
     let (shown, left_out) = written(rt, report, cache).expect(rt, "a picture");
-    assert_left_out(&left_out, &LEFT_OUT).expect(rt, "the labels");
-    assert_eq!(rt; shown.as_str(), picture, "at request {nth}");
+    assert_left_out(&left_out, LEFT_OUT).expect(rt, "the labels");
+    assert_eq!(rt; shown.as_str(), picture)
 }
 
 /// Asserts which labels are left out, or that there was no memory.
-fn assert_answer<E: Drop>(
+pub(crate) fn assert_answer<E: Drop>(
     rt: &impl Abort,
     answer: Result<Vec<LeftOut<E>>, WriteError>,
-    nth: usize,
+    wanted: &[(usize, Why)],
 ) {
     match answer {
-        Ok(left_out) => assert_left_out(&left_out, &LEFT_OUT).expect(rt, "the labels"),
-        Err(error) => assert!(rt; matches!(error, WriteError::Memory(_)), "at request {nth}"),
+        Ok(left_out) => assert_left_out(&left_out, wanted).expect(rt, "the labels"),
+        Err(error) => assert!(rt; matches!(error, WriteError::Memory(_))),
     }
 }
 
-/// Refuses the nth request of a way to write the report, of which a refusal sends nothing. With
-/// memory the whole picture is sent over the same cache.
+/// Refuses the nth request of a way to write the report, of which a refusal sends nothing.
+fn try_sent<C: Cache<&'static str>>(
+    rt: &(impl Abort + AllocGlobal + Print),
+    stderr: Stderr,
+    report: &Report<'static, Piece>,
+    row: &(Way, &str, bool),
+    cache: &mut C,
+    picture: &str,
+    nth: u16,
+) -> bool
+    requires { C.can_fetch cache.old }
+    ensures { C.can_fetch cache.new }
+{
+    let (way, name, is_held) = *row;
+    let mut out = roomy(rt.alloc()).expect(rt, "memory");
+    refuse_at(rt, nth);
+    let answer = sent(rt, stderr, report, way, cache, &mut out);
+    let is_refused = assert_refused(rt, (name, nth), answer.is_err());
+    assert_answer(rt, answer, LEFT_OUT);
+    assert_at(rt, (name, nth), "the sink", !out.failed());
+    let held = if is_held && !is_refused { picture } else { "" };
+    let is_sent = out.narrow.held.as_slice() == held.as_bytes();
+    assert_at(rt, (name, nth), "the picture", is_sent);
+    is_refused
+}
+
+/// Refuses the nth request of a way to write the report. With memory the whole picture is sent over
+/// the same cache.
 fn try_way(
     rt: &(impl Abort + AllocGlobal + Print),
     stderr: Stderr,
     report: &Report<'static, Piece>,
-    way: Way,
+    way: &(Way, &str, bool),
     picture: &str,
-    nth: usize,
-) -> bool
-    requires { nth < 100000 }
-{
-    let alloc = rt.alloc();
-    let name = format!(in alloc; "{way:?}").expect(rt, "memory");
-    let mut cache: FnCache<&'static str, _, &'static str> = FnCache::new(alloc, text_of);
-    let mut out = roomy(alloc).expect(rt, "memory");
-    refuse(alloc, nth);
-    let answer = sent(rt, stderr, report, way, &mut cache, &mut out);
-    let is_refused = assert_refused(rt, name.as_str(), nth, answer.is_err());
-    assert_grown(rt, &cache, !is_refused, nth);
-    assert!(rt; !out.failed(), "of {way:?} at request {nth}");
-    assert_answer(rt, answer, nth);
-    let is_held = !is_refused && !matches!(way, Way::Print | Way::Eprint);
-    let held = if is_held { picture } else { "" };
-    assert_eq!(rt;
-        out.narrow.held.as_slice(),
-        held.as_bytes(),
-        "of {way:?} at request {nth}"
-    );
-    assert_whole(rt, report, &mut cache, picture, nth);
+    nth: u16,
+) -> bool {
+    let mut cache: FnCache<&'static str, _, &'static str> = FnCache::new(rt.alloc(), text_of);
+    let is_refused = try_sent(rt, stderr, report, way, &mut cache, picture, nth);
+    let is_grown = has_grown(&cache, !is_refused);
+    assert_at(rt, (way.1, nth), "the cache", is_grown);
+    assert_whole(rt, report, &mut cache, picture);
     is_refused
+}
+
+/// Refuses each request of each way to write the report of a configuration.
+fn try_ways(rt: &(impl Abort + AllocGlobal + Print), stderr: Stderr, config: Config) {
+    let report = rich(rt.alloc(), config).expect(rt, "memory");
+    let picture = picture_of(rt, &report).expect(rt, "the picture");
+    for way in WAYS {
+        for nth in 1..MOST_REQUESTS {
+            if !try_way(rt, stderr, &report, way, picture.as_str(), nth) {
+                break;
+            }
+        }
+    }
 }
 
 #[test]
 fn a_refused_picture_sends_nothing_and_the_next_is_whole(rt: HostRuntime) {
-    let alloc = rt.alloc();
-    for config in [plain(), plain().with_color(true)] {
-        let report = rich(&rt, config);
-        let mut cache: FnCache<&'static str, _, &'static str> = FnCache::new(alloc, text_of);
-        let (picture, _) = written(&rt, &report, &mut cache).expect(&rt, "a picture");
-        let shown = without_colors(alloc, picture.as_str()).expect(&rt, "memory");
-        assert_trimmed(&rt, shown.as_str(), &ROWS).expect(&rt, "the picture");
-        for way in WAYS {
-            for nth in 1..MOST_REQUESTS {
-                if !try_way(&rt, rt.stderr(), &report, way, picture.as_str(), nth) {
-                    break;
-                }
-            }
-        }
-    }
+    try_ways(&rt, rt.stderr(), plain());
+    try_ways(&rt, rt.stderr(), plain().with_color(true))
 }

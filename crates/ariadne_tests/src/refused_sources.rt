@@ -1,62 +1,97 @@
 //! Sources and caches when memory is refused: each request in turn, until a call meets no refusal.
 
-ghost use Rattle.std.specs.Prelude.{◌<◌};
-
-use crate::refused::{MOST_REQUESTS, assert_refused};
-use ariadne::{Cache, FetchError, FileCache, FnCache, Source, SourceTable, sources};
-use ariadne_fakes::{Folder, refuse};
+use crate::refused::{At, MOST_REQUESTS, assert_at, assert_refused, refuse_at};
+use ariadne::{Cache, FetchError, FileCache, FnCache, Source, SourceTable, SourceText, sources};
+use ariadne_asserts::asserts::source_of;
+use ariadne_fakes::Folder;
+use std::alloc::{AllocError, Global};
 use std::cell::Cell;
 use std::collections::HashMap;
 use std::fs::Files;
+use std::io;
 use std::process::Abort;
 
-/// Refuses the nth request of making a source.
-fn try_source(rt: &(impl Abort + AllocGlobal), nth: usize) -> bool
-    requires { nth < 100000 }
-{
-    refuse(rt.alloc(), nth);
-    let source = Source::from(rt.alloc(), "a\nb\nc");
-    let is_refused = assert_refused(rt, "from", nth, source.is_err());
-    if let Ok(source) = source {
-        assert_eq!(rt; source.text(), "a\nb\nc");
-        assert_eq!(rt; source.lines().len(), 3);
+/// The text of the sources that are made.
+const LINES: &str = "a\nb\nc";
+
+/// Whether a source has this text, and its three lines.
+fn has_lines<T: SourceText>(source: &Source<T>) -> bool {
+    source.text() == LINES && source.lines().len() == 3
+}
+
+/// Whether a cache holds this text under an id, or none.
+pub(crate) fn holds<Id: Eq, C: Cache<Id>>(cache: &C, id: &Id, text: Option<&str>) -> bool {
+    match C::get(cache, id) {
+        Some(source) => text == Some(source.text()),
+        None => text.is_none(),
     }
-    is_refused
+}
+
+/// Whether a source can't be made. One that can is whole.
+fn source_fails(rt: &(impl Abort + AllocGlobal)) -> bool {
+    match Source::from(rt.alloc(), LINES) {
+        Ok(source) => {
+            assert!(rt; has_lines(&source));
+            false
+        }
+        Err(_) => true,
+    }
+}
+
+/// Refuses the nth request of making a source.
+fn try_source(rt: &(impl Abort + AllocGlobal), nth: u16) -> bool {
+    refuse_at(rt, nth);
+    assert_refused(rt, ("from", nth), source_fails(rt))
+}
+
+/// Whether a source can't be copied. A copy of it equals it.
+fn copy_fails(rt: &(impl Abort + AllocGlobal), source: &Source) -> bool {
+    match source.clone() {
+        Ok(copy) => {
+            assert!(rt; copy == *source);
+            false
+        }
+        Err(_) => true,
+    }
 }
 
 /// Refuses the nth request of a copy of a source, which keeps the source as it was.
-fn try_copy(rt: &(impl Abort + AllocGlobal), nth: usize) -> bool
-    requires { nth < 100000 }
-{
-    let source = Source::from(
-        rt.alloc(),
-        "a\nb\nc".to_string(rt.alloc()).expect(rt, "memory"),
-    )
-    .expect(rt, "memory");
-    refuse(rt.alloc(), nth);
-    let copy = source.clone();
-    let is_refused = assert_refused(rt, "clone", nth, copy.is_err());
-    if let Ok(copy) = copy {
-        assert!(rt; copy == source);
+fn try_copy(rt: &(impl Abort + AllocGlobal), nth: u16) -> bool {
+    let source = source_of(rt.alloc(), LINES).expect(rt, "memory");
+    refuse_at(rt, nth);
+    let has_failed = copy_fails(rt, &source);
+    assert!(rt; has_lines(&source));
+    assert_refused(rt, ("clone", nth), has_failed)
+}
+
+/// Whether a map of sources can't be made. In one that can the last text of an id counts.
+fn map_fails(rt: &(impl Abort + AllocGlobal)) -> bool {
+    match sources(rt.alloc(), [("a", "x"), ("b", "y"), ("a", "z")]) {
+        Ok(map) => {
+            assert!(rt; holds(&map, &"a", Some("z")) && holds(&map, &"b", Some("y")));
+            false
+        }
+        Err(_) => true,
     }
-    assert_eq!(rt; source.text(), "a\nb\nc");
-    assert_eq!(rt; source.lines().len(), 3);
-    is_refused
 }
 
 /// Refuses the nth request of a map of sources.
-fn try_sources(rt: &(impl Abort + AllocGlobal), nth: usize) -> bool
-    requires { nth < 100000 }
-{
-    refuse(rt.alloc(), nth);
-    let map = sources(rt.alloc(), [("a", "x"), ("b", "y"), ("a", "z")]);
-    let is_refused = assert_refused(rt, "sources", nth, map.is_err());
-    if let Ok(map) = map {
-        for (id, text) in [("a", "z"), ("b", "y")] {
-            assert_eq!(rt; map.get(&id).map(|source| source.text()), Some(text));
-        }
+fn try_map(rt: &(impl Abort + AllocGlobal), nth: u16) -> bool {
+    refuse_at(rt, nth);
+    assert_refused(rt, ("sources", nth), map_fails(rt))
+}
+
+/// The ids of the sources that a cache is given.
+const GIVEN: &[&str] = &["a", "b", "c", "d"];
+
+/// These sources.
+fn given(alloc: Global) -> Result<HashMap<&'static str, Source<&'static str>>, AllocError> {
+    let mut given = HashMap::new(alloc);
+    for id in GIVEN {
+        let source = Source::from(alloc, "given")?;
+        given.insert(*id, source)?;
     }
-    is_refused
+    Ok(given)
 }
 
 /// A function that has a source for every id.
@@ -64,214 +99,271 @@ fn got(_id: &&str) -> Result<&'static str, u8> {
     Ok("got")
 }
 
-/// Refuses the nth request of giving a cache sources, which drops it.
-fn try_given(rt: &(impl Abort + AllocGlobal), nth: usize) -> bool
-    requires { nth < 100000 }
-{
-    let alloc = rt.alloc();
-    let cache: FnCache<&str, _, &str> = FnCache::new(alloc, got);
-    let mut given = HashMap::new(alloc);
-    for id in ["a", "b", "c", "d"] {
-        let source = Source::from(alloc, "given").expect(rt, "memory");
-        assert!(rt; given.insert(id, source).is_ok());
-    }
-    refuse(alloc, nth);
-    let cache = cache.with_sources(given);
-    let is_refused = assert_refused(rt, "with_sources", nth, cache.is_err());
-    if let Ok(cache) = cache {
-        for id in ["a", "b", "c", "d"] {
-            assert_eq!(rt; cache.get(&id).map(|source| source.text()), Some("given"));
+/// Whether a cache can't be given sources. One that can holds them.
+fn giving_fails(
+    rt: &(impl Abort + AllocGlobal),
+    given: HashMap<&'static str, Source<&'static str>>,
+) -> bool {
+    let cache: FnCache<&'static str, _, &'static str> = FnCache::new(rt.alloc(), got);
+    match cache.with_sources(given) {
+        Ok(cache) => {
+            for id in GIVEN {
+                assert!(rt; holds(&cache, id, Some("given")));
+            }
+            false
         }
+        Err(_) => true,
     }
-    is_refused
+}
+
+/// Refuses the nth request of giving a cache sources, which drops it.
+fn try_given(rt: &(impl Abort + AllocGlobal), nth: u16) -> bool {
+    let given = given(rt.alloc()).expect(rt, "memory");
+    refuse_at(rt, nth);
+    assert_refused(rt, ("with_sources", nth), giving_fails(rt, given))
 }
 
 /// Refuses the nth request of adding a source to a table, which then has none.
-fn try_table(rt: &(impl Abort + AllocGlobal), nth: usize) -> bool
-    requires { nth < 100000 }
-{
+fn try_table(rt: &(impl Abort + AllocGlobal), nth: u16) -> bool {
     let mut table = SourceTable::new(rt.alloc());
-    refuse(rt.alloc(), nth);
-    let number = table.add("abc.txt", "a\nb\nc");
-    let is_refused = assert_refused(rt, "add", nth, number.is_err());
-    let text = table.get(&0).map(|source| source.text());
-    assert_eq!(rt; text, if is_refused { None } else { Some("a\nb\nc") });
+    refuse_at(rt, nth);
+    let has_failed = table.add("abc.txt", LINES).is_err();
+    let is_refused = assert_refused(rt, ("add", nth), has_failed);
+    let text = if is_refused { None } else { Some(LINES) };
+    assert!(rt; holds(&table, &0, text));
     is_refused
+}
+
+/// Refuses the nth request of making a source, or what holds some.
+fn try_made(rt: &(impl Abort + AllocGlobal), made: u8, nth: u16) -> bool {
+    match made {
+        0 => try_source(rt, nth),
+        1 => try_copy(rt, nth),
+        2 => try_map(rt, nth),
+        3 => try_given(rt, nth),
+        _ => try_table(rt, nth),
+    }
 }
 
 #[test]
 fn a_refused_source_is_an_error(rt: HostRuntime) {
-    for made in 0..5 {
+    for made in 0..5u8 {
         for nth in 1..MOST_REQUESTS {
-            let is_refused = match made {
-                0 => try_source(&rt, nth),
-                1 => try_copy(&rt, nth),
-                2 => try_sources(&rt, nth),
-                3 => try_given(&rt, nth),
-                _ => try_table(&rt, nth),
-            };
-            if !is_refused {
+            if !try_made(&rt, made, nth) {
                 break;
             }
         }
     }
 }
 
-/// Whether a cache holds this text under an id, or none.
-fn holds<Id: Eq, C: Cache<Id>>(cache: &C, id: &Id, text: Option<&str>) -> bool {
-    match C::get(cache, id) {
-        Some(source) => text == Some(source.text()),
-        None => text.is_none(),
-    }
+/// Whether a cache has a source of an id, fetched where it was not held, which it then holds. Where
+/// it is to have none, whether the fetch fails otherwise than for want of memory.
+fn is_fetched<Id: Eq, C: Cache<Id>>(cache: &mut C, id: &Id, text: Option<&str>) -> bool
+    requires { C.can_fetch cache.old }
+    ensures { C.can_fetch cache.new }
+{
+    let is_failed = matches!(C::ensure(cache, id), Err(FetchError::Failed(_)));
+    is_failed == text.is_none() && holds(cache, id, text)
 }
 
-/// Refuses the nth request of a fetch from a cache that holds `held` under one id, and is to have
-/// this text under the other, or none. A refusal leaves the cache as it was, and the next fetch
-/// succeeds.
+/// Whether a fetch has no memory.
+fn lacks_memory<Id: Eq, C: Cache<Id>>(cache: &mut C, id: &Id) -> bool
+    requires { C.can_fetch cache.old }
+    ensures { C.can_fetch cache.new }
+{
+    matches!(C::ensure(cache, id), Err(FetchError::Memory(_)))
+}
+
+/// Asserts that a cache is as it was after a refused fetch, or holds what was fetched, and that the
+/// next fetch succeeds. Its `held` is held all the while.
+fn assert_fetched<Id: Eq, C: Cache<Id>>(
+    rt: &(impl Abort + AllocGlobal),
+    at: At<'_>,
+    cache: &mut C,
+    ids: (&Id, &Id),
+    text: Option<&str>,
+    is_refused: bool,
+)
+    requires { C.can_fetch cache.old }
+    ensures { C.can_fetch cache.new }
+{
+    let (held, id) = ids;
+    let now = if is_refused { None } else { text };
+    assert_at(rt, at, "what is fetched", holds(cache, id, now));
+    assert_at(rt, at, "what was held", holds(cache, held, Some("held")));
+    assert_at(rt, at, "the next fetch", is_fetched(cache, id, text))
+}
+
+/// Refuses the nth request of a fetch from a cache that has `held` under one id, and is to have
+/// this text under the other, or none.
 fn try_fetch<Id: Eq, C: Cache<Id>>(
     rt: &(impl Abort + AllocGlobal),
-    name: &str,
+    at: At<'_>,
     cache: &mut C,
-    held: &Id,
-    id: &Id,
+    ids: (&Id, &Id),
     text: Option<&str>,
-    nth: usize,
 ) -> bool
-    requires can { C.can_fetch cache.old }
-    requires few { nth < 100000 }
+    requires { C.can_fetch cache.old }
 {
-    assert!(rt;
-        holds(cache, held, Some("held")),
-        "of {name} at request {nth}"
-    );
-    refuse(rt.alloc(), nth);
-    let answer = C::ensure(cache, id);
-    let is_memory = matches!(answer, Err(FetchError::Memory(_)));
-    let is_refused = assert_refused(rt, name, nth, is_memory);
-    let now = if is_refused { None } else { text };
-    assert!(rt; holds(cache, id, now), "of {name} at request {nth}");
-    assert!(rt;
-        holds(cache, held, Some("held")),
-        "of {name} at request {nth}"
-    );
-    let answer = C::ensure(cache, id);
-    let is_failed = matches!(answer, Err(FetchError::Failed(_)));
-    assert_eq!(rt; is_failed, text.is_none(), "of {name} at request {nth}");
-    assert!(rt; holds(cache, id, text), "of {name} at request {nth}");
+    assert!(rt; is_fetched(cache, ids.0, Some("held")));
+    refuse_at(rt, at.1);
+    let is_refused = assert_refused(rt, at, lacks_memory(cache, ids.1));
+    assert_fetched(rt, at, cache, ids, text, is_refused);
     is_refused
+}
+
+/// The texts of a function that counts its calls.
+fn counted(calls: &Cell<u8>, id: &String) -> Result<&'static str, u8> {
+    calls.set(calls.get().wrapping_add(1));
+    if id.as_str() == "held" {
+        Ok("held")
+    } else {
+        Ok("got")
+    }
 }
 
 /// Refuses the nth request of a fetch from a function, by either call. The function is called at
 /// most once.
-fn try_function(rt: &(impl Abort + AllocGlobal), is_lent: bool, nth: usize) -> bool
-    requires { nth < 100000 }
-{
-    let alloc = rt.alloc();
+fn try_function(
+    rt: &(impl Abort + AllocGlobal),
+    (held, id): &(String, String),
+    is_lent: bool,
+    nth: u16,
+) -> bool {
     let calls = Cell::new(0u8);
     let mut cache: FnCache<String, _, &str> = FnCache::new(
-        alloc,
-        |id: &String| -> Result<&str, u8> {
-            calls.set(calls.get().wrapping_add(1));
-            if id.as_str() == "held" {
-                Ok("held")
-            } else {
-                Ok("got")
-            }
-        },
+        rt.alloc(),
+        |id: &String| -> Result<&str, u8> { counted(&calls, id) },
     );
-    let held = "held".to_string(alloc).expect(rt, "memory");
-    let id = "x".to_string(alloc).expect(rt, "memory");
-    assert!(rt; cache.ensure(&held).is_ok());
+    assert!(rt; cache.ensure(held).is_ok());
     calls.set(0);
-    refuse(alloc, nth);
+    refuse_at(rt, nth);
     let is_memory = if is_lent {
-        matches!(cache.fetch(&id), Err(FetchError::Memory(_)))
+        matches!(cache.fetch(id), Err(FetchError::Memory(_)))
     } else {
-        matches!(cache.ensure(&id), Err(FetchError::Memory(_)))
+        matches!(cache.ensure(id), Err(FetchError::Memory(_)))
     };
-    let is_refused = assert_refused(rt, "a function", nth, is_memory);
-    assert!(rt; calls.get() <= 1, "at request {nth}");
-    assert!(rt; holds(&cache, &held, Some("held")), "at request {nth}");
-    assert_eq!(rt; cache.get(&id).is_none(), is_refused, "at request {nth}");
-    assert!(rt; cache.ensure(&id).is_ok(), "at request {nth}");
-    assert!(rt; holds(&cache, &id, Some("got")), "at request {nth}");
+    let at = ("a function", nth);
+    let is_refused = assert_refused(rt, at, is_memory);
+    assert_at(rt, at, "the calls", calls.get() <= 1);
+    assert_fetched(rt, at, &mut cache, (held, id), Some("got"), is_refused);
     is_refused
 }
 
-/// Refuses the nth request of a fetch from the files at two paths, by either kind of id.
-fn try_files(
+/// Refuses the nth request of a fetch from the files at two paths.
+fn try_paths(
     rt: &(impl Abort + AllocGlobal + Files),
-    held: &str,
-    id: &str,
-    is_owned: bool,
-    nth: usize,
+    (held, id): &(String, String),
+    nth: u16,
+) -> bool {
+    let mut cache = FileCache::new(rt, rt.alloc());
+    try_fetch(rt, ("files", nth), &mut cache, (held, id), Some("got"))
+}
+
+/// The same of paths that are lent.
+fn try_lent_paths(
+    rt: &(impl Abort + AllocGlobal + Files),
+    (held, id): &(String, String),
+    nth: u16,
+) -> bool {
+    let (held, id) = (held.as_str(), id.as_str());
+    let mut cache = FileCache::new(rt, rt.alloc());
+    try_fetch(rt, ("files", nth), &mut cache, (&held, &id), Some("got"))
+}
+
+/// Refuses the nth request of a fetch of an id that a cache does not know.
+fn try_unknown<C: Cache<&'static str>>(
+    rt: &(impl Abort + AllocGlobal),
+    at: At<'_>,
+    cache: &mut C,
 ) -> bool
-    requires { nth < 100000 }
+    requires { C.can_fetch cache.old }
 {
-    let alloc = rt.alloc();
-    let mut cache = FileCache::new(rt, alloc);
-    if !is_owned {
-        assert!(rt; cache.ensure(&held).is_ok());
-        return try_fetch(rt, "files", &mut cache, &held, &id, Some("got"), nth);
-    }
-    let held = held.to_string(alloc).expect(rt, "memory");
-    let id = id.to_string(alloc).expect(rt, "memory");
-    assert!(rt; cache.ensure(&held).is_ok());
-    try_fetch(rt, "files", &mut cache, &held, &id, Some("got"), nth)
+    try_fetch(rt, at, cache, (&"held", &"b"), None)
 }
 
-/// Refuses the nth request of a fetch of an id that a cache of one kind does not know.
-fn try_unknown(rt: &(impl Abort + AllocGlobal), kind: usize, nth: usize) -> bool
-    requires { nth < 100000 }
-{
-    let alloc = rt.alloc();
-    let (held, id) = (&"held", &"b");
-    let source = Source::from(alloc, "held").expect(rt, "memory");
+/// A source that such a cache knows.
+fn source(rt: &(impl Abort + AllocGlobal)) -> Source<&'static str> {
+    Source::from(rt.alloc(), "held").expect(rt, "memory")
+}
+
+/// Refuses the nth request of a fetch from a pair.
+fn try_pair(rt: &(impl Abort + AllocGlobal), nth: u16) -> bool {
+    try_unknown(rt, ("a pair", nth), &mut ("held", source(rt)))
+}
+
+/// Refuses the nth request of a fetch from a pair with a lent source.
+fn try_lent_source(rt: &(impl Abort + AllocGlobal), nth: u16) -> bool {
+    let source = source(rt);
+    try_unknown(rt, ("a lent source", nth), &mut ("held", &source))
+}
+
+/// Refuses the nth request of a fetch from a map.
+fn try_full_map(rt: &(impl Abort + AllocGlobal), nth: u16) -> bool {
+    let mut map = sources(rt.alloc(), [("held", "held")]).expect(rt, "memory");
+    try_unknown(rt, ("a map", nth), &mut map)
+}
+
+/// Refuses the nth request of a fetch from a lent pair.
+fn try_lent_pair(rt: &(impl Abort + AllocGlobal), nth: u16) -> bool {
+    let mut pair = ("held", source(rt));
+    let mut lent = &mut pair;
+    try_unknown(rt, ("a lent pair", nth), &mut lent)
+}
+
+/// Refuses the nth request of a fetch from a pair in a box.
+fn try_boxed_pair(rt: &(impl Abort + AllocGlobal), nth: u16) -> bool {
+    let mut boxed = Box::new(rt.alloc(), ("held", source(rt))).expect(rt, "memory");
+    try_unknown(rt, ("a pair in a box", nth), &mut boxed)
+}
+
+/// Two ids of a function, and the paths of two files.
+#[derive(Drop)]
+struct Names {
+    ids: (String, String),
+    paths: (String, String),
+}
+
+/// Refuses the nth request of a fetch from a cache of one kind.
+fn try_kind(rt: &(impl Abort + AllocGlobal + Files), kind: u8, names: &Names, nth: u16) -> bool {
     match kind {
-        0 => try_fetch(rt, "a pair", &mut ("held", source), held, id, None, nth),
-        1 => try_fetch(
-            rt,
-            "a lent source",
-            &mut ("held", &source),
-            held,
-            id,
-            None,
-            nth,
-        ),
-        2 => {
-            let mut map = sources(alloc, [("held", "held")]).expect(rt, "memory");
-            try_fetch(rt, "a map", &mut map, held, id, None, nth)
-        }
-        3 => {
-            let mut pair = ("held", source);
-            let mut lent = &mut pair;
-            try_fetch(rt, "a lent pair", &mut lent, held, id, None, nth)
-        }
-        _ => {
-            let mut boxed = Box::new(alloc, ("held", source)).expect(rt, "memory");
-            try_fetch(rt, "a pair in a box", &mut boxed, held, id, None, nth)
-        }
+        0 => try_pair(rt, nth),
+        1 => try_lent_source(rt, nth),
+        2 => try_full_map(rt, nth),
+        3 => try_lent_pair(rt, nth),
+        4 => try_boxed_pair(rt, nth),
+        5 => try_function(rt, &names.ids, true, nth),
+        6 => try_function(rt, &names.ids, false, nth),
+        7 => try_paths(rt, &names.paths, nth),
+        _ => try_lent_paths(rt, &names.paths, nth),
     }
 }
 
-#[test]
-fn a_refused_fetch_leaves_the_cache_as_it_was(rt: HostRuntime) {
-    let folder = Folder::new(&rt).expect(&rt, "a folder");
-    let held = folder
-        .file_of(&rt, "held.txt", b"held")
-        .expect(&rt, "a file");
-    let path = folder.file_of(&rt, "got.txt", b"got").expect(&rt, "a file");
-    for kind in 0..9 {
+/// Refuses each request of a fetch from a cache of each kind.
+fn try_kinds(rt: &(impl Abort + AllocGlobal + Files), names: &Names) {
+    for kind in 0..9u8 {
         for nth in 1..MOST_REQUESTS {
-            let is_refused = match kind {
-                0..=4 => try_unknown(&rt, kind, nth),
-                5 | 6 => try_function(&rt, kind == 5, nth),
-                _ => try_files(&rt, held.as_str(), path.as_str(), kind == 7, nth),
-            };
-            if !is_refused {
+            if !try_kind(rt, kind, names, nth) {
                 break;
             }
         }
     }
-    folder.remove(&rt).expect(&rt, "no folder")
+}
+
+/// These two texts, owned.
+fn owned(alloc: Global, held: &str, got: &str) -> Result<(String, String), AllocError> {
+    Ok((held.to_string(alloc)?, got.to_string(alloc)?))
+}
+
+#[test]
+fn a_refused_fetch_leaves_the_cache_as_it_was(rt: HostRuntime) -> io::Result<()> {
+    let folder = Folder::new(&rt)?;
+    let held = folder.file_of(&rt, "held.txt", b"held")?;
+    let got = folder.file_of(&rt, "got.txt", b"got")?;
+    let names = Names {
+        ids: owned(rt.alloc(), "held", "x")?,
+        paths: owned(rt.alloc(), held.as_str(), got.as_str())?,
+    };
+    try_kinds(&rt, &names);
+    folder.remove(&rt)
 }

@@ -2,25 +2,30 @@
 
 ghost use Rattle.std.specs.Prelude.{Some};
 
-use ariadne::{LeftOut, Report, RetryInterrupted, Sink, WriteError};
+use crate::readers::assert_text;
+use ariadne::{LeftOut, Report, RetryInterrupted, Sink, Source, WriteError};
 use ariadne_asserts::asserts::{
-    APPLE_LABELS, APPLES, Why, assert_left_out, joined, labelled, plain, plain_error, source_of,
+    APPLE_LABELS, APPLES, Mismatch, Why, assert_left_out, joined, labelled, plain, plain_error,
+    source_of,
 };
 use ariadne_fakes::Taker;
 use std::alloc::AllocError;
 use std::io;
-use std::io::{ErrorKind, Write};
+use std::io::{ErrorKind, Stderr, Write};
 use std::process::Abort;
 
 /// The bytes of the picture.
 const LEN: usize = 223;
 
 /// The report that all writers get.
-fn apples(rt: &(impl Abort + AllocGlobal)) -> Report<'static> {
-    let builder = plain_error(rt.alloc())
-        .with_message("can't compare apples with oranges")
-        .expect(rt, "memory");
-    labelled(rt, builder, &APPLE_LABELS).expect(rt, "memory")
+fn apples(rt: &impl AllocGlobal) -> Result<Report<'static>, AllocError> {
+    let builder = plain_error(rt.alloc()).with_message("can't compare apples with oranges")?;
+    labelled(rt, builder, &APPLE_LABELS)
+}
+
+/// Its source.
+fn apple_source(rt: &(impl Abort + AllocGlobal)) -> Source {
+    source_of(rt.alloc(), "apple == orange;").expect(rt, "memory")
 }
 
 /// A sink over such a writer.
@@ -77,7 +82,7 @@ impl Write for Halting {
 }
 
 /// A writer, and what comes of sending it the picture.
-#[derive(Clone, Copy)]
+#[derive(Drop)]
 struct Stop {
     name: &'static str,
     /// How many bytes it takes a call.
@@ -162,41 +167,65 @@ fn told<E: Drop>(
     }
 }
 
-/// Asserts that a writer holds what it is to hold, and met so many calls.
-fn assert_held(rt: &(impl Abort + AllocGlobal), out: &Taker, stop: &Stop) {
-    let name = stop.name;
+/// Sends the report to a writer, and returns what comes of it.
+fn sent<W: Write>(rt: &(impl Abort + AllocGlobal), out: &mut W) -> Option<(usize, ErrorKind)> {
+    let report = apples(rt).expect(rt, "memory");
+    told(rt, report.write(&mut apple_source(rt), out))
+}
+
+/// Sends it to a sink.
+fn sent_to(rt: &(impl Abort + AllocGlobal), out: &mut Drain) -> Option<(usize, ErrorKind)> {
+    let report = apples(rt).expect(rt, "memory");
+    told(rt, report.write_to(&mut apple_source(rt), out))
+}
+
+/// Asserts that these are so many of the picture's first bytes.
+fn assert_held(rt: &(impl Abort + AllocGlobal), held: &[u8], count: usize) {
     let picture = joined(rt.alloc(), &APPLES).expect(rt, "memory");
     let bytes = picture.as_bytes();
     assert_eq!(rt; bytes.len(), LEN);
-    let held = stop.held;
-    assert!(rt; held <= bytes.len());
-    assert_eq!(rt; out.held.as_slice(), &bytes[..held], "{name}, {held}");
-    assert_eq!(rt; out.calls_left, stop.calls_left, "{name}, {held}");
+    assert!(rt; count <= LEN);
+    assert_eq!(rt; held, &bytes[..count])
+}
+
+/// Asserts what comes of a writer, what it holds, and how many calls it would still serve.
+fn assert_stop(
+    rt: &(impl Abort + AllocGlobal),
+    stop: &Stop,
+    out: &Taker,
+    told: Option<(usize, ErrorKind)>,
+) {
+    let (name, held) = (stop.name, stop.held);
+    assert_eq!(rt;
+        (told, out.calls_left),
+        (stop.want, stop.calls_left),
+        "{name}, {held}"
+    );
+    assert_held(rt, out.held.as_slice(), held)
+}
+
+/// Such a writer.
+fn taker(rt: &impl AllocGlobal, stop: &Stop) -> Taker {
+    Taker::narrow(rt.alloc(), stop.room, stop.calls, stop.fault)
 }
 
 /// Asserts what comes of a writer.
 fn assert_writer(rt: &(impl Abort + AllocGlobal), stop: &Stop) {
-    let name = stop.name;
-    let mut out = Taker::narrow(rt.alloc(), stop.room, stop.calls, stop.fault);
-    let mut source = source_of(rt.alloc(), "apple == orange;").expect(rt, "memory");
-    let answer = apples(rt).write(&mut source, &mut out);
-    assert_eq!(rt; told(rt, answer), stop.want, "{name}");
-    assert_held(rt, &out, stop)
+    let mut out = taker(rt, stop);
+    let told = sent(rt, &mut out);
+    assert_stop(rt, stop, &out, told)
 }
 
 /// Asserts the same of a sink, and that it has failed where it had before or does
 /// now, and else not.
 fn assert_sink(rt: &(impl Abort + AllocGlobal), stop: &Stop, had_failed: bool) {
-    let name = stop.name;
     let mut out = Drain {
-        narrow: Taker::narrow(rt.alloc(), stop.room, stop.calls, stop.fault),
+        narrow: taker(rt, stop),
         met_fault: had_failed,
     };
-    let mut source = source_of(rt.alloc(), "apple == orange;").expect(rt, "memory");
-    let answer = apples(rt).write_to(&mut source, &mut out);
-    assert_eq!(rt; told(rt, answer), stop.want, "{name}");
-    assert_eq!(rt; out.failed(), had_failed || stop.want.is_some(), "{name}");
-    assert_held(rt, &out.narrow, stop)
+    let told = sent_to(rt, &mut out);
+    assert_eq!(rt; out.failed(), had_failed || told.is_some());
+    assert_stop(rt, stop, &out.narrow, told)
 }
 
 #[test]
@@ -211,15 +240,12 @@ fn a_writer_that_fails_holds_what_was_sent(rt: HostRuntime) {
 
 #[test]
 fn an_interrupted_write_is_tried_again_where_that_is_asked_for(rt: HostRuntime) {
-    let picture = joined(rt.alloc(), &APPLES).expect(&rt, "memory");
-    let mut source = source_of(rt.alloc(), "apple == orange;").expect(&rt, "memory");
     let mut out = RetryInterrupted::new(Halting {
         taker: Taker::narrow(rt.alloc(), 7, LEN, None),
         was_interrupted: false,
     });
-    let answer = apples(&rt).write(&mut source, &mut out);
-    assert_eq!(rt; told(&rt, answer), None);
-    assert_eq!(rt; out.into_inner().taker.held.as_slice(), picture.as_bytes());
+    assert_eq!(rt; sent(&rt, &mut out), None);
+    assert_held(&rt, out.into_inner().taker.held.as_slice(), LEN)
 }
 
 #[test]
@@ -236,66 +262,77 @@ fn a_sink_that_fails_holds_what_was_sent_and_has_failed(rt: HostRuntime) {
 
 #[test]
 fn for_standard_output_the_same_is_written(rt: HostRuntime) {
-    let picture = joined(rt.alloc(), &APPLES).expect(&rt, "memory");
-    let mut source = source_of(rt.alloc(), "apple == orange;").expect(&rt, "memory");
+    let report = apples(&rt).expect(&rt, "memory");
     let mut out = Taker::narrow(rt.alloc(), 7, LEN, None);
-    let answer = apples(&rt).write_for_stdout(&mut source, &mut out);
+    let answer = report.write_for_stdout(&mut apple_source(&rt), &mut out);
     assert_eq!(rt; told(&rt, answer), None);
-    assert_eq!(rt; out.held.as_slice(), picture.as_bytes());
+    assert_held(&rt, out.held.as_slice(), LEN)
+}
+
+/// A report of one label, whose picture is compact.
+fn compact(rt: &impl AllocGlobal) -> Result<Report<'static>, AllocError> {
+    let builder = plain_error(rt.alloc()).with_config(plain().with_compact(true));
+    labelled(rt, builder, &[(0, 2, "x")])
 }
 
 #[test]
 fn a_fault_of_standard_output_is_told(rt: HostRuntime) {
+    let report = compact(&rt).expect(&rt, "memory");
     let mut source = source_of(rt.alloc(), "ab").expect(&rt, "memory");
-    let builder = plain_error(rt.alloc()).with_config(plain().with_compact(true));
-    let report = labelled(&rt, builder, &[(0, 2, "x")]).expect(&rt, "memory");
     let mut out = Taker::narrow(rt.alloc(), 1, 7, Some(ErrorKind::BrokenPipe));
     let answer = report.write_for_stdout(&mut source, &mut out);
     assert_eq!(rt; told(&rt, answer), Some((7, ErrorKind::BrokenPipe)));
-    assert_eq!(rt; out.held.as_slice(), b"Error: ".as_slice());
+    assert_eq!(rt; out.held.as_slice(), b"Error: ".as_slice())
+}
+
+/// Prints a report to standard error, or else to standard output, and asserts that its second label is left out.
+fn print(
+    rt: &(impl AllocGlobal + Print),
+    stderr: Option<Stderr>,
+    report: &Report<'_>,
+) -> Result<(), Mismatch> {
+    let mut source = source_of(rt.alloc(), "ab")?;
+    let answer = match stderr {
+        Some(stderr) => report.eprint(&mut source, stderr),
+        None => report.print(&mut source, rt),
+    };
+    match answer {
+        Ok(left_out) => assert_left_out(&left_out, &[(1, Why::PastSource)]),
+        Err(_) => Err(Mismatch::NoPicture),
+    }
 }
 
 #[test]
-fn the_same_picture_is_printed(rt: HostRuntime) {
-    let mut source = source_of(rt.alloc(), "ab").expect(&rt, "memory");
-    let report = labelled(&rt, plain_error(rt.alloc()), &[(0, 2, "x"), (0, 9, "z")]).expect(
-        &rt, "memory",
-    );
-    let left_out = report.print(&mut source, &rt).expect(&rt, "a picture");
-    assert_left_out(&left_out, &[(1, Why::PastSource)]).expect(&rt, "the labels");
-    let left_out = report
-        .eprint(&mut source, rt.stderr())
-        .expect(&rt, "memory");
-    assert_left_out(&left_out, &[(1, Why::PastSource)]).expect(&rt, "the labels");
+fn the_same_picture_is_printed(rt: HostRuntime) -> Result<(), Mismatch> {
+    let report = labelled(&rt, plain_error(rt.alloc()), &[(0, 2, "x"), (0, 9, "z")])?;
+    print(&rt, None, &report)?;
+    print(&rt, Some(rt.stderr()), &report)
+}
+
+/// What is said of a write that was interrupted behind so many bytes.
+fn said(rt: &impl AllocGlobal, sent: usize) -> Result<String, AllocError> {
+    let fault = io::Error::from(ErrorKind::Interrupted);
+    WriteError::Io { sent, fault }.to_string(rt.alloc())
 }
 
 #[test]
 fn errors_say_how_many_bytes_were_sent(rt: HostRuntime) {
-    let error = WriteError::from(AllocError);
-    assert_eq!(rt;
-        error.to_string(rt.alloc()).expect(&rt, "memory").as_str(),
-        "no memory"
-    );
-    for (sent, want) in [
-        (0, "write failed after 0 bytes"),
-        (222, "write failed after 222 bytes"),
-    ] {
-        let fault = io::Error::from(ErrorKind::Interrupted);
-        let error = WriteError::Io { sent, fault };
-        assert_eq!(rt;
-            error.to_string(rt.alloc()).expect(&rt, "memory").as_str(),
-            want
-        );
-    }
+    let no_memory = WriteError::from(AllocError);
+    assert_text(&rt, no_memory.to_string(rt.alloc()), "no memory");
+    assert_text(&rt, said(&rt, 0), "write failed after 0 bytes");
+    assert_text(&rt, said(&rt, 222), "write failed after 222 bytes")
+}
+
+/// The kind of the fault of std that a fault of a writer becomes.
+fn kind_of(kind: ErrorKind) -> ErrorKind {
+    let fault = io::Error::from(kind);
+    io::Error::from(WriteError::Io { sent: 7, fault }).kind()
 }
 
 #[test]
 fn an_error_becomes_one_of_std(rt: HostRuntime) {
     let fault = io::Error::from(WriteError::from(AllocError));
     assert_eq!(rt; fault.kind(), ErrorKind::OutOfMemory);
-    for kind in [ErrorKind::BrokenPipe, ErrorKind::WriteZero] {
-        let fault = io::Error::from(kind);
-        let fault = io::Error::from(WriteError::Io { sent: 7, fault });
-        assert_eq!(rt; fault.kind(), kind);
-    }
+    assert_eq!(rt; kind_of(ErrorKind::BrokenPipe), ErrorKind::BrokenPipe);
+    assert_eq!(rt; kind_of(ErrorKind::WriteZero), ErrorKind::WriteZero)
 }
