@@ -1,12 +1,13 @@
 //! Configurations: the default one, and which one counts.
 
+use crate::comparing::assert_same;
 use ariadne::{CharSet, Color, Config, IndexType, Label, LabelAttach, Report, ReportKind};
 use ariadne_asserts::asserts::{Mismatch, assert_bytes, plain};
 use std::alloc::{AllocError, Global};
 
 #[test]
 fn a_new_configuration_is_the_default(rt: HostRuntime) {
-    assert_eq!(rt; Config::default(), Config::new());
+    assert_same(&rt, &Config::default(), &Config::new());
     let config = Config::new()
         .with_cross_gap(true)
         .with_label_attach(LabelAttach::Middle)
@@ -17,7 +18,7 @@ fn a_new_configuration_is_the_default(rt: HostRuntime) {
         .with_tab_width(4)
         .with_char_set(CharSet::Unicode)
         .with_index_type(IndexType::Char);
-    assert_eq!(rt; config, Config::new());
+    assert_same(&rt, &config, &Config::new());
     assert!(rt; config.with_tab_width(8) != Config::new());
     assert!(rt; LabelAttach::Start != LabelAttach::End);
     assert!(rt; CharSet::Ascii != CharSet::Unicode);

@@ -1,5 +1,6 @@
 //! Labels are equal by all that they hold, and equal ones have one hash.
 
+use crate::comparing::assert_same;
 use ariadne::{Color, Label};
 use std::alloc::{AllocError, Global};
 use std::hash::{DefaultHasher, Hash, Hasher};
@@ -23,7 +24,7 @@ fn hash_of(label: &Label) -> u64 {
 fn assert_copied(rt: &(impl Abort + AllocGlobal), label: &Label) {
     let copy = label.clone().expect(rt, "memory");
     assert!(rt; copy == *label);
-    assert_eq!(rt; hash_of(&copy), hash_of(label))
+    assert_same(rt, &hash_of(&copy), &hash_of(label))
 }
 
 #[test]

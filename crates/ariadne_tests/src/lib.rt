@@ -6,6 +6,8 @@
 #[cfg(test)]
 mod builders;
 #[cfg(test)]
+mod comparing;
+#[cfg(test)]
 mod configs;
 #[cfg(test)]
 mod example;

@@ -1,5 +1,6 @@
 //! What a report and its labels say of themselves.
 
+use crate::comparing::{assert_same, assert_text};
 use ariadne::{Color, Config, IndexType, Label, LabelAttach, Report, ReportKind};
 use std::alloc::{AllocError, Global};
 use std::process::Abort;
@@ -27,43 +28,27 @@ fn report(alloc: Global) -> Result<Report<'static>, AllocError> {
     Ok(builder.finish())
 }
 
-/// Asserts that a text was made, and is this.
-pub(crate) fn assert_text(rt: &impl Abort, text: Result<String, AllocError>, want: &str) {
-    assert_eq!(rt; text.expect(rt, "memory").as_str(), want)
-}
-
 #[test]
 fn a_label_tells_what_it_was_made_of(rt: HostRuntime) {
     let label = full(rt.alloc()).expect(&rt, "memory");
-    assert_eq!(rt; *label.span(), 1..3);
-    assert_eq!(rt;
-        (label.message(), label.color()),
-        (Some("here"), Some(Color::Blue))
-    );
-    assert_eq!(rt; (label.order(), label.priority()), (-4, 5));
+    assert_same(&rt, label.span(), &(1..3));
+    assert_same(&rt, &label.message(), &Some("here"));
+    assert_same(&rt, &label.color(), &Some(Color::Blue));
+    assert_same(&rt, &(label.order(), label.priority()), &(-4, 5))
 }
 
 /// Asserts that a list has one text, and this one.
-fn assert_only(rt: &impl Abort, texts: &[String], want: &str) {
-    assert_eq!(rt; texts.len(), 1);
-    assert_eq!(rt; texts[0].as_str(), want)
-}
-
-/// Asserts that a list has one label, and this one.
-fn assert_label(rt: &impl Abort, labels: &[Label], want: Result<Label, AllocError>) {
-    assert_eq!(rt; labels.len(), 1);
-    assert!(rt; labels[0] == want.expect(rt, "memory"))
+fn assert_only(rt: &impl Abort, texts: &[String], wanted: &str) {
+    assert!(rt; texts.len() == 1 && texts[0].as_str() == wanted)
 }
 
 /// Asserts what the report says of itself.
 fn assert_head(rt: &impl Abort, report: &Report<'_>) {
-    assert_eq!(rt; report.kind(), ReportKind::Custom("Hint", Color::Red));
-    assert_eq!(rt;
-        (report.code(), report.message()),
-        (Some("07"), Some("odd"))
-    );
-    assert_eq!(rt; *report.span(), 2..2);
-    assert_eq!(rt; report.config().index_type(), IndexType::Byte)
+    assert_same(rt, &report.kind(), &ReportKind::Custom("Hint", Color::Red));
+    assert_same(rt, &report.code(), &Some("07"));
+    assert_same(rt, &report.message(), &Some("odd"));
+    assert_same(rt, report.span(), &(2..2));
+    assert_same(rt, &report.config().index_type(), &IndexType::Byte)
 }
 
 #[test]
@@ -72,7 +57,8 @@ fn a_report_tells_what_it_was_made_of(rt: HostRuntime) {
     assert_head(&rt, &report);
     assert_only(&rt, report.notes(), "see there");
     assert_only(&rt, report.helps(), "turn it");
-    assert_label(&rt, report.labels(), full(rt.alloc()))
+    let label = full(rt.alloc()).expect(&rt, "memory");
+    assert!(rt; report.labels().len() == 1 && report.labels()[0] == label)
 }
 
 /// Kinds, each with its name and its colour.
@@ -87,7 +73,8 @@ const KINDS: &[(ReportKind<'static>, &str, Color)] = &[
 #[test]
 fn a_kind_tells_its_name_and_its_color(rt: HostRuntime) {
     for (kind, name, color) in KINDS {
-        assert_eq!(rt; (kind.name(), kind.color()), (*name, *color));
+        assert_same(&rt, &kind.name(), name);
+        assert_same(&rt, &kind.color(), color);
     }
 }
 
@@ -105,15 +92,11 @@ fn kinds_are_shown_by_their_names(rt: HostRuntime) {
 #[test]
 fn a_configuration_tells_what_was_set(rt: HostRuntime) {
     let config = Config::new();
-    assert_eq!(rt;
-        (config.label_attach(), config.is_colored()),
-        (LabelAttach::Middle, true)
-    );
+    assert_same(&rt, &config.label_attach(), &LabelAttach::Middle);
+    assert!(rt; config.is_colored());
     let config = config.with_label_attach(LabelAttach::End).with_color(false);
-    assert_eq!(rt;
-        (config.label_attach(), config.is_colored()),
-        (LabelAttach::End, false)
-    );
+    assert_same(&rt, &config.label_attach(), &LabelAttach::End);
+    assert!(rt; !config.is_colored())
 }
 
 /// The report as `Debug` shows it.

@@ -1,5 +1,6 @@
 //! Pictures when memory is refused: each request in turn, until a call meets no refusal.
 
+use crate::comparing::assert_same;
 use crate::refused::{MOST_REQUESTS, assert_at, assert_refused, refuse_at};
 use crate::refused_sources::holds;
 use crate::writers::Drain;
@@ -168,8 +169,12 @@ fn sent<C: Cache<&'static str>>(
 
 /// A sink that has room for the picture.
 fn roomy(alloc: Global) -> Result<Drain, AllocError> {
-    let mut narrow = Taker::whole(alloc)?;
-    narrow.held = Vec::with_capacity(alloc, 20_000)?;
+    let narrow = Taker {
+        held: Vec::with_capacity(alloc, 20_000)?,
+        room: usize::MAX,
+        calls_left: usize::MAX,
+        fault: None,
+    };
     Ok(Drain {
         narrow,
         met_fault: false,
@@ -199,7 +204,7 @@ fn assert_whole<C: Cache<&'static str>>(
 {
     let (shown, left_out) = written(rt, report, cache).expect(rt, "a picture");
     assert_left_out(&left_out, LEFT_OUT).expect(rt, "the labels");
-    assert_eq!(rt; shown.as_str(), picture)
+    assert_same(rt, &shown.as_str(), &picture)
 }
 
 /// Asserts which labels are left out, or that there was no memory.

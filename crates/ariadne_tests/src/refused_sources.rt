@@ -3,7 +3,7 @@
 use crate::refused::{At, MOST_REQUESTS, assert_at, assert_refused, refuse_at};
 use ariadne::{Cache, FetchError, FileCache, FnCache, Source, SourceTable, SourceText, sources};
 use ariadne_asserts::asserts::source_of;
-use ariadne_fakes::Folder;
+use ariadne_fakes::{Folder, texts};
 use std::alloc::{AllocError, Global};
 use std::cell::Cell;
 use std::collections::HashMap;
@@ -212,6 +212,9 @@ fn try_fetch<Id: Eq, C: Cache<Id>>(
     is_refused
 }
 
+/// Two ids of a function, or the paths of two files: that of what is held, and another.
+type Names<'a> = (&'a String, &'a String);
+
 /// The texts of a function that counts its calls.
 fn counted(calls: &Cell<u8>, id: &String) -> Result<&'static str, u8> {
     calls.set(calls.get().wrapping_add(1));
@@ -226,7 +229,7 @@ fn counted(calls: &Cell<u8>, id: &String) -> Result<&'static str, u8> {
 /// most once.
 fn try_function(
     rt: &(impl Abort + AllocGlobal),
-    (held, id): &(String, String),
+    (held, id): Names<'_>,
     is_lent: bool,
     nth: u16,
 ) -> bool {
@@ -251,11 +254,7 @@ fn try_function(
 }
 
 /// Refuses the nth request of a fetch from the files at two paths.
-fn try_paths(
-    rt: &(impl Abort + AllocGlobal + Files),
-    (held, id): &(String, String),
-    nth: u16,
-) -> bool {
+fn try_paths(rt: &(impl Abort + AllocGlobal + Files), (held, id): Names<'_>, nth: u16) -> bool {
     let mut cache = FileCache::new(rt, rt.alloc());
     try_fetch(rt, ("files", nth), &mut cache, (held, id), Some("got"))
 }
@@ -263,7 +262,7 @@ fn try_paths(
 /// The same of paths that are lent.
 fn try_lent_paths(
     rt: &(impl Abort + AllocGlobal + Files),
-    (held, id): &(String, String),
+    (held, id): Names<'_>,
     nth: u16,
 ) -> bool {
     let (held, id) = (held.as_str(), id.as_str());
@@ -317,42 +316,36 @@ fn try_boxed_pair(rt: &(impl Abort + AllocGlobal), nth: u16) -> bool {
     try_unknown(rt, ("a pair in a box", nth), &mut boxed)
 }
 
-/// Two ids of a function, and the paths of two files.
-#[derive(Drop)]
-struct Names {
-    ids: (String, String),
-    paths: (String, String),
-}
-
 /// Refuses the nth request of a fetch from a cache of one kind.
-fn try_kind(rt: &(impl Abort + AllocGlobal + Files), kind: u8, names: &Names, nth: u16) -> bool {
+fn try_kind(
+    rt: &(impl Abort + AllocGlobal + Files),
+    kind: u8,
+    ids: Names<'_>,
+    paths: Names<'_>,
+    nth: u16,
+) -> bool {
     match kind {
         0 => try_pair(rt, nth),
         1 => try_lent_source(rt, nth),
         2 => try_full_map(rt, nth),
         3 => try_lent_pair(rt, nth),
         4 => try_boxed_pair(rt, nth),
-        5 => try_function(rt, &names.ids, true, nth),
-        6 => try_function(rt, &names.ids, false, nth),
-        7 => try_paths(rt, &names.paths, nth),
-        _ => try_lent_paths(rt, &names.paths, nth),
+        5 => try_function(rt, ids, true, nth),
+        6 => try_function(rt, ids, false, nth),
+        7 => try_paths(rt, paths, nth),
+        _ => try_lent_paths(rt, paths, nth),
     }
 }
 
 /// Refuses each request of a fetch from a cache of each kind.
-fn try_kinds(rt: &(impl Abort + AllocGlobal + Files), names: &Names) {
+fn try_kinds(rt: &(impl Abort + AllocGlobal + Files), ids: Names<'_>, paths: Names<'_>) {
     for kind in 0..9u8 {
         for nth in 1..MOST_REQUESTS {
-            if !try_kind(rt, kind, names, nth) {
+            if !try_kind(rt, kind, ids, paths, nth) {
                 break;
             }
         }
     }
-}
-
-/// These two texts, owned.
-fn owned(alloc: Global, held: &str, got: &str) -> Result<(String, String), AllocError> {
-    Ok((held.to_string(alloc)?, got.to_string(alloc)?))
 }
 
 #[test]
@@ -360,10 +353,10 @@ fn a_refused_fetch_leaves_the_cache_as_it_was(rt: HostRuntime) -> io::Result<()>
     let folder = Folder::new(&rt)?;
     let held = folder.file_of(&rt, "held.txt", b"held")?;
     let got = folder.file_of(&rt, "got.txt", b"got")?;
-    let names = Names {
-        ids: owned(rt.alloc(), "held", "x")?,
-        paths: owned(rt.alloc(), held.as_str(), got.as_str())?,
-    };
-    try_kinds(&rt, &names);
+    let names = texts(rt.alloc(), &["held", "x", held.as_str(), got.as_str()])?;
+    match names.as_slice() {
+        [held, id, path, other] => try_kinds(&rt, (held, id), (path, other)),
+        _ => panic!(rt; "other names"),
+    }
     folder.remove(&rt)
 }

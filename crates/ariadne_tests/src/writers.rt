@@ -2,7 +2,7 @@
 
 ghost use Rattle.std.specs.Prelude.{Some};
 
-use crate::readers::assert_text;
+use crate::comparing::{assert_same, assert_text};
 use ariadne::{LeftOut, Report, RetryInterrupted, Sink, Source, WriteError};
 use ariadne_asserts::asserts::{
     APPLE_LABELS, APPLES, Mismatch, Why, assert_left_out, joined, labelled, plain, plain_error,
@@ -183,9 +183,8 @@ fn sent_to(rt: &(impl Abort + AllocGlobal), out: &mut Drain) -> Option<(usize, E
 fn assert_held(rt: &(impl Abort + AllocGlobal), held: &[u8], count: usize) {
     let picture = joined(rt.alloc(), &APPLES).expect(rt, "memory");
     let bytes = picture.as_bytes();
-    assert_eq!(rt; bytes.len(), LEN);
-    assert!(rt; count <= LEN);
-    assert_eq!(rt; held, &bytes[..count])
+    assert!(rt; bytes.len() == LEN && count <= LEN);
+    assert_same(rt, &held, &&bytes[..count])
 }
 
 /// Asserts what comes of a writer, what it holds, and how many calls it would still serve.
@@ -224,7 +223,7 @@ fn assert_sink(rt: &(impl Abort + AllocGlobal), stop: &Stop, had_failed: bool) {
         met_fault: had_failed,
     };
     let told = sent_to(rt, &mut out);
-    assert_eq!(rt; out.failed(), had_failed || told.is_some());
+    assert_same(rt, &out.failed(), &(had_failed || told.is_some()));
     assert_stop(rt, stop, &out.narrow, told)
 }
 
@@ -244,7 +243,7 @@ fn an_interrupted_write_is_tried_again_where_that_is_asked_for(rt: HostRuntime) 
         taker: Taker::narrow(rt.alloc(), 7, LEN, None),
         was_interrupted: false,
     });
-    assert_eq!(rt; sent(&rt, &mut out), None);
+    assert_same(&rt, &sent(&rt, &mut out), &None);
     assert_held(&rt, out.into_inner().taker.held.as_slice(), LEN)
 }
 
@@ -265,7 +264,7 @@ fn for_standard_output_the_same_is_written(rt: HostRuntime) {
     let report = apples(&rt).expect(&rt, "memory");
     let mut out = Taker::narrow(rt.alloc(), 7, LEN, None);
     let answer = report.write_for_stdout(&mut apple_source(&rt), &mut out);
-    assert_eq!(rt; told(&rt, answer), None);
+    assert_same(&rt, &told(&rt, answer), &None);
     assert_held(&rt, out.held.as_slice(), LEN)
 }
 
@@ -281,8 +280,8 @@ fn a_fault_of_standard_output_is_told(rt: HostRuntime) {
     let mut source = source_of(rt.alloc(), "ab").expect(&rt, "memory");
     let mut out = Taker::narrow(rt.alloc(), 1, 7, Some(ErrorKind::BrokenPipe));
     let answer = report.write_for_stdout(&mut source, &mut out);
-    assert_eq!(rt; told(&rt, answer), Some((7, ErrorKind::BrokenPipe)));
-    assert_eq!(rt; out.held.as_slice(), b"Error: ".as_slice())
+    assert_same(&rt, &told(&rt, answer), &Some((7, ErrorKind::BrokenPipe)));
+    assert_same(&rt, &out.held.as_slice(), &b"Error: ".as_slice())
 }
 
 /// Prints a report to standard error, or else to standard output, and asserts that its second label is left out.
@@ -332,7 +331,7 @@ fn kind_of(kind: ErrorKind) -> ErrorKind {
 #[test]
 fn an_error_becomes_one_of_std(rt: HostRuntime) {
     let fault = io::Error::from(WriteError::from(AllocError));
-    assert_eq!(rt; fault.kind(), ErrorKind::OutOfMemory);
-    assert_eq!(rt; kind_of(ErrorKind::BrokenPipe), ErrorKind::BrokenPipe);
-    assert_eq!(rt; kind_of(ErrorKind::WriteZero), ErrorKind::WriteZero)
+    assert_same(&rt, &fault.kind(), &ErrorKind::OutOfMemory);
+    assert_same(&rt, &kind_of(ErrorKind::BrokenPipe), &ErrorKind::BrokenPipe);
+    assert_same(&rt, &kind_of(ErrorKind::WriteZero), &ErrorKind::WriteZero)
 }
