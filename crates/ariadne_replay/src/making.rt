@@ -46,8 +46,8 @@ fn switched(told: &Value) -> Config {
     let tab_width = count(told, "tab_width").unwrap_or(4) as usize;
     Config::new()
         .with_cross_gap(switch(told, "cross_gap", true))
-        .with_compact(switch(told, "compact", false))
         .with_underlines(switch(told, "underlines", true))
+        .with_compact(switch(told, "compact", false))
         .with_multiline_arrows(switch(told, "multiline_arrows", true))
         .with_color(switch(told, "color", false))
         .with_tab_width(tab_width.max(1))
