@@ -34,11 +34,12 @@ fn painted_number(alloc: Global, n: u32, color: Option<Color>) -> Result<String,
     format!(in alloc; "{}{}", n.fg(color), n.bg(color))
 }
 
-/// A value is printed twice where it can be copied.
-fn printed_twice<T: Display + Copy>(alloc: Global, value: T) -> Result<String, AllocError> {
+/// A value is printed again where it is copied, and where it is cloned.
+fn printed_again<T: Display + Copy>(alloc: Global, value: T) -> Result<String, AllocError> {
     let painted = value.fg(RED);
-    let again = painted;
-    format!(in alloc; "{painted}{again}")
+    let copy = painted;
+    let clone = painted.clone()?;
+    format!(in alloc; "{painted}{copy}{clone}")
 }
 
 /// The usual generator after a call: its numbers are known where it is called.
@@ -213,8 +214,8 @@ fn values_of_any_kind_are_painted(rt: HostRuntime) {
     );
     assert_text(
         &rt,
-        printed_twice(alloc, 'x'),
-        "\x1b[31mx\x1b[0m\x1b[31mx\x1b[0m",
+        printed_again(alloc, 'x'),
+        "\x1b[31mx\x1b[0m\x1b[31mx\x1b[0m\x1b[31mx\x1b[0m",
     )
 }
 
