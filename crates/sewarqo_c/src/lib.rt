@@ -1,107 +1,14 @@
-//! Reports for callers that are not written in Rattle: C, and whatever calls C.
+//! The call that C makes, and whatever calls C: `ariadne_calls` by numbers.
 //!
-//! `bindings/c/sewarqo.h` is this crate's surface as C reads it, with the unit of each field.
+//! `bindings/c/sewarqo.h` is this crate's surface as C reads it.
 #![tactic(auto)]
 
-mod call;
-mod colors;
-mod ending;
-mod labels;
-mod pictures;
-mod reports;
-mod safe;
-mod safe_sources;
-mod settings;
-mod sources;
-mod texts;
+ghost use Rattle.ariadne_calls.specs.Ending.{GivesNumber};
 
-ghost use Rattle.sewarqo_c.specs.Ending.{GivesNumber};
-
-use call::draw;
+use ariadne_calls::{GivenReport, GivenSource, ToldLeftOut, draw};
 use std::alloc::Global;
 
-/// A text in UTF-8.
-#[repr(C)]
-#[derive(Clone, Copy)]
-pub struct Text<'a> {
-    pub bytes: &'a [u8],
-}
-
-/// A text, or none: `text` counts only where `is_given` is not 0.
-#[repr(C)]
-#[derive(Clone, Copy)]
-pub struct OptionalText<'a> {
-    pub text: Text<'a>,
-    pub is_given: u32,
-}
-
-/// A source.
-#[repr(C)]
-#[derive(Clone, Copy)]
-pub struct GivenSource<'a> {
-    /// What is shown in front of its lines.
-    pub name: OptionalText<'a>,
-    pub text: Text<'a>,
-    /// What is added to the number of each line.
-    pub line_offset: usize,
-}
-
-/// A label.
-#[repr(C)]
-#[derive(Clone, Copy)]
-pub struct GivenLabel<'a> {
-    /// The number of its source, from 0.
-    pub source: usize,
-    /// Offsets into the source's text from 0, the end exclusive: in characters, or in bytes where
-    /// the report's flags say so.
-    pub start: usize,
-    pub end: usize,
-    pub message: OptionalText<'a>,
-    /// A colour by its number, as `specs/Colors.antt` has it. 0 is none.
-    pub color: u32,
-    /// Labels of lower order are drawn first.
-    pub order: i32,
-    /// Where labels overlap, the higher one is seen.
-    pub priority: i32,
-}
-
-/// A report.
-#[repr(C)]
-#[derive(Clone, Copy)]
-pub struct GivenReport<'a> {
-    /// 0 an error, 1 a warning, 2 an advice, 3 of the name and the colour that follow.
-    pub kind: u32,
-    pub kind_color: u32,
-    pub kind_name: Text<'a>,
-    pub code: OptionalText<'a>,
-    pub message: Text<'a>,
-    /// The place that the header names: the number of a source, and an offset as those of labels.
-    pub source: usize,
-    pub start: usize,
-    pub labels: &'a [GivenLabel<'a>],
-    pub helps: &'a [Text<'a>],
-    pub notes: &'a [Text<'a>],
-    /// Bits: 1 no colours, 2 ASCII, 4 compact, 8 offsets in bytes, 16 no underlines, 32 no arrow
-    /// heads, 64 no gaps where strokes cross, 128 texts as they are. Without the last a sign stands
-    /// for each hidden character.
-    pub flags: u32,
-    /// Where strokes are attached to labels: 0 in the middle, 1 at the start, 2 at the end.
-    pub attach: u32,
-    /// In columns; 0 is the usual 4.
-    pub tab_width: usize,
-}
-
-/// A label that is left out of the picture.
-#[repr(C)]
-#[derive(Clone, Copy)]
-pub struct ToldLeftOut {
-    /// Its number, from 0.
-    pub label: usize,
-    /// 1 it is past its source, 2 it cuts a character.
-    pub reason: u32,
-}
-
-/// Draws a report over sources into `out`, and returns a status (`specs/Ending.antt`).
+/// Draws a report over sources into `out`, and returns a status (`specs/Ending.antt` of `ariadne_calls`).
 ///
 /// After 0 and 1 the first `len` bytes of `out` are the picture. `count` labels are left out, and the
 /// first of them stand in `left`, as far as it has room. After 2 the picture takes `len` bytes, and

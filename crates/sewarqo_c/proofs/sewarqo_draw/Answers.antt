@@ -1,5 +1,5 @@
 -- What the call leaves by its ending is what C sees by numbers.
-use Rattle.sewarqo_c.proofs.Endings.{numbered}
+use Rattle.ariadne_calls.proofs.Endings.{numbered}
 use Rattle.sewarqo_c.proofs.sewarqo_draw.Goals as goal
 
 pub returns : goal.returns

@@ -1,0 +1,84 @@
+-- The report that a call asks for. Of what is faulty (specs/Faults.antt) it says nothing.
+use Rattle.std.specs.Prelude.{ℕ, ◌/◌, ◌%◌, ◌==◌, Bool, not, if◌then◌else◌, List, map, Option}
+use Rattle.std.specs.Prelude.{Some, option_map, unwrap_or}
+use Rattle.std.specs.Borrow.{Bor}
+use Rattle.std.specs.declared.ops.Range.{Range}
+use Rattle.ariadne.specs.Color.TheVariants.{Primary}
+use Rattle.ariadne.specs.LabelAttach.{LabelAttach}
+use Rattle.ariadne.specs.LabelAttach.TheVariants.{Start, Middle, End}
+use Rattle.ariadne.specs.CharSet.TheVariants.{Ascii, Unicode}
+use Rattle.ariadne.specs.IndexType.TheVariants.{Byte, Char}
+use Rattle.ariadne.specs.Report.{ConfigFields, Kind, LabelFields, ReportFields}
+use Rattle.ariadne.specs.Report.{error, warning, advice, custom}
+use Rattle.ariadne.specs.Building.{filled_code}
+use Rattle.ariadne_calls.specs.declared.given.GivenLabel.{GivenLabel}
+use Rattle.ariadne_calls.specs.declared.given.GivenReport.{GivenReport}
+use Rattle.ariadne_calls.specs.declared.given.Text.{Text}
+use Rattle.ariadne_calls.specs.Colors.{color_of}
+use Rattle.ariadne_calls.specs.Given.{given_text}
+
+-- a bit of the flags is set
+abbrev pub has : ℕ → ℕ → Bool
+has flags bit = (flags / bit) % 2 == 1
+
+-- its texts are drawn as they are, and not by signs
+abbrev pub is_as_it_is : GivenReport → Bool
+is_as_it_is r = has r.flags 128
+
+-- where strokes are attached
+abbrev pub attach_of : ℕ → LabelAttach
+attach_of attach = if attach == 1 then Start else (if attach == 2 then End else Middle)
+
+-- the configuration of flags, an attachment and a tab width
+abbrev pub config_with : ℕ → ℕ → ℕ → ConfigFields
+config_with flags attach tab_width = record {
+  cross_gap = not (has flags 64);
+  label_attach = attach_of attach;
+  compact = has flags 4;
+  underlines = not (has flags 16);
+  multiline_arrows = not (has flags 32);
+  color = not (has flags 1);
+  tab_width = if tab_width == 0 then 4 else tab_width;
+  char_set = if has flags 2 then Ascii else Unicode;
+  index_type = if has flags 8 then Byte else Char;
+}
+
+abbrev pub config_of : GivenReport → ConfigFields
+config_of r = config_with r.flags r.attach r.tab_width
+
+-- the kind with the report's own name and colour
+abbrev pub custom_of : GivenReport → Kind
+custom_of r = custom r.kind_name.bytes.now (unwrap_or (color_of r.kind_color) Primary)
+
+-- the kind of a report
+abbrev pub kind_of : GivenReport → Kind
+kind_of r =
+    if r.kind == 0 then error else (if r.kind == 1 then warning
+    else (if r.kind == 2 then advice else custom_of r))
+
+-- a code, filled to two characters
+abbrev pub code_of : Option (Bor (List ℕ)) → Option (List ℕ)
+code_of code = option_map (λ text. filled_code text.now) code
+
+-- a label
+abbrev pub label_of : GivenLabel → LabelFields (ℕ × Range ℕ)
+label_of l = record {
+  span = (l.source, record { start = l.start; end = l.end });
+  message = given_text l.message;
+  color = color_of l.color;
+  order = l.order;
+  priority = l.priority;
+}
+
+-- the report
+abbrev pub report_of : GivenReport → ReportFields (ℕ × Range ℕ)
+report_of r = record {
+  kind = kind_of r;
+  code = option_map filled_code (given_text r.code);
+  message = Some r.message.bytes.now;
+  span = (r.source, record { start = r.start; end = r.start });
+  labels = map label_of r.labels.now;
+  notes = map (λ (t : Text). t.bytes.now) r.notes.now;
+  helps = map (λ (t : Text). t.bytes.now) r.helps.now;
+  config = config_of r;
+}

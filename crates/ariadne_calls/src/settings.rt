@@ -1,0 +1,101 @@
+//! What kind of report it is, and how it is drawn.
+
+ghost use Rattle.std.specs.Prelude.{◌≡◌, ◌≢◌, [], IfOk, OnOk, IfErr};
+ghost use Rattle.ariadne.specs.Kinds as kinds;
+ghost use Rattle.ariadne_calls.specs.Asked.{attach_of, config_of, config_with, custom_of, has, kind_of};
+ghost use Rattle.ariadne_calls.specs.Faults.{IsFirst, custom_faults, kind_faults, settings_faults};
+
+use crate::colors::color_of;
+use crate::ending::{Fault, Refusal};
+use crate::given::GivenReport;
+use crate::texts::text;
+use ariadne::{CharSet, Config, IndexType, LabelAttach, ReportKind};
+
+/// The kind of a report.
+pub fn kind_of<'a>(given: &GivenReport<'a>) -> Result<ReportKind<'a>, Refusal>
+    ensures ok { IfOk result (λ kind. kinds.kind_of kind ≡ kind_of given.now) }
+    ensures sound { OnOk result (kind_faults given.now ≡ []) }
+    ensures err { IfErr result (IsFirst (kind_faults given.now)) }
+{
+    match given.kind {
+        0 => Ok(ReportKind::Error),
+        1 => Ok(ReportKind::Warning),
+        2 => Ok(ReportKind::Advice),
+        3 => custom_kind(given),
+        _ => Err(Refusal::Faulty(Fault::Kind)),
+    }
+}
+
+/// The kind with the report's own name and colour.
+fn custom_kind<'a>(given: &GivenReport<'a>) -> Result<ReportKind<'a>, Refusal>
+    ensures ok { IfOk result (λ kind. kinds.kind_of kind ≡ custom_of given.now) }
+    ensures sound { OnOk result (custom_faults given.now ≡ []) }
+    ensures err { IfErr result (IsFirst (custom_faults given.now)) }
+{
+    match color_of(given.kind_color) {
+        None => Err(Refusal::Faulty(Fault::KindColor)),
+        Some(color) => {
+            let name = text(given.kind_name.bytes, Fault::KindName)?;
+            Ok(ReportKind::Custom(name, color))
+        }
+    }
+}
+
+/// How a report is drawn.
+pub fn config_of(given: &GivenReport<'_>) -> Result<Config, Refusal>
+    ensures ok { IfOk result (λ config. config ≡ config_of given.now) }
+    ensures sound { OnOk result (settings_faults given.now ≡ []) }
+    ensures err { IfErr result (IsFirst (settings_faults given.now)) }
+{
+    if given.flags > 255 {
+        return Err(Refusal::Faulty(Fault::Flags));
+    }
+    if given.attach > 2 {
+        return Err(Refusal::Faulty(Fault::Attach));
+    }
+    Ok(config_with(given.flags, given.tab_width).with_label_attach(attach_of(given.attach)))
+}
+
+/// Where strokes are attached.
+fn attach_of(attach: u32) -> LabelAttach
+    ensures { result ≡ attach_of attach }
+{
+    match attach {
+        1 => LabelAttach::Start,
+        2 => LabelAttach::End,
+        _ => LabelAttach::Middle,
+    }
+}
+
+/// The configuration of these flags and this tab width.
+fn config_with(flags: u32, tab_width: usize) -> Config
+    ensures { result ≡ config_with flags 0 tab_width }
+{
+    let char_set = if has(flags, 2) {
+        CharSet::Ascii
+    } else {
+        CharSet::Unicode
+    };
+    let index_type = if has(flags, 8) {
+        IndexType::Byte
+    } else {
+        IndexType::Char
+    };
+    Config::new()
+        .with_color(!has(flags, 1))
+        .with_char_set(char_set)
+        .with_compact(has(flags, 4))
+        .with_index_type(index_type)
+        .with_underlines(!has(flags, 16))
+        .with_multiline_arrows(!has(flags, 32))
+        .with_cross_gap(!has(flags, 64))
+        .with_tab_width(if tab_width == 0 { 4 } else { tab_width })
+}
+
+/// Whether a bit is set.
+pub fn has(flags: u32, bit: u32) -> bool
+    requires { bit ≢ 0 }
+    ensures { result ≡ has flags bit }
+{
+    flags / bit % 2 == 1
+}
