@@ -1,9 +1,10 @@
 -- What the columns of a line count, and the characters of a text that they mean. Lines count from 1
 -- and end at line feeds alone, as compilers count them. Columns count from 1, offsets count characters
 -- from 0, and a text is a list of characters.
-use Rattle.std.specs.Prelude.{ℕ, zero, suc, ◌+◌, ◌-◌, ◌%◌, Bool, false, not, ◌&&◌, ◌||◌, ◌==◌, nat_le}
-use Rattle.std.specs.Prelude.{max, if◌then◌else◌, List, [], ◌∷◌, drop, Option, None}
-use Rattle.std.specs.Prelude.{option_map, unwrap_or, slice_get}
+use Rattle.std.specs.Prelude.{ℕ, zero, suc, ◌+◌, ◌-◌, ◌%◌, ◌^◌, Bool, false, not, ◌&&◌, ◌||◌, ◌==◌}
+use Rattle.std.specs.Prelude.{nat_le, max, min, if◌then◌else◌, List, [], ◌∷◌, drop, take, Option, None}
+use Rattle.std.specs.Prelude.{count_by, fold, option_map, unwrap_or, slice_get}
+use Rattle.std.specs.Io.BufRead.{strip_last}
 use Rattle.std.specs.List.{prefix_len}
 use Rattle.std.specs.Char.{is_ascii_alphanumeric, len_utf8}
 use Rattle.unicode_width.specs.Width.{char_width}
@@ -54,6 +55,33 @@ line_start t (suc line) = slice_get (line_begins t) line
 unfoldable pub offset_of : Unit → List ℕ → ℕ → ℕ → Option ℕ
 offset_of unit t line column =
     option_map (λ start. start + passed unit (column - 1) 0 (drop start t)) (line_start t line)
+
+-- the first line of a text, without the line feed that ends it, and a carriage return in front of that
+abbrev pub first_line : List ℕ → List ℕ
+first_line t = strip_last 13 (take (prefix_len (λ c. not (c == 10)) t) t)
+
+-- a line, if the text has it
+unfoldable pub line_of : List ℕ → ℕ → Option (List ℕ)
+line_of t line = option_map (λ start. first_line (drop start t)) (line_start t line)
+
+-- ---- spots
+
+-- the number of the line that an offset stands in: how many lines begin up to there
+abbrev pub line_at : List ℕ → ℕ → ℕ
+line_at t offset = count_by (λ begin. nat_le begin offset) (line_begins t)
+
+-- where it begins
+abbrev pub start_at : List ℕ → ℕ → ℕ
+start_at t offset = unwrap_or (line_start t (line_at t offset)) 0
+
+-- how many columns the characters of a line take, up to the greatest number
+abbrev pub columns_in : Unit → List ℕ → ℕ
+columns_in unit line = fold (λ at c. min (at + columns_of unit at c) (2 ^ 64 - 1)) 0 line
+
+-- the column of an offset: those in front of it in its line, and one more
+abbrev pub column_at : Unit → List ℕ → ℕ → ℕ
+column_at unit t offset =
+    min (columns_in unit (drop (start_at t offset) (take offset t)) + 1) (2 ^ 64 - 1)
 
 -- ---- words
 
