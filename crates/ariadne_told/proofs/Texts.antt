@@ -5,25 +5,28 @@ use Rattle.std.proofs.Math.Dec.{eqb}
 use Rattle.std.proofs.Math.Seq.{drop-append-add, get_or-append_seam}
 use Rattle.std.proofs.Math.Nat.{sub-zero}
 use Rattle.std.proofs.Math.Seq.{take-length}
-use Rattle.std.proofs.lemmas.Bool.{and_parts, cases_Bool}
+use Rattle.std.proofs.lemmas.Bool.{and_parts, cases_Bool, le-ltb, ltb-false}
+use Rattle.std.proofs.lemmas.Bool.Decides.{nat_tests}
 use Rattle.std.proofs.lemmas.List.{drop-drop, get_or-drop, length-append, length-drop, reverse-append, reverse-reverse}
 use Rattle.std.proofs.lemmas.List.Folds.{length-prefix_len}
 use Rattle.std.proofs.lemmas.List.Sums.{prefix_len-le-length, prefix_len_passes, take_while-cons}
 use Rattle.std.proofs.lemmas.Str.{IsCharBoundary-after_ascii, IsCharBoundary-start, len_utf8_ascii}
 use Rattle.std.proofs.lemmas.Str.Parse.{numerals_by_value, parse_digits, tells_all_ascii_digits, IsNumeralModel}
-use Rattle.std.proofs.lemmas.Str.Pattern.{drop_at_char, split_once_first, split_parts, starts_text, IsSplitOnceResult, NoCharPasses-char}
+use Rattle.std.proofs.lemmas.Str.Pattern.{drop_at_char, ends_text, split_once_first, split_parts, starts_text, IsSplitOnceResult, NoCharPasses-char}
 use Rattle.std.specs.Prelude.{ℕ, zero, suc, ◌+◌, ◌-◌, ◌^◌, ◌<◌, ◌≢◌, Bool, true, false, nat_lt, ◌&&◌}
 use Rattle.std.specs.Prelude.{List, [], ◌∷◌, ◌++◌, length, take, drop, reverse}
 use Rattle.std.specs.Prelude.{Option, Some, None, MatchOption, Result, Ok, Err, cond, not, option_map}
 use Rattle.std.specs.Char.{is_ascii_digit}
 use Rattle.std.specs.Cmp.Derive.{both_true}
-use Rattle.std.specs.List.{cons_option, filter_map, position_or_len, slice_range, starts_with, take_while}
+use Rattle.std.specs.List.{after_first, before_first, cons_option, ends_with, filter_map, position_or_len, prefix_len, slice_range, starts_with, take_while}
 use Rattle.std.specs.Path.{rfind_below, rsplit_once}
 use Rattle.std.specs.Result.{result_ok}
 use Rattle.std.specs.Str.{all_ascii_digits, IsCharBoundary, IsUtf8}
 use Rattle.std.specs.Str.Parse.{digits_value, ParsesUnsigned}
-use Rattle.std.specs.Str.Pattern.{FindsTextPrefix, RFindsChar, SplitsAroundMatch, StripsPrefix}
-use Rattle.ariadne_told.specs.Heads.{behind, colons_from, digits_in, first, head_at, head_behind, head_in, in_front_of, number_in, Head}
+use Rattle.std.specs.Str.Pattern.{FindsTextPrefix, FindsTextSuffix, RFindsChar, SplitsAroundMatch, StripsPrefix, StripsSuffix}
+use Rattle.ariadne_told.specs.Heads.{colons_from, first, read_at}
+use Rattle.ariadne_told.specs.Sgr.{is_parameter}
+use Rattle.ariadne_told.specs.Pieces.{behind, behind_text, digits_in, in_front_of, in_front_of_text, number_in, split_once}
 use Rattle.ariadne_told.specs.ToldLines.{IsCutAtColon}
 
 -- ---- slices
@@ -119,6 +122,64 @@ strips_front n s x h = (
 pub strips_none : (n s : List ℕ) → FindsTextPrefix n s None → starts_with eqb s n ≡ false
 strips_none n s h = sym (starts_text false n s h)
 
+-- `strip_prefix` at words
+pub behind_text_is : (words text : List ℕ) (r : Option (Bor (List ℕ)))
+    → MatchOption r (FindsTextPrefix words text None) (λ x. StripsPrefix (FindsTextPrefix words) text x.now)
+    → option_map (λ (x : Bor (List ℕ)). x.now) r ≡ behind_text words text
+unfolding behind_text
+behind_text_is words text None h = rw (strips_none words text h) refl
+behind_text_is words text (Some x) h =
+    let both = strips_front words text x.now h in
+    rw both.0 (ap (λ (xs : List ℕ). Some xs) both.1)
+
+-- `strip_suffix` at words
+pub in_front_text_is : (words text : List ℕ) (r : Option (Bor (List ℕ)))
+    → MatchOption r (FindsTextSuffix words text None) (λ x. StripsSuffix (FindsTextSuffix words) text x.now)
+    → option_map (λ (x : Bor (List ℕ)). x.now) r ≡ in_front_of_text words text
+unfolding in_front_of_text
+in_front_text_is words text None h = rw (sym (ends_text false words text h)) refl
+in_front_text_is words text (Some x) h =
+    let n : h.0 ≡ length words = h.1.0 in
+    let on : true ≡ ends_with eqb text words =
+    ends_text true words text
+    (h.0, h.1, omega (arith, h.3), subst (λ k. IsCharBoundary text (length text - k)) (sym n) h.1.2) in
+    rw (sym on) (ap (λ (xs : List ℕ). Some xs) (h.2 ∙ ap (λ k. take (length text - k) text) n))
+
+-- ---- the first character of a kind
+
+-- `split_once` at a character
+pub split_is : (mark : ℕ) (text : List ℕ) (r : Option (Bor (List ℕ) × Bor (List ℕ)))
+    → MatchOption r (position_or_len (λ b. eqb b mark) text ≡ length text)
+    (λ x. (position_or_len (λ b. eqb b mark) text < length text) × (x.0.now ≡ before_first (λ b. eqb b mark) text)
+    × (x.1.now ≡ after_first (λ b. eqb b mark) text))
+    → option_map (λ (x : Bor (List ℕ) × Bor (List ℕ)). (x.0.now, x.1.now)) r ≡ split_once mark text
+unfolding split_once
+split_is mark text None h = rw (le-ltb (position_or_len (λ b. eqb b mark) text) (length text) (omega (arith, h))) refl
+split_is mark text (Some x) h =
+    rw (lt-ltb (position_or_len (λ b. eqb b mark) text) (length text) h.0) (λ k. Some (h.1 k, h.2 k))
+
+-- what stands in front of it, and behind it
+pub split_parts_are : (mark : ℕ) (text front rest : List ℕ) → Some (front, rest) ≡ split_once mark text
+    → (position_or_len (λ b. eqb b mark) text < length text) × (front ≡ before_first (λ b. eqb b mark) text)
+    × (rest ≡ after_first (λ b. eqb b mark) text)
+unfolding split_once
+split_parts_are mark text front rest e = elim (cases_Bool (nat_lt (position_or_len (λ b. eqb b mark) text) (length text))) [
+  | inl on ↦
+      let found = rw on at e in
+      let pair : (front, rest) ≡ (before_first (λ b. eqb b mark) text, after_first (λ b. eqb b mark) text) = cc found in
+      (ltb-true _ _ on, ap (λ (p : List ℕ × List ℕ). p.0) pair, ap (λ (p : List ℕ × List ℕ). p.1) pair)
+  | inr off ↦ let none = rw off at e in absurd (cc none)
+]
+
+-- there is none
+pub split_none : (mark : ℕ) (text : List ℕ) → None ≡ split_once mark text
+    → position_or_len (λ b. eqb b mark) text ≡ length text
+unfolding split_once
+split_none mark text e = elim (cases_Bool (nat_lt (position_or_len (λ b. eqb b mark) text) (length text))) [
+  | inl on ↦ let some = rw on at e in absurd (cc some)
+  | inr off ↦ omega (arith, ltb-false _ _ off, prefix_len-le-length (λ b. not (eqb b mark)) text)
+]
+
 -- ---- colons
 
 -- the next one
@@ -185,36 +246,57 @@ cut_is line part x from e h =
       ap (colons_from from) (sym p) ∙ next ∙ ap (λ (xs : List ℕ). at ∷ colons_from (at + 1) xs) behind,
     )
 
--- what a line tells is what it tells at the next colon, or at those behind it
-step : (line front rest : List ℕ) (from next turn : ℕ) (cut : IsCutAtColon line from front rest next) → turn < 8
-    → head_in line ≡ first (filter_map (head_at line) (take (8 - turn) (colons_from from (drop from line))))
-    → head_in line ≡ first (cons_option (head_behind front rest)
-    (filter_map (head_at line) (take (8 - (turn + 1)) (colons_from next (drop next line)))))
-step line front rest from next turn cut l same =
+-- what is read of a line is what is read at the next colon, or at those behind it
+step : {H : Type 0} (reads : List ℕ → List ℕ → Option H) (line front rest : List ℕ) (from next turn : ℕ) (all : Option H)
+    (cut : IsCutAtColon line from front rest next) → turn < 8
+    → all ≡ first (filter_map (read_at reads line) (take (8 - turn) (colons_from from (drop from line))))
+    → all ≡ first (cons_option (reads front rest)
+    (filter_map (read_at reads line) (take (8 - (turn + 1)) (colons_from next (drop next line)))))
+step {H} reads line front rest from next turn all cut l same =
     let k : ℕ = 8 - (turn + 1) in
     let more : 8 - turn ≡ suc k = omega arith in
-    let here : head_behind front rest ≡ head_at line cut.at = (λ i. head_behind (cut.before i) (cut.behind i)) in
-    same ∙ ap (λ cs. first (filter_map (head_at line) (take (8 - turn) cs))) cut.is_next
-    ∙ ap (λ m. first (filter_map (head_at line) (take m (cut.at ∷ colons_from (cut.at + 1) (drop (cut.at + 1) line))))) more
-    ∙ ap (λ o. first (cons_option o (filter_map (head_at line) (take k (colons_from (cut.at + 1) (drop (cut.at + 1) line)))))) (sym here)
-    ∙ ap (λ m. first (cons_option (head_behind front rest) (filter_map (head_at line) (take k (colons_from m (drop m line)))))) (sym cut.goes_on)
+    let here : reads front rest ≡ read_at reads line cut.at = (λ i. reads (cut.before i) (cut.behind i)) in
+    same ∙ ap (λ cs. first (filter_map (read_at reads line) (take (8 - turn) cs))) cut.is_next
+    ∙ ap (λ m. first (filter_map (read_at reads line) (take m (cut.at ∷ colons_from (cut.at + 1) (drop (cut.at + 1) line))))) more
+    ∙ ap (λ (o : Option H). first (cons_option o (filter_map (read_at reads line) (take k (colons_from (cut.at + 1) (drop (cut.at + 1) line)))))) (sym here)
+    ∙ ap (λ m. first (cons_option (reads front rest) (filter_map (read_at reads line) (take k (colons_from m (drop m line)))))) (sym cut.goes_on)
 
--- it tells something there
-pub tells_there : (line front rest : List ℕ) (from next turn : ℕ) (head : Head) → IsCutAtColon line from front rest next → turn < 8
-    → head_in line ≡ first (filter_map (head_at line) (take (8 - turn) (colons_from from (drop from line))))
-    → Some head ≡ head_behind front rest → Some head ≡ head_in line
-tells_there line front rest from next turn head cut l same e =
-    sym (step line front rest from next turn cut l same
-    ∙ ap (λ o. first (cons_option o (filter_map (head_at line) (take (8 - (turn + 1)) (colons_from next (drop next line)))))) (sym e))
+-- something is read there
+pub read_there : {H : Type 0} (reads : List ℕ → List ℕ → Option H) (line front rest : List ℕ) (from next turn : ℕ) (all : Option H) (one : H)
+    → IsCutAtColon line from front rest next → turn < 8
+    → all ≡ first (filter_map (read_at reads line) (take (8 - turn) (colons_from from (drop from line))))
+    → Some one ≡ reads front rest → Some one ≡ all
+read_there {H} reads line front rest from next turn all one cut l same e =
+    sym (step reads line front rest from next turn all cut l same
+    ∙ ap (λ (o : Option H). first (cons_option o (filter_map (read_at reads line) (take (8 - (turn + 1)) (colons_from next (drop next line)))))) (sym e))
 
--- it tells nothing there
-pub tells_later : (line front rest : List ℕ) (from next turn : ℕ) → IsCutAtColon line from front rest next → turn < 8
-    → head_in line ≡ first (filter_map (head_at line) (take (8 - turn) (colons_from from (drop from line))))
-    → None ≡ head_behind front rest
-    → head_in line ≡ first (filter_map (head_at line) (take (8 - (turn + 1)) (colons_from next (drop next line))))
-tells_later line front rest from next turn cut l same e =
-    step line front rest from next turn cut l same
-    ∙ ap (λ o. first (cons_option o (filter_map (head_at line) (take (8 - (turn + 1)) (colons_from next (drop next line)))))) (sym e)
+-- nothing is read there
+pub read_later : {H : Type 0} (reads : List ℕ → List ℕ → Option H) (line front rest : List ℕ) (from next turn : ℕ) (all : Option H)
+    → IsCutAtColon line from front rest next → turn < 8
+    → all ≡ first (filter_map (read_at reads line) (take (8 - turn) (colons_from from (drop from line))))
+    → None ≡ reads front rest
+    → all ≡ first (filter_map (read_at reads line) (take (8 - (turn + 1)) (colons_from next (drop next line))))
+read_later {H} reads line front rest from next turn all cut l same e =
+    step reads line front rest from next turn all cut l same
+    ∙ ap (λ (o : Option H). first (cons_option o (filter_map (read_at reads line) (take (8 - (turn + 1)) (colons_from next (drop next line)))))) (sym e)
+
+-- ---- runs of characters of ASCII
+
+-- a text may be cut behind characters that are ASCII
+pub run_boundary : (test : ℕ → Bool) → ((c : ℕ) → test c ≡ true → c < 128) → (text : List ℕ) (end : ℕ)
+    → end ≡ prefix_len test text → IsUtf8 text → IsCharBoundary text end
+run_boundary test low text zero e u = IsCharBoundary-start text u
+run_boundary test low text (suc m) e u =
+    let more : m + 1 ≡ suc m = omega arith in
+    let one : test (get_or text m 0) ≡ true = prefix_len_passes test text m 0 (omega (arith, e)) in
+    subst (IsCharBoundary text) more
+    (IsCharBoundary-after_ascii text m u (omega (arith, e, prefix_len-le-length test text)) (low _ one))
+
+pub blank_small : (c : ℕ) → eqb c 32 ≡ true → c < 128
+blank_small c e = omega (arith, eqb-true c 32 e)
+
+pub parameter_small : (c : ℕ) → is_parameter c ≡ true → c < 128
+parameter_small c e = grind (arith, nat_tests)
 
 -- ---- numbers
 
@@ -232,12 +314,7 @@ digit_small c e = grind arith
 
 -- digits may be cut off
 pub digits_boundary : (text : List ℕ) (end : ℕ) → end ≡ digits_in text → IsUtf8 text → IsCharBoundary text end
-digits_boundary text zero e u = IsCharBoundary-start text u
-digits_boundary text (suc m) e u =
-    let more : m + 1 ≡ suc m = omega arith in
-    let one : is_ascii_digit (get_or text m 0) ≡ true = prefix_len_passes is_ascii_digit text m 0 (omega (arith, e)) in
-    subst (IsCharBoundary text) more
-    (IsCharBoundary-after_ascii text m u (omega (arith, e, prefix_len-le-length is_ascii_digit text)) (digit_small _ one))
+digits_boundary text end e u = run_boundary is_ascii_digit digit_small text end e u
 
 own : IsNumeralModel (λ ds. all_ascii_digits ds ≡ true) (digits_value 10)
 own = numerals_by_value (λ ds. all_ascii_digits ds ≡ true) tells_all_ascii_digits

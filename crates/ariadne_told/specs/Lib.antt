@@ -1,4 +1,14 @@
+pub mod Arrows
+pub mod ArrowsTold
+pub mod Fronts
+pub mod FrontsTold
 pub mod Heads
+pub mod Kinds
+pub mod Pieces
+pub mod Places
+pub mod Sent
 pub mod Severities
+pub mod Sgr
+pub mod Tallies
 pub mod Told
 pub mod ToldLines

@@ -1,17 +1,29 @@
 -- What is held of a line of text while it is read.
-use Rattle.std.specs.Prelude.{ℕ, ◌≡◌, ◌+◌, List, ◌∷◌, ◌++◌, drop, option_map, take}
+use Rattle.std.specs.Prelude.{ℕ, ◌≡◌, ◌+◌, List, ◌∷◌, drop, option_map, take}
 use Rattle.std.specs.Str.{IsCharBoundary}
 use Rattle.ariadne_told.specs.Heads.{Head, colons_from}
+use Rattle.ariadne_told.specs.Kinds.{Kind}
+use Rattle.ariadne_told.specs.declared.kinds.ToldKind.{ToldKind}
 use Rattle.ariadne_told.specs.declared.lines.ToldLine.{ToldLine}
+
+-- the kind that its pieces are
+abbrev pub kind_told : ToldKind → Kind
+kind_told told = record {
+  severity = told.severity;
+  name = option_map (λ name. name.now) told.name;
+  code = option_map (λ code. code.now) told.code;
+  is_from_zero = told.is_from_zero;
+  is_note = told.is_note;
+}
 
 -- the head that its pieces are
 abbrev pub head_told : ToldLine → Head
 head_told told = record {
   file = told.file.now;
   start = told.start;
+  end = told.end;
   ranges = told.ranges.now;
-  severity = told.severity;
-  code = option_map (λ code. code.now) told.code;
+  kind = kind_told told.kind;
   message = told.message.now;
 }
 
@@ -23,7 +35,3 @@ pub record IsCutAtColon (line : List ℕ) (from : ℕ) (front rest : List ℕ) (
   pub behind : rest ≡ drop (at + 1) line
   pub goes_on : next ≡ at + 1
   pub is_boundary : IsCharBoundary line next
-
--- a list goes on behind another
-abbrev pub GoesOn : {T : Type 0} → List T → List T → Type 0
-GoesOn {T} before after = (others : List T) × (after ≡ before ++ others)

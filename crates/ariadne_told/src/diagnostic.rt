@@ -6,6 +6,7 @@ ghost use Rattle.ariadne_told.specs.Severities.{severity_of};
 ghost use Rattle.ariadne_told.specs.Told.{main_of};
 ghost use Rattle.ariadne_told.specs.Told.{first_primary as first_primary_of};
 
+use crate::names::{is_error, is_note, is_warning};
 use ariadne_color::Color;
 use ariadne_columns::Unit;
 use std::alloc::{AllocError, Global};
@@ -22,18 +23,19 @@ pub enum Severity {
 }
 
 impl Severity {
-    /// The severity that tools give this name, if it is one.
+    /// The severity that tools give this name, in any case of letters, if it is one.
     #[tactic(auto, unfolding(crate::specs::Severities::severity_of))]
     pub fn of(name: &str) -> Option<Severity>
         ensures { result ≡ severity_of name.now }
     {
-        match name {
-            "error" | "fatal error" | "internal compiler error" => Some(Severity::Error),
-            "error: internal compiler error" | "sorry, unimplemented" => Some(Severity::Error),
-            "warning" | "pedwarn" | "anachronism" => Some(Severity::Warning),
-            "note" | "help" | "info" | "style" | "remark" | "hint" => Some(Severity::Note),
-            "failure-note" | "advice" => Some(Severity::Note),
-            _ => None,
+        if is_error(name) {
+            Some(Severity::Error)
+        } else if is_warning(name) {
+            Some(Severity::Warning)
+        } else if is_note(name) {
+            Some(Severity::Note)
+        } else {
+            None
         }
     }
 }
@@ -92,6 +94,9 @@ pub struct Place {
     pub is_primary: bool,
     /// How it is drawn.
     pub look: Look,
+    /// From where to where the tool's own marks cover it, if it draws some: in front of the character at
+    /// the second spot they end. Their columns count characters. They are surer than `start` and `end`.
+    pub marks: Option<(Spot, Spot)>,
 }
 
 /// A kind of the tool's own.
@@ -101,6 +106,17 @@ pub struct OwnKind {
     pub name: String,
     /// Its colour, if one is told.
     pub color: Option<Color>,
+}
+
+/// A line of a file as a tool quotes it.
+#[derive(Debug, Drop)]
+pub struct QuotedLine {
+    /// The file's path, as the tool wrote it.
+    pub file: String,
+    /// The line, from 1.
+    pub line: usize,
+    /// Its text, without what ends it.
+    pub text: String,
 }
 
 /// What a tool tells.
@@ -120,6 +136,10 @@ pub struct Diagnostic {
     pub notes: Vec<String>,
     /// What it proposes.
     pub helps: Vec<String>,
+    /// The lines of files that it quotes.
+    pub quoted: Vec<QuotedLine>,
+    /// The path of the manifest of the package that it is about, where cargo hands it on.
+    pub manifest: Option<String>,
     /// Whether it sums up others, as rustc's `aborting due to 2 previous errors`. It counts as none.
     pub is_sum: bool,
 }
@@ -132,6 +152,8 @@ impl Diagnostic {
         ensures code { IfOk result (λ told. told.code ≡ None) }
         ensures message { IfOk result (λ told. string_bytes told.message ≡ message.now) }
         ensures places { IfOk result (λ told. told.places.items ≡ []) }
+        ensures notes { IfOk result (λ told. told.notes.items ≡ []) }
+        ensures helps { IfOk result (λ told. told.helps.items ≡ []) }
         ensures counted { IfOk result (λ told. told.is_sum ≡ false) }
     {
         Ok(Diagnostic {
@@ -142,6 +164,8 @@ impl Diagnostic {
             places: Vec::new(alloc),
             notes: Vec::new(alloc),
             helps: Vec::new(alloc),
+            quoted: Vec::new(alloc),
+            manifest: None,
             is_sum: false,
         })
     }

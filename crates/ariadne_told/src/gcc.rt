@@ -6,6 +6,7 @@ ghost use Rattle.serde_json.specs.View.{items_view, view};
 ghost use Rattle.ariadne_told.specs.Told.{is_gcc, is_gcc_list, tells_gcc};
 
 use crate::diagnostic::{Diagnostic, End, Look, Place, Severity, Spot};
+use crate::fixes::fix_text;
 use crate::json::{copied_text, items, number, text};
 use ariadne_columns::Unit;
 use serde_json::Value;
@@ -196,6 +197,7 @@ fn push_place(
         text: String::from_str(alloc, said)?,
         is_primary,
         look: Look::default(),
+        marks: None,
     })?;
     Ok(())
 }
@@ -205,18 +207,9 @@ fn push_fixes(alloc: Global, told: &mut Diagnostic, value: &Value) -> Result<(),
     for fix in items(value, "fixits") {
         let at = fix.get("start").and_then(spot);
         if let (Some(at), Some(put_in)) = (at, text(fix, "string")) {
-            told.helps.push(fix_text(alloc, at, put_in)?)?;
+            let column = at.column.unwrap_or(1);
+            told.helps.push(fix_text(alloc, at.line, column, put_in)?)?;
         }
     }
     Ok(())
-}
-
-/// What a help says that puts something in; where that is nothing, what is there is removed.
-fn fix_text(alloc: Global, at: Spot, put_in: &str) -> Result<String, AllocError> {
-    let line = at.line;
-    let column = at.column.unwrap_or(1);
-    if put_in.is_empty() {
-        return format!(in alloc; "remove what stands at {line}:{column}");
-    }
-    format!(in alloc; "put `{put_in}` at {line}:{column}")
 }

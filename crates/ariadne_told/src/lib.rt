@@ -2,15 +2,33 @@
 //! these tell.
 #![tactic(auto)]
 
+pub mod arrows;
+mod cargo;
 mod colors;
 pub mod diagnostic;
+mod fixes;
+pub mod fronts;
 mod gcc;
+mod heads;
 mod json;
-mod lines;
+mod kinds;
+pub mod lines;
+mod names;
+mod pieces;
 mod report;
 mod rustc;
+pub mod sent;
+pub mod sgr;
+pub mod spots;
+pub mod tally;
 pub mod telling;
 
 pub use ariadne_columns::Unit;
-pub use diagnostic::{Diagnostic, End, Look, OwnKind, Place, Severity, Spot};
-pub use telling::{Format, Reading, told};
+pub use arrows::{Arrow, BareHead, arrow_of, bare_head_of};
+pub use diagnostic::{Diagnostic, End, Look, OwnKind, Place, QuotedLine, Severity, Spot};
+pub use fronts::{Front, front_of, is_scope_line};
+pub use lines::code_in;
+pub use sent::Sent;
+pub use sgr::{has_escape, without_sgr};
+pub use tally::is_tally;
+pub use telling::{Answer, Format, Reading, told};

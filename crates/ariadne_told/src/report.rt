@@ -137,6 +137,7 @@ fn push_label(
         text: String::from_str(alloc, text(label, "text").unwrap_or(""))?,
         is_primary,
         look: look_of(label),
+        marks: None,
     })?;
     Ok(())
 }

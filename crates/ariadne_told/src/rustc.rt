@@ -4,7 +4,8 @@ ghost use Rattle.std.specs.Prelude.{◌≡◌, is_some, option_map};
 ghost use Rattle.serde_json.specs.View.{view};
 ghost use Rattle.ariadne_told.specs.Told.{is_rustc as is_of_rustc, rustc_in};
 
-use crate::diagnostic::{Diagnostic, End, Look, Place, Severity, Spot};
+use crate::diagnostic::{Diagnostic, End, Look, Place, QuotedLine, Severity, Spot};
+use crate::fixes::fix_text;
 use crate::json::{copied_text, has_list, is_true, items, number, text};
 use ariadne_columns::Unit;
 use serde_json::Value;
@@ -72,11 +73,12 @@ fn is_sum(value: &Value, message: &str) -> bool {
 }
 
 /// Whether a span lies in a file of the user's: in none that a macro made, and none of std, which is
-/// where rustup puts it, or is told by a path of the machine that built it.
+/// where rustup or Debian puts it, or is told by a path of the machine that built it.
 fn is_own(span: &Value) -> bool {
     text(span, "file_name").is_some_and(|name| {
         !name.starts_with('<')
             && !name.starts_with("/rustc/")
+            && !name.starts_with("/usr/src/rustc-")
             && !name.contains("/rustlib/src/rust/")
     })
 }
@@ -120,8 +122,16 @@ fn push_place(
         Some(end) => End::Before(end),
         None => End::OfWord,
     };
+    let file = text(own, "file_name").unwrap_or("");
+    push_quoted(
+        alloc,
+        &mut told.quoted,
+        file,
+        start.line,
+        items(own, "text"),
+    )?;
     told.places.push(Place {
-        file: String::from_str(alloc, text(own, "file_name").unwrap_or(""))?,
+        file: String::from_str(alloc, file)?,
         caret: start,
         start,
         end,
@@ -130,18 +140,55 @@ fn push_place(
         text: String::from_str(alloc, said)?,
         is_primary,
         look: Look::default(),
+        marks: None,
     })?;
     Ok(())
 }
 
+/// Adds the lines that a span quotes of its file, of which this is the first.
+fn push_quoted(
+    alloc: Global,
+    quoted: &mut Vec<QuotedLine>,
+    file: &str,
+    first: usize,
+    lines: &[Value],
+) -> Result<(), AllocError> {
+    for (number, line) in lines.iter().enumerate() {
+        quoted.push(QuotedLine {
+            file: String::from_str(alloc, file)?,
+            line: first.saturating_add(number),
+            text: String::from_str(alloc, first_line(text(line, "text").unwrap_or("")))?,
+        })?;
+    }
+    Ok(())
+}
+
+/// What stands in front of the first line feed of a text.
+fn first_line(text: &str) -> &str {
+    match text.split_once('\n') {
+        Some((line, _)) => line,
+        None => text,
+    }
+}
+
 /// Adds the place of the macro call that a span of the user's was made by.
 fn push_macro_call(alloc: Global, told: &mut Diagnostic, span: &Value) -> Result<(), AllocError> {
-    match span.get("expansion").and_then(|it| it.get("span")) {
+    match macro_call(span) {
         Some(call) if is_own(span) && is_own(call) => {
             push_place(alloc, told, call, "in this macro invocation", false)
         }
         _ => Ok(()),
     }
+}
+
+/// The span of the macro call that a span was made by. What the compiler itself writes in other words, as
+/// a `for` loop, calls none.
+fn macro_call(span: &Value) -> Option<&Value> {
+    let expansion = span.get("expansion")?;
+    if text(expansion, "macro_decl_name")?.starts_with("desugaring of ") {
+        return None;
+    }
+    expansion.get("span")
 }
 
 /// Adds a note or a help: as labels where it has places, and with what it puts in.
@@ -210,10 +257,6 @@ fn push_part(
 ) -> Result<(), AllocError> {
     let line = number(span, "line_start").unwrap_or(0);
     let column = number(span, "column_start").unwrap_or(0);
-    let part = if put_in.is_empty() {
-        format!(in alloc; "remove what stands at {line}:{column}")?
-    } else {
-        format!(in alloc; "put `{put_in}` at {line}:{column}")?
-    };
+    let part = fix_text(alloc, line, column, put_in)?;
     said.push_str(part.as_str())
 }

@@ -1,13 +1,22 @@
-use Rattle.std.proofs.Common.{Option, Some, Vec, subst}
-use Rattle.std.specs.declared.alloc.Global.{Global}
+use Rattle.std.proofs.Common.{◌≡◌, ◌∙◌, if◌then◌else◌, Option, ap, subst}
+use Rattle.std.specs.Prelude.{Bool}
 use Rattle.ariadne_told.specs.Heads.{Head}
-use Rattle.ariadne_told.specs.Told.{IsToldOfHead}
-use Rattle.ariadne_told.specs.declared.diagnostic.Diagnostic.{Diagnostic}
+use Rattle.ariadne_told.specs.Told.{is_note, IsToldOfHead}
+use Rattle.ariadne_told.specs.ToldLines.{head_told}
+use Rattle.ariadne_told.specs.declared.telling.Answer.{Answer}
+use Rattle.ariadne_told.specs.declared.telling.Answer.TheVariants.{Head as Header, Note}
 use Rattle.ariadne_told.proofs.telling.line_in.Goals as goal
+use Rattle.ariadne_told.proofs.telling.line_in.Goals.{then-is_note, else-is_note}
 
--- one diagnostic is told of the line's head
-pub returns-in_ok-one-in-Some-clause-told : goal.returns-in_ok-one-in-Some-clause-told
-returns-in_ok-one-in-Some-clause-told c =
-    let all : Vec Diagnostic Global = c.in_ok-one-in-Some.field-0 in
-    subst (λ (head : Option Head). IsToldOfHead head (Some all)) c.in-Some.ensures
-    (c.in_ok-told_by_line-in-Some.field-0, c.in_ok-one-in-Some.ensures, c.in_ok-told_by_line-in-Some.ensures)
+-- a diagnostic is told of the line's head: as a note, or by itself
+pub returns : goal.returns
+returns c =
+    let head = head_told c.in-Some.it in
+    let one = c.in_ok-told.told in
+    let answer : Bool → Answer = λ b. if b then Note one else Header one in
+    let same : c.if-is_note.result ≡ answer (is_note head) =
+    elim c.if-is_note.branch [
+      | then-is_note w ↦ w.result-is ∙ ap answer w.if-is_note.ensures
+      | else-is_note w ↦ w.result-is ∙ ap answer w.if-is_note.ensures
+    ] in
+    subst (λ (h : Option Head). IsToldOfHead c.args.unit h c.if-is_note.result) c.in-Some.ensures (one, same, c.in_ok-told.ensures)
