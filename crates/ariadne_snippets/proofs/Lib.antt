@@ -1,0 +1,9 @@
+pub mod Beginning
+pub mod Covering
+pub mod Endings
+pub mod Joining
+pub mod Nexts
+pub mod Parts
+pub mod Puts
+pub mod Telling
+pub mod Texts

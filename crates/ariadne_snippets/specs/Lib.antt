@@ -1,0 +1,9 @@
+pub mod Ends
+pub mod Gutters
+pub mod Marks
+pub mod Pieces
+pub mod Puts
+pub mod Quotes
+pub mod Rows
+pub mod Snippets
+pub mod Words

@@ -1,0 +1,309 @@
+//! The snippet of a place, line by line: how it begins.
+
+ghost use Rattle.std.specs.Prelude.{◌≡◌, [], ◌∷◌, map, option_map, IfOk, List, ℕ};
+ghost use Rattle.ariadne_snippets.specs.Ends.{IsEnd};
+ghost use Rattle.ariadne_snippets.specs.Snippets.{change_of_line, change_told, number_named, number_quoted};
+ghost use Rattle.ariadne_snippets.specs.Snippets.{EndsBy, HasEnded, IsUnread, QuotesNext, TellsOf};
+
+use crate::forms::added_line;
+use crate::gutter::{Gutter, gutter_of};
+use crate::quote::Quote;
+use crate::quoted::Quoted;
+use crate::rows::is_blank;
+use crate::taken::{Fix, FixKind, Point, Taken};
+use ariadne_columns::Unit;
+use std::alloc::{AllocError, Global};
+
+/// How the lines of a snippet are written.
+#[derive(Clone, Copy, Debug, PartialEq, Eq)]
+pub(crate) enum Form {
+    /// None was read yet.
+    Unread,
+    /// As they stand in the file: clang, javac, mypy, cppcheck.
+    Plain,
+    /// Behind a gutter whose bar stands at this byte: gcc.
+    Gutter(usize),
+    /// Behind such a gutter and a sign, with an empty line at the end: erlc.
+    Signed(usize),
+    /// Behind a gutter that begins in a row of its own, with an empty line at the end: rustc.
+    Framed(usize),
+}
+
+/// What lines are read next.
+#[derive(Clone, Copy, Debug, PartialEq, Eq)]
+pub(crate) enum Stage {
+    /// Quoted lines, and rows below them.
+    Rows,
+    /// What a note or a help goes on with, too.
+    Noted,
+    /// Lines as they are to be, as a help says.
+    Advised,
+    /// None.
+    Ended,
+}
+
+/// What the rows behind a help have said so far.
+#[derive(Clone, Copy, Debug, PartialEq, Eq)]
+pub(crate) enum Advice {
+    /// That this many lines are put in.
+    Puts(usize),
+    /// That lines go, or become others.
+    Replaces,
+}
+
+/// The snippet of a place.
+#[derive(Debug, Drop)]
+pub struct Snippet {
+    pub(crate) alloc: Global,
+    /// The line of the place.
+    pub(crate) line: usize,
+    /// The character of that line that the head names.
+    pub(crate) caret: Option<usize>,
+    pub(crate) form: Form,
+    pub(crate) stage: Stage,
+    /// What the last help has said.
+    pub(crate) advice: Advice,
+    /// The line that was quoted last.
+    pub(crate) quoted: Option<Quoted>,
+    /// Where ranges over lines have begun that have not ended.
+    pub(crate) opened: Vec<Point>,
+    /// The line to whose end marks have reached.
+    pub(crate) reached: Option<usize>,
+}
+
+#[tactic(auto, using(crate::proofs::Nexts::stays, crate::proofs::Nexts::quoted_further))]
+impl Snippet {
+    /// The snippet of a place, of which nothing was read yet.
+    ///
+    /// The place is in this line, from 1. `caret` is the character of the line, from 0, that the head's
+    /// column means: nothing where the head names no column.
+    pub fn new(alloc: Global, line: usize, caret: Option<usize>) -> Snippet
+        ensures { IsUnread line caret result }
+    {
+        Snippet {
+            alloc,
+            line,
+            caret,
+            form: Form::Unread,
+            stage: Stage::Rows,
+            advice: Advice::Puts(0),
+            quoted: None,
+            opened: Vec::new(alloc),
+            reached: None,
+        }
+    }
+
+    /// The number of the line of the file that a line of output would quote.
+    pub fn quoted_number(&self, line: &str) -> Option<usize>
+        ensures { result ≡ number_quoted self.now line.now }
+    {
+        match (named_number(line), self.form) {
+            (Some(number), _) => Some(number),
+            (None, Form::Unread) => Some(self.line),
+            (None, _) => None,
+        }
+    }
+
+    /// Takes the next line of output, if it is one of the snippet.
+    ///
+    /// It has no line feed and no SGR sequence. `source` is the line of the file with its quoted number,
+    /// without what ends it: nothing where the file has none. Once a line was none of the snippet it has
+    /// ended, and takes no other. On `Err` there was no memory.
+    pub fn take<'a>(
+        &mut self,
+        line: &'a str,
+        source: Option<&[char]>,
+    ) -> Result<Taken<'a>, AllocError>
+        ensures quotes { IfOk result (λ taken. QuotesNext line.now
+            (option_map (λ source. source.now) source.entry) self.old.quoted self.new.quoted) }
+        ensures tells { IfOk result (λ taken. TellsOf self.new.quoted line.now taken) }
+        ensures ends { IfOk result (λ taken. EndsBy self.new taken) }
+        ensures over { HasEnded self.old → IfOk result (λ taken. taken ≡ Taken.NotOfSnippet) }
+    {
+        if self.stage == Stage::Ended {
+            return Ok(Taken::NotOfSnippet);
+        }
+        match self.form {
+            Form::Unread => self.take_first(line, source),
+            Form::Plain => self.take_plain(line),
+            Form::Gutter(bar) => self.take_behind(bar, line, source),
+            Form::Signed(bar) => self.take_signed(bar, line, source),
+            Form::Framed(bar) => self.take_framed(bar, line, source),
+        }
+    }
+
+    /// Takes the first line.
+    fn take_first<'a>(
+        &mut self,
+        line: &'a str,
+        source: Option<&[char]>,
+    ) -> Result<Taken<'a>, AllocError>
+        ensures quotes { IfOk result (λ taken. QuotesNext line.now
+            (option_map (λ source. source.now) source.entry) self.old.quoted self.new.quoted) }
+        ensures tells { IfOk result (λ taken. TellsOf self.new.quoted line.now taken) }
+        ensures ends { IfOk result (λ taken. EndsBy self.new taken) }
+    {
+        if let Some(text) = added_line(line) {
+            let fixes = one_fix(self.alloc, self.line, FixKind::PutLine, text)?;
+            return Ok(Taken::Fixes(fixes));
+        }
+        match gutter_of(line) {
+            Some(
+                Gutter {
+                    number: Some(number),
+                    bar,
+                    text,
+                },
+            ) => self.take_first_behind(line, number, bar, text, source),
+            Some(gutter) if is_blank(gutter.text) => self.take_frame(gutter.bar, line, source),
+            _ => self.take_first_plain(line, source),
+        }
+    }
+
+    /// Takes the first line, which a gutter begins.
+    fn take_first_behind<'a>(
+        &mut self,
+        line: &str,
+        number: usize,
+        bar: usize,
+        text: &str,
+        source: Option<&[char]>,
+    ) -> Result<Taken<'a>, AllocError>
+        requires { IsEnd text.now line.now }
+        ensures quotes { IfOk result (λ taken. QuotesNext line.now
+            (option_map (λ source. source.now) source.entry) self.old.quoted self.new.quoted) }
+        ensures tells { (line : List ℕ) → IfOk result (λ taken. TellsOf self.new.quoted line taken) }
+        ensures ends { IfOk result (λ taken. EndsBy self.new taken) }
+    {
+        if line.starts_with('%') {
+            self.form = Form::Signed(bar);
+            return self.take_signed_quote(number, text, source);
+        }
+        self.form = Form::Gutter(bar);
+        self.take_quote(number, text, source)
+    }
+
+    /// Takes an empty row of a gutter as the first line: the frame of those below it, unless it quotes
+    /// the line of the place.
+    fn take_frame<'a>(
+        &mut self,
+        bar: usize,
+        line: &str,
+        source: Option<&[char]>,
+    ) -> Result<Taken<'a>, AllocError>
+        ensures quotes { IfOk result (λ taken. QuotesNext line.now
+            (option_map (λ source. source.now) source.entry) self.old.quoted self.new.quoted) }
+        ensures tells { (line : List ℕ) → IfOk result (λ taken. TellsOf self.new.quoted line taken) }
+        ensures ends { IfOk result (λ taken. EndsBy self.new taken) }
+    {
+        self.form = if self.quotes(self.line, line, source)? {
+            Form::Plain
+        } else {
+            Form::Framed(bar)
+        };
+        Ok(Taken::Nothing)
+    }
+
+    /// Takes the first line as it stands in the file.
+    fn take_first_plain<'a>(
+        &mut self,
+        line: &str,
+        source: Option<&[char]>,
+    ) -> Result<Taken<'a>, AllocError>
+        ensures quotes { IfOk result (λ taken. QuotesNext line.now
+            (option_map (λ source. source.now) source.entry) self.old.quoted self.new.quoted) }
+        ensures tells { (line : List ℕ) → IfOk result (λ taken. TellsOf self.new.quoted line taken) }
+        ensures ends { IfOk result (λ taken. EndsBy self.new taken) }
+    {
+        self.form = Form::Plain;
+        self.take_quote(self.line, line, source)
+    }
+
+    /// Takes a text as a quote.
+    pub(crate) fn take_quote<'a>(
+        &mut self,
+        number: usize,
+        text: &str,
+        source: Option<&[char]>,
+    ) -> Result<Taken<'a>, AllocError>
+        ensures quotes { IfOk result (λ taken. QuotesNext text.now
+            (option_map (λ source. source.now) source.entry) self.old.quoted self.new.quoted) }
+        ensures tells { (line : List ℕ) → IfOk result (λ taken. TellsOf self.new.quoted line taken) }
+        ensures ends { IfOk result (λ taken. EndsBy self.new taken) }
+    {
+        if self.quotes(number, text, source)? {
+            Ok(Taken::Nothing)
+        } else {
+            Ok(self.take_none())
+        }
+    }
+
+    /// Whether a text quotes a line of the file. It is then the line that was quoted last.
+    fn quotes(
+        &mut self,
+        number: usize,
+        text: &str,
+        source: Option<&[char]>,
+    ) -> Result<bool, AllocError>
+        ensures { IfOk result (λ is_quote. QuotesNext text.now
+            (option_map (λ source. source.now) source.entry) self.old.quoted self.new.quoted) }
+    {
+        let Some(line) = source else {
+            return Ok(false);
+        };
+        let Some(quote) = Quote::new(self.alloc, text, 0, line)? else {
+            return Ok(false);
+        };
+        self.quoted = Some(Quoted::new(self.alloc, number, quote, Unit::Display));
+        Ok(true)
+    }
+
+    /// Takes no line any more.
+    pub(crate) fn take_none<'a>(&mut self) -> Taken<'a>
+        ensures quoted { self.new.quoted ≡ self.old.quoted }
+        ensures tells { (line : List ℕ) → TellsOf self.new.quoted line result }
+        ensures ends { EndsBy self.new result }
+    {
+        self.stage = Stage::Ended;
+        Taken::NotOfSnippet
+    }
+
+    /// Takes an empty line as the last one.
+    pub(crate) fn take_end<'a>(&mut self) -> Taken<'a>
+        ensures quoted { self.new.quoted ≡ self.old.quoted }
+        ensures tells { (line : List ℕ) → TellsOf self.new.quoted line result }
+        ensures ends { EndsBy self.new result }
+    {
+        self.stage = Stage::Ended;
+        Taken::Nothing
+    }
+}
+
+/// The number of a line of the file that the gutter of a line of output names.
+fn named_number(line: &str) -> Option<usize>
+    ensures { result ≡ number_named line.now }
+{
+    match gutter_of(line) {
+        Some(gutter) => gutter.number,
+        None => None,
+    }
+}
+
+/// One change of a line.
+pub(crate) fn one_fix<'a>(
+    alloc: Global,
+    line: usize,
+    kind: FixKind,
+    text: &'a str,
+) -> Result<Vec<Fix<'a>>, AllocError>
+    ensures { IfOk result (λ fixes.
+        map change_told fixes.items ≡ change_of_line line kind text.now ∷ []) }
+{
+    let mut fixes = Vec::new(alloc);
+    fixes.push(Fix {
+        at: Point { line, offset: 0 },
+        kind,
+        text,
+    })?;
+    Ok(fixes)
+}

@@ -1,0 +1,64 @@
+//! The strokes that rustc draws beside lines, for ranges over several of them.
+//!
+//! ```text
+//! 2 |       let x = if c {
+//!   |  _____________-            a range begins here
+//! 3 | |         1
+//! 4 | |     };
+//!   | |_____- not the same     and ends here
+//!
+//! 6 | /     match x {          another begins where the line does
+//! ```
+
+/// What the stroke that leads to a mark says of it.
+#[derive(Clone, Copy, Debug, PartialEq, Eq)]
+pub(crate) enum Stroke {
+    /// There is none.
+    Absent,
+    /// A range over lines begins at the mark.
+    Begins,
+    /// One ends there.
+    Ends,
+}
+
+/// The stroke in front of the first mark of a row.
+pub(crate) fn stroke_of(row: &str) -> Stroke {
+    match row.split_once('_') {
+        Some((front, _)) if has_mark(front) => Stroke::Absent,
+        Some((front, _)) if front.ends_with('|') => Stroke::Ends,
+        Some(_) => Stroke::Begins,
+        None => Stroke::Absent,
+    }
+}
+
+/// Whether a text has a mark.
+fn has_mark(text: &str) -> bool {
+    text.as_bytes().iter().any(|b| *b != b' ' && *b != b'|')
+}
+
+/// How many characters of a text stand up to the next stroke behind these, if blanks lead to one.
+pub(crate) fn behind_stroke(text: &str, strokes: usize) -> Option<usize> {
+    let rest = text.get(strokes..)?;
+    let at_stroke = rest.trim_start_matches(' ');
+    if at_stroke.starts_with('|') || at_stroke.starts_with('/') {
+        Some(text.len() - at_stroke.len() + 1)
+    } else {
+        None
+    }
+}
+
+/// Whether the last of these strokes in front of a text is one at which a range begins.
+pub(crate) fn is_corner(text: &str, strokes: usize) -> bool {
+    match text.get(..strokes) {
+        Some(front) => front.ends_with('/'),
+        None => false,
+    }
+}
+
+/// The column of the text behind these strokes and blanks.
+pub(crate) fn text_column(text: &str, strokes: usize) -> usize {
+    match text.get(strokes..) {
+        Some(rest) => text.len() - rest.trim_start_matches(' ').len(),
+        None => strokes,
+    }
+}
