@@ -1,0 +1,44 @@
+-- Blocks as they are read.
+use Rattle.std.proofs.Common.{◌≡◌, ◌∙◌, ℕ, List, refl, ap, sym}
+use Rattle.std.specs.Prelude.{map, slice_get, is_some, Option, None, Some, option_map}
+use Rattle.std.specs.Option.{option_copied}
+use Rattle.std.specs.Borrow.{Bor}
+use Rattle.ariadne_told.specs.Places.{seen}
+use Rattle.ariadne_told.specs.declared.diagnostic.Place.{Place}
+use Rattle.ariadne_blocks.specs.Blocks.{first_file, first_line, View}
+use Rattle.ariadne_blocks.specs.Files.{file_at, line_at}
+use Rattle.ariadne_blocks.specs.Telling.{Telling}
+use Rattle.ariadne_blocks.proofs.Lists.{first_mapped}
+
+-- views are the same whose parts are
+pub same_view : (v w : View) → v.told ≡ w.told → v.path ≡ w.path → v.at ≡ w.at → v.marked ≡ w.marked
+    → v.behind ≡ w.behind → v.width ≡ w.width → v.aside ≡ w.aside → v.named ≡ w.named
+    → v.caret ≡ w.caret → v ≡ w
+same_view v w told path at marked behind width aside named caret =
+    ap (λ (t : Telling). record v { told = t }) told
+    ∙ ap (λ t. record v { told = w.told; path = t }) path
+    ∙ ap (λ t. record v { told = w.told; path = w.path; at = t }) at
+    ∙ ap (λ t. record v { told = w.told; path = w.path; at = w.at; marked = t }) marked
+    ∙ ap (λ t. record v { told = w.told; path = w.path; at = w.at; marked = w.marked; behind = t }) behind
+    ∙ ap
+    (λ t. record v { told = w.told; path = w.path; at = w.at; marked = w.marked; behind = w.behind; width = t })
+    width
+    ∙ ap (λ t. record w { aside = t; named = v.named; caret = v.caret }) aside
+    ∙ ap (λ t. record w { named = t; caret = v.caret }) named
+    ∙ ap (λ t. record w { caret = t }) caret
+
+-- the file of the first of places
+pub first_path : (ps : List Place) (first : Option (Bor Place)) (path : List ℕ) → option_copied first ≡ slice_get ps 0
+    → path ≡ file_at (option_map seen (option_copied first)) → path ≡ first_file (map seen ps)
+first_path ps first path is so =
+    so ∙ ap file_at (ap (option_map seen) is ∙ sym (first_mapped seen ps))
+
+-- there is something, whether it is lent or not
+pub some_copied : {A : Type 0} (o : Option (Bor A)) → is_some (option_copied o) ≡ is_some o
+some_copied None = refl
+some_copied (Some x) = refl
+
+-- the line of the first of places
+pub first_line_is : (ps : List Place) (first : Option (Bor Place)) → option_copied first ≡ slice_get ps 0
+    → line_at (option_map seen (option_copied first)) ≡ first_line (map seen ps)
+first_line_is ps first is = ap line_at (ap (option_map seen) is ∙ sym (first_mapped seen ps))

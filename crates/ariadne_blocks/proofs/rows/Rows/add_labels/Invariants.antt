@@ -1,0 +1,11 @@
+use Rattle.std.proofs.Common.{◌≡◌, take}
+use Rattle.std.specs.Prelude.{map}
+use Rattle.ariadne_told.specs.Places.{seen}
+use Rattle.ariadne_blocks.specs.Marks.{with_labels}
+use Rattle.ariadne_blocks.proofs.rows.Rows.add_labels.Given as goal
+
+-- the texts that are passed were said
+abbrev pub invariant-loop-label : goal.invariant-loop-label
+invariant-loop-label l =
+    map seen l.places.items
+    ≡ with_labels l.self.marked.items (take l.label-index l.labels) (map seen l.initial.places.items)

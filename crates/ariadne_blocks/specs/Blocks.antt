@@ -1,0 +1,379 @@
+-- A diagnostic of lines of text, as far as its lines were read: its head, the rows of its tool's snippet, and
+-- its notes with theirs. Each line is none of it, or is taken in, and then what it tells is told from then on.
+-- Lines that may go on with its message are held behind it: they become part of the message where a row
+-- follows that quotes a line, and else they turn out to be none of it.
+use Rattle.std.specs.Prelude.{ℕ, ◌≡◌, ◌==◌, Bool, true, false, not, ◌&&◌, ◌||◌, if◌then◌else◌}
+use Rattle.std.specs.Prelude.{List, [], ◌∷◌, ◌++◌, chars, codes, fold, length, map, reverse, slice_get}
+use Rattle.std.specs.Prelude.{Option, None, Some, is_some, option_map, string_bytes}
+use Rattle.std.specs.Str.{bytes_eq}
+use Rattle.ariadne_snippets.specs.Snippets.{number_quoted, HasEnded, IsUnread, QuotesNext, TellsOf}
+use Rattle.ariadne_snippets.specs.declared.snippet.Snippet.{Snippet}
+use Rattle.ariadne_snippets.specs.declared.taken.Fix.{Fix}
+use Rattle.ariadne_snippets.specs.declared.taken.Taken.{Taken}
+use Rattle.ariadne_snippets.specs.declared.taken.Taken.TheVariants.{NotOfSnippet, Nothing, Ranges, Labels, Fixes, Note, Help, More, At, Elsewhere}
+use Rattle.ariadne_told.specs.Arrows.{arrow_in}
+use Rattle.ariadne_told.specs.ArrowsTold.{place_of_arrow}
+use Rattle.ariadne_told.specs.Places.{seen, Seen}
+use Rattle.ariadne_told.specs.declared.diagnostic.Diagnostic.{Diagnostic}
+use Rattle.ariadne_told.specs.declared.diagnostic.Place.{Place}
+use Rattle.ariadne_blocks.specs.Colors.{IsBare}
+use Rattle.ariadne_blocks.specs.Files.{File, file_at, line_at, quotes_escape, source_in}
+use Rattle.ariadne_blocks.specs.Fixes.{fix_help}
+use Rattle.ariadne_blocks.specs.Marks.{Marking, with_labels, with_marks}
+use Rattle.ariadne_blocks.specs.Messages.{had_no_room, is_of_python, with_lines}
+use Rattle.ariadne_blocks.specs.Notes.{note_places}
+use Rattle.ariadne_blocks.specs.Telling.{Telling, telling}
+use Rattle.ariadne_blocks.specs.declared.block.Aside.{Aside}
+use Rattle.ariadne_blocks.specs.declared.block.Aside.TheVariants as aside
+use Rattle.ariadne_blocks.specs.declared.block.Block.{Block}
+use Rattle.ariadne_blocks.specs.declared.line.Line.{Line}
+use Rattle.ariadne_blocks.specs.declared.message.MessageLine.{MessageLine}
+
+-- ---- a block
+
+-- the diagnostic so far, and the bytes of the lines that may turn out to be none of it
+abbrev pub told_of : Block → Diagnostic
+told_of block = block.told
+
+abbrev pub bytes_of : MessageLine → List ℕ
+bytes_of line = line.bytes.items
+
+abbrev pub lines_behind : Block → List (List ℕ)
+lines_behind block = map bytes_of block.more.items
+
+-- the path of the file that its next rows quote, and the place that a row named
+abbrev pub path_of : Block → List ℕ
+path_of block = string_bytes block.rows.path
+
+abbrev pub named_by : Block → Option Place
+named_by block = block.named
+
+-- a line that is held: its bytes, and its text
+pub record Held : Type 0 where
+  pub bytes : List ℕ
+  pub text : List ℕ
+
+abbrev pub held_of : MessageLine → Held
+held_of line = record { bytes = line.bytes.items; text = string_bytes line.text }
+
+abbrev pub text_of : Held → List ℕ
+text_of line = line.text
+
+-- a block as it is read
+pub record View : Type 0 where
+  -- what it tells
+  pub told : Telling
+  -- the path of the file that its rows quote, the number of the place that they are of, and those of the
+  -- places that the marks read last are of
+  pub path : List ℕ
+  pub at : ℕ
+  pub marked : List ℕ
+  -- the lines that are held behind it, and how many characters the line had that was read last, if another
+  -- may go on with the message
+  pub behind : List Held
+  pub width : Option ℕ
+  -- which text was read last, and the place that a row named
+  pub aside : Aside
+  pub named : Option Seen
+  -- the character of its line, from 0, that its head points at, if that names a column
+  pub caret : Option ℕ
+
+abbrev pub view_of : Block → View
+view_of block = record {
+  told = telling block.told;
+  path = string_bytes block.rows.path;
+  at = block.rows.at;
+  marked = block.rows.marked.items;
+  behind = map held_of block.more.items;
+  width = block.width;
+  aside = block.aside;
+  named = option_map seen block.named;
+  caret = block.caret;
+}
+
+-- ---- texts beside the message
+
+-- a note or a help more
+abbrev pub with_aside : Aside → List ℕ → Telling → Telling
+with_aside aside.Note text told = record told { notes = told.notes ++ text ∷ [] }
+with_aside aside.Help text told = record told { helps = told.helps ++ text ∷ [] }
+with_aside aside.Change text told = record told { helps = told.helps ++ text ∷ [] }
+
+abbrev pub with_text : Aside → List ℕ → View → View
+with_text aside text view = record view { told = with_aside aside text view.told; aside = aside }
+
+-- ---- its head and its notes
+
+-- the file of the first of places, if there is one
+abbrev pub first_file : List Seen → List ℕ
+first_file places = file_at (slice_get places 0)
+
+-- and the line that it begins in
+abbrev pub first_line : List Seen → ℕ
+first_line places = line_at (slice_get places 0)
+
+-- a block of which the head was read, which points at this character: it tells what the head tells, and holds
+-- nothing behind it
+abbrev pub begun : Telling → List ℕ → Option ℕ → View
+begun told head caret = record {
+  told = told;
+  path = first_file told.places;
+  at = 0;
+  marked = [];
+  behind = [];
+  width = Some (length (chars head));
+  aside = aside.Note;
+  named = None;
+  caret = caret;
+}
+
+pub record IsBegun (told : Diagnostic) (head : List ℕ) (caret : Option ℕ) (block : Block) : Type 0 where
+  pub tells : told_of block ≡ told
+  pub awaits : IsUnread (first_line (telling told).places) caret block.rows.snippet
+  pub behind : lines_behind block ≡ []
+  pub view : view_of block ≡ begun (telling told) head caret
+
+-- more places stand behind those of a diagnostic
+abbrev pub with_places : List Seen → Telling → Telling
+with_places places told = record told { places = told.places ++ places }
+
+-- with a note, its places stand behind the others, of which the first says what the note says. The next rows
+-- are of that, at the character that the note points at
+abbrev pub noted : Telling → View → View
+noted note view = record view {
+  told = with_places (note_places note.message note.places) view.told;
+  path = first_file note.places;
+  at = length view.told.places;
+  marked = [];
+  width = None;
+}
+
+-- a note that names no column, in the line that a diagnostic begins in, says nothing of a place there
+abbrev pub is_of_line_at : Option Seen → Option Seen → Bool
+is_of_line_at None other = false
+is_of_line_at (Some own) None = false
+is_of_line_at (Some own) (Some place) =
+    not (is_some place.start.column) && (bytes_eq own.file place.file && own.start.line == place.start.line)
+
+abbrev pub is_of_line : Diagnostic → Diagnostic → Bool
+is_of_line told note =
+    is_of_line_at (slice_get (map seen told.places.items) 0) (slice_get (map seen note.places.items) 0)
+
+-- so a note is taken in at its places, or as a text
+pub data IsNoted (note : Diagnostic) (caret : Option ℕ) (before after : Block) : Type 0 where
+  at_places : is_of_line (told_of before) note ≡ false
+      → IsUnread (first_line (telling note).places) caret after.rows.snippet
+      → view_of after ≡ noted (telling note) (view_of before) → IsNoted note caret before after
+  as_text : is_of_line (told_of before) note ≡ true → after.rows ≡ before.rows
+      → view_of after ≡ with_text aside.Note (telling note).message (record (view_of before) { width = None })
+      → IsNoted note caret before after
+
+-- with a place that a line in front of it told
+abbrev pub IsPlacedBy : Place → Block → Block → Type 0
+IsPlacedBy place before after =
+    view_of after ≡ record (view_of before) { told = with_places (seen place ∷ []) (telling before.told) }
+
+-- a note is about a diagnostic: those of Python's tools are about others of their line
+abbrev pub is_about_place : Option Seen → Option Seen → Bool
+is_about_place None other = false
+is_about_place (Some own) None = false
+is_about_place (Some own) (Some place) =
+    not (is_of_python place.file) || (bytes_eq own.file place.file && own.start.line == place.start.line)
+
+abbrev pub is_about : Diagnostic → Diagnostic → Bool
+is_about told note =
+    is_about_place (slice_get (map seen told.places.items) 0) (slice_get (map seen note.places.items) 0)
+
+-- ---- lines that go on with the message
+
+-- a text may go on with it: its first word had no room in the line that was read last, of a tool of Python's
+abbrev pub may_go_on_at : List ℕ → Option ℕ → Option Seen → Bool
+may_go_on_at text None place = false
+may_go_on_at text (Some width) None = false
+may_go_on_at text (Some width) (Some place) = is_of_python place.file && had_no_room width text
+
+abbrev pub may_go_on : List ℕ → View → Bool
+may_go_on text view = may_go_on_at text view.width (slice_get view.told.places 0)
+
+-- such a line stands last behind the block
+abbrev pub with_more : List ℕ → List ℕ → View → View
+with_more bytes text view = record view {
+  behind = view.behind ++ record { bytes = bytes; text = text } ∷ [];
+  width = Some (length (chars text));
+}
+
+-- a line was held so
+pub record IsMore (bytes text : List ℕ) (before after : Block) : Type 0 where
+  pub may : may_go_on text (view_of before) ≡ true
+  pub awaits : IsUnread (first_line (telling before.told).places) before.caret after.rows.snippet
+  pub told : told_of after ≡ told_of before
+  pub behind : lines_behind after ≡ lines_behind before ++ bytes ∷ []
+  pub view : view_of after ≡ with_more bytes text (view_of before)
+
+-- ---- rows
+
+-- the lines behind go on with the message, and none is held any more
+abbrev pub with_message : View → View
+with_message view = record view {
+  told = with_lines (map text_of view.behind) view.told;
+  behind = [];
+  width = None;
+}
+
+-- the last of texts goes on with another, behind what stands between both
+abbrev pub gone_on : List ℕ → List ℕ → List (List ℕ) → List (List ℕ)
+gone_on between more [] = []
+gone_on between more (text ∷ []) = (text ++ between ++ more) ∷ []
+gone_on between more (text ∷ next ∷ texts) = text ∷ gone_on between more (next ∷ texts)
+
+abbrev pub with_more_of : Aside → List ℕ → List ℕ → Telling → Telling
+with_more_of aside.Note between more told = record told { notes = gone_on between more told.notes }
+with_more_of aside.Help between more told = record told { helps = gone_on between more told.helps }
+with_more_of aside.Change between more told = record told { helps = gone_on between more told.helps }
+
+-- the text that was read last goes on with a line of its own
+abbrev pub with_more_text : List ℕ → View → View
+with_more_text line view = record view { told = with_more_of view.aside (codes "\n") line view.told }
+
+-- what the tool says to change is a help, or is told behind the help that was read last, which then says why:
+-- `help: change, and so on`, each change in a line of its own
+abbrev pub with_change_by : Aside → List ℕ → View → View
+with_change_by aside.Note change view = record view { told = with_aside aside.Help change view.told }
+with_change_by aside.Help change view = record view {
+  told = with_more_of aside.Help (codes ": ") change view.told;
+  aside = aside.Change;
+}
+with_change_by aside.Change change view = record view {
+  told = with_more_of aside.Change (codes ",\n") change view.told;
+}
+
+abbrev pub with_fix : Option File → View → Fix → View
+with_fix file view fix = with_change_by view.aside (fix_help file fix) view
+
+abbrev pub with_fixes : Option File → List Fix → View → View
+with_fixes file fixes view = fold (with_fix file) view fixes
+
+-- what marks and the texts below them tell
+abbrev pub with_marking : Marking → View → View
+with_marking marking view = record view {
+  told = record view.told { places = marking.places };
+  marked = marking.marked;
+}
+
+abbrev pub with_places_now : List Seen → View → View
+with_places_now places view = record view { told = record view.told { places = places } }
+
+-- a block with what a row of this text tells, which was taken so and quotes a line or not
+abbrev pub with_row : Option File → List ℕ → Bool → Taken → View → View
+with_row file text is_quote NotOfSnippet view = view
+with_row file text is_quote Nothing view = if is_quote then with_message view else view
+with_row file text is_quote (Ranges marks) view =
+    with_marking (with_marks file view.path view.at marks.items view.told.places) view
+with_row file text is_quote (Labels labels) view =
+    with_places_now (with_labels view.marked labels.items view.told.places) view
+with_row file text is_quote (Fixes fixes) view = with_fixes file fixes.items view
+with_row file text is_quote (Note note) view = with_text aside.Note note.now view
+with_row file text is_quote (Help help) view = with_text aside.Help help.now view
+with_row file text is_quote (More line) view =
+    with_more_text line.now view
+with_row file text is_quote (At place) view =
+    record view { named = option_map place_of_arrow (arrow_in text) }
+with_row file text is_quote (Elsewhere place) view =
+    record view { named = option_map place_of_arrow (arrow_in text) }
+
+-- it is a row of the snippet
+abbrev pub is_row : Taken → Bool
+is_row NotOfSnippet = false
+is_row Nothing = true
+is_row (Ranges marks) = true
+is_row (Labels labels) = true
+is_row (Fixes fixes) = true
+is_row (Note note) = true
+is_row (Help help) = true
+is_row (More line) = true
+is_row (At place) = true
+is_row (Elsewhere place) = true
+
+-- a line has colours, and its text quotes a line with an escape
+abbrev pub keeps_escapes : Option File → Line → Snippet → Bool
+keeps_escapes file line snippet =
+    not (bytes_eq line.whole.now line.text.now) && quotes_escape file snippet line.text.now
+
+-- a text is that of a line as rows are read: without the colours of its tool, or where it quotes a line with an
+-- escape, without gcc's own alone
+pub data IsTextOf (file : Option File) (line : Line) (snippet : Snippet) : List ℕ → Type 0 where
+  without_colors : keeps_escapes file line snippet ≡ false
+      → IsTextOf file line snippet line.text.now
+  without_own : {text : List ℕ} → keeps_escapes file line snippet ≡ true
+      → IsBare line.whole.now text → IsTextOf file line snippet text
+
+-- a text was taken so by the snippet: what it tells is told from then on, and nothing else changes
+pub record IsTaken (file : Option File) (text : List ℕ) (before after : Block) (taken : Taken)
+    : Type 0 where
+  pub source : Option (List ℕ)
+  pub of_file : source ≡ source_in file (number_quoted before.rows.snippet text)
+  pub quotes : QuotesNext text source before.rows.snippet.quoted after.rows.snippet.quoted
+  pub tells : TellsOf after.rows.snippet.quoted text taken
+  pub view : view_of after ≡ with_row file text (is_some source) taken (view_of before)
+
+-- it was taken as a row
+pub record IsRowOf (file : Option File) (text : List ℕ) (before after : Block) : Type 0 where
+  pub taken : Taken
+  pub of_snippet : is_row taken ≡ true
+  pub gained : IsTaken file text before after taken
+
+-- so was a line
+pub record IsRow (file : Option File) (line : Line) (before after : Block) : Type 0 where
+  pub text : List ℕ
+  pub of_line : IsTextOf file line before.rows.snippet text
+  pub row : IsRowOf file text before after
+
+-- its snippet has ended: no line is a row of it any more
+abbrev pub HasNoMoreRows : Block → Type 0
+HasNoMoreRows block = HasEnded block.rows.snippet
+
+-- a block tells what it told, and holds what it held
+pub record IsSameBlock (before after : Block) : Type 0 where
+  pub told : told_of after ≡ told_of before
+  pub behind : lines_behind after ≡ lines_behind before
+  pub view : view_of after ≡ view_of before
+
+-- ---- places that rows name
+
+-- the place that a row named is handed out
+pub record IsNamed (before after : Block) (place : Option Place) : Type 0 where
+  pub given : place ≡ named_by before
+  pub view : view_of after ≡ record (view_of before) { named = None }
+
+-- the next rows quote the file of a place. The text that was read last is said of the place, if that is the
+-- text's own, and the next marks are of it
+abbrev pub texts_by : Aside → Telling → List (List ℕ)
+texts_by aside.Note told = told.notes
+texts_by aside.Help told = told.helps
+texts_by aside.Change told = told.helps
+
+abbrev pub texts_of : View → List (List ℕ)
+texts_of view = texts_by view.aside view.told
+
+abbrev pub with_texts : Aside → List (List ℕ) → Telling → Telling
+with_texts aside.Note texts told = record told { notes = texts }
+with_texts aside.Help texts told = record told { helps = texts }
+with_texts aside.Change texts told = record told { helps = texts }
+
+-- the last of them in front, and the others. What is to be changed from then on is a help of its own
+abbrev pub with_said : Seen → View → List (List ℕ) → View
+with_said place view [] = view
+with_said place view (text ∷ texts) = record view {
+  told = with_places (record place { text = text; is_primary = false } ∷ [])
+      (with_texts view.aside (reverse texts) view.told);
+  at = length view.told.places;
+  aside = aside.Note;
+}
+
+abbrev pub with_own_place : Seen → View → View
+with_own_place place view =
+    if place.is_primary then with_said place view (reverse (texts_of view)) else view
+
+abbrev pub IsQuotedBy : Place → Block → Block → Type 0
+IsQuotedBy place before after =
+    view_of after ≡ with_own_place (seen place) (record (view_of before) { path = string_bytes place.file })

@@ -1,0 +1,24 @@
+-- What a help says of what is to be changed.
+use Rattle.std.specs.Prelude.{ℕ, List, ◌++◌, Option, codes, decimal}
+use Rattle.ariadne_columns.specs.declared.unit.Unit.TheVariants.{Byte}
+use Rattle.ariadne_snippets.specs.declared.taken.Fix.{Fix}
+use Rattle.ariadne_snippets.specs.declared.taken.FixKind.{FixKind}
+use Rattle.ariadne_snippets.specs.declared.taken.FixKind.TheVariants.{Put, PutLine, Become, Remove}
+use Rattle.ariadne_blocks.specs.Files.{File, column_in}
+
+-- a text is to stand somewhere, or in a line of its own, or is to be a whole line; or something is to go
+abbrev pub fix_text : FixKind → ℕ → ℕ → List ℕ → List ℕ
+fix_text Put line column text =
+    codes "put `" ++ text ++ codes "` at " ++ decimal line ++ codes ":" ++ decimal column
+fix_text PutLine line column text =
+    codes "put the line `" ++ text ++ codes "` in front of line " ++ decimal line
+fix_text Become line column text = codes "make line " ++ decimal line ++ codes " `" ++ text ++ codes "`"
+fix_text Remove line column text =
+    codes "remove what stands at " ++ decimal line ++ codes ":" ++ decimal column
+
+abbrev pub fix_words : Fix → ℕ → List ℕ
+fix_words fix column = fix_text fix.kind fix.at.line column fix.text.now
+
+-- at the column in bytes
+abbrev pub fix_help : Option File → Fix → List ℕ
+fix_help file fix = fix_words fix (column_in file Byte fix.at)

@@ -1,0 +1,10 @@
+pub mod Blocks
+pub mod Colors
+pub mod Drawn
+pub mod Files
+pub mod Fixes
+pub mod Lone
+pub mod Marks
+pub mod Messages
+pub mod Notes
+pub mod Telling

@@ -1,0 +1,35 @@
+-- A diagnostic as it is read: its texts, and not what holds these.
+use Rattle.std.specs.Prelude.{ℕ, Bool, List, map, Option, option_map, String, string_bytes}
+use Rattle.std.specs.declared.alloc.Global.{Global}
+use Rattle.ariadne_told.specs.Places.{seen, Seen}
+use Rattle.ariadne_told.specs.declared.diagnostic.Diagnostic.{Diagnostic}
+use Rattle.ariadne_told.specs.declared.diagnostic.OwnKind.{OwnKind}
+use Rattle.ariadne_told.specs.declared.diagnostic.QuotedLine.{QuotedLine}
+use Rattle.ariadne_told.specs.declared.diagnostic.Severity.{Severity}
+
+-- what a diagnostic tells
+pub record Telling : Type 0 where
+  pub severity : Severity
+  pub own_kind : Option OwnKind
+  pub code : Option (List ℕ)
+  pub message : List ℕ
+  pub places : List Seen
+  pub notes : List (List ℕ)
+  pub helps : List (List ℕ)
+  pub quoted : List QuotedLine
+  pub manifest : Option (String Global)
+  pub is_sum : Bool
+
+abbrev pub telling : Diagnostic → Telling
+telling told = record {
+  severity = told.severity;
+  own_kind = told.own_kind;
+  code = option_map string_bytes told.code;
+  message = string_bytes told.message;
+  places = map seen told.places.items;
+  notes = map string_bytes told.notes.items;
+  helps = map string_bytes told.helps.items;
+  quoted = told.quoted.items;
+  manifest = told.manifest;
+  is_sum = told.is_sum;
+}

@@ -1,0 +1,413 @@
+//! A diagnostic of lines of text, as far as its lines were read: its head, the rows of its tool's snippet,
+//! and its notes with theirs.
+
+ghost use Rattle.std.specs.Prelude.{◌≡◌, map, option_map, reverse, string_bytes, false, true};
+ghost use Rattle.std.specs.Prelude.{IfOk, OnOk};
+ghost use Rattle.ariadne_told.specs.Arrows.{arrow_in};
+ghost use Rattle.ariadne_told.specs.ArrowsTold.{place_of_arrow};
+ghost use Rattle.ariadne_told.specs.Places.{seen};
+ghost use Rattle.ariadne_blocks.specs.Blocks as blocks;
+ghost use Rattle.ariadne_blocks.specs.Blocks.{told_of, view_of, HasNoMoreRows, IsBegun, IsMore, IsNamed, IsNoted};
+ghost use Rattle.ariadne_blocks.specs.Blocks.{IsPlacedBy, IsQuotedBy, IsRow, IsRowOf, IsSameBlock};
+ghost use Rattle.ariadne_blocks.specs.Files.{file_of};
+
+use crate::colors::without_gcc_colors;
+use crate::file::QuotedFile;
+use crate::fixes::fix_text;
+use crate::line::Line;
+use crate::message::{MessageLine, had_no_room, is_of_python, settle_message, width_of};
+use crate::places::push_note;
+use crate::rows::Rows;
+use ariadne_snippets::{Fix, Snippet, Taken};
+use ariadne_told::{Diagnostic, Place, arrow_of};
+use std::alloc::{AllocError, Global};
+
+/// A diagnostic whose lines are being read.
+#[derive(Debug, Drop)]
+pub struct Block {
+    /// What it tells so far.
+    told: Diagnostic,
+    /// The character that its head points at, if that names a column.
+    caret: Option<usize>,
+    /// The rows below the head or the note that was read last.
+    rows: Rows,
+    /// Lines that go on with its message if a row of a snippet follows, as mypy cuts them; else they pass.
+    more: Vec<MessageLine>,
+    /// How many characters the line had that was read last, while no row of a snippet was.
+    width: Option<usize>,
+    /// Which text was read last.
+    aside: Aside,
+    /// The place that a row named: the next rows quote its file. It is primary where it is that of the
+    /// text that was read last.
+    named: Option<Place>,
+}
+
+/// A text beside the message.
+#[derive(Clone, Copy, Debug, PartialEq, Eq)]
+pub(crate) enum Aside {
+    /// A note.
+    Note,
+    /// A help.
+    Help,
+    /// A help that has said what is to be changed.
+    Change,
+}
+
+impl Block {
+    /// A diagnostic of which the head was read. The tool points at the character `caret` of the line of its
+    /// first place, from 0, if that names a column. On `Err` there was no memory.
+    pub fn new(
+        alloc: Global,
+        told: Diagnostic,
+        head: &str,
+        caret: Option<usize>,
+    ) -> Result<Block, AllocError>
+        ensures { IfOk result (λ block. IsBegun told head.now caret block) }
+    {
+        let rows = Rows::new(alloc, told.places.first(), 0, caret)?;
+        Ok(Block {
+            told,
+            caret,
+            rows,
+            more: Vec::new(alloc),
+            width: Some(width_of(head)),
+            aside: Aside::Note,
+            named: None,
+        })
+    }
+
+    /// Takes in a note whose head is the next line, and points at this character. One that names no column,
+    /// in the line that this diagnostic is about, is a text beside.
+    ///
+    /// On `Err` there was no memory for all of its places.
+    pub fn add_note(
+        &mut self,
+        alloc: Global,
+        note: Diagnostic,
+        caret: Option<usize>,
+    ) -> Result<(), AllocError>
+        ensures { OnOk result (IsNoted note caret self.old self.new) }
+    {
+        self.width = None;
+        if self.is_of_line(&note) {
+            return self.add_text(alloc, Aside::Note, note.message.as_str());
+        }
+        let at = self.told.places.len();
+        self.rows = Rows::new(alloc, note.places.first(), at, caret)?;
+        push_note(&mut self.told.places, note.message, note.places)
+    }
+
+    /// Whether a note names no column, in the line that this diagnostic is about.
+    fn is_of_line(&self, note: &Diagnostic) -> bool
+        ensures { result ≡ blocks.is_of_line (told_of self.now) note.now }
+    {
+        match (self.told.places.first(), note.places.first()) {
+            (Some(own), Some(place)) => {
+                place.start.column.is_none()
+                    && own.file == place.file
+                    && own.start.line == place.start.line
+            }
+            _ => false,
+        }
+    }
+
+    /// Takes in a place that a line in front of it told. On `Err` there was no memory for it.
+    pub fn add_place(&mut self, place: Place) -> Result<(), AllocError>
+        ensures { OnOk result (IsPlacedBy place self.old self.new) }
+    {
+        self.told.places.push(place)?;
+        Ok(())
+    }
+
+    /// The path of the file that its next rows quote.
+    pub fn path(&self) -> &str
+        ensures { result.now ≡ blocks.path_of self.now }
+    {
+        self.rows.path.as_str()
+    }
+
+    /// Whether a note is about this diagnostic: those of Python's tools are about others of their line.
+    pub fn is_about(&self, note: &Diagnostic) -> bool
+        ensures { result ≡ blocks.is_about (told_of self.now) note.now }
+    {
+        match (self.told.places.first(), note.places.first()) {
+            (Some(own), Some(place)) => {
+                !is_of_python(place.file.as_str())
+                    || own.file == place.file && own.start.line == place.start.line
+            }
+            _ => false,
+        }
+    }
+
+    /// The diagnostic, of which nothing more is read, and the lines behind it that turned out to be none
+    /// of it.
+    pub fn finish(self) -> (Diagnostic, Vec<MessageLine>)
+        ensures told { result.0 ≡ told_of self }
+        ensures behind { map blocks.bytes_of result.1.items ≡ blocks.lines_behind self }
+    {
+        (self.told, self.more)
+    }
+}
+
+impl Block {
+    /// Takes in a line that may go on with the message, and returns whether it may: it begins with a word
+    /// that had no room in the line before, of a tool of Python's.
+    ///
+    /// On `Err` there was no memory for it.
+    pub fn take_more(&mut self, alloc: Global, line: Line<'_>) -> Result<bool, AllocError>
+        ensures may { IfOk result (λ it. it ≡ blocks.may_go_on line.entry.text.now (view_of self.old)) }
+        ensures held { IfOk result (λ it. it ≡ true
+            → IsMore line.entry.bytes.now line.entry.text.now self.old self.new) }
+        ensures same { IfOk result (λ it. it ≡ false → self.new ≡ self.old) }
+    {
+        if !self.may_go_on(line.text) {
+            return Ok(false);
+        }
+        let more = MessageLine::new(alloc, line.bytes, line.text)?;
+        self.more.push(more)?;
+        self.width = Some(width_of(line.text));
+        self.rows.snippet = Snippet::new(alloc, self.first_line(), self.caret);
+        Ok(true)
+    }
+
+    /// The line of its first place.
+    fn first_line(&self) -> usize
+        ensures { result ≡ blocks.first_line (view_of self.now).told.places }
+    {
+        match self.told.places.first() {
+            Some(place) => place.start.line,
+            None => 0,
+        }
+    }
+
+    /// Whether a text may go on with the message.
+    fn may_go_on(&self, text: &str) -> bool
+        ensures { result ≡ blocks.may_go_on text.now (view_of self.now) }
+    {
+        match (self.width, self.told.places.first()) {
+            (Some(width), Some(place)) => {
+                is_of_python(place.file.as_str()) && had_no_room(width, text)
+            }
+            _ => false,
+        }
+    }
+
+    /// Takes in the next line, if it is a row of the snippet, and returns whether it is. `file` is that with
+    /// the block's path, if it is held.
+    ///
+    /// gcc quotes the escapes of a source as they are: in such a row its own colours alone are left out.
+    /// On `Err` there was no memory.
+    pub fn take_row(
+        &mut self,
+        alloc: Global,
+        file: Option<QuotedFile<'_>>,
+        line: Line<'_>,
+    ) -> Result<bool, AllocError>
+        ensures row { IfOk result (λ is_row. is_row ≡ true
+            → IsRow (option_map file_of file.entry) line.entry self.old self.new) }
+        ensures none { IfOk result (λ is_row. is_row ≡ false → IsSameBlock self.old self.new) }
+        ensures ends { IfOk result (λ is_row. is_row ≡ false → HasNoMoreRows self.new) }
+        ensures over { HasNoMoreRows self.old → IfOk result (λ is_row. is_row ≡ false) }
+    {
+        if !self.keeps_escapes(file, line) {
+            return self.take_text(alloc, file, line.text);
+        }
+        let bare = without_gcc_colors(alloc, line.whole)?;
+        self.take_text(alloc, file, bare.as_str())
+    }
+
+    /// Whether a line has colours, and its text quotes a line with an escape.
+    fn keeps_escapes(&self, file: Option<QuotedFile<'_>>, line: Line<'_>) -> bool
+        ensures { result ≡ blocks.keeps_escapes (option_map file_of file.entry) line.entry
+            self.now.rows.snippet }
+    {
+        line.has_colors() && self.rows.quotes_escape(file, line.text)
+    }
+
+    /// Takes in a text, if it is a row of the snippet, and returns whether it is.
+    fn take_text(
+        &mut self,
+        alloc: Global,
+        file: Option<QuotedFile<'_>>,
+        text: &str,
+    ) -> Result<bool, AllocError>
+        ensures row { IfOk result (λ is_row. is_row ≡ true
+            → IsRowOf (option_map file_of file.entry) text.now self.old self.new) }
+        ensures none { IfOk result (λ is_row. is_row ≡ false → IsSameBlock self.old self.new) }
+        ensures ends { IfOk result (λ is_row. is_row ≡ false → HasNoMoreRows self.new) }
+        ensures over { HasNoMoreRows self.old → IfOk result (λ is_row. is_row ≡ false) }
+    {
+        let source = self.rows.source(file, text);
+        let is_quote = source.is_some();
+        let taken = self.rows.snippet.take(text, source)?;
+        if let Taken::NotOfSnippet = taken {
+            return Ok(false);
+        }
+        self.tell(alloc, file, text, is_quote, taken)?;
+        Ok(true)
+    }
+
+    /// Takes in what a row tells.
+    fn tell(
+        &mut self,
+        alloc: Global,
+        file: Option<QuotedFile<'_>>,
+        text: &str,
+        is_quote: bool,
+        taken: Taken<'_>,
+    ) -> Result<(), AllocError>
+        ensures view { OnOk result (view_of self.new ≡ blocks.with_row (option_map file_of file.entry)
+            text.now is_quote taken.entry (view_of self.old)) }
+        ensures snippet { OnOk result (self.new.rows.snippet ≡ self.old.rows.snippet) }
+    {
+        let places = &mut self.told.places;
+        match taken {
+            Taken::Nothing if is_quote => self.settle(alloc),
+            Taken::Nothing | Taken::NotOfSnippet => Ok(()),
+            Taken::Ranges(marks) => self.rows.add_marks(alloc, file, places, marks.as_slice()),
+            Taken::Labels(labels) => self.rows.add_labels(alloc, places, labels.as_slice()),
+            Taken::Fixes(fixes) => self.add_fixes(alloc, file, fixes.as_slice()),
+            Taken::Note(text) => self.add_text(alloc, Aside::Note, text),
+            Taken::Help(text) => self.add_text(alloc, Aside::Help, text),
+            Taken::More(text) => self.add_more(text),
+            Taken::At(_) | Taken::Elsewhere(_) => self.name(alloc, text),
+        }
+    }
+}
+
+impl Block {
+    /// Has the lines that go on with the message be of it.
+    fn settle(&mut self, alloc: Global) -> Result<(), AllocError>
+        ensures view { OnOk result (view_of self.new ≡ blocks.with_message (view_of self.old)) }
+        ensures rows { OnOk result (self.new.rows ≡ self.old.rows) }
+    {
+        self.width = None;
+        settle_message(alloc, &mut self.told, &mut self.more)
+    }
+
+    /// Takes in a note or a help.
+    fn add_text(&mut self, alloc: Global, aside: Aside, text: &str) -> Result<(), AllocError>
+        ensures view { OnOk result (view_of self.new ≡ blocks.with_text aside text.now (view_of self.old)) }
+        ensures rows { OnOk result (self.new.rows ≡ self.old.rows) }
+    {
+        self.aside = aside;
+        let text = String::from_str(alloc, text)?;
+        match aside {
+            Aside::Note => self.told.notes.push(text)?,
+            Aside::Help | Aside::Change => self.told.helps.push(text)?,
+        }
+        Ok(())
+    }
+
+    /// Takes in what is to be changed.
+    fn add_fixes(
+        &mut self,
+        alloc: Global,
+        file: Option<QuotedFile<'_>>,
+        fixes: &[Fix<'_>],
+    ) -> Result<(), AllocError>
+        ensures view { OnOk result (view_of self.new
+            ≡ blocks.with_fixes (option_map file_of file.entry) fixes.now (view_of self.old)) }
+        ensures rows { OnOk result (self.new.rows ≡ self.old.rows) }
+    {
+        for fix in fixes {
+            self.add_change(fix_text(alloc, file, fix)?)?;
+        }
+        Ok(())
+    }
+
+    /// Takes in what one change is: a help, or what the last help goes on with.
+    fn add_change(&mut self, change: String) -> Result<(), AllocError>
+        ensures view { OnOk result (view_of self.new
+            ≡ blocks.with_change_by self.old.aside (string_bytes change) (view_of self.old)) }
+        ensures rows { OnOk result (self.new.rows ≡ self.old.rows) }
+    {
+        match self.aside {
+            Aside::Note => {
+                self.told.helps.push(change)?;
+                Ok(())
+            }
+            Aside::Help => {
+                self.aside = Aside::Change;
+                go_on(&mut self.told.helps, ": ", change.as_str())
+            }
+            Aside::Change => go_on(&mut self.told.helps, ",\n", change.as_str()),
+        }
+    }
+
+    /// Takes in a line that goes on with the note or the help.
+    fn add_more(&mut self, text: &str) -> Result<(), AllocError>
+        ensures view { OnOk result (view_of self.new ≡ blocks.with_more_text text.now (view_of self.old)) }
+        ensures rows { OnOk result (self.new.rows ≡ self.old.rows) }
+    {
+        match self.aside {
+            Aside::Note => go_on(&mut self.told.notes, "\n", text),
+            Aside::Help | Aside::Change => go_on(&mut self.told.helps, "\n", text),
+        }
+    }
+
+    /// Holds the place that a row names behind an arrow.
+    fn name(&mut self, alloc: Global, text: &str) -> Result<(), AllocError>
+        ensures view { OnOk result (view_of self.new ≡ record (view_of self.old) {
+          named = option_map place_of_arrow (arrow_in text.now);
+        }) }
+        ensures rows { OnOk result (self.new.rows ≡ self.old.rows) }
+    {
+        self.named = match arrow_of(text) {
+            Some(arrow) => Some(arrow.place(alloc)?),
+            None => None,
+        };
+        Ok(())
+    }
+
+    /// The place that a row named, if one did. It is then no longer held.
+    pub fn take_named(&mut self) -> Option<Place>
+        ensures { IsNamed self.old self.new result }
+    {
+        self.named.take()
+    }
+
+    /// Has the next rows quote the file of a place, and gives the place to the text that was read last, if
+    /// it is that of the text. On `Err` there was no memory.
+    pub fn quote(&mut self, place: Place) -> Result<(), AllocError>
+        ensures { OnOk result (IsQuotedBy place self.old self.new) }
+    {
+        self.rows.path = place.file.clone()?;
+        if place.is_primary {
+            self.place_text(place)?;
+        }
+        Ok(())
+    }
+
+    /// Has the text that was read last be said of a place, and the next marks be of that.
+    fn place_text(&mut self, mut place: Place) -> Result<(), AllocError>
+        ensures { OnOk result (view_of self.new ≡ blocks.with_said (seen place) (view_of self.old)
+            (reverse (blocks.texts_of (view_of self.old)))) }
+    {
+        let last = match self.aside {
+            Aside::Note => self.told.notes.pop(),
+            Aside::Help | Aside::Change => self.told.helps.pop(),
+        };
+        if let Some(text) = last {
+            place.text = text;
+            place.is_primary = false;
+            self.aside = Aside::Note;
+            self.rows.at = self.told.places.len();
+            self.told.places.push(place)?;
+        }
+        Ok(())
+    }
+}
+
+/// Has the last of texts go on with another, behind what stands between both.
+fn go_on(texts: &mut Vec<String>, between: &str, more: &str) -> Result<(), AllocError>
+    ensures { OnOk result (map string_bytes texts.new.items
+        ≡ blocks.gone_on between.now more.now (map string_bytes texts.old.items)) }
+{
+    if let Some(mut last) = texts.pop() {
+        last.push_str(between)?;
+        last.push_str(more)?;
+        texts.push(last)?;
+    }
+    Ok(())
+}

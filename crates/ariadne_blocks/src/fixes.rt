@@ -1,0 +1,36 @@
+//! What a tool says is to be changed, as helps.
+
+ghost use Rattle.std.specs.Prelude.{◌≡◌, option_map, string_bytes, IfOk};
+ghost use Rattle.ariadne_blocks.specs.Files.{file_of};
+ghost use Rattle.ariadne_blocks.specs.Fixes.{fix_help, fix_words as words_of_fix};
+
+use crate::file::{QuotedFile, column_in};
+use ariadne_columns::Unit;
+use ariadne_snippets::{Fix, FixKind};
+use std::alloc::{AllocError, Global};
+
+/// What a help says of a change: at its column in bytes.
+pub(crate) fn fix_text(
+    alloc: Global,
+    file: Option<QuotedFile<'_>>,
+    fix: &Fix<'_>,
+) -> Result<String, AllocError>
+    ensures { IfOk result (λ text.
+        string_bytes text ≡ fix_help (option_map file_of file.entry) fix.now) }
+{
+    fix_words(alloc, fix, column_in(file, Unit::Byte, fix.at))
+}
+
+/// What a help says of a change at a column of its line.
+fn fix_words(alloc: Global, fix: &Fix<'_>, column: usize) -> Result<String, AllocError>
+    ensures { IfOk result (λ text. string_bytes text ≡ words_of_fix fix.now column) }
+{
+    let line = fix.at.line;
+    let text = fix.text;
+    match fix.kind {
+        FixKind::Put => format!(in alloc; "put `{text}` at {line}:{column}"),
+        FixKind::PutLine => format!(in alloc; "put the line `{text}` in front of line {line}"),
+        FixKind::Become => format!(in alloc; "make line {line} `{text}`"),
+        FixKind::Remove => format!(in alloc; "remove what stands at {line}:{column}"),
+    }
+}

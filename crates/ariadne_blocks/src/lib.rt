@@ -1,0 +1,21 @@
+//! Diagnostics of lines of text, as far as their lines were read: a head, the rows of its tool's snippet,
+//! and its notes with theirs.
+#![tactic(auto)]
+
+pub mod block;
+mod colors;
+pub mod drawn;
+pub mod file;
+mod fixes;
+pub mod line;
+pub mod lone;
+pub mod message;
+mod places;
+mod rows;
+
+pub use block::Block;
+pub use drawn::{Drawn, settle_marks};
+pub use file::QuotedFile;
+pub use line::Line;
+pub use lone::name_lone_places;
+pub use message::MessageLine;

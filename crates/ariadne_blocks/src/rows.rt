@@ -1,0 +1,194 @@
+//! The rows below a head or a note: the snippet that they are, and which places its marks are of.
+
+ghost use Rattle.std.specs.Prelude.{◌≡◌, ◌==◌, [], map, option_map, string_bytes, IfOk, OnOk};
+ghost use Rattle.std.specs.Prelude.{true, false};
+ghost use Rattle.std.specs.List.{list_any};
+ghost use Rattle.std.specs.Option.{option_copied};
+ghost use Rattle.ariadne_snippets.specs.Snippets.{number_quoted, IsUnread};
+ghost use Rattle.ariadne_told.specs.Places.{seen};
+ghost use Rattle.ariadne_blocks.specs.Files.{file_at, file_of, line_at};
+ghost use Rattle.ariadne_blocks.specs.Files.{begins_with_number as begins_with_digit};
+ghost use Rattle.ariadne_blocks.specs.Files.{quotes_escape as quotes_escape_in, source_in};
+ghost use Rattle.ariadne_blocks.specs.Marks.{given_at, is_own_at, marking_of, with_label, with_labels};
+ghost use Rattle.ariadne_blocks.specs.Marks.{with_mark, with_marks};
+
+use crate::file::QuotedFile;
+use crate::places::{caret_of, is_range_of, marked_place, range_of, say_at};
+use ariadne_snippets::{Label, Mark, Snippet};
+use ariadne_told::Place;
+use std::alloc::{AllocError, Global};
+
+/// The rows below a head or a note, as far as they were read.
+#[derive(Debug, Drop)]
+pub(crate) struct Rows {
+    /// The snippet.
+    pub(crate) snippet: Snippet,
+    /// The file that it quotes.
+    pub(crate) path: String,
+    /// The number of the place that it is of.
+    pub(crate) at: usize,
+    /// The places of the marks in the row that was read last, by the numbers of the marks.
+    pub(crate) marked: Vec<usize>,
+}
+
+impl Rows {
+    /// The rows of a place with this number, of which none was read. The tool points at the character
+    /// `caret` of its line, from 0, if its column is known.
+    pub(crate) fn new(
+        alloc: Global,
+        place: Option<&Place>,
+        at: usize,
+        caret: Option<usize>,
+    ) -> Result<Rows, AllocError>
+        ensures path { IfOk result (λ rows.
+            string_bytes rows.path ≡ file_at (option_map seen (option_copied place.entry))) }
+        ensures awaits { IfOk result (λ rows. IsUnread
+            (line_at (option_map seen (option_copied place.entry))) caret rows.snippet) }
+        ensures at { IfOk result (λ rows. rows.at ≡ at) }
+        ensures marked { IfOk result (λ rows. rows.marked.items ≡ []) }
+    {
+        let (path, line) = match place {
+            Some(place) => (place.file.clone()?, place.start.line),
+            None => (String::new(alloc), 0),
+        };
+        Ok(Rows {
+            snippet: Snippet::new(alloc, line, caret),
+            path,
+            at,
+            marked: Vec::new(alloc),
+        })
+    }
+
+    /// The line of the file that a text would quote.
+    pub(crate) fn source<'a>(&self, file: Option<QuotedFile<'a>>, text: &str) -> Option<&'a [char]>
+        ensures { option_copied result ≡ source_in (option_map file_of file.entry)
+            (number_quoted self.now.snippet text.now) }
+    {
+        file?.line(self.snippet.quoted_number(text)?)
+    }
+
+    /// Whether a text quotes a line behind a gutter that has an escape.
+    pub(crate) fn quotes_escape(&self, file: Option<QuotedFile<'_>>, text: &str) -> bool
+        ensures { result ≡ quotes_escape_in (option_map file_of file.entry) self.now.snippet text.now }
+    {
+        match self.source(file, text) {
+            Some(source) => has_escape(source) && begins_with_number(text),
+            None => false,
+        }
+    }
+
+    /// Takes in a row of marks: the first with a caret, on the line that the head names, is the range of its
+    /// place, and each other is a place beside.
+    pub(crate) fn add_marks(
+        &mut self,
+        alloc: Global,
+        file: Option<QuotedFile<'_>>,
+        places: &mut Vec<Place>,
+        marks: &[Mark<'_>],
+    ) -> Result<(), AllocError>
+        ensures marks { OnOk result (marking_of self.new places.new.items
+            ≡ with_marks (option_map file_of file.entry) (string_bytes self.old.path) self.old.at
+            marks.now (map seen places.old.items)) }
+        ensures others { OnOk result (self.new ≡ record self.old { marked = self.new.marked }) }
+    {
+        self.marked.clear();
+        for mark in marks {
+            self.add_mark(alloc, file, places, mark)?;
+        }
+        Ok(())
+    }
+
+    /// Takes in a mark of that row.
+    fn add_mark(
+        &mut self,
+        alloc: Global,
+        file: Option<QuotedFile<'_>>,
+        places: &mut Vec<Place>,
+        mark: &Mark<'_>,
+    ) -> Result<(), AllocError>
+        ensures mark { OnOk result (marking_of self.new places.new.items
+            ≡ with_mark (option_map file_of file.entry) (string_bytes self.old.path) self.old.at
+            (marking_of self.old places.old.items) mark.now) }
+        ensures others { OnOk result (self.new ≡ record self.old { marked = self.new.marked }) }
+    {
+        let text = String::from_str(alloc, mark.text)?;
+        if give_range(file, places, self.at, mark) {
+            self.marked.push(self.at)?;
+            return say_at(places, self.at, text);
+        }
+        self.marked.push(places.len())?;
+        let file = String::from_str(alloc, self.path.as_str())?;
+        places.push(marked_place(file, mark, text))?;
+        Ok(())
+    }
+
+    /// Takes in a row of texts below marks: each is said of the place of its mark.
+    pub(crate) fn add_labels(
+        &self,
+        alloc: Global,
+        places: &mut Vec<Place>,
+        labels: &[Label<'_>],
+    ) -> Result<(), AllocError>
+        ensures { OnOk result (map seen places.new.items
+            ≡ with_labels self.now.marked.items labels.now (map seen places.old.items)) }
+    {
+        for label in labels {
+            self.add_label(alloc, places, label)?;
+        }
+        Ok(())
+    }
+
+    /// Takes in a text below a mark.
+    fn add_label(
+        &self,
+        alloc: Global,
+        places: &mut Vec<Place>,
+        label: &Label<'_>,
+    ) -> Result<(), AllocError>
+        ensures { OnOk result (map seen places.new.items
+            ≡ with_label self.now.marked.items (map seen places.old.items) label.now) }
+    {
+        match self.marked.get(label.mark) {
+            Some(number) => say_at(places, *number, String::from_str(alloc, label.text)?),
+            None => Ok(()),
+        }
+    }
+}
+
+/// Gives a mark to the place with a number as its range, if it is that, and returns whether it is.
+fn give_range(
+    file: Option<QuotedFile<'_>>,
+    places: &mut [Place],
+    number: usize,
+    mark: &Mark<'_>,
+) -> bool
+    ensures own { result ≡ is_own_at mark.now number (map seen places.old) }
+    ensures given { result ≡ true → map seen places.new
+        ≡ given_at (option_map file_of file.entry) mark.now number (map seen places.old) }
+    ensures same { result ≡ false → places.new ≡ places.old }
+{
+    if number >= places.len() || !is_range_of(&places[number], mark) {
+        return false;
+    }
+    let place = &mut places[number];
+    place.caret = caret_of(file, place, mark);
+    place.marks = Some(range_of(mark));
+    true
+}
+
+/// Whether a line has an escape.
+fn has_escape(line: &[char]) -> bool
+    ensures { result ≡ list_any (λ c. c == 27) line.now }
+{
+    line.iter().any(|c| *c == '\u{1b}')
+}
+
+/// Whether a text begins with a digit, behind white space.
+fn begins_with_number(text: &str) -> bool
+    ensures { result ≡ begins_with_digit text.now }
+{
+    match text.trim_start().as_bytes().first() {
+        Some(byte) => byte.is_ascii_digit(),
+        None => false,
+    }
+}
