@@ -1,0 +1,13 @@
+pub mod CharLemmas
+pub mod CharSequences
+pub mod Codes
+pub mod Numbers
+pub mod Parted
+pub mod Passed
+pub mod PieceLemmas
+pub mod Pushed
+pub mod Related
+pub mod Rows
+pub mod SequenceLemmas
+pub mod TerminalLemmas
+pub mod Uris

@@ -1,0 +1,43 @@
+//! A place of a diagnostic, and where it stands in its file.
+
+ghost use Rattle.std.specs.Prelude.{◌≡◌, drop};
+ghost use Rattle.ariadne_outputs.specs.Located.{severity_word as word_of};
+
+use ariadne_told::{Place, Severity, Spot};
+
+/// A place of a diagnostic, and where it stands in its file. Lines and columns count from 1; what
+/// columns count is said where it is asked for.
+///
+/// The places of a diagnostic are handed on in a list, of which the first is the one that it is about.
+#[derive(Clone, Copy, Debug)]
+pub struct Located<'a> {
+    /// The place.
+    pub place: &'a Place,
+    /// Where the tool points.
+    pub caret: Spot,
+    /// Where it begins.
+    pub start: Spot,
+    /// Where it ends: behind its last character. `None` where that isn't known.
+    pub end: Option<Spot>,
+}
+
+/// The places behind the first one.
+pub(crate) fn other_places<'l, 'a>(places: &'l [Located<'a>]) -> &'l [Located<'a>]
+    ensures { result.now ≡ drop 1 places.now }
+{
+    match places {
+        [_, others @ ..] => others,
+        [] => places,
+    }
+}
+
+/// The word for a severity.
+pub(crate) fn severity_word(severity: Severity) -> &'static str
+    ensures { result.now ≡ word_of severity }
+{
+    match severity {
+        Severity::Error => "error",
+        Severity::Warning => "warning",
+        Severity::Note => "note",
+    }
+}

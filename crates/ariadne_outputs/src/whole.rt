@@ -1,0 +1,52 @@
+//! What a diagnostic says in all, as one text of several lines.
+
+ghost use Rattle.std.specs.Prelude.{◌≡◌, ◌++◌, IfOk, OnOk, option_map, string_bytes};
+ghost use Rattle.std.specs.Option.{option_copied};
+ghost use Rattle.ariadne_outputs.specs.Located.{location_of, own_line, said_lines, whole_of};
+
+use crate::located::Located;
+use ariadne_told::Diagnostic;
+use std::alloc::{AllocError, Global};
+
+/// The message of a diagnostic, what its own place says, its notes and its helps, each in a line of its
+/// own, or more.
+pub(crate) fn whole_text(
+    alloc: Global,
+    told: &Diagnostic,
+    main: Option<&Located<'_>>,
+) -> Result<String, AllocError>
+    ensures { IfOk result (λ text. string_bytes text
+        ≡ whole_of told.now (option_map location_of (option_copied main.entry))) }
+{
+    let mut text = told.message.clone()?;
+    push_own(&mut text, main)?;
+    push_said(&mut text, "\nnote: ", told.notes.as_slice())?;
+    push_said(&mut text, "\nhelp: ", told.helps.as_slice())?;
+    Ok(text)
+}
+
+/// Adds what a diagnostic's own place says, if it says something.
+fn push_own(text: &mut String, main: Option<&Located<'_>>) -> Result<(), AllocError>
+    ensures { OnOk result (string_bytes text.new
+        ≡ string_bytes text.old ++ own_line (option_map location_of (option_copied main.entry))) }
+{
+    match main {
+        Some(main) if !main.place.text.is_empty() => {
+            text.push('\n')?;
+            text.push_str(main.place.text.as_str())
+        }
+        _ => Ok(()),
+    }
+}
+
+/// Adds texts, each behind this one.
+fn push_said(text: &mut String, front: &str, all: &[String]) -> Result<(), AllocError>
+    ensures { OnOk result (string_bytes text.new
+        ≡ string_bytes text.old ++ said_lines front.now all.now) }
+{
+    for said in all {
+        text.push_str(front)?;
+        text.push_str(said.as_str())?;
+    }
+    Ok(())
+}
