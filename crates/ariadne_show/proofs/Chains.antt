@@ -1,6 +1,6 @@
 -- Pictures behind pictures.
 use Rattle.std.proofs.Common.{◌≡◌, ◌∙◌, ap, subst, sym}
-use Rattle.std.specs.Prelude.{ℕ, true, false, List, Option, Some, None, Result, Ok, Err, OnOk}
+use Rattle.std.specs.Prelude.{ℕ, List, Option, Some, None, Result, Ok, Err, OnOk}
 use Rattle.std.specs.declared.ops.Range.{Range}
 use Rattle.ariadne.specs.Report.{ConfigFields, Kind, ReportFields, new_report}
 use Rattle.ariadne_visible.specs.Visible.{visible_bytes}
@@ -10,7 +10,7 @@ use Rattle.ariadne_told.specs.declared.diagnostic.Diagnostic.{Diagnostic}
 use Rattle.ariadne_told.specs.declared.diagnostic.Severity.TheVariants.{Note}
 use Rattle.ariadne_show.specs.declared.options.Style.{Style}
 use Rattle.ariadne_show.specs.Drawn.{config_of, severity_kind, AreSaid, IsAbout, IsBare, IsHeadDrawn, IsPicture, IsReportOf}
-use Rattle.ariadne_show.specs.Drawn.{IsSaid, IsToldDrawn, in_one, in_line, in_lines}
+use Rattle.ariadne_show.specs.Drawn.{IsSaid, IsToldDrawn, in_one, in_lines}
 use Rattle.ariadne_show.specs.Found.{Files, Found}
 use Rattle.ariadne_show.specs.Labels.{main_in}
 use Rattle.ariadne_show.specs.Said.{first_line, lines_of}
@@ -38,33 +38,25 @@ said_if (Ok x) style kind span config text sources r0 built report o p begun loo
 said_if (Err e) style kind span config text sources r0 built report o p begun looks note made same picture = tt
 
 -- of one about a diagnostic
-pub head_drawn_if : {T E : Type 0} (r : Result T E) (style : Style) (files : Files) (told : Diagnostic) (sources : List SafeSource)
-    (report : ReportFields (ℕ × Range ℕ)) (o p : Option (List ℕ)) → IsAbout style told (first_line style.is_short files told) report → IsBare report
-    → OnOk r (IsPicture sources report o p) → OnOk r (IsHeadDrawn style files told o p)
-head_drawn_if (Ok x) style files told sources report o p about bare picture =
+pub head_drawn_if : {T E : Type 0} (r : Result T E) (style : Style) (told : Diagnostic) (sources : List SafeSource)
+    (report : ReportFields (ℕ × Range ℕ)) (o p : Option (List ℕ)) → IsAbout style told (first_line told) report → IsBare report
+    → OnOk r (IsPicture sources report o p) → OnOk r (IsHeadDrawn style told o p)
+head_drawn_if (Ok x) style told sources report o p about bare picture =
     record { sources = sources; report = report; about = about; bare = bare; picture = picture }
-head_drawn_if (Err e) style files told sources report o p about bare picture = tt
+head_drawn_if (Err e) style told sources report o p about bare picture = tt
 
 -- of the report of one
 pub told_if_in_one : {T E : Type 0} (r : Result T E) (style : Style) (files : Files) (sources : List SafeSource)
-    (told : Diagnostic) (main : Found) (over : List SafeSource) (report : ReportFields (ℕ × Range ℕ)) (o p : Option (List ℕ)) → style.is_short ≡ false
+    (told : Diagnostic) (main : Found) (over : List SafeSource) (report : ReportFields (ℕ × Range ℕ)) (o p : Option (List ℕ))
     → Some main ≡ main_in files told → IsReportOf style files told main sources report → over ≡ sources → OnOk r (IsPicture over report o p)
     → OnOk r (IsToldDrawn style files sources told o p)
-told_if_in_one (Ok x) style files sources told main over report o p long found is same picture =
-    in_one main report long (sym found) is (subst (λ (l : List SafeSource). IsPicture l report o p) same picture)
-told_if_in_one (Err e) style files sources told main over report o p long found is same picture = tt
-
--- a head alone
-pub told_if_in_line : {T E : Type 0} (r : Result T E) (style : Style) (files : Files) (sources : List SafeSource)
-    (told : Diagnostic) (o p : Option (List ℕ)) → style.is_short ≡ true → OnOk r (IsHeadDrawn style files told o p)
-    → OnOk r (IsToldDrawn style files sources told o p)
-told_if_in_line (Ok x) style files sources told o p short head = in_line short head
-told_if_in_line (Err e) style files sources told o p short head = tt
+told_if_in_one (Ok x) style files sources told main over report o p found is same picture =
+    in_one main report (sym found) is (subst (λ (l : List SafeSource). IsPicture l report o p) same picture)
+told_if_in_one (Err e) style files sources told main over report o p found is same picture = tt
 
 -- others behind it
 pub told_if_in_lines : {T E : Type 0} (r : Result T E) (style : Style) (files : Files) (sources : List SafeSource)
-    (told : Diagnostic) (o m q : Option (List ℕ)) → style.is_short ≡ false → None ≡ main_in files told → IsHeadDrawn style files told o m
+    (told : Diagnostic) (o m q : Option (List ℕ)) → None ≡ main_in files told → IsHeadDrawn style told o m
     → OnOk r (AreSaid style (lines_of files told) m q) → OnOk r (IsToldDrawn style files sources told o q)
-told_if_in_lines (Ok x) style files sources told o m q long missing head others =
-    in_lines m long (sym missing) head others
-told_if_in_lines (Err e) style files sources told o m q long missing head others = tt
+told_if_in_lines (Ok x) style files sources told o m q missing head others = in_lines m (sym missing) head others
+told_if_in_lines (Err e) style files sources told o m q missing head others = tt

@@ -1,7 +1,7 @@
 -- What is drawn of a diagnostic: pictures of reports over the files that were read, of which the first
 -- has the diagnostic's kind, its code and its message. What input and output know of their bytes is
 -- given before and after each step.
-use Rattle.std.specs.Prelude.{ℕ, ◌≡◌, true, false, if◌then◌else◌, List, [], ◌∷◌, ◌++◌, Option}
+use Rattle.std.specs.Prelude.{ℕ, ◌≡◌, if◌then◌else◌, List, [], ◌∷◌, ◌++◌, Option}
 use Rattle.std.specs.Prelude.{Some, None, codes, option_map, Ok}
 use Rattle.std.specs.Prelude.{String, string_bytes, unwrap_or, Vec}
 use Rattle.std.specs.declared.alloc.Global.{Global}
@@ -119,25 +119,21 @@ pub data AreSaid (style : Style) : List (List ℕ) → Option (List ℕ) → Opt
       → (text : List ℕ) → IsSaid style text p q → AreSaid style (texts ++ text ∷ []) o q
 
 -- that of its first line has, which has nothing but a head
-pub record IsHeadDrawn (style : Style) (files : Files) (told : Diagnostic)
-    (before after : Option (List ℕ)) : Type 0 where
+pub record IsHeadDrawn (style : Style) (told : Diagnostic) (before after : Option (List ℕ))
+    : Type 0 where
   pub sources : List SafeSource
   pub report : ReportFields (ℕ × Range ℕ)
-  pub about : IsAbout style told (first_line style.is_short files told) report
+  pub about : IsAbout style told (first_line told) report
   pub bare : IsBare report
   pub picture : IsPicture sources report before after
 
 -- where its own place was found, the picture of the report of a diagnostic has; else that of its first
--- line, and then those of the others, of which the last says why; and where it is to be short, that of
--- its first line alone
+-- line, and then those of the others, of which the last says why
 pub data IsToldDrawn (style : Style) (files : Files) (sources : List SafeSource)
     (told : Diagnostic) (before after : Option (List ℕ)) : Type 0 where
   in_one : (main : Found) (report : ReportFields (ℕ × Range ℕ))
-      → style.is_short ≡ false → main_in files told ≡ Some main
-      → IsReportOf style files told main sources report
+      → main_in files told ≡ Some main → IsReportOf style files told main sources report
       → IsPicture sources report before after → IsToldDrawn style files sources told before after
-  in_lines : (headed : Option (List ℕ)) → style.is_short ≡ false → main_in files told ≡ None
-      → IsHeadDrawn style files told before headed → AreSaid style (lines_of files told) headed after
-      → IsToldDrawn style files sources told before after
-  in_line : style.is_short ≡ true → IsHeadDrawn style files told before after
+  in_lines : (headed : Option (List ℕ)) → main_in files told ≡ None
+      → IsHeadDrawn style told before headed → AreSaid style (lines_of files told) headed after
       → IsToldDrawn style files sources told before after

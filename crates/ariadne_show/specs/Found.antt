@@ -1,7 +1,8 @@
 -- Where places stand in the files that were read. Offsets count characters from 0, and a column that
 -- would pass the greatest number of the machine is that number.
-use Rattle.std.specs.Prelude.{ℕ, ◌+◌, ◌-◌, ◌^◌, ◌==◌, max, min, Bool, ◌&&◌, if◌then◌else◌, List, length}
-use Rattle.std.specs.Prelude.{Option, is_some, option_map, option_and_then, unwrap_or}
+use Rattle.std.specs.Prelude.{ℕ, ◌+◌, ◌-◌, ◌^◌, ◌==◌, max, min, nat_le, nat_lt, Bool, ◌&&◌, ◌||◌}
+use Rattle.std.specs.Prelude.{true, false, if◌then◌else◌, List, length}
+use Rattle.std.specs.Prelude.{Option, Some, None, is_some, option_map, option_and_then, unwrap_or}
 use Rattle.std.specs.HashMap.{get_by_text}
 use Rattle.std.specs.Prelude.{string_bytes}
 use Rattle.std.specs.declared.ops.Range.{Range}
@@ -22,8 +23,23 @@ use Rattle.ariadne_show.specs.declared.shelf.Shelf.{Shelf}
 abbrev pub Files : Type 0
 Files = List ℕ → Option (Option Held)
 
+-- of those that were read
+abbrev pub read_in : Shelf → Files
+read_in shelf path = get_by_text shelf.files path
+
+-- and of those that a diagnostic quotes
+abbrev pub quoted_in : Shelf → List ℕ → Option Held
+quoted_in shelf path = get_by_text shelf.quoted path
+
+-- what was read comes first
+abbrev pub read_or_quoted : Option (Option Held) → Option Held → Option (Option Held)
+read_or_quoted None None = None
+read_or_quoted None (Some held) = Some (Some held)
+read_or_quoted (Some None) quoted = Some quoted
+read_or_quoted (Some (Some held)) quoted = Some (Some held)
+
 abbrev pub files_of : Shelf → Files
-files_of shelf path = get_by_text shelf.files path
+files_of shelf path = read_or_quoted (read_in shelf path) (quoted_in shelf path)
 
 abbrev pub held_at : Files → List ℕ → Option Held
 held_at files path = option_and_then (λ held. held) (files path)
@@ -44,14 +60,15 @@ mark_before held place line =
 -- the offset of a spot, which is at this column where it names none, if the file has its line
 unfoldable pub spot_in : Held → Place → Spot → ℕ → Option ℕ
 spot_in held place spot column =
-    offset_of (unit_in held place.unit) held.columns spot.line
+    offset_of (unit_in held place.unit) held.columns (spot.line - held.above)
     (min (unwrap_or spot.column column + mark_before held place spot.line) (2 ^ 64 - 1))
 
--- that of the spot where a place ends: the end of its line, where it names no column, and of the file,
--- where that has no such line
+-- that of the spot where a place ends: the end of its line, where it names no column; the end of what is
+-- held of the file, where that has no such line, and its start, where the line stands above it
 unfoldable pub end_spot_in : Held → Place → Spot → ℕ
 end_spot_in held place spot =
-    unwrap_or (spot_in held place spot (2 ^ 64 - 1)) (if spot.line == 0 then 0 else length held.columns)
+    unwrap_or (spot_in held place spot (2 ^ 64 - 1))
+    (if nat_le spot.line held.above then 0 else length held.columns)
 
 -- where a place ends that starts at an offset
 abbrev pub end_of : Held → Place → ℕ → End → ℕ
@@ -60,15 +77,55 @@ end_of held place start (Behind spot) = min (end_spot_in held place spot + 1) (2
 end_of held place start OfWord =
     if is_some place.start.column then word_end held.columns start else end_spot_in held place place.start
 
--- the characters of a place, if the file has its start
-unfoldable pub span_in : Held → Place → Option (Range ℕ)
-span_in held place =
+-- the characters of a place itself, if the file has its start
+unfoldable pub own_span_in : Held → Place → Option (Range ℕ)
+own_span_in held place =
     option_map (λ start. record { start = start; end = max (end_of held place start place.end) start })
     (spot_in held place place.start 1)
 
--- the character that the tool points at
+-- the offset of a spot whose column counts characters
+unfoldable pub char_at : Held → Spot → Option ℕ
+char_at held spot =
+    offset_of Char held.columns (spot.line - held.above) (unwrap_or spot.column 1)
+
+-- the characters that marks cover, from a spot up to another
+unfoldable pub marked_in : Held → Spot × Spot → Option (Range ℕ)
+marked_in held marks =
+    option_and_then
+    (λ start. option_map (λ end. record { start = start; end = max end start }) (char_at held marks.1))
+    (char_at held marks.0)
+
+-- those of a place: those that marks cover, where it has some
+abbrev pub span_by : Held → Place → Option (Spot × Spot) → Option (Range ℕ)
+span_by held place None = own_span_in held place
+span_by held place (Some marks) = marked_in held marks
+
+abbrev pub span_in : Held → Place → Option (Range ℕ)
+span_in held place = span_by held place place.marks
+
+-- a place points at a column that counts characters, which is sure
+abbrev pub is_char : Unit → Bool
+is_char Char = true
+is_char Byte = false
+is_char Display = false
+
+abbrev pub is_sure : Place → Bool
+is_sure place = is_some place.caret.column && is_char place.unit
+
+-- the character that the tool points at: the first that its marks cover, where they don't cover that one,
+-- and its column isn't sure
+abbrev pub caret_in_marks : Option (Range ℕ) → ℕ → ℕ
+caret_in_marks None caret = caret
+caret_in_marks (Some marked) caret =
+    if nat_lt caret marked.start || nat_le marked.end caret then marked.start else caret
+
+abbrev pub caret_by : Held → Place → Option (Spot × Spot) → ℕ → ℕ
+caret_by held place None caret = caret
+caret_by held place (Some marks) caret =
+    if is_sure place then caret else caret_in_marks (marked_in held marks) caret
+
 abbrev pub caret_in : Held → Place → Option ℕ
-caret_in held place = spot_in held place place.caret 1
+caret_in held place = option_map (caret_by held place place.marks) (spot_in held place place.caret 1)
 
 -- ---- places that were found
 

@@ -1,11 +1,9 @@
--- The texts that the program has ready, which words ask for each, and what has reached an output of
--- one.
-use Rattle.std.specs.Prelude.{ℕ, if◌then◌else◌, List, codes, Option, Some, None, ⊤}
+-- The texts that the program has ready, and what has reached an output of one.
+use Rattle.std.specs.Prelude.{ℕ, List, Option, ⊤}
 use Rattle.std.specs.Io.KnownBytes.{Appends}
-use Rattle.std.specs.Str.{bytes_eq}
 use Rattle.ariadne_show.specs.declared.fault.Status.{Status}
 use Rattle.ariadne_show.specs.declared.fault.Status.TheVariants.{Shown, WithErrors, WrongWords}
-use Rattle.ariadne_show.specs.declared.fault.Status.TheVariants.{Failed}
+use Rattle.ariadne_show.specs.declared.fault.Status.TheVariants.{Failed, BrokenPipe}
 use Rattle.ariadne_show.specs.declared.pages.Page.{Page}
 use Rattle.ariadne_show.specs.declared.pages.Page.TheVariants.{Help, Version}
 use Rattle.ariadne_show.specs.declared.pages.TheConstants.{HELP, VERSION}
@@ -15,15 +13,10 @@ unfoldable pub page_text : Page → List ℕ
 page_text Help = HELP.now
 page_text Version = VERSION.now
 
--- a page has a word
-abbrev pub page_named : List ℕ → Option Page
-page_named word =
-    if bytes_eq word (codes "--help") then Some Help else
-    (if bytes_eq word (codes "--version") then Some Version else None)
-
 -- what has reached an output of a text, by the status: all of it, unless writing failed
 abbrev pub IsPageShown : List ℕ → Option (List ℕ) → Option (List ℕ) → Status → Type 0
 IsPageShown text before after Shown = Appends before after text
 IsPageShown text before after WithErrors = ⊥
 IsPageShown text before after WrongWords = ⊥
 IsPageShown text before after Failed = ⊤
+IsPageShown text before after BrokenPipe = ⊤

@@ -1,5 +1,5 @@
 -- What is said of a diagnostic in lines, where there is no picture.
-use Rattle.std.specs.Prelude.{ℕ, ◌==◌, Bool, not, ◌&&◌, if◌then◌else◌, List, [], ◌++◌, length, map}
+use Rattle.std.specs.Prelude.{ℕ, ◌==◌, Bool, not, if◌then◌else◌, List, ◌++◌, length, map}
 use Rattle.std.specs.Prelude.{filter, Option, Some, None, is_some, option_map, String, string_bytes}
 use Rattle.std.specs.Prelude.{codes, decimal}
 use Rattle.std.specs.Option.{option_to_list}
@@ -8,7 +8,7 @@ use Rattle.ariadne_told.specs.Told.{main_of}
 use Rattle.ariadne_told.specs.declared.diagnostic.Diagnostic.{Diagnostic}
 use Rattle.ariadne_told.specs.declared.diagnostic.Place.{Place}
 use Rattle.ariadne_show.specs.Asides.{spot_text}
-use Rattle.ariadne_show.specs.Found.{Files, held_at, is_found}
+use Rattle.ariadne_show.specs.Found.{Files, held_at}
 
 -- what places say: where each begins that says something, and that
 abbrev pub says_something : Place → Bool
@@ -34,21 +34,13 @@ missing_text files place =
 abbrev pub missing_main : Files → Diagnostic → Option (List ℕ)
 missing_main files told = option_map (missing_text files) (main_of told.places.items)
 
--- the first line: where its own place begins, if it has one, and its message; and where that is the
--- only line, why the place can't be drawn
-abbrev pub why_missing : Bool → Files → Place → List ℕ
-why_missing is_short files place =
-    if is_short && not (is_found files place) then codes " (" ++ missing_text files place ++ codes ")"
-    else []
+-- the first line: where its own place begins, if it has one, and its message
+abbrev pub first_line_at : List ℕ → Option Place → List ℕ
+first_line_at message None = message
+first_line_at message (Some place) = spot_text place message
 
-abbrev pub first_line_at : Bool → Files → List ℕ → Option Place → List ℕ
-first_line_at is_short files message None = message
-first_line_at is_short files message (Some place) =
-    spot_text place message ++ why_missing is_short files place
-
-abbrev pub first_line : Bool → Files → Diagnostic → List ℕ
-first_line is_short files told =
-    first_line_at is_short files (string_bytes told.message) (main_of told.places.items)
+abbrev pub first_line : Diagnostic → List ℕ
+first_line told = first_line_at (string_bytes told.message) (main_of told.places.items)
 
 -- the lines behind it: what its places say, its notes and its helps, and why there is no picture
 abbrev pub lines_of : Files → Diagnostic → List (List ℕ)

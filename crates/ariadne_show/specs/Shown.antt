@@ -1,84 +1,357 @@
--- What a run has shown: what has reached its output, step by step, by the lines that it has read. What
--- input and output know of their bytes is given before and after each step.
-use Rattle.std.specs.Prelude.{ℕ, ◌≡◌, ◌<◌, Bool, false, not, List, [], ◌∷◌, ◌++◌, Option}
-use Rattle.std.specs.Prelude.{Some, None, IfSome, Vec, vec_len}
-use Rattle.std.specs.Io.BufRead.{ends_with_byte, strip_last, take_through}
-use Rattle.std.specs.Io.KnownBytes.{Appends, Consumes, IsAtEnd}
-use Rattle.std.specs.Str.Lossy.{utf8_lossy}
+-- What a run has shown: what has reached its output, step by step, by the lines that it has read. Each line is
+-- shown once. It passes, or is dropped, or tells diagnostics that are whole; or it is the head of one whose
+-- next lines may tell more, and then each of them that belongs to it goes to it, and it is written where the
+-- first comes that does not, or at the end. Lines that may stand in front of a diagnostic wait for its head,
+-- and then give it their places, or pass.
+use Rattle.std.specs.Prelude.{ℕ, ◌≡◌, Bool, true, false, List, [], ◌∷◌, ◌++◌}
+use Rattle.std.specs.Prelude.{Option, Some, None, Vec, ⊤}
+use Rattle.std.specs.Io.KnownBytes.{Appends, IsAtEnd}
 use Rattle.std.specs.declared.alloc.Global.{Global}
-use Rattle.ariadne_told.specs.Told.{IsTold}
+use Rattle.serde_json.specs.Written.{compact_text}
+use Rattle.ariadne_blocks.specs.Blocks.{is_about, lines_behind, told_of, IsBegun, IsNoted}
+use Rattle.ariadne_blocks.specs.Blocks.{IsPlacedBy as IsPlaceAdded}
+use Rattle.ariadne_blocks.specs.declared.block.Block.{Block}
+use Rattle.ariadne_blocks.specs.declared.line.Line.{Line}
+use Rattle.ariadne_outputs.specs.Sarif.{driver_of}
+use Rattle.ariadne_outputs.specs.declared.sarif.TheConstants.{BEHIND, FRONT, SARIF_TAIL}
+use Rattle.ariadne_search.specs.Folders.{entered_in, followed}
+use Rattle.ariadne_search.specs.Make.{move_in}
+use Rattle.ariadne_told.specs.Told.{reads_text, IsTold}
 use Rattle.ariadne_told.specs.declared.diagnostic.Diagnostic.{Diagnostic}
-use Rattle.ariadne_told.specs.declared.telling.Format.{Format}
-use Rattle.ariadne_show.specs.declared.options.Style.{Style}
-use Rattle.ariadne_show.specs.declared.shelf.Shelf.{Shelf}
+use Rattle.ariadne_told.specs.declared.diagnostic.Place.{Place}
+use Rattle.ariadne_told.specs.declared.telling.Answer.{Answer}
+use Rattle.ariadne_told.specs.declared.telling.Answer.TheVariants as answer
+use Rattle.ariadne_show.specs.Finding.{caret_at, is_first_held, is_held, IsOpened, IsPlaceSettled}
+use Rattle.ariadne_show.specs.Fronts.{passing_of}
+use Rattle.ariadne_show.specs.Known.{is_note_of, is_tally_behind, AreMarksSettled, IsMoreInFront, IsNew, IsNoRowInFront, IsPlacedBy}
+use Rattle.ariadne_show.specs.Known.{IsRowInFront, MayNotGoOn, PlacesNone, Waits, WaitsNot}
+use Rattle.ariadne_show.specs.Limits.{more_text}
+use Rattle.ariadne_show.specs.Lines.{IsLineOf, ReadsLine}
+use Rattle.ariadne_show.specs.Streams.{StreamBytes}
+use Rattle.ariadne_show.specs.Sums.{line_end, sum_text}
+use Rattle.ariadne_show.specs.Writing.{is_document, is_open, nothing_shown, out_of, HasPassed, HavePassed, IsShownOnce, Out}
+use Rattle.ariadne_show.specs.declared.finder.Finder.{Finder}
+use Rattle.ariadne_show.specs.declared.front.PlacedHead.{PlacedHead}
+use Rattle.ariadne_show.specs.declared.front.Role.{Role}
+use Rattle.ariadne_show.specs.declared.front.Role.TheVariants as role
+use Rattle.ariadne_show.specs.declared.front.WaitingLine.{WaitingLine}
+use Rattle.ariadne_show.specs.declared.known.Known.{Known}
+use Rattle.ariadne_show.specs.declared.options.Options.{Options}
+use Rattle.ariadne_show.specs.declared.options.Output.{Output}
+use Rattle.ariadne_show.specs.declared.run.Run.{Run}
+use Rattle.ariadne_show.specs.declared.showing.Ending.{Ending}
+use Rattle.ariadne_show.specs.declared.showing.Ending.TheVariants.{AtEnd, Unread}
+use Rattle.ariadne_show.specs.declared.showing.TheConstants.{VERSION}
 use Rattle.ariadne_show.specs.declared.sum.Sum.{Sum}
-use Rattle.ariadne_show.specs.Drawn.{IsToldDrawn}
-use Rattle.ariadne_show.specs.Found.{files_of}
-use Rattle.ariadne_show.specs.Read.{paths_of, sources_in, HaveTried}
-use Rattle.ariadne_show.specs.Sums.{counted, line_end, no_sum, sum_text}
 
--- the files of diagnostics were read, and they were drawn over them in their order, each in one picture
--- at least, and counted
-pub data AreTold (style : Style) : List Diagnostic → Shelf → Shelf → Option (List ℕ)
-    → Option (List ℕ) → Sum → Sum → Type 0 where
-  none_told : {a : Shelf} {o : Option (List ℕ)} {sum : Sum} → AreTold style [] a a o o sum sum
-  one_told_more : {all : List Diagnostic} {a b c : Shelf} {o p q : Option (List ℕ)} {sum total : Sum}
-      → AreTold style all a b o p sum total → (told : Diagnostic)
-      → HaveTried (paths_of told.places.items) b c
-      → IsToldDrawn style (files_of c) (sources_in c) told p q
-      → AreTold style (all ++ told ∷ []) a c o q sum (counted told total)
+-- what a run knows, and what it has shown
+pub record At : Type 0 where
+  pub known : Known
+  pub out : Out
 
--- the text of a line: without what ends it, and with U+FFFD in place of what is not UTF-8
-abbrev pub text_of : List ℕ → List ℕ
-text_of line = utf8_lossy (strip_last 13 (strip_last 10 line))
+abbrev pub at_of : Run → StreamBytes → At
+at_of run streams = record { known = run.known; out = out_of run.shown streams }
 
--- what is told of a line that is read in a form: diagnostics, or nothing
-abbrev pub IsToldBy : Format → List ℕ → Option (Vec Diagnostic Global) → Type 0
-IsToldBy format line told = IsTold format (text_of line) told
+-- ---- the end of a diagnostic of lines of text
 
--- of a line the output got the line as it is, where it tells nothing, and in its place the pictures of
--- its diagnostics, where it tells some; what it got is open, where it is a line that no line feed ends
-pub data IsShownOf (format : Format) (style : Style) (line : List ℕ) (first last : Shelf)
-    (before after : Option (List ℕ)) (sum total : Sum) (is_open : Bool) : Type 0 where
-  as_it_is : IsToldBy format line None → Appends before after line → last ≡ first → total ≡ sum
-      → is_open ≡ not (ends_with_byte 10 line)
-      → IsShownOf format style line first last before after sum total is_open
-  drawn : (all : Vec Diagnostic Global) → IsToldBy format line (Some all) → 0 < vec_len all
-      → AreTold style all.items first last before after sum total → is_open ≡ false
-      → IsShownOf format style line first last before after sum total is_open
+-- it was shown, and the lines passed that turned out to be none of it
+pub record IsBlockWritten (options : Options) (block : Block) (first last : At) : Type 0 where
+  pub told : Diagnostic
+  pub settled : AreMarksSettled (told_of block) told first.known last.known
+  pub shown : Out
+  pub once : IsShownOnce options first.known.finder.shelf told first.out shown
+  pub behind : HavePassed options (lines_behind block) shown last.out
 
--- the next line of an input, with the line feed that ends it, was read
-pub record ReadsLine (before after : Option (List ℕ)) (line : List ℕ) : Type 0 where
-  pub taken : Consumes before after line
-  pub whole : IfSome before (λ bytes. line ≡ take_through 10 bytes)
+-- a run that holds none
+abbrev pub without_block : At → At
+without_block at = record at { known = record at.known { block = None } }
 
--- lines were read, and each was shown and counted, in their order
-pub data AreShown (format : Format) (style : Style) : Option (List ℕ) → Option (List ℕ) → Shelf
-    → Shelf → Option (List ℕ) → Option (List ℕ) → Sum → Sum → Bool → Type 0 where
-  no_line : {i o : Option (List ℕ)} {a : Shelf} {sum : Sum}
-      → AreShown format style i i a a o o sum sum false
-  one_line_more : {i j k o p q : Option (List ℕ)} {a b c : Shelf} {sum part total : Sum}
-      {was_open is_open : Bool} → AreShown format style i j a b o p sum part was_open
-      → (line : List ℕ) → ReadsLine j k line
-      → IsShownOf format style line b c p q part total is_open
-      → AreShown format style i k a c o q sum total is_open
+-- the one in front was, if there is one
+pub data IsBlockFinished (options : Options) (first last : At) : Type 0 where
+  no_block : first.known.block ≡ None → last ≡ first → IsBlockFinished options first last
+  block_written : (block : Block) → first.known.block ≡ Some block
+      → IsBlockWritten options block (without_block first) last → IsBlockFinished options first last
 
--- all lines of an input were, and no file was read before
-pub record AreAllShown (format : Format) (style : Style) (input before after : Option (List ℕ))
-    (sum total : Sum) (is_open : Bool) : Type 0 where
+-- and then the lines that waited behind it passed
+pub record IsFinished (options : Options) (first last : At) : Type 0 where
+  pub ended : At
+  pub block : IsBlockFinished options first ended
+  pub front : HavePassed options (passing_of ended.known.front.items) ended.out last.out
+  pub none : last.known.front.items ≡ []
+  pub known : last.known ≡ record ended.known { front = last.known.front }
+
+-- a line passed behind all that
+pub record IsLinePassed (options : Options) (line : List ℕ) (first last : At) : Type 0 where
+  pub finished : At
+  pub before : IsFinished options first finished
+  pub line_passed : HasPassed options line finished.out last.out
+  pub known : last.known ≡ finished.known
+
+-- ---- diagnostics that are whole
+
+-- one was shown over its files
+pub record IsWholeShown (options : Options) (told : Diagnostic) (first last : At) : Type 0 where
+  pub opened : Diagnostic
+  pub files : IsOpened told opened first.known.finder last.known.finder
+  pub once : IsShownOnce options last.known.finder.shelf opened first.out last.out
+  pub known : last.known ≡ record first.known { finder = last.known.finder }
+
+-- each was, in their order
+pub data AreShown (options : Options) : List Diagnostic → At → At → Type 0 where
+  none_shown : {a : At} → AreShown options [] a a
+  one_shown_more : {all : List Diagnostic} {a b c : At} → AreShown options all a b
+      → (told : Diagnostic) → IsWholeShown options told b c → AreShown options (all ++ told ∷ []) a c
+
+-- behind what was held
+pub record AreAllShown (options : Options) (all : List Diagnostic) (first last : At) : Type 0 where
+  pub finished : At
+  pub before : IsFinished options first finished
+  pub whole : AreShown options all finished last
+
+-- ---- lines that waited, and a diagnostic behind them
+
+-- what they are given to, and what was shown meanwhile
+pub record Giving : Type 0 where
+  pub finder : Finder
+  pub block : Block
+  pub out : Out
+
+-- a line tells no place
+abbrev pub tells_place : Role → Bool
+tells_place (role.Place place) = true
+tells_place (role.Head told) = false
+tells_place role.Scope = false
+
+-- the place of a line goes to the diagnostic, if its file can be read; else the line passed
+pub data IsPlaceGone (options : Options) (bytes : List ℕ) (place : Place) (first last : Giving) : Type 0 where
+  gave_place : (settled : Place) → IsPlaceSettled place settled first.finder last.finder
+      → is_held last.finder settled ≡ true → IsPlaceAdded settled first.block last.block
+      → last.out ≡ first.out → IsPlaceGone options bytes place first last
+  passed_unread : (settled : Place) → IsPlaceSettled place settled first.finder last.finder
+      → is_held last.finder settled ≡ false → HasPassed options bytes first.out last.out
+      → last.block ≡ first.block → IsPlaceGone options bytes place first last
+
+-- a line gave its place so, or tells none and passed
+pub data HasLineGone (options : Options) (line : WaitingLine) (first last : Giving) : Type 0 where
+  told_place : (place : Place) → line.role ≡ role.Place place
+      → IsPlaceGone options line.bytes.items place first last → HasLineGone options line first last
+  passed_placeless : tells_place line.role ≡ false → HasPassed options line.bytes.items first.out last.out
+      → last.finder ≡ first.finder → last.block ≡ first.block → HasLineGone options line first last
+
+-- so did all that waited, in their order
+pub data AreGiven (options : Options) : List WaitingLine → Giving → Giving → Type 0 where
+  none_given : {a : Giving} → AreGiven options [] a a
+  one_given_more : {lines : List WaitingLine} {a b c : Giving} → AreGiven options lines a b
+      → (line : WaitingLine) → HasLineGone options line b c → AreGiven options (lines ++ line ∷ []) a c
+
+-- a run that gives them to a diagnostic
+abbrev pub giving : At → Block → Giving
+giving at block = record { finder = at.known.finder; block = block; out = at.out }
+
+-- and then no line waits
+pub record IsFrontGiven (options : Options) (first : At) (block : Block) (last : At) (given : Block) : Type 0 where
+  pub lines : AreGiven options first.known.front.items (giving first block) (giving last given)
+  pub none : last.known.front.items ≡ []
+  pub known : last.known
+      ≡ record first.known { finder = last.known.finder; front = last.known.front }
+
+-- a run that holds a diagnostic
+abbrev pub with_block : At → Block → At
+with_block at block = record at { known = record at.known { block = Some block } }
+
+-- one is held, behind the one that was in front, and has the places of the lines that waited
+pub record IsBegunBehind (options : Options) (head : List ℕ) (told : Diagnostic) (first last : At)
+    : Type 0 where
+  pub finished : At
+  pub before : IsBlockFinished options first finished
+  pub begun : Block
+  pub head_told : IsBegun told head (caret_at finished.known.finder told) begun
+  pub given : At
+  pub block : Block
+  pub front : IsFrontGiven options finished begun given block
+  pub held : last ≡ with_block given block
+
+-- a note was given to a diagnostic, with the places of the lines that waited, and that is held
+pub record IsNoteAddedTo (options : Options) (before : Block) (note : Diagnostic) (first last : At) : Type 0 where
+  pub given : At
+  pub block : Block
+  pub front : IsFrontGiven options first before given block
+  pub noted : Block
+  pub note_taken : IsNoted note (caret_at given.known.finder note) block noted
+  pub held : last ≡ with_block given noted
+
+-- ---- heads and notes
+
+-- a run whose files were looked for
+abbrev pub with_finder : At → Finder → At
+with_finder at finder = record at { known = record at.known { finder = finder } }
+
+-- a head begins a diagnostic where its file can be read; else its line passed
+pub data IsHeadShown (options : Options) (line : Line) (told : Diagnostic) (first last : At) : Type 0 where
+  began : (opened : Diagnostic) (finder : Finder) → IsOpened told opened first.known.finder finder
+      → is_first_held finder opened ≡ true
+      → IsBegunBehind options line.text.now opened (with_finder first finder) last
+      → IsHeadShown options line told first last
+  head_passed : (opened : Diagnostic) (finder : Finder) → IsOpened told opened first.known.finder finder
+      → is_first_held finder opened ≡ false
+      → IsLinePassed options line.bytes.now (with_finder first finder) last
+      → IsHeadShown options line told first last
+
+-- so does one that waited, at the place that a line names; else both lines passed
+pub data IsPlacedShown (options : Options) (line : Line) (head : PlacedHead) (first last : At) : Type 0 where
+  began_placed : (opened : Diagnostic) (finder : Finder) → IsOpened head.told opened first.known.finder finder
+      → is_first_held finder opened ≡ true
+      → IsBegunBehind options line.text.now opened (with_finder first finder) last
+      → IsPlacedShown options line head first last
+  both_passed : (opened : Diagnostic) (finder : Finder) (head_passed : At)
+      → IsOpened head.told opened first.known.finder finder → is_first_held finder opened ≡ false
+      → IsLinePassed options head.bytes.items (with_finder first finder) head_passed
+      → HasPassed options line.bytes.now head_passed.out last.out → last.known ≡ head_passed.known
+      → IsPlacedShown options line head first last
+
+-- a note was given to the diagnostic in front that it is about, or began one of its own; where its file can't
+-- be read its line passed
+pub data IsNoteShown (options : Options) (line : Line) (note : Diagnostic) (first last : At) : Type 0 where
+  note_added : (opened : Diagnostic) (finder : Finder) (block : Block)
+      → IsOpened note opened first.known.finder finder → is_first_held finder opened ≡ true
+      → first.known.block ≡ Some block → is_about (told_of block) opened ≡ true
+      → IsNoteAddedTo options block opened (without_block (with_finder first finder)) last
+      → IsNoteShown options line note first last
+  note_began : (opened : Diagnostic) (finder : Finder) → IsOpened note opened first.known.finder finder
+      → is_first_held finder opened ≡ true → is_note_of opened first.known ≡ false
+      → IsBegunBehind options line.text.now opened (with_finder first finder) last
+      → IsNoteShown options line note first last
+  note_passed : (opened : Diagnostic) (finder : Finder) → IsOpened note opened first.known.finder finder
+      → is_first_held finder opened ≡ false
+      → IsLinePassed options line.bytes.now (with_finder first finder) last
+      → IsNoteShown options line note first last
+
+-- ---- other lines of text
+
+-- a run that makes its way through folders as a line says
+pub record IsFollowed (text : List ℕ) (first last : At) : Type 0 where
+  pub entered : entered_in last.known.finder.folders
+      ≡ followed (move_in text) (entered_in first.known.finder.folders)
+  pub others : last ≡ with_finder first
+      (record first.known.finder { folders = last.known.finder.folders })
+
+-- a line that belongs to no diagnostic is a tool's own sum behind one, and is dropped, or passed
+pub data IsOtherShown (options : Options) (line : Line) (first last : At) : Type 0 where
+  tally : is_tally_behind line.text.now first.known ≡ true → IsFinished options first last
+      → IsOtherShown options line first last
+  passed : (followed : At) → is_tally_behind line.text.now first.known ≡ false
+      → IsFollowed line.text.now first followed → IsLinePassed options line.bytes.now followed last
+      → IsOtherShown options line first last
+
+-- a line of text that names no kind beside a place names the place of a head that waits, waits itself, goes on
+-- with a message, or is another
+pub data IsTextShown (options : Options) (line : Line) (first last : At) : Type 0 where
+  names_place : (known : Known) (head : PlacedHead) → IsPlacedBy line.text.now first.known known head
+      → IsPlacedShown options line head (record first { known = known }) last
+      → IsTextShown options line first last
+  waits_in_front : PlacesNone line.text.now first.known first.known
+      → Waits line first.known last.known → last.out ≡ first.out
+      → IsTextShown options line first last
+  goes_on : PlacesNone line.text.now first.known first.known
+      → WaitsNot line first.known first.known
+      → IsMoreInFront line first.known last.known → last.out ≡ first.out
+      → IsTextShown options line first last
+  other : PlacesNone line.text.now first.known first.known
+      → WaitsNot line first.known first.known → MayNotGoOn line first.known
+      → IsOtherShown options line first last → IsTextShown options line first last
+
+-- ---- lines
+
+-- a line that is no row of a snippet was shown by what it tells
+pub data IsAnswered (options : Options) (line : Line) (first last : At) : Answer → Type 0 where
+  of_text : reads_text options.reading.format ≡ true → IsTextShown options line first last
+      → IsAnswered options line first last answer.Nothing
+  of_no_form : reads_text options.reading.format ≡ false → IsLinePassed options line.bytes.now first last
+      → IsAnswered options line first last answer.Nothing
+  dropped : IsFinished options first last → IsAnswered options line first last answer.Dropped
+  whole : (all : Vec Diagnostic Global) → AreAllShown options all.items first last
+      → IsAnswered options line first last (answer.Diagnostics all)
+  head : (told : Diagnostic) → IsHeadShown options line told first last
+      → IsAnswered options line first last (answer.Head told)
+  note : (told : Diagnostic) → IsNoteShown options line told first last
+      → IsAnswered options line first last (answer.Note told)
+
+-- a line was taken in as a row of the snippet of the diagnostic in front, or was shown by what it tells
+pub data IsReadShown (options : Options) (line : Line) (first last : At) : Type 0 where
+  row : IsRowInFront line first.known last.known → last.out ≡ first.out
+      → IsReadShown options line first last
+  no_row : (tried told_by : Known) (answer : Answer) → IsNoRowInFront first.known tried
+      → IsTold options.reading line.text.now tried.sent told_by.sent answer
+      → told_by ≡ record tried { sent = told_by.sent }
+      → IsAnswered options line (record first { known = told_by }) last answer
+      → IsReadShown options line first last
+
+-- so was one of these bytes
+pub record IsLineShown (options : Options) (bytes : List ℕ) (first last : At) : Type 0 where
+  pub line : Line
+  pub read : IsLineOf bytes line
+  pub shown : IsReadShown options line first last
+
+-- lines were read, and each was shown, in their order
+pub data AreLinesShown (options : Options) : Option (List ℕ) → Option (List ℕ) → At → At → Type 0 where
+  no_line : {i : Option (List ℕ)} {a : At} → AreLinesShown options i i a a
+  one_line_more : {i j k : Option (List ℕ)} {a b c : At} → AreLinesShown options i j a b
+      → (bytes : List ℕ) → ReadsLine j k bytes → IsLineShown options bytes b c
+      → AreLinesShown options i k a c
+
+-- ---- a whole run
+
+-- the head of a document, which names the program's version
+abbrev pub document_head : List ℕ
+document_head = FRONT.now ++ compact_text (driver_of VERSION.now) ++ BEHIND.now
+
+-- what stands in front of all: that, where the output is one
+abbrev pub IsStartedIn : Bool → Option (List ℕ) → Option (List ℕ) → Type 0
+IsStartedIn true before after = Appends before after document_head
+IsStartedIn false before after = after ≡ before
+
+abbrev pub IsStarted : Output → Option (List ℕ) → Option (List ℕ) → Type 0
+IsStarted output before after = IsStartedIn (is_document output) before after
+
+-- the input ends there, or a line can't be read
+abbrev pub EndsSo : Option (List ℕ) → Ending → Type 0
+EndsSo rest AtEnd = IsAtEnd rest
+EndsSo rest (Unread fault) = ⊤
+
+-- the lines of an input were shown, up to its end or to one that can't be read
+pub record HaveLinesEnded (options : Options) (input : Option (List ℕ)) (first last : At) (ending : Ending)
+    : Type 0 where
   pub rest : Option (List ℕ)
-  pub first : Shelf
-  pub last : Shelf
-  pub unread : (path : List ℕ) → files_of first path ≡ None
-  pub shown : AreShown format style input rest first last before after sum total is_open
-  pub ended : IsAtEnd rest
+  pub lines : AreLinesShown options input rest first last
+  pub ended : EndsSo rest ending
 
--- and then the sum of what was told, if there is one, on a line of its own
-pub record IsAllShown (format : Format) (style : Style) (input before after : Option (List ℕ))
-    (sum : Sum) : Type 0 where
-  pub lines : Option (List ℕ)
-  pub ended : Option (List ℕ)
-  pub is_open : Bool
-  pub shown : AreAllShown format style input before lines no_sum sum is_open
-  pub ending : Appends lines ended (line_end is_open (sum_text sum))
-  pub total : Appends ended after (sum_text sum)
+-- and then what is held, in both cases
+pub record IsInputShown (options : Options) (input : Option (List ℕ)) (first last : At) (ending : Ending)
+    : Type 0 where
+  pub lines_shown : At
+  pub lines : HaveLinesEnded options input first lines_shown ending
+  pub held : IsFinished options lines_shown last
+
+-- what stands behind all: how many more diagnostics there are, and the sum of what was told, on lines of their
+-- own; beside a document, behind its end
+pub data IsEnded (output : Output) (first : Out) (last : StreamBytes) : Type 0 where
+  in_lines : (closed more : Option (List ℕ)) → is_document output ≡ false
+      → Appends first.output closed (line_end (is_open first.shown.written) (sum_text first.shown.sum))
+      → Appends closed more (more_text first.shown.drawn) → Appends more last.output (sum_text first.shown.sum)
+      → last.beside ≡ first.beside → IsEnded output first last
+  in_document : (more : Option (List ℕ)) → is_document output ≡ true
+      → Appends first.output last.output SARIF_TAIL.now → Appends first.beside more (more_text first.shown.drawn)
+      → Appends more last.beside (sum_text first.shown.sum) → IsEnded output first last
+
+-- all that an input tells was shown, and what the sum is of
+pub record IsAllShown (options : Options) (input : Option (List ℕ)) (before after : StreamBytes) (sum : Sum) : Type 0 where
+  pub started : StreamBytes
+  pub start : IsStarted options.output before.output started.output
+  pub beside : started.beside ≡ before.beside
+  pub first : At
+  pub is_new : IsNew first.known
+  pub nothing : first.out ≡ out_of nothing_shown started
+  pub finished : At
+  pub lines : IsInputShown options input first finished AtEnd
+  pub end : IsEnded options.output finished.out after
+  pub summed : sum ≡ finished.out.shown.sum

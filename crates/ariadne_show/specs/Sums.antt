@@ -5,6 +5,8 @@ use Rattle.ariadne_told.specs.declared.diagnostic.Diagnostic.{Diagnostic}
 use Rattle.ariadne_told.specs.declared.diagnostic.Severity.{Severity}
 use Rattle.ariadne_told.specs.declared.diagnostic.Severity.TheVariants.{Error, Warning, Note}
 use Rattle.ariadne_show.specs.declared.sum.Sum.{Sum}
+use Rattle.ariadne_show.specs.declared.options.FailOn.{FailOn}
+use Rattle.ariadne_show.specs.declared.options.FailOn.TheVariants as fail_on
 use Rattle.ariadne_show.specs.declared.fault.Status.{Status}
 use Rattle.ariadne_show.specs.declared.fault.Status.TheVariants.{Shown, WithErrors}
 
@@ -26,9 +28,15 @@ counted_as Note sum = record sum { notes = one_more sum.notes }
 abbrev pub counted : Diagnostic → Sum → Sum
 counted told sum = if told.is_sum then sum else counted_as told.severity sum
 
--- the status after all was shown: whether there was an error
-abbrev pub status_after : Sum → Status
-status_after sum = if sum.errors == 0 then Shown else WithErrors
+-- how many diagnostics the status tells of, up to twice the greatest number of the machine
+abbrev pub failing : FailOn → Sum → ℕ
+failing fail_on.Error sum = sum.errors
+failing fail_on.Warning sum = sum.errors + sum.warnings
+failing fail_on.Never sum = 0
+
+-- the status after all was shown: whether there were any
+abbrev pub status_after : FailOn → Sum → Status
+status_after fail_on sum = if failing fail_on sum == 0 then Shown else WithErrors
 
 -- a text with a number of things behind it, if there are any
 unfoldable pub with_count : List ℕ → ℕ → List ℕ → List ℕ

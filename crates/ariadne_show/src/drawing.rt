@@ -19,10 +19,10 @@ ghost use Rattle.ariadne_show.specs.Said.{first_line, lines_of};
 
 use crate::asides::{place_text, spot_text, with_asides};
 use crate::fault::Fault;
-use crate::found::{FoundPlace, found_main, found_place, ordered_places};
+use crate::found::{FoundPlace, found_main, ordered_places};
 use crate::options::Style;
 use crate::shelf::Shelf;
-use crate::texts::{line_texts, missing_text};
+use crate::texts::line_texts;
 use ariadne::{CharSet, Color, Config, Label, ReportKind};
 use ariadne_safe::{SafeBuilder, SafeKind, SafeReport};
 use ariadne_told::{Diagnostic, Severity};
@@ -41,7 +41,7 @@ const BESIDE: Color = Color::Blue;
 type Piece = (usize, Range<usize>);
 
 /// A diagnostic, and the name of its own kind, as it can be shown; empty where it has none.
-#[derive(Debug, Drop)]
+#[derive(Drop)]
 struct Titled<'a> {
     told: &'a Diagnostic,
     name: String,
@@ -76,8 +76,8 @@ impl<'a> Titled<'a> {
     }
 }
 
-/// Draws a diagnostic over its files, which were read; in one line, where that is asked for; in lines
-/// where its own place can't be had, which the last of them says. The one line says it too.
+/// Draws a diagnostic over its files, which were read; in lines where its own place can't be had, which
+/// the last of them says.
 pub fn draw<W: Write>(
     alloc: Global,
     shelf: &Shelf,
@@ -104,9 +104,6 @@ fn draw_titled<W: Write>(
         titled.now.told.now (W.contents out.old) (W.contents out.new)) }
 {
     let told = titled.told;
-    if style.is_short {
-        return draw_line(alloc, shelf, titled, style, out);
-    }
     match found_main(shelf, told) {
         Some(main) => {
             let report = report_of(alloc, shelf, titled, main, style)?;
@@ -151,10 +148,10 @@ fn draw_line<W: Write>(
     style: Style,
     out: &mut W,
 ) -> Result<(), Fault>
-    ensures { OnOk result (IsHeadDrawn style (files_of shelf.now) titled.now.told.now
+    ensures { OnOk result (IsHeadDrawn style titled.now.told.now
         (W.contents out.old) (W.contents out.new)) }
 {
-    let text = line_text(alloc, shelf, titled.told, style)?;
+    let text = line_text(alloc, titled.told)?;
     let kind = titled.kind();
     let builder = SafeBuilder::new(alloc, shelf.sources(), kind, (0, 0..0), config_of(style));
     let builder = with_code(builder.with_message(text.as_str())?, titled.told)?;
@@ -180,27 +177,14 @@ fn draw_lines<W: Write>(
     Ok(())
 }
 
-/// Where a diagnostic is, and what it says; where this is its only line, also that its place can't be
-/// had.
-fn line_text(
-    alloc: Global,
-    shelf: &Shelf,
-    told: &Diagnostic,
-    style: Style,
-) -> Result<String, AllocError>
-    ensures { IfOk result (λ text.
-        string_bytes text ≡ first_line style.is_short (files_of shelf.now) told.now) }
+/// Where a diagnostic is, and what it says.
+fn line_text(alloc: Global, told: &Diagnostic) -> Result<String, AllocError>
+    ensures { IfOk result (λ text. string_bytes text ≡ first_line told.now) }
 {
-    let Some(place) = told.main_place() else {
-        let text = told.message.clone()?;
-        return Ok(text);
-    };
-    let text = spot_text(alloc, place, told.message.as_str())?;
-    if !style.is_short || found_place(shelf, place).is_some() {
-        return Ok(text);
+    match told.main_place() {
+        Some(place) => spot_text(alloc, place, told.message.as_str()),
+        None => String::from_str(alloc, told.message.as_str()),
     }
-    let missing = missing_text(alloc, shelf, place)?;
-    format!(in alloc; "{text} ({missing})")
 }
 
 /// The report of a diagnostic whose own place was found.

@@ -2,9 +2,10 @@
 
 ghost use Rattle.std.specs.Prelude.{◌≡◌, ◌≢◌, IfOk};
 ghost use Rattle.std.specs.IoError.{error_kind};
-ghost use Rattle.ariadne_show.specs.Faults.{status_of};
-ghost use Rattle.ariadne_show.specs.declared.fault.Fault.TheVariants.{NoText, Unread};
-ghost use Rattle.ariadne_show.specs.declared.fault.Status.TheVariants.{WrongWords};
+ghost use Rattle.ariadne_show.specs.Faults.{fault_of_writing, status_of, TellsWords};
+ghost use Rattle.ariadne_show.specs.declared.fault.Fault.TheVariants.{BrokenPipe, Memory, NoText};
+ghost use Rattle.ariadne_show.specs.declared.fault.Fault.TheVariants.{Unread};
+ghost use Rattle.ariadne_show.specs.declared.fault.Status.TheVariants.{Failed};
 
 use ariadne::WriteError;
 use ariadne_visible::{TextKind, visible};
@@ -16,14 +17,16 @@ use thiserror::Error;
 /// How the program ends. The numbers are its exit statuses.
 #[derive(Clone, Copy, Debug, PartialEq, Eq)]
 pub enum Status {
-    /// All was shown, and no error was among it.
+    /// All was shown, and no error was among it, or nothing else that `--fail-on` asks for.
     Shown = 0,
-    /// All was shown, and an error was among it.
+    /// All was shown, and an error was among it, or what else `--fail-on` asks for.
     WithErrors = 1,
     /// The words ask for nothing that the program does.
     WrongWords = 2,
     /// Reading or writing failed on the way, or memory was refused.
     Failed = 3,
+    /// Nobody read the output any more. (A shell has this status for what the signal PIPE ends.)
+    BrokenPipe = 141,
 }
 
 /// Why the program ends early. The texts are those that standard error gets.
@@ -32,36 +35,29 @@ pub enum Fault {
     /// A word is no UTF-8.
     #[error("a word is not UTF-8")]
     NoText,
-    /// A word is no option.
-    #[error("`{word}` is no option; --help names them")]
-    Unknown {
-        word: String,
-    },
-    /// An option has no value.
-    #[error("{option} needs {expected}")]
-    Expected {
-        option: String,
-        expected: &'static str,
-    },
-    /// An option has a value that it can't have.
-    #[error("{option} needs {expected}, and not `{given}`")]
-    Unfit {
-        option: String,
-        expected: &'static str,
-        given: String,
-    },
+    /// The words ask for nothing that the program does: what is wrong with them.
+    #[error("{text}")]
+    Words { text: String },
     /// A read of standard input failed.
     #[error("input: can't be read")]
     Unread,
+    /// A file that was named as an input can't be read, for this reason of the system's.
+    #[error("{path}: {reason}")]
+    UnreadFile { path: String, reason: String },
     /// The writer failed.
     #[error("write failed")]
     Writer,
+    /// Nobody reads the output any more. Standard error gets no text then.
+    #[error("nobody reads the output")]
+    BrokenPipe,
     /// Memory was refused.
     #[error("no memory")]
     Memory(AllocError),
 }
 
 impl From<AllocError> for Fault {
+    ghost from_gives = { λ error fault. fault ≡ Memory error };
+
     fn from(error: AllocError) -> Fault {
         Fault::Memory(error)
     }
@@ -77,37 +73,36 @@ impl From<WriteError> for Fault {
     fn from(error: WriteError) -> Fault {
         match error {
             WriteError::Memory(error) => Fault::Memory(error),
-            WriteError::Io { .. } => Fault::Writer,
+            WriteError::Io { fault, .. } => Fault::of_writing(&fault),
         }
     }
 }
 
 impl Fault {
-    /// That a word is no option. It is told with a sign for each character that a terminal obeys.
-    pub fn unknown(alloc: Global, word: &str) -> Result<Fault, AllocError>
-        ensures { IfOk result (λ fault. status_of fault ≡ WrongWords) }
+    /// That the words ask for nothing that the program does: what `clap` says of them, with a sign for
+    /// each character that a terminal obeys, but for its line feeds.
+    pub fn words(alloc: Global, error: &clap::Error) -> Result<Fault, AllocError>
+        ensures { IfOk result TellsWords }
     {
-        let word = visible(alloc, word, TextKind::OneRow)?;
-        Ok(Fault::Unknown { word })
+        let text = format!(in alloc; "{error}")?;
+        let said = text.as_str();
+        let said = said.strip_prefix("error: ").unwrap_or(said).trim_end();
+        Ok(Fault::Words {
+            text: visible(alloc, said, TextKind::Aside)?,
+        })
     }
 
-    /// That an option has no value, or this one, which it can't have and is told in such signs too.
-    pub fn unfit(
-        alloc: Global,
-        option: &str,
-        expected: &'static str,
-        given: Option<&str>,
-    ) -> Result<Fault, AllocError>
-        ensures { IfOk result (λ fault. status_of fault ≡ WrongWords) }
+    /// That the file at a path, which was named as an input, can't be read. The path is told in such
+    /// signs too. On `Err` there was no memory, or the error says so.
+    pub fn unread_file(alloc: Global, path: &str, error: &io::Error) -> Result<Fault, AllocError>
+        ensures { IfOk result (λ fault. status_of fault ≡ Failed) }
     {
-        let option = String::from_str(alloc, option)?;
-        let Some(given) = given else {
-            return Ok(Fault::Expected { option, expected });
-        };
-        Ok(Fault::Unfit {
-            option,
-            expected,
-            given: visible(alloc, given, TextKind::OneRow)?,
+        if error.kind() == ErrorKind::OutOfMemory {
+            return Err(AllocError);
+        }
+        Ok(Fault::UnreadFile {
+            path: visible(alloc, path, TextKind::OneRow)?,
+            reason: format!(in alloc; "{error}")?,
         })
     }
 
@@ -133,24 +128,42 @@ impl Fault {
         }
     }
 
+    /// What an error of writing means: that nobody reads, where it is of that kind.
+    pub fn of_writing(error: &io::Error) -> Fault
+        ensures { result ≡ fault_of_writing (error_kind error.now) }
+    {
+        match error.kind() {
+            ErrorKind::BrokenPipe => Fault::BrokenPipe,
+            _ => Fault::Writer,
+        }
+    }
+
     /// The status that the program ends with after this fault.
     pub fn status(&self) -> Status
         ensures { result ≡ status_of self.now }
     {
         match self {
-            Fault::NoText | Fault::Unknown { .. } => Status::WrongWords,
-            Fault::Expected { .. } | Fault::Unfit { .. } => Status::WrongWords,
-            Fault::Unread | Fault::Writer | Fault::Memory(_) => Status::Failed,
+            Fault::NoText | Fault::Words { .. } => Status::WrongWords,
+            Fault::Unread | Fault::UnreadFile { .. } => Status::Failed,
+            Fault::Writer | Fault::Memory(_) => Status::Failed,
+            Fault::BrokenPipe => Status::BrokenPipe,
         }
     }
 }
 
-/// Writes a fault's text and a line feed to `faults`, and returns its status.
+/// Writes a fault's text and a line feed to `faults`, and returns its status. Of a broken pipe nothing
+/// is written.
 ///
 /// A writer that fails is passed over.
 pub fn tell_fault<F: Write>(faults: &mut F, fault: &Fault) -> Status
-    ensures { result ≡ status_of fault.now }
+    ensures status { result ≡ status_of fault.now }
+    ensures silent { fault.now ≡ BrokenPipe → faults.new ≡ faults.old }
 {
-    let _ = writeln!(faults, "ariadne-show: {fault}");
+    match fault {
+        Fault::BrokenPipe => {}
+        told => {
+            let _ = writeln!(faults, "ariadne-show: {told}");
+        }
+    }
     fault.status()
 }

@@ -10,7 +10,7 @@ use ariadne_told::{Diagnostic, Place};
 use std::alloc::{AllocError, Global};
 
 /// A place that a file has.
-#[derive(Clone, Copy, Debug)]
+#[derive(Clone, Copy)]
 pub struct FoundPlace<'a> {
     /// The number of the file.
     pub number: usize,

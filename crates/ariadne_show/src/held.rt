@@ -2,7 +2,8 @@
 
 ghost use Rattle.std.specs.Prelude.{◌≡◌, ◌≤◌, chars, length, string_bytes, IfOk, IfSome};
 ghost use Rattle.ariadne_show.specs.Found.{caret_in, end_of, end_spot_in, mark_before, span_in};
-ghost use Rattle.ariadne_show.specs.Found.{spot_in, unit_in};
+ghost use Rattle.ariadne_show.specs.Found.{caret_in_marks, char_at as char_in};
+ghost use Rattle.ariadne_show.specs.Found.{is_sure as is_sure_in, marked_in, own_span_in, spot_in, unit_in};
 ghost use Rattle.ariadne_show.specs.Read.{IsTextOf};
 
 use ariadne_columns::Columns;
@@ -14,7 +15,7 @@ use std::ops::Range;
 const MARK: &[u8] = b"\xef\xbb\xbf";
 
 /// The text of a file: its bytes as UTF-8, or where they are none, a character for each byte.
-#[derive(Debug, Drop)]
+#[derive(Drop)]
 pub struct FileText {
     /// The text.
     pub text: String,
@@ -57,7 +58,7 @@ fn latin_text(alloc: Global, bytes: &[u8]) -> Result<String, AllocError>
 }
 
 /// A file that was read.
-#[derive(Debug, Drop)]
+#[derive(Drop)]
 pub struct Held {
     /// The number of its source.
     pub number: usize,
@@ -67,14 +68,28 @@ pub struct Held {
     pub is_utf8: bool,
     /// Whether it begins with a byte order mark.
     pub has_mark: bool,
+    /// How many of its lines stand above those that are held: none, where the file was read.
+    pub above: usize,
 }
 
 impl Held {
     /// The characters of a place, if the file has its start: the first, from 0, and the one behind the
-    /// last. An end that the file doesn't have is the end of the file.
-    #[tactic(auto, unfolding(crate::specs::Found::span_in))]
+    /// last. An end that the file doesn't have is the end of the file. Where a tool's own marks cover the
+    /// place, they are those that the marks cover.
     pub fn span(&self, place: &Place) -> Option<Range<usize>>
         ensures span { result ≡ span_in self.now place.now }
+        ensures forward { IfSome result (λ span. span.start ≤ span.end) }
+    {
+        match place.marks {
+            Some(marks) => self.marked(marks),
+            None => self.own_span(place),
+        }
+    }
+
+    /// The characters of a place, whatever marks cover it.
+    #[tactic(auto, unfolding(crate::specs::Found::own_span_in))]
+    fn own_span(&self, place: &Place) -> Option<Range<usize>>
+        ensures span { result ≡ own_span_in self.now place.now }
         ensures forward { IfSome result (λ span. span.start ≤ span.end) }
     {
         let start = self.offset(place, place.start, 1)?;
@@ -82,11 +97,48 @@ impl Held {
         Some(start..end.max(start))
     }
 
-    /// The character that the tool points at, if the file has it.
+    /// The characters that marks cover, from a spot up to another.
+    #[tactic(auto, unfolding(crate::specs::Found::marked_in))]
+    fn marked(&self, marks: (Spot, Spot)) -> Option<Range<usize>>
+        ensures span { result ≡ marked_in self.now marks }
+        ensures forward { IfSome result (λ span. span.start ≤ span.end) }
+    {
+        let start = self.char_at(marks.0)?;
+        let end = self.char_at(marks.1)?.max(start);
+        Some(start..end)
+    }
+
+    /// The offset of a spot whose column counts characters.
+    #[tactic(auto, unfolding(crate::specs::Found::char_at))]
+    fn char_at(&self, spot: Spot) -> Option<usize>
+        ensures { result ≡ char_in self.now spot }
+    {
+        let line = spot.line.saturating_sub(self.above);
+        self.columns
+            .offset(Unit::Char, line, spot.column.unwrap_or(1))
+    }
+
+    /// The character that the tool points at, if the file has it: the first that its marks cover, where
+    /// it names no column, or one that they don't cover, as gcc does whose columns are those of a terminal.
+    /// A column that counts characters is sure.
     pub fn caret(&self, place: &Place) -> Option<usize>
         ensures { result ≡ caret_in self.now place.now }
     {
-        self.offset(place, place.caret, 1)
+        let caret = self.offset(place, place.caret, 1)?;
+        match place.marks {
+            Some(marks) if !is_sure(place) => Some(self.marked_caret(marks, caret)),
+            _ => Some(caret),
+        }
+    }
+
+    /// The character that a tool points at whose marks cover this.
+    fn marked_caret(&self, marks: (Spot, Spot), caret: usize) -> usize
+        ensures { result ≡ caret_in_marks (marked_in self.now marks) caret }
+    {
+        match self.marked(marks) {
+            Some(marked) if caret < marked.start || marked.end <= caret => marked.start,
+            _ => caret,
+        }
     }
 
     /// Where a place ends that starts at an offset.
@@ -109,7 +161,7 @@ impl Held {
     {
         match self.offset(place, spot, usize::MAX) {
             Some(offset) => offset,
-            None if spot.line == 0 => 0,
+            None if spot.line <= self.above => 0,
             None => self.columns.len(),
         }
     }
@@ -122,12 +174,12 @@ impl Held {
     {
         let mark = self.mark(place, spot.line);
         let column = spot.column.unwrap_or(column).saturating_add(mark);
-        self.columns
-            .offset(self.unit(place.unit), spot.line, column)
+        let line = spot.line.saturating_sub(self.above);
+        self.columns.offset(self.unit(place.unit), line, column)
     }
 
-    /// What columns count.
-    fn unit(&self, unit: Unit) -> Unit
+    /// What columns count: characters in place of bytes, where the file is no UTF-8.
+    pub fn unit(&self, unit: Unit) -> Unit
         ensures { result ≡ unit_in self.now unit }
     {
         match unit {
@@ -146,4 +198,11 @@ impl Held {
             0
         }
     }
+}
+
+/// Whether a place points at a column that counts characters.
+fn is_sure(place: &Place) -> bool
+    ensures { result ≡ is_sure_in place.now }
+{
+    place.caret.column.is_some() && place.unit == Unit::Char
 }

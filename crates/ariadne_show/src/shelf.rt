@@ -1,19 +1,28 @@
 //! The files that diagnostics name, each read once.
 
-ghost use Rattle.std.specs.Prelude.{◌≡◌, ℕ, List, [], ◌∷◌, None, IfOk, OnOk};
+ghost use Rattle.std.specs.Prelude.{◌≡◌, ℕ, List, [], ◌∷◌, None, option_map, string_bytes};
+ghost use Rattle.std.specs.Prelude.{IfOk, OnOk};
 ghost use Rattle.std.specs.Option.{option_copied};
 ghost use Rattle.ariadne_safe.specs.Sources.{sources_of};
-ghost use Rattle.ariadne_show.specs.Found.{files_of, held_at};
-ghost use Rattle.ariadne_show.specs.Read.{sources_in, HaveSources, HaveTried, IsHeldBehind};
-ghost use Rattle.ariadne_show.specs.Read.{IsTried};
+ghost use Rattle.ariadne_search.specs.Search.{candidates as all_candidates};
+ghost use Rattle.ariadne_blocks.specs.Files.{file_of};
+ghost use Rattle.ariadne_show.specs.Finding.{file_at};
+ghost use Rattle.ariadne_show.specs.Found.{files_of, held_at, read_in};
+ghost use Rattle.ariadne_show.specs.Located.{caret_in_line as caret_in_its_line};
+ghost use Rattle.ariadne_show.specs.Read.{is_read as is_read_in, sources_in, AreQuoted, HaveSearched};
+ghost use Rattle.ariadne_show.specs.Read.{HaveSources, HaveTried, AreOpened, IsHeldBehind};
+ghost use Rattle.ariadne_show.specs.Read.{AreQuotedIn, IsQuotedNow, IsSettledNow, IsTried};
 
+use crate::bounds::Bounds;
 use crate::held::{FileText, Held};
-use ariadne_columns::Columns;
+use crate::quoted::hold_quoted;
+use ariadne_blocks::QuotedFile;
+use ariadne_columns::{Columns, Unit};
 use ariadne_safe::{LineEnds, SafeSource, SafeSources};
+use ariadne_search::{Search, candidates};
+use ariadne_told::{Place, QuotedLine};
 use std::alloc::{AllocError, Global};
 use std::collections::HashMap;
-use std::fs;
-use std::io::ErrorKind;
 use std::rt::Files;
 
 /// Files by their paths, and their sources as they can be shown.
@@ -21,17 +30,22 @@ use std::rt::Files;
 pub struct Shelf {
     sources: SafeSources,
     files: HashMap<String, Option<Held>>,
+    quoted: HashMap<String, Held>,
+    bounds: Bounds,
     alloc: Global,
 }
 
 impl Shelf {
-    /// A shelf without files.
-    pub fn new(alloc: Global) -> Shelf
-        ensures { (path : List ℕ) → files_of result path ≡ None }
+    /// A shelf without files, which reads those within these bounds.
+    pub fn new(alloc: Global, bounds: Bounds) -> Shelf
+        ensures empty { (path : List ℕ) → files_of result path ≡ None }
+        ensures sources { HaveSources result }
     {
         Shelf {
             sources: SafeSources::new(alloc),
             files: HashMap::new(alloc),
+            quoted: HashMap::new(alloc),
+            bounds,
             alloc,
         }
     }
@@ -43,24 +57,148 @@ impl Shelf {
         &self.sources
     }
 
-    /// The file at a path, if it could be read.
+    /// The file at a path, if it could be read, or else what is quoted of it.
     pub fn get(&self, path: &str) -> Option<&Held>
         ensures { option_copied result ≡ held_at (files_of self.now) path.now }
     {
-        self.files.get(path)?.as_ref()
+        match self.files.get(path) {
+            Some(Some(held)) => Some(held),
+            _ => self.quoted.get(path),
+        }
+    }
+
+    /// The file at a path as rows quote it, if it is held.
+    pub fn quoted_file(&self, path: &str) -> Option<QuotedFile<'_>>
+        ensures { option_map file_of result ≡ file_at self.now path.now }
+    {
+        let held = self.get(path)?;
+        Some(QuotedFile {
+            columns: &held.columns,
+            byte_unit: held.unit(Unit::Byte),
+            above: held.above,
+        })
+    }
+
+    /// The character of its line, from 0, that the tool points at in a place, if that names a column and its
+    /// file is held.
+    pub fn caret_in_line(&self, place: &Place) -> Option<usize>
+        ensures { result ≡ caret_in_its_line (files_of self.now) place.now }
+    {
+        place.caret.column?;
+        let held = self.get(place.file.as_str())?;
+        let (_, column) = held.columns.spot_at(Unit::Char, held.caret(place)?);
+        Some(column - 1)
+    }
+
+    /// Whether the file at a path was read.
+    fn is_read(&self, path: &str) -> bool
+        ensures { result ≡ is_read_in (read_in self.now) path.now }
+    {
+        match self.files.get(path) {
+            Some(held) => held.is_some(),
+            None => false,
+        }
     }
 
     /// Has the file at a path read, where that was not tried before. On `Err` there was no memory.
     pub fn read<R: Files>(&mut self, files: &R, path: &str) -> Result<(), AllocError>
-        requires { HaveSources (files_of self.old) (sources_in self.old) }
+        requires { HaveSources self.old }
         ensures { OnOk result (HaveTried (path.now ∷ []) self.old self.new) }
     {
         if self.files.contains_key(path) {
             return Ok(());
         }
-        let held = try_file(files, self.alloc, &mut self.sources, path)?;
+        let held = try_file(files, self.alloc, &self.bounds, &mut self.sources, path)?;
         let key = String::from_str(self.alloc, path)?;
         self.files.insert(key, held)?;
+        Ok(())
+    }
+
+    /// The path of the file that a name means, which was read then: the first of its candidates that can
+    /// be. On `Err` there was no memory.
+    pub fn find<R: Files>(
+        &mut self,
+        files: &R,
+        search: &Search<'_>,
+        name: &str,
+    ) -> Result<Option<String>, AllocError>
+        requires { HaveSources self.old }
+        ensures { IfOk result (λ found. HaveSearched (all_candidates search.now name.now)
+            (option_map string_bytes found) self.old self.new) }
+    {
+        let paths = candidates(self.alloc, search, name)?;
+        for path in &paths {
+            let path = path.as_str();
+            self.read(files, path)?;
+            if self.is_read(path) {
+                return Ok(Some(String::from_str(self.alloc, path)?));
+            }
+        }
+        Ok(None)
+    }
+
+    /// Has the files of places read, and gives the places the paths at which they were found. A file that
+    /// can't be read is held as it is quoted, until this is called again.
+    ///
+    /// On `Err` there was no memory.
+    pub fn open<R: Files>(
+        &mut self,
+        files: &R,
+        search: &Search<'_>,
+        places: &mut [Place],
+        quoted: &[QuotedLine],
+    ) -> Result<(), AllocError>
+        requires { HaveSources self.old }
+        ensures { OnOk result
+            (AreOpened search.now quoted.now places.old places.new self.old self.new) }
+    {
+        for place in places.iter_mut() {
+            self.settle(files, search, place)?;
+        }
+        self.quote(places, quoted)
+    }
+
+    /// Has the file of a place read, and gives the place the path at which it was found.
+    pub fn settle<R: Files>(
+        &mut self,
+        files: &R,
+        search: &Search<'_>,
+        place: &mut Place,
+    ) -> Result<(), AllocError>
+        requires { HaveSources self.old }
+        ensures { OnOk result (IsSettledNow search.now place.old place.new self.old self.new) }
+    {
+        if let Some(path) = self.find(files, search, place.file.as_str())? {
+            place.file = path;
+        }
+        Ok(())
+    }
+
+    /// Holds what is quoted of the files of places that were not read, and nothing else that is quoted.
+    fn quote(&mut self, places: &[Place], quoted: &[QuotedLine]) -> Result<(), AllocError>
+        requires { HaveSources self.old }
+        ensures { OnOk result (AreQuoted quoted.now places.now self.old self.new) }
+    {
+        self.quoted.clear();
+        for place in places {
+            self.quote_file(place.file.as_str(), quoted)?;
+        }
+        Ok(())
+    }
+
+    /// Holds what is quoted of the file at a path, if that was not read.
+    fn quote_file(&mut self, path: &str, quoted: &[QuotedLine]) -> Result<(), AllocError>
+        requires sources { HaveSources self.old }
+        requires quoted { AreQuotedIn quoted.now self.old }
+        ensures { OnOk result (IsQuotedNow quoted.now path.now self.old self.new) }
+    {
+        if self.get(path).is_some() {
+            return Ok(());
+        }
+        if let Some(held) = hold_quoted(self.alloc, &mut self.sources, path, quoted)? {
+            let key = String::from_str(self.alloc, path)?;
+            self.quoted.insert(key, held)?;
+        }
         Ok(())
     }
 }
@@ -69,13 +207,14 @@ impl Shelf {
 fn try_file<R: Files>(
     files: &R,
     alloc: Global,
+    bounds: &Bounds,
     sources: &mut SafeSources,
     path: &str,
 ) -> Result<Option<Held>, AllocError>
     ensures { IfOk result (λ held.
         IsTried (sources_of sources.old) (sources_of sources.new) path.now held) }
 {
-    match read_file(files, alloc, path)? {
+    match bounds.read(files, alloc, path)? {
         Some(bytes) => Ok(Some(hold(alloc, sources, path, bytes.as_slice())?)),
         None => Ok(None),
     }
@@ -100,22 +239,6 @@ fn hold(
         columns,
         is_utf8: file.is_utf8,
         has_mark: file.has_mark,
+        above: 0,
     })
-}
-
-/// The bytes of the file at a path: nothing where it is none, as a folder or a pipe, or can't be read.
-fn read_file<R: Files>(
-    files: &R,
-    alloc: Global,
-    path: &str,
-) -> Result<Option<Vec<u8>>, AllocError> {
-    match fs::metadata(files, path) {
-        Ok(data) if data.is_file() => {}
-        _ => return Ok(None),
-    }
-    match fs::read(&(files, alloc), path) {
-        Ok(bytes) => Ok(Some(bytes)),
-        Err(error) if error.kind() == ErrorKind::OutOfMemory => Err(AllocError),
-        Err(_) => Ok(None),
-    }
 }

@@ -1,232 +1,154 @@
 //! The program over the streams that it is handed: what tools print in, what is shown of it out.
 
-ghost use Rattle.std.specs.Prelude.{◌≡◌, ◌<◌, [], false, IfErr, IfOk, IfSome, OnOk, vec_len};
-ghost use Rattle.std.specs.Io.BufRead.{ends_with_byte, strip_last};
-ghost use Rattle.std.specs.Io.KnownBytes.{Appends, IsAtEnd};
-ghost use Rattle.ariadne_show.specs.Shown.{AreAllShown, AreTold};
-ghost use Rattle.ariadne_show.specs.Shown.{IsAllShown, IsShownOf, IsToldBy, ReadsLine};
-ghost use Rattle.ariadne_show.specs.Drawn.{IsToldDrawn};
-ghost use Rattle.ariadne_show.specs.Found.{files_of};
-ghost use Rattle.ariadne_show.specs.Read.{paths_of, sources_in, HaveSources, HaveTried};
-ghost use Rattle.ariadne_show.specs.Sums.{counted, line_end as end_before};
-ghost use Rattle.ariadne_show.specs.declared.fault.Fault.TheVariants.{Writer};
+ghost use Rattle.std.specs.Prelude.{◌≡◌, IfOk, OnOk};
+ghost use Rattle.ariadne_show.specs.Read.{HaveSources};
+ghost use Rattle.ariadne_show.specs.Shown.{at_of, HaveLinesEnded, IsAllShown, IsEnded, IsInputShown, IsStarted};
+ghost use Rattle.ariadne_show.specs.Sums.{line_end as end_before};
+ghost use Rattle.ariadne_show.specs.Writing.{is_open as is_line_open, out_of};
 
-use crate::drawing::draw;
 use crate::fault::Fault;
-use crate::options::{Options, Style};
-use crate::shelf::Shelf;
+use crate::lines::read_line;
+use crate::options::Options;
+use crate::run::Run;
+use crate::sending::send;
+use crate::streams::Streams;
 use crate::sum::Sum;
-use ariadne_told::{Diagnostic, Place, Reading, told};
-use std::alloc::{AllocError, Global};
+use crate::task::Task;
+use crate::writing::{Shown, Written, is_document};
+use ariadne_outputs::{SARIF_TAIL, sarif_head};
+use std::alloc::Global;
 use std::io::{BufRead, Write};
 use std::rt::Files;
 
+/// The version that a SARIF log names.
+const VERSION: &str = "0.6.0";
+
 /// Shows what `input` tells, to its end.
 ///
-/// A line that is no diagnostic is written as it is, with what ends it. In place of one that is, its
-/// diagnostics are drawn over their files, each of which is read once. At the end their sum is written,
-/// if there were any, on a line of its own.
-pub fn show<R: Files, I: BufRead, W: Write>(
+/// A line that is no diagnostic is written in its place. In place of one that is, its diagnostics are
+/// drawn over their files, each of which is read once. The lines of text that belong to a diagnostic, as
+/// its tool's own snippet and its notes, are drawn with it. At the end their sum is written, if there
+/// were any, on a line of its own.
+///
+/// Where `input` can't be read, what was read is shown, but no sum.
+pub fn show<R: Files, I: BufRead, W: Write, F: Write>(
     files: &R,
     alloc: Global,
-    options: Options,
+    options: &Options<'_>,
     input: &mut I,
-    out: &mut W,
+    streams: &mut Streams<W, F>,
 ) -> Result<Sum, Fault>
-    ensures { IfOk result (λ sum. IsAllShown options.reading.format options.style
-        (I.remaining input.old) (W.contents out.old) (W.contents out.new) sum) }
+    ensures { IfOk result
+        (IsAllShown options.now (I.remaining input.old) streams.old streams.new) }
 {
-    let mut sum = Sum {
-        errors: 0,
-        warnings: 0,
-        notes: 0,
+    let task = Task {
+        files,
+        alloc,
+        options,
     };
-    let is_open = show_lines(files, alloc, options, &mut sum, input, out)?;
-    let text = sum.text(alloc)?;
-    let ending = line_end(is_open, text.as_str());
-    send(out, ending)?;
-    send(out, text.as_bytes())?;
-    Ok(sum)
+    let mut run = Run::new(files, alloc, options)?;
+    task.show_start(streams)?;
+    match task.show_input(&mut run, input, streams)? {
+        Ending::AtEnd => {
+            task.show_end(&run.shown, streams)?;
+            Ok(run.shown.sum)
+        }
+        Ending::Unread(fault) => Err(fault),
+    }
+}
+
+/// Where the lines of an input end.
+#[derive(Drop)]
+enum Ending {
+    /// With it.
+    AtEnd,
+    /// In front of one that can't be read, for this reason.
+    Unread(Fault),
+}
+
+impl<R: Files> Task<'_, R> {
+    /// Writes what stands in front of all diagnostics.
+    fn show_start<W: Write, F: Write>(&self, streams: &mut Streams<W, F>) -> Result<(), Fault>
+        ensures output { OnOk result (IsStarted self.now.options.now.output
+            streams.old.output streams.new.output) }
+        ensures beside { OnOk result (streams.new.beside ≡ streams.old.beside) }
+    {
+        if !is_document(self.options.output) {
+            return Ok(());
+        }
+        let head = sarif_head(self.alloc, VERSION)?;
+        send(&mut streams.out, head.as_bytes())
+    }
+
+    /// Shows the lines of the input, and what is held behind the last one, also where the next can't be
+    /// read.
+    fn show_input<I: BufRead, W: Write, F: Write>(
+        &self,
+        run: &mut Run,
+        input: &mut I,
+        streams: &mut Streams<W, F>,
+    ) -> Result<Ending, Fault>
+        requires { HaveSources run.old.known.finder.shelf }
+        ensures { IfOk result (IsInputShown self.now.options.now (I.remaining input.old)
+            (at_of run.old streams.old) (at_of run.new streams.new)) }
+    {
+        let ending = self.show_lines(run, input, streams)?;
+        self.finish(run, streams)?;
+        Ok(ending)
+    }
+
+    /// Shows the lines of the input, to its end.
+    fn show_lines<I: BufRead, W: Write, F: Write>(
+        &self,
+        run: &mut Run,
+        input: &mut I,
+        streams: &mut Streams<W, F>,
+    ) -> Result<Ending, Fault>
+        requires { HaveSources run.old.known.finder.shelf }
+        ensures shown { IfOk result (HaveLinesEnded self.now.options.now (I.remaining input.old)
+            (at_of run.old streams.old) (at_of run.new streams.new)) }
+        ensures sources { OnOk result (HaveSources run.new.known.finder.shelf) }
+    {
+        let mut line = Vec::new(self.alloc);
+        'lines: for _ in 0..u64::MAX {
+            line.clear();
+            match read_line(input, &mut line) {
+                Ok(true) => self.show_line(run, line.as_slice(), streams)?,
+                Ok(false) => return Ok(Ending::AtEnd),
+                Err(fault) => return Ok(Ending::Unread(fault)),
+            }
+        }
+        Ok(Ending::Unread(Fault::Unread))
+    }
+
+    /// Writes what stands behind all: how many more there are, and the sum.
+    fn show_end<W: Write, F: Write>(
+        &self,
+        shown: &Shown,
+        streams: &mut Streams<W, F>,
+    ) -> Result<(), Fault>
+        ensures { OnOk result (IsEnded self.now.options.now.output
+            (out_of shown.now streams.old) streams.new) }
+    {
+        let more = shown.drawn.text(self.alloc)?;
+        let sum = shown.sum.text(self.alloc)?;
+        if is_document(self.options.output) {
+            send(&mut streams.out, SARIF_TAIL.as_bytes())?;
+            send(&mut streams.beside, more.as_bytes())?;
+            return send(&mut streams.beside, sum.as_bytes());
+        }
+        send(&mut streams.out, line_end(shown.written, sum.as_str()))?;
+        send(&mut streams.out, more.as_bytes())?;
+        send(&mut streams.out, sum.as_bytes())
+    }
 }
 
 /// What ends an open line in front of a text, if there is one.
-fn line_end(is_open: bool, text: &str) -> &'static [u8]
-    ensures { result.now ≡ end_before is_open text.now }
+fn line_end(written: Written, text: &str) -> &'static [u8]
+    ensures { result.now ≡ end_before (is_line_open written) text.now }
 {
-    if is_open && !text.is_empty() {
-        b"\n"
-    } else {
-        b""
-    }
-}
-
-/// Shows the lines of the input, to its end, and counts what they tell. The result is whether the last
-/// of them is open.
-fn show_lines<R: Files, I: BufRead, W: Write>(
-    files: &R,
-    alloc: Global,
-    options: Options,
-    sum: &mut Sum,
-    input: &mut I,
-    out: &mut W,
-) -> Result<bool, Fault>
-    ensures { IfOk result (λ is_open. AreAllShown options.reading.format
-        options.style (I.remaining input.old) (W.contents out.old) (W.contents out.new)
-        sum.old sum.new is_open) }
-{
-    let mut shelf = Shelf::new(alloc);
-    let mut line = Vec::new(alloc);
-    let mut is_open = false;
-    'lines: for _ in 0..u64::MAX {
-        line.clear();
-        let more = read_line(input, &mut line)?;
-        if !more {
-            return Ok(is_open);
-        }
-        let shown = show_line(files, alloc, options, &mut shelf, sum, line.as_slice(), out)?;
-        is_open = shown;
-    }
-    Err(Fault::Unread)
-}
-
-/// Reads a line with what ends it, if there is one more.
-fn read_line<I: BufRead>(input: &mut I, line: &mut Vec<u8>) -> Result<bool, Fault>
-    requires { line.old.items ≡ [] }
-    ensures line { OnOk result (ReadsLine (I.remaining input.old) (I.remaining input.new)
-        line.new.items) }
-    ensures end { IfOk result (λ more. more ≡ false → IsAtEnd (I.remaining input.old)) }
-{
-    match input.read_until(b'\n', line) {
-        Ok(count) => Ok(count > 0),
-        Err(error) => Err(Fault::of_reading(&error)),
-    }
-}
-
-/// Shows a line, and counts what it tells. The result is whether it is open: it was written as it is,
-/// and no line feed ends it.
-#[tactic(auto, using(crate::proofs::Lines::passed))]
-fn show_line<R: Files, W: Write>(
-    files: &R,
-    alloc: Global,
-    options: Options,
-    shelf: &mut Shelf,
-    sum: &mut Sum,
-    line: &[u8],
-    out: &mut W,
-) -> Result<bool, Fault>
-    requires { HaveSources (files_of shelf.old) (sources_in shelf.old) }
-    ensures shown { IfOk result (λ is_open. IsShownOf options.reading.format options.style
-        line.now shelf.old shelf.new (W.contents out.old) (W.contents out.new) sum.old sum.new
-        is_open) }
-    ensures sources { OnOk result (HaveSources (files_of shelf.new) (sources_in shelf.new)) }
-{
-    match told_by_bytes(alloc, options.reading, line)? {
-        Some(all) => {
-            show_all(files, alloc, shelf, all.as_slice(), options.style, sum, out)?;
-            Ok(false)
-        }
-        None => {
-            send(out, line)?;
-            Ok(!is_ended(line))
-        }
-    }
-}
-
-/// What the bytes of a line tell, with what ends it: nothing where it is no diagnostic.
-fn told_by_bytes(
-    alloc: Global,
-    reading: Reading,
-    line: &[u8],
-) -> Result<Option<Vec<Diagnostic>>, AllocError>
-    ensures told { IfOk result (λ told. IsToldBy reading.format line.now told) }
-    ensures some { IfOk result (λ told. IfSome told (λ all. 0 < vec_len all)) }
-{
-    let unended = without_last(line, b'\n');
-    let bare = without_last(unended, b'\r');
-    let text = String::from_utf8_lossy(alloc, bare)?;
-    told(alloc, reading, text.as_str())
-}
-
-/// The bytes without their last one, where that is this one.
-fn without_last(bytes: &[u8], last: u8) -> &[u8]
-    ensures { result.now ≡ strip_last last bytes.now }
-{
-    match bytes.split_last() {
-        Some((found, front)) if *found == last => front,
-        _ => bytes,
-    }
-}
-
-/// Whether a line feed ends a line.
-fn is_ended(line: &[u8]) -> bool
-    ensures { result ≡ ends_with_byte 10 line.now }
-{
-    match line.split_last() {
-        Some((last, _)) => *last == b'\n',
-        None => false,
-    }
-}
-
-/// Draws diagnostics in turn, and counts them.
-fn show_all<R: Files, W: Write>(
-    files: &R,
-    alloc: Global,
-    shelf: &mut Shelf,
-    all: &[Diagnostic],
-    style: Style,
-    sum: &mut Sum,
-    out: &mut W,
-) -> Result<(), Fault>
-    requires { HaveSources (files_of shelf.old) (sources_in shelf.old) }
-    ensures told { OnOk result (AreTold style all.now shelf.old shelf.new
-        (W.contents out.old) (W.contents out.new) sum.old sum.new) }
-    ensures sources { OnOk result (HaveSources (files_of shelf.new) (sources_in shelf.new)) }
-{
-    for told in all {
-        show_one(files, alloc, shelf, told, style, sum, out)?;
-    }
-    Ok(())
-}
-
-/// Draws a diagnostic, and counts it.
-fn show_one<R: Files, W: Write>(
-    files: &R,
-    alloc: Global,
-    shelf: &mut Shelf,
-    told: &Diagnostic,
-    style: Style,
-    sum: &mut Sum,
-    out: &mut W,
-) -> Result<(), Fault>
-    requires { HaveSources (files_of shelf.old) (sources_in shelf.old) }
-    ensures read { OnOk result (HaveTried (paths_of told.now.places.items) shelf.old shelf.new) }
-    ensures drawn { OnOk result (IsToldDrawn style (files_of shelf.new)
-        (sources_in shelf.new) told.now (W.contents out.old) (W.contents out.new)) }
-    ensures counted { sum.new ≡ counted told.now sum.old }
-{
-    sum.count(told);
-    read_files(files, shelf, told.places.as_slice())?;
-    draw(alloc, shelf, told, style, out)
-}
-
-/// Has the files of places read.
-fn read_files<R: Files>(files: &R, shelf: &mut Shelf, places: &[Place]) -> Result<(), AllocError>
-    requires { HaveSources (files_of shelf.old) (sources_in shelf.old) }
-    ensures { OnOk result (HaveTried (paths_of places.now) shelf.old shelf.new) }
-{
-    for place in places {
-        shelf.read(files, place.file.as_str())?;
-    }
-    Ok(())
-}
-
-/// Sends all bytes.
-pub fn send<W: Write>(out: &mut W, bytes: &[u8]) -> Result<(), Fault>
-    ensures ok { OnOk result (Appends (W.contents out.old) (W.contents out.new) bytes.now) }
-    ensures err { IfErr result (λ fault. fault ≡ Writer) }
-{
-    match out.write_all(bytes) {
-        Ok(()) => Ok(()),
-        Err(_) => Err(Fault::Writer),
+    match written {
+        Written::OpenLine if !text.is_empty() => b"\n",
+        _ => b"",
     }
 }

@@ -4,11 +4,12 @@ ghost use Rattle.std.specs.Prelude.{◌≡◌, IfOk, OnOk, string_bytes};
 ghost use Rattle.ariadne_show.specs.Sums.{counted, status_after, sum_text, with_count};
 
 use crate::fault::Status;
+use crate::options::FailOn;
 use ariadne_told::{Diagnostic, Severity};
 use std::alloc::{AllocError, Global};
 
 /// How many diagnostics of each severity were told.
-#[derive(Clone, Copy, Debug, Default, PartialEq, Eq)]
+#[derive(Clone, Copy, Default)]
 pub struct Sum {
     /// Errors.
     pub errors: usize,
@@ -33,11 +34,17 @@ impl Sum {
         }
     }
 
-    /// How the program ends after it has shown all of this: whether there was an error.
-    pub fn status(&self) -> Status
-        ensures { result ≡ status_after self.now }
+    /// How the program ends after it has shown all of this: whether something was among it that the
+    /// status tells of.
+    pub fn status(&self, fail_on: FailOn) -> Status
+        ensures { result ≡ status_after fail_on self.now }
     {
-        if self.errors > 0 {
+        let is_failed = match fail_on {
+            FailOn::Error => self.errors > 0,
+            FailOn::Warning => self.errors > 0 || self.warnings > 0,
+            FailOn::Never => false,
+        };
+        if is_failed {
             Status::WithErrors
         } else {
             Status::Shown

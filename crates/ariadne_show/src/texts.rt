@@ -82,7 +82,7 @@ fn push_missing(
 }
 
 /// Why a place can't be drawn.
-pub fn missing_text(alloc: Global, shelf: &Shelf, place: &Place) -> Result<String, AllocError>
+fn missing_text(alloc: Global, shelf: &Shelf, place: &Place) -> Result<String, AllocError>
     ensures { IfOk result (λ text. string_bytes text
         ≡ text_of_missing (files_of shelf.now) place.now) }
 {

@@ -3,11 +3,11 @@
 
 use ariadne::RetryInterrupted;
 use ariadne_show::{
-    Asked, Colors, Fault, Options, Status, read_words, show, show_page, tell_fault,
+    Asked, Environment, Fault, Input, Inputs, Options, Status, Streams, read_words, show,
+    show_page, tell_fault,
 };
 use std::env;
-use std::env::VarError;
-use std::io::{BufReader, IsTerminal, Read};
+use std::io::{BufReader, IsTerminal};
 use std::process::ExitCode;
 use std::rt::Env;
 
@@ -19,47 +19,38 @@ fn given_words<R: Env + AllocGlobal>(rt: &R) -> Result<Vec<String>, Fault> {
     }
 }
 
-/// Whether the variable `NO_COLOR` is set, to any value that is not empty.
-fn is_colorless<R: Env + AllocGlobal>(rt: &R) -> bool {
-    match env::var(rt, "NO_COLOR") {
-        Ok(value) => !value.as_str().is_empty(),
-        Err(VarError::NotPresent) => false,
-        // Bytes that are no text are a value too.
-        Err(_) => true,
-    }
-}
-
-/// Shows what standard input tells, as the options ask for.
-fn show_input(rt: &HostRuntime, mut options: Options) -> Result<Status, Fault> {
-    options.style.is_colored = match options.colors {
-        Colors::Always => true,
-        Colors::Never => false,
-        Colors::Auto => rt.stdout().is_terminal() && !is_colorless(rt),
-    };
-    let mut input = match BufReader::new(rt.alloc(), rt.stdin()) {
+/// Shows what inputs tell, as the options ask for.
+fn show_inputs(
+    rt: &HostRuntime,
+    mut options: Options<'_>,
+    inputs: &[Input<'_>],
+) -> Result<Status, Fault> {
+    let environment = Environment::of(rt)?;
+    options.style.is_colored = environment.is_colored(options.colors, rt.stdout().is_terminal());
+    let inputs = Inputs::new(rt, rt.alloc(), rt.stdin(), inputs);
+    let mut input = match BufReader::new(rt.alloc(), inputs) {
         Ok(input) => input,
         Err(error) => return Err(Fault::of_reading(&error)),
     };
-    let mut out = RetryInterrupted::new(rt.stdout());
-    let sum = show(rt, rt.alloc(), options, &mut input, &mut out)?;
-    Ok(sum.status())
+    let mut streams = Streams {
+        out: RetryInterrupted::new(rt.stdout()),
+        beside: RetryInterrupted::new(rt.stderr()),
+    };
+    match show(rt, rt.alloc(), &options, &mut input, &mut streams) {
+        Ok(sum) => Ok(sum.status(options.fail_on)),
+        Err(fault) => Err(input.into_inner().into_fault().unwrap_or(fault)),
+    }
 }
 
 /// Does what the words ask for.
 fn run(rt: &HostRuntime) -> Result<Status, Fault> {
     let words = given_words(rt)?;
-    match read_words(words.as_slice()) {
-        Asked::Show(options) => show_input(rt, options),
+    match read_words(rt.alloc(), words.as_slice())? {
+        Asked::Show { options, inputs } => show_inputs(rt, options, inputs.as_slice()),
         Asked::Page(page) => {
             let mut out = RetryInterrupted::new(rt.stdout());
             Ok(show_page(page, &mut out, &mut rt.stderr()))
         }
-        Asked::Unknown(word) => Err(Fault::unknown(rt.alloc(), word)?),
-        Asked::Expected {
-            option,
-            expected,
-            given,
-        } => Err(Fault::unfit(rt.alloc(), option, expected, given)?),
     }
 }
 

@@ -4,7 +4,6 @@ use Rattle.ariadne.specs.Kinds.{kind_of as kind_of_fields}
 use Rattle.ariadne.specs.Report.{ReportFields}
 use Rattle.ariadne_safe.specs.Building.{kind_in, made_of, report_of as report_in, sources_below}
 use Rattle.ariadne_show.specs.Drawn.{IsAbout, IsBare}
-use Rattle.ariadne_show.specs.Found.{files_of}
 use Rattle.ariadne_show.specs.Said.{first_line}
 use Rattle.ariadne_show.proofs.Chains.{head_drawn_if}
 use Rattle.ariadne_show.proofs.Heads.{about, begun_bare, new_bare}
@@ -14,8 +13,7 @@ use Rattle.ariadne_show.proofs.drawing.draw_line.Goals as goal
 pub returns : goal.returns
 returns g c =
     let told = c.args.titled.now.told.now in
-    let files = files_of c.args.shelf.now in
-    let head : IsAbout c.args.style told (first_line c.args.style.is_short files told) (made_of c.in_ok-builder.builder) =
+    let head : IsAbout c.args.style told (first_line told) (made_of c.in_ok-builder.builder) =
     subst (λ (text : List ℕ). IsAbout c.args.style told text (made_of c.in_ok-builder.builder)) (c.as_str.ensures.value ∙ c.in_ok-text.ensures)
     (about c.args.style told (kind_of_fields (kind_in c.kind-kind.result)) _ _ (made_of c.new-builder.result)
     (made_of c.in_ok-with_message.field-0) (made_of c.in_ok-builder.builder) c.as_str.result.now c.new-builder.ensures.report
@@ -23,7 +21,7 @@ returns g c =
     let bare : IsBare (made_of c.in_ok-builder.builder) =
     begun_bare told (made_of c.new-builder.result) (made_of c.in_ok-with_message.field-0) (made_of c.in_ok-builder.builder) _
     (new_bare _ _ _ _ c.new-builder.ensures.report) c.in_ok-with_message.ensures.report c.in_ok-builder.ensures.report in
-    head_drawn_if c.draw_report.result c.args.style files told (sources_below c.finish.result) (report_in c.finish.result)
+    head_drawn_if c.draw_report.result c.args.style told (sources_below c.finish.result) (report_in c.finish.result)
     (g.W.Write.contents c.args.out.now) (g.W.Write.contents c.draw_report.new.out)
-    (subst (λ (r : ReportFields (ℕ × Range ℕ)). IsAbout c.args.style told (first_line c.args.style.is_short files told) r) (sym c.finish.ensures.report) head)
+    (subst (λ (r : ReportFields (ℕ × Range ℕ)). IsAbout c.args.style told (first_line told) r) (sym c.finish.ensures.report) head)
     (subst IsBare (sym c.finish.ensures.report) bare) c.draw_report.ensures

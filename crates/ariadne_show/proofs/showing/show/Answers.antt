@@ -1,22 +1,24 @@
-use Rattle.std.proofs.Common.{◌∙◌, ap, subst}
-use Rattle.std.specs.Prelude.{List, ℕ}
-use Rattle.std.specs.Io.KnownBytes.{Appends}
-use Rattle.ariadne_show.specs.Sums.{line_end}
+use Rattle.std.proofs.Common.{ap, refl, subst}
+use Rattle.ariadne_show.specs.Shown.{at_of, IsInputShown}
+use Rattle.ariadne_show.specs.Writing.{out_of}
+use Rattle.ariadne_show.specs.declared.showing.Ending.{Ending}
+use Rattle.ariadne_show.specs.declared.writing.Shown.{Shown}
 use Rattle.ariadne_show.proofs.showing.show.Goals as goal
 
--- the lines, the end of the last one, and then the sum
-pub returns : goal.returns
-returns g c =
-    let lines = g.W.Write.contents c.show_lines.new.out in
-    let ended = g.W.Write.contents c.send.new.out in
-    let is_open = c.in_ok-is_open.is_open in record {
-      lines = lines;
-      ended = ended;
-      is_open = is_open;
-      shown = c.in_ok-is_open.ensures;
-      ending = subst (λ (bytes : List ℕ). Appends lines ended bytes)
-          (c.line_end-ending.ensures ∙ ap (line_end is_open) (c.as_str.ensures.value ∙ c.in_ok-text.ensures))
-          c.in_ok-send.ensures.ok;
-      total = subst (λ (bytes : List ℕ). Appends ended (g.W.Write.contents c.send-2.new.out) bytes)
-          (c.as_bytes.ensures.value ∙ c.in_ok-text.ensures) c.in_ok-send-2.ensures.ok;
+-- all that the input tells, and what stands around it
+pub returns-in-AtEnd : goal.returns-in-AtEnd
+returns-in-AtEnd g c =
+    let first = at_of c.in_ok-run.run' c.show_start.new.streams in
+    let finished = at_of c.show_input.new.run c.show_input.new.streams in record {
+      started = c.show_start.new.streams;
+      start = c.in_ok-show_start.ensures.output;
+      beside = c.in_ok-show_start.ensures.beside;
+      first = first;
+      is_new = c.in_ok-run.ensures.known;
+      nothing = ap (λ (s : Shown). out_of s c.show_start.new.streams) c.in_ok-run.ensures.shown;
+      finished = finished;
+      lines = subst (λ (e : Ending). IsInputShown c.args.options.now (g.I.Read.remaining c.args.input.now) first finished e)
+          c.in-AtEnd.is c.in_ok-show_input.ensures;
+      end = c.in_ok-show_end-in-AtEnd.ensures;
+      summed = refl;
     }

@@ -1,4 +1,4 @@
-use Rattle.std.proofs.Common.{string_bytes}
+use Rattle.std.proofs.Common.{refl, string_bytes}
 use Rattle.std.specs.Prelude.{Some}
 use Rattle.std.proofs.lemmas.Map.Text.{hash_map_updates_text}
 use Rattle.ariadne_show.proofs.Reading.{read_more, same_tried}
@@ -14,4 +14,4 @@ returns g c =
     read_more c.args.path.now (string_bytes c.in_ok-key.key) c.in_ok-held.held c.args.self.now _ c.in_ok-key.ensures.ok
     (hash_map_updates_text (string_bytes c.in_ok-key.key) c.args.self.now.files c.insert.new.self (Some c.in_ok-held.held)
     c.in_ok-insert.ensures.updates)
-    c.if-contains_key.ensures c.in_ok-held.ensures c.requires
+    (λ q. refl) c.if-contains_key.ensures c.in_ok-held.ensures c.requires

@@ -1,0 +1,225 @@
+-- Lines that are no row of a snippet, by what they tell.
+use Rattle.std.proofs.Common.{◌≡◌, ◌∙◌, ℕ, List, None, subst, sym, refl}
+use Rattle.std.specs.Prelude.{true, false, Bool, Result, Ok, Err, OnOk, Vec}
+use Rattle.std.specs.declared.alloc.Global.{Global}
+use Rattle.ariadne_blocks.specs.declared.block.Block.{Block}
+use Rattle.ariadne_blocks.specs.declared.line.Line.{Line}
+use Rattle.ariadne_told.specs.Told.{reads_text, IsTold}
+use Rattle.ariadne_told.specs.declared.diagnostic.Diagnostic.{Diagnostic}
+use Rattle.ariadne_told.specs.declared.sent.Sent.{Sent}
+use Rattle.ariadne_told.specs.declared.telling.Answer.{Answer}
+use Rattle.ariadne_told.specs.declared.telling.Answer.TheVariants as answer
+use Rattle.ariadne_show.specs.Finding.{is_first_held, IsOpened}
+use Rattle.ariadne_show.specs.Fronts.{IsRoleOf}
+use Rattle.ariadne_show.specs.Known.{is_tally_behind, is_waited_for, IsAboutNone, IsGivenOut, IsMoreInFront, IsNoMore}
+use Rattle.ariadne_show.specs.Known.{IsNoRowInFront, IsPlacedBy, MayNotGoOn, PlacesNone, Waits, WaitsNot}
+use Rattle.ariadne_show.specs.Lines.{IsLineOf}
+use Rattle.ariadne_show.specs.Shown.{dropped, head as told_head, note as told_note, of_no_form, of_text, whole, AreAllShown}
+use Rattle.ariadne_show.specs.Shown.{IsLineShown}
+use Rattle.ariadne_show.specs.Shown.{At, IsAnswered, IsBegunBehind, IsFinished, IsFollowed, IsHeadShown}
+use Rattle.ariadne_show.specs.Shown.{IsLinePassed, IsNoteAddedTo, IsNoteShown, IsOtherShown, IsPlacedShown, IsReadShown}
+use Rattle.ariadne_show.specs.Shown.{IsTextShown, began, began_placed, both_passed, goes_on, head_passed, names_place}
+use Rattle.ariadne_show.specs.Shown.{no_row, note_added, note_began, note_passed, other, passed, tally, waits_in_front}
+use Rattle.ariadne_show.specs.Writing.{HasPassed, Out}
+use Rattle.ariadne_show.specs.declared.finder.Finder.{Finder}
+use Rattle.ariadne_show.specs.declared.front.PlacedHead.{PlacedHead}
+use Rattle.ariadne_show.specs.declared.known.Known.{Known}
+use Rattle.ariadne_show.specs.declared.options.Options.{Options}
+
+-- ---- heads
+
+pub head_began_if : {T E : Type 0} (r : Result T E) (options : Options) (line : Line) (told opened : Diagnostic) (known : Known)
+    (finder : Finder) (a : Out) (last : At) (held : Bool) → IsOpened told opened known.finder finder
+    → held ≡ is_first_held finder opened → held ≡ true
+    → OnOk r (IsBegunBehind options line.text.now opened (record { known = record known { finder = finder }; out = a }) last)
+    → OnOk r (IsHeadShown options line told (record { known = known; out = a }) last)
+head_began_if (Ok x) options line told opened known finder a last held files is so it =
+    began opened finder files (sym is ∙ so) it
+head_began_if (Err e) options line told opened known finder a last held files is so it = tt
+
+pub head_passed_if : {T E : Type 0} (r : Result T E) (options : Options) (line : Line) (told opened : Diagnostic) (known : Known)
+    (finder : Finder) (a : Out) (last : At) (held : Bool) → IsOpened told opened known.finder finder
+    → held ≡ is_first_held finder opened → held ≡ false
+    → OnOk r (IsLinePassed options line.bytes.now (record { known = record known { finder = finder }; out = a }) last)
+    → OnOk r (IsHeadShown options line told (record { known = known; out = a }) last)
+head_passed_if (Ok x) options line told opened known finder a last held files is not_so it =
+    head_passed opened finder files (sym is ∙ not_so) it
+head_passed_if (Err e) options line told opened known finder a last held files is not_so it = tt
+
+-- those that waited
+pub placed_began_if : {T E : Type 0} (r : Result T E) (options : Options) (line : Line) (head : PlacedHead) (opened : Diagnostic)
+    (known : Known) (finder : Finder) (a : Out) (last : At) (held : Bool) → IsOpened head.told opened known.finder finder
+    → held ≡ is_first_held finder opened → held ≡ true
+    → OnOk r (IsBegunBehind options line.text.now opened (record { known = record known { finder = finder }; out = a }) last)
+    → OnOk r (IsPlacedShown options line head (record { known = known; out = a }) last)
+placed_began_if (Ok x) options line head opened known finder a last held files is so it =
+    began_placed opened finder files (sym is ∙ so) it
+placed_began_if (Err e) options line head opened known finder a last held files is so it = tt
+
+pub both_passed_if : {T E : Type 0} (r : Result T E) (options : Options) (line : Line) (head : PlacedHead) (opened : Diagnostic)
+    (known : Known) (finder : Finder) (a : Out) (between last : Known) (b c : Out) (held : Bool) (bytes : List ℕ)
+    → IsOpened head.told opened known.finder finder
+    → held ≡ is_first_held finder opened → held ≡ false → bytes ≡ head.bytes.items
+    → IsLinePassed options bytes (record { known = record known { finder = finder }; out = a })
+    (record { known = between; out = b })
+    → last ≡ between → OnOk r (HasPassed options line.bytes.now b c)
+    → OnOk r (IsPlacedShown options line head (record { known = known; out = a }) (record { known = last; out = c }))
+both_passed_if (Ok x) options line head opened known finder a between last b c held bytes files is not_so same first kept second =
+    both_passed opened finder (record { known = between; out = b }) files (sym is ∙ not_so)
+    (subst (λ (l : List ℕ). IsLinePassed options l (record { known = record known { finder = finder }; out = a })
+    (record { known = between; out = b })) same first)
+    second kept
+both_passed_if (Err e) options line head opened known finder a between last b c held bytes files is not_so same first kept second =
+    tt
+
+-- ---- notes
+
+pub note_added_if : {T E : Type 0} (r : Result T E) (options : Options) (line : Line) (note opened : Diagnostic) (known out : Known)
+    (finder : Finder) (a : Out) (last : At) (block : Block) (held : Bool) → IsOpened note opened known.finder finder
+    → held ≡ is_first_held finder opened → held ≡ true → IsGivenOut opened (record known { finder = finder }) out block
+    → OnOk r (IsNoteAddedTo options block opened (record { known = out; out = a }) last)
+    → OnOk r (IsNoteShown options line note (record { known = known; out = a }) last)
+note_added_if (Ok x) options line note opened known out finder a last block held files is so given it =
+    note_added opened finder block files (sym is ∙ so) given.held given.about
+    (subst (λ (k : Known). IsNoteAddedTo options block opened (record { known = k; out = a }) last) given.known it)
+note_added_if (Err e) options line note opened known out finder a last block held files is so given it = tt
+
+pub note_began_if : {T E : Type 0} (r : Result T E) (options : Options) (line : Line) (note opened : Diagnostic) (known out : Known)
+    (finder : Finder) (a : Out) (last : At) (held : Bool) → IsOpened note opened known.finder finder
+    → held ≡ is_first_held finder opened → held ≡ true → IsAboutNone opened (record known { finder = finder }) out
+    → OnOk r (IsBegunBehind options line.text.now opened (record { known = out; out = a }) last)
+    → OnOk r (IsNoteShown options line note (record { known = known; out = a }) last)
+note_began_if (Ok x) options line note opened known out finder a last held files is so none it =
+    note_began opened finder files (sym is ∙ so) none.none
+    (subst (λ (k : Known). IsBegunBehind options line.text.now opened (record { known = k; out = a }) last) none.same it)
+note_began_if (Err e) options line note opened known out finder a last held files is so none it = tt
+
+pub note_passed_if : {T E : Type 0} (r : Result T E) (options : Options) (line : Line) (note opened : Diagnostic) (known : Known)
+    (finder : Finder) (a : Out) (last : At) (held : Bool) → IsOpened note opened known.finder finder
+    → held ≡ is_first_held finder opened → held ≡ false
+    → OnOk r (IsLinePassed options line.bytes.now (record { known = record known { finder = finder }; out = a }) last)
+    → OnOk r (IsNoteShown options line note (record { known = known; out = a }) last)
+note_passed_if (Ok x) options line note opened known finder a last held files is not_so it =
+    note_passed opened finder files (sym is ∙ not_so) it
+note_passed_if (Err e) options line note opened known finder a last held files is not_so it = tt
+
+-- ---- other lines
+
+pub tally_if : {T E : Type 0} (r : Result T E) (options : Options) (line : Line) (first last : At) (is : Bool)
+    → is ≡ is_tally_behind line.text.now first.known → is ≡ true → OnOk r (IsFinished options first last)
+    → OnOk r (IsOtherShown options line first last)
+tally_if (Ok x) options line first last is behind so it = tally (sym behind ∙ so) it
+tally_if (Err e) options line first last is behind so it = tt
+
+pub other_passed_if : {T E : Type 0} (r : Result T E) (options : Options) (line : Line) (first followed last : At) (is : Bool)
+    → is ≡ is_tally_behind line.text.now first.known → is ≡ false → IsFollowed line.text.now first followed
+    → OnOk r (IsLinePassed options line.bytes.now followed last) → OnOk r (IsOtherShown options line first last)
+other_passed_if (Ok x) options line first followed last is behind not_so way it = passed followed (sym behind ∙ not_so) way it
+other_passed_if (Err e) options line first followed last is behind not_so way it = tt
+
+-- ---- lines of text
+
+pub named_if : {T E : Type 0} (r : Result T E) (options : Options) (line : Line) (first known : Known) (a : Out) (head : PlacedHead)
+    (last : At) → IsPlacedBy line.text.now first known head
+    → OnOk r (IsPlacedShown options line head (record { known = known; out = a }) last)
+    → OnOk r (IsTextShown options line (record { known = first; out = a }) last)
+named_if (Ok x) options line first known a head last placed shown = names_place known head placed shown
+named_if (Err e) options line first known a head last placed shown = tt
+
+-- a line places none, in the state that it was
+pub none_placed : (text : List ℕ) (first known : Known) → PlacesNone text first known → PlacesNone text first first
+none_placed text first known none = record { none = none.none; same = refl }
+
+pub waited : (options : Options) (line : Line) (first placed last : Known) (a : Out) → PlacesNone line.text.now first placed
+    → Waits line placed last
+    → IsTextShown options line (record { known = first; out = a }) (record { known = last; out = a })
+waited options line first placed last a none waits =
+    waits_in_front (none_placed line.text.now first placed none)
+    (subst (λ (k : Known). Waits line k last) none.same waits) refl
+
+-- a line waits not, in the state that it was
+pub not_waited : (options : Options) (line : Line) (first placed waiting : Known) → PlacesNone line.text.now first placed
+    → WaitsNot line placed waiting → WaitsNot line first first
+not_waited options line first placed waiting none not = record {
+  role = subst (λ (k : Known). IsRoleOf (is_waited_for k) line.text.now None) none.same not.role;
+  same = refl;
+}
+
+pub gone_on : (options : Options) (line : Line) (first placed waiting last : Known) (a : Out)
+    → PlacesNone line.text.now first placed → WaitsNot line placed waiting
+    → IsMoreInFront line waiting last
+    → IsTextShown options line (record { known = first; out = a }) (record { known = last; out = a })
+gone_on options line first placed waiting last a none not more =
+    goes_on (none_placed line.text.now first placed none) (not_waited options line first placed waiting none not)
+    (subst (λ (k : Known). IsMoreInFront line k last) (not.same ∙ none.same) more) refl
+
+pub other_if : {T E : Type 0} (r : Result T E) (options : Options) (line : Line) (first placed waiting known : Known) (a : Out)
+    (last : At) → PlacesNone line.text.now first placed → WaitsNot line placed waiting
+    → IsNoMore line waiting known → OnOk r (IsOtherShown options line (record { known = known; out = a }) last)
+    → OnOk r (IsTextShown options line (record { known = first; out = a }) last)
+other_if (Ok x) options line first placed waiting known a last none not ends shown =
+    other (none_placed line.text.now first placed none) (not_waited options line first placed waiting none not)
+    (subst (λ (k : Known). MayNotGoOn line k) (not.same ∙ none.same) ends.none)
+    (subst (λ (k : Known). IsOtherShown options line (record { known = k; out = a }) last)
+    (ends.same ∙ not.same ∙ none.same) shown)
+other_if (Err e) options line first placed waiting known a last none not ends shown = tt
+
+-- ---- lines
+
+pub told_if : {T E : Type 0} (r : Result T E) (options : Options) (line : Line) (first tried : Known) (sent : Sent) (a : Out)
+    (answer : Answer) (last : At) → IsNoRowInFront first tried
+    → IsTold options.reading line.text.now tried.sent sent answer
+    → OnOk r (IsAnswered options line (record { known = record tried { sent = sent }; out = a }) last answer)
+    → OnOk r (IsReadShown options line (record { known = first; out = a }) last)
+told_if (Ok x) options line first tried sent a answer last none told shown =
+    no_row tried (record tried { sent = sent }) answer none told refl shown
+told_if (Err e) options line first tried sent a answer last none told shown = tt
+
+-- ---- by what a line tells
+
+pub text_if : {T E : Type 0} (r : Result T E) (options : Options) (line : Line) (first last : At) (told : Answer) (reads : Bool)
+    → told ≡ answer.Nothing → reads ≡ reads_text options.reading.format → reads ≡ true
+    → OnOk r (IsTextShown options line first last) → OnOk r (IsAnswered options line first last told)
+text_if (Ok x) options line first last told reads nothing is so it =
+    subst (λ (a : Answer). IsAnswered options line first last a) (sym nothing) (of_text (sym is ∙ so) it)
+text_if (Err e) options line first last told reads nothing is so it = tt
+
+pub formless_if : {T E : Type 0} (r : Result T E) (options : Options) (line : Line) (first last : At) (told : Answer) (reads : Bool)
+    → told ≡ answer.Nothing → reads ≡ reads_text options.reading.format → reads ≡ false
+    → OnOk r (IsLinePassed options line.bytes.now first last) → OnOk r (IsAnswered options line first last told)
+formless_if (Ok x) options line first last told reads nothing is not_so it =
+    subst (λ (a : Answer). IsAnswered options line first last a) (sym nothing) (of_no_form (sym is ∙ not_so) it)
+formless_if (Err e) options line first last told reads nothing is not_so it = tt
+
+pub dropped_if : {T E : Type 0} (r : Result T E) (options : Options) (line : Line) (first last : At) (told : Answer)
+    → told ≡ answer.Dropped → OnOk r (IsFinished options first last) → OnOk r (IsAnswered options line first last told)
+dropped_if (Ok x) options line first last told is it =
+    subst (λ (a : Answer). IsAnswered options line first last a) (sym is) (dropped it)
+dropped_if (Err e) options line first last told is it = tt
+
+pub whole_if : {T E : Type 0} (r : Result T E) (options : Options) (line : Line) (first last : At) (told : Answer)
+    (all : Vec Diagnostic Global) → told ≡ answer.Diagnostics all → OnOk r (AreAllShown options all.items first last)
+    → OnOk r (IsAnswered options line first last told)
+whole_if (Ok x) options line first last told all is it =
+    subst (λ (a : Answer). IsAnswered options line first last a) (sym is) (whole all it)
+whole_if (Err e) options line first last told all is it = tt
+
+pub head_if : {T E : Type 0} (r : Result T E) (options : Options) (line : Line) (first last : At) (told : Answer)
+    (one : Diagnostic) → told ≡ answer.Head one → OnOk r (IsHeadShown options line one first last)
+    → OnOk r (IsAnswered options line first last told)
+head_if (Ok x) options line first last told one is it =
+    subst (λ (a : Answer). IsAnswered options line first last a) (sym is) (told_head one it)
+head_if (Err e) options line first last told one is it = tt
+
+pub note_if : {T E : Type 0} (r : Result T E) (options : Options) (line : Line) (first last : At) (told : Answer)
+    (one : Diagnostic) → told ≡ answer.Note one → OnOk r (IsNoteShown options line one first last)
+    → OnOk r (IsAnswered options line first last told)
+note_if (Ok x) options line first last told one is it =
+    subst (λ (a : Answer). IsAnswered options line first last a) (sym is) (told_note one it)
+note_if (Err e) options line first last told one is it = tt
+
+-- a line of these bytes
+pub line_if : {T E : Type 0} (r : Result T E) (options : Options) (bytes : List ℕ) (line : Line) (first last : At)
+    → IsLineOf bytes line → OnOk r (IsReadShown options line first last) → OnOk r (IsLineShown options bytes first last)
+line_if (Ok x) options bytes line first last read shown = record { line = line; read = read; shown = shown }
+line_if (Err e) options bytes line first last read shown = tt

@@ -1,0 +1,96 @@
+-- What is held is written, and lines pass behind it.
+use Rattle.std.proofs.Common.{◌≡◌, ◌∙◌, [], ℕ, List, Option, Some, None, ap, subst, sym, refl}
+use Rattle.std.specs.Prelude.{Result, Ok, Err, OnOk, Vec}
+use Rattle.std.specs.declared.alloc.Global.{Global}
+use Rattle.ariadne_blocks.specs.Blocks.{lines_behind, told_of}
+use Rattle.ariadne_blocks.specs.declared.block.Block.{Block}
+use Rattle.ariadne_told.specs.declared.diagnostic.Diagnostic.{Diagnostic}
+use Rattle.ariadne_show.specs.Finding.{IsOpened}
+use Rattle.ariadne_show.specs.Fronts.{passing_of}
+use Rattle.ariadne_show.specs.Known.{AreMarksSettled}
+use Rattle.ariadne_show.specs.Shown.{At, AreAllShown, AreShown, IsBlockFinished, IsBlockWritten, IsFinished, IsLinePassed, IsWholeShown}
+use Rattle.ariadne_show.specs.Shown.{block_written, no_block}
+use Rattle.ariadne_show.specs.Writing.{HasPassed, HavePassed, IsShownOnce, Out}
+use Rattle.ariadne_show.specs.declared.finder.Finder.{Finder}
+use Rattle.ariadne_show.specs.declared.front.WaitingLine.{WaitingLine}
+use Rattle.ariadne_show.specs.declared.known.Known.{Known}
+use Rattle.ariadne_show.specs.declared.options.Options.{Options}
+use Rattle.ariadne_show.specs.declared.shelf.Shelf.{Shelf}
+
+-- a diagnostic was written, after Ok
+pub written_if : {T E : Type 0} (r : Result T E) (options : Options) (block : Block) (told : Diagnostic) (first last : Known)
+    (shelf : Shelf) (whole : Diagnostic) (a b c : Out) (bytes : List (List ℕ)) → AreMarksSettled whole told first last
+    → whole ≡ told_of block → shelf ≡ first.finder.shelf → IsShownOnce options shelf told a b → bytes ≡ lines_behind block
+    → OnOk r (HavePassed options bytes b c)
+    → OnOk r (IsBlockWritten options block (record { known = first; out = a }) (record { known = last; out = c }))
+written_if (Ok x) options block told first last shelf whole a b c bytes settled is over once same behind = record {
+  told = told;
+  settled = subst (λ (d : Diagnostic). AreMarksSettled d told first last) is settled;
+  shown = b;
+  once = subst (λ (s : Shelf). IsShownOnce options s told a b) over once;
+  behind = subst (λ (lines : List (List ℕ)). HavePassed options lines b c) same behind;
+}
+written_if (Err e) options block told first last shelf whole a b c bytes settled is over once same behind = tt
+
+-- the one in front was, if there is one
+pub finished_some_if : {T E : Type 0} (r : Result T E) (options : Options) (known : Known) (a : Out) (taken : Option Block)
+    (block : Block) (last : At) → Some block ≡ known.block → taken ≡ None
+    → OnOk r (IsBlockWritten options block (record { known = record known { block = taken }; out = a }) last)
+    → OnOk r (IsBlockFinished options (record { known = known; out = a }) last)
+finished_some_if (Ok x) options known a taken block last held none written =
+    block_written block (sym held)
+    (subst (λ (b : Option Block). IsBlockWritten options block (record { known = record known { block = b }; out = a }) last)
+    none written)
+finished_some_if (Err e) options known a taken block last held none written = tt
+
+pub finished_none : (options : Options) (known : Known) (a : Out) (taken : Option Block) → None ≡ known.block → taken ≡ None
+    → IsBlockFinished options (record { known = known; out = a }) (record { known = record known { block = taken }; out = a })
+finished_none options known a taken none after =
+    no_block (sym none)
+    (ap (λ (b : Option Block). record { known = record known { block = b }; out = a }) (after ∙ none))
+
+-- and the lines that waited passed
+pub finished_if : {T E : Type 0} (r : Result T E) (options : Options) (first : At) (ended : Known) (a b : Out)
+    (front : Vec WaitingLine Global) (lines : List WaitingLine) → IsBlockFinished options first (record { known = ended; out = a })
+    → lines ≡ ended.front.items → front.items ≡ []
+    → OnOk r (HavePassed options (passing_of lines) a b)
+    → OnOk r (IsFinished options first (record { known = record ended { front = front }; out = b }))
+finished_if (Ok x) options first ended a b front lines block same none passed = record {
+  ended = record { known = ended; out = a };
+  block = block;
+  front = subst (λ (l : List WaitingLine). HavePassed options (passing_of l) a b) same passed;
+  none = none;
+  known = refl;
+}
+finished_if (Err e) options first ended a b front lines block same none passed = tt
+
+-- behind that a line did
+pub line_passed_if : {T E : Type 0} (r : Result T E) (options : Options) (line : List ℕ) (first : At) (finished known : Known)
+    (a b : Out) → IsFinished options first (record { known = finished; out = a }) → known ≡ finished
+    → OnOk r (HasPassed options line a b) → OnOk r (IsLinePassed options line first (record { known = known; out = b }))
+line_passed_if (Ok x) options line first finished known a b before same passed = record {
+  finished = record { known = finished; out = a };
+  before = before;
+  line_passed = passed;
+  known = same;
+}
+line_passed_if (Err e) options line first finished known a b before same passed = tt
+
+-- ---- a diagnostic that is whole
+
+pub whole_if : {T E : Type 0} (r : Result T E) (options : Options) (told opened : Diagnostic) (known last : Known)
+    (finder : Finder) (a b : Out) → IsOpened told opened known.finder finder → last ≡ record known { finder = finder }
+    → OnOk r (IsShownOnce options finder.shelf opened a b)
+    → OnOk r (IsWholeShown options told (record { known = known; out = a }) (record { known = last; out = b }))
+whole_if (Ok x) options told opened known last finder a b files kept once =
+    subst (λ (k : Known). IsWholeShown options told (record { known = known; out = a }) (record { known = k; out = b }))
+    (sym kept) (record { opened = opened; files = files; once = once; known = refl })
+whole_if (Err e) options told opened known last finder a b files kept once = tt
+
+-- all of several
+pub all_shown_if : {T E : Type 0} (r : Result T E) (options : Options) (all : List Diagnostic) (first finished last : At)
+    → IsFinished options first finished → OnOk r (AreShown options all finished last)
+    → OnOk r (AreAllShown options all first last)
+all_shown_if (Ok x) options all first finished last before shown =
+    record { finished = finished; before = before; whole = shown }
+all_shown_if (Err e) options all first finished last before shown = tt

@@ -1,0 +1,38 @@
+-- A diagnostic of which all lines were read gets what shows its places.
+use Rattle.std.proofs.Common.{◌≡◌, ◌∙◌, List, [], ap, arith, length, map, refl}
+use Rattle.std.proofs.lemmas.List.{with_items_is}
+use Rattle.std.specs.Vec.{with_items}
+use Rattle.std.specs.Prelude.{Result, Ok, Err, OnOk, Vec}
+use Rattle.std.specs.List.{flat_map}
+use Rattle.std.specs.declared.alloc.Global.{Global}
+use Rattle.ariadne_blocks.specs.Drawn.{all_settled, marks_at, marks_of}
+use Rattle.ariadne_blocks.specs.Lone.{named}
+use Rattle.ariadne_blocks.specs.declared.drawn.Drawn.{Drawn}
+use Rattle.ariadne_told.specs.Places.{seen}
+use Rattle.ariadne_told.specs.declared.diagnostic.Diagnostic.{Diagnostic}
+use Rattle.ariadne_told.specs.declared.diagnostic.Place.{Place}
+use Rattle.ariadne_show.specs.Known.{AreMarksSettled}
+use Rattle.ariadne_show.specs.declared.known.Known.{Known}
+
+-- the items of a list that was written to at its length
+pub kept_items : (v : Vec Place Global) (given again ws : List Place) → given ≡ v.items → length ws ≡ length given
+    → again ≡ (with_items v ws).items → again ≡ ws
+kept_items v given again ws start same is =
+    is ∙ with_items_is v ws (omega (arith, same, ap length start))
+
+-- marks that were drawn before, and then words, after Ok
+pub settled_if : {T E : Type 0} (r : Result T E) (told : Diagnostic) (known : Known) (drawn : Vec Drawn Global)
+    (places : Vec Place Global) (given marked marked_now words : List Place) → given ≡ told.places.items
+    → map seen marked ≡ all_settled [] (map marks_of known.marked.items) (map seen given)
+    → map marks_of drawn.items ≡ flat_map marks_at (map seen marked) → marked_now ≡ marked
+    → OnOk r (map seen words ≡ named (map seen marked_now)) → places.items ≡ words
+    → OnOk r (AreMarksSettled told (record told { places = places }) known (record known { marked = drawn }))
+settled_if (Ok x) told known drawn places given marked marked_now words start settled held same said stands =
+    let now : map seen marked ≡ all_settled [] (map marks_of known.marked.items) (map seen told.places.items) =
+    settled ∙ ap (λ (l : List Place). all_settled [] (map marks_of known.marked.items) (map seen l)) start in record {
+      places = ap (map seen) stands ∙ said ∙ ap (λ (l : List Place). named (map seen l)) same ∙ ap named now;
+      others = refl;
+      marked = held ∙ ap (flat_map marks_at) now;
+      known = refl;
+    }
+settled_if (Err e) told known drawn places given marked marked_now words start settled held same said stands = tt

@@ -1,0 +1,20 @@
+use Rattle.std.proofs.Common.{◌∙◌, ap, refl, sym}
+use Rattle.ariadne_show.specs.Shown.{gave_place}
+use Rattle.ariadne_show.specs.Writing.{out_of}
+use Rattle.ariadne_show.specs.declared.known.Known.{Known}
+use Rattle.ariadne_show.proofs.Given.{unread_if}
+use Rattle.ariadne_show.proofs.task.Task.give_place.Goals as goal
+
+-- the diagnostic has it
+pub returns-then-branch-clause-gone : goal.returns-then-branch-clause-gone
+returns-then-branch-clause-gone g c =
+    gave_place c.settle.new.place c.in_ok-settle.ensures.settled (sym c.in_ok-settle.ensures.held ∙ c.if-branch.true)
+    c.in_ok-add_place.ensures refl
+
+-- its line passed
+pub returns-clause-gone : goal.returns-clause-gone
+returns-clause-gone g c =
+    unread_if c.pass.result c.args.self.now.options.now c.args.bytes.now c.args.place c.settle.new.place
+    c.args.run.now.known.finder c.settle.new.self c.pass.new.run.known.finder c.args.block.now
+    (out_of c.args.run.now.shown c.args.streams.now) _ c.in_ok-settle.ensures.settled (sym c.in_ok-settle.ensures.held ∙ c.if-branch.false)
+    (ap (λ (k : Known). k.finder) c.pass.ensures.known) c.pass.ensures.passed

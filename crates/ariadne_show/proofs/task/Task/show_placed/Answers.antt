@@ -1,0 +1,17 @@
+use Rattle.ariadne_show.specs.Writing.{out_of}
+use Rattle.ariadne_show.proofs.Answered.{both_passed_if, placed_began_if}
+use Rattle.ariadne_show.proofs.task.Task.show_placed.Goals as goal
+
+-- its diagnostic is held
+pub returns-then-branch-clause-shown : goal.returns-then-branch-clause-shown
+returns-then-branch-clause-shown g c =
+    placed_began_if c.begin.result c.args.self.now.options.now c.args.line c.args.head c.open.new.told c.args.run.now.known
+    c.open.new.self (out_of c.args.run.now.shown c.args.streams.now) _ _ c.in_ok-open.ensures.opened c.in_ok-open.ensures.held c.if-branch.true c.begin.ensures.begun
+
+-- both lines passed
+pub returns-clause-shown : goal.returns-clause-shown
+returns-clause-shown g c =
+    both_passed_if c.pass.result c.args.self.now.options.now c.args.line c.args.head c.open.new.told c.args.run.now.known
+    c.open.new.self (out_of c.args.run.now.shown c.args.streams.now) c.pass_line.new.run.known c.pass.new.run.known _ _ _ c.as_slice.result.now c.in_ok-open.ensures.opened
+    c.in_ok-open.ensures.held c.if-branch.false c.as_slice.ensures.value c.in_ok-pass_line.ensures.passed c.pass.ensures.known
+    c.pass.ensures.passed

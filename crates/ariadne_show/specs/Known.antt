@@ -1,0 +1,226 @@
+-- What a run knows behind the lines that it has read, and how a line changes it that is held: as a row of a
+-- snippet, as one that may go on with a message, or as one that waits for what follows.
+use Rattle.std.specs.Prelude.{ℕ, ◌≡◌, ◌==◌, Bool, true, false, not, ◌&&◌, ◌||◌, List, [], ◌∷◌, ◌++◌, flat_map, length, map}
+use Rattle.std.specs.Prelude.{Option, Some, None, is_some}
+use Rattle.ariadne_blocks.specs.Blocks.{is_about, may_go_on, path_of, told_of, view_of, HasNoMoreRows, IsMore, IsNamed}
+use Rattle.ariadne_blocks.specs.Blocks.{IsQuotedBy, IsRow, IsSameBlock}
+use Rattle.ariadne_blocks.specs.Drawn.{all_settled, marks_at, marks_of}
+use Rattle.ariadne_blocks.specs.Lone.{named}
+use Rattle.ariadne_blocks.specs.declared.block.Block.{Block}
+use Rattle.ariadne_blocks.specs.declared.line.Line.{Line}
+use Rattle.ariadne_told.specs.Arrows.{arrow_in}
+use Rattle.ariadne_told.specs.ArrowsTold.{place_of_arrow}
+use Rattle.ariadne_told.specs.Places.{seen}
+use Rattle.ariadne_told.specs.Sent.{has_text}
+use Rattle.ariadne_told.specs.Tallies.{is_tally_line}
+use Rattle.ariadne_told.specs.declared.diagnostic.Diagnostic.{Diagnostic}
+use Rattle.ariadne_told.specs.declared.diagnostic.Place.{Place}
+use Rattle.ariadne_told.specs.declared.diagnostic.Spot.{Spot}
+use Rattle.ariadne_show.specs.Finding.{file_at, is_held, IsNewFinder, IsPlaceSettled}
+use Rattle.ariadne_show.specs.Fronts.{ends_in_head, IsRoleOf}
+use Rattle.ariadne_show.specs.declared.finder.Finder.{Finder}
+use Rattle.ariadne_show.specs.declared.front.PlacedHead.{PlacedHead}
+use Rattle.ariadne_show.specs.declared.front.Role.TheVariants as role
+use Rattle.ariadne_show.specs.declared.front.WaitingLine.{WaitingLine}
+use Rattle.ariadne_show.specs.declared.known.Known.{Known}
+
+-- ---- at first
+
+-- nothing was read yet
+pub record IsNew (known : Known) : Type 0 where
+  pub finder : IsNewFinder known.finder
+  pub sent : (text : List ℕ) → has_text known.sent text ≡ false
+  pub block : known.block ≡ None
+  pub front : known.front.items ≡ []
+  pub marked : known.marked.items ≡ []
+
+-- ---- what is waited for
+
+-- lines wait
+abbrev pub has_waiting_lines : Known → Bool
+has_waiting_lines known = not (length known.front.items == 0)
+
+-- a diagnostic is held, and no line waits behind it
+abbrev pub has_open_block : Known → Bool
+has_open_block known = is_some known.block && not (has_waiting_lines known)
+
+-- a diagnostic is held, or lines wait
+abbrev pub is_waited_for : Known → Bool
+is_waited_for known = is_some known.block || has_waiting_lines known
+
+-- a line is a tool's own sum behind a diagnostic that is held
+abbrev pub is_tally_behind : List ℕ → Known → Bool
+is_tally_behind text known = has_open_block known && is_tally_line text
+
+-- a note is about the diagnostic that is held, if one is
+abbrev pub is_note_of_block : Diagnostic → Option Block → Bool
+is_note_of_block note None = false
+is_note_of_block note (Some block) = is_about (told_of block) note
+
+abbrev pub is_note_of : Diagnostic → Known → Bool
+is_note_of note known = is_note_of_block note known.block
+
+-- ---- rows of a snippet
+
+-- where a row names a place whose file can be read, the next rows quote that
+pub data IsNamedQuoted (first last : Finder) (before after : Block) : Type 0 where
+  names_none : IsNamed before after None → last ≡ first → IsNamedQuoted first last before after
+  unread : (place settled : Place) → IsNamed before after (Some place)
+      → IsPlaceSettled place settled first last → is_held last settled ≡ false
+      → IsNamedQuoted first last before after
+  quotes : (named : Block) (place settled : Place) → IsNamed before named (Some place)
+      → IsPlaceSettled place settled first last → is_held last settled ≡ true
+      → IsQuotedBy settled named after → IsNamedQuoted first last before after
+
+-- a line was taken in as a row of the snippet of a diagnostic, which had not ended
+pub record IsRowOf (line : Line) (first last : Finder) (before after : Block) : Type 0 where
+  pub goes_on : HasNoMoreRows before → ⊥
+  pub row : Block
+  pub taken : IsRow (file_at first.shelf (path_of before)) line before row
+  pub named : IsNamedQuoted first last row after
+
+-- or it is none: then the snippet has ended, and nothing has changed that is told
+pub record IsNoRowOf (first last : Finder) (before after : Block) : Type 0 where
+  pub ends : HasNoMoreRows after
+  pub block : IsSameBlock before after
+  pub finder : last ≡ first
+
+abbrev pub IsRowTaken : Line → Finder → Finder → Block → Block → Bool → Type 0
+IsRowTaken line first last before after true = IsRowOf line first last before after
+IsRowTaken line first last before after false = IsNoRowOf first last before after
+
+-- a run that holds a diagnostic, and has looked for files
+abbrev pub with_row : Known → Finder → Block → Known
+with_row known finder block = record known { finder = finder; block = Some block }
+
+-- a line was taken in as a row of the snippet of the diagnostic in front, behind which no line waits
+pub record IsRowInFront (line : Line) (first last : Known) : Type 0 where
+  pub before : Block
+  pub after : Block
+  pub held : first.block ≡ Some before
+  pub alone : first.front.items ≡ []
+  pub row : IsRowOf line first.finder last.finder before after
+  pub known : last ≡ with_row first last.finder after
+
+-- or it is none: no diagnostic is open, or it is no row of that, and then no line is one any more
+pub data IsNoRowInFront (first last : Known) : Type 0 where
+  none_open : has_open_block first ≡ false → last ≡ first → IsNoRowInFront first last
+  not_of_it : (before after : Block) → first.block ≡ Some before → HasNoMoreRows after → IsSameBlock before after
+      → last ≡ record first { block = Some after } → IsNoRowInFront first last
+
+abbrev pub IsTriedAsRow : Line → Known → Known → Bool → Type 0
+IsTriedAsRow line first last true = IsRowInFront line first last
+IsTriedAsRow line first last false = IsNoRowInFront first last
+
+-- ---- lines that may go on with a message
+
+-- a line was taken in so, for the diagnostic in front
+pub record IsMoreInFront (line : Line) (first last : Known) : Type 0 where
+  pub before : Block
+  pub after : Block
+  pub held : first.block ≡ Some before
+  pub alone : first.front.items ≡ []
+  pub more : IsMore line.bytes.now line.text.now before after
+  pub known : last ≡ record first { block = Some after }
+
+-- or it may not: no diagnostic is open, or its message ends there
+pub data MayNotGoOn (line : Line) (known : Known) : Type 0 where
+  goes_on_with_none : has_open_block known ≡ false → MayNotGoOn line known
+  goes_not_on : (block : Block) → known.block ≡ Some block
+      → may_go_on line.text.now (view_of block) ≡ false → MayNotGoOn line known
+
+pub record IsNoMore (line : Line) (first last : Known) : Type 0 where
+  pub none : MayNotGoOn line first
+  pub same : last ≡ first
+
+abbrev pub IsMoreTaken : Line → Known → Known → Bool → Type 0
+IsMoreTaken line first last true = IsMoreInFront line first last
+IsMoreTaken line first last false = IsNoMore line first last
+
+-- ---- lines that wait
+
+-- a line waits behind those that do, since it may stand in front of a diagnostic
+pub record Waits (line : Line) (first last : Known) : Type 0 where
+  pub waiting : WaitingLine
+  pub role : IsRoleOf (is_waited_for first) line.text.now (Some waiting.role)
+  pub bytes : waiting.bytes.items ≡ line.bytes.now
+  pub behind : last.front.items ≡ first.front.items ++ waiting ∷ []
+  pub known : last ≡ record first { front = last.front }
+
+-- or it may not
+pub record WaitsNot (line : Line) (first last : Known) : Type 0 where
+  pub role : IsRoleOf (is_waited_for first) line.text.now None
+  pub same : last ≡ first
+
+abbrev pub IsWaiting : Line → Known → Known → Bool → Type 0
+IsWaiting line first last true = Waits line first last
+IsWaiting line first last false = WaitsNot line first last
+
+-- a head that waited has the place that an arrow names
+pub record HasPlace (arrow : List ℕ × Spot × Bool) (waiting : WaitingLine) (head : PlacedHead) : Type 0 where
+  pub told : Diagnostic
+  pub place : Place
+  pub is_head : waiting.role ≡ role.Head told
+  pub bytes : head.bytes ≡ waiting.bytes
+  pub named : seen place ≡ place_of_arrow arrow
+  pub places : head.told.places.items ≡ told.places.items ++ place ∷ []
+  pub others : head.told ≡ record told { places = head.told.places }
+
+abbrev pub IsPlacedNow : List ℕ × Spot × Bool → WaitingLine → Option PlacedHead → Type 0
+IsPlacedNow arrow waiting None = ⊥
+IsPlacedNow arrow waiting (Some head) = HasPlace arrow waiting head
+
+-- that is the last line that waits, and it waits no more
+pub record IsHeadPlaced (arrow : List ℕ × Spot × Bool) (first last : Known) (head : PlacedHead) : Type 0 where
+  pub waiting : WaitingLine
+  pub has_place : HasPlace arrow waiting head
+  pub waited : first.front.items ≡ last.front.items ++ waiting ∷ []
+  pub known : last ≡ record first { front = last.front }
+
+abbrev pub IsPlacedAt : List ℕ × Spot × Bool → Known → Known → Option PlacedHead → Type 0
+IsPlacedAt arrow first last None = ⊥
+IsPlacedAt arrow first last (Some head) = IsHeadPlaced arrow first last head
+
+-- so it has that which a line names
+pub record IsPlacedBy (text : List ℕ) (first last : Known) (head : PlacedHead) : Type 0 where
+  pub arrow : List ℕ × Spot × Bool
+  pub named : arrow_in text ≡ Some arrow
+  pub placed : IsHeadPlaced arrow first last head
+
+-- or the line names none, or no head waits so
+pub record PlacesNone (text : List ℕ) (first last : Known) : Type 0 where
+  pub none : (is_some (arrow_in text) && ends_in_head first.front.items) ≡ false
+  pub same : last ≡ first
+
+abbrev pub IsPlacedIn : List ℕ → Known → Known → Option PlacedHead → Type 0
+IsPlacedIn text first last None = PlacesNone text first last
+IsPlacedIn text first last (Some head) = IsPlacedBy text first last head
+
+-- ---- notes
+
+-- the diagnostic in front is given out for a note that is about it
+pub record IsGivenOut (note : Diagnostic) (first last : Known) (block : Block) : Type 0 where
+  pub held : first.block ≡ Some block
+  pub about : is_about (told_of block) note ≡ true
+  pub known : last ≡ record first { block = None }
+
+-- or the note is about none
+pub record IsAboutNone (note : Diagnostic) (first last : Known) : Type 0 where
+  pub none : is_note_of note first ≡ false
+  pub same : last ≡ first
+
+abbrev pub IsBlockTaken : Diagnostic → Known → Known → Option Block → Type 0
+IsBlockTaken note first last None = IsAboutNone note first last
+IsBlockTaken note first last (Some block) = IsGivenOut note first last block
+
+-- ---- the end of a diagnostic
+
+-- a diagnostic of which all lines were read is settled: its places without marks have those that were drawn at the
+-- same spots, and those in lines of which nothing is said have a word
+pub record AreMarksSettled (told settled : Diagnostic) (first last : Known) : Type 0 where
+  pub places : map seen settled.places.items
+      ≡ named (all_settled [] (map marks_of first.marked.items) (map seen told.places.items))
+  pub others : settled ≡ record told { places = settled.places }
+  pub marked : map marks_of last.marked.items
+      ≡ flat_map marks_at (all_settled [] (map marks_of first.marked.items) (map seen told.places.items))
+  pub known : last ≡ record first { marked = last.marked }

@@ -1,0 +1,209 @@
+//! What is done with a line, by what it tells.
+
+ghost use Rattle.std.specs.Prelude.{OnOk};
+ghost use Rattle.ariadne_show.specs.Read.{HaveSources};
+ghost use Rattle.ariadne_show.specs.Shown.{at_of, IsAnswered, IsHeadShown, IsLineShown, IsNoteShown};
+ghost use Rattle.ariadne_show.specs.Shown.{IsOtherShown, IsPlacedShown, IsReadShown, IsTextShown};
+
+use crate::fault::Fault;
+use crate::front::PlacedHead;
+use crate::lines::{bare_text, whole_text};
+use crate::run::Run;
+use crate::streams::Streams;
+use crate::task::Task;
+use ariadne_blocks::Line;
+use ariadne_told::{Answer, Diagnostic, told};
+use std::io::Write;
+use std::rt::Files;
+
+impl<R: Files> Task<'_, R> {
+    /// Shows a line, or holds it with the diagnostic that it belongs to.
+    pub(crate) fn show_line<W: Write, F: Write>(
+        &self,
+        run: &mut Run,
+        bytes: &[u8],
+        streams: &mut Streams<W, F>,
+    ) -> Result<(), Fault>
+        requires { HaveSources run.old.known.finder.shelf }
+        ensures shown { OnOk result (IsLineShown self.now.options.now bytes.now
+            (at_of run.old streams.old) (at_of run.new streams.new)) }
+        ensures sources { OnOk result (HaveSources run.new.known.finder.shelf) }
+    {
+        let whole = whole_text(self.alloc, bytes)?;
+        match bare_text(self.alloc, whole.as_str())? {
+            Some(bare) => self.show_read(
+                run,
+                Line {
+                    bytes,
+                    whole: whole.as_str(),
+                    text: bare.as_str(),
+                },
+                streams,
+            ),
+            None => self.show_read(
+                run,
+                Line {
+                    bytes,
+                    whole: whole.as_str(),
+                    text: whole.as_str(),
+                },
+                streams,
+            ),
+        }
+    }
+
+    /// Shows a line whose text was read: it is a row of the snippet of the diagnostic in front, or is shown
+    /// by what it tells.
+    fn show_read<W: Write, F: Write>(
+        &self,
+        run: &mut Run,
+        line: Line<'_>,
+        streams: &mut Streams<W, F>,
+    ) -> Result<(), Fault>
+        requires { HaveSources run.old.known.finder.shelf }
+        ensures shown { OnOk result (IsReadShown self.now.options.now line.entry
+            (at_of run.old streams.old) (at_of run.new streams.new)) }
+        ensures sources { OnOk result (HaveSources run.new.known.finder.shelf) }
+    {
+        if run.known.take_row(self.files, self.alloc, line)? {
+            return Ok(());
+        }
+        let reading = self.options.reading;
+        let answer = told(self.alloc, reading, &mut run.known.sent, line.text)?;
+        self.show_answer(run, line, answer, streams)
+    }
+
+    /// Shows a line that is no row of a snippet, by what it tells.
+    fn show_answer<W: Write, F: Write>(
+        &self,
+        run: &mut Run,
+        line: Line<'_>,
+        answer: Answer,
+        streams: &mut Streams<W, F>,
+    ) -> Result<(), Fault>
+        requires { HaveSources run.old.known.finder.shelf }
+        ensures shown { OnOk result (IsAnswered self.now.options.now line.entry
+            (at_of run.old streams.old) (at_of run.new streams.new) answer) }
+        ensures sources { OnOk result (HaveSources run.new.known.finder.shelf) }
+    {
+        match answer {
+            Answer::Nothing if self.options.reading.reads_text() => {
+                self.show_text(run, line, streams)
+            }
+            Answer::Nothing => self.pass_line(run, line.bytes, streams),
+            Answer::Dropped => self.finish(run, streams),
+            Answer::Diagnostics(all) => self.show_all(run, all, streams),
+            Answer::Head(told) => self.show_head(run, line, told, streams),
+            Answer::Note(note) => self.show_note(run, line, note, streams),
+        }
+    }
+
+    /// Shows a line of text that names no kind beside a place: it may name the place of a diagnostic, stand
+    /// in front of one, go on with its message, or be its tool's own sum. Else it passes.
+    fn show_text<W: Write, F: Write>(
+        &self,
+        run: &mut Run,
+        line: Line<'_>,
+        streams: &mut Streams<W, F>,
+    ) -> Result<(), Fault>
+        requires { HaveSources run.old.known.finder.shelf }
+        ensures shown { OnOk result (IsTextShown self.now.options.now line.entry
+            (at_of run.old streams.old) (at_of run.new streams.new)) }
+        ensures sources { OnOk result (HaveSources run.new.known.finder.shelf) }
+    {
+        if let Some(head) = run.known.placed(self.alloc, line.text)? {
+            return self.show_placed(run, line, head, streams);
+        }
+        if run.known.takes_in_front(self.alloc, line)? {
+            return Ok(());
+        }
+        if run.known.take_more(self.alloc, line)? {
+            return Ok(());
+        }
+        self.show_other(run, line, streams)
+    }
+
+    /// Shows a line of text that belongs to no diagnostic, unless it is the tool's own sum behind one.
+    fn show_other<W: Write, F: Write>(
+        &self,
+        run: &mut Run,
+        line: Line<'_>,
+        streams: &mut Streams<W, F>,
+    ) -> Result<(), Fault>
+        requires { HaveSources run.old.known.finder.shelf }
+        ensures shown { OnOk result (IsOtherShown self.now.options.now line.entry
+            (at_of run.old streams.old) (at_of run.new streams.new)) }
+        ensures sources { OnOk result (HaveSources run.new.known.finder.shelf) }
+    {
+        if run.known.is_tally(line.text) {
+            return self.finish(run, streams);
+        }
+        run.known.finder.folders.follow(line.text)?;
+        self.pass_line(run, line.bytes, streams)
+    }
+
+    /// Holds a diagnostic whose head waited, and whose place a line names, if its file can be read. Else
+    /// both lines pass.
+    fn show_placed<W: Write, F: Write>(
+        &self,
+        run: &mut Run,
+        line: Line<'_>,
+        head: PlacedHead,
+        streams: &mut Streams<W, F>,
+    ) -> Result<(), Fault>
+        requires { HaveSources run.old.known.finder.shelf }
+        ensures shown { OnOk result (IsPlacedShown self.now.options.now line.entry head
+            (at_of run.old streams.old) (at_of run.new streams.new)) }
+        ensures sources { OnOk result (HaveSources run.new.known.finder.shelf) }
+    {
+        let PlacedHead { bytes, mut told } = head;
+        if run.known.finder.open(self.files, &mut told)? {
+            return self.begin(run, told, line.text, streams);
+        }
+        self.pass_line(run, bytes.as_slice(), streams)?;
+        self.pass(run, line.bytes, streams)
+    }
+
+    /// Holds a diagnostic whose head is a line, if its file can be read. Else the line passes.
+    fn show_head<W: Write, F: Write>(
+        &self,
+        run: &mut Run,
+        line: Line<'_>,
+        mut told: Diagnostic,
+        streams: &mut Streams<W, F>,
+    ) -> Result<(), Fault>
+        requires { HaveSources run.old.known.finder.shelf }
+        ensures shown { OnOk result (IsHeadShown self.now.options.now line.entry told
+            (at_of run.old streams.old) (at_of run.new streams.new)) }
+        ensures sources { OnOk result (HaveSources run.new.known.finder.shelf) }
+    {
+        if run.known.finder.open(self.files, &mut told)? {
+            self.begin(run, told, line.text, streams)
+        } else {
+            self.pass_line(run, line.bytes, streams)
+        }
+    }
+
+    /// Gives a note to the diagnostic in front, if there is one that it is about. Else it is a diagnostic of
+    /// its own. If its file can't be read, its line passes.
+    fn show_note<W: Write, F: Write>(
+        &self,
+        run: &mut Run,
+        line: Line<'_>,
+        mut note: Diagnostic,
+        streams: &mut Streams<W, F>,
+    ) -> Result<(), Fault>
+        requires { HaveSources run.old.known.finder.shelf }
+        ensures shown { OnOk result (IsNoteShown self.now.options.now line.entry note
+            (at_of run.old streams.old) (at_of run.new streams.new)) }
+        ensures sources { OnOk result (HaveSources run.new.known.finder.shelf) }
+    {
+        if !run.known.finder.open(self.files, &mut note)? {
+            return self.pass_line(run, line.bytes, streams);
+        }
+        match run.known.take_block_of(&note) {
+            Some(block) => self.add_note(run, block, note, streams),
+            None => self.begin(run, note, line.text, streams),
+        }
+    }
+}

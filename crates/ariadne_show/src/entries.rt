@@ -1,0 +1,165 @@
+//! What the entries ask for that `clap` finds in the words.
+
+ghost use Rattle.std.specs.Prelude.{◌≡◌, IfOk, codes, map, option_map};
+ghost use Rattle.clap.specs.Words.{found_of, one_of, rows_of};
+ghost use Rattle.ariadne_show.specs.Asked.{colors_of as colors_named, fail_on_of as fail_on_named};
+ghost use Rattle.ariadne_show.specs.Asked.{floor_of as floor_named, format_of as format_named};
+ghost use Rattle.ariadne_show.specs.Asked.{input_path, is_on as is_given, path_named, value};
+ghost use Rattle.ariadne_show.specs.Asked.{output_of as output_named, unit_of as unit_named};
+ghost use Rattle.ariadne_show.specs.Asked.{AreInputsOf, AreOptionsOf, IsNumberIn};
+
+use crate::options::{Colors, FailOn, Input, Options, Output, Style};
+use ariadne_told::{Format, Reading, Severity, Unit};
+use clap::ArgMatches;
+use std::alloc::{AllocError, Global};
+
+/// What the options ask for.
+pub fn options_of<'a>(matches: &ArgMatches<'a>) -> Options<'a>
+    ensures { AreOptionsOf (rows_of (found_of matches.now)) result }
+{
+    Options {
+        reading: Reading {
+            format: format_of(value_of(matches, "format")),
+            unit: unit_of(value_of(matches, "columns")),
+        },
+        style: Style {
+            is_colored: false,
+            is_ascii: is_on(matches, "ascii"),
+            is_compact: is_on(matches, "compact"),
+        },
+        colors: colors_of(value_of(matches, "color")),
+        output: output_of(value_of(matches, "output"), is_on(matches, "short")),
+        is_raw: is_on(matches, "raw"),
+        floor: floor_of(value_of(matches, "severity")),
+        limit: limit_of(matches),
+        fail_on: fail_on_of(value_of(matches, "fail-on")),
+        base: value_of(matches, "base"),
+    }
+}
+
+/// The value of an option, if it was given.
+fn value_of<'a>(matches: &ArgMatches<'a>, name: &str) -> Option<&'a str>
+    ensures { option_map (λ text. text.now) result
+        ≡ value (rows_of (found_of matches.now)) name.now }
+{
+    matches.get_str(name)
+}
+
+/// Whether an option without a value was given. (Of `get_flag` no clause says what it makes of other
+/// values.)
+fn is_on(matches: &ArgMatches<'_>, name: &str) -> bool
+    ensures { result ≡ is_given (rows_of (found_of matches.now)) name.now }
+{
+    value_of(matches, name) == Some("true")
+}
+
+/// How many diagnostics are drawn at most.
+fn limit_of(matches: &ArgMatches<'_>) -> Option<usize>
+    ensures { IsNumberIn (one_of (codes "max") (rows_of (found_of matches.now))) result }
+{
+    matches.get_one("max")
+}
+
+/// The form in which lines are read.
+fn format_of(name: Option<&str>) -> Format
+    ensures { result ≡ format_named (option_map (λ text. text.now) name.entry) }
+{
+    match name {
+        Some("rustc") => Format::Rustc,
+        Some("gcc") => Format::Gcc,
+        Some("lines") => Format::Lines,
+        Some("report") => Format::Report,
+        _ => Format::Auto,
+    }
+}
+
+/// What columns count.
+fn unit_of(name: Option<&str>) -> Unit
+    ensures { result ≡ unit_named (option_map (λ text. text.now) name.entry) }
+{
+    match name {
+        Some("chars") => Unit::Char,
+        Some("display") => Unit::Display,
+        _ => Unit::Byte,
+    }
+}
+
+/// When there are colours.
+fn colors_of(name: Option<&str>) -> Colors
+    ensures { result ≡ colors_named (option_map (λ text. text.now) name.entry) }
+{
+    match name {
+        Some("always") => Colors::Always,
+        Some("never") => Colors::Never,
+        _ => Colors::Auto,
+    }
+}
+
+/// The form in which diagnostics are written: that of `--output`, or of `--short` where there is none.
+fn output_of(name: Option<&str>, is_short: bool) -> Output
+    ensures { result ≡ output_named (option_map (λ text. text.now) name.entry) is_short }
+{
+    match name {
+        Some("short") => Output::Short,
+        Some("github") => Output::Github,
+        Some("sarif") => Output::Sarif,
+        None if is_short => Output::Short,
+        _ => Output::Picture,
+    }
+}
+
+/// The least severe diagnostics that are drawn.
+fn floor_of(name: Option<&str>) -> Severity
+    ensures { result ≡ floor_named (option_map (λ text. text.now) name.entry) }
+{
+    match name {
+        Some("error") => Severity::Error,
+        Some("warning") => Severity::Warning,
+        _ => Severity::Note,
+    }
+}
+
+/// Which diagnostics the status tells of.
+fn fail_on_of(name: Option<&str>) -> FailOn
+    ensures { result ≡ fail_on_named (option_map (λ text. text.now) name.entry) }
+{
+    match name {
+        Some("warning") => FailOn::Warning,
+        Some("never") => FailOn::Never,
+        _ => FailOn::Error,
+    }
+}
+
+/// The inputs that are named: standard input where none is. On `Err` there was no memory.
+pub fn inputs_of<'a>(alloc: Global, matches: &ArgMatches<'a>) -> Result<Vec<Input<'a>>, AllocError>
+    ensures { IfOk result (λ inputs.
+        AreInputsOf (rows_of (found_of matches.now)) inputs.items) }
+{
+    let names = matches.get_strs("file").unwrap_or(&[]);
+    if names.is_empty() {
+        return Ok(vec![in alloc; Input::Standard]?);
+    }
+    inputs_named(alloc, names)
+}
+
+/// The inputs of these names.
+fn inputs_named<'a>(alloc: Global, names: &[&'a str]) -> Result<Vec<Input<'a>>, AllocError>
+    ensures { IfOk result (λ inputs. map input_path inputs.items
+        ≡ map (λ name. path_named name.now) names.now) }
+{
+    let mut inputs = Vec::new(alloc);
+    for name in names {
+        inputs.push(input_named(*name))?;
+    }
+    Ok(inputs)
+}
+
+/// The input of this name.
+fn input_named<'a>(name: &'a str) -> Input<'a>
+    ensures { input_path result ≡ path_named name.entry.now }
+{
+    match name {
+        "-" => Input::Standard,
+        path => Input::File(path),
+    }
+}

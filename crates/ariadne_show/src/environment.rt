@@ -1,0 +1,98 @@
+//! What the environment asks for: colours, or none.
+
+ghost use Rattle.std.specs.Prelude.{◌≡◌, IfOk, Some, None};
+ghost use Rattle.ariadne_show.specs.Colors.{are_colored, asked, holds, is_set};
+
+use crate::options::Colors;
+use std::alloc::AllocError;
+use std::env;
+use std::env::VarError;
+use std::rt::Env;
+
+/// The variables that ask for colours or for none: what each holds, where it is set.
+#[derive(Default, Drop)]
+pub struct Environment {
+    /// `NO_COLOR`: none, where it is not empty.
+    pub no_color: Option<String>,
+    /// `FORCE_COLOR`: colours, where it is not empty.
+    pub force_color: Option<String>,
+    /// `CLICOLOR_FORCE`: colours, where it is not empty and not `0`.
+    pub clicolor_force: Option<String>,
+    /// `CLICOLOR`: none, where it is `0`.
+    pub clicolor: Option<String>,
+    /// `TERM`: none, where it is `dumb`.
+    pub term: Option<String>,
+}
+
+impl Environment {
+    /// The variables of a process. On `Err` there was no memory for them.
+    pub fn of<R: Env + AllocGlobal>(rt: &R) -> Result<Environment, AllocError> {
+        Ok(Environment {
+            no_color: variable(rt, "NO_COLOR")?,
+            force_color: variable(rt, "FORCE_COLOR")?,
+            clicolor_force: variable(rt, "CLICOLOR_FORCE")?,
+            clicolor: variable(rt, "CLICOLOR")?,
+            term: variable(rt, "TERM")?,
+        })
+    }
+
+    /// Whether there are colours, by `--color`, these variables, and whether the output is a terminal.
+    ///
+    /// `--color always` and `never` decide alone. Else the first of the variables that asks for
+    /// something decides, in the order in which they stand above, and last the terminal.
+    pub fn is_colored(&self, colors: Colors, is_terminal: bool) -> bool
+        ensures { result ≡ are_colored colors self.now is_terminal }
+    {
+        match colors {
+            Colors::Always => true,
+            Colors::Never => false,
+            Colors::Auto => self.asked().unwrap_or(is_terminal),
+        }
+    }
+
+    /// Whether the variables ask for colours or for none, if for either.
+    fn asked(&self) -> Option<bool>
+        ensures { result ≡ asked self.now }
+    {
+        let is_forced = is_set(&self.clicolor_force) && !holds(&self.clicolor_force, "0");
+        if is_set(&self.no_color) {
+            Some(false)
+        } else if is_set(&self.force_color) || is_forced {
+            Some(true)
+        } else if holds(&self.clicolor, "0") || holds(&self.term, "dumb") {
+            Some(false)
+        } else {
+            None
+        }
+    }
+}
+
+/// What a variable holds, if it is set: U+FFFD in place of what is not UTF-8.
+fn variable<R: Env + AllocGlobal>(rt: &R, name: &str) -> Result<Option<String>, AllocError> {
+    match env::var(rt, name) {
+        Ok(value) => Ok(Some(value)),
+        Err(VarError::NotPresent) => Ok(None),
+        Err(VarError::NotUnicode) => Ok(Some(String::from_str(rt.alloc(), "\u{fffd}")?)),
+        Err(VarError::OutOfMemory) => Err(AllocError),
+    }
+}
+
+/// Whether a variable is set, and not empty.
+fn is_set(value: &Option<String>) -> bool
+    ensures { result ≡ is_set value.now }
+{
+    match value {
+        Some(value) => !value.is_empty(),
+        None => false,
+    }
+}
+
+/// Whether a variable holds this.
+fn holds(value: &Option<String>, text: &str) -> bool
+    ensures { result ≡ holds value.now text.now }
+{
+    match value {
+        Some(value) => value.as_str() == text,
+        None => false,
+    }
+}

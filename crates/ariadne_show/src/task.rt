@@ -1,0 +1,63 @@
+//! What is to be done, and its simplest steps: a line passes, and a diagnostic is shown.
+
+ghost use Rattle.std.specs.Prelude.{◌≡◌, OnOk};
+ghost use Rattle.ariadne_show.specs.Writing.{out_of, HasPassed, IsShownOnce};
+
+use crate::fault::Fault;
+use crate::options::Options;
+use crate::run::Run;
+use crate::streams::Streams;
+use crate::writing::{pass, show_one};
+use ariadne_told::Diagnostic;
+use std::alloc::Global;
+use std::io::Write;
+use std::rt::Files;
+
+/// What is to be done: how diagnostics are shown, and where their files are.
+#[derive(Drop)]
+pub(crate) struct Task<'a, R> {
+    /// Where files are.
+    pub(crate) files: &'a R,
+    /// Where memory is.
+    pub(crate) alloc: Global,
+    /// How diagnostics are shown.
+    pub(crate) options: &'a Options<'a>,
+}
+
+impl<R: Files> Task<'_, R> {
+    /// Writes a line that passes.
+    pub(crate) fn pass<W: Write, F: Write>(
+        &self,
+        run: &mut Run,
+        line: &[u8],
+        streams: &mut Streams<W, F>,
+    ) -> Result<(), Fault>
+        ensures passed { OnOk result (HasPassed self.now.options.now line.now
+            (out_of run.old.shown streams.old) (out_of run.new.shown streams.new)) }
+        ensures known { run.new.known ≡ run.old.known }
+    {
+        pass(self.alloc, self.options, line, &mut run.shown, streams)
+    }
+
+    /// Counts a diagnostic whose files were read, and writes it, if that is asked for.
+    pub(crate) fn show_one<W: Write, F: Write>(
+        &self,
+        run: &mut Run,
+        told: &Diagnostic,
+        streams: &mut Streams<W, F>,
+    ) -> Result<(), Fault>
+        ensures shown { OnOk result (IsShownOnce self.now.options.now run.old.known.finder.shelf told.now
+            (out_of run.old.shown streams.old) (out_of run.new.shown streams.new)) }
+        ensures known { run.new.known ≡ run.old.known }
+    {
+        let Run { known, shown } = run;
+        show_one(
+            self.alloc,
+            self.options,
+            &known.finder.shelf,
+            told,
+            shown,
+            streams,
+        )
+    }
+}

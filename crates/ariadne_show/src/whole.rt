@@ -1,0 +1,65 @@
+//! Diagnostics that are whole where they are told, as in a report or in lines of JSON.
+
+ghost use Rattle.std.specs.Prelude.{OnOk};
+ghost use Rattle.ariadne_show.specs.Read.{HaveSources};
+ghost use Rattle.ariadne_show.specs.Shown.{at_of, AreAllShown, AreShown, IsWholeShown};
+
+use crate::fault::Fault;
+use crate::run::Run;
+use crate::streams::Streams;
+use crate::task::Task;
+use ariadne_told::Diagnostic;
+use std::io::Write;
+use std::rt::Files;
+
+impl<R: Files> Task<'_, R> {
+    /// Writes diagnostics that are whole, in turn, and counts them.
+    pub(crate) fn show_all<W: Write, F: Write>(
+        &self,
+        run: &mut Run,
+        all: Vec<Diagnostic>,
+        streams: &mut Streams<W, F>,
+    ) -> Result<(), Fault>
+        requires { HaveSources run.old.known.finder.shelf }
+        ensures shown { OnOk result (AreAllShown self.now.options.now all.items
+            (at_of run.old streams.old) (at_of run.new streams.new)) }
+        ensures sources { OnOk result (HaveSources run.new.known.finder.shelf) }
+    {
+        self.finish(run, streams)?;
+        self.show_each(run, all, streams)
+    }
+
+    /// Writes diagnostics that are whole, where none is held in front of them, and counts them.
+    fn show_each<W: Write, F: Write>(
+        &self,
+        run: &mut Run,
+        all: Vec<Diagnostic>,
+        streams: &mut Streams<W, F>,
+    ) -> Result<(), Fault>
+        requires { HaveSources run.old.known.finder.shelf }
+        ensures shown { OnOk result (AreShown self.now.options.now all.items
+            (at_of run.old streams.old) (at_of run.new streams.new)) }
+        ensures sources { OnOk result (HaveSources run.new.known.finder.shelf) }
+    {
+        for told in all {
+            self.show_whole(run, told, streams)?;
+        }
+        Ok(())
+    }
+
+    /// Writes a diagnostic that is whole over its files, and counts it.
+    fn show_whole<W: Write, F: Write>(
+        &self,
+        run: &mut Run,
+        mut told: Diagnostic,
+        streams: &mut Streams<W, F>,
+    ) -> Result<(), Fault>
+        requires { HaveSources run.old.known.finder.shelf }
+        ensures shown { OnOk result (IsWholeShown self.now.options.now told
+            (at_of run.old streams.old) (at_of run.new streams.new)) }
+        ensures sources { OnOk result (HaveSources run.new.known.finder.shelf) }
+    {
+        run.known.finder.open(self.files, &mut told)?;
+        self.show_one(run, &told, streams)
+    }
+}

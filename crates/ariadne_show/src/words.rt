@@ -1,0 +1,176 @@
+//! The words of the command line, as `clap` parses them.
+
+ghost use Rattle.std.specs.Prelude.{◌≡◌, IfErr, IfOk, fold, map, string_bytes};
+ghost use Rattle.clap.specs.Words.{app_of, rule_of, with_rule};
+ghost use Rattle.ariadne_show.specs.Asked.{IsAskedBy, IsRefusedFor};
+ghost use Rattle.ariadne_show.specs.Faults.{TellsWords};
+ghost use Rattle.ariadne_show.specs.Words.{choice_rule, choices, command as command_app};
+ghost use Rattle.ariadne_show.specs.Words.{inputs_rule, option_rule, switch_rule, switches};
+ghost use Rattle.ariadne_show.specs.Words.{texts_in, ForList, ForNames, IsParsedBy};
+
+use crate::entries::{inputs_of, options_of};
+use crate::fault::Fault;
+use crate::options::{Input, Options};
+use crate::pages::{HELP, Page, VERSION};
+use ariadne_visible::{TextKind, visible};
+use clap::builder::ValueParser;
+use clap::error::ErrorKind;
+use clap::{Arg, ArgAction, ArgMatches, Command, Error, value_parser};
+use std::alloc::{AllocError, Global};
+
+/// What `--format` may be.
+pub const FORMATS: &[&str] = &["auto", "rustc", "gcc", "lines", "report"];
+
+/// What `--columns` may be.
+pub const UNITS: &[&str] = &["bytes", "chars", "display"];
+
+/// What `--color` may be.
+pub const COLORS: &[&str] = &["auto", "always", "never"];
+
+/// What `--output` may be.
+pub const OUTPUTS: &[&str] = &["picture", "short", "github", "sarif"];
+
+/// What `--severity` may be.
+pub const SEVERITIES: &[&str] = &["error", "warning", "note"];
+
+/// What `--fail-on` may be.
+pub const FAILS: &[&str] = &["error", "warning", "never"];
+
+/// What the words ask for.
+#[derive(Drop)]
+pub enum Asked<'a> {
+    /// To show what inputs tell, one after the other.
+    Show {
+        options: Options<'a>,
+        inputs: Vec<Input<'a>>,
+    },
+    /// A text that the program has ready.
+    Page(Page),
+}
+
+/// Reads the words that the program was called with, without its own name.
+///
+/// Options and names of inputs stand in any order. Of an option the last one counts. On `Err` they
+/// ask for nothing that the program does, or there was no memory.
+pub fn read_words<'a>(alloc: Global, words: &'a [String]) -> Result<Asked<'a>, Fault>
+    ensures asked { IfOk result (IsAskedBy (map string_bytes words.now)) }
+    ensures refused { IfErr result (IsRefusedFor (map string_bytes words.now)) }
+{
+    match parse(alloc, words) {
+        Ok(matches) => Ok(Asked::Show {
+            options: options_of(&matches),
+            inputs: inputs_of(alloc, &matches)?,
+        }),
+        Err(error) => match error.kind() {
+            ErrorKind::DisplayHelp => Ok(Asked::Page(Page::Help)),
+            ErrorKind::DisplayVersion => Ok(Asked::Page(Page::Version)),
+            ErrorKind::OutOfMemory => Err(Fault::Memory(AllocError)),
+            _ => Err(told_by_signs(alloc, words, error)?),
+        },
+    }
+}
+
+/// Parses words.
+fn parse<'a>(alloc: Global, words: &'a [String]) -> Result<ArgMatches<'a>, Error>
+    ensures { IsParsedBy (map string_bytes words.now) result }
+{
+    command(alloc)?.try_get_matches_from(words)
+}
+
+/// The words that the program takes.
+fn command<'a>(alloc: Global) -> Result<Command<'a>, AllocError>
+    ensures { IfOk result (λ made. ForNames (λ names. app_of made ≡ command_app names)) }
+{
+    let command = Command::new(alloc, "ariadne-show")
+        .version(VERSION)
+        .override_help(HELP)
+        .no_binary_name(true)
+        .args_override_self(true);
+    let command = with_choices(alloc, command)?;
+    let command = with_switches(alloc, command)?;
+    command
+        .arg(option(alloc, "max", "N").value_parser(value_parser!(usize)))?
+        .arg(option(alloc, "base", "DIR").value_parser(ValueParser::NonEmptyString))?
+        .arg(inputs(alloc))
+}
+
+/// The command with the options whose values are named.
+fn with_choices<'a>(alloc: Global, command: Command<'a>) -> Result<Command<'a>, AllocError>
+    ensures { IfOk result (λ made. ForNames (λ names.
+        app_of made ≡ fold with_rule (app_of command.entry) (choices names))) }
+{
+    command
+        .arg(choice(alloc, "format", "FORMAT", FORMATS))?
+        .arg(choice(alloc, "columns", "UNIT", UNITS))?
+        .arg(choice(alloc, "color", "WHEN", COLORS))?
+        .arg(choice(alloc, "output", "FORM", OUTPUTS))?
+        .arg(choice(alloc, "severity", "KIND", SEVERITIES))?
+        .arg(choice(alloc, "fail-on", "KIND", FAILS))
+}
+
+/// The command with the options that have no value.
+fn with_switches<'a>(alloc: Global, command: Command<'a>) -> Result<Command<'a>, AllocError>
+    ensures { IfOk result (λ made. app_of made ≡ fold with_rule (app_of command.entry) switches) }
+{
+    command
+        .arg(switch(alloc, "ascii"))?
+        .arg(switch(alloc, "compact"))?
+        .arg(switch(alloc, "short"))?
+        .arg(switch(alloc, "raw"))
+}
+
+/// An option whose value is one of these names.
+fn choice<'a>(alloc: Global, name: &'a str, value: &'a str, names: &'a [&'a str]) -> Arg<'a>
+    ensures { ForList (texts_in names.entry) (λ list.
+        rule_of result ≡ choice_rule name.entry.now list) }
+{
+    option(alloc, name, value).value_parser(names)
+}
+
+/// An option that has a value.
+fn option<'a>(alloc: Global, name: &'a str, value: &'a str) -> Arg<'a>
+    ensures { rule_of result ≡ option_rule name.entry.now }
+{
+    Arg::new(alloc, name)
+        .long(name)
+        .value_name(value)
+        .action(ArgAction::Set)
+}
+
+/// An option that has none.
+fn switch<'a>(alloc: Global, name: &'a str) -> Arg<'a>
+    ensures { rule_of result ≡ switch_rule name.entry.now }
+{
+    Arg::new(alloc, name).long(name).action(ArgAction::SetTrue)
+}
+
+/// The names of inputs.
+fn inputs<'a>(alloc: Global) -> Arg<'a>
+    ensures { rule_of result ≡ inputs_rule }
+{
+    Arg::new(alloc, "file")
+        .value_name("FILE")
+        .num_args(0..)
+        .action(ArgAction::Append)
+}
+
+/// What is wrong with words, told with a sign for each character that a terminal obeys.
+///
+/// The text is that of words which have these signs: in the text of the words themselves their line
+/// feeds and those of `clap` could not be told apart.
+fn told_by_signs(alloc: Global, words: &[String], error: Error) -> Result<Fault, AllocError>
+    ensures { IfOk result TellsWords }
+{
+    let mut shown = Vec::new(alloc);
+    for word in words {
+        shown.push(visible(alloc, word.as_str(), TextKind::OneRow)?)?;
+    }
+    let error = match parse(alloc, shown.as_slice()) {
+        Ok(_) => error,
+        Err(error) => error,
+    };
+    if error.kind() == ErrorKind::OutOfMemory {
+        return Err(AllocError);
+    }
+    Fault::words(alloc, &error)
+}

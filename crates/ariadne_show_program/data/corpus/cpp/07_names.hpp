@@ -1,0 +1,3 @@
+namespace names {
+/* 漢 */ int grüße(int zähler);
+}

@@ -1,0 +1,5 @@
+struct Open {
+    int x;
+    void f() {
+        if (x) {
+            x = 1;

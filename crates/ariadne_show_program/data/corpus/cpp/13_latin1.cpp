@@ -1,0 +1,1 @@
+int f() { /* grüße */ return missing + "äö"; }

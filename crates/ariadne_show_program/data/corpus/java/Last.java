@@ -1,0 +1,3 @@
+class Last {
+    void f() {
+        int x = 1;

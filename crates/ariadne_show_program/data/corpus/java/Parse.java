@@ -1,0 +1,6 @@
+class Parse {
+    void call() {
+        int 漢字 = 1
+        return;
+    }
+}

@@ -1,0 +1,5 @@
+#include "shared.h"
+int first(void) {
+    int unused;
+    return shared("a");
+}

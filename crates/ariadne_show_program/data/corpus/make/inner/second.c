@@ -1,0 +1,4 @@
+#include "shared.h"
+int second(void) {
+    return shared(1) + missing;
+}

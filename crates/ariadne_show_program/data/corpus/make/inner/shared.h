@@ -1,0 +1,1 @@
+static int shared(int x) { return x; }
