@@ -1,8 +1,8 @@
 """A small terminal: what a reader sees of some bytes, and what else they did.
 
 It obeys what terminals in use obey, as far as a picture could misuse it. It moves its cursor, erases,
-scrolls back, hides text, and has titles, clipboards and links. Strings swallow what follows. It obeys
-backspaces, tabs, carriage returns and the controls of the second page, and tells marks that turn a text.
+scrolls back, hides text, and has titles, clipboards and links. Strings swallow what follows. A row that
+leaves letters painted paints the next one. It obeys backspaces, tabs, carriage returns and the controls of the second page, and tells marks that turn a text.
 A line feed begins the next row, as on a terminal in its usual mode. Columns aren't told apart by width.
 
 The usual one reads UTF-8, and its rows are as long as what they show. A `Terminal` may differ: it reads
@@ -57,6 +57,7 @@ class Screen:
     is_hidden: bool = False
     is_wrapped: bool = True
     foreground: tuple = ()
+    look: tuple = ()  # the numbers of colours since the last 0
     misused: list = field(default_factory=list)
 
     def text(self):
@@ -143,13 +144,17 @@ class Screen:
                 count = 2 if left[:1] == [5] else 4
                 if number == 38:
                     self.foreground = tuple(left[1:count])
+                self.look += (number, *left[:count])
                 del left[:count]
-            elif number in (0, 28):
-                self.is_hidden = False
-                self.foreground = self.foreground if number else ()
-            elif number == 8:
-                self.is_hidden = True
-                self.misused.append("hidden text")
+            elif number == 0:
+                self.is_hidden, self.foreground, self.look = False, (), ()
+            else:
+                self.look += (number,)
+                if number == 28:
+                    self.is_hidden = False
+                elif number == 8:
+                    self.is_hidden = True
+                    self.misused.append("hidden text")
 
     def obey_string(self, text):
         """Obeys a string that is not shown."""
@@ -160,6 +165,8 @@ class Screen:
     def control(self, character):
         """Obeys a control of one character."""
         if character == "\n":
+            if self.look:
+                self.misused.append(f"letters left painted by {self.look}")
             self.move(self.row + 1, 0)
             return
         self.misused.append(f"control {ord(character):#04x}")

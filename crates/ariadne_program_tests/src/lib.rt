@@ -1,11 +1,13 @@
 //! Tests of the three programs, as the calls that their `main` makes, where an input or a writer fails or
-//! memory is refused. `tools/runs` tells what else they do.
+//! memory is refused, and of what is read of lines and snippets. `tools/runs` tells what else they do.
 #![tactic(auto)]
 
 #[cfg(test)]
 mod draw;
 #[cfg(test)]
 mod draw_refused;
+#[cfg(test)]
+mod learned;
 #[cfg(test)]
 mod lint;
 #[cfg(test)]
@@ -16,3 +18,11 @@ mod outcome;
 mod show;
 #[cfg(test)]
 mod show_refused;
+#[cfg(test)]
+mod snippets;
+#[cfg(test)]
+mod snippets_of_rustc;
+#[cfg(test)]
+mod told_lines;
+#[cfg(test)]
+mod told_others;

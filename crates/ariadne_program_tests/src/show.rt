@@ -4,7 +4,9 @@ ghost use Rattle.std.specs.Prelude.{◌<◌};
 
 use crate::outcome::Outcome;
 use ariadne_fakes::{Folder, Given, Taker, refuse, texts};
-use ariadne_show::{Asked, Fault, Options, Status, Sum, read_words, show, tell_fault};
+use ariadne_show::{
+    Asked, FailOn, Fault, Options, Status, Streams, Sum, read_words, show, tell_fault,
+};
 use std::alloc::{AllocError, Global};
 use std::io::{BufReader, ErrorKind};
 use std::process::Abort;
@@ -14,10 +16,9 @@ use std::rt::Files;
 pub const FILE: &[u8] = b"let x = y;\nlast";
 
 /// The options that these words ask for.
-fn options_of(rt: &(impl AllocGlobal + Abort), words: &[&str]) -> Options {
-    let words = texts(rt.alloc(), words).expect(rt, "memory");
-    match read_words(words.as_slice()) {
-        Asked::Show(options) => options,
+pub fn options_of<'a>(rt: &(impl AllocGlobal + Abort), words: &'a [String]) -> Options<'a> {
+    match read_words(rt.alloc(), words) {
+        Ok(Asked::Show { options, .. }) => options,
         _ => panic!(rt; "these words ask for nothing that is shown"),
     }
 }
@@ -30,12 +31,12 @@ pub fn with_path(alloc: Global, text: &str, path: &str) -> Result<String, AllocE
 /// Shows what a reader gives.
 fn shown(
     rt: &(impl Files + AllocGlobal + Abort),
-    options: Options,
+    options: &Options<'_>,
     input: Given<'_>,
-    out: &mut Taker,
+    streams: &mut Streams<Taker, Taker>,
 ) -> Result<Sum, Fault> {
     match BufReader::new(rt.alloc(), input) {
-        Ok(mut input) => show(rt, rt.alloc(), options, &mut input, out),
+        Ok(mut input) => show(rt, rt.alloc(), options, &mut input, streams),
         Err(fault) => Err(Fault::of_reading(&fault)),
     }
 }
@@ -51,19 +52,39 @@ pub fn run(
 ) -> Outcome<Status>
     requires { nth < 100000 }
 {
-    let options = options_of(rt, words);
-    let mut out = out;
-    let mut faults = Taker::whole(rt.alloc()).expect(rt, "memory");
+    let words = texts(rt.alloc(), words).expect(rt, "memory");
+    let options = options_of(rt, words.as_slice());
+    let mut streams = streams_with(rt, out);
     refuse(rt.alloc(), nth);
-    let status = match shown(rt, options, input, &mut out) {
-        Ok(sum) => sum.status(),
-        Err(fault) => tell_fault(&mut faults, &fault),
+    let sum = shown(rt, &options, input, &mut streams);
+    outcome_of(sum, options.fail_on, streams, nth)
+}
+
+/// The streams of a run whose output this is.
+pub fn streams_with(rt: &(impl AllocGlobal + Abort), out: Taker) -> Streams<Taker, Taker> {
+    Streams {
+        out,
+        beside: Taker::whole(rt.alloc()).expect(rt, "memory"),
+    }
+}
+
+/// What a run over streams came to, after it has told of its fault, if it had one.
+pub fn outcome_of(
+    sum: Result<Sum, Fault>,
+    fail_on: FailOn,
+    streams: Streams<Taker, Taker>,
+    nth: usize,
+) -> Outcome<Status> {
+    let Streams { out, mut beside } = streams;
+    let status = match sum {
+        Ok(sum) => sum.status(fail_on),
+        Err(fault) => tell_fault(&mut beside, &fault),
     };
     Outcome {
         nth,
         status,
         out: out.held,
-        faults: faults.held,
+        faults: beside.held,
     }
 }
 
@@ -85,12 +106,11 @@ const PLAIN: &[&[u8]] = &[
     b"",
     b"\n\r\n\n",
     b"no line feed",
-    b"caf\xe9\n\xff",
     b"{\"message\":\"m\",\"level\":\"error\",\"spans\":[\n",
-    b"{\"reason\":\"build-finished\",\"success\":true}\n",
     b"[]\n[1]\n{\"message\":1,\"level\":\"error\",\"spans\":[]}\n",
     b"a.c:3:4:text\na.c:3:4:  text\n12:30:45: started\n",
     b"a.c:1:1: error: \na.c:1: text\n",
+    b"gone:1:1: error: m\n",
 ];
 
 #[test]
@@ -98,9 +118,15 @@ fn what_tells_nothing_goes_through_as_it_is(rt: HostRuntime) {
     for input in PLAIN {
         assert_shown(&rt, &[], *input, Status::Shown, *input)
     }
+    let cut = b"caf\xe9\n\x1b\xff";
+    assert_shown(&rt, &["--raw"], cut, Status::Shown, cut);
+    let signs = "caf\u{fffd}\n\u{241b}\u{fffd}";
+    assert_shown(&rt, &[], cut, Status::Shown, signs.as_bytes());
+    let end = b"{\"reason\":\"build-finished\",\"success\":true}\n";
+    assert_shown(&rt, &[], end, Status::Shown, b"")
 }
 
-/// Lines about places that a file lacks, and what is shown of each, with a `@` for its path.
+/// Diagnostics about places that a file lacks, and what is shown of each, with a `@` for its path.
 const LACKING: &[(&str, &str)] = &[
     (
         "@:9:1: error: m\n",
@@ -111,7 +137,7 @@ const LACKING: &[(&str, &str)] = &[
         "Error: @:0:1: m\nNote: not drawn, since @ has no line 0\n1 error\n",
     ),
     (
-        "@.gone:1:1: error: m\n",
+        "{\"kind\":\"error\",\"message\":\"m\",\"labels\":[{\"file\":\"@.gone\",\"start\":[1,1]}]}\n",
         "Error: @.gone:1:1: m\nNote: not drawn, since @.gone can't be read\n1 error\n",
     ),
 ];
@@ -157,32 +183,44 @@ fn a_reader_that_fails_is_told(rt: HostRuntime) {
     assert_unread(&rt, ErrorKind::OutOfMemory, b"ariadne-show: no memory\n")
 }
 
-/// Asserts that a writer that fails behind calls of one byte holds these bytes, and that this is told.
-fn assert_cut(rt: &(impl Files + AllocGlobal + Abort), held: &[u8]) {
-    let fault = Some(ErrorKind::BrokenPipe);
-    let out = Taker::narrow(rt.alloc(), 1, held.len(), fault);
-    let input = Given::whole(b"a line\ngone:1: error: m\n");
-    let outcome = run(rt, &[], input, out, 0);
-    outcome.assert_is(rt, Status::Failed, held, b"ariadne-show: write failed\n")
+/// Asserts that a writer that fails so behind calls of one byte holds these bytes, and what comes of it.
+fn assert_cut(
+    rt: &(impl Files + AllocGlobal + Abort),
+    held: &[u8],
+    fault: ErrorKind,
+    status: Status,
+    told: &[u8],
+) {
+    let out = Taker::narrow(rt.alloc(), 1, held.len(), Some(fault));
+    let input =
+        b"a line\n{\"kind\":\"error\",\"message\":\"m\",\"labels\":[{\"file\":\"gone\",\"start\":[1]}]}\n";
+    let outcome = run(rt, &[], Given::whole(input), out, 0);
+    outcome.assert_is(rt, status, held, told)
 }
 
 #[test]
 fn a_writer_that_fails_at_each_call_holds_a_beginning(rt: HostRuntime) {
     let whole = b"a line\nError: gone:1: m\nNote: not drawn, since gone can't be read\n1 error\n";
+    let told = b"ariadne-show: write failed\n";
     for calls in 0..whole.len() {
-        assert_cut(&rt, &whole[..calls])
+        let held = &whole[..calls];
+        assert_cut(&rt, held, ErrorKind::StorageFull, Status::Failed, told);
+        assert_cut(&rt, held, ErrorKind::BrokenPipe, Status::BrokenPipe, b"")
     }
 }
 
-/// Asserts what is told of an option without a value, or with this one, that it can't have.
-fn assert_unfit(rt: &(impl AllocGlobal + Abort), given: Option<&str>, told: &str) {
+/// Asserts what is told of words that ask for nothing.
+fn assert_wrong(rt: &(impl AllocGlobal + Abort), words: &[&str], told: &str) {
     let alloc = rt.alloc();
-    let fault = Fault::unfit(alloc, "--columns", "bytes, chars or display", given);
-    let fault = fault.expect(rt, "memory");
+    let words = texts(alloc, words).expect(rt, "memory");
     let mut faults = Taker::whole(alloc).expect(rt, "memory");
+    let status = match read_words(alloc, words.as_slice()) {
+        Ok(_) => Status::Shown,
+        Err(fault) => tell_fault(&mut faults, &fault),
+    };
     let outcome = Outcome {
         nth: 0,
-        status: tell_fault(&mut faults, &fault),
+        status,
         out: Vec::new(alloc),
         faults: faults.held,
     };
@@ -191,14 +229,10 @@ fn assert_unfit(rt: &(impl AllocGlobal + Abort), given: Option<&str>, told: &str
 
 #[test]
 fn wrong_words_are_told_by_signs(rt: HostRuntime) {
-    assert_unfit(
+    assert_wrong(
         &rt,
-        None,
-        "ariadne-show: --columns needs bytes, chars or display\n",
-    );
-    assert_unfit(
-        &rt,
-        Some("a\x1b[2J"),
-        "ariadne-show: --columns needs bytes, chars or display, and not `a\u{241b}[2J`\n",
+        &["--color", "a\x1b[2J\n"],
+        "ariadne-show: invalid value 'a\u{241b}[2J\u{240a}' for '--color <WHEN>'\n  \
+         [possible values: auto, always, never]\n\nFor more information, try '--help'.\n",
     )
 }

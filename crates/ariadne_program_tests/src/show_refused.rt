@@ -2,52 +2,144 @@
 
 ghost use Rattle.std.specs.Prelude.{◌<◌};
 
-use crate::outcome::{Outcome, is_served};
-use crate::show::{FILE, run, with_path};
-use ariadne_fakes::{Folder, Given, Taker, refuse, was_refused};
-use ariadne_show::{Fault, Status};
+use crate::outcome::Outcome;
+use crate::show::{FILE, options_of, outcome_of, run, streams_with, with_path};
+use ariadne_fakes::{Folder, Given, Taker, refuse, texts, was_refused};
+use ariadne_show::{
+    Environment, Fault, Input, Inputs, Options, Status, Streams, Sum, read_words, show, tell_fault,
+};
+use std::io::BufReader;
 use std::process::Abort;
-use std::rt::Files;
+use std::rt::{Env, Files};
 
-/// Shows a line, with this request refused, counted from 1, or with none where it is 0.
-fn show_refused(rt: &(impl Files + AllocGlobal + Abort), line: &[u8], nth: usize) -> Outcome<Status>
-    requires { nth < 100000 }
-{
-    let out = Taker::whole(rt.alloc()).expect(rt, "memory");
-    run(rt, &["--ascii"], Given::whole(line), out, nth)
+/// What standard error gets of want of memory.
+const NO_MEMORY: &[u8] = b"ariadne-show: no memory\n";
+
+/// What tools print, with a `@` for the folder of its files: JSON of cargo's about a file that is gone,
+/// with half of a pair that stands alone; a line of make's; gcc's text with lines in front, a snippet and
+/// notes; rustc's text; a line that its file lacks; mypy's text; and a line that passes.
+///
+/// The longest line stands first. Where there is no memory for a line, a diagnostic that is held is shown
+/// as it was read, as in front of a line that can't be read: that is no beginning of the whole.
+const PRINTED: &str =
+    "{\"reason\":\"compiler-message\",\"manifest_path\":\"/p/q/Cargo.toml\",\"message\":{\"message\":\"\\ud800\",\"level\":\"error\",\"spans\":[{\"file_name\":\"gone\",\"line_start\":1,\"column_start\":1,\"line_end\":1,\"column_end\":3,\"is_primary\":true,\"text\":[{\"text\":\"ab\"}]}],\"children\":[]}}
+make: Entering directory '@'
+In file included from b.c:1:
+a.c: In function 'f':
+\x1b[1ma.c:1:9:\x1b[m error: m [-Wm]
+    1 | let x = y;
+      |         ^
+      |         |
+      |         int
+      |         z
+b.c:1:5: note: n
+    1 | let x = y;
+      |     ^
+b.c:9:1: note: o
+error[E1]: m
+ --> a.c:1:5
+  |
+1 | let x = y;
+  |     ^   - l
+  |
+ ::: b.c:1:9
+  |
+1 | let x = y;
+  |         - k
+  |
+note: n
+ --> b.c:1:5
+  |
+1 | let x = y;
+  |     ^
+  = help: h
+a.c:9:1: error: m
+b.py:1: error: m
+aaaaaaaaaaaaaaaaaaaaaaaaaaaaaaaaaaaaaaaaaaaaaaaaaaaaaaaaaaaaaaaaaaaaaaaaaaaaaaaaa
+let x = y;
+        ^
+::a line\n";
+
+/// Words, with a `@` for the folder, by which all that is written of a diagnostic is written.
+const WORDS: &[&[&str]] = &[
+    &["--ascii"],
+    &["--base", "@", "--max", "2"],
+    &["--output", "short"],
+    &["--output", "github"],
+    &["--output", "sarif"],
+];
+
+/// Whether these bytes end where a line ends, or a result of a SARIF log, which the rest stands behind.
+fn are_uncut(shown: &[u8], rest: &[u8]) -> bool {
+    shown.is_empty()
+        || shown.ends_with(b"\n")
+        || rest.starts_with(b",\n")
+        || rest.starts_with(b"\n]")
 }
 
-/// Asserts that no line was cut of what was shown with the nth request refused.
-fn assert_uncut(rt: &impl Abort, shown: &[u8], nth: usize) {
-    assert!(rt;
-        shown.is_empty() || shown.ends_with(b"\n"),
-        "at request {nth}"
-    )
+/// Asserts that what was shown is a beginning of the whole, and that no line was cut.
+fn assert_beginning(rt: &impl Abort, shown: &[u8], whole: &[u8], nth: usize) {
+    match whole.strip_prefix(shown) {
+        Some(rest) => assert!(rt; are_uncut(shown, rest), "at request {nth}"),
+        None => panic!(rt; "what was shown at request {nth} is no beginning"),
+    }
 }
 
-/// Refuses the nth request of showing a line. Where there is none the whole is shown, and the result
-/// is true.
-fn is_shown(rt: &(impl Files + AllocGlobal + Abort), line: &[u8], whole: &[u8], nth: usize) -> bool
-    requires { nth < 100000 }
-{
-    let outcome = show_refused(rt, line, nth);
+/// Asserts that a run with one request refused told that, and cut no line, or that it came to the same
+/// as with memory. Where there was no such request the result is true.
+fn is_whole(
+    rt: &(impl AllocGlobal + Abort),
+    outcome: &Outcome<Status>,
+    whole: &Outcome<Status>,
+) -> bool {
     let is_refused = was_refused(rt.alloc());
-    assert_uncut(rt, outcome.out.as_slice(), nth);
-    // A vector that is collected asks again, for less, where it was refused what it may need.
-    if is_refused && outcome.status == Status::Failed {
-        outcome.assert_told(rt, Status::Failed, b"ariadne-show: no memory\n");
-    } else {
-        outcome.assert_is(rt, Status::WithErrors, whole, b"");
+    match outcome.faults.as_slice().strip_suffix(NO_MEMORY) {
+        Some(beside) if is_refused => {
+            outcome.assert_status(rt, Status::Failed);
+            assert_beginning(
+                rt,
+                outcome.out.as_slice(),
+                whole.out.as_slice(),
+                outcome.nth,
+            );
+            assert_beginning(rt, beside, whole.faults.as_slice(), outcome.nth);
+        }
+        // A vector that is collected asks again, for less, where it was refused what it may need.
+        _ => outcome.assert_is(
+            rt,
+            whole.status,
+            whole.out.as_slice(),
+            whole.faults.as_slice(),
+        ),
     }
     !is_refused
 }
 
-/// Refuses each request of showing a line in turn, up to the one that there is none of.
-fn refuse_each(rt: &(impl Files + AllocGlobal + Abort), line: &[u8]) {
-    let whole = show_refused(rt, line, 0);
+/// Shows what tools print, with this request refused, counted from 1, or with none where it is 0.
+fn show_refused(
+    rt: &(impl Files + AllocGlobal + Abort),
+    words: &[&str],
+    folder: &str,
+    nth: usize,
+) -> Outcome<Status>
+    requires { nth < 100000 }
+{
+    let mut own = Vec::new(rt.alloc());
+    for word in words {
+        own.push(if *word == "@" { folder } else { *word })
+            .expect(rt, "memory");
+    }
+    let input = with_path(rt.alloc(), PRINTED, folder).expect(rt, "memory");
+    let out = Taker::whole(rt.alloc()).expect(rt, "memory");
+    run(rt, own.as_slice(), Given::whole(input.as_bytes()), out, nth)
+}
+
+/// Refuses each request of showing what tools print in turn, up to the one that there is none of.
+fn refuse_each(rt: &(impl Files + AllocGlobal + Abort), words: &[&str], folder: &str) {
+    let whole = show_refused(rt, words, folder, 0);
     whole.assert_status(rt, Status::WithErrors);
     for nth in 1..10000 {
-        if is_shown(rt, line, whole.out.as_slice(), nth) {
+        if is_whole(rt, &show_refused(rt, words, folder, nth), &whole) {
             return;
         }
     }
@@ -57,32 +149,122 @@ fn refuse_each(rt: &(impl Files + AllocGlobal + Abort), line: &[u8]) {
 #[test]
 fn a_refused_request_is_told_and_no_line_is_cut(rt: HostRuntime) {
     let folder = Folder::new(&rt).expect(&rt, "a folder");
-    let path = folder.file_of(&rt, "a", FILE).expect(&rt, "a file");
-    let line =
-        "{\"kind\":\"error\",\"name\":\"n\",\"message\":\"m\",\"labels\":[{\"file\":\"@\",\"start\":[1,5]}]}\n@:9: note: n\n";
-    let line = with_path(rt.alloc(), line, path.as_str()).expect(&rt, "memory");
-    refuse_each(&rt, line.as_bytes());
+    for name in ["a.c", "b.c", "b.py"] {
+        folder.file_of(&rt, name, FILE).expect(&rt, "a file");
+    }
+    let path = folder.path_of(&rt, ".").expect(&rt, "memory");
+    for words in WORDS {
+        refuse_each(&rt, *words, path.as_str())
+    }
     folder.remove(&rt).expect(&rt, "no folder")
 }
 
-/// Refuses the nth request of making two faults. Where there is none both are made, and the result is
-/// true.
-fn are_made(rt: &(impl AllocGlobal + Abort), nth: usize) -> bool
+/// Words, and what is told of them; nothing where they ask for something.
+const READ: &[(&[&str], &str)] = &[
+    (
+        &["--max", "4", "--color", "red", "a"],
+        "ariadne-show: invalid value 'red' for '--color <WHEN>'\n  \
+         [possible values: auto, always, never]\n\nFor more information, try '--help'.\n",
+    ),
+    (&["--base", "b", "--max", "4", "a", "-"], ""),
+];
+
+/// What is told of these words, with this request refused.
+fn told_of_words(rt: &(impl AllocGlobal + Abort), words: &[String], nth: usize) -> Taker
     requires { nth < 100000 }
 {
-    let alloc = rt.alloc();
-    refuse(alloc, nth);
-    let is_unfit = Fault::unfit(alloc, "--color", "auto, always or never", Some("red")).is_ok();
-    let is_unknown = Fault::unknown(alloc, "--odd").is_ok();
-    is_served(rt, nth, is_unfit && is_unknown)
+    let mut faults = Taker::whole(rt.alloc()).expect(rt, "memory");
+    refuse(rt.alloc(), nth);
+    if let Err(fault) = read_words(rt.alloc(), words) {
+        tell_fault(&mut faults, &fault);
+    }
+    faults
 }
 
-#[test]
-fn a_refused_fault_is_want_of_memory(rt: HostRuntime) {
+/// Refuses each request of reading words in turn, up to the one that there is none of.
+fn refuse_each_of_words(rt: &(impl AllocGlobal + Abort), words: &[&str], told: &[u8]) {
+    let words = texts(rt.alloc(), words).expect(rt, "memory");
     for nth in 1..1000 {
-        if are_made(&rt, nth) {
+        let faults = told_of_words(rt, words.as_slice(), nth);
+        let is_refused = was_refused(rt.alloc());
+        let is_told = is_refused && faults.held.as_slice() == NO_MEMORY;
+        assert!(rt;
+            is_told || faults.held.as_slice() == told,
+            "at request {nth}"
+        );
+        if !is_refused {
             return;
         }
     }
     panic!(rt; "a request was refused each time")
+}
+
+#[test]
+fn a_refused_request_of_reading_words_is_want_of_memory(rt: HostRuntime) {
+    for (words, told) in READ {
+        refuse_each_of_words(&rt, *words, told.as_bytes())
+    }
+}
+
+/// Shows what inputs tell, as the program does.
+fn shown_inputs(
+    rt: &(impl Env + Files + AllocGlobal + Abort),
+    options: &Options<'_>,
+    inputs: &[Input<'_>],
+    streams: &mut Streams<Taker, Taker>,
+) -> Result<Sum, Fault> {
+    let _environment = Environment::of(rt)?;
+    let inputs = Inputs::new(rt, rt.alloc(), Given::whole(b"a"), inputs);
+    let mut input = match BufReader::new(rt.alloc(), inputs) {
+        Ok(input) => input,
+        Err(error) => return Err(Fault::of_reading(&error)),
+    };
+    match show(rt, rt.alloc(), options, &mut input, streams) {
+        Ok(sum) => Ok(sum),
+        Err(fault) => Err(input.into_inner().into_fault().unwrap_or(fault)),
+    }
+}
+
+/// Shows what inputs tell, with this request refused, counted from 1, or with none where it is 0.
+fn show_inputs_refused(
+    rt: &(impl Env + Files + AllocGlobal + Abort),
+    inputs: &[Input<'_>],
+    nth: usize,
+) -> Outcome<Status>
+    requires { nth < 100000 }
+{
+    let options = options_of(rt, &[]);
+    let out = Taker::whole(rt.alloc()).expect(rt, "memory");
+    let mut streams = streams_with(rt, out);
+    refuse(rt.alloc(), nth);
+    let sum = shown_inputs(rt, &options, inputs, &mut streams);
+    outcome_of(sum, options.fail_on, streams, nth)
+}
+
+/// Refuses each request of showing what inputs tell in turn, up to the one that there is none of.
+fn refuse_each_of_inputs(rt: &(impl Env + Files + AllocGlobal + Abort), inputs: &[Input<'_>]) {
+    let whole = show_inputs_refused(rt, inputs, 0);
+    let shown: &[u8] = b"a\nlet x = y;\nlast\n";
+    assert_eq!(rt; whole.out.as_slice(), shown);
+    whole.assert_status(rt, Status::Failed);
+    for nth in 1..1000 {
+        if is_whole(rt, &show_inputs_refused(rt, inputs, nth), &whole) {
+            return;
+        }
+    }
+    panic!(rt; "a request was refused each time")
+}
+
+#[test]
+fn a_refused_request_of_the_environment_or_an_input_is_told(rt: HostRuntime) {
+    let folder = Folder::new(&rt).expect(&rt, "a folder");
+    let path = folder.file_of(&rt, "a", FILE).expect(&rt, "a file");
+    let gone = folder.path_of(&rt, "gone").expect(&rt, "memory");
+    let inputs = [
+        Input::Standard,
+        Input::File(path.as_str()),
+        Input::File(gone.as_str()),
+    ];
+    refuse_each_of_inputs(&rt, &inputs);
+    folder.remove(&rt).expect(&rt, "no folder")
 }

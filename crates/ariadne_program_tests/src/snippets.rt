@@ -1,0 +1,268 @@
+//! Lines of snippets as gcc, clang and others write them, and beside each what is to be learned of it.
+
+use crate::learned::assert_learned;
+
+/// A file of C.
+const C: &[&str] = &[
+    "#include <string.h>",
+    "struct point { int colour; int y; };",
+    "int\tf(struct point *p, int n)",
+    "{",
+    "\tint x = p->color + n;",
+    "    char *s = \"漢字\" + n * p;",
+    "\tif (n = 3) return x\t+ s;",
+    "    printf(\"%s %d\\n\", n, \"é\");",
+    "    return strlen(n) + undeclared;",
+];
+
+#[test]
+fn ranges_labels_and_fixes_of_gcc(rt: HostRuntime) {
+    assert_learned(
+        &rt,
+        C,
+        5,
+        Some(19),
+        &[
+            ("    5 |         int x = p->color + n;", ""),
+            ("      |                    ^~~~~", " 5:12..17^"),
+            ("      |                    colour", " put 5:12 colour"),
+            ("a.c:6:26: error: invalid operands", "no"),
+        ],
+    );
+    assert_learned(
+        &rt,
+        C,
+        7,
+        Some(21),
+        &[
+            ("    7 |         if (n = 3) return x     + s;", ""),
+            ("      |                           ~~~~~~^~~", " 7:19..24^"),
+        ],
+    );
+    assert_learned(
+        &rt,
+        C,
+        8,
+        Some(13),
+        &[
+            ("    8 |     printf(\"%s %d\\n\", n, \"é\");", ""),
+            ("      |             ~^        ~", " 8:12..14^ 8:22..23"),
+            ("      |              |        |", ""),
+            ("      |              char *   int", " 0=char * 1=int"),
+            ("      |             %d", " put 8:12 %d"),
+        ],
+    );
+    assert_learned(
+        &rt,
+        C,
+        2,
+        Some(0),
+        &[
+            ("    1 | #include <string.h>", ""),
+            ("  +++ |+#include <stdio.h>", " line 2:0 #include <stdio.h>"),
+            ("    2 | struct point { int colour; int y; };", ""),
+        ],
+    );
+}
+
+#[test]
+fn labels_over_lines_of_gcc(rt: HostRuntime) {
+    let file = [
+        "void f() {",
+        "  int z = (y +",
+        "     x) * 2 +",
+        "       5--;",
+    ];
+    assert_learned(
+        &rt,
+        &file,
+        2,
+        Some(13),
+        &[
+            ("    2 |   int z = (y +", ""),
+            ("      |            ~ ^", " 2:11..12 2:13..14^"),
+            ("      |            |", ""),
+            ("      |            int", " 0=int"),
+            ("    3 |      x) * 2 +", ""),
+            ("      |      ~        ", " 3:5..6"),
+            ("      |      |", ""),
+            ("      |      A", " 0=A"),
+            ("......", ""),
+            ("    4 |        5--;", ""),
+            ("      |        ~^~", " 4:7..10^"),
+            ("      |         --", " remove 4:8 "),
+            ("    4 |        6--;", "no"),
+        ],
+    );
+}
+
+#[test]
+fn ranges_over_lines_of_gcc(rt: HostRuntime) {
+    let file = [
+        "  int w = (text +",
+        "      text)",
+        "    * (text",
+        "       + text);",
+    ];
+    assert_learned(
+        &rt,
+        &file,
+        3,
+        Some(4),
+        &[
+            ("    1 |   int w = (text +", ""),
+            ("      |           ~~~~~~~", " 1:10..17"),
+            ("      |                 |", ""),
+            ("      |                 Text", " 0=Text"),
+            ("    2 |       text)", ""),
+            ("      |       ~~~~~", " +2:6..11"),
+            ("    3 |     * (text", ""),
+            ("      |     ^ ~~~~~", " 3:4..5^ 3:6..11"),
+            ("    4 |        + text);", ""),
+            ("      |        ~~~~~~~", " +4:7..14"),
+        ],
+    );
+}
+
+#[test]
+fn ranges_and_fixes_of_clang(rt: HostRuntime) {
+    assert_learned(
+        &rt,
+        C,
+        6,
+        Some(23),
+        &[
+            ("    char *s = \"漢字\" + n * p;", ""),
+            (
+                "                       ~ ^ ~",
+                " 6:21..22 6:23..24^ 6:25..26",
+            ),
+            ("a.c:7:8: warning: using", "no"),
+        ],
+    );
+    assert_learned(
+        &rt,
+        C,
+        7,
+        Some(7),
+        &[
+            ("        if (n = 3) return x     + s;", ""),
+            ("              ^", " 7:7..8^"),
+            ("            (    )", " put 7:5 ( put 7:10 )"),
+            ("            (    )", "no"),
+        ],
+    );
+    assert_learned(
+        &rt,
+        C,
+        5,
+        Some(12),
+        &[("    return strlen(n) + undeclared;", "no")],
+    );
+    let file = [
+        "int a\u{c}b = \"x\u{1}\u{7f}\u{200b}\u{202e}\";  ",
+        "int x;",
+    ];
+    assert_learned(
+        &rt,
+        &file,
+        1,
+        Some(5),
+        &[
+            (
+                "int a<U+000C>b = \"x<U+0001><U+007F><U+200B><U+202E>\";",
+                "",
+            ),
+            ("     ^", " 1:5..6^"),
+            ("     ;", " put 1:5 ;"),
+        ],
+    );
+    assert_learned(
+        &rt,
+        &file,
+        2,
+        Some(6),
+        &[("int x;", ""), ("      ^", " 2:6..7^")],
+    );
+}
+
+#[test]
+fn ranges_of_others(rt: HostRuntime) {
+    let java = ["\t\tint x = s;\tint y = \"é漢\" + undefined;"];
+    assert_learned(
+        &rt,
+        &java,
+        1,
+        None,
+        &[
+            ("\t\tint x = s;\tint y = \"é漢\" + undefined;", ""),
+            ("\t\t          \t               ^", " 1:28..29^"),
+            (
+                "  symbol:   variable undefined",
+                "note symbol:   variable undefined",
+            ),
+            ("  location: class B", "note location: class B"),
+            ("B.java:5: error: incompatible types", "no"),
+        ],
+    );
+    let cpp = ["\tstd::string s = 5 + \"é\"; const char *z = s;"];
+    assert_learned(
+        &rt,
+        &cpp,
+        1,
+        Some(40),
+        &[
+            (" std::string s = 5 + \"é\"; const char *z = s;", ""),
+            ("                                         ^", " 1:40..41^"),
+        ],
+    );
+    let python = ["def f():", "\tx: int = \"a\""];
+    assert_learned(
+        &rt,
+        &python,
+        2,
+        Some(10),
+        &[
+            ("            x: int = \"a\"", ""),
+            ("                     ^~~", " 2:10..13^"),
+        ],
+    );
+    let erlang = ["f(X) -> Y = 1, Z."];
+    assert_learned(
+        &rt,
+        &erlang,
+        1,
+        Some(15),
+        &[
+            ("%    1| f(X) -> Y = 1, Z.", ""),
+            ("%     |                ^", " 1:15..16^"),
+            ("", ""),
+            ("", "no"),
+        ],
+    );
+}
+
+#[test]
+fn fixes_behind_a_line_and_escapes_of_erlc(rt: HostRuntime) {
+    assert_learned(
+        &rt,
+        &["    if (n > 3)"],
+        1,
+        Some(14),
+        &[
+            ("    if (n > 3)", ""),
+            ("              ^", " 1:14..15^"),
+            ("               {", " put 1:14 {"),
+        ],
+    );
+    assert_learned(
+        &rt,
+        &["    1 -> \"漢\" ok"],
+        1,
+        Some(13),
+        &[
+            ("%    1|     1 -> \"\\x{6F22}\" ok", ""),
+            ("%     |              ^", " 1:13..14^"),
+        ],
+    );
+}

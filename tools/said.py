@@ -1,0 +1,114 @@
+"""What tools print, for try-show: the texts of tools/shown/, the commands that made them, and the words that
+ariadne-show is given for each.
+
+A text stands in tools/shown/NAME.txt. It is what a command printed of files in the folder data/ of the
+program's crate, below which the folder of the command stands too. Where a tool names that folder in full,
+the text has @DATA@ for it, and the folder of the tool's own output is @OUT@.
+"""
+
+import subprocess
+import tempfile
+from pathlib import Path
+from typing import NamedTuple
+
+ROOT = Path(__file__).resolve().parent.parent
+FILES = ROOT / "crates" / "ariadne_show_program" / "data"
+SAID = ROOT / "tools" / "shown"
+DATA, OUT = b"@DATA@", b"@OUT@"
+
+
+class Text(NamedTuple):
+    """A text: the form of its lines, how the program is asked for it, and how it was made."""
+
+    form: str  # of `FORMS` in marks.py
+    command: tuple  # `{}` stands for a file, and `{out}` for a folder that is thrown away
+    files: tuple = ()  # patterns below data/; the command is run for each file, or once where there is none
+    words: tuple = ()  # for ariadne-show
+    folder: str = "."  # the command's, and ariadne-show's, below data/
+    like: str = ""  # the text that this one is, where its colours are taken out
+
+
+C, CPP = ("corpus/c/*.c",), ("corpus/cpp/*.cpp",)
+WARN = ("-Wall", "-Wextra", "-pedantic", "-fsyntax-only")
+GCC, GXX = ("gcc", *WARN), ("g++", "-std=c++20", *WARN)
+CLANG, CLANGXX = ("clang", *WARN), ("clang++", "-std=c++20", *WARN)
+RANGES = ("-fdiagnostics-print-source-range-info", "-fno-caret-diagnostics")
+CHECKS = "-checks=-*,clang-diagnostic-*,clang-analyzer-*,bugprone-*,readability-braces-*,modernize-use-trailing-*"
+TIDY_FILES = ("corpus/c/1[89]*.c", "corpus/c/20*.c", "corpus/cpp/11*.cpp", "corpus/cpp/07*.cpp")
+RUST = ("rustc", "--emit=metadata", "-o", "{out}/x.rmeta")
+RUST_FILES = ("corpus/rust/[01]*.rs",)
+CARGO = ("cargo", "check", "--quiet", "--offline", "--message-format=json", "-j1", "--target-dir={out}")
+MYPY = ("mypy", "--cache-dir={out}")
+PY = ("corpus/py/*.py",)
+CPPCHECK = ("cppcheck", "--enable=all")
+CPPCHECK_FILES = ("corpus/c/09*.c", "corpus/c/11*.c", "corpus/c/19*.c", "corpus/c/20*.c", "corpus/cpp/[01][156]*.cpp")
+GONE = "cp {} {out}/gone.c; gcc -Wall -fsyntax-only {out}/gone.c; rm {out}/gone.c"
+DISPLAY, CHARS = ("--columns=display",), ("--columns=chars",)
+TEXTS = {
+    "gcc_carets": Text("gcc", (*GCC, "{}"), C, DISPLAY),
+    "gcc_color": Text("gcc", (*GCC, "-fdiagnostics-color=always", "{}"), C, like="gcc_carets"),
+    "gcc_json": Text("gcc json", (*GCC, "-fdiagnostics-format=json", "{}"), C),
+    "gxx_carets": Text("gcc", (*GXX, "{}"), CPP, DISPLAY),
+    "gxx_color": Text("gcc", (*GXX, "-fdiagnostics-color=always", "{}"), CPP, like="gxx_carets"),
+    "gxx_json": Text("gcc json", (*GXX, "-fdiagnostics-format=json", "{}"), CPP),
+    "clang_carets": Text("clang", (*CLANG, "{}"), C),
+    "clang_color": Text("clang", (*CLANG, "-fcolor-diagnostics", "{}"), C, like="clang_carets"),
+    "clang_ranges": Text("clang", (*CLANG, *RANGES, "{}"), C),
+    "clangxx_carets": Text("clang", (*CLANGXX, "{}"), CPP),
+    "clangxx_color": Text("clang", (*CLANGXX, "-fcolor-diagnostics", "{}"), CPP, like="clangxx_carets"),
+    "clangxx_ranges": Text("clang", (*CLANGXX, *RANGES, "{}"), CPP),
+    "clang_tidy": Text("clang", ("clang-tidy", CHECKS, "{}", "--", *WARN), TIDY_FILES),
+    "clang_tidy_color": Text(
+        "clang", ("clang-tidy", "--use-color", CHECKS, "{}", "--", *WARN), TIDY_FILES, like="clang_tidy"
+    ),
+    "rustc": Text("rustc json", (*RUST, "--error-format=json", "{}"), RUST_FILES),
+    "rustc_text": Text("rustc", (*RUST, "{}"), RUST_FILES),
+    "rustc_color": Text("rustc", (*RUST, "--color=always", "{}"), RUST_FILES, like="rustc_text"),
+    "cargo_workspace": Text("rustc json", CARGO, folder="corpus/cargo"),
+    "cargo_member": Text("rustc json", CARGO, folder="corpus/cargo/pear"),
+    "cargo_targets": Text("rustc json", (*CARGO, "--all-targets", "--keep-going"), folder="corpus/cargo"),
+    "javac": Text("javac", ("javac", "-Xlint", "-d", "{out}", "{}"), ("corpus/java/*.java",)),
+    "mypy": Text("mypy", (*MYPY, "{}"), PY),
+    "mypy_columns": Text("mypy", (*MYPY, "--show-column-numbers", "{}"), PY),
+    "mypy_end": Text("mypy", (*MYPY, "--show-error-end", "{}"), PY),
+    "mypy_pretty": Text("mypy", (*MYPY, "--pretty", "{}"), PY),
+    "cppcheck": Text("cppcheck", (*CPPCHECK, "{}"), CPPCHECK_FILES),
+    "cppcheck_gcc": Text("cppcheck", (*CPPCHECK, "--quiet", "--template=gcc", "{}"), CPPCHECK_FILES),
+    "pylint": Text("pylint", ("pylint", "{}"), PY),
+    "pylint_color": Text("pylint", ("pylint", "--output-format=colorized", "{}"), PY, like="pylint"),
+    "erlc": Text("erlc", ("erlc", "-o", "{out}", "{}"), ("corpus/erl/*.erl",), CHARS),
+    "shellcheck": Text("shellcheck", ("shellcheck", "-f", "gcc", "{}"), ("corpus/sh/*.sh",), CHARS),
+    "gone": Text("gcc", ("sh", "-c", GONE), ("corpus/c/1[178]*.c",)),
+    "log": Text("none", ()),
+    "make": Text("make", ("make", "--keep-going"), folder="corpus/make", words=DISPLAY),
+}
+
+
+def files_of(text):
+    """The files that a text is about, in the order of its runs."""
+    return [str(path.relative_to(FILES)) for pattern in text.files for path in sorted(FILES.glob(pattern))]
+
+
+def run(text, path, out):
+    """What a command prints of a file, to both streams as to one."""
+    words = [word.replace("{out}", out).replace("{}", path) for word in text.command]
+    done = subprocess.run(words, cwd=FILES / text.folder, stdout=subprocess.PIPE, stderr=subprocess.STDOUT, check=False)
+    return done.stdout.replace(str(FILES).encode(), DATA).replace(out.encode(), OUT)
+
+
+def said_now(text):
+    """What the command of a text prints now. A line `=== FILE` stands before what it says of a file."""
+    with tempfile.TemporaryDirectory() as out:
+        if not text.files:
+            return run(text, "", out)
+        return b"".join(b"=== %s\n" % path.encode() + run(text, path, out) for path in files_of(text))
+
+
+def as_got(said):
+    """What was said, as the program gets it."""
+    return said.replace(DATA, str(FILES).encode())
+
+
+def stored(name):
+    """A text as the program gets it."""
+    return as_got((SAID / f"{name}.txt").read_bytes())
