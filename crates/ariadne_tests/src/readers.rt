@@ -34,7 +34,9 @@ fn a_label_tells_what_it_was_made_of(rt: HostRuntime) {
     assert_same(&rt, label.span(), &(1..3));
     assert_same(&rt, &label.message(), &Some("here"));
     assert_same(&rt, &label.color(), &Some(Color::Blue));
-    assert_same(&rt, &(label.order(), label.priority()), &(-4, 5))
+    assert_same(&rt, &(label.order(), label.priority()), &(-4, 5));
+    let new = Label::new(1..3);
+    assert_same(&rt, &(new.order(), new.priority()), &(0, 0))
 }
 
 /// Asserts that a list has one text, and this one.
