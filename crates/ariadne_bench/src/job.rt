@@ -1,5 +1,6 @@
 //! What a workload draws over one source: a text, and pieces of it with messages.
 
+use crate::texts::narrow;
 use std::alloc::{AllocError, Global};
 
 /// A piece of a text, by its offsets, and what is said of it.
@@ -19,12 +20,58 @@ pub fn said(start: usize, end: usize, message: String) -> Mark {
     }
 }
 
-/// A mark without one.
-pub fn silent(start: usize, end: usize) -> Mark {
-    Mark {
-        start,
-        end,
-        message: None,
+/// Marks by number, from 0: each stands `step` behind the one before.
+#[derive(Clone, Copy)]
+pub struct Row {
+    /// What each says in front of its number, if it says anything.
+    word: Option<&'static str>,
+    /// The offsets of number 0.
+    start: u32,
+    end: u32,
+    step: u16,
+}
+
+impl Row {
+    /// Marks that say a word and their number.
+    pub fn said(word: &'static str, start: u32, end: u32, step: u16) -> Row {
+        Row {
+            word: Some(word),
+            start,
+            end,
+            step,
+        }
+    }
+
+    /// Marks that say nothing.
+    pub fn silent(start: u32, end: u32, step: u16) -> Row {
+        Row {
+            word: None,
+            start,
+            end,
+            step,
+        }
+    }
+
+    /// The mark of a number.
+    pub fn mark(&self, alloc: Global, number: u16) -> Result<Mark, AllocError> {
+        let behind = usize::from(self.step) * usize::from(number);
+        Ok(Mark {
+            start: self.start as usize + behind,
+            end: self.end as usize + behind,
+            message: numbered(alloc, self.word, number)?,
+        })
+    }
+}
+
+/// This word and a number, where there is a word.
+fn numbered(
+    alloc: Global,
+    word: Option<&'static str>,
+    number: u16,
+) -> Result<Option<String>, AllocError> {
+    match word {
+        Some(word) => Ok(Some(format!(in alloc; "{word}{number}")?)),
+        None => Ok(None),
     }
 }
 
@@ -42,34 +89,87 @@ pub struct Job {
 }
 
 impl Job {
-    /// A job without colours, whose offsets count characters.
-    pub fn plain(text: String, message: &'static str, marks: Vec<Mark>) -> Job {
+    /// A job without marks and colours, whose offsets count characters.
+    pub fn new(alloc: Global, message: &'static str, text: String) -> Job {
         Job {
             text,
             message,
-            marks,
+            marks: Vec::new(alloc),
             is_colored: false,
             in_bytes: false,
         }
     }
 
-    /// The same, with offsets that count bytes.
-    pub fn by_bytes(text: String, message: &'static str, marks: Vec<Mark>) -> Job {
-        Job {
-            in_bytes: true,
-            ..Job::plain(text, message, marks)
-        }
+    /// A job over the first marks of a row.
+    pub fn of_row(
+        alloc: Global,
+        message: &'static str,
+        text: String,
+        count: u16,
+        row: Row,
+    ) -> Result<Job, AllocError> {
+        let mut job = Job::new(alloc, message, text);
+        job.add(alloc, count, row)?;
+        Ok(job)
     }
 
-    /// A job with one mark.
-    pub fn with_one(
+    /// The same, in a text of so many numbered lines.
+    pub fn in_lines(
         alloc: Global,
-        text: String,
         message: &'static str,
-        mark: Mark,
+        lines: u32,
+        count: u16,
+        row: Row,
     ) -> Result<Job, AllocError> {
-        let mut marks = Vec::new(alloc);
-        marks.push(mark)?;
-        Ok(Job::plain(text, message, marks))
+        Job::of_row(alloc, message, narrow(alloc, lines)?, count, row)
+    }
+
+    /// Adds a mark with a message.
+    pub fn say(
+        &mut self,
+        alloc: Global,
+        start: usize,
+        end: usize,
+        message: &str,
+    ) -> Result<(), AllocError> {
+        self.marks
+            .push(said(start, end, String::from_str(alloc, message)?))?;
+        Ok(())
+    }
+
+    /// Adds the first marks of a row.
+    pub fn add(&mut self, alloc: Global, count: u16, row: Row) -> Result<(), AllocError> {
+        for number in 0..count {
+            self.marks.push(row.mark(alloc, number)?)?;
+        }
+        Ok(())
+    }
+
+    /// The same, from the last of them to number 0.
+    pub fn add_falling(&mut self, alloc: Global, count: u16, row: Row) -> Result<(), AllocError> {
+        for turn in 0..count {
+            self.marks.push(row.mark(alloc, count - 1 - turn)?)?;
+        }
+        Ok(())
+    }
+
+    /// Adds marks over several lines of 50 characters, of which each lies inside the next. The first
+    /// ends in the line of number `last`.
+    pub fn add_nested(
+        &mut self,
+        alloc: Global,
+        count: u16,
+        last: u32,
+        word: Option<&'static str>,
+    ) -> Result<(), AllocError> {
+        for turn in 0..count {
+            let first = count - 1 - turn;
+            self.marks.push(Mark {
+                start: 50 * usize::from(first) + 4,
+                end: 50 * (last as usize + usize::from(turn)) + 48,
+                message: numbered(alloc, word, first)?,
+            })?;
+        }
+        Ok(())
     }
 }

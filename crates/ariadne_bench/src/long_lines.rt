@@ -1,15 +1,15 @@
 //! What the workloads draw that have a long line.
 
-use crate::job::{Job, said, silent};
+use crate::job::{Job, Row};
 use crate::order::LongLine;
 use crate::texts::narrow;
 use std::alloc::{AllocError, Global};
 
 /// The bytes of a long line of two characters in turn of two bytes and of one, with its line feed.
-const HEADER_LINE_LEN: usize = 150_001;
+const HEADER_LINE_LEN: u32 = 150_001;
 
 /// The characters of a word with many blanks behind it, and its line feed.
-const TRAILING_LINE_LEN: usize = 100_005;
+const TRAILING_LINE_LEN: u32 = 100_005;
 
 /// The job of a report over a source that has a long line.
 pub fn job(alloc: Global, line: LongLine, number: u16) -> Result<Job, AllocError> {
@@ -25,55 +25,55 @@ pub fn job(alloc: Global, line: LongLine, number: u16) -> Result<Job, AllocError
 /// The report's own span near the end of a long line, and below that line a group for each label,
 /// from the last to the first.
 fn header(alloc: Global, count: u16) -> Result<Job, AllocError> {
-    let mut text = "\u{e9}b".repeat(alloc, 50_000)?;
-    text.push('\n')?;
-    text.push_str(narrow(alloc, u32::from(count))?.as_str())?;
-    let mut marks = Vec::new(alloc);
-    marks.push(silent(HEADER_LINE_LEN - 7, HEADER_LINE_LEN - 4))?;
-    for number in (0..count).rev() {
-        let start = HEADER_LINE_LEN + 50 * usize::from(number);
-        marks.push(said(start + 14, start + 19, format!(in alloc; "m{number}")?))?;
-    }
-    Ok(Job::by_bytes(text, "byteheader", marks))
+    let mut job = Job::new(alloc, "byteheader", "\u{e9}b".repeat(alloc, 50_000)?);
+    job.text.push('\n')?;
+    job.text
+        .push_str(narrow(alloc, u32::from(count))?.as_str())?;
+    job.add(
+        alloc,
+        1,
+        Row::silent(HEADER_LINE_LEN - 7, HEADER_LINE_LEN - 4, 0),
+    )?;
+    let below = Row::said("m", HEADER_LINE_LEN + 14, HEADER_LINE_LEN + 19, 50);
+    job.add_falling(alloc, count, below)?;
+    job.in_bytes = true;
+    Ok(job)
 }
 
 /// Words of ten bytes and nine characters, with a label each. The first one has a message.
 fn bytes(alloc: Global, count: u16) -> Result<Job, AllocError> {
-    let mut marks = Vec::new(alloc);
-    marks.push(said(2, 5, String::from_str(alloc, "first")?))?;
-    for number in 1..count {
-        let start = 10 * usize::from(number);
-        marks.push(silent(start + 2, start + 5))?;
-    }
     let text = "\u{e9}bcdefg ,".repeat(alloc, usize::from(count))?;
-    Ok(Job::by_bytes(text, "bytesilent", marks))
+    let mut job = Job::new(alloc, "bytesilent", text);
+    job.say(alloc, 2, 5, "first")?;
+    job.add(alloc, count.saturating_sub(1), Row::silent(12, 15, 10))?;
+    job.in_bytes = true;
+    Ok(job)
 }
 
 /// A line with 100,000 blanks behind its word, and a line below it: labels in one and the other.
 fn trailing(alloc: Global, count: u16) -> Result<Job, AllocError> {
-    let mut text = String::from_str(alloc, "word")?;
-    text.push_str(" ".repeat(alloc, 100_000)?.as_str())?;
-    text.push_str("\nnext\n")?;
-    let mut marks = Vec::new(alloc);
+    let mut job = Job::new(alloc, "trailing", String::from_str(alloc, "word")?);
+    job.text.push_str(" ".repeat(alloc, 100_000)?.as_str())?;
+    job.text.push_str("\nnext\n")?;
     for number in 0..count {
-        let start = if number % 2 == 0 {
-            TRAILING_LINE_LEN
-        } else {
-            0
-        };
-        marks.push(said(start, start + 4, format!(in alloc; "m{number}")?))?;
+        job.marks.push(trailing_row(number).mark(alloc, number)?)?;
     }
-    Ok(Job::plain(text, "trailing", marks))
+    Ok(job)
+}
+
+/// The mark of a number in that text: in the line below, or in the long one.
+fn trailing_row(number: u16) -> Row {
+    if number % 2 == 0 {
+        Row::said("m", TRAILING_LINE_LEN, TRAILING_LINE_LEN + 4, 0)
+    } else {
+        Row::said("m", 0, 4, 0)
+    }
 }
 
 /// A line of so many characters, two in turn, and a label near its end.
 fn at_end(alloc: Global, two: &str, message: &'static str, count: u16) -> Result<Job, AllocError> {
     let len = usize::from(count);
-    let text = two.repeat(alloc, len / 2)?;
-    let end = said(
-        len.saturating_sub(8),
-        len.saturating_sub(2),
-        String::from_str(alloc, "end")?,
-    );
-    Job::with_one(alloc, text, message, end)
+    let mut job = Job::new(alloc, message, two.repeat(alloc, len / 2)?);
+    job.say(alloc, len.saturating_sub(8), len.saturating_sub(2), "end")?;
+    Ok(job)
 }

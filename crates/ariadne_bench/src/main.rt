@@ -2,8 +2,9 @@
 //! `NAME N BYTES CHECKSUM NANOSECONDS`.
 //!
 //! BYTES are those of its text, or of its picture, CHECKSUM is that of the last result, and
-//! NANOSECONDS are those of all N rounds, without what is made before them. `--check NAME...` runs
-//! each workload once and leaves the time out, so that its lines are the same in every run.
+//! NANOSECONDS are those of all N rounds, without what is made before them. `--check NAME...` prints
+//! the picture of `two` to both streams, which no contract says anything of. Then it runs each
+//! workload once and leaves the time out, so that its lines are the same in every run.
 #![tactic(auto)]
 
 mod checksum;
@@ -165,13 +166,29 @@ fn check(rt: &(impl Print + AllocGlobal + Clock), names: &[String]) -> io::Resul
     Ok(true)
 }
 
+/// Prints the picture of `two` by the calls that print: to standard output, and to standard error.
+fn print_two(rt: &HostRuntime) -> io::Result<()> {
+    let job = jobs::job(rt.alloc(), Shape::Two, 2)?;
+    let report = pictures::report_of(rt.alloc(), &job)?;
+    let mut source = Source::from(rt.alloc(), job.text)?;
+    report.print(&mut source, rt)?;
+    report.eprint(&mut source, rt.stderr())?;
+    Ok(())
+}
+
+/// Prints a picture to both streams, and runs workloads as `check` does.
+fn print_and_check(rt: &HostRuntime, names: &[String]) -> io::Result<bool> {
+    print_two(rt)?;
+    check(rt, names)
+}
+
 fn main(rt: HostRuntime) -> io::Result<ExitCode> {
     let mut words = Vec::new(rt.alloc());
     for word in env::args(&rt)?.skip(1) {
         words.push(word)?;
     }
     let is_taken = match words.split_first() {
-        Some((first, names)) if first.as_str() == "--check" => check(&rt, names)?,
+        Some((first, names)) if first.as_str() == "--check" => print_and_check(&rt, names)?,
         _ => run_words(&rt, &words)?,
     };
     if is_taken {

@@ -1,22 +1,28 @@
 //! What the workloads draw that have many labels on one line, or many groups or lines of them.
 
-use crate::job::{Job, Mark, said, silent};
+use crate::job::{Job, Row, said};
 use crate::order::ManyLabels;
 use crate::texts::{narrow, words};
 use std::alloc::{AllocError, Global};
 
 /// The lines of a text that has labels without message in each.
-const SILENT_LINES: u32 = 40;
+const SILENT_LINES: u8 = 40;
 
 /// The job of a report with many labels over one source.
 pub fn job(alloc: Global, labels: ManyLabels, number: u16) -> Result<Job, AllocError> {
+    let count = u32::from(number);
     match labels {
         ManyLabels::Under => under(alloc, number),
         ManyLabels::SilentLines => silent_lines(alloc, number),
         ManyLabels::SilentWide => silent_wide(alloc, number),
-        ManyLabels::OneCharacter => one_character(alloc, number),
+        ManyLabels::OneCharacter => {
+            Job::in_lines(alloc, "onechar", 1, number, Row::said("m", 14, 15, 0))
+        }
         ManyLabels::Falling => falling(alloc, number),
-        ManyLabels::CrossingInLine => crossing_in_line(alloc, number),
+        ManyLabels::CrossingInLine => {
+            let row = Row::said("c", 0, 10 * count + 7, 10);
+            Job::of_row(alloc, "linecross", words(alloc, 2 * count)?, number, row)
+        }
         ManyLabels::LongMessages => long_messages(alloc, number),
         ManyLabels::Empty => empty(alloc, number),
         ManyLabels::LeftOut => left_out(alloc, number),
@@ -25,118 +31,70 @@ pub fn job(alloc: Global, labels: ManyLabels, number: u16) -> Result<Job, AllocE
 
 /// Labels with a message on every second line, and over these lines as many nested ones without.
 fn under(alloc: Global, count: u16) -> Result<Job, AllocError> {
-    let lines = usize::from(count);
-    let mut marks = Vec::new(alloc);
-    for number in 0..count {
-        let start = 50 * (lines + 2 * usize::from(number));
-        marks.push(said(start + 14, start + 19, format!(in alloc; "u{number}")?))?;
-    }
-    for turn in 0..count {
-        let first = usize::from(count - 1 - turn);
-        let last = 3 * lines + usize::from(turn);
-        marks.push(silent(50 * first + 4, 50 * last + 48))?;
-    }
-    Ok(Job::plain(narrow(alloc, 4 * u32::from(count))?, "under", marks))
+    let lines = u32::from(count);
+    let row = Row::said("u", 50 * lines + 14, 50 * lines + 19, 100);
+    let mut job = Job::in_lines(alloc, "under", 4 * lines, count, row)?;
+    job.add_nested(alloc, count, 3 * lines, None)?;
+    Ok(job)
 }
 
-/// Adds labels over words side by side in a line that starts at this offset: one with a message,
-/// and behind it so many without.
-fn push_line(
-    alloc: Global,
-    marks: &mut Vec<Mark>,
-    offset: u32,
-    count: u16,
-) -> Result<(), AllocError> {
-    let first = offset as usize;
-    marks.push(said(first, first + 7, String::from_str(alloc, "first")?))?;
-    for number in 0..count {
-        let start = first + 10 * (usize::from(number) + 1);
-        marks.push(silent(start, start + 7))?;
-    }
-    Ok(())
+/// Adds labels over words side by side, in one of several equal lines: one with a message, and
+/// behind it so many without.
+fn add_line(job: &mut Job, alloc: Global, line: u8, count: u16) -> Result<(), AllocError> {
+    let offset = u32::from(line) * (10 * (u32::from(count) + 1) + 1);
+    job.say(alloc, offset as usize, offset as usize + 7, "first")?;
+    job.add(alloc, count, Row::silent(offset + 10, offset + 17, 10))
 }
 
 /// Lines with labels side by side, of which the first of each has a message.
 fn silent_lines(alloc: Global, count: u16) -> Result<Job, AllocError> {
     let mut line = words(alloc, u32::from(count) + 1)?;
     line.push('\n')?;
-    let mut marks = Vec::new(alloc);
+    let text = line.as_str().repeat(alloc, usize::from(SILENT_LINES))?;
+    let mut job = Job::new(alloc, "silentlines", text);
     for number in 0..SILENT_LINES {
-        let offset = number * (10 * (u32::from(count) + 1) + 1);
-        push_line(alloc, &mut marks, offset, count)?;
+        add_line(&mut job, alloc, number, count)?;
     }
-    let text = line.as_str().repeat(alloc, SILENT_LINES as usize)?;
-    Ok(Job::plain(text, "silentlines", marks))
+    Ok(job)
 }
 
 /// One such line.
 fn silent_wide(alloc: Global, count: u16) -> Result<Job, AllocError> {
-    let mut marks = Vec::new(alloc);
-    push_line(alloc, &mut marks, 0, count)?;
-    Ok(Job::plain(words(alloc, u32::from(count) + 1)?, "silentwide", marks))
-}
-
-/// Labels over one character.
-fn one_character(alloc: Global, count: u16) -> Result<Job, AllocError> {
-    let mut marks = Vec::new(alloc);
-    for number in 0..count {
-        marks.push(said(14, 15, format!(in alloc; "m{number}")?))?;
-    }
-    Ok(Job::plain(narrow(alloc, 1)?, "onechar", marks))
+    let mut job = Job::new(alloc, "silentwide", words(alloc, u32::from(count) + 1)?);
+    add_line(&mut job, alloc, 0, count)?;
+    Ok(job)
 }
 
 /// A label on each line, from the last line to the first.
 fn falling(alloc: Global, count: u16) -> Result<Job, AllocError> {
-    let mut marks = Vec::new(alloc);
-    for number in (0..count).rev() {
-        let start = 50 * usize::from(number);
-        marks.push(said(start + 14, start + 19, format!(in alloc; "m{number}")?))?;
-    }
-    Ok(Job::plain(narrow(alloc, u32::from(count))?, "falling", marks))
-}
-
-/// Labels in one line, each over half of its words and starting one word behind the one before.
-fn crossing_in_line(alloc: Global, count: u16) -> Result<Job, AllocError> {
-    let mut marks = Vec::new(alloc);
-    for number in 0..count {
-        let start = 10 * usize::from(number);
-        let end = start + 10 * usize::from(count) + 7;
-        marks.push(said(start, end, format!(in alloc; "c{number}")?))?;
-    }
-    Ok(Job::plain(words(alloc, 2 * u32::from(count))?, "linecross", marks))
+    let mut job = Job::new(alloc, "falling", narrow(alloc, u32::from(count))?);
+    job.add_falling(alloc, count, Row::said("m", 14, 19, 50))?;
+    Ok(job)
 }
 
 /// A label with a message of 9,000 characters on each line.
 fn long_messages(alloc: Global, count: u16) -> Result<Job, AllocError> {
-    let mut marks = Vec::new(alloc);
+    let mut job = Job::new(alloc, "longmsg", narrow(alloc, u32::from(count))?);
     for number in 0..count {
         let start = 50 * usize::from(number);
-        let message = format!(in alloc; "{number:08} ")?
-            .as_str()
-            .repeat(alloc, 1000)?;
-        marks.push(said(start + 14, start + 19, message))?;
+        let piece = format!(in alloc; "{number:08} ")?;
+        let message = piece.as_str().repeat(alloc, 1000)?;
+        job.marks.push(said(start + 14, start + 19, message))?;
     }
-    Ok(Job::plain(narrow(alloc, u32::from(count))?, "longmsg", marks))
+    Ok(job)
 }
 
 /// An empty label at each place of a line.
 fn empty(alloc: Global, count: u16) -> Result<Job, AllocError> {
-    let mut marks = Vec::new(alloc);
-    for number in 0..count {
-        let place = usize::from(number);
-        marks.push(said(place, place, format!(in alloc; "z{number}")?))?;
-    }
     let mut text = "x".repeat(alloc, usize::from(count))?;
     text.push('\n')?;
-    Ok(Job::plain(text, "zeroline", marks))
+    Job::of_row(alloc, "zeroline", text, count, Row::said("z", 0, 0, 1))
 }
 
 /// A label that is drawn, and labels past the text.
 fn left_out(alloc: Global, count: u16) -> Result<Job, AllocError> {
-    let mut marks = Vec::new(alloc);
-    marks.push(said(14, 19, String::from_str(alloc, "m")?))?;
-    for number in 0..count {
-        marks.push(said(1000, 1001, format!(in alloc; "x{number}")?))?;
-    }
-    Ok(Job::plain(narrow(alloc, 1)?, "leftout", marks))
+    let mut job = Job::new(alloc, "leftout", narrow(alloc, 1)?);
+    job.say(alloc, 14, 19, "m")?;
+    job.add(alloc, count, Row::said("x", 1000, 1001, 0))?;
+    Ok(job)
 }

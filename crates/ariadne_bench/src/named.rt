@@ -2,7 +2,7 @@
 
 use crate::order::Named;
 use crate::pictures::plain;
-use crate::texts::line;
+use crate::texts::push_line;
 use ariadne::{Label, Report, ReportKind, SourceMap, sources};
 use std::alloc::{AllocError, Global};
 use std::ops::Range;
@@ -67,8 +67,9 @@ pub fn texts(
 ) -> Result<SourceMap<String, String>, AllocError> {
     let mut texts = Vec::new(alloc);
     for number in 0..count_of(named, labels) {
-        let name = name_of(alloc, named, number)?;
-        texts.push((name, line(alloc, u32::from(number))?))?;
+        let mut text = String::new(alloc);
+        push_line(&mut text, u32::from(number))?;
+        texts.push((name_of(alloc, named, number)?, text))?;
     }
     sources(alloc, texts)
 }

@@ -100,7 +100,7 @@ pub enum Kind {
 }
 
 /// The workloads whose names end in no number, each with its number.
-static NAMED: [(&str, Kind, u16); 10] = [
+const NAMED: &[(&str, Kind, u16)] = &[
     ("index", Kind::Index, 0),
     ("index-bytes", Kind::IndexBytes, 0),
     ("two", Kind::Drawn(Shape::Two), 2),
@@ -114,7 +114,7 @@ static NAMED: [(&str, Kind, u16); 10] = [
 ];
 
 /// What the names of the others begin with, before their number.
-static NUMBERED: [(&str, Kind); 25] = [
+const NUMBERED: &[(&str, Kind)] = &[
     ("nested-x", Kind::Drawn(Shape::Nested)),
     ("wide-", Kind::Drawn(Shape::Wide)),
     ("tabbed-", Kind::Drawn(Shape::Tabbed)),
@@ -153,7 +153,7 @@ pub struct Workload {
 impl Workload {
     /// The workload of a name, as `two-colour` or `wide-25`.
     fn from_name(name: &str) -> Option<Workload> {
-        for (known, kind, number) in NAMED.iter() {
+        for (known, kind, number) in NAMED {
             if *known == name {
                 return Some(Workload {
                     kind: *kind,
@@ -166,16 +166,22 @@ impl Workload {
 
     /// The workload of a name that ends in a number.
     fn from_numbered_name(name: &str) -> Option<Workload> {
-        for (start, kind) in NUMBERED.iter() {
-            if let Some(number) = name.strip_prefix(*start) {
-                return Some(Workload {
-                    kind: *kind,
-                    number: number.parse().ok()?,
-                });
-            }
-        }
-        None
+        let (kind, number) = kind_and_number(name)?;
+        Some(Workload {
+            kind,
+            number: number.parse().ok()?,
+        })
     }
+}
+
+/// What a name says that ends in a number: what is measured, and the digits.
+fn kind_and_number(name: &str) -> Option<(Kind, &str)> {
+    for (start, kind) in NUMBERED {
+        if let Some(number) = name.strip_prefix(*start) {
+            return Some((*kind, number));
+        }
+    }
+    None
 }
 
 /// A workload, run at least once.

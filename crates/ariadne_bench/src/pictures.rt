@@ -19,23 +19,18 @@ fn span_of(mark: &Mark) -> Range<usize>
     mark.start..mark.end.max(mark.start)
 }
 
-/// The label of a mark, in the colour of its number.
-fn label_of(
-    alloc: Global,
-    mark: &Mark,
-    number: usize,
-    is_colored: bool,
-) -> Result<Label, AllocError> {
-    let span = span_of(mark);
-    let label = match &mark.message {
-        Some(message) => Label::new(span).with_message(alloc, message.as_str())?,
-        None => Label::new(span),
-    };
-    if is_colored {
-        Ok(label.with_color(Color::Fixed(FIRST_COLOR + (number % 200) as u8)))
-    } else {
-        Ok(label)
+/// The label of a mark.
+fn label_of(alloc: Global, mark: &Mark) -> Result<Label, AllocError> {
+    let label = Label::new(span_of(mark));
+    match &mark.message {
+        Some(message) => label.with_message(alloc, message.as_str()),
+        None => Ok(label),
     }
+}
+
+/// A label in the colour of its number.
+fn colored(label: Label, number: usize) -> Label {
+    label.with_color(Color::Fixed(FIRST_COLOR + (number % 200) as u8))
 }
 
 /// Without colours, and with ASCII alone.
@@ -66,7 +61,12 @@ pub fn report_of(alloc: Global, job: &Job) -> Result<Report<'static>, AllocError
         .with_config(config_of(job))
         .with_message(job.message)?;
     for (number, mark) in job.marks.iter().enumerate() {
-        report.add_label(label_of(alloc, mark, number, job.is_colored)?)?;
+        let label = label_of(alloc, mark)?;
+        report.add_label(if job.is_colored {
+            colored(label, number)
+        } else {
+            label
+        })?;
     }
     Ok(report.finish())
 }

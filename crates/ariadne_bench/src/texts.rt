@@ -8,37 +8,52 @@ pub const LARGE: u32 = 200_000;
 /// The characters of a line, its line feed among them.
 const LINE_LEN: usize = 50;
 
-/// Its bytes where every fifth character takes two or three.
-const WIDE_LINE_LEN: usize = 65;
+/// The characters that stand in a wide text in place of others, and where among ten.
+const WIDE: &[(usize, char)] = &[(0, '\u{e9}'), (5, '\u{6f22}')];
 
-/// The line of a number: 49 characters of a byte each, and LF.
-pub fn line(alloc: Global, number: u32) -> Result<String, AllocError> {
-    format!(in alloc; "let v{number:06} = alpha + beta * gamma - delta (eps);\n")
+/// Those of words with a tab, a wide character and a character without columns.
+const TABBED: &[(usize, char)] = &[(3, '\t'), (5, '\u{6f22}'), (8, '\u{301}')];
+
+/// Adds the line of a number: 49 characters of a byte each, and LF.
+pub fn push_line(text: &mut String, number: u32) -> Result<(), AllocError> {
+    write!(
+        text,
+        "let v{number:06} = alpha + beta * gamma - delta (eps);\n"
+    )
 }
 
 /// A text of so many numbered lines.
 pub fn narrow(alloc: Global, lines: u32) -> Result<String, AllocError> {
     let mut text = String::with_capacity(alloc, LINE_LEN * lines as usize)?;
     for number in 0..lines {
-        text.push_str(line(alloc, number)?.as_str())?;
+        push_line(&mut text, number)?;
     }
     Ok(text)
 }
 
-/// The same with two bytes for every tenth character, from the first of a line, and three bytes for
-/// the characters midway between them.
-pub fn wide(alloc: Global, lines: u32) -> Result<String, AllocError> {
-    let mut text = String::with_capacity(alloc, WIDE_LINE_LEN * lines as usize)?;
-    for number in 0..lines {
-        for (place, c) in line(alloc, number)?.as_str().chars().enumerate() {
-            text.push(match place % 10 {
-                0 => '\u{e9}',
-                5 => '\u{6f22}',
-                _ => c,
-            })?;
+/// A text with other characters in place of some of each ten.
+fn replaced(alloc: Global, text: &str, others: &[(usize, char)]) -> Result<String, AllocError> {
+    let mut new = String::with_capacity(alloc, text.len())?;
+    for (place, c) in text.chars().enumerate() {
+        new.push(other_at(others, place % 10).unwrap_or(c))?;
+    }
+    Ok(new)
+}
+
+/// The character that stands at a place of ten.
+fn other_at(others: &[(usize, char)], place: usize) -> Option<char> {
+    for (at, other) in others {
+        if *at == place {
+            return Some(*other);
         }
     }
-    Ok(text)
+    None
+}
+
+/// A text of so many numbered lines with two bytes for every tenth character, from the first of a
+/// line, and three bytes for the characters midway between them.
+pub fn wide(alloc: Global, lines: u32) -> Result<String, AllocError> {
+    replaced(alloc, narrow(alloc, lines)?.as_str(), WIDE)
 }
 
 /// One line of so many numbered words of ten characters each.
@@ -52,14 +67,5 @@ pub fn words(alloc: Global, count: u32) -> Result<String, AllocError> {
 
 /// The same with a tab, a wide character and a character without columns in each word.
 pub fn tabbed_words(alloc: Global, count: u32) -> Result<String, AllocError> {
-    let mut text = String::new(alloc);
-    for (place, c) in words(alloc, count)?.as_str().chars().enumerate() {
-        text.push(match place % 10 {
-            3 => '\t',
-            5 => '\u{6f22}',
-            8 => '\u{301}',
-            _ => c,
-        })?;
-    }
-    Ok(text)
+    replaced(alloc, words(alloc, count)?.as_str(), TABBED)
 }
