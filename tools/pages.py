@@ -21,6 +21,7 @@ GALLERY = ROOT / "docs/GALLERY.md"
 # A command, an empty line, and the picture that it draws, which all stand as far from the left.
 COMMAND = re.compile(r"^( +)(printf '(.*)' \| (\S+) (.*))\n\n((?:\1.*\n)+)", re.M)
 CODE = r"^```(?:{})\n(.*?)^```\n"
+INDENTED = re.compile(r"(?:^    .*\n)+", re.M)
 # A picture of the gallery: its name, the call that draws it, and its rows.
 PICTURE = re.compile(r"^\*\*(.*?)\*\*\n\n(?:```rust\n(.*?)\n```\n\n)?```text\n(.*?)\n```\n", re.S | re.M)
 
@@ -63,6 +64,17 @@ def codes_of(page, *languages):
 def code_of(page, language):
     """The first code of a page in a language, or None."""
     return next(iter(codes_of(page, language)), None)
+
+
+def indented_of(page):
+    """The indented blocks of a page: their rows."""
+    for found in INDENTED.finditer(page):
+        yield rows_of(re.sub("^    ", "", found[0], flags=re.M).rstrip("\n"))
+
+
+def is_run(rows, whole):
+    """Whether rows stand side by side among others."""
+    return any(whole[at : at + len(rows)] == rows for at in range(len(whole)))
 
 
 def dependency_of(page):

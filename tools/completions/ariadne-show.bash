@@ -7,9 +7,18 @@ _ariadne_show() {
     case $before in
         --format) words='auto rustc gcc lines report' ;;
         --columns) words='bytes chars display' ;;
+        --output) words='picture short github sarif' ;;
+        --severity) words='error warning note' ;;
         --color) words='auto always never' ;;
-        *) words='--format --columns --color --ascii --compact --short --help --version' ;;
+        --fail-on) words='error warning never' ;;
+        --base) COMPREPLY=($(compgen -d -- "$word")); return ;;
+        --max) return ;;
+        *)
+            words='--format --columns --base --output --severity --max --raw --color --ascii --compact --short
+                --fail-on --help --version'
+            [[ $word = -* ]] || { COMPREPLY=($(compgen -f -- "$word")); return; }
+            ;;
     esac
     COMPREPLY=($(compgen -W "$words" -- "$word"))
 }
-complete -F _ariadne_show ariadne-show
+complete -o filenames -F _ariadne_show ariadne-show
