@@ -273,6 +273,14 @@ is_current() {
     [ "${present:-$maker}" = "$maker" ] && [ -n "$whole" ] && [ "$(proved_checksum "$1" "$2")" = "$whole" ]
 }
 
+# has_libraries CRATE..: whether the libraries of these crates are there as tools/gate has left them, of
+# these sources.
+has_libraries() {
+    for crate; do
+        is_current "$crate" "crates/$crate/out/rlib" || return
+    done
+}
+
 # has_proved LINE CRATE WORD..: runs `rt` with the words in the crate's folder. Where it fails the script
 # ends with its last lines and this one.
 has_proved() {

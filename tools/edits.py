@@ -1,0 +1,152 @@
+"""Edits of a crate's code that the prover has to refuse, and copies of a crate in which they are made.
+
+An edit is a file in the form of crates/CRATE/must-fail, with one line more:
+
+    by: MODULE::TYPE::FUNCTION     the function whose proof refuses it, as the prover names it below the crate
+    file: src/lines.rt
+    old: column.saturating_add(1)  stands once in that file, in the body of this function or outside of all bodies
+    new: column
+
+A function is proved from its own body and from the contracts of what it calls. So a copy has the bodies of
+the functions alone that its edits name, and the proof of the others is not paid for.
+"""
+
+import re
+import shutil
+from typing import NamedTuple
+
+LINE = re.compile(r"^(by|file|old|new): ?(.*)$", re.M)
+FUNCTION = re.compile(r"^( *)(?:pub(?:\([a-z ]+\))? )?(?:const )?(?:unsafe )?fn (\w+)")
+LEFT_OUT = "unreachable!()"  # stands for a body that a copy doesn't have, whatever the function returns
+PARTS = ("src", "specs", "proofs")
+
+
+class BadEdit(ValueError):
+    """An edit that can't be made, which the words say why."""
+
+
+class Edit(NamedTuple):
+    """A wrong belief, the function that refuses it, and what it changes: a file, its text and a new one, each."""
+
+    name: str
+    by: str
+    pairs: tuple
+
+    def function(self):
+        """The name of the function alone."""
+        return self.by.rpartition("::")[2]
+
+
+def read_edit(name, text):
+    """The edit of this name and text. It may be cut short, which `made` tells."""
+    by, file, old, pairs = "", "", "", []
+    for word, rest in LINE.findall(text):
+        if word == "by":
+            by = rest
+        elif word == "file":
+            file = rest
+        elif word == "old":
+            old = rest
+        else:
+            pairs.append((file, old, rest))
+    return Edit(name, by, tuple(pairs))
+
+
+def edits_in(folder):
+    """The edits in a folder, by their names."""
+    return [read_edit(path.stem, path.read_text()) for path in sorted(folder.glob("*.edit"))]
+
+
+def sources(folder):
+    """The texts of a crate's code, by their paths in its folder."""
+    return {str(path.relative_to(folder)): path.read_text() for path in sorted((folder / "src").rglob("*.rt"))}
+
+
+def made(edit, texts):
+    """The texts with the edit made."""
+    texts, before = dict(texts), texts
+    for file, old, new in edit.pairs:
+        count = texts.get(file, "").count(old) if old else 0
+        if count != 1:
+            raise BadEdit(f"its text stands {count} times in {file or 'no file'}, and not once: {old}")
+        texts[file] = texts[file].replace(old, new)
+    if not edit.by or texts == before:
+        raise BadEdit("it names no function" if not edit.by else "it changes nothing")
+    return texts
+
+
+# ---- bodies
+
+
+def without_bodies(text, kept=()):
+    """A text in which the functions have no body but those with one of these names. (It has to be laid out as
+    `rt fmt` does: a body ends at the indentation of its function.)"""
+    lines, at, left = text.split("\n"), 0, []
+    while at < len(lines):
+        head = FUNCTION.match(lines[at])
+        opening, end = body_of(lines, at, head[1]) if head else (at, at)
+        if head and opening < end and head[2] not in kept:
+            left += [*lines[at : opening + 1], f"{head[1]}    {LEFT_OUT}", lines[end]]
+        else:
+            left += lines[at : end + 1]
+        at = end + 1
+    return "\n".join(left)
+
+
+def body_of(lines, at, indent):
+    """The lines in which the body of a function begins and ends, or twice its last where it has none, or an
+    empty one."""
+    for opening in range(at, len(lines)):
+        line = lines[opening]
+        is_outer = opening == at or re.match(rf"{indent}\S", line)
+        if is_outer and line.endswith("{"):
+            return opening, lines.index(indent + "}", opening)
+        if line.endswith(";") or is_outer and line.endswith("}"):
+            return opening, opening
+    return at, at
+
+
+def is_in_a_body(edit, texts):
+    """Whether the edit changes bodies alone."""
+    changed = made(edit, texts)
+    return all(without_bodies(changed[file]) == without_bodies(texts[file]) for file, _, _ in edit.pairs)
+
+
+# ---- copies
+
+
+def copies_of(edits, texts):
+    """The edits of a crate, as lists whose edits one copy can have: each is refused by another function. What
+    is no body may be read by any function, so an edit of that has a copy of its own."""
+    shared, single = [], []
+    for edit in edits:
+        if not is_in_a_body(edit, texts):
+            single.append([edit])
+            continue
+        copy = next((it for it in shared if all(other.function() != edit.function() for other in it)), None)
+        if copy is None:
+            shared.append([edit])
+        else:
+            copy.append(edit)
+    return shared + single
+
+
+def copied(edits, texts, are_made=True):
+    """The texts of a copy that has these edits, of which each has to be seen there, or of the copy without them."""
+    kept = {edit.function() for edit in edits}
+    for edit in edits:
+        changed = made(edit, texts)
+        if all(without_bodies(changed[file], kept) == without_bodies(texts[file], kept) for file in texts):
+            raise BadEdit(f"it stands in the body of another function than {edit.by}")
+    for edit in edits if are_made else []:
+        texts = made(edit, texts)
+    return {file: without_bodies(text, kept) for file, text in texts.items()}
+
+
+def copy_crate(folder, place, texts):
+    """Makes the copy of a crate with these texts of its code."""
+    for part in PARTS:
+        if (folder / part).is_dir():
+            shutil.copytree(folder / part, place / part)
+    for file, text in texts.items():
+        (place / file).write_text(text)
