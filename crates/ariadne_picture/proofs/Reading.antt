@@ -23,6 +23,7 @@ pub mod WholeBlocks
 pub mod LabelTraces
 pub mod OtherStrokes
 pub mod ColoredStrokes
+pub mod LoneMarks
 pub mod ColoredLabels
 pub mod DrawnReports
 pub mod EveryReport

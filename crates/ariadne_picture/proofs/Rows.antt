@@ -1,5 +1,6 @@
 -- The rows of a group, by their names.
 pub mod RowOrder
+pub mod LoneRows
 pub mod BarCases
 pub mod GutterLabelRows
 pub mod RowsThere

@@ -2,6 +2,7 @@
 pub mod Unfold
 pub mod Sample
 mod InlinePictures
+mod LonePictures
 mod ColumnPictures
 mod GroupPictures
 mod LongLabelPictures
@@ -19,6 +20,7 @@ mod WrongPlacings
 mod StrayStrokes
 mod StrayGutterStrokes
 mod WrongColors
+mod WrongLonePictures
 mod TwoReadings
 mod OddReports
 pub mod Premises

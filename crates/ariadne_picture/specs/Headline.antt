@@ -2,7 +2,7 @@
 -- the accepted labels. On it each accepted message has one row of its own, and strokes lead from it
 -- to the label's attach character or gutter column, in the columns where the source row shows them.
 -- In the text below a line and in the gutter no stroke stands elsewhere, and strokes have the colours
--- of their labels.
+-- of their labels. Where that is asked for, lines whose labels have no message are underlined.
 -- All of this is read in one way, but that the messages of twins may change places. And it can be read
 -- back: the rows, with the sources and the switches alone, tell where each message's strokes lead to.
 -- A cell takes the columns of its text, and the rows are the lines that are sent. Colours move nothing,
@@ -21,6 +21,7 @@ use Rattle.ariadne_picture.specs.Blocks.{has_whole_blocks}
 use Rattle.ariadne_picture.specs.Causes.{has_no_other_strokes}
 use Rattle.ariadne_picture.specs.GutterCauses.{has_no_other_gutter_strokes}
 use Rattle.ariadne_picture.specs.LabelColors.{label_color, has_label_colors}
+use Rattle.ariadne_picture.specs.LoneLines.{has_lone_underlines}
 use Rattle.ariadne_picture.specs.ReadBack.{HaveShortNumbers, IsReadBack}
 use Rattle.ariadne_picture.specs.Readings.{AgreeOnStrokes}
 use Rattle.ariadne_picture.specs.Variants.{HaveNoEscapes, ColorsMoveNothing}
@@ -45,12 +46,14 @@ pub record IsReadBy (rows : List (List Cell)) (groups : List Section) (message_o
   pub nor_in_the_gutter : has_no_other_gutter_strokes rows groups placing ≡ true
 
 -- they can be read: there are such row numbers, under which the strokes of each label, which has
--- colour color_at k where its position is k, have its colour
+-- colour color_at k where its position is k, have its colour, and so do the underlines of lines whose
+-- labels have no message
 pub record IsTraced (rows : List (List Cell)) (groups : List Section) (message_of : ℕ → List ℕ)
     (color_at : ℕ → Option Color) : Type 0 where
   pub placing : Placing
   pub reads : IsReadBy rows groups message_of placing
   pub strokes_have_the_colors_of_their_labels : has_label_colors rows groups placing color_at ≡ true
+  pub lines_without_messages_are_underlined : has_lone_underlines rows groups placing color_at ≡ true
 
 -- they are read in one way: row numbers that they are read by agree on source rows, on heads and on
 -- messages

@@ -18,6 +18,7 @@ pub mod Blocks
 pub mod Causes
 pub mod GutterCauses
 pub mod LabelColors
+pub mod LoneLines
 pub mod Readings
 pub mod ReadBack
 pub mod Variants

@@ -18,6 +18,7 @@ pub record ConfigFields : Type 0 where
   pub label_attach : LabelAttach
   pub compact : Bool
   pub underlines : Bool
+  pub lone_underlines : Bool
   pub multiline_arrows : Bool
   pub color : Bool
   pub tab_width : ℕ
@@ -31,6 +32,7 @@ default_config = record {
   label_attach = Middle;
   compact = false;
   underlines = true;
+  lone_underlines = false;
   multiline_arrows = true;
   color = true;
   tab_width = 4;
@@ -108,6 +110,7 @@ switches_of config = record {
   cross_gap = config.cross_gap;
   compact = config.compact;
   underlines = config.underlines;
+  lone_underlines = config.lone_underlines;
   multiline_arrows = config.multiline_arrows;
   tab_width = config.tab_width;
   char_set = config.char_set;

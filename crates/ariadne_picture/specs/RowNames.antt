@@ -6,7 +6,7 @@ use Rattle.ariadne_picture.specs.declared.label_info.LineLabel.{LineLabel}
 use Rattle.ariadne_picture.specs.Groups.{group_start_line, group_end_line}
 use Rattle.ariadne_picture.specs.Ranks.{Sheet, line_labels, is_hidden}
 use Rattle.ariadne_picture.specs.Rows.{Aside, help, note, Row, group_header, spacer, source, alternate}
-use Rattle.ariadne_picture.specs.Rows.{arrow, gap, bare, blank, piece, tail, is_inside}
+use Rattle.ariadne_picture.specs.Rows.{arrow, gap, bare, blank, piece, tail, is_inside, is_lone}
 
 -- the texts of one kind
 abbrev pub asides_of : Aside → List (List ℕ) → List (List ℕ) → List (List ℕ)
@@ -30,6 +30,12 @@ pub record HasMessage (h : Sheet) (l r : ℕ) : Type 0 where
   pub there : slice_get (line_labels h l) r ≡ Some label
   pub message : label.info.has_message ≡ true
 
+-- line l has a row of underlines alone, and n, as many labels as it has, is its rank
+pub record HasUnderlines (h : Sheet) (l n : ℕ) : Type 0 where
+  pub line : HasLine h l
+  pub lone : is_lone h l ≡ true
+  pub behind : n ≡ length (line_labels h l)
+
 module _ (h : Sheet) (is_last : Bool) (helps notes : List (List ℕ)) where
   -- the group has help or note number k
   pub record HasAside (a : Aside) (k : ℕ) : Type 0 where
@@ -42,7 +48,7 @@ module _ (h : Sheet) (is_last : Bool) (helps notes : List (List ℕ)) where
   HasRow group_header = Unit {0}
   HasRow spacer = h.switches.compact ≡ false
   HasRow (source l) = HasLine h l × (is_hidden h l ≡ false)
-  HasRow (alternate l r) = (h.switches.compact ≡ false) × HasMessage h l r
+  HasRow (alternate l r) = ((h.switches.compact ≡ false) × HasMessage h l r) ⊎ HasUnderlines h l r
   HasRow (arrow l r) = HasMessage h l r
   HasRow (gap l) = BeginsHidden h l × (is_inside h l ≡ true)
   HasRow (bare l) = (h.switches.compact ≡ false) × BeginsHidden h l × (is_inside h l ≡ false)

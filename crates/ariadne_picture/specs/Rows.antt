@@ -1,6 +1,8 @@
 -- The rows of a group, each by a name, from top to bottom. A line with labels has a source row and,
 -- for each line label with a message, an alternate row (underlines and verticals) and an arrow row
--- (the arrow to the message). A run of lines without labels has one row in its place, or none.
+-- (the arrow to the message). A line whose labels have no message may have an alternate row behind
+-- all ranks, with their underlines alone. A run of lines without labels has one row in its place, or
+-- none.
 use Rattle.std.specs.Prelude.{ℕ, ◌+◌, ◌-◌, ◌*◌, Bool, not, ◌&&◌, nat_le, nat_lt}
 use Rattle.std.specs.Prelude.{if◌then◌else◌, List, [], ◌∷◌, ◌++◌, map, length}
 use Rattle.std.specs.List.{list_any, enumerate_from}
@@ -9,6 +11,7 @@ use Rattle.std.specs.Cmp.Lexicographic.{slice_cmp}
 use Rattle.std.specs.Str.Lines.{lines}
 use Rattle.ariadne_base.specs.Locations.{line_offset, upto}
 use Rattle.ariadne_picture.specs.declared.label_info.LineLabel.{LineLabel}
+use Rattle.ariadne_picture.specs.declared.switches.Switches.{Switches}
 use Rattle.ariadne_picture.specs.Lists.{joined}
 use Rattle.ariadne_picture.specs.Groups.{group_lines, group_start_line}
 use Rattle.ariadne_picture.specs.Ranks.{Sheet, is_hidden, line_labels, is_on_one_line}
@@ -68,6 +71,21 @@ label_rows compact l e =
     if e.1.info.has_message then (if compact then [] else alternate l e.0 ∷ []) ++ arrow l e.0 ∷ []
     else []
 
+-- these labels of a line have a row of underlines alone: one holds a character, and none has a message
+abbrev pub are_lone : Switches → List LineLabel → Bool
+are_lone switches labels =
+    switches.lone_underlines && switches.underlines && not switches.compact
+    && list_any (λ x. nat_lt x.info.start x.info.end) labels
+    && not (list_any (λ x. x.info.has_message) labels)
+
+-- so do those of line l
+unfoldable pub is_lone : Sheet → ℕ → Bool
+is_lone h l = are_lone h.switches (line_labels h l)
+
+-- that row, behind those of all ranks
+unfoldable pub lone_rows : Sheet → ℕ → List Row
+lone_rows h l = if is_lone h l then alternate l (length (line_labels h l)) ∷ [] else []
+
 -- whether the first character of line l lies inside a multi-line label
 unfoldable pub is_inside : Sheet → ℕ → Bool
 is_inside h l =
@@ -81,7 +99,8 @@ line_rows h l =
     (if nat_lt (group_start_line h.labels) l && is_hidden h (l - 1) then []
     else if is_inside h l then gap l ∷ []
     else if h.switches.compact then [] else bare l ∷ [])
-    else source l ∷ joined (label_rows h.switches.compact l) (enumerate_from 0 (line_labels h l))
+    else source l
+    ∷ joined (label_rows h.switches.compact l) (enumerate_from 0 (line_labels h l)) ++ lone_rows h l
 
 -- the rows of a help or a note
 unfoldable pub aside_rows : Bool → Aside → ℕ × List ℕ → List Row

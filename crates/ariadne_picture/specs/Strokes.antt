@@ -55,7 +55,8 @@ is_preferred a b =
     int_lt b.priority a.priority ||
     (not (int_lt a.priority b.priority) && nat_lt (span_len a) (span_len b))
 
--- the rank of the alternate row that has the underlines: the first that a line label has
+-- the rank of the alternate row that has the underlines: that of the first line label with a message,
+-- or where none has one the rank behind all
 abbrev pub underline_row : Layout → ℕ
 underline_row y = position_or_len (λ x. x.info.has_message) y.labels
 

@@ -26,6 +26,7 @@ ghost use Rattle.ariadne_picture.specs.Groups.{AreGroupsOf, group_start_line, gr
 ghost use Rattle.ariadne_picture.specs.Headline.{AreReadInOneWay, CanBeRead, IsReadBy, IsTraced};
 ghost use Rattle.ariadne_picture.specs.LabelColors.{has_label_colors, label_color};
 ghost use Rattle.ariadne_picture.specs.Lists.{best, in_order};
+ghost use Rattle.ariadne_picture.specs.LoneLines.{has_lone_underlines};
 ghost use Rattle.ariadne_picture.specs.Placing.{has_ends_of_gutter_traces, has_gutter_bars};
 ghost use Rattle.ariadne_picture.specs.Placing.{has_inline_traces, has_message_rows, is_aligned};
 ghost use Rattle.ariadne_picture.specs.Placing.{Placing, is_placing};
@@ -287,11 +288,23 @@ pub fn strokes_have_the_colors_of_their_labels<S, Id>()
         has_label_colors rows groups placing (label_color r)) }
 {}
 
+/// Where lines whose labels have no message are to be underlined, each has one row below it. This
+/// marks every place that a label within the line holds, in the colour of the one that is preferred
+/// there, and no other place.
+pub fn lone_lines_are_underlined<S, Id>()
+    ensures { (w : World S Id) (r : ReportFields S) (infos : List LabelInfo)
+        → AreAccepted w r infos → HaveOneSource w → AreForward w r
+        → let rows = canvas w r infos in let groups = sections w r infos in
+        CanBeRead rows groups (λ placing.
+        has_lone_underlines rows groups placing (label_color r)) }
+{}
+
 /// Every picture can be read, under one choice of row numbers for all of this. Its rows belong
 /// together. Each accepted message has a row of its own, and strokes lead from it to its label, in
 /// the columns where the source row shows them and in the label's colour. No stroke stands elsewhere.
-/// The premises hold of the labels that are drawn, wherever sources are looked up by their ids, and
-/// each label's start is at most its end.
+/// Where that is asked for, lines whose labels have no message are underlined. The premises hold of
+/// the labels that are drawn, wherever sources are looked up by their ids, and each label's start is
+/// at most its end.
 pub fn every_picture_can_be_read<S, Id>()
     ensures { (w : World S Id) (r : ReportFields S) (infos : List LabelInfo)
         → AreAccepted w r infos → HaveOneSource w → AreForward w r

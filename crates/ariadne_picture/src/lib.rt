@@ -22,6 +22,7 @@
 //! | `Blocks` | how many rows stand below a line |
 //! | `Causes` | that no stroke in the text is none of a label's |
 //! | `LabelColors` | that strokes have the colours of their labels |
+//! | `LoneLines` | that lines whose labels have no message are underlined |
 //! | `Readings` | what row numbers that a picture is read by agree on |
 //! | `Variants` | what moves nothing: colours, and what offsets count |
 //! | `Headline` | what a success of `write` means |

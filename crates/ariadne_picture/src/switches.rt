@@ -35,6 +35,7 @@ pub struct Switches {
     pub cross_gap: bool,
     pub compact: bool,
     pub underlines: bool,
+    pub lone_underlines: bool,
     pub multiline_arrows: bool,
     pub tab_width: usize,
     pub char_set: CharSet,

@@ -7,6 +7,7 @@ use Rattle.std.specs.List.{list_all, list_any, enumerate_from}
 use Rattle.std.proofs.lemmas.Bool.{cases_Bool, eq-eqb, eqb-true, ltb-true, leb-true, true≢false}
 use Rattle.std.proofs.lemmas.Option.{slice_get_within, slice_get-get_or}
 use Rattle.std.proofs.lemmas.List.{length-append}
+use Rattle.ariadne_picture.specs.Rows.{alternate}
 use Rattle.ariadne_picture.specs.declared.label_info.LabelInfo.{LabelInfo}
 use Rattle.ariadne_picture.specs.declared.label_info.LineLabel.{LineLabel}
 use Rattle.ariadne_picture.specs.declared.cell.Ink.{Ink}
@@ -23,7 +24,7 @@ use Rattle.ariadne_picture.specs.Placing.Together.{is_in_block, is_group_placed,
 use Rattle.ariadne_picture.specs.Placing.MessageRows.{is_message_row, are_block_ends, has_message_rows}
 use Rattle.ariadne_picture.proofs.Lists.ListFacts.{none≢some, all-at}
 use Rattle.ariadne_picture.proofs.Lists.Elements.{Has, has-filter}
-use Rattle.ariadne_picture.proofs.Rows.LineBlock.{IsBlockRow, block-rows-are}
+use Rattle.ariadne_picture.proofs.Rows.LineBlock.{IsBlockRow, IsLoneRow, block-kinds}
 use Rattle.ariadne_picture.proofs.Rows.RowNumbers.{at-back}
 use Rattle.ariadne_picture.proofs.Rows.RowOrder.{shown_rows}
 use Rattle.ariadne_picture.proofs.Rows.RowsThere.{range-at}
@@ -175,8 +176,17 @@ module _ (v : Picture) {g : ℕ} {s : Section} {l : ℕ} (h : IsShownLine v g s 
   pub row-end : (n : ℕ) → IsRowOf v h n → RowEnd v h n
   unfolding layout_of
   row-end n row =
-      let b = all-at (IsBlockRow s.sheet l) _ row.index row.name row.there (block-rows-are s.sheet l) in
-      subst (RowEnd v h) row.is (elim b.kind [
+      subst (RowEnd v h) row.is
+      (by-kind (all-at (λ y. IsBlockRow s.sheet l y ⊎ IsLoneRow s.sheet l y) _ row.index row.name row.there (block-kinds s.sheet l)))
+    where
+      alternate-end : (r : ℕ) → row.name ≡ alternate l r → RowEnd v h (number v g s row.name)
+      alternate-end r e =
+          let at = subst (RowAt v g s (rows_above v h + suc row.index)) e (block-row-is v h row.index row.name row.there) in
+          rw e (bare_end _ (places-end (alternate_inks s l r) (alternate-text v at)))
+
+      by-kind : IsBlockRow s.sheet l row.name ⊎ IsLoneRow s.sheet l row.name → RowEnd v h (number v g s row.name)
+      by-kind (inr b) = alternate-end _ b.1
+      by-kind (inl b) = elim b.kind [
         | inl e ↦
             let q = arrow-row v b.rank b.label h b.there b.message in
             rw e (elim (cases_Bool (is_start b.label.side)) [
@@ -184,10 +194,8 @@ module _ (v : Picture) {g : ℕ} {s : Section} {l : ℕ} (h : IsShownLine v g s 
                   bare_end _ (places-end (arrow_inks s l b.rank) (rw (message-hidden v.texts _ b.label q.there on) at (arrow-text v (arrow-at v q))))
               | inr off ↦ message-ends b.rank b.label q off
             ])
-        | inr e ↦
-            let at = subst (RowAt v g s (rows_above v h + suc row.index)) e.0 (block-row-is v h row.index row.name row.there) in
-            rw e.0 (bare_end _ (places-end (alternate_inks s l b.rank) (alternate-text v at)))
-      ])
+        | inr e ↦ alternate-end _ e.0
+      ]
 
 -- ---- row numbers that read a picture
 

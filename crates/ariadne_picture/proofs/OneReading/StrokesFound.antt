@@ -29,7 +29,7 @@ use Rattle.ariadne_picture.specs.Placing.GutterEnds.{is_end_traced, is_start_tra
 use Rattle.ariadne_picture.proofs.Lists.ListFacts.{all-weaker, all-at, Increasing}
 use Rattle.ariadne_picture.proofs.Lists.Elements.{Has}
 use Rattle.ariadne_picture.proofs.Labels.LabelsAtLine.{IsHere, apart, increasing-part, gutter-labels-owned}
-use Rattle.ariadne_picture.proofs.Rows.LineBlock.{IsBlockRow, block-rows-are}
+use Rattle.ariadne_picture.proofs.Rows.LineBlock.{IsBlockRow, IsLoneRow, block-kinds}
 use Rattle.ariadne_picture.proofs.Rows.RowOrder.{shown_rows}
 use Rattle.ariadne_picture.proofs.Cells.InkCells.{ink_cell}
 use Rattle.ariadne_picture.proofs.Reading.GutterCells.{gutter-cell, column-few}
@@ -161,9 +161,22 @@ module _ (v : Picture) {g : ℕ} {s : Section} {i : ℕ} {a : LabelInfo} (o : Is
       → ((l r : ℕ) (x : LineLabel) → Turn s.sheet l r i x → (column_ink s.sheet (arrow l r) i).first ≡ glyph → (x.side ≡ side) × (x.gutter_column ≡ i))
       → {l : ℕ} (k : IsShownLine v g s l) (n : ℕ) → IsRowOf v k n → is_glyph (set_of s) glyph (gutter_cell (rows_of v) s n i) ≡ true → IsTurn l side n
   turned-row glyph side only no_bar turn {l} k n row shows =
-      let b = all-at (IsBlockRow s.sheet l) _ row.index row.name row.there (block-rows-are s.sheet l) in
-      let here : is_glyph (set_of s) glyph (gutter_cell (rows_of v) s (number v g s row.name) i) ≡ true = rw row.is shows in
-      elim b.kind [
+      by-kind (all-at (λ y. IsBlockRow s.sheet l y ⊎ IsLoneRow s.sheet l y) _ row.index row.name row.there (block-kinds s.sheet l))
+    where
+      here : is_glyph (set_of s) glyph (gutter_cell (rows_of v) s (number v g s row.name) i) ≡ true
+      here = rw row.is shows
+
+      no-turn : (r : ℕ) → row.name ≡ alternate l r → ⊥
+      no-turn r e =
+          let at = subst (RowAt v g s (rows_above v k + suc row.index)) e (block-row-is v k row.index row.name row.there) in
+          let shown : is_glyph (set_of s) glyph (gutter_cell (rows_of v) s (number v g s (alternate l r)) i) ≡ true = rw e at here in
+          let cell = gutter-cell v (alternate-text v at) i (column-few o) in
+          let first = only _ (shows-text v s (column_ink s.sheet (alternate l r) i) glyph _ cell shown) in
+          no_bar (subst IsBar first (alternate-bar s.sheet l r i))
+
+      by-kind : IsBlockRow s.sheet l row.name ⊎ IsLoneRow s.sheet l row.name → IsTurn l side n
+      by-kind (inr b) = absurd (no-turn _ b.1)
+      by-kind (inl b) = elim b.kind [
         | inl e ↦
             let q = arrow-row v b.rank b.label k b.there b.message in
             let shown : is_glyph (set_of s) glyph (gutter_cell (rows_of v) s (number v g s (arrow l b.rank)) i) ≡ true = rw e at here in
@@ -177,12 +190,7 @@ module _ (v : Picture) {g : ℕ} {s : Section} {i : ℕ} {a : LabelInfo} (o : Is
               same_column = found.1;
               is = ap (number v g s) (sym e) ∙ row.is;
             }
-        | inr e ↦
-            let at = subst (RowAt v g s (rows_above v k + suc row.index)) e.0 (block-row-is v k row.index row.name row.there) in
-            let shown : is_glyph (set_of s) glyph (gutter_cell (rows_of v) s (number v g s (alternate l b.rank)) i) ≡ true = rw e.0 at here in
-            let cell = gutter-cell v (alternate-text v at) i (column-few o) in
-            let first = only _ (shows-text v s (column_ink s.sheet (alternate l b.rank) i) glyph _ cell shown) in
-            absurd (no_bar (subst IsBar first (alternate-bar s.sheet l b.rank i)))
+        | inr e ↦ absurd (no-turn _ e.0)
       ]
 
   pub head-turn : {l : ℕ} (k : IsShownLine v g s l) (n : ℕ) → IsRowOf v k n → is_glyph (set_of s) Ltop (gutter_cell (rows_of v) s n i) ≡ true → IsTurn l Starts n

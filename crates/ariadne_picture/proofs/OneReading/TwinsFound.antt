@@ -2,7 +2,7 @@
 use Rattle.std.proofs.Common.{◌≡◌, ℕ, suc, ◌+◌, ◌-◌, ◌<◌, ◌≤◌, Bool, true, false, not, ◌&&◌, ◌||◌, [], ◌∷◌, map, filter}
 use Rattle.std.proofs.Common.{Some, refl, sym, ap, ◌∙◌, subst, arith, ◌==◌, inl, inr, nat_lt, if◌then◌else◌}
 use Rattle.std.specs.Prelude.{slice_get, nat_le}
-use Rattle.std.specs.List.{AllByRecursion, list_all, list_any, enumerate_from, range_with_len}
+use Rattle.std.specs.List.{AllByRecursion, list_all, enumerate_from, range_with_len}
 use Rattle.std.proofs.lemmas.Bool.{cond_both, cases_lt, eq-eqb, eqb-true, ltb-true, leb-true, lt-ltb, true≢false, not-true}
 use Rattle.ariadne_base.specs.Locations.{upto}
 use Rattle.ariadne_picture.specs.declared.label_info.LabelInfo.{LabelInfo}
@@ -10,7 +10,6 @@ use Rattle.ariadne_picture.specs.declared.label_info.LineLabel.{LineLabel}
 use Rattle.ariadne_picture.specs.declared.label_info.Side.TheVariants.{Inline, Starts}
 use Rattle.ariadne_picture.specs.declared.cell.Glyph.{Glyph}
 use Rattle.ariadne_picture.specs.declared.cell.Glyph.TheVariants.{Vbar, Lbot, Uarrow, Underbar}
-use Rattle.ariadne_picture.specs.Lists.{joined}
 use Rattle.ariadne_picture.specs.Ranks.{is_start, is_on_one_line, gutter_labels, line_labels}
 use Rattle.ariadne_picture.specs.Rows.{alternate, arrow}
 use Rattle.ariadne_picture.specs.Columns.{layout_of, width, column_of}
@@ -24,14 +23,14 @@ use Rattle.ariadne_picture.specs.Causes.{Trace, is_upright, is_stroke_of, inline
 use Rattle.ariadne_picture.specs.Causes.{is_underline_of, has_cause, is_place_caused, is_line_caused, has_no_other_strokes}
 use Rattle.ariadne_picture.specs.Headline.{IsReadBy}
 use Rattle.ariadne_picture.proofs.Lists.ListFacts.{all-append, all-map, all-filtered, all-joined, all-at}
-use Rattle.ariadne_picture.proofs.Lists.Elements.{Has, all-from, all-numbered, list_any-true}
+use Rattle.ariadne_picture.proofs.Lists.Elements.{Has, all-from, all-numbered}
 use Rattle.ariadne_picture.proofs.Labels.LabelsAtLine.{IsHere, IsInlineHere}
 use Rattle.ariadne_picture.proofs.Labels.LineLabels.{multi-line}
 use Rattle.ariadne_picture.proofs.Rows.RowOrder.{shown_rows}
 use Rattle.ariadne_picture.proofs.Rows.RowsThere.{range-at}
 use Rattle.ariadne_picture.proofs.Cells.InkCells.{ink_cell}
 use Rattle.ariadne_picture.proofs.Reading.HeadPlaces.{IsGutterLabelOf, head-place}
-use Rattle.ariadne_picture.proofs.Reading.InlineTraces.{silent, first-alternate}
+use Rattle.ariadne_picture.proofs.Reading.InlineTraces.{silent, block-first}
 use Rattle.ariadne_picture.proofs.Reading.LabelTraces.{place-cells}
 use Rattle.ariadne_picture.proofs.Reading.MessagePlaces.{two-true, label-here, arrow-shows}
 use Rattle.ariadne_picture.proofs.Reading.PlaceCells.{first_cell, label-cell}
@@ -219,7 +218,7 @@ module _ (v : Picture) (placed : ArePlaced v) (p : Placing) (h : IsReadBy (rows_
 
       -- underlines stand in an alternate row
       no-underline : (k : ℕ) (c : Cell) → is_underline_of (rows_of v) v.sections p g s a.end_line (p.message_row a.position) k c ≡ true → ⊥
-      unfolding is_underline_of shown_rows
+      unfolding is_underline_of layout_of
       no-underline k c e =
           let x = two-true _ _ e in
           let y = two-true _ _ x.0 in
@@ -233,13 +232,9 @@ module _ (v : Picture) (placed : ArePlaced v) (p : Placing) (h : IsReadBy (rows_
           let src = source-at v m.line in
           let row = m.row in
           let labels = line_labels s.sheet a.end_line in
-          let some : list_any (λ (x : LineLabel). x.info.has_message) labels ≡ true =
-          list_any-true _ labels m.rank m.label m.arrow_row.there m.arrow_row.message in
-          let first : slice_get (shown_rows s.sheet a.end_line) 0 ≡ Some (alternate a.end_line (0 + silent labels)) =
-          ap (λ c. slice_get (joined (Rattle.ariadne_picture.specs.Rows.label_rows c a.end_line) (enumerate_from 0 labels)) 0) open_form
-          ∙ first-alternate a.end_line 0 labels some in
+          let first = block-first s.sheet a.end_line open_form on.1 in
           let top : m.arrow_row.index ≡ 0 = omega (arith, here, line, own, src, row) in
-          let same : Some (alternate a.end_line (0 + silent labels)) ≡ Some (arrow a.end_line m.rank) =
+          let same : Some (alternate a.end_line (silent labels)) ≡ Some (arrow a.end_line m.rank) =
           sym first ∙ ap (slice_get (shown_rows s.sheet a.end_line)) (sym top) ∙ m.arrow_row.row in
           cc
 

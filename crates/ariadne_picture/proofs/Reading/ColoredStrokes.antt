@@ -8,6 +8,7 @@ use Rattle.std.proofs.lemmas.Bool.{cond_both, cases_Bool, cases_lt, eq-eqb, eqb-
 use Rattle.std.proofs.lemmas.Option.{slice_get-get_or, slice_get_within}
 use Rattle.ariadne_color.specs.declared.color.Color.{Color}
 use Rattle.ariadne_color.specs.contracts.color.ColorEq.TheImpl.Laws as equality
+use Rattle.ariadne_picture.proofs.Rows.LoneRows.{label-not-lone}
 use Rattle.ariadne_picture.specs.declared.switches.Switches.{Switches}
 use Rattle.ariadne_picture.specs.declared.label_info.LabelInfo.{LabelInfo}
 use Rattle.ariadne_picture.specs.declared.label_info.LineLabel.{LineLabel}
@@ -47,7 +48,7 @@ use Rattle.ariadne_picture.proofs.Parts.{has_corner, arrow_ink_by}
 -- ---- colours of cells
 
 -- a colour is itself
-color-same : (o : Option Color) → is_color o o ≡ true
+pub color-same : (o : Option Color) → is_color o o ≡ true
 color-same o = (options_equiv equality.laws-law).refl o
 
 -- the colour of the label at position k
@@ -365,7 +366,7 @@ module _ (v : Picture) {g : ℕ} {s : Section} {l r : ℕ} {x : LineLabel} (q : 
       let e : slice_get (shown_rows s.sheet l) i ≡ Some y = slice_get-get_or (shown_rows s.sheet l) i (arrow l r) (omega arith) in
       let is = block-row-is v q.line i y e in
       let n = number-at v is in
-      let b = all-at (IsBlockRow s.sheet l) (shown_rows s.sheet l) i y e (block-rows-are s.sheet l) in
+      let b = all-at (IsBlockRow s.sheet l) (shown_rows s.sheet l) i y e (block-rows-are s.sheet l (label-not-lone s.sheet l r x q.there q.message)) in
       let same : number v g s y ≡ below + i = omega arith in
       let up = above-it v q i y (omega arith) e b in
       rw (← same) (by-kind i y e b (omega arith) up)))

@@ -2,6 +2,8 @@
 use Rattle.std.proofs.Common.{◌≡◌, ◌≤◌, true, List}
 use Rattle.std.specs.List.{AllByRecursion}
 use Rattle.std.proofs.lemmas.List.Elements.{recursion_from_All}
+use Rattle.ariadne_picture.specs.LoneLines.{has_lone_underlines}
+use Rattle.ariadne_picture.proofs.Reading.LoneMarks.{lone-underlines}
 use Rattle.ariadne_picture.specs.declared.label_info.LabelInfo.{LabelInfo}
 use Rattle.ariadne_picture.specs.Report.{ReportFields, World}
 use Rattle.ariadne_picture.specs.Accept.{AreAccepted}
@@ -62,6 +64,11 @@ module _ {S Id : Type 0} (w : World S Id) (r : ReportFields S) (infos : List Lab
     every-color =
         of-canvas w r infos numbered (λ rows groups p. has_label_colors rows groups p (label_color r)) (label-colors picture all-placed)
 
+    -- lines without messages have their underlines
+    pub every-lone : has_lone_underlines (canvas w r infos) (sections w r infos) (row_placing (texts_of r) (sections w r infos)) (label_color r) ≡ true
+    every-lone =
+        of-canvas w r infos numbered (λ rows groups p. has_lone_underlines rows groups p (label_color r)) (lone-underlines picture)
+
     -- the tracing promise
     pub every-traced : IsTraced (canvas w r infos) (sections w r infos) (texts_of r).message_of (label_color r)
     every-traced = record {
@@ -78,4 +85,5 @@ module _ {S Id : Type 0} (w : World S Id) (r : ReportFields S) (infos : List Lab
         nor_in_the_gutter = of-canvas w r infos numbered has_no_other_gutter_strokes (no-other-gutter-strokes picture);
       };
       strokes_have_the_colors_of_their_labels = every-color;
+      lines_without_messages_are_underlined = every-lone;
     }

@@ -5,6 +5,9 @@ use Rattle.std.specs.Prelude.{slice_get, nat_le}
 use Rattle.std.specs.List.{list_any, enumerate_from, best_of, position_or_len}
 use Rattle.std.specs.Cmp.Derive.{both_true}
 use Rattle.std.proofs.lemmas.Bool.{cond-true, cases_Bool, eq-eqb, eqb-true, ne_eqb, lt-ltb, le-leb, true≢false, not-true}
+use Rattle.ariadne_picture.specs.Ranks.{Sheet}
+use Rattle.ariadne_picture.specs.Rows.{is_lone}
+use Rattle.ariadne_picture.proofs.Rows.LoneRows.{speaks, lone-block, lone-rank, label-block}
 use Rattle.ariadne_picture.specs.declared.label_info.LabelInfo.{LabelInfo}
 use Rattle.ariadne_picture.specs.declared.label_info.LineLabel.{LineLabel}
 use Rattle.ariadne_picture.specs.declared.label_info.Side.TheVariants.{Inline}
@@ -59,6 +62,22 @@ first-alternate l a (x ∷ xs) h = elim (cases_Bool x.info.has_message) [
       let later = first-alternate l (a + 1) xs (rw n at h) in
       let e : a + 1 + silent xs ≡ a + (1 + silent xs) = omega arith in
       rw n (later ∙ ap (λ n. Some (alternate l n)) e)
+]
+
+left-of : (b c : Bool) → (b || c) ≡ true → c ≡ false → b ≡ true
+left-of true c h off = refl
+left-of false c h off = absurd (true≢false (sym h ∙ off))
+
+-- so where underlines are drawn the first row of a block is the alternate row that has them
+pub block-first : (s : Sheet) (l : ℕ) → s.switches.compact ≡ false → (list_any speaks (line_labels s l) || is_lone s l) ≡ true
+    → slice_get (shown_rows s l) 0 ≡ Some (alternate l (silent (line_labels s l)))
+block-first s l loose on = elim (cases_Bool (is_lone s l)) [
+  | inl lone ↦ ap (λ t. slice_get t 0) (lone-block s l lone) ∙ ap (λ n. Some (alternate l n)) (sym (lone-rank s l lone))
+  | inr off ↦
+      let some = left-of (list_any speaks (line_labels s l)) (is_lone s l) on off in
+      let z : 0 + silent (line_labels s l) ≡ silent (line_labels s l) = omega arith in
+      ap (λ t. slice_get t 0) (label-block s l off) ∙ ap (λ c. slice_get (joined (label_rows c l) (enumerate_from 0 (line_labels s l))) 0) loose
+      ∙ first-alternate l 0 (line_labels s l) some ∙ ap (λ n. Some (alternate l n)) z
 ]
 
 module _ (v : Picture) (placed : ArePlaced v) where
@@ -127,17 +146,15 @@ module _ (v : Picture) (placed : ArePlaced v) where
     -- each label within the line is underlined in the first row of the block
     span-seen : has_underlines s l ≡ true → (i : ℕ) (x : LineLabel) → slice_get (line_labels s.sheet l) i ≡ Some x
         → IsInlineHere s.sheet l x → seen_under x ≡ true
-    unfolding alternate_place places_to_end layout_of shown_rows
+    unfolding alternate_place places_to_end layout_of
     span-seen on i x e k =
         let y = layout_of s.sheet l in
         let switches = s.sheet.switches in
-        let two = two-true (switches.underlines && not switches.compact) (list_any (λ (x : LineLabel). x.info.has_message) y.labels) on in
+        let two = two-true (switches.underlines && not switches.compact) (list_any speaks y.labels || is_lone s.sheet l) on in
         let one = two-true switches.underlines (not switches.compact) two.0 in
         let r = underline_row y in
-        let z : 0 + r ≡ r = omega arith in
         let row : slice_get (shown_rows s.sheet l) 0 ≡ Some (alternate l r) =
-        ap (λ c. slice_get (joined (label_rows c l) (enumerate_from 0 (line_labels s.sheet l))) 0) (not-true switches.compact one.1)
-        ∙ first-alternate l 0 (line_labels s.sheet l) two.1 ∙ ap (λ n. Some (alternate l n)) z in
+        block-first s.sheet l (not-true switches.compact one.1) two.1 in
         let is = block-row-is v h 0 (alternate l r) row in
         let n = number-at v is in
         let src = source-at v h in

@@ -3,19 +3,22 @@
 use Rattle.std.proofs.Common.{◌≡◌, ℕ, suc, ◌+◌, ◌*◌, ◌<◌, ◌≤◌, Bool, true, false, not, ◌&&◌}
 use Rattle.std.proofs.Common.{Option, Some, None, refl, sym, ap, ◌∙◌, subst, arith, ◌==◌, inl, inr, ◌⊎◌}
 use Rattle.std.specs.Prelude.{slice_get, slice_index_or}
-use Rattle.std.specs.List.{list_all, list_any, enumerate_from}
+use Rattle.std.specs.List.{list_all, list_any}
 use Rattle.std.specs.Cmp.Derive.{both_true}
 use Rattle.std.proofs.lemmas.Bool.{cond_both, cases_Bool, cases_lt, eq-eqb, eqb-true, not-true}
 use Rattle.std.proofs.lemmas.Option.{slice_get-get_or}
 use Rattle.ariadne_base.specs.Locations.{upto}
+use Rattle.std.proofs.Common.{◌||◌, length}
+use Rattle.ariadne_picture.specs.Rows.{is_lone}
+use Rattle.ariadne_picture.proofs.Rows.LoneRows.{speaks, lone}
 use Rattle.ariadne_picture.specs.declared.label_info.LineLabel.{LineLabel}
 use Rattle.ariadne_picture.specs.declared.cell.Glyph.{Glyph}
 use Rattle.ariadne_picture.specs.declared.cell.Glyph.TheVariants.{Blank, Hbar, Vbar, Xbar, Uarrow, Underbar, Underline}
 use Rattle.ariadne_picture.specs.declared.cell.Paint.{Paint}
 use Rattle.ariadne_picture.specs.declared.cell.Paint.TheVariants.{Plain}
-use Rattle.ariadne_picture.specs.Lists.{best, joined}
+use Rattle.ariadne_picture.specs.Lists.{best}
 use Rattle.ariadne_picture.specs.Ranks.{is_inline, is_margin, line_labels}
-use Rattle.ariadne_picture.specs.Rows.{row_key, Row, source, alternate, arrow, label_rows}
+use Rattle.ariadne_picture.specs.Rows.{row_key, Row, source, alternate, arrow}
 use Rattle.ariadne_picture.proofs.Rows.RowPlacing.{row_part, row_line, row_step}
 use Rattle.ariadne_picture.specs.Columns.{layout_of}
 use Rattle.ariadne_picture.specs.Strokes.{is_crossed, holds, is_preferred, underlines_at, underline_at}
@@ -29,7 +32,7 @@ use Rattle.ariadne_picture.specs.Placing.Rows.{block_rows}
 use Rattle.ariadne_picture.proofs.Lists.ListFacts.{none≢some, all-at, all-best, all-filtered}
 use Rattle.ariadne_picture.proofs.Lists.Elements.{all-from, all-range, list_all-true, list_any-true}
 use Rattle.ariadne_picture.proofs.Lists.Elements.{left-true, right-true}
-use Rattle.ariadne_picture.proofs.Rows.LineBlock.{IsBlockRow, block-rows-are}
+use Rattle.ariadne_picture.proofs.Rows.LineBlock.{IsBlockRow, IsLoneRow, block-kinds}
 use Rattle.ariadne_picture.proofs.Rows.RowOrder.{shown_rows}
 use Rattle.ariadne_picture.proofs.Cells.InkCells.{glyph_cell, shows-glyph, shows-level, shows-blank}
 use Rattle.ariadne_picture.proofs.Reading.InOrder.{in-order}
@@ -42,7 +45,7 @@ use Rattle.ariadne_picture.specs.Causes.{is_upright}
 use Rattle.ariadne_picture.specs.Causes.{is_underline_of, has_cause, is_place_caused, is_line_caused, has_no_other_strokes}
 use Rattle.ariadne_picture.proofs.Reading.LabelTraces.{IsCaused, row-caused, vertical-is, IsVertical, cause-none, cause-underline}
 use Rattle.ariadne_picture.proofs.Reading.LabelTraces.{cause-vertical, cause-corner, cause-level}
-use Rattle.ariadne_picture.proofs.Reading.InlineTraces.{silent, first-alternate}
+use Rattle.ariadne_picture.proofs.Reading.InlineTraces.{block-first}
 use Rattle.ariadne_picture.proofs.Reading.PlaceCells.{step-rises}
 use Rattle.ariadne_picture.proofs.Parts.{has_corner, arrow_ink_by}
 
@@ -131,18 +134,14 @@ module _ (v : Picture) {g : ℕ} {s : Section} {l : ℕ} (h : IsShownLine v g s 
 
   -- ---- alternate rows
 
-  module _ (r : ℕ) (x : LineLabel) (there : slice_get (line_labels s.sheet l) r ≡ Some x) (message : x.info.has_message ≡ true)
+  module _ (r : ℕ) (drawn : (list_any speaks (line_labels s.sheet l) || is_lone s.sheet l) ≡ true)
       (open_form : s.sheet.switches.compact ≡ false) (j : ℕ) (is : RowAt v g s j (alternate l r)) (k : ℕ) where
     -- the row of the underlines is the first of the block
     first-below : r ≡ underline_row (layout_of s.sheet l) → number v g s (alternate l r) ≡ source_row v g l + 1
-    unfolding layout_of shown_rows
+    unfolding layout_of
     first-below same =
-        let labels = line_labels s.sheet l in
-        let some : list_any (λ (x : LineLabel). x.info.has_message) labels ≡ true = list_any-true _ labels r x there message in
-        let z : 0 + silent labels ≡ r = omega arith in
         let row : slice_get (shown_rows s.sheet l) 0 ≡ Some (alternate l r) =
-        ap (λ c. slice_get (joined (label_rows c l) (enumerate_from 0 labels)) 0) open_form
-        ∙ first-alternate l 0 labels some ∙ ap (λ n. Some (alternate l n)) z in
+        block-first s.sheet l open_form drawn ∙ ap (λ n. Some (alternate l n)) (sym same) in
         let m = number-at v (block-row-is v h 0 (alternate l r) row) in
         let src = source-at v h in
         omega (arith, m, src)
@@ -163,9 +162,8 @@ module _ (v : Picture) {g : ℕ} {s : Section} {l : ℕ} (h : IsShownLine v g s 
               all-best (λ x. list_any held y.labels ≡ true) beats (underlines_at y k) u chosen
               (all-filtered (λ x. list_any held y.labels ≡ true) held y.labels
               (all-from _ y.labels (λ i x at t. list_any-true held y.labels i x at t))) in
-              let message_there : list_any (λ (x : LineLabel). x.info.has_message) y.labels ≡ true = list_any-true _ y.labels r x there message in
               cause-underline v g s l _ k is_first c
-              (both_true (both_true (both_true (both_true (both_true two.0 (ap not open_form)) message_there) (eq-eqb _ _ here)) shows) some)
+              (both_true (both_true (both_true (both_true (both_true two.0 (ap not open_form)) drawn) (eq-eqb _ _ here)) shows) some)
           | inr off ↦
               let none : None ≡ Some u = rw off at e in absurd (none≢some u none)
         ]
@@ -212,18 +210,23 @@ module _ (v : Picture) {g : ℕ} {s : Section} {l : ℕ} (h : IsShownLine v g s 
       let is = block-row-is v h j y there in
       let n = number-at v is in
       let same : number v g s y ≡ source_row v g l + 1 + j = omega (arith, n, here) in
-      rw (← same) (by-kind j y is (all-at (IsBlockRow s.sheet l) _ j y there (block-rows-are s.sheet l)))))
+      rw (← same) (by-kind j y is (all-at (λ y. IsBlockRow s.sheet l y ⊎ IsLoneRow s.sheet l y) _ j y there (block-kinds s.sheet l)))))
     where
-      by-kind : (j : ℕ) (y : Row) → RowAt v g s (Rattle.ariadne_picture.proofs.Reading.ShownLine.rows_above v h + suc j) y → IsBlockRow s.sheet l y
+      by-kind : (j : ℕ) (y : Row) → RowAt v g s (Rattle.ariadne_picture.proofs.Reading.ShownLine.rows_above v h + suc j) y → IsBlockRow s.sheet l y ⊎ IsLoneRow s.sheet l y
           → list_all (read v is_place_caused g s l (number v g s y)) (upto ((placing_of v).places g l)) ≡ true
-      by-kind j y is b = elim b.kind [
+      by-kind j y is (inr b) =
+          let at = subst (RowAt v g s (Rattle.ariadne_picture.proofs.Reading.ShownLine.rows_above v h + suc j)) b.1 is in
+          let n : ℕ = length (line_labels s.sheet l) in
+          rw b.1 (row-caused v h (alternate_inks s l n) _ (alternate-text v at)
+          (λ k few. alternate-caused n (right-true (list_any speaks (line_labels s.sheet l)) (is_lone s.sheet l) b.0) (lone s.sheet l b.0).loose _ at k))
+      by-kind j y is (inl b) = elim b.kind [
         | inl e ↦
             let q = arrow-row v b.rank b.label h b.there b.message in
             rw e (row-caused v h (arrow_inks s l b.rank) _ (arrow-text v (arrow-at v q)) (λ k few. arrow-caused b.rank b.label q k))
         | inr e ↦
             let at = subst (RowAt v g s (Rattle.ariadne_picture.proofs.Reading.ShownLine.rows_above v h + suc j)) e.0 is in
             rw e.0 (row-caused v h (alternate_inks s l b.rank) _ (alternate-text v at)
-            (λ k few. alternate-caused b.rank b.label b.there b.message e.1 _ at k))
+            (λ k few. alternate-caused b.rank (left-true _ _ (list_any-true speaks (line_labels s.sheet l) b.rank b.label b.there b.message)) e.1 _ at k))
       ]
 
 -- no picture has another stroke

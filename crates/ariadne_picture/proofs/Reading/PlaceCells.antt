@@ -6,6 +6,7 @@ use Rattle.std.specs.Prelude.{slice_get, slice_index_or, find}
 use Rattle.std.specs.Cmp.Derive.{both_true}
 use Rattle.std.proofs.lemmas.Bool.{cases_Bool, eq-eqb, lt-ltb, ltb-true}
 use Rattle.std.proofs.lemmas.Option.{slice_get-get_or, slice_get_within}
+use Rattle.ariadne_picture.proofs.Rows.LoneRows.{label-not-lone}
 use Rattle.ariadne_picture.specs.declared.cell.Glyph.{Glyph}
 use Rattle.ariadne_picture.specs.declared.cell.Ink.{Ink}
 use Rattle.ariadne_picture.specs.declared.label_info.LineLabel.{LineLabel}
@@ -199,7 +200,7 @@ module _ (v : Picture) {g : ℕ} {s : Section} {l : ℕ} where
         let e : slice_get (shown_rows s.sheet l) i ≡ Some y = slice_get-get_or (shown_rows s.sheet l) i (arrow l r) (omega arith) in
         let is = block-row-is v q.line i y e in
         let n = number-at v is in
-        let b = all-at (IsBlockRow s.sheet l) (shown_rows s.sheet l) i y e (block-rows-are s.sheet l) in
+        let b = all-at (IsBlockRow s.sheet l) (shown_rows s.sheet l) i y e (block-rows-are s.sheet l (label-not-lone s.sheet l r x q.there q.message)) in
         let same : number v g s y ≡ below + i = omega arith in
         rw (← same)
         (holds-one q.line (number v g s y) x.place (λ c. not (is_blank c)) few

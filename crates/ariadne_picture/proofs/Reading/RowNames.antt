@@ -1,10 +1,12 @@
 -- What the name of a row in a group tells: which lines are shown, and which line labels have rows.
-use Rattle.std.proofs.Common.{◌≡◌, ℕ, ◌-◌, ◌≤◌, ◌&&◌, nat_lt, Bool, true, false, List, [], ◌∷◌, ◌++◌, length, Some, inl, inr, if◌then◌else◌}
+use Rattle.std.proofs.Common.{◌≡◌, ℕ, ◌-◌, ◌≤◌, ◌&&◌, nat_lt, Bool, true, false, List, [], ◌∷◌, ◌++◌, length, Some, inl, inr, ◌⊎◌, ap, ◌∙◌, if◌then◌else◌}
 use Rattle.std.specs.Prelude.{slice_get}
 use Rattle.std.specs.List.{AllByRecursion, enumerate_from}
 use Rattle.std.specs.Str.Lines.{lines}
 use Rattle.std.proofs.lemmas.Bool.{cond_both}
 use Rattle.ariadne_base.specs.Locations.{upto}
+use Rattle.ariadne_picture.proofs.Lists.Elements.{Has, all-from}
+use Rattle.ariadne_picture.proofs.Rows.LoneRows.{lone}
 use Rattle.ariadne_picture.specs.declared.label_info.LineLabel.{LineLabel}
 use Rattle.ariadne_picture.specs.Lists.{joined}
 use Rattle.ariadne_picture.specs.Groups.{group_start_line, group_end_line, group_lines}
@@ -12,8 +14,8 @@ use Rattle.ariadne_picture.specs.Ranks.{Sheet, line_labels, is_hidden}
 use Rattle.ariadne_picture.specs.Rows.{Row, Aside, help, note, group_header, spacer, source, alternate, arrow, gap, bare, blank, piece, tail}
 use Rattle.ariadne_picture.specs.Rows.{is_inside, line_rows, aside_rows, asides, rows}
 use Rattle.ariadne_picture.specs.Pieces.{Section}
-use Rattle.ariadne_picture.proofs.Lists.ListFacts.{all-append, all-joined, all-map, all-every, all-weaker, all-at}
-use Rattle.ariadne_picture.proofs.Rows.LineBlock.{IsBlockRow, block-rows-are}
+use Rattle.ariadne_picture.proofs.Lists.ListFacts.{all-append, all-joined, all-map, all-every, all-at}
+use Rattle.ariadne_picture.proofs.Rows.LineBlock.{IsBlockRow, IsLoneRow, block-kinds}
 use Rattle.ariadne_picture.proofs.Rows.RowOrder.{shown_rows}
 use Rattle.ariadne_picture.proofs.Reading.Pictures.{Picture, RowAt}
 use Rattle.ariadne_picture.proofs.Reading.ShownLine.{IsArrowRow, arrow-row, all-group-lines}
@@ -28,10 +30,17 @@ pub record IsLabelRow (s : Sheet) (l r : ℕ) : Type 0 where
   pub there : slice_get (line_labels s l) r ≡ Some label
   pub message : label.info.has_message ≡ true
 
+-- line l is shown, and its block has row x
+pub record IsInBlock (s : Sheet) (l : ℕ) (x : Row) : Type 0 where
+  pub low : group_start_line s.labels ≤ l
+  pub high : l ≤ group_end_line s.labels
+  pub seen : is_hidden s l ≡ false
+  pub row : Has (shown_rows s l) x
+
 -- what the name of a row tells
 abbrev pub IsName : Sheet → Row → Type 0
 IsName s (source l) = (group_start_line s.labels ≤ l) × (l ≤ group_end_line s.labels) × (is_hidden s l ≡ false)
-IsName s (alternate l r) = IsLabelRow s l r × (s.switches.compact ≡ false)
+IsName s (alternate l r) = IsInBlock s l (alternate l r) × (s.switches.compact ≡ false)
 IsName s (arrow l r) = IsLabelRow s l r
 IsName s (gap l) = is_hidden s l ≡ true
 IsName s (bare l) = (is_hidden s l ≡ true) × (is_inside s l ≡ false)
@@ -57,13 +66,17 @@ module _ (s : Sheet) where
       (λ hidden. cond_both later [] row all (λ _. tt)
       (λ _. cond_both (is_inside s l) (gap l ∷ []) bare_row all (λ _. (hidden, tt))
       (λ out. one-or-none s.switches.compact (bare l) (λ _. (hidden, out)))))
-      (λ seen. ((low, high, seen), all-weaker (IsBlockRow s l) _ (shown_rows s l) (name seen) (block-rows-are s l)))
+      (λ seen. ((low, high, seen), all-from _ (shown_rows s l) (λ i y e. name seen i y e (all-at (λ y. IsBlockRow s l y ⊎ IsLoneRow s l y) _ i y e (block-kinds s l)))))
     where
-      name : is_hidden s l ≡ false → (y : Row) → IsBlockRow s l y → IsName s y
-      name seen y b =
+      in-block : is_hidden s l ≡ false → (i : ℕ) (y x : Row) → slice_get (shown_rows s l) i ≡ Some y → y ≡ x → IsInBlock s l x
+      in-block seen i y x e same = record { low = low; high = high; seen = seen; row = record { place = i; there = e ∙ ap Some same } }
+
+      name : is_hidden s l ≡ false → (i : ℕ) (y : Row) → slice_get (shown_rows s l) i ≡ Some y → IsBlockRow s l y ⊎ IsLoneRow s l y → IsName s y
+      name seen i y at (inr b) = rw b.1 (in-block seen i y (alternate l (length (line_labels s l))) at b.1, (lone s l b.0).loose)
+      name seen i y at (inl b) =
           let is : IsLabelRow s l b.rank =
           record { low = low; high = high; seen = seen; label = b.label; there = b.there; message = b.message } in
-          elim b.kind [ inl e ↦ rw e is | inr e ↦ rw e.0 (is, e.1) ]
+          elim b.kind [ inl e ↦ rw e is | inr e ↦ rw e.0 (in-block seen i y (alternate l b.rank) at e.0, e.1) ]
 
   -- of helps and notes nothing is asked
   aside-names : (compact : Bool) (a : Aside) (texts : List (List ℕ)) → all (asides compact a texts)

@@ -1,5 +1,5 @@
 -- The rows of a shown line: its source row, and the block of the rows of its line labels below it.
-use Rattle.std.proofs.Common.{◌≡◌, ℕ, suc, ◌+◌, ◌-◌, ◌≤◌, Bool, true, false, not, List, [], ◌∷◌, length, Some, ap, ◌∙◌, subst, arith, inl, inr}
+use Rattle.std.proofs.Common.{◌≡◌, ℕ, suc, ◌+◌, ◌-◌, ◌≤◌, Bool, true, false, not, List, [], ◌∷◌, length, Some, ap, ◌∙◌, subst, arith, inl, inr, ◌⊎◌}
 use Rattle.std.proofs.Common.{if◌then◌else◌}
 use Rattle.std.specs.Prelude.{slice_get, slice_index_or}
 use Rattle.std.specs.List.{AllByRecursion, list_all, enumerate_from}
@@ -16,15 +16,15 @@ use Rattle.ariadne_picture.specs.Placing.Rows.{block_rows}
 use Rattle.ariadne_picture.specs.Lists.{all_numbered}
 use Rattle.ariadne_picture.proofs.Lists.ListFacts.{all-filtered, all-at}
 use Rattle.ariadne_picture.proofs.Lists.Elements.{all-range, list_all-true}
-use Rattle.ariadne_picture.proofs.Rows.LineBlock.{IsBlockRow, above, source-place, block-place, block-count, block-rows-are}
-use Rattle.ariadne_picture.proofs.Rows.RowOrder.{shown_rows}
+use Rattle.ariadne_picture.proofs.Rows.LineBlock.{IsBlockRow, IsLoneRow, block-kinds, above, source-place, block-place, block-count}
+use Rattle.ariadne_picture.proofs.Rows.RowOrder.{all_label_rows, shown_rows}
 use Rattle.ariadne_picture.proofs.Rows.RowsThere.{range-at}
 use Rattle.ariadne_picture.proofs.Rows.RowPlacing.{row_list, block_len, row_placing}
 use Rattle.ariadne_picture.specs.declared.label_info.LineLabel.{LineLabel}
 use Rattle.ariadne_picture.proofs.Rows.RowsThere.{enumerated-at}
 use Rattle.ariadne_picture.specs.Ranks.{line_labels}
-use Rattle.ariadne_picture.specs.Rows.{label_rows}
-use Rattle.ariadne_picture.proofs.Lists.Elements.{Has, has-first, has-back, has-joined}
+use Rattle.ariadne_picture.specs.Rows.{label_rows, lone_rows}
+use Rattle.ariadne_picture.proofs.Lists.Elements.{Has, has-first, has-front, has-back, has-joined}
 use Rattle.ariadne_picture.proofs.Reading.Pictures.{Picture, placing_of, source_row, start_of, number, RowAt, section-is, every-group}
 use Rattle.ariadne_picture.proofs.Reading.Pictures.{number-at}
 
@@ -125,8 +125,9 @@ module _ (v : Picture) where
   arrow-row {g} {s} {l} r x line e m =
       let others = if s.sheet.switches.compact then [] else alternate l r ∷ [] in
       let here : Has (shown_rows s.sheet l) (arrow l r) =
-      has-joined (label_rows s.sheet.switches.compact l) (enumerate_from 0 (line_labels s.sheet l)) r (r, x) (arrow l r) (numbered-at _ r x e)
-      (rw m (has-back others _ _ (has-first (arrow l r) []))) in
+      has-front (all_label_rows s.sheet l) (lone_rows s.sheet l) (arrow l r)
+      (has-joined (label_rows s.sheet.switches.compact l) (enumerate_from 0 (line_labels s.sheet l)) r (r, x) (arrow l r) (numbered-at _ r x e)
+      (rw m (has-back others _ _ (has-first (arrow l r) [])))) in
       record { line = line; there = e; message = m; index = here.place; row = here.there }
 
   -- it is a row of the picture
@@ -135,7 +136,7 @@ module _ (v : Picture) where
   arrow-at q = block-row-is q.line q.index _ q.row
 
   module _ {g : ℕ} {s : Section} {l : ℕ} (h : IsShownLine v g s l) where
-    -- the rows of the block are the arrow rows and the alternate rows of its line labels with a message
+    -- the rows of the block are arrow rows of its line labels with a message, and alternate rows
     pub every-block-row : (P : ℕ → Type 0)
         → ((r : ℕ) (x : LineLabel) → IsArrowRow v g s l r x → P (number v g s (arrow l r)))
         → ((k r : ℕ) → RowAt v g s k (alternate l r) → P (number v g s (alternate l r)))
@@ -149,10 +150,11 @@ module _ (v : Picture) where
         let there : slice_get (shown_rows s.sheet l) j ≡ Some y = slice_get-get_or (shown_rows s.sheet l) j (source l) (omega arith) in
         let n = number-at v (block-row-is h j y there) in
         let same : number v g s y ≡ source_row v g l + 1 + j = omega arith in
-        subst P same (by-kind j y there (all-at (IsBlockRow s.sheet l) _ j y there (block-rows-are s.sheet l))))
+        subst P same (by-kind j y there (all-at (λ y. IsBlockRow s.sheet l y ⊎ IsLoneRow s.sheet l y) _ j y there (block-kinds s.sheet l))))
       where
-        by-kind : (j : ℕ) (y : Row) → slice_get (shown_rows s.sheet l) j ≡ Some y → IsBlockRow s.sheet l y → P (number v g s y)
-        by-kind j y there b = elim b.kind [
+        by-kind : (j : ℕ) (y : Row) → slice_get (shown_rows s.sheet l) j ≡ Some y → IsBlockRow s.sheet l y ⊎ IsLoneRow s.sheet l y → P (number v g s y)
+        by-kind j y there (inr b) = rw b.1 (alternates _ _ (subst (RowAt v g s _) b.1 (block-row-is h j y there)))
+        by-kind j y there (inl b) = elim b.kind [
           | inl e ↦ rw e (arrows b.rank b.label (arrow-row b.rank b.label h b.there b.message))
           | inr e ↦ rw e.0 (alternates _ b.rank (subst (RowAt v g s _) e.0 (block-row-is h j y there)))
         ]

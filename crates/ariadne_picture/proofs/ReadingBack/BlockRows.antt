@@ -1,20 +1,21 @@
 -- The rows of a line's labels: above each stands the source row of the line, and of each two, if not compact, the
 -- second is an arrow row.
 use Rattle.std.proofs.Common.{◌≡◌, ℕ, zero, suc, ◌+◌, ◌-◌, ◌%◌, false, List, [], ◌∷◌, ◌++◌, Some, refl, sym, ap, ◌∙◌, subst, arith}
-use Rattle.std.proofs.Common.{inl, inr}
+use Rattle.std.proofs.Common.{inl, inr, ◌⊎◌, length}
 use Rattle.std.specs.Prelude.{slice_get, slice_index_or}
 use Rattle.std.specs.List.{enumerate_from}
-use Rattle.std.proofs.lemmas.Bool.{cond_both}
+use Rattle.std.proofs.lemmas.Bool.{cond_both, cases_Bool}
 use Rattle.std.proofs.lemmas.Option.{slice_get_within, slice_get-get_or}
 use Rattle.ariadne_base.specs.Listing.{Listing}
+use Rattle.ariadne_picture.proofs.Rows.LoneRows.{lone-block, label-block}
 use Rattle.ariadne_picture.specs.declared.label_info.LineLabel.{LineLabel}
 use Rattle.ariadne_picture.specs.Lists.{joined}
 use Rattle.ariadne_picture.specs.Ranks.{Sheet, line_labels}
-use Rattle.ariadne_picture.specs.Rows.{Row, source, arrow, alternate, label_rows}
+use Rattle.ariadne_picture.specs.Rows.{Row, source, arrow, alternate, label_rows, is_lone}
 use Rattle.ariadne_picture.specs.Pieces.{Section}
 use Rattle.ariadne_picture.specs.ReadBack.Rows.{shows_line, line_row}
 use Rattle.ariadne_picture.proofs.Lists.ListFacts.{none≢some, all-at}
-use Rattle.ariadne_picture.proofs.Rows.LineBlock.{IsBlockRow, block-rows-are}
+use Rattle.ariadne_picture.proofs.Rows.LineBlock.{IsBlockRow, IsLoneRow, block-kinds}
 use Rattle.ariadne_picture.proofs.Rows.RowOrder.{shown_rows}
 use Rattle.ariadne_picture.proofs.Reading.Pictures.{Picture, rows_of, number, number-at}
 use Rattle.ariadne_picture.proofs.Reading.ShownLine.{IsShownLine, source-row-is, block-row-is}
@@ -49,9 +50,17 @@ paired-rows l a (x ∷ xs) i y e =
     (λ _. pair l a y _ (λ j. paired-rows l (a + 1) xs j y) i) (λ _. paired-rows l (a + 1) xs i y) e
 
 pub paired : (s : Sheet) (l i : ℕ) (y : Row) → s.switches.compact ≡ false → slice_get (shown_rows s l) i ≡ Some y → IsPaired i y
-unfolding shown_rows
-paired s l i y loose e =
-    paired-rows l 0 (line_labels s l) i y (subst (λ b. slice_get (joined (label_rows b l) (enumerate_from 0 (line_labels s l))) i ≡ Some y) loose e)
+paired s l i y loose e = elim (cases_Bool (is_lone s l)) [
+  | inl on ↦ alone (alternate l (length (line_labels s l))) i refl (subst (λ t. slice_get t i ≡ Some y) (lone-block s l on) e)
+  | inr off ↦
+      paired-rows l 0 (line_labels s l) i y
+      (subst (λ b. slice_get (joined (label_rows b l) (enumerate_from 0 (line_labels s l))) i ≡ Some y) loose
+      (subst (λ t. slice_get t i ≡ Some y) (label-block s l off) e))
+]
+  where
+    alone : (z : Row) (i : ℕ) → IsPaired 0 z → slice_get (z ∷ []) i ≡ Some y → IsPaired i y
+    alone z zero first at = let same : z ≡ y = cc in subst (IsPaired 0) same first
+    alone z (suc j) first at = absurd (none≢some y at)
 
 -- ---- the row of the line
 
@@ -60,8 +69,12 @@ module _ (v : Picture) (sources : List Listing) {g : ℕ} {s : Section} {l : ℕ
   block-no-line : (i : ℕ) (y : Row) → slice_get (shown_rows s.sheet l) i ≡ Some y
       → shows_line (rows_of v) sources v.texts.switches (number v g s y) ≡ false
   block-no-line i y there =
-      let b = all-at (IsBlockRow s.sheet l) _ i y there (block-rows-are s.sheet l) in
-      line-kind v sources (block-row-is v h i y there) ∙ (elim b.kind [ inl e ↦ ap names_line e | inr e ↦ ap names_line e.0 ])
+      line-kind v sources (block-row-is v h i y there)
+      ∙ no-name (all-at (λ y. IsBlockRow s.sheet l y ⊎ IsLoneRow s.sheet l y) _ i y there (block-kinds s.sheet l))
+    where
+      no-name : IsBlockRow s.sheet l y ⊎ IsLoneRow s.sheet l y → names_line y ≡ false
+      no-name (inr b) = ap names_line b.1
+      no-name (inl b) = elim b.kind [ inl e ↦ ap names_line e | inr e ↦ ap names_line e.0 ]
 
   -- so the last above a row of the block is the source row
   pub block-line : (i : ℕ) (y : Row) → slice_get (shown_rows s.sheet l) i ≡ Some y

@@ -1,25 +1,24 @@
 -- The rows that a reader takes for those of messages are the arrow rows of line labels that are no starts.
-use Rattle.std.proofs.Common.{◌≡◌, ℕ, suc, ◌-◌, ◌%◌, Bool, true, false, not, ◌&&◌, ◌||◌, ◌==◌, List, [], ◌∷◌, Option, Some, None}
+use Rattle.std.proofs.Common.{◌≡◌, ℕ, suc, ◌-◌, ◌%◌, Bool, true, false, not, ◌&&◌, ◌||◌, ◌==◌, List, Option, Some, None}
 use Rattle.std.proofs.Common.{is_some, refl, sym, ap, ◌∙◌, arith, inl, inr}
 use Rattle.std.specs.Prelude.{slice_get}
-use Rattle.std.specs.List.{enumerate_from}
 use Rattle.std.proofs.lemmas.Bool.{cases_Bool, and_right, or_from, or_left, or_right, eq-eqb, ne_eqb, lt-ltb}
 use Rattle.ariadne_base.specs.Listing.{Listing}
 use Rattle.ariadne_picture.specs.declared.switches.Switches.{Switches}
 use Rattle.ariadne_picture.specs.declared.cell.Glyph.TheVariants.{Ltop}
 use Rattle.ariadne_picture.specs.declared.label_info.LineLabel.{LineLabel}
 use Rattle.ariadne_picture.specs.Ranks.{is_start, line_labels}
-use Rattle.ariadne_picture.specs.Rows.{Row, group_header, spacer, source, alternate, arrow, gap, bare, blank, piece, tail, label_rows}
+use Rattle.ariadne_picture.specs.Rows.{Row, group_header, spacer, source, alternate, arrow, gap, bare, blank, piece, tail}
 use Rattle.ariadne_picture.specs.Pieces.{Section}
 use Rattle.ariadne_picture.specs.Placing.Group.{set_of, text_cell}
 use Rattle.ariadne_picture.specs.ReadBack.Rows.{is_heading, last_before, line_row, has_line, text_begin, has_strokes, is_below_lines, is_arrow_row}
 use Rattle.ariadne_picture.specs.ReadBack.Answer.{gutter_turn, has_message}
-use Rattle.ariadne_picture.proofs.Lists.Elements.{Has, has-first, has-joined}
+use Rattle.ariadne_picture.proofs.Lists.Elements.{Has}
 use Rattle.ariadne_picture.proofs.Rows.RowOrder.{shown_rows}
 use Rattle.ariadne_picture.proofs.Reading.Pictures.{Picture, RowAt, rows_of, number, number-at}
 use Rattle.ariadne_picture.proofs.Reading.PlaceCounts.{ArePlaced}
 use Rattle.ariadne_picture.proofs.Reading.RowNames.{name-of, named-arrow}
-use Rattle.ariadne_picture.proofs.Reading.ShownLine.{IsShownLine, IsArrowRow, arrow-at, source-row-is, numbered-at}
+use Rattle.ariadne_picture.proofs.Reading.ShownLine.{IsShownLine, IsArrowRow, arrow-at, source-row-is}
 use Rattle.ariadne_picture.proofs.ReadingBack.RowKinds.{names_heading, names_below, below-kind}
 use Rattle.ariadne_picture.proofs.ReadingBack.RowPlaces.{group-is, header-is, line-found}
 use Rattle.ariadne_picture.proofs.ReadingBack.BlockRows.{paired, block-line, block-below}
@@ -100,20 +99,11 @@ module _ (v : Picture) (sources : List Listing) (from : AreSources v sources) (p
 
   -- ---- the rows of line labels
 
-  module _ (l r : ℕ) (x : LineLabel) (h : IsShownLine v g s l) (there : slice_get (line_labels s.sheet l) r ≡ Some x)
-      (m : x.info.has_message ≡ true) where
-    -- an alternate row stands at its place in the block
-    alternate-there : s.sheet.switches.compact ≡ false → Has (shown_rows s.sheet l) (alternate l r)
-    unfolding shown_rows label_rows
-    alternate-there loose =
-        has-joined (label_rows s.sheet.switches.compact l) (enumerate_from 0 (line_labels s.sheet l)) r (r, x) (alternate l r)
-        (numbered-at (line_labels s.sheet l) r x there) (rw m (rw loose (has-first (alternate l r) (arrow l r ∷ []))))
-
+  module _ (l r : ℕ) (h : IsShownLine v g s l) (at : Has (shown_rows s.sheet l) (alternate l r)) where
     -- an odd number of rows below the line
     no-alternate : s.sheet.switches.compact ≡ false → message v sources (number v g s (alternate l r)) ≡ false
     no-alternate loose =
         let n = number v g s (alternate l r) in
-        let at = alternate-there loose in
         let pair = paired s.sheet l at.place (alternate l r) loose at.there in
         let far : n - line_row (rows_of v) sources v.texts.switches n ≡ suc at.place =
         ap (λ m. n - m) (block-line v sources h at.place (alternate l r) at.there) ∙ block-below v sources h at.place (alternate l r) at.there in
@@ -180,7 +170,7 @@ module _ (v : Picture) (sources : List Listing) (from : AreSources v sources) (p
   message-kind (alternate l r) is =
       let name = name-of v is in
       let row = name.0 in
-      no-alternate l r row.label (record { group = is.group; low = row.low; high = row.high; seen = row.seen }) row.there row.message name.1
+      no-alternate l r (record { group = is.group; low = row.low; high = row.high; seen = row.seen }) row.row name.1
   message-kind (arrow l r) is =
       let name = name-of v is in
       let q = named-arrow v is name in

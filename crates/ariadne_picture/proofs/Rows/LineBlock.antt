@@ -1,20 +1,21 @@
 -- Where the rows of one line stand within its group: the source row, and its block, the rows of its line labels.
-use Rattle.std.proofs.Common.{◌≡◌, ℕ, zero, suc, ◌+◌, ◌-◌, ◌<◌, ◌≤◌, Bool, true, false, ◌&&◌, List, [], ◌∷◌, ◌++◌, length, Some, refl, sym, ap, ◌∙◌}
+use Rattle.std.proofs.Common.{◌≡◌, ℕ, zero, suc, ◌+◌, ◌-◌, ◌<◌, ◌≤◌, Bool, true, false, ◌&&◌, List, [], ◌∷◌, ◌++◌, length, Some, refl, sym, ap, ◌∙◌, subst}
 use Rattle.std.proofs.Common.{arith, ◌==◌, nat_lt, ◌⊎◌, inl, inr, if◌then◌else◌, append_assoc}
 use Rattle.std.specs.Prelude.{slice_get, filter}
 use Rattle.std.specs.List.{AllByRecursion, enumerate_from, range_with_len}
-use Rattle.std.proofs.lemmas.Bool.{cond_both, cond-false, eq-eqb, ne_eqb}
+use Rattle.std.proofs.lemmas.Bool.{cases_Bool, cond_both, cond-false, eq-eqb, ne_eqb}
 use Rattle.std.proofs.lemmas.List.Elements.{filter-append}
+use Rattle.ariadne_picture.proofs.Rows.LoneRows.{lone-block, label-block}
 use Rattle.ariadne_picture.specs.declared.label_info.LineLabel.{LineLabel}
 use Rattle.ariadne_picture.specs.Lists.{joined}
 use Rattle.ariadne_picture.specs.Groups.{group_start_line, group_end_line, group_lines}
 use Rattle.ariadne_picture.specs.Ranks.{Sheet, is_hidden, line_labels}
 use Rattle.ariadne_picture.specs.Rows.{row_key, Row, group_header, spacer, source, alternate, arrow, tail, help, note}
 use Rattle.ariadne_picture.proofs.Rows.RowPlacing.{row_part, row_line, row_step}
-use Rattle.ariadne_picture.specs.Rows.{label_rows, line_rows, asides, rows}
+use Rattle.ariadne_picture.specs.Rows.{label_rows, is_lone, line_rows, asides, rows}
 use Rattle.ariadne_picture.proofs.Lists.ListFacts.{all-weaker, all-append, all-joined, all-enumerated, filter-all, filter-none}
 use Rattle.ariadne_picture.proofs.Lists.Joined.{joined-append}
-use Rattle.ariadne_picture.proofs.Rows.RowOrder.{FromStep, AtLine, FromLine, shown_rows, labels-from, line-at, lines-from, aside-rows-behind}
+use Rattle.ariadne_picture.proofs.Rows.RowOrder.{FromStep, AtLine, FromLine, all_label_rows, shown_rows, block-from, line-at, lines-from, aside-rows-behind}
 use Rattle.ariadne_picture.proofs.Rows.RowOrder.{tail-behind}
 use Rattle.ariadne_picture.proofs.Rows.RowsThere.{shown}
 use Rattle.ariadne_picture.proofs.Rows.RowNumbers.{at-front, at-back}
@@ -80,10 +81,14 @@ pub record IsBlockRow (s : Sheet) (l : ℕ) (y : Row) : Type 0 where
   pub message : label.info.has_message ≡ true
   pub kind : (y ≡ arrow l rank) ⊎ ((y ≡ alternate l rank) × (s.switches.compact ≡ false))
 
--- the rows of a block are such rows
-pub block-rows-are : (s : Sheet) (l : ℕ) → AllByRecursion (IsBlockRow s l) (shown_rows s l)
-unfolding shown_rows label_rows
-block-rows-are s l =
+-- y is the row with the underlines of line l alone
+abbrev pub IsLoneRow : Sheet → ℕ → Row → Type 0
+IsLoneRow s l y = (is_lone s l ≡ true) × (y ≡ alternate l (length (line_labels s l)))
+
+-- the rows of labels are such rows
+label-rows-are : (s : Sheet) (l : ℕ) → AllByRecursion (IsBlockRow s l) (all_label_rows s l)
+unfolding label_rows
+label-rows-are s l =
     all-joined (IsBlockRow s l) (λ e. slice_get (line_labels s l) e.0 ≡ Some e.1) (label_rows s.switches.compact l)
     (enumerate_from 0 (line_labels s l))
     (λ e h. one e.0 e.1 h) (all-enumerated (line_labels s l) 0 (line_labels s l)
@@ -101,6 +106,18 @@ block-rows-are s l =
     one r x e =
         cond_both x.info.has_message ((if s.switches.compact then [] else alternate l r ∷ []) ++ arrow l r ∷ []) [] (AllByRecursion (IsBlockRow s l))
         (λ m. two s.switches.compact r x refl e m) (λ _. tt)
+
+-- where a label has a message the rows of a block are such rows
+pub block-rows-are : (s : Sheet) (l : ℕ) → is_lone s l ≡ false → AllByRecursion (IsBlockRow s l) (shown_rows s l)
+block-rows-are s l off = subst (AllByRecursion (IsBlockRow s l)) (sym (label-block s l off)) (label-rows-are s l)
+
+-- else it is the one row
+pub block-kinds : (s : Sheet) (l : ℕ) → AllByRecursion (λ y. IsBlockRow s l y ⊎ IsLoneRow s l y) (shown_rows s l)
+block-kinds s l = elim (cases_Bool (is_lone s l)) [
+  | inl on ↦ rw (lone-block s l on) (inr (on, refl), tt)
+  | inr off ↦
+      all-weaker (IsBlockRow s l) (λ y. IsBlockRow s l y ⊎ IsLoneRow s l y) (shown_rows s l) (λ y b. inl b) (block-rows-are s l off)
+]
 
 -- ---- the parts of a group's rows about line l
 
@@ -156,8 +173,7 @@ module _ (s : Sheet) (is_last : Bool) (helps notes : List (List ℕ)) (l : ℕ) 
   unfolding shown_rows
   block-all =
       all-weaker (FromStep 2 l 1) (λ y. of_block l y ≡ true) (shown_rows s l)
-      (λ y h. this-block (row_part y) (row_line y) (row_step y) l h.part h.line h.step)
-      (labels-from s.switches.compact l 0 1 (line_labels s l) (omega arith))
+      (λ y h. this-block (row_part y) (row_line y) (row_step y) l h.part h.line h.step) (block-from s l)
 
   module _ (low : group_start_line s.labels ≤ l) (high : l ≤ group_end_line s.labels) (seen : is_hidden s l ≡ false) where
     -- the rows of a group that shows line l

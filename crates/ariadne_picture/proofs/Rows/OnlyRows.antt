@@ -6,17 +6,18 @@ use Rattle.std.specs.List.{AllByRecursion, enumerate_from}
 use Rattle.std.specs.Str.Lines.{lines}
 use Rattle.std.proofs.lemmas.Bool.{cond_both, cases_Bool, cases_lt, lt-ltb, le-ltb, and_left, and_right, true≢false}
 use Rattle.ariadne_base.specs.Locations.{upto}
+use Rattle.ariadne_picture.proofs.Rows.LoneRows.{lone-shown}
 use Rattle.ariadne_picture.specs.declared.label_info.LineLabel.{LineLabel}
 use Rattle.ariadne_picture.specs.Lists.{joined}
 use Rattle.ariadne_picture.specs.Groups.{group_start_line, group_lines}
 use Rattle.ariadne_picture.specs.Ranks.{Sheet, is_hidden, line_labels}
 use Rattle.ariadne_picture.specs.Rows.{Aside, help, note, Row, group_header, spacer, source, alternate, arrow, gap, bare, blank, piece, tail}
-use Rattle.ariadne_picture.specs.Rows.{before, label_rows, is_inside, line_rows, aside_rows, asides, rows}
-use Rattle.ariadne_picture.specs.RowNames.{asides_of, HasLine, BeginsHidden, HasMessage, HasAside, HasRow}
+use Rattle.ariadne_picture.specs.Rows.{before, label_rows, is_lone, lone_rows, is_inside, line_rows, aside_rows, asides, rows}
+use Rattle.ariadne_picture.specs.RowNames.{asides_of, HasLine, BeginsHidden, HasMessage, HasUnderlines, HasAside, HasRow}
 use Rattle.ariadne_picture.proofs.Lists.ListFacts.{none≢some, all-append, all-joined, all-map, all-at, Increasing}
 use Rattle.ariadne_picture.proofs.Lists.Elements.{Has, has-first, has-later, has-front, has-back, has-joined, has-map, all-range, all-numbered, increasing-from}
 use Rattle.ariadne_picture.proofs.Labels.GroupLines.{has-place, contained}
-use Rattle.ariadne_picture.proofs.Rows.RowOrder.{before-irreflexive, before-chain, rows-ordered}
+use Rattle.ariadne_picture.proofs.Rows.RowOrder.{all_label_rows, before-irreflexive, before-chain, rows-ordered}
 use Rattle.ariadne_picture.proofs.Rows.RowsThere.{range-at, shown-by-label, arrow-there}
 use Rattle.ariadne_picture.proofs.Reading.ShownLine.{all-group-lines, group-line-at, numbered-at}
 
@@ -71,8 +72,14 @@ module _ (s : Sheet) (is_last : Bool) (helps notes : List (List ℕ)) where
       (λ message.
       let has : HasMessage s l r = record { line = line; label = x; there = there; message = message } in
       all-append (HasRow s is_last helps notes) upper (arrow l r ∷ [])
-      (cond_both s.switches.compact [] (alternate l r ∷ []) All (λ _. tt) (λ open_form. ((open_form, has), tt))) (has, tt))
+      (cond_both s.switches.compact [] (alternate l r ∷ []) All (λ _. tt) (λ open_form. (inl (open_form, has), tt))) (has, tt))
       (λ _. tt)
+
+  lone-has : (l : ℕ) → HasLine s l → All (lone_rows s l)
+  unfolding lone_rows
+  lone-has l line =
+      cond_both (is_lone s l) (alternate l (length (line_labels s l)) ∷ []) [] All
+      (λ on. (inr (record { line = line; lone = on; behind = refl }), tt)) (λ _. tt)
 
   line-has : (l : ℕ) → HasLine s l → All (line_rows s l)
   unfolding line_rows
@@ -81,16 +88,18 @@ module _ (s : Sheet) (is_last : Bool) (helps notes : List (List ℕ)) where
       let bare_row = if s.switches.compact then [] else bare l ∷ [] in
       let row = if is_inside s l then gap l ∷ [] else bare_row in
       let block = joined (label_rows s.switches.compact l) (enumerate_from 0 (line_labels s l)) in
-      cond_both (is_hidden s l) (if later then [] else row) (source l ∷ block) All
+      cond_both (is_hidden s l) (if later then [] else row) (source l ∷ block ++ lone_rows s l) All
       (λ hidden. cond_both later [] row All (λ _. tt) (λ first.
       let begins : BeginsHidden s l = record { line = line; hidden = hidden; first = begins-run l line first } in
       cond_both (is_inside s l) (gap l ∷ []) bare_row All (λ inside. ((begins, inside), tt))
       (λ out. cond_both s.switches.compact [] (bare l ∷ []) All (λ _. tt) (λ open_form. ((open_form, begins, out), tt)))))
       (λ seen. (
         (line, seen),
-        all-joined (HasRow s is_last helps notes) (λ e. slice_get (line_labels s l) e.0 ≡ Some e.1) (label_rows s.switches.compact l)
+        all-append (HasRow s is_last helps notes) block (lone_rows s l)
+            (all-joined (HasRow s is_last helps notes) (λ e. slice_get (line_labels s l) e.0 ≡ Some e.1) (label_rows s.switches.compact l)
             (enumerate_from 0 (line_labels s l)) (λ e there. label-has l e.0 e.1 line there)
-            (all-numbered (λ e. slice_get (line_labels s l) e.0 ≡ Some e.1) (line_labels s l) (λ k x e. e)),
+            (all-numbered (λ e. slice_get (line_labels s l) e.0 ≡ Some e.1) (line_labels s l) (λ k x e. e)))
+            (lone-has l line),
       ))
     where
       begins-run : (l : ℕ) → HasLine s l → (nat_lt (group_start_line s.labels) l && is_hidden s (l - 1)) ≡ false
@@ -185,13 +194,25 @@ module _ (s : Sheet) (is_last : Bool) (helps notes : List (List ℕ)) where
     | inr seen ↦ and_right _ _ seen
   ]
 
+  -- a line with underlines of its own has a label, so it is shown, and has their row
+  lone-there : (l r : ℕ) → HasUnderlines s l r → Has (rows s is_last helps notes) (alternate l r)
+  unfolding lone_rows line_rows
+  lone-there l r h =
+      let seen = lone-shown s l h.lone in
+      let on = h.lone in
+      let same = h.behind in
+      of-line l (alternate l r) h.line (rw (seen, same) (has-later (source l) _ (alternate l (length (line_labels s l)))
+      (has-back (all_label_rows s l) (lone_rows s l) (alternate l (length (line_labels s l)))
+      (rw on (has-first (alternate l (length (line_labels s l))) [])))))
+
   row-there : (x : Row) → HasRow s is_last helps notes x → Has (rows s is_last helps notes) x
   unfolding rows line_rows label_rows aside_rows
   row-there group_header h = of-front group_header (has-first group_header (top_rows ++ all_lines))
   row-there spacer h =
       of-front spacer (has-front first_rows all_lines spacer (has-later group_header top_rows spacer (rw h (has-first spacer []))))
   row-there (source l) h = of-line l (source l) h.0 (let seen = h.1 in rw seen (has-first (source l) _))
-  row-there (alternate l r) h =
+  row-there (alternate l r) (inr h) = lone-there l r h
+  row-there (alternate l r) (inl h) =
       let m = h.1 in
       let seen = shown-by-label s l r m.label m.there in
       let open_form = h.0 in
@@ -199,7 +220,8 @@ module _ (s : Sheet) (is_last : Bool) (helps notes : List (List ℕ)) where
       let block = enumerate_from 0 (line_labels s l) in
       let here : Has (label_rows s.switches.compact l (r, m.label)) (alternate l r) = rw (message, open_form) (has-first (alternate l r) _) in
       of-line l (alternate l r) m.line (rw seen (has-later (source l) _ (alternate l r)
-      (has-joined (label_rows s.switches.compact l) block r (r, m.label) (alternate l r) (numbered-at _ r m.label m.there) here)))
+      (has-front (all_label_rows s l) (lone_rows s l) (alternate l r)
+      (has-joined (label_rows s.switches.compact l) block r (r, m.label) (alternate l r) (numbered-at _ r m.label m.there) here))))
   row-there (arrow l r) h = of-line l (arrow l r) h.line (has-place _ _ (arrow-there s l r h.label h.there h.message))
   row-there (gap l) h =
       let b = h.0 in

@@ -13,7 +13,7 @@ use Rattle.ariadne_picture.specs.Lists.{joined}
 use Rattle.ariadne_picture.specs.Groups.{group_lines, group_start_line, group_end_line}
 use Rattle.ariadne_picture.specs.Ranks.{Sheet, is_hidden, line_labels}
 use Rattle.ariadne_picture.specs.Rows.{row_key, Row, group_header, spacer, source, alternate, arrow, gap, bare, blank, piece, tail, Aside, help, note}
-use Rattle.ariadne_picture.specs.Rows.{aside_part, before, label_rows, is_inside, line_rows, aside_rows, asides, rows}
+use Rattle.ariadne_picture.specs.Rows.{aside_part, before, label_rows, is_lone, lone_rows, is_inside, line_rows, aside_rows, asides, rows}
 use Rattle.ariadne_picture.proofs.Rows.RowPlacing.{row_part, row_line, row_step}
 use Rattle.ariadne_picture.proofs.Lists.ListFacts.{all-append, all-weaker, Increasing, increasing-append, increasing-pairs}
 
@@ -219,6 +219,19 @@ labels-increasing compact l r (x ∷ xs) =
     (label-rows-case (Increasing IsBefore) compact l r x (pair-increasing compact l r) tt)
     (labels-increasing compact l (r + 1) xs)
 
+-- and end at the last step before that of the row behind all labels
+pub labels-up-to : (compact : Bool) (l r : ℕ) (xs : List LineLabel)
+    → AllByRecursion (UpToStep 2 l (2 * (r + length xs))) (joined (label_rows compact l) (enumerate_from r xs))
+unfolding joined
+labels-up-to compact l r [] = tt
+labels-up-to compact l r (x ∷ xs) =
+    let e : r + 1 + length xs ≡ r + suc (length xs) = omega arith in
+    all-append (UpToStep 2 l (2 * (r + suc (length xs)))) (label_rows compact l (r, x)) (joined (label_rows compact l) (enumerate_from (r + 1) xs))
+    (all-weaker (UpToStep 2 l (2 * r + 2)) (UpToStep 2 l (2 * (r + suc (length xs)))) (label_rows compact l (r, x))
+    (λ y h. let up = h.step in record { part = h.part; line = h.line; step = omega arith })
+    (label-rows-case (AllByRecursion (UpToStep 2 l (2 * r + 2))) compact l r x (pair-up-to compact l r) tt))
+    (rw (← e) (labels-up-to compact l (r + 1) xs))
+
 -- ---- the rows of a line
 
 -- the source row stands before them
@@ -227,8 +240,32 @@ unfolding row_key
 source-first l x h = by-step (source l) x (sym h.part) (sym h.line) h.step
 
 -- the rows of all line labels
+abbrev pub all_label_rows : Sheet → ℕ → List Row
+all_label_rows s l = joined (label_rows s.switches.compact l) (enumerate_from 0 (line_labels s l))
+
+-- and the one with their underlines alone
 unfoldable pub shown_rows : Sheet → ℕ → List Row
-shown_rows s l = joined (label_rows s.switches.compact l) (enumerate_from 0 (line_labels s l))
+shown_rows s l = all_label_rows s l ++ lone_rows s l
+
+-- they begin behind the source row
+pub block-from : (s : Sheet) (l : ℕ) → AllByRecursion (FromStep 2 l 1) (shown_rows s l)
+unfolding shown_rows lone_rows row_key
+block-from s l =
+    all-append (FromStep 2 l 1) (all_label_rows s l) (lone_rows s l) (labels-from s.switches.compact l 0 1 (line_labels s l) (omega arith))
+    (cond_both (is_lone s l) (alternate l (length (line_labels s l)) ∷ []) [] (AllByRecursion (FromStep 2 l 1))
+    (λ _. (record { part = refl; line = refl; step = omega arith }, tt)) (λ _. tt))
+
+-- and stand in order
+pub block-increasing : (s : Sheet) (l : ℕ) → Increasing IsBefore (shown_rows s l)
+unfolding shown_rows lone_rows row_key
+block-increasing s l =
+    let last : ℕ = 2 * (0 + length (line_labels s l)) in
+    increasing-append IsBefore (UpToStep 2 l last) (FromStep 2 l (suc last)) (all_label_rows s l) (lone_rows s l)
+    (step-before 2 l last) (labels-up-to s.switches.compact l 0 (line_labels s l))
+    (cond_both (is_lone s l) (alternate l (length (line_labels s l)) ∷ []) [] (AllByRecursion (FromStep 2 l (suc last)))
+    (λ _. (record { part = refl; line = refl; step = omega arith }, tt)) (λ _. tt))
+    (labels-increasing s.switches.compact l 0 (line_labels s l))
+    (cond_both (is_lone s l) (alternate l (length (line_labels s l)) ∷ []) [] (Increasing IsBefore) (λ _. (tt, tt)) (λ _. tt))
 
 -- what holds of no rows, of each row in place of hidden lines, and of the rows of a shown line holds of a line's rows
 pub line-rows-case : (P : List Row → Type 0) (s : Sheet) (l : ℕ) → P [] → P (gap l ∷ []) → P (bare l ∷ []) → P (source l ∷ shown_rows s l)
@@ -238,7 +275,7 @@ line-rows-case P s l none broken empty shown =
     cond_both (is_hidden s l)
     (if nat_lt (group_start_line s.labels) l && is_hidden s (l - 1) then [] else if is_inside s l then gap l ∷ [] else if s.switches.compact then []
     else bare l ∷ [])
-    (source l ∷ joined (label_rows s.switches.compact l) (enumerate_from 0 (line_labels s l))) P
+    (source l ∷ joined (label_rows s.switches.compact l) (enumerate_from 0 (line_labels s l)) ++ lone_rows s l) P
     (λ _. cond_both (nat_lt (group_start_line s.labels) l && is_hidden s (l - 1)) []
     (if is_inside s l then gap l ∷ [] else if s.switches.compact then [] else bare l ∷ []) P (λ _. none)
     (λ _. cond_both (is_inside s l) (gap l ∷ []) (if s.switches.compact then [] else bare l ∷ []) P (λ _. broken)
@@ -250,9 +287,8 @@ pub line-increasing : (s : Sheet) (l : ℕ) → Increasing IsBefore (line_rows s
 unfolding shown_rows
 line-increasing s l =
     line-rows-case (Increasing IsBefore) s l tt (tt, tt) (tt, tt) (
-      all-weaker (FromStep 2 l 1) (IsBefore (source l)) (shown_rows s l) (source-first l)
-          (labels-from s.switches.compact l 0 1 (line_labels s l) (omega arith)),
-      labels-increasing s.switches.compact l 0 (line_labels s l),
+      all-weaker (FromStep 2 l 1) (IsBefore (source l)) (shown_rows s l) (source-first l) (block-from s l),
+      block-increasing s l,
     )
 
 -- they are of their line
@@ -261,8 +297,7 @@ unfolding shown_rows row_key
 line-at s l =
     line-rows-case (AllByRecursion (AtLine 2 l)) s l tt (record { part = refl; line = refl }, tt) (record { part = refl; line = refl }, tt) (
       record { part = refl; line = refl },
-      all-weaker (FromStep 2 l 1) (AtLine 2 l) (shown_rows s l) (at-line 2 l 1)
-          (labels-from s.switches.compact l 0 1 (line_labels s l) (omega arith)),
+      all-weaker (FromStep 2 l 1) (AtLine 2 l) (shown_rows s l) (at-line 2 l 1) (block-from s l),
     )
 
 -- the rows of lines from a on are from a on

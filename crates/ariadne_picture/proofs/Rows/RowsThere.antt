@@ -12,7 +12,7 @@ use Rattle.ariadne_picture.specs.declared.label_info.Side.TheVariants.{Starts, E
 use Rattle.ariadne_picture.specs.Lists.{joined}
 use Rattle.ariadne_picture.specs.Groups.{greatest, least_below, group_start_line, group_end_line, group_lines}
 use Rattle.ariadne_picture.specs.Ranks.{Sheet, span_len, is_on_one_line, multi_line_labels, gutter_labels, margin_label, line_labels, is_hidden}
-use Rattle.ariadne_picture.specs.Rows.{Row, group_header, spacer, source, alternate, arrow, tail, help, note, label_rows, line_rows, asides, rows}
+use Rattle.ariadne_picture.specs.Rows.{Row, group_header, spacer, source, alternate, arrow, tail, help, note, label_rows, lone_rows, line_rows, asides, rows}
 use Rattle.ariadne_picture.specs.Strokes.{first_row, last_row}
 use Rattle.ariadne_picture.specs.Bars.{IsGutterLabel, IsLineLabel}
 use Rattle.ariadne_picture.proofs.Lists.ListFacts.{none≢some, all-filter, all-kept, all-in_order, all-at}
@@ -119,7 +119,7 @@ gutter-label-message s i a e = all-at (λ a. a.has_message ≡ true) (gutter_lab
 
 -- a line that is not hidden has its source row and the rows of its line labels
 pub shown : (s : Sheet) (l : ℕ) → is_hidden s l ≡ false → line_rows s l ≡ source l
-    ∷ joined (label_rows s.switches.compact l) (enumerate_from 0 (line_labels s l))
+    ∷ joined (label_rows s.switches.compact l) (enumerate_from 0 (line_labels s l)) ++ lone_rows s l
 unfolding line_rows
 shown s l h = rw h
 
@@ -140,7 +140,7 @@ shown-by-margin s l x e =
 pub source-there : (s : Sheet) (l : ℕ) → is_hidden s l ≡ false → Contains (line_rows s l) (source l)
 source-there s l h =
     subst (λ xs. Contains xs (source l)) (sym (shown s l h))
-    (contains-first (source l) (joined (label_rows s.switches.compact l) (enumerate_from 0 (line_labels s l))))
+    (contains-first (source l) (joined (label_rows s.switches.compact l) (enumerate_from 0 (line_labels s l)) ++ lone_rows s l))
 
 -- a label with a message has its arrow row
 pub arrow-of-label : (compact : Bool) (l n : ℕ) (x : LineLabel) → x.info.has_message ≡ true → Contains (label_rows compact l (n, x)) (arrow l n)
@@ -154,9 +154,10 @@ arrow-there s l n x e h =
     let z : 0 + n ≡ n = omega arith in
     let there : slice_get (enumerate_from 0 (line_labels s l)) n ≡ Some (n, x) = enumerated-at 0 n (line_labels s l) x e ∙ ap (λ k. Some (k, x)) z in
     subst (λ xs. Contains xs (arrow l n)) (sym (shown s l (shown-by-label s l n x e)))
-    (contains-later (source l) (joined (label_rows s.switches.compact l) (enumerate_from 0 (line_labels s l))) (arrow l n)
+    (contains-later (source l) (joined (label_rows s.switches.compact l) (enumerate_from 0 (line_labels s l)) ++ lone_rows s l) (arrow l n)
+    (Contains-append_left (joined (label_rows s.switches.compact l) (enumerate_from 0 (line_labels s l))) (lone_rows s l) (arrow l n)
     (contains-joined (label_rows s.switches.compact l) (enumerate_from 0 (line_labels s l)) n (n, x) (arrow l n) there
-    (arrow-of-label s.switches.compact l n x h)))
+    (arrow-of-label s.switches.compact l n x h))))
 
 -- ---- rows of the group
 

@@ -8,6 +8,7 @@ use Rattle.std.proofs.lemmas.Bool.{cond_both, cases_Bool}
 use Rattle.std.proofs.lemmas.List.{length-append, length-replicate}
 use Rattle.unicode_width.proofs.Computing.{unicode_width}
 use Rattle.ariadne_base.specs.Locations.{upto}
+use Rattle.ariadne_picture.specs.Rows.{lone_rows, is_lone}
 use Rattle.ariadne_picture.specs.declared.switches.CharSet.{CharSet}
 use Rattle.ariadne_picture.specs.declared.switches.CharSet.TheVariants.{Unicode, Ascii}
 use Rattle.ariadne_picture.specs.declared.switches.Switches.{Switches}
@@ -213,7 +214,7 @@ module _ (t : Texts) (w : ℕ) (g : Section) where
     one-or-none b x h = cond_both b [] (x ∷ []) HaveRoom (λ _. tt) (λ e. (h, tt))
 
     line-rooms : (l : ℕ) → l ≤ group_end_line g.sheet.labels → HaveRoom (line_rows g.sheet l)
-    unfolding line_rows label_rows printed_number
+    unfolding line_rows label_rows lone_rows printed_number
     line-rooms l high =
         let s = g.sheet in
         let rise = decimal-rises (l + 1 + g.display_offset) (group_end_line s.labels + 1 + g.display_offset) (omega (arith, high)) in
@@ -227,7 +228,12 @@ module _ (t : Texts) (w : ℕ) (g : Section) where
         cond_both (is_hidden s l) (if later then [] else row) _ HaveRoom
         (λ _. cond_both later [] row HaveRoom (λ _. tt)
         (λ _. cond_both (is_inside s l) (gap l ∷ []) bare_row HaveRoom (λ _. (tt, tt)) (λ _. one-or-none s.switches.compact (bare l) tt)))
-        (λ _. (omega (arith, room, rise), all-parts (HasRoom w g.display_offset) (label_rows s.switches.compact l) label (enumerate_from 0 (line_labels s l))))
+        (λ _. (
+          omega (arith, room, rise),
+          all-append (HasRoom w g.display_offset) (joined (label_rows s.switches.compact l) (enumerate_from 0 (line_labels s l))) (lone_rows s l)
+              (all-parts (HasRoom w g.display_offset) (label_rows s.switches.compact l) label (enumerate_from 0 (line_labels s l)))
+              (cond_both (is_lone s l) (alternate l (length (line_labels s l)) ∷ []) [] HaveRoom (λ _. (tt, tt)) (λ _. tt)),
+        ))
 
     aside-rooms : (compact : Bool) (a : Aside) (texts : List (List ℕ)) → HaveRoom (asides compact a texts)
     unfolding asides aside_rows

@@ -173,6 +173,7 @@ ascii_config = record {
   label_attach = Middle;
   compact = false;
   underlines = true;
+  lone_underlines = false;
   multiline_arrows = true;
   color = false;
   tab_width = 4;

@@ -16,6 +16,7 @@ use Rattle.ariadne_picture.specs.Ranks.{gutter_labels, is_on_one_line}
 use Rattle.ariadne_picture.specs.Placing.Group.{messages_of, shown_lines}
 use Rattle.ariadne_picture.specs.Placing.Rows.{Placing}
 use Rattle.ariadne_picture.specs.LabelColors.{label_color, has_label_colors}
+use Rattle.ariadne_picture.specs.LoneLines.{has_lone_underlines}
 use Rattle.ariadne_picture.specs.ReadBack.{HaveShortNumbers, IsReadBack, group_sources, labels_told, read_back}
 use Rattle.ariadne_picture.specs.Readings.{AgreeOnEnds, HasSameRow, AreTwins, attach_column}
 use Rattle.ariadne_picture.specs.Variants.{HaveNoEscapes, ColorsMoveNothing, BytesDrawAsCharacters, colorless, char_world, char_report, verdict_at}
@@ -85,11 +86,17 @@ in_characters : let w = world (one "éb") in
     × (canvas w in_bytes labels ≡ canvas (char_world w in_bytes) (char_report w in_bytes) labels)
 in_characters h = (h.labels, h.cells its_own_start_is_a_boundary)
 
--- a picture that can be read has row numbers that meet every clause, and the colours of its labels
+-- a picture that can be read has row numbers that meet every clause, the colours of its labels, and lines of underlines alone
 row_numbers : (rows : List (List Cell)) (groups : List Section) (t : Texts) (color_at : ℕ → Option Color)
     → IsTraced rows groups t.message_of color_at
     → (p : Placing) × (is_read rows groups t p ≡ true) × (has_label_colors rows groups p color_at ≡ true)
-row_numbers rows groups t color_at h = (h.placing, all_clauses rows groups t h.placing h.reads, h.strokes_have_the_colors_of_their_labels)
+    × (has_lone_underlines rows groups p color_at ≡ true)
+row_numbers rows groups t color_at h = (
+  h.placing,
+  all_clauses rows groups t h.placing h.reads,
+  h.strokes_have_the_colors_of_their_labels,
+  h.lines_without_messages_are_underlined,
+)
 
 -- two readings of a picture have one row for each line, for the head of each gutter label, and for each message but those of twins
 module _ (rows : List (List Cell)) (groups : List Section) (message_of : ℕ → List ℕ) (one : AreReadInOneWay rows groups message_of) (p q : Placing)

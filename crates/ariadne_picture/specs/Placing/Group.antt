@@ -1,5 +1,5 @@
 -- What the labels of a group ask of its rows. The group is section s.
-use Rattle.std.specs.Prelude.{ℕ, ◌+◌, ◌*◌, Bool, not, ◌&&◌, nat_lt, if◌then◌else◌, List, length, filter}
+use Rattle.std.specs.Prelude.{ℕ, ◌+◌, ◌*◌, Bool, not, ◌&&◌, ◌||◌, nat_lt, if◌then◌else◌, List, length, filter}
 use Rattle.std.specs.List.{list_any}
 use Rattle.ariadne_picture.specs.declared.switches.CharSet.{CharSet}
 use Rattle.ariadne_picture.specs.declared.label_info.LabelInfo.{LabelInfo}
@@ -7,6 +7,7 @@ use Rattle.ariadne_picture.specs.declared.cell.Paint.TheVariants.{Plain}
 use Rattle.ariadne_picture.specs.Lists.{joined_numbered}
 use Rattle.ariadne_picture.specs.Groups.{group_lines}
 use Rattle.ariadne_picture.specs.Ranks.{gutter_labels, is_hidden}
+use Rattle.ariadne_picture.specs.Rows.{is_lone}
 use Rattle.ariadne_picture.specs.Columns.{layout_of, shown, width, column_of}
 use Rattle.ariadne_picture.specs.Pieces.{Piece, Section, column_size, gutter_len, char_pieces}
 
@@ -23,11 +24,11 @@ module _ (s : Section) where
   unfoldable pub messages_of : List LabelInfo
   messages_of = filter (λ a. a.has_message) s.sheet.labels
 
-  -- underlines are drawn below line l: one of its labels has a message
+  -- underlines are drawn below line l: one of its labels has a message, or it has underlines alone
   abbrev pub has_underlines : ℕ → Bool
   has_underlines l =
       s.sheet.switches.underlines && not s.sheet.switches.compact
-      && list_any (λ x. x.info.has_message) (layout_of s.sheet l).labels
+      && (list_any (λ x. x.info.has_message) (layout_of s.sheet l).labels || is_lone s.sheet l)
 
   -- ---- the numbers of cells in a row
 
