@@ -1,6 +1,6 @@
 //! What is drawn at one line of a source: its labels, and its characters.
 
-ghost use Rattle.std.specs.Prelude.{◌≡◌, ℕ, ◌≤◌, ◌<◌, ◌^◌, ◌↔◌, IfSome, IsTrue, chars, length, map, not};
+ghost use Rattle.std.specs.Prelude.{◌≡◌, ℕ, ◌≤◌, ◌<◌, ◌^◌, ◌↔◌, IfSome, IsTrue, chars, length, map, nat_lt, not};
 ghost use Rattle.std.specs.Prelude.{slice_index, true};
 ghost use Rattle.std.specs.Str.{drop_trailing_whitespace, trim_end};
 ghost use Rattle.std.specs.List.{AllByRecursion, list_any};
@@ -8,6 +8,7 @@ ghost use Rattle.ariadne_cells.specs.Ends.{shown_bytes};
 ghost use Rattle.ariadne_picture.specs.Columns.{arrow_len, places_to_end, shown};
 ghost use Rattle.ariadne_picture.specs.Groups.{greatest};
 ghost use Rattle.ariadne_picture.specs.Ranks.{is_inline, is_margin};
+ghost use Rattle.ariadne_picture.specs.Rows.{are_lone};
 
 use ariadne_base::blocks::count::count_chars;
 use ariadne_picture::label_info::LineLabel;
@@ -164,6 +165,27 @@ impl<'a> LineLayout<'a> {
         ensures { result ≡ list_any (λ x. x.info.has_message) self.now.labels }
     {
         self.labels.iter().any(|label| label.info.has_message)
+    }
+
+    /// Whether a row of underlines alone stands below the line: they are asked for, one of its labels
+    /// holds a character, and none has a message.
+    pub fn is_lone(&self, switches: &Switches) -> bool
+        ensures { result ≡ are_lone switches.now self.now.labels }
+    {
+        switches.lone_underlines
+            && switches.underlines
+            && !switches.compact
+            && self.has_span()
+            && !self.has_rows()
+    }
+
+    /// Whether a label of the line holds a character.
+    fn has_span(&self) -> bool
+        ensures { result ≡ list_any (λ x. nat_lt x.info.start x.info.end) self.now.labels }
+    {
+        self.labels
+            .iter()
+            .any(|label| label.info.start < label.info.end)
     }
 
     /// How many places the rows below the line have.

@@ -1,15 +1,21 @@
--- A line none of whose labels has a message: it has no rows below, and its bars stay.
+-- A line none of whose labels has a message: its labels have no rows, its bars stay, and its table serves a
+-- row of underlines alone.
 use Rattle.std.proofs.Common.{◌≡◌, ◌∙◌, ℕ, zero, suc, ◌+◌, ◌≤◌, Bool, true, false, ◌||◌, List, [], ◌∷◌, length, refl, sym, ap, subst, arith}
-use Rattle.std.proofs.Common.{Some, inl, inr}
-use Rattle.std.specs.Prelude.{slice_get}
+use Rattle.std.proofs.Common.{Option, None, Some, inl, inr}
+use Rattle.std.specs.Prelude.{find, drop, option_map, slice_get}
 use Rattle.std.specs.List.{AllByRecursion, enumerate_from, list_any}
-use Rattle.std.proofs.lemmas.Bool.{cases_Bool, true≢false}
+use Rattle.std.proofs.lemmas.Bool.{cases_Bool, cond-true, cond-false, true≢false}
+use Rattle.ariadne_cells.specs.Tables.{IsTable, vertical_of}
+use Rattle.ariadne_cells.specs.declared.table.LineTable.{LineTable}
 use Rattle.ariadne_picture.specs.declared.label_info.LineLabel.{LineLabel}
+use Rattle.ariadne_picture.specs.declared.switches.Switches.{Switches}
 use Rattle.ariadne_picture.specs.Bars.{EndsNoEarlier}
 use Rattle.ariadne_picture.specs.Columns.{Layout, layout_of}
 use Rattle.ariadne_picture.specs.Lists.{joined}
 use Rattle.ariadne_picture.specs.Ranks.{Sheet, is_inline, line_labels}
-use Rattle.ariadne_picture.specs.Rows.{label_rows}
+use Rattle.ariadne_picture.specs.Rows.{alternate, are_lone, is_lone, label_rows, lone_rows}
+use Rattle.ariadne_picture.specs.Strokes.{has_vertical, vertical_at}
+use Rattle.ariadne_picture.proofs.Rows.LoneRows.{not-lone}
 use Rattle.ariadne_rows.specs.Gutters.{GutterFields, IsBelow}
 use Rattle.ariadne_rows.proofs.GutterSteps.{below-next_inline, end-message}
 use Rattle.ariadne_drawing.proofs.LinesRows.{label-none, some-label}
@@ -57,3 +63,57 @@ quiet-bars s l (suc k) g rise b e h =
 pub layout-labels : (s : Sheet) (l : ℕ) (y : Layout) → y ≡ layout_of s l → y.labels ≡ line_labels s l
 unfolding layout_of
 layout-labels s l y e = ap (λ (z : Layout). z.labels) e
+
+-- ---- its table serves each rank
+
+-- no label has a vertical
+none-found : (margin : Option LineLabel) (k : ℕ) (xs : List LineLabel) → list_any (λ x. x.info.has_message) xs ≡ false
+    → find (has_vertical margin k) xs ≡ None
+unfolding has_vertical
+none-found margin k [] e = refl
+none-found margin k (x ∷ xs) e =
+    let parts = or-none x.info.has_message (list_any (λ x. x.info.has_message) xs) e in
+    rw parts.0 (none-found margin k xs parts.1)
+
+-- nor one behind it
+none-behind : (r : ℕ) (xs : List LineLabel) → list_any (λ x. x.info.has_message) xs ≡ false
+    → list_any (λ x. x.info.has_message) (drop r xs) ≡ false
+none-behind zero xs e = e
+none-behind (suc r) [] e = e
+none-behind (suc r) (x ∷ xs) e =
+    let parts = or-none x.info.has_message (list_any (λ x. x.info.has_message) xs) e in none-behind r xs parts.1
+
+quiet-vertical : (y : Layout) (r k : ℕ) → list_any (λ x. x.info.has_message) y.labels ≡ false → vertical_at y r k ≡ None
+unfolding vertical_at
+quiet-vertical y r k e = none-found y.margin k (drop r y.labels) (none-behind r y.labels e)
+
+pub quiet-table : (switches : Switches) (y : Layout) (r : ℕ) (table : LineTable) → list_any (λ x. x.info.has_message) y.labels ≡ false
+    → IsTable switches y 0 table → IsTable switches y r table
+quiet-table switches y r table e h = record {
+  len = h.len;
+  columns = h.columns;
+  verticals = λ k. h.verticals k ∙ ap (option_map vertical_of) (quiet-vertical y 0 k e ∙ sym (quiet-vertical y r k e));
+  underline_row = h.underline_row;
+  underlines = h.underlines;
+}
+
+-- ---- the row with its underlines alone
+
+-- it is there, or not
+pub lone-row : (s : Sheet) (l : ℕ) → is_lone s l ≡ true → lone_rows s l ≡ alternate l (length (line_labels s l)) ∷ []
+unfolding lone_rows
+lone-row s l on = cond-true (is_lone s l) (alternate l (length (line_labels s l)) ∷ []) [] on
+
+pub no-lone-row : (s : Sheet) (l : ℕ) → is_lone s l ≡ false → lone_rows s l ≡ []
+unfolding lone_rows
+no-lone-row s l off = cond-false (is_lone s l) (alternate l (length (line_labels s l)) ∷ []) [] off
+
+-- as the code asks
+pub lone-asked : (s : Sheet) (l : ℕ) (asked : Switches) (y : Layout) → s.switches ≡ asked → y ≡ layout_of s l
+    → are_lone asked y.labels ≡ is_lone s l
+unfolding is_lone
+lone-asked s l asked y same e = rw (layout-labels s l y e, ← same) refl
+
+-- a line with a message has none
+pub messages-not-lone : (s : Sheet) (l : ℕ) → list_any (λ x. x.info.has_message) (line_labels s l) ≡ true → is_lone s l ≡ false
+messages-not-lone s l h = not-lone s l h

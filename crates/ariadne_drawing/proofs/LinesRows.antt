@@ -15,7 +15,7 @@ use Rattle.ariadne_picture.specs.Columns.{Layout, layout_of}
 use Rattle.ariadne_picture.specs.Lists.{joined}
 use Rattle.ariadne_picture.specs.Pieces.{Piece, Section, Texts, row_pieces}
 use Rattle.ariadne_picture.specs.Ranks.{Sheet, is_hidden, line_labels, margin_label, is_inline}
-use Rattle.ariadne_picture.specs.Rows.{Row, label_rows, arrow, alternate, line_rows, source}
+use Rattle.ariadne_picture.specs.Rows.{Row, label_rows, arrow, alternate, line_rows, lone_rows, source}
 use Rattle.ariadne_rows.specs.Gutters.{GutterFields, IsBelow, HasBarsOf}
 use Rattle.ariadne_rows.proofs.Listing.{joined-more}
 use Rattle.ariadne_rows.proofs.GutterSteps.{below-alternate, below-arrow, column-within}
@@ -155,6 +155,6 @@ row-page a b x d = ap (λ (q : PenFields). q.page) d
 
 -- a line that is shown has its source row and the rows of its labels
 pub line-shown : (s : Sheet) (l : ℕ) → is_hidden s l ≡ false
-    → source l ∷ joined (label_rows s.switches.compact l) (enumerate_from 0 (line_labels s l)) ≡ line_rows s l
+    → source l ∷ (joined (label_rows s.switches.compact l) (enumerate_from 0 (line_labels s l)) ++ lone_rows s l) ≡ line_rows s l
 unfolding line_rows
 line-shown s l e = sym (rw e refl)

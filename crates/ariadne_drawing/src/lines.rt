@@ -1,9 +1,9 @@
 //! The rows of the lines of a group, from its first line to its last.
 
-ghost use Rattle.std.specs.Prelude.{◌≡◌, ◌<◌, ◌≤◌, ◌+◌, ℕ, [], OnOk, false, length, map, replicate};
+ghost use Rattle.std.specs.Prelude.{◌≡◌, ◌<◌, ◌≤◌, ◌+◌, ◌++◌, ℕ, [], OnOk, false, length, map, replicate};
 ghost use Rattle.std.specs.Prelude.{IfSome, None, Some, ◌^◌, ◌-◌, option_map, slice_get};
 ghost use Rattle.std.specs.Prelude.{slice_range, true};
-ghost use Rattle.std.specs.List.{AllByRecursion, enumerate_from, range_with_len};
+ghost use Rattle.std.specs.List.{AllByRecursion, enumerate_from, list_any, range_with_len};
 ghost use Rattle.ariadne_drawing.specs.Lines.{AreOverLines, IsAtLine, IsAtSome, IsBelowLine, IsBelowSome};
 ghost use Rattle.ariadne_drawing.specs.Lines.{IsDrawnGroup, IsLaidOut, begins_run};
 ghost use Rattle.ariadne_drawing.specs.LongLines.{IsRemembered};
@@ -20,7 +20,7 @@ ghost use Rattle.ariadne_picture.specs.Ranks.{Sheet, gutter_labels, is_hidden, i
 ghost use Rattle.ariadne_picture.specs.Ranks.{multi_line_labels};
 ghost use Rattle.ariadne_rows.specs.Sheets.{events_at, events_of};
 ghost use Rattle.ariadne_picture.specs.Ranks.{is_start, line_labels, margin_label};
-ghost use Rattle.ariadne_picture.specs.Rows.{arrow, label_rows, line_rows};
+ghost use Rattle.ariadne_picture.specs.Rows.{arrow, label_rows, line_rows, lone_rows};
 ghost use Rattle.ariadne_rows.specs.Gutters.{IsBelow, IsBeside};
 ghost use Rattle.ariadne_base.specs.Listing.{listed_lines};
 ghost use Rattle.ariadne_base.specs.Locations.{line_text};
@@ -319,7 +319,7 @@ fn start_margin(gutter: &mut Gutter<'_>, margin: Option<LineLabel>) -> Result<()
     }
 }
 
-/// Writes the rows below a line, if one of its labels has a message.
+/// Writes the rows below a line: those of its labels, or one of underlines alone.
 fn push_rows_below<S: Span>(
     pen: &mut Pen<'_>,
     gutter: &mut Gutter<'_>,
@@ -336,16 +336,40 @@ fn push_rows_below<S: Span>(
     ensures drawn { let page = pen.old.page in let t = texts_of report.now in
         (g : Section) (l : ℕ) → IsAtLine t g page l layout.now gutter.old →
         OnOk result (DrawsRows pen.old pen.new (map (row_pieces t page.number_width g)
-        (joined (label_rows page.switches.compact l) (enumerate_from 0 layout.now.labels)))) }
+        (joined (label_rows page.switches.compact l) (enumerate_from 0 layout.now.labels)
+        ++ lone_rows g.sheet l))) }
     ensures below { let page = pen.old.page in let t = texts_of report.now in
         (g : Section) (l : ℕ) → IsAtLine t g page l layout.now gutter.old →
         OnOk result (IsBelow g.sheet l (length layout.now.labels) gutter.new) }
 {
     if !layout.has_rows() {
-        return Ok(());
+        return push_lone_row(pen, gutter, table, layout);
     }
     table.fill(pen.page().switches(), layout)?;
     push_label_rows(pen, gutter, table, layout, report)
+}
+
+/// Writes the row of underlines alone, if the line has one: none of its labels has a message.
+fn push_lone_row(
+    pen: &mut Pen<'_>,
+    gutter: &Gutter<'_>,
+    table: &mut LineTable,
+    layout: &LineLayout<'_>,
+) -> Result<(), AllocError>
+    requires page { gutter.now.page ≡ pen.old.page }
+    requires columns_fit { tab_columns pen.old.page.switches layout.now < 2 ^ 63 }
+    requires places_fit { arrow_len pen.old.page.switches layout.now < 2 ^ 64 }
+    requires silent { list_any (λ x. x.info.has_message) layout.now.labels ≡ false }
+    ensures { let page = pen.old.page in (t : Texts) (g : Section) (l : ℕ) →
+        IsAtLine t g page l layout.now gutter.now →
+        OnOk result (DrawsRows pen.old pen.new
+        (map (row_pieces t page.number_width g) (lone_rows g.sheet l))) }
+{
+    if !layout.is_lone(pen.page().switches()) {
+        return Ok(());
+    }
+    table.fill(pen.page().switches(), layout)?;
+    push_alternate_row(pen, gutter, table, layout.labels().len())
 }
 
 /// Writes the rows of the labels of a line.

@@ -18,6 +18,7 @@ pub struct Config {
     label_attach: LabelAttach,
     compact: bool,
     underlines: bool,
+    lone_underlines: bool,
     multiline_arrows: bool,
     color: bool,
     tab_width: usize,
@@ -36,6 +37,7 @@ impl Model for Config {
       label_attach = a.label_attach;
       compact = a.compact;
       underlines = a.underlines;
+      lone_underlines = a.lone_underlines;
       multiline_arrows = a.multiline_arrows;
       color = a.color;
       tab_width = a.tab_width;
@@ -50,6 +52,7 @@ impl Model for Config {
       label_attach = c.label_attach;
       compact = c.compact;
       underlines = c.underlines;
+      lone_underlines = c.lone_underlines;
       multiline_arrows = c.multiline_arrows;
       color = c.color;
       tab_width = c.tab_width;
@@ -62,8 +65,8 @@ impl Config {
     ghost use Rattle.ariadne_picture.specs.Report.{default_config};
 
     /// The default switches: gaps where arrows cross, arrows attached to the middle, not compact,
-    /// underlines, and arrows at the ends of labels over several lines. Colours, a tab stop every
-    /// 4 columns, box drawing characters, and offsets in characters.
+    /// underlines but no lone ones, and arrows at the ends of labels over several lines. Colours, a
+    /// tab stop every 4 columns, box drawing characters, and offsets in characters.
     pub const fn new() -> Config
         ensures { result ≡ default_config }
     {
@@ -75,6 +78,7 @@ impl Config {
             compact: false,
             cross_gap: true,
             underlines: true,
+            lone_underlines: false,
             multiline_arrows: true,
             tab_width: 4,
         }
@@ -144,6 +148,24 @@ impl Config {
         ensures { result ≡ record self { underlines = underlines } }
     {
         self.underlines = underlines;
+        self
+    }
+
+    /// Whether labels within one line are underlined also where no label of the line has a message:
+    /// in a row of their own, below the line. By default they are not. Compact pictures have no such
+    /// row, nor have those without underlines.
+    ///
+    /// ```text
+    /// with_lone_underlines(true)      with_lone_underlines(false)
+    ///  1 | int *p = x;                 1 | int *p = x;
+    ///    |          ^
+    /// ```
+    ///
+    /// Labels that only colour their code have such a row too.
+    pub const fn with_lone_underlines(mut self, lone_underlines: bool) -> Config
+        ensures { result ≡ record self { lone_underlines = lone_underlines } }
+    {
+        self.lone_underlines = lone_underlines;
         self
     }
 
@@ -233,6 +255,7 @@ impl Config {
             cross_gap: self.cross_gap,
             compact: self.compact,
             underlines: self.underlines,
+            lone_underlines: self.lone_underlines,
             multiline_arrows: self.multiline_arrows,
             tab_width: self.tab_width,
             char_set: self.char_set,

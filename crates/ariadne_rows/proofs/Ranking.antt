@@ -28,6 +28,7 @@ sheet_of labels = record {
     cross_gap = false;
     compact = false;
     underlines = false;
+    lone_underlines = false;
     multiline_arrows = false;
     tab_width = 0;
     char_set = Ascii;

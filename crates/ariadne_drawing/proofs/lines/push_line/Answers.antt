@@ -1,5 +1,5 @@
 -- A line is drawn from its extent, its text and its labels: its source row, then the rows below it.
-use Rattle.std.proofs.Common.{◌≡◌, ◌∙◌, ◌+◌, ◌<◌, ◌^◌, ℕ, List, [], ◌∷◌, length, map, refl, sym, ap, subst, arith}
+use Rattle.std.proofs.Common.{◌≡◌, ◌∙◌, ◌+◌, ◌<◌, ◌^◌, ℕ, List, [], ◌∷◌, ◌++◌, length, map, refl, sym, ap, subst, arith}
 use Rattle.std.specs.Prelude.{IfSome, chars}
 use Rattle.std.specs.List.{enumerate_from}
 use Rattle.std.specs.Option.{IsSome}
@@ -19,7 +19,7 @@ use Rattle.ariadne_picture.specs.Pieces.{Section, row_pieces}
 use Rattle.ariadne_picture.specs.declared.label_info.LineLabel.{LineLabel}
 use Rattle.ariadne_picture.specs.declared.switches.Switches.{Switches}
 use Rattle.ariadne_picture.specs.Ranks.{Sheet, line_labels, multi_line_labels}
-use Rattle.ariadne_picture.specs.Rows.{label_rows, line_rows, source}
+use Rattle.ariadne_picture.specs.Rows.{label_rows, line_rows, lone_rows, source}
 use Rattle.ariadne_rows.specs.Gutters.{IsBelow}
 use Rattle.ariadne_rows.specs.Headers.{IsOnPage}
 use Rattle.ariadne_rows.proofs.GutterSteps.{below-beside, beside-source}
@@ -282,7 +282,7 @@ returns-clause-drawn g c = λ s h shown.
     let kept = source-page g r layout in
     let at = at-line g (goal.at.returns-clause-drawn g c).In_ok-start_margin kept s h (layout s h) in
     let same : s.sheet.switches ≡ page.switches = drawn-switches t s page listing labels h in
-    let rows = λ (switches : Switches) (xs : List LineLabel). joined (label_rows switches.compact l) (enumerate_from 0 xs) in
+    let rows = λ (switches : Switches) (xs : List LineLabel). joined (label_rows switches.compact l) (enumerate_from 0 xs) ++ lone_rows s.sheet l in
     let there : rows page.switches y.labels ≡ rows s.sheet.switches (line_labels s.sheet l) =
     λ i. rows (sym same i) (layout-labels s.sheet l y at.layout i) in
     on_ok_weaker c.push_rows_below.result
