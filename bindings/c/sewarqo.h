@@ -82,7 +82,8 @@ enum {
     SEWARQO_NO_UNDERLINES = 16,
     SEWARQO_NO_MULTILINE_ARROWS = 32,
     SEWARQO_NO_CROSS_GAP = 64,       /* a crossing where strokes cross, and no gap */
-    SEWARQO_AS_IS = 128              /* texts are drawn as they are, with the escapes that they hold */
+    SEWARQO_AS_IS = 128,             /* texts are drawn as they are, with the escapes that they hold */
+    SEWARQO_LONE_UNDERLINES = 256    /* underlines also where no label of a line has a message */
 };
 
 /* Where the stroke of a label within a line is attached. */

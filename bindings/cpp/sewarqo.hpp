@@ -106,6 +106,7 @@ struct Config {
     Attach attach = Attach::middle;
     std::size_t tab_width = 4; // in columns; 0 is 4 too
     bool safe = true;          // without it texts are drawn as they are, with the escapes that they hold
+    bool lone_underlines = false; // underlines also where no label of a line has a message
 };
 
 // A picture, and the labels that are left out of it.
@@ -220,7 +221,8 @@ private:
                | (config.compact ? SEWARQO_COMPACT : 0) | (config.byte_offsets ? SEWARQO_BYTE_OFFSETS : 0)
                | (config.underlines ? 0 : SEWARQO_NO_UNDERLINES)
                | (config.multiline_arrows ? 0 : SEWARQO_NO_MULTILINE_ARROWS)
-               | (config.cross_gap ? 0 : SEWARQO_NO_CROSS_GAP) | (config.safe ? 0 : SEWARQO_AS_IS);
+               | (config.cross_gap ? 0 : SEWARQO_NO_CROSS_GAP) | (config.safe ? 0 : SEWARQO_AS_IS)
+               | (config.lone_underlines ? SEWARQO_LONE_UNDERLINES : 0);
     }
 
     sewarqo_report report_of(const Config &config, const std::vector<sewarqo_label> &labels,

@@ -147,6 +147,7 @@ class Config(NamedTuple):
     """How a report is drawn. `attach` is where strokes meet a label: "start", "middle" or "end".
 
     Where `safe` is off, texts are drawn as they are: an escape character in one reaches the terminal.
+    With `lone_underlines` labels are underlined also where no label of their line has a message.
 
     >>> report = Report("error", "a \\x1b[1mbold\\x1b[0m word")
     >>> report.render("", Config(color=False))
@@ -162,6 +163,7 @@ class Config(NamedTuple):
     attach: str = "middle"
     tab_width: int = 4
     safe: bool = True
+    lone_underlines: bool = False
 
 
 class LeftOut(NamedTuple):
@@ -431,6 +433,7 @@ def _flags(config: Config) -> int:
     return (
         1 * (not config.color) | 2 * config.ascii | 4 * config.compact | 16 * (not config.underlines)
         | 32 * (not config.multiline_arrows) | 64 * (not config.cross_gap) | 128 * (not config.safe)
+        | 256 * config.lone_underlines
     )
 
 

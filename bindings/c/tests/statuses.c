@@ -126,7 +126,7 @@ static void refusals(void) {
     call.report.kind_color = SEWARQO_BLUE;
     call.report.kind_name = BAD;
     refuse("the name of a kind", SEWARQO_BAD_KIND_NAME, 0);
-    call.report.flags = 256;
+    call.report.flags = 512;
     refuse("no flag", SEWARQO_BAD_FLAGS, 0);
     call.report.attach = 3;
     refuse("attached nowhere", SEWARQO_BAD_ATTACH, 0);

@@ -77,6 +77,7 @@ class Case:
             ascii=settings.get("char_set", "Ascii") == "Ascii",
             compact=settings.get("compact", False),
             underlines=settings.get("underlines", True),
+            lone_underlines=settings.get("lone_underlines", False),
             multiline_arrows=settings.get("multiline_arrows", True),
             cross_gap=settings.get("cross_gap", True),
             attach=settings.get("label_attach", "Middle").lower(),

@@ -51,7 +51,7 @@ STATUSES = [
     (4, 0, lambda it: set_field(it.report, "kind", 4)),
     (5, 0, lambda it: set_field(it.report, "kind", 3)),
     (6, 0, lambda it: set_kind_name(it.report)),
-    (7, 0, lambda it: set_field(it.report, "flags", 256)),
+    (7, 0, lambda it: set_field(it.report, "flags", 512)),
     (8, 0, lambda it: set_field(it.report, "attach", 3)),
     (9, 0, lambda it: set_field(it.report, "code", NO_OPTIONAL)),
     (10, 0, lambda it: set_field(it.report, "message", NO_TEXT)),

@@ -101,6 +101,7 @@ impl Words<'_> {
             .with_multiline_arrows(!has(32))
             .with_cross_gap(!has(64))
             .with_safe(!has(128))
+            .with_lone_underlines(has(256))
             .with_label_attach(attach)
             .with_tab_width(self.number())
     }

@@ -36,6 +36,7 @@ pub struct Config {
     pub(crate) label_attach: LabelAttach,
     pub(crate) compact: bool,
     pub(crate) underlines: bool,
+    pub(crate) lone_underlines: bool,
     pub(crate) multiline_arrows: bool,
     pub(crate) color: bool,
     pub(crate) tab_width: usize,
@@ -52,6 +53,7 @@ impl Config {
             label_attach: LabelAttach::Middle,
             compact: false,
             underlines: true,
+            lone_underlines: false,
             multiline_arrows: true,
             color: true,
             tab_width: 4,
@@ -82,6 +84,13 @@ impl Config {
     /// Whether labels within a line are underlined. Usually true.
     pub const fn with_underlines(mut self, underlines: bool) -> Config {
         self.underlines = underlines;
+        self
+    }
+
+    /// Whether labels within a line are underlined also where no label of the line has a message.
+    /// Usually false.
+    pub const fn with_lone_underlines(mut self, lone_underlines: bool) -> Config {
+        self.lone_underlines = lone_underlines;
         self
     }
 

@@ -193,6 +193,7 @@ fn flags_of(config: &Config) -> u32 {
         !config.multiline_arrows,
         !config.cross_gap,
         !config.safe,
+        config.lone_underlines,
     ];
     flags.iter().enumerate().map(|(bit, is_set)| u32::from(*is_set) << bit).sum()
 }

@@ -36,6 +36,7 @@ config_with flags attach tab_width = record {
   label_attach = attach_of attach;
   compact = has flags 4;
   underlines = not (has flags 16);
+  lone_underlines = has flags 256;
   multiline_arrows = not (has flags 32);
   color = not (has flags 1);
   tab_width = if tab_width == 0 then 4 else tab_width;

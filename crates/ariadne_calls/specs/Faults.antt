@@ -47,7 +47,7 @@ kind_faults r =
 
 -- those of the settings
 abbrev pub settings_faults : GivenReport → List Fault
-settings_faults r = when (nat_lt 255 r.flags) fault.Flags ++ when (nat_lt 2 r.attach) fault.Attach
+settings_faults r = when (nat_lt 511 r.flags) fault.Flags ++ when (nat_lt 2 r.attach) fault.Attach
 
 -- those of what stands in front of the labels
 abbrev pub head_faults : GivenReport → List Fault

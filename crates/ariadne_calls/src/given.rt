@@ -62,8 +62,8 @@ pub struct GivenReport<'a> {
     pub helps: &'a [Text<'a>],
     pub notes: &'a [Text<'a>],
     /// Bits: 1 no colours, 2 ASCII, 4 compact, 8 offsets in bytes, 16 no underlines, 32 no arrow
-    /// heads, 64 no gaps where strokes cross, 128 texts as they are. Without the last a sign stands
-    /// for each hidden character.
+    /// heads, 64 no gaps where strokes cross, 128 texts as they are, 256 underlines also where no
+    /// label of a line has a message. Without 128 a sign stands for each hidden character.
     pub flags: u32,
     /// Where strokes are attached to labels: 0 in the middle, 1 at the start, 2 at the end.
     pub attach: u32,

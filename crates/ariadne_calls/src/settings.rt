@@ -47,7 +47,7 @@ pub fn config_of(given: &GivenReport<'_>) -> Result<Config, Refusal>
     ensures sound { OnOk result (settings_faults given.now ≡ []) }
     ensures err { IfErr result (IsFirst (settings_faults given.now)) }
 {
-    if given.flags > 255 {
+    if given.flags > 511 {
         return Err(Refusal::Faulty(Fault::Flags));
     }
     if given.attach > 2 {
@@ -87,6 +87,7 @@ fn config_with(flags: u32, tab_width: usize) -> Config
         .with_compact(has(flags, 4))
         .with_index_type(index_type)
         .with_underlines(!has(flags, 16))
+        .with_lone_underlines(has(flags, 256))
         .with_multiline_arrows(!has(flags, 32))
         .with_cross_gap(!has(flags, 64))
         .with_tab_width(if tab_width == 0 { 4 } else { tab_width })
