@@ -16,14 +16,16 @@ use std::rt::{Env, Files};
 const NO_MEMORY: &[u8] = b"ariadne-show: no memory\n";
 
 /// What tools print, with a `@` for the folder of its files: JSON of cargo's about a file that is gone,
-/// with half of a pair that stands alone; a line of make's; gcc's text with lines in front, a snippet and
-/// notes; rustc's text; a line that its file lacks; mypy's text; and a line that passes.
+/// with half of a pair that stands alone; a line of make's; a report with a name of its own; gcc's text with
+/// lines in front, a snippet and notes; rustc's text; a line that its file lacks; mypy's text; and a line that
+/// passes.
 ///
 /// The longest line stands first. Where there is no memory for a line, a diagnostic that is held is shown
 /// as it was read, as in front of a line that can't be read: that is no beginning of the whole.
 const PRINTED: &str =
     "{\"reason\":\"compiler-message\",\"manifest_path\":\"/p/q/Cargo.toml\",\"message\":{\"message\":\"\\ud800\",\"level\":\"error\",\"spans\":[{\"file_name\":\"gone\",\"line_start\":1,\"column_start\":1,\"line_end\":1,\"column_end\":3,\"is_primary\":true,\"text\":[{\"text\":\"ab\"}]}],\"children\":[]}}
 make: Entering directory '@'
+{\"kind\":\"error\",\"name\":\"n\",\"message\":\"m\",\"labels\":[{\"file\":\"a.c\",\"start\":[1,5]}]}
 In file included from b.c:1:
 a.c: In function 'f':
 \x1b[1ma.c:1:9:\x1b[m error: m [-Wm]
@@ -63,7 +65,7 @@ let x = y;
 /// Words, with a `@` for the folder, by which all that is written of a diagnostic is written.
 const WORDS: &[&[&str]] = &[
     &["--ascii"],
-    &["--base", "@", "--max", "2"],
+    &["--base", "@", "--max", "3"],
     &["--output", "short"],
     &["--output", "github"],
     &["--output", "sarif"],
@@ -165,6 +167,12 @@ const READ: &[(&[&str], &str)] = &[
         &["--max", "4", "--color", "red", "a"],
         "ariadne-show: invalid value 'red' for '--color <WHEN>'\n  \
          [possible values: auto, always, never]\n\nFor more information, try '--help'.\n",
+    ),
+    (
+        &["--odd"],
+        "ariadne-show: unexpected argument '--odd' found\n\n  \
+         tip: to pass '--odd' as a value, use '-- --odd'\n\n\
+         Usage: ariadne-show [OPTIONS] [FILE]...\n\nFor more information, try '--help'.\n",
     ),
     (&["--base", "b", "--max", "4", "a", "-"], ""),
 ];

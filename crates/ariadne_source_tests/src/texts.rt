@@ -60,6 +60,9 @@ const LINES: &[&[&str]] = &[
     &["Some\n", "more\r\n", "lines"],
     &["\n", "\r\n", "\n", "Empty Lines"],
     &["Trailing spaces  \n", "are kept\t"],
+    &[
+        "xa line of some sixty characters that ends just before its next.Àa line of some sixty characters that ends just before its next.ab",
+    ],
     &["\n", "\r"],
     &[
         "CR\r",
