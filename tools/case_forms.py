@@ -121,6 +121,7 @@ SETTINGS = {
     "label_attach": words("Start", "Middle", "End"),
     "compact": SWITCH,
     "underlines": SWITCH,
+    "lone_underlines": SWITCH,
     "multiline_arrows": SWITCH,
     "color": SWITCH,
     "tab_width": WIDTH,

@@ -18,6 +18,7 @@ SETTINGS = {
     "label_attach": "Middle",
     "compact": False,
     "underlines": True,
+    "lone_underlines": False,
     "multiline_arrows": True,
     "color": False,
     "tab_width": 4,

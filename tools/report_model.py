@@ -270,9 +270,16 @@ class Layout:
 
     @cached_property
     def underlined_rank(self):
-        """The rank of the row that has the underlines: the first one with a message."""
+        """The rank of the row that has the underlines: the first one with a message, or behind all ranks."""
         ranks = (rank for rank, met in enumerate(self.labels) if met.label.has_message)
         return next(ranks, len(self.labels))
+
+    @cached_property
+    def has_underlines_alone(self):
+        """Whether the row below the line has underlines alone: no label has a message, and one holds something."""
+        is_asked = self.config["lone_underlines"] and self.config["underlines"] and not self.config["compact"]
+        labels = [met.label for met in self.labels]
+        return is_asked and any(label.length for label in labels) and not any(label.has_message for label in labels)
 
     def underline_at(self, rank, place):
         """Whose underline is seen at a place of the alternate row of a rank."""
@@ -297,7 +304,8 @@ class Row(NamedTuple):
 
     @property
     def rank(self):
-        """The rank of the label that an alternate or arrow row belongs to."""
+        """The rank of the label that an alternate or arrow row belongs to. That of a row of underlines alone is
+        behind all labels."""
         return (self.step - 1) // 2
 
 
@@ -388,6 +396,8 @@ class Group:
             if met.label.has_message:
                 rows += [] if self.config["compact"] else [alternate_row(line, rank)]
                 rows.append(arrow_row(line, rank))
+        if self.layouts[line].has_underlines_alone:
+            rows.append(alternate_row(line, len(self.layouts[line].labels)))
         return rows
 
     # The gutter
@@ -723,8 +733,8 @@ class Model:
         area = TextArea(group, layout)
         if row.name == SOURCE:
             return area.shown_cells()
-        own = layout.labels[row.rank]
-        has_text = row.name == ARROW and own.side != STARTS
+        own = layout.labels[row.rank] if row.name == ARROW else None
+        has_text = own is not None and own.side != STARTS
         message = [BLANK_CELL, (own.label.label["message"], None)] if has_text else []
         return chain(area.cells(row), message)
 

@@ -47,6 +47,7 @@ fn switched(told: &Value) -> Config {
     Config::new()
         .with_cross_gap(switch(told, "cross_gap", true))
         .with_underlines(switch(told, "underlines", true))
+        .with_lone_underlines(switch(told, "lone_underlines", false))
         .with_compact(switch(told, "compact", false))
         .with_multiline_arrows(switch(told, "multiline_arrows", true))
         .with_color(switch(told, "color", false))

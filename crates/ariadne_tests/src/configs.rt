@@ -13,6 +13,7 @@ fn a_new_configuration_is_the_default(rt: HostRuntime) {
         .with_label_attach(LabelAttach::Middle)
         .with_compact(false)
         .with_underlines(true)
+        .with_lone_underlines(false)
         .with_multiline_arrows(true)
         .with_color(true)
         .with_tab_width(4)

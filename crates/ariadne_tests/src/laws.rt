@@ -8,10 +8,10 @@ use ariadne::laws::{
     gutter_bars_are_whole, gutter_columns_show_their_strokes, gutter_labels_are_read_in_one_way,
     gutter_labels_have_a_first_and_a_last_row, in_order_is_a_stable_sort, inline_labels_are_traced,
     labels_are_drawn_or_listed, labels_end_no_earlier, lines_are_found_in_one_way,
-    messages_have_rows_of_their_own, no_gutter_stroke_is_without_a_cause,
-    no_stroke_is_without_a_cause, orders_of_a_picture, pictures_are_read_in_one_way,
-    pictures_can_be_read_back, rows_are_lines, rows_are_the_only_list,
-    rows_keep_the_columns_of_their_line, rows_stand_in_order,
+    lone_lines_are_underlined, messages_have_rows_of_their_own,
+    no_gutter_stroke_is_without_a_cause, no_stroke_is_without_a_cause, orders_of_a_picture,
+    pictures_are_read_in_one_way, pictures_can_be_read_back, rows_are_lines,
+    rows_are_the_only_list, rows_keep_the_columns_of_their_line, rows_stand_in_order,
     strokes_have_the_colors_of_their_labels, the_last_gutter_column_has_no_bar,
 };
 
@@ -44,6 +44,7 @@ fn every_law_of_finished_pictures_can_be_called() {
     no_stroke_is_without_a_cause::<u8, bool>();
     no_gutter_stroke_is_without_a_cause::<u8, bool>();
     strokes_have_the_colors_of_their_labels::<u8, bool>();
+    lone_lines_are_underlined::<u8, bool>();
     every_picture_can_be_read::<u8, bool>();
 }
 

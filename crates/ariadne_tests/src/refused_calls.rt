@@ -188,7 +188,6 @@ pub(crate) const CALLS: &[(&str, &[&str])] = &[
             "Block::take_row",
             "Snippet::take",
             "settle_marks",
-            "name_lone_places",
             // Which files it is about.
             "Finder::open",
             "Finder::settle",
