@@ -2,7 +2,6 @@ pub mod Lists
 pub mod Words
 pub mod Bared
 pub mod Joined
-pub mod Named
 pub mod Settled
 pub mod Said
 pub mod Viewed

@@ -3,7 +3,6 @@ pub mod Colors
 pub mod Drawn
 pub mod Files
 pub mod Fixes
-pub mod Lone
 pub mod Marks
 pub mod Messages
 pub mod Notes

@@ -10,7 +10,7 @@ use Rattle.ariadne.specs.Report.{ReportFields}
 use Rattle.ariadne_visible.specs.Visible.{visible_bytes}
 use Rattle.ariadne_visible.specs.declared.text.TextKind.TheVariants.{Aside}
 use Rattle.ariadne_told.specs.declared.diagnostic.Place.{Place}
-use Rattle.ariadne_show.specs.Asides.{aside_notes, missing, missing_notes, place_text, spot_text, with_helps, with_notes}
+use Rattle.ariadne_show.specs.Asides.{aside_notes, missing, missing_notes, spot_text, with_helps, with_notes}
 use Rattle.ariadne_show.specs.Found.{Files, is_found}
 
 -- no note more
@@ -44,7 +44,7 @@ texts_more xs all x text same more =
 -- ---- the places that can't be drawn
 
 note_of : Place → List ℕ
-note_of place = visible_bytes Aside (spot_text place (place_text place))
+note_of place = visible_bytes Aside (spot_text place (string_bytes place.text))
 
 pub missing_more : (files : Files) (xs all : List Place) (x : Place) → all ≡ xs ++ x ∷ []
     → missing_notes files xs ++ missing_notes files (x ∷ []) ≡ missing_notes files all
@@ -59,6 +59,6 @@ unfolding note_of
 not_missing files x found = ap (λ (b : Bool). map note_of (cond (not b) (x ∷ []) [])) found
 
 pub one_missing : (files : Files) (x : Place) → is_found files x ≡ false
-    → missing_notes files (x ∷ []) ≡ visible_bytes Aside (spot_text x (place_text x)) ∷ []
+    → missing_notes files (x ∷ []) ≡ visible_bytes Aside (spot_text x (string_bytes x.text)) ∷ []
 unfolding note_of
 one_missing files x found = ap (λ (b : Bool). map note_of (cond (not b) (x ∷ []) [])) found

@@ -28,6 +28,7 @@ lent x = record {
   caret = x.caret;
   start = x.start;
   end = x.end;
+  is_in_text = x.is_in_text;
   place = record { ref_ptr = (0, 0); now = x.place };
 }
 
@@ -105,26 +106,26 @@ labels_more r0 r s xs ys is more =
     more ∙ ap (with_labels ys) is
     ∙ ap (λ (l : List (LabelFields (ℕ × Range ℕ))). record r0 { labels = l }) (append_assoc r0.labels xs ys)
 
-labels_of_more : (index : IndexType) (sources : List SafeSource) (severity : Severity) (xs all : List FoundPlace)
+labels_of_more : (index : IndexType) (sources : List SafeSource) (severity : Severity) (is_compact : Bool) (xs all : List FoundPlace)
     (x : FoundPlace) → all ≡ xs ++ x ∷ []
-    → labels_of index sources severity (map found_of xs) ++ labels_of index sources severity (found_of x ∷ [])
-    ≡ labels_of index sources severity (map found_of all)
-labels_of_more index sources severity xs all x more =
-    sym (map-append (λ (it : Found). shown_label index sources (label_of severity it)) (map found_of xs) (found_of x ∷ []))
-    ∙ ap (labels_of index sources severity) (sym (map-append found_of xs (x ∷ [])))
-    ∙ ap (λ l. labels_of index sources severity (map found_of l)) (sym more)
+    → labels_of index sources severity is_compact (map found_of xs) ++ labels_of index sources severity is_compact (found_of x ∷ [])
+    ≡ labels_of index sources severity is_compact (map found_of all)
+labels_of_more index sources severity is_compact xs all x more =
+    sym (map-append (λ (it : Found). shown_label index sources (label_of severity is_compact it)) (map found_of xs) (found_of x ∷ []))
+    ∙ ap (labels_of index sources severity is_compact) (sym (map-append found_of xs (x ∷ [])))
+    ∙ ap (λ l. labels_of index sources severity is_compact (map found_of l)) (sym more)
 
-pub label_more : (r0 r s : ReportFields (ℕ × Range ℕ)) (under sources : List SafeSource) (severity : Severity)
+pub label_more : (r0 r s : ReportFields (ℕ × Range ℕ)) (under sources : List SafeSource) (severity : Severity) (is_compact : Bool)
     (xs all : List FoundPlace) (x : FoundPlace) (label : LabelFields (ℕ × Range ℕ))
-    → r ≡ with_labels (labels_of r0.config.index_type under severity (map found_of xs)) r0 → sources ≡ under
-    → label ≡ label_of severity (found_of x) → all ≡ xs ++ x ∷ []
+    → r ≡ with_labels (labels_of r0.config.index_type under severity is_compact (map found_of xs)) r0 → sources ≡ under
+    → label ≡ label_of severity is_compact (found_of x) → all ≡ xs ++ x ∷ []
     → s ≡ record r { labels = r.labels ++ shown_label r.config.index_type sources label ∷ [] }
-    → s ≡ with_labels (labels_of r0.config.index_type under severity (map found_of all)) r0
-label_more r0 r s under sources severity xs all x label is same look more one =
+    → s ≡ with_labels (labels_of r0.config.index_type under severity is_compact (map found_of all)) r0
+label_more r0 r s under sources severity is_compact xs all x label is same look more one =
     let index = r0.config.index_type in
-    let as_told : shown_label r.config.index_type sources label ≡ shown_label index under (label_of severity (found_of x)) =
+    let as_told : shown_label r.config.index_type sources label ≡ shown_label index under (label_of severity is_compact (found_of x)) =
     ap (λ (q : ReportFields (ℕ × Range ℕ)). shown_label q.config.index_type sources label) is
     ∙ ap (λ (l : List SafeSource). shown_label index l label) same ∙ ap (shown_label index under) look in
-    labels_more r0 r s (labels_of index under severity (map found_of xs)) (labels_of index under severity (found_of x ∷ [])) is
+    labels_more r0 r s (labels_of index under severity is_compact (map found_of xs)) (labels_of index under severity is_compact (found_of x ∷ [])) is
     (one ∙ ap (λ (l : LabelFields (ℕ × Range ℕ)). record r { labels = r.labels ++ l ∷ [] }) as_told)
-    ∙ ap (λ (l : List (LabelFields (ℕ × Range ℕ))). with_labels l r0) (labels_of_more index under severity xs all x more)
+    ∙ ap (λ (l : List (LabelFields (ℕ × Range ℕ))). with_labels l r0) (labels_of_more index under severity is_compact xs all x more)

@@ -1,6 +1,6 @@
 -- What a report says beside: the notes and helps of a diagnostic, and a note for each of its places
 -- that can't be drawn.
-use Rattle.std.specs.Prelude.{ℕ, ◌==◌, not, if◌then◌else◌, List, [], ◌++◌, length, map, filter}
+use Rattle.std.specs.Prelude.{ℕ, not, List, [], ◌++◌, map, filter}
 use Rattle.std.specs.Prelude.{Option, Some, None, String, string_bytes, codes, decimal}
 use Rattle.std.specs.declared.alloc.Global.{Global}
 use Rattle.std.specs.declared.ops.Range.{Range}
@@ -25,12 +25,6 @@ spot_name place =
 abbrev pub spot_text : Place → List ℕ → List ℕ
 spot_text place said = spot_name place ++ said
 
--- what a place says: one of the diagnostic's own that says nothing has a word
-abbrev pub place_text : Place → List ℕ
-place_text place =
-    if length (string_bytes place.text) == 0 then (if place.is_primary then codes "here" else [])
-    else string_bytes place.text
-
 -- the places that can't be drawn
 abbrev pub missing : Files → List Place → List Place
 missing files places = filter (λ place. not (is_found files place)) places
@@ -38,7 +32,7 @@ missing files places = filter (λ place. not (is_found files place)) places
 -- the notes: of these places, and of the diagnostic
 abbrev pub missing_notes : Files → List Place → List (List ℕ)
 missing_notes files places =
-    map (λ place. visible_bytes Aside (spot_text place (place_text place))) (missing files places)
+    map (λ place. visible_bytes Aside (spot_text place (string_bytes place.text))) (missing files places)
 
 abbrev pub aside_notes : List (String Global) → List (List ℕ)
 aside_notes texts = map (λ text. visible_bytes Aside (string_bytes text)) texts

@@ -2,7 +2,7 @@
 -- has the diagnostic's kind, its code and its message. What input and output know of their bytes is
 -- given before and after each step.
 use Rattle.std.specs.Prelude.{ℕ, ◌≡◌, if◌then◌else◌, List, [], ◌∷◌, ◌++◌, Option}
-use Rattle.std.specs.Prelude.{Some, None, codes, option_map, Ok}
+use Rattle.std.specs.Prelude.{Some, None, codes, option_map, true, Ok}
 use Rattle.std.specs.Prelude.{String, string_bytes, unwrap_or, Vec}
 use Rattle.std.specs.declared.alloc.Global.{Global}
 use Rattle.std.specs.declared.ops.Range.{Range}
@@ -51,12 +51,14 @@ kind_for (Some own) severity =
 abbrev pub kind_of : Diagnostic → Kind
 kind_of told = kind_for told.own_kind told.severity
 
--- the default configuration, but for the colours, the strokes and the size that are asked for
+-- the default configuration, but for the colours, the strokes and the size that are asked for, and with
+-- underlines also where no label of a line has a message
 abbrev pub config_of : Style → ConfigFields
 config_of style = record default_config {
   color = style.is_colored;
   char_set = if style.is_ascii then Ascii else Unicode;
   compact = style.is_compact;
+  lone_underlines = true;
 }
 
 -- a report has the configuration that is asked for, the kind and the code of a diagnostic, and a text as
@@ -88,7 +90,8 @@ pub record IsReportOf (style : Style) (files : Files) (told : Diagnostic) (main 
   pub span : report.span ≡ shown_header report.config.index_type sources main
   pub ordered : List Found
   pub places : AreOrdered files main.number told.places.items ordered
-  pub labels : report.labels ≡ labels_of report.config.index_type sources told.severity ordered
+  pub labels : report.labels
+      ≡ labels_of report.config.index_type sources told.severity style.is_compact ordered
   pub notes : report.notes ≡ notes_of files told
   pub helps : report.helps ≡ helps_of told
 

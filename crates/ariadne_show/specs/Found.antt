@@ -129,12 +129,14 @@ caret_in held place = option_map (caret_by held place place.marks) (spot_in held
 
 -- ---- places that were found
 
--- the number of a file, the character that the tool points at, and those of a place
+-- the number of a file, the character that the tool points at, those of a place, and whether the file has
+-- the first of these
 pub record Found : Type 0 where
   pub number : ℕ
   pub caret : ℕ
   pub start : ℕ
   pub end : ℕ
+  pub is_in_text : Bool
   pub place : Place
 
 abbrev pub found_of : FoundPlace → Found
@@ -143,16 +145,19 @@ found_of it = record {
   caret = it.caret;
   start = it.start;
   end = it.end;
+  is_in_text = it.is_in_text;
   place = it.place.now;
 }
 
--- where a place stands in a file, which points at its start where the file has no caret
+-- where a place stands in a file, which points at its start where the file has no caret, and whether the
+-- file has its first character
 abbrev pub found_at : Held → Place → Range ℕ → Found
 found_at held place span = record {
   number = held.number;
   caret = unwrap_or (caret_in held place) span.start;
   start = span.start;
   end = span.end;
+  is_in_text = nat_lt span.start (length held.columns);
   place = place;
 }
 

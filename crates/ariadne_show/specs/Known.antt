@@ -5,7 +5,6 @@ use Rattle.std.specs.Prelude.{Option, Some, None, is_some}
 use Rattle.ariadne_blocks.specs.Blocks.{is_about, may_go_on, path_of, told_of, view_of, HasNoMoreRows, IsMore, IsNamed}
 use Rattle.ariadne_blocks.specs.Blocks.{IsQuotedBy, IsRow, IsSameBlock}
 use Rattle.ariadne_blocks.specs.Drawn.{all_settled, marks_at, marks_of}
-use Rattle.ariadne_blocks.specs.Lone.{named}
 use Rattle.ariadne_blocks.specs.declared.block.Block.{Block}
 use Rattle.ariadne_blocks.specs.declared.line.Line.{Line}
 use Rattle.ariadne_told.specs.Arrows.{arrow_in}
@@ -216,10 +215,10 @@ IsBlockTaken note first last (Some block) = IsGivenOut note first last block
 -- ---- the end of a diagnostic
 
 -- a diagnostic of which all lines were read is settled: its places without marks have those that were drawn at the
--- same spots, and those in lines of which nothing is said have a word
+-- same spots
 pub record AreMarksSettled (told settled : Diagnostic) (first last : Known) : Type 0 where
   pub places : map seen settled.places.items
-      ≡ named (all_settled [] (map marks_of first.marked.items) (map seen told.places.items))
+      ≡ all_settled [] (map marks_of first.marked.items) (map seen told.places.items)
   pub others : settled ≡ record told { places = settled.places }
   pub marked : map marks_of last.marked.items
       ≡ flat_map marks_at (all_settled [] (map marks_of first.marked.items) (map seen told.places.items))

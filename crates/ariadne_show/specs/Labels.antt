@@ -1,7 +1,7 @@
 -- The labels of a report: one for each place of a diagnostic that was found, in an order in which those
 -- of a line stand together.
-use Rattle.std.specs.Prelude.{ℕ, ◌==◌, max, Bool, not, if◌then◌else◌, List, ◌++◌, length, map}
-use Rattle.std.specs.Prelude.{Option, Some, None, option_and_then, unwrap_or}
+use Rattle.std.specs.Prelude.{ℕ, ◌==◌, max, Bool, false, not, ◌&&◌, nat_lt, if◌then◌else◌, List, ◌++◌, length, map}
+use Rattle.std.specs.Prelude.{Option, Some, None, option_and_then, string_bytes, unwrap_or}
 use Rattle.std.specs.List.{filter_map}
 use Rattle.std.specs.List.Sorted.{IsPermutation, IsSortedByKey, IsStableByKey}
 use Rattle.std.specs.Ordering.{bool_cmp, nat_cmp, ordering_then}
@@ -15,10 +15,12 @@ use Rattle.ariadne_safe.specs.Reports.{shown_label, shown_place}
 use Rattle.ariadne_safe.specs.declared.sources.SafeSource.{SafeSource}
 use Rattle.ariadne_told.specs.Told.{main_of}
 use Rattle.ariadne_told.specs.declared.diagnostic.Diagnostic.{Diagnostic}
+use Rattle.ariadne_told.specs.declared.diagnostic.End.{End}
+use Rattle.ariadne_told.specs.declared.diagnostic.End.TheVariants.{Before, Behind, OfWord}
 use Rattle.ariadne_told.specs.declared.diagnostic.Place.{Place}
 use Rattle.ariadne_told.specs.declared.diagnostic.Severity.{Severity}
 use Rattle.ariadne_told.specs.declared.diagnostic.Severity.TheVariants.{Error, Warning, Note}
-use Rattle.ariadne_show.specs.Asides.{place_text}
+use Rattle.ariadne_told.specs.declared.diagnostic.Spot.{Spot}
 use Rattle.ariadne_show.specs.Found.{Files, Found, found_in}
 
 -- ---- their order
@@ -66,15 +68,34 @@ severity_color Error = Red
 severity_color Warning = Yellow
 severity_color Note = Fixed 147
 
--- what a label says, if anything
-abbrev pub message_of : List ℕ → Option (List ℕ)
-message_of text = if length text == 0 then None else Some text
+-- a place goes over several lines: as its marks do, or else from its start up to its end
+abbrev pub goes_over_lines : ℕ → End → Option (Spot × Spot) → Bool
+goes_over_lines line end (Some range) = not (range.0.line == range.1.line)
+goes_over_lines line (Before spot) None = not (spot.line == line)
+goes_over_lines line (Behind spot) None = not (spot.line == line)
+goes_over_lines line OfWord None = false
+
+abbrev pub is_over_lines : Place → Bool
+is_over_lines place = goes_over_lines place.start.line place.end place.marks
+
+-- the label of a place needs no arrow: underlines show it, as it has a character of the file and is within
+-- one line. In a compact picture, which has none, the diagnostic's own place needs one
+abbrev pub is_underlined : Bool → Found → Bool
+is_underlined is_compact it =
+    it.is_in_text && nat_lt it.start it.end && not (is_over_lines it.place)
+    && not (is_compact && it.place.is_primary)
+
+-- what a label says. Where that is nothing it has no message, or an empty one if it needs an arrow
+abbrev pub message_of : Bool → Found → Option (List ℕ)
+message_of is_compact it =
+    if length (string_bytes it.place.text) == 0 && is_underlined is_compact it then None
+    else Some (string_bytes it.place.text)
 
 -- the label of a place that was found
-abbrev pub label_of : Severity → Found → LabelFields (ℕ × Range ℕ)
-label_of severity it = record {
+abbrev pub label_of : Severity → Bool → Found → LabelFields (ℕ × Range ℕ)
+label_of severity is_compact it = record {
   span = (it.number, record { start = it.start; end = max it.end it.start });
-  message = message_of (place_text it.place);
+  message = message_of is_compact it;
   color = Some (unwrap_or it.place.look.color
       (if it.place.is_primary then severity_color severity else Blue));
   order = it.place.look.order;
@@ -82,10 +103,10 @@ label_of severity it = record {
 }
 
 -- the labels, as they are shown over sources
-abbrev pub labels_of : IndexType → List SafeSource → Severity → List Found
+abbrev pub labels_of : IndexType → List SafeSource → Severity → Bool → List Found
     → List (LabelFields (ℕ × Range ℕ))
-labels_of index_type sources severity ordered =
-    map (λ it. shown_label index_type sources (label_of severity it)) ordered
+labels_of index_type sources severity is_compact ordered =
+    map (λ it. shown_label index_type sources (label_of severity is_compact it)) ordered
 
 -- a report with more labels
 abbrev pub with_labels : List (LabelFields (ℕ × Range ℕ)) → ReportFields (ℕ × Range ℕ)

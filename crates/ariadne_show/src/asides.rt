@@ -4,7 +4,7 @@ ghost use Rattle.std.specs.Prelude.{◌≡◌, ℕ, List, [], ◌∷◌, ◌++�
 ghost use Rattle.ariadne_safe.specs.Building.{made_of, sources_under};
 ghost use Rattle.ariadne_show.specs.Asides.{aside_notes, helps_of, missing_notes, notes_of};
 ghost use Rattle.ariadne_show.specs.Asides.{column_text as text_of_column, spot_name as name_of_spot};
-ghost use Rattle.ariadne_show.specs.Asides.{place_text as text_of_place, spot_text as text_of_spot};
+ghost use Rattle.ariadne_show.specs.Asides.{spot_text as text_of_spot};
 ghost use Rattle.ariadne_show.specs.Asides.{with_helps as more_helps, with_notes as more_notes};
 ghost use Rattle.ariadne_show.specs.Found.{files_of};
 
@@ -62,7 +62,7 @@ fn with_missing_one<'s>(
     match found_place(shelf, place) {
         Some(_) => Ok(builder),
         None => {
-            let note = spot_text(alloc, place, place_text(place))?;
+            let note = spot_text(alloc, place, place.text.as_str())?;
             builder.with_note(note.as_str())
         }
     }
@@ -122,16 +122,5 @@ fn column_text(alloc: Global, column: Option<usize>) -> Result<String, AllocErro
     match column {
         Some(column) => format!(in alloc; ":{column}"),
         None => Ok(String::new(alloc)),
-    }
-}
-
-/// What the label or the note of a place says. One without a text is drawn only beside others, so that
-/// of the diagnostic's own place has a word.
-pub fn place_text(place: &Place) -> &str
-    ensures { result.now ≡ text_of_place place.now }
-{
-    match place.text.as_str() {
-        "" if place.is_primary => "here",
-        said => said,
     }
 }

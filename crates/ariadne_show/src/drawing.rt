@@ -13,11 +13,13 @@ ghost use Rattle.ariadne_show.specs.Drawn.{AreSaid, IsHeadDrawn, IsPicture, IsRe
 ghost use Rattle.ariadne_show.specs.Drawn.{IsToldDrawn};
 ghost use Rattle.ariadne_show.specs.Found.{files_of, found_of};
 ghost use Rattle.ariadne_show.specs.Labels.{label_of as label_fields, labels_of, severity_color};
+ghost use Rattle.ariadne_show.specs.Labels.{is_over_lines as goes_over_several};
+ghost use Rattle.ariadne_show.specs.Labels.{is_underlined as underlines_show};
 ghost use Rattle.ariadne_show.specs.Labels.{with_labels as more_labels};
 ghost use Rattle.ariadne_show.specs.Read.{sources_in};
 ghost use Rattle.ariadne_show.specs.Said.{first_line, lines_of};
 
-use crate::asides::{place_text, spot_text, with_asides};
+use crate::asides::{spot_text, with_asides};
 use crate::fault::Fault;
 use crate::found::{FoundPlace, found_main, ordered_places};
 use crate::options::Style;
@@ -25,7 +27,7 @@ use crate::shelf::Shelf;
 use crate::texts::line_texts;
 use ariadne::{CharSet, Color, Config, Label, ReportKind};
 use ariadne_safe::{SafeBuilder, SafeKind, SafeReport};
-use ariadne_told::{Diagnostic, Severity};
+use ariadne_told::{Diagnostic, End, Place, Severity};
 use ariadne_visible::{TextKind, visible};
 use std::alloc::{AllocError, Global};
 use std::io::Write;
@@ -205,7 +207,13 @@ fn report_of<'s>(
     let builder = SafeBuilder::new(alloc, shelf.sources(), kind, span, config_of(style));
     let builder = with_code(builder.with_message(told.message.as_str())?, told)?;
     let places = ordered_places(alloc, shelf, told.places.as_slice(), main.number)?;
-    let builder = with_labels(alloc, builder, told.severity, places.as_slice())?;
+    let builder = with_labels(
+        alloc,
+        builder,
+        told.severity,
+        style.is_compact,
+        places.as_slice(),
+    )?;
     Ok(with_asides(alloc, builder, shelf, told)?.finish())
 }
 
@@ -225,16 +233,17 @@ fn with_labels<'s>(
     alloc: Global,
     builder: SafeBuilder<'s>,
     severity: Severity,
+    is_compact: bool,
     places: &[FoundPlace<'_>],
 ) -> Result<SafeBuilder<'s>, AllocError>
     ensures report { IfOk result (λ b. made_of b ≡ more_labels
         (labels_of (made_of builder.entry).config.index_type (sources_under builder.entry) severity
-        (map found_of places.now)) (made_of builder.entry)) }
+        is_compact (map found_of places.now)) (made_of builder.entry)) }
     ensures sources { IfOk result (λ b. sources_under b ≡ sources_under builder.entry) }
 {
     let mut builder = builder;
     for it in places {
-        builder = builder.with_label(label_of(alloc, severity, it)?)?;
+        builder = builder.with_label(label_of(alloc, severity, is_compact, it)?)?;
     }
     Ok(builder)
 }
@@ -243,9 +252,11 @@ fn with_labels<'s>(
 fn label_of(
     alloc: Global,
     severity: Severity,
+    is_compact: bool,
     it: &FoundPlace<'_>,
 ) -> Result<Label<Piece>, AllocError>
-    ensures { IfOk result (λ label. label ≡ label_fields severity (found_of it.now)) }
+    ensures { IfOk result (λ label. label
+        ≡ label_fields severity is_compact (found_of it.now)) }
 {
     let look = it.place.look;
     let own_color = if it.place.is_primary {
@@ -257,9 +268,32 @@ fn label_of(
         .with_color(look.color.unwrap_or(own_color))
         .with_order(look.order)
         .with_priority(look.priority);
-    match place_text(it.place) {
-        "" => Ok(label),
-        said => label.with_message(alloc, said),
+    if it.place.text.is_empty() && is_underlined(it, is_compact) {
+        Ok(label)
+    } else {
+        label.with_message(alloc, it.place.text.as_str())
+    }
+}
+
+/// Whether the label of a place needs no arrow. Underlines show the place, but where it is empty or goes
+/// over several lines; in compact pictures, which have none, the diagnostic's own place needs one.
+fn is_underlined(it: &FoundPlace<'_>, is_compact: bool) -> bool
+    ensures { result ≡ underlines_show is_compact (found_of it.now) }
+{
+    it.is_in_text
+        && it.start < it.end
+        && !is_over_lines(it.place)
+        && !(is_compact && it.place.is_primary)
+}
+
+/// Whether a place goes over several lines.
+fn is_over_lines(place: &Place) -> bool
+    ensures { result ≡ goes_over_several place.now }
+{
+    match (place.marks, place.end) {
+        (Some((start, end)), _) => start.line != end.line,
+        (None, End::Before(spot) | End::Behind(spot)) => spot.line != place.start.line,
+        (None, End::OfWord) => false,
     }
 }
 
@@ -318,4 +352,5 @@ fn config_of(style: Style) -> Config
         .with_color(style.is_colored)
         .with_compact(style.is_compact)
         .with_char_set(char_set)
+        .with_lone_underlines(true)
 }

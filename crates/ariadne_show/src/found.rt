@@ -20,6 +20,8 @@ pub struct FoundPlace<'a> {
     pub start: usize,
     /// The one behind its last.
     pub end: usize,
+    /// Whether the file has its first character.
+    pub is_in_text: bool,
     /// The place.
     pub place: &'a Place,
 }
@@ -37,6 +39,7 @@ pub fn found_place<'a>(shelf: &Shelf, place: &'a Place) -> Option<FoundPlace<'a>
         caret: held.caret(place).unwrap_or(span.start),
         start: span.start,
         end: span.end,
+        is_in_text: span.start < held.columns.len(),
         place,
     })
 }

@@ -13,7 +13,7 @@ ghost use Rattle.ariadne_show.specs.Read.{HaveSources};
 use crate::finder::Finder;
 use crate::front::{PlacedHead, Role, WaitingLine, ends_in_head, role_of};
 use crate::options::Options;
-use ariadne_blocks::{Block, Drawn, Line, name_lone_places, settle_marks};
+use ariadne_blocks::{Block, Drawn, Line, settle_marks};
 use ariadne_told::{Arrow, Diagnostic, Sent, arrow_of, is_tally};
 use std::alloc::{AllocError, Global};
 use std::rt::Files;
@@ -149,13 +149,12 @@ impl Known {
         }
     }
 
-    /// Gives the places of a diagnostic of which all lines were read what shows them: marks that were drawn
-    /// at the same spots, and a word where nothing is said in their lines.
+    /// Gives the places of a diagnostic of which all lines were read the marks that were drawn at the same
+    /// spots.
     pub fn settle(&mut self, alloc: Global, told: &mut Diagnostic) -> Result<(), AllocError>
         ensures { OnOk result (AreMarksSettled told.old told.new self.old self.new) }
     {
-        settle_marks(alloc, &mut self.marked, told.places.as_mut_slice())?;
-        name_lone_places(alloc, told.places.as_mut_slice())
+        settle_marks(alloc, &mut self.marked, told.places.as_mut_slice())
     }
 
     /// The diagnostic in front, which is then no longer held, if there is one that a note is about.

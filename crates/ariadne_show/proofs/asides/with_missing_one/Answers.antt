@@ -23,9 +23,9 @@ returns-in-Some c =
 pub returns-in_ok-note-in-None : goal.returns-in_ok-note-in-None
 returns-in_ok-note-in-None c =
     let place = c.args.place.now in
-    let one : visible_bytes Aside c.as_str.result.now ∷ [] ≡ missing_notes (files_of c.args.shelf.now) (place ∷ []) =
+    let one : visible_bytes Aside c.as_str-in-None.result.now ∷ [] ≡ missing_notes (files_of c.args.shelf.now) (place ∷ []) =
     ap (λ t. visible_bytes Aside t ∷ [])
-    (c.as_str.ensures.value ∙ c.in_ok-note-in-None.ensures.text ∙ ap (spot_text place) c.place_text.ensures)
+    (c.as_str-in-None.ensures.value ∙ c.in_ok-note-in-None.ensures.text ∙ ap (spot_text place) c.as_str.ensures.value)
     ∙ sym (one_missing (files_of c.args.shelf.now) place (ap is_some (sym c.in-None.ensures.found))) in record {
       report = subst (λ (l : List (List ℕ)). IfOk c.with_note.result (λ (b : SafeBuilder). made_of b ≡ with_notes l (made_of c.args.builder)))
           one c.with_note.ensures.report;

@@ -34,12 +34,12 @@ returns c =
     let ordered = map found_of c.in_ok-places.places.items in
     let placed : AreOrdered files main.number told.places.items ordered =
     subst (λ (places : List Place). AreOrdered files main.number places ordered) c.as_slice.ensures.value c.in_ok-places.ensures in
-    let labelled : made_of c.in_ok-builder-2.builder ≡ with_labels (labels_of built.config.index_type under told.severity ordered) built =
+    let labelled : made_of c.in_ok-builder-2.builder ≡ with_labels (labels_of built.config.index_type under told.severity c.args.style.is_compact ordered) built =
     c.in_ok-builder-2.ensures.report
-    ∙ ap (λ (places : List FoundPlace). with_labels (labels_of built.config.index_type under told.severity (map found_of places)) built)
+    ∙ ap (λ (places : List FoundPlace). with_labels (labels_of built.config.index_type under told.severity c.args.style.is_compact (map found_of places)) built)
     c.as_slice-2.ensures.value in
     let whole : report ≡ with_helps (helps_of told) (with_notes (notes_of files told)
-    (with_labels (labels_of built.config.index_type under told.severity ordered) built)) =
+    (with_labels (labels_of built.config.index_type under told.severity c.args.style.is_compact ordered) built)) =
     c.finish.ensures.report ∙ c.in_ok-with_asides.ensures.report
     ∙ ap (λ (r : ReportFields (ℕ × Range ℕ)). with_helps (helps_of told) (with_notes (notes_of files told) r)) labelled in
     let span : built.span ≡ shown_header built.config.index_type under main =

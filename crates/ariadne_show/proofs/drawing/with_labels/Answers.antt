@@ -17,7 +17,7 @@ loop-it-preserved c =
     let more : take (i + 1) all ≡ take i all ++ it ∷ [] =
     take_more all i it c.loop-it-test.true ∙ ap (λ x. take i all ++ x ∷ []) (sym c.it-item.is) in record {
       report = label_more (made_of c.args.builder) (made_of c.loop-it.builder) (made_of c.in_ok-builder.builder)
-          (sources_under c.args.builder) (sources_under c.loop-it.builder) c.args.severity (take i all) (take (i + 1) all) it
+          (sources_under c.args.builder) (sources_under c.loop-it.builder) c.args.severity c.args.is_compact (take i all) (take (i + 1) all) it
           _ c.loop-it.invariant.report c.loop-it.invariant.sources c.in_ok-label_of.ensures more
           c.in_ok-builder.ensures.report;
       sources = c.in_ok-builder.ensures.sources ∙ c.loop-it.invariant.sources;

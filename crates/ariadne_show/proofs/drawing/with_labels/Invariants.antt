@@ -8,7 +8,7 @@ use Rattle.ariadne_show.proofs.drawing.with_labels.Given as goal
 abbrev pub invariant-loop-it : goal.invariant-loop-it
 invariant-loop-it l = record {
   report : made_of l.builder
-      ≡ with_labels (labels_of (made_of l.fn.builder).config.index_type (sources_under l.fn.builder) l.severity
+      ≡ with_labels (labels_of (made_of l.fn.builder).config.index_type (sources_under l.fn.builder) l.severity l.is_compact
       (map found_of (take l.it-index l.places))) (made_of l.fn.builder);
   sources : sources_under l.builder ≡ sources_under l.fn.builder;
 }
