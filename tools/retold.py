@@ -9,8 +9,6 @@ from copy import deepcopy
 from judging import LIKE, headers_of, parts_of
 from marks import Diagnostic, Line, Piece
 
-HERE = "here"
-
 
 def label_of(piece, text, is_primary=False):
     """A label of the program's own form."""
@@ -21,10 +19,10 @@ def label_of(piece, text, is_primary=False):
 def labels_of(told):
     """The labels of a diagnostic: one at its place, those of its pieces, and those of its notes."""
     if told.column and told.pieces[0].end_line:
-        yield label_of(Piece(told.path, told.line, told.column, told.line, told.column + 1), HERE, True)
+        yield label_of(Piece(told.path, told.line, told.column, told.line, told.column + 1), "", True)
     for part in parts_of(told):
         for number, piece in enumerate(part.pieces):
-            own = HERE if part is told or number else part.message.strip()
+            own = "" if part is told or number else part.message.strip()
             yield label_of(piece, piece.label or own, part is told)
 
 
