@@ -79,8 +79,7 @@ Examples:
      ,-[ x.py:1:5 ]
      |
    1 | a = b
-     |     |
-     |     `-- here
+     |     ^
   ---'
   1 error
 
