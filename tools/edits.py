@@ -1,8 +1,8 @@
 """Edits of a crate's code that the prover has to refuse, and copies of a crate in which they are made.
 
-An edit is a file in the form of crates/CRATE/must-fail, with one line more:
+An edit is a file in the form that `rt` reads, with one line more, which it passes over:
 
-    by: MODULE::TYPE::FUNCTION     the function whose proof refuses it, as the prover names it below the crate
+    # by: MODULE::TYPE::FUNCTION   the function whose proof refuses it, as the prover names it below the crate
     file: src/lines.rt
     old: column.saturating_add(1)  stands once in that file, in the body of this function or outside of all bodies
     new: column
@@ -15,7 +15,7 @@ import re
 import shutil
 from typing import NamedTuple
 
-LINE = re.compile(r"^(by|file|old|new): ?(.*)$", re.M)
+LINE = re.compile(r"^(# by|file|old|new): ?(.*)$", re.M)
 FUNCTION = re.compile(r"^( *)(?:pub(?:\([a-z ]+\))? )?(?:const )?(?:unsafe )?fn (\w+)")
 LEFT_OUT = "unreachable!()"  # stands for a body that a copy doesn't have, whatever the function returns
 PARTS = ("src", "specs", "proofs")
@@ -41,7 +41,7 @@ def read_edit(name, text):
     """The edit of this name and text. It may be cut short, which `made` tells."""
     by, file, old, pairs = "", "", "", []
     for word, rest in LINE.findall(text):
-        if word == "by":
+        if word == "# by":
             by = rest
         elif word == "file":
             file = rest
