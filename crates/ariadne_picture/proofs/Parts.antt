@@ -3,28 +3,27 @@ use Rattle.std.proofs.Common.{◌≡◌, ℕ, Bool, false, List, ◌∷◌, Opti
 use Rattle.std.specs.Prelude.{◌==◌, ◌&&◌, ◌||◌, not, nat_lt, if◌then◌else◌, slice_index, decimal, codes, unwrap_or, option_and_then}
 use Rattle.std.specs.List.{enumerate_from}
 use Rattle.std.specs.Option.{option_map_or}
-use Rattle.ariadne_base.specs.Listing.{listed_lines}
 use Rattle.ariadne_picture.specs.declared.label_info.LabelInfo.{LabelInfo}
 use Rattle.ariadne_picture.specs.declared.label_info.LineLabel.{LineLabel}
 use Rattle.ariadne_picture.specs.declared.label_info.Side.{Side}
 use Rattle.ariadne_picture.specs.declared.cell.Ink.{Ink}
 use Rattle.ariadne_picture.specs.declared.switches.Switches.{Switches}
 use Rattle.ariadne_picture.specs.Lists.{joined, any_numbered}
-use Rattle.ariadne_picture.specs.Report.{ReportFields, World, switches_of}
-use Rattle.ariadne_picture.specs.Groups.{group_end_line, printed_number}
-use Rattle.ariadne_picture.specs.Ranks.{Sheet, gutter_labels, is_margin}
+use Rattle.ariadne_picture.specs.Report.{ReportFields, World}
+use Rattle.ariadne_picture.specs.Groups.{printed_number}
+use Rattle.ariadne_picture.specs.Ranks.{Sheet, last_line, gutter_labels, is_margin}
 use Rattle.ariadne_picture.specs.Rows.{Row, before}
 use Rattle.ariadne_picture.specs.Columns.{Layout, column_of, shown}
 use Rattle.ariadne_picture.specs.Strokes.{Spot, corner, level, free, first_row, last_row, has_tee}
 use Rattle.ariadne_picture.specs.Cells.{arrow_ink}
 use Rattle.ariadne_picture.specs.Pieces.{Piece, Section, char_paint, char_pieces, section_rows}
-use Rattle.ariadne_picture.specs.Canvas.{Cell, header_pieces, texts_of, group_id, group_source, groups, number_width, section_of, sections, outline}
+use Rattle.ariadne_picture.specs.Canvas.{Cell, header_pieces, texts_of, group_id, groups, number_width, section_of, sections, outline}
 use Rattle.ariadne_picture.specs.Placing.Rows.{Placing}
 use Rattle.ariadne_picture.proofs.Lists.Joined.{joined-map}
 
 -- how many digits the number of a group's last line has
-abbrev pub number_len : ℕ → List LabelInfo → ℕ
-number_len display_offset group = length (decimal (printed_number display_offset (group_end_line group)))
+abbrev pub number_len : ℕ → Sheet → ℕ
+number_len display_offset h = length (decimal (printed_number display_offset (last_line h)))
 
 -- a line label is the start, or the end, of gutter label i
 abbrev pub is_end_of_gutter_label : (Side → Bool) → ℕ → LineLabel → Bool
@@ -58,10 +57,6 @@ is_crossed_in canvas sections p g s i n =
     any_numbered (λ m a. nat_lt m i && ((p.head_row g m == n) || (p.message_row a.position == n))) (gutter_labels s.sheet)
 
 module _ {S Id : Type 0} (w : World S Id) (r : ReportFields S) where
-  -- a group's labels over the lines of its source
-  abbrev pub sheet_of : List LabelInfo → Sheet
-  sheet_of group = record { switches = switches_of r.config; lines = listed_lines (group_source w r group); labels = group }
-
   -- what the source of a group is called in its header
   abbrev pub group_name : List LabelInfo → List ℕ
   group_name group = unwrap_or (option_and_then w.name_of (group_id w r group)) (codes "<unknown>")

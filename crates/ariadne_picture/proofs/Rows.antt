@@ -1,4 +1,5 @@
 -- The rows of a group, by their names.
+pub mod NearLines
 pub mod RowOrder
 pub mod LoneRows
 pub mod BarCases

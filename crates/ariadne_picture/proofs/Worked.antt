@@ -4,6 +4,7 @@ pub mod Sample
 mod InlinePictures
 mod LonePictures
 mod ColumnPictures
+mod ContextPictures
 mod GroupPictures
 mod LongLabelPictures
 mod AsidePictures

@@ -16,7 +16,8 @@ use Rattle.ariadne_picture.specs.Report.{ReportFields, World, switches_of, error
 use Rattle.ariadne_picture.specs.Report.{custom}
 use Rattle.ariadne_picture.specs.Report as report
 use Rattle.ariadne_picture.specs.Accept.{text_len, offset_in_chars}
-use Rattle.ariadne_picture.specs.Groups.{ordered, groups_of, greatest, group_end_line, printed_number}
+use Rattle.ariadne_picture.specs.Groups.{ordered, groups_of, greatest, printed_number}
+use Rattle.ariadne_picture.specs.Ranks.{Sheet, last_line}
 use Rattle.ariadne_picture.specs.Pieces.{Piece, painted_text, plain_text, Texts, Section}
 use Rattle.ariadne_picture.specs.Pieces.{section_rows}
 
@@ -133,10 +134,15 @@ module _ {S Id : Type 0} (w : World S Id) (r : ReportFields S) where
       then offset_in_chars r.config.index_type text start else None)
       else option_map (λ a. a.start) (slice_get group 0)
 
+  -- a group's labels over the lines of its source
+  abbrev pub sheet_of : List LabelInfo → Sheet
+  sheet_of group =
+      record { switches = switches_of r.config; lines = listed_lines (group_source group); labels = group }
+
   -- group number k of n: its labels over the lines of its source, whose name the group header tells
   unfoldable pub section_of : ℕ → ℕ × List LabelInfo → Section
   section_of n e = record {
-    sheet = record { switches = switches_of r.config; lines = listed_lines (group_source e.1); labels = e.1 };
+    sheet = sheet_of e.1;
     name = unwrap_or (option_and_then w.name_of (group_id e.1)) (codes "<unknown>");
     display_offset = (group_source e.1).display_offset;
     header_offset = header_offset e.1;
@@ -152,7 +158,7 @@ module _ {S Id : Type 0} (w : World S Id) (r : ReportFields S) where
   unfoldable pub number_width : List (List LabelInfo) → ℕ
   number_width gs =
       greatest (map (λ group.
-      length (decimal (printed_number (group_source group).display_offset (group_end_line group)))) gs)
+      length (decimal (printed_number (group_source group).display_offset (last_line (sheet_of group))))) gs)
 
   -- the groups of these labels, each within the picture
   unfoldable pub sections : List LabelInfo → List Section

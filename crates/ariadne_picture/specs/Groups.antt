@@ -1,9 +1,8 @@
 -- The groups of a picture: the drawn labels in order, cut wherever the source changes or a label
 -- ends on an earlier line than the one before it. Each group shows the lines from its first to its
 -- last.
-use Rattle.std.specs.Prelude.{ℕ, suc, ◌+◌, ◌-◌, ◌≡◌, max, Bool, true, false, not, ◌||◌, nat_lt}
+use Rattle.std.specs.Prelude.{ℕ, ◌+◌, ◌≡◌, max, Bool, true, false, not, ◌||◌, nat_lt}
 use Rattle.std.specs.Prelude.{int_lt, if◌then◌else◌, cond, List, [], ◌∷◌, map}
-use Rattle.std.specs.List.{range_with_len}
 use Rattle.ariadne_picture.specs.declared.label_info.LabelInfo.{LabelInfo}
 use Rattle.ariadne_picture.specs.Lists.{in_order, joined}
 
@@ -76,11 +75,6 @@ group_end_line group = greatest (map (λ a. a.end_line) group)
 -- its first line
 unfoldable pub group_start_line : List LabelInfo → ℕ
 group_start_line group = least_below (group_end_line group) (map (λ a. a.start_line) group)
-
--- all lines from the first to the last
-unfoldable pub group_lines : List LabelInfo → List ℕ
-group_lines group =
-    range_with_len (group_start_line group) (suc (group_end_line group) - group_start_line group)
 
 -- a line's number as it is printed: from 1, with the source's display offset
 unfoldable pub printed_number : ℕ → ℕ → ℕ

@@ -2,15 +2,18 @@
 -- a message owns a gutter column, the longest one the leftmost. At each line one of those that
 -- start or end there may be the margin label, whose arrow leaves the gutter beside the source row.
 -- The other labels of the line are its line labels, which have rows below it.
-use Rattle.std.specs.Prelude.{ℕ, ◌-◌, Bool, true, false, not, ◌&&◌, ◌||◌, ◌==◌, nat_lt, int_lt}
+use Rattle.std.specs.Prelude.{ℕ, suc, ◌+◌, ◌-◌, min, Bool, true, false, not, ◌&&◌, ◌||◌, ◌==◌}
+use Rattle.std.specs.Prelude.{nat_lt, int_lt}
 use Rattle.std.specs.Prelude.{if◌then◌else◌, List, [], ◌∷◌, ◌++◌, length, map, Option, Some, None}
 use Rattle.std.specs.Prelude.{filter, is_some}
+use Rattle.std.specs.List.{list_all, range_with_len}
 use Rattle.ariadne_picture.specs.declared.label_info.LabelInfo.{LabelInfo}
 use Rattle.ariadne_picture.specs.declared.label_info.LineLabel.{LineLabel}
 use Rattle.ariadne_picture.specs.declared.label_info.Side.{Side}
 use Rattle.ariadne_picture.specs.declared.label_info.Side.TheVariants.{Inline, Starts, Ends}
 use Rattle.ariadne_picture.specs.declared.switches.Switches.{Switches}
 use Rattle.ariadne_picture.specs.Lists.{in_order, best, joined_numbered}
+use Rattle.ariadne_picture.specs.Groups.{group_start_line, group_end_line}
 
 -- a group's labels in order, over the lines of its source, in characters
 pub record Sheet : Type 0 where
@@ -32,6 +35,22 @@ is_start side = false
 unfoldable pub is_end : Side → Bool
 is_end Ends = true
 is_end side = false
+
+-- ---- the lines that are shown, or stand between such
+
+-- the first: the line of the group's first label, or one before it
+unfoldable pub first_line : Sheet → ℕ
+first_line h = group_start_line h.labels - h.switches.context_lines
+
+-- the last: the line of its last label, or one of those that the source has behind it
+unfoldable pub last_line : Sheet → ℕ
+last_line h =
+    let last = group_end_line h.labels in
+    last + min h.switches.context_lines (length h.lines - suc last)
+
+-- all lines from the first to the last
+unfoldable pub group_lines : Sheet → List ℕ
+group_lines h = range_with_len (first_line h) (suc (last_line h) - first_line h)
 
 -- ---- the gutter
 
@@ -102,6 +121,14 @@ line_labels h l =
     in_order is_before (filter (λ x. not (is_start x.side && is_margin (margin_label h l) x))
     (ends_at h l) ++ inline_labels h l)
 
--- whether nothing of the group is shown at a line
+-- whether no label of the group has anything at a line
+unfoldable pub is_unlabelled : Sheet → ℕ → Bool
+is_unlabelled h l = (length (line_labels h l) == 0) && not (is_some (margin_label h l))
+
+-- a line with the n lines before it and the n behind it
+unfoldable pub lines_near : ℕ → ℕ → List ℕ
+lines_near n l = range_with_len (l - n) (l + n + 1 - (l - n))
+
+-- whether a line is not shown: no label of the group has anything at it or near it
 unfoldable pub is_hidden : Sheet → ℕ → Bool
-is_hidden h l = (length (line_labels h l) == 0) && not (is_some (margin_label h l))
+is_hidden h l = list_all (is_unlabelled h) (lines_near h.switches.context_lines l)

@@ -22,6 +22,7 @@ pub record ConfigFields : Type 0 where
   pub multiline_arrows : Bool
   pub color : Bool
   pub tab_width : ℕ
+  pub context_lines : ℕ
   pub char_set : CharSet
   pub index_type : IndexType
 
@@ -36,6 +37,7 @@ default_config = record {
   multiline_arrows = true;
   color = true;
   tab_width = 4;
+  context_lines = 0;
   char_set = Unicode;
   index_type = Char;
 }
@@ -113,5 +115,6 @@ switches_of config = record {
   lone_underlines = config.lone_underlines;
   multiline_arrows = config.multiline_arrows;
   tab_width = config.tab_width;
+  context_lines = config.context_lines;
   char_set = config.char_set;
 }

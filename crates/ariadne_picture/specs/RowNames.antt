@@ -3,8 +3,7 @@
 use Rattle.std.specs.Prelude.{ℕ, ◌≡◌, ◌⊎◌, ◌-◌, ◌<◌, ◌≤◌, Bool, true, false, List, Some, length, slice_get}
 use Rattle.std.specs.Str.Lines.{lines}
 use Rattle.ariadne_picture.specs.declared.label_info.LineLabel.{LineLabel}
-use Rattle.ariadne_picture.specs.Groups.{group_start_line, group_end_line}
-use Rattle.ariadne_picture.specs.Ranks.{Sheet, line_labels, is_hidden}
+use Rattle.ariadne_picture.specs.Ranks.{Sheet, line_labels, is_hidden, first_line, last_line}
 use Rattle.ariadne_picture.specs.Rows.{Aside, help, note, Row, group_header, spacer, source, alternate}
 use Rattle.ariadne_picture.specs.Rows.{arrow, gap, bare, blank, piece, tail, is_inside, is_lone}
 
@@ -15,13 +14,13 @@ asides_of note helps notes = notes
 
 -- a group has line l
 abbrev pub HasLine : Sheet → ℕ → Type 0
-HasLine h l = (group_start_line h.labels ≤ l) × (l ≤ group_end_line h.labels)
+HasLine h l = (first_line h ≤ l) × (l ≤ last_line h)
 
 -- line l is hidden, and the line before it is not, or is none of the group
 pub record BeginsHidden (h : Sheet) (l : ℕ) : Type 0 where
   pub line : HasLine h l
   pub hidden : is_hidden h l ≡ true
-  pub first : (l ≡ group_start_line h.labels) ⊎ (is_hidden h (l - 1) ≡ false)
+  pub first : (l ≡ first_line h) ⊎ (is_hidden h (l - 1) ≡ false)
 
 -- line label r of line l has a message
 pub record HasMessage (h : Sheet) (l r : ℕ) : Type 0 where

@@ -13,8 +13,7 @@ use Rattle.ariadne_base.specs.Locations.{line_offset, upto}
 use Rattle.ariadne_picture.specs.declared.label_info.LineLabel.{LineLabel}
 use Rattle.ariadne_picture.specs.declared.switches.Switches.{Switches}
 use Rattle.ariadne_picture.specs.Lists.{joined}
-use Rattle.ariadne_picture.specs.Groups.{group_lines, group_start_line}
-use Rattle.ariadne_picture.specs.Ranks.{Sheet, is_hidden, line_labels, is_on_one_line}
+use Rattle.ariadne_picture.specs.Ranks.{Sheet, is_hidden, line_labels, is_on_one_line, first_line, group_lines}
 
 -- what stands below the lines of the last group
 pub data Aside : Type 0 where
@@ -96,7 +95,7 @@ is_inside h l =
 unfoldable pub line_rows : Sheet → ℕ → List Row
 line_rows h l =
     if is_hidden h l then
-    (if nat_lt (group_start_line h.labels) l && is_hidden h (l - 1) then []
+    (if nat_lt (first_line h) l && is_hidden h (l - 1) then []
     else if is_inside h l then gap l ∷ []
     else if h.switches.compact then [] else bare l ∷ [])
     else source l
@@ -116,6 +115,6 @@ unfoldable pub rows : Sheet → Bool → List (List ℕ) → List (List ℕ) →
 rows h is_last helps notes =
     let compact = h.switches.compact in
     group_header ∷ (if compact then [] else spacer ∷ [])
-    ++ joined (line_rows h) (group_lines h.labels)
+    ++ joined (line_rows h) (group_lines h)
     ++ (if is_last then asides compact help helps ++ asides compact note notes else [])
     ++ (if compact then [] else tail ∷ [])

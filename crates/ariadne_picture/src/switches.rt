@@ -38,5 +38,7 @@ pub struct Switches {
     pub lone_underlines: bool,
     pub multiline_arrows: bool,
     pub tab_width: usize,
+    /// How many lines without labels are shown before and behind each that has some.
+    pub context_lines: usize,
     pub char_set: CharSet,
 }

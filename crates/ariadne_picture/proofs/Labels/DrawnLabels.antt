@@ -27,7 +27,7 @@ use Rattle.ariadne_picture.proofs.Lists.Elements.{all-from, increasing-from}
 use Rattle.ariadne_picture.proofs.Lists.ListFacts.{Increasing, none≢some, all-at, all-in_order}
 use Rattle.ariadne_picture.proofs.Labels.Cutting.{together, groups-exist}
 use Rattle.ariadne_picture.proofs.Labels.LabelPlaces.{IsPlaced, info-placed}
-use Rattle.ariadne_picture.proofs.Parts.{sheet_of}
+use Rattle.ariadne_picture.specs.Canvas.{sheet_of}
 
 -- ---- offsets in characters
 

@@ -76,7 +76,7 @@ module _ (v : Picture) {g : ℕ} {s : Section} {i : ℕ} {a : LabelInfo} (o : Is
       → list_any (λ m. source_row v g m == number v g s (source l)) (shown_lines s) ≡ true
   unfolding shown_lines
   is-source {l} line =
-      let here = has-filter (λ l. not (is_hidden s.sheet l)) _ _ l (group-line-at s.sheet.labels l line.low line.high) (ap not line.seen) in
+      let here = has-filter (λ l. not (is_hidden s.sheet l)) _ _ l (group-line-at s.sheet l line.low line.high) (ap not line.seen) in
       list_any-true _ (shown_lines s) here.place l here.there (eq-eqb _ _ (source-is v line))
 
   -- a row whose margin ends in no broken bar is no gap row

@@ -8,8 +8,7 @@ use Rattle.std.proofs.lemmas.Bool.{eqb-true, eq-eqb, cond-true, cond-false, true
 use Rattle.ariadne_picture.specs.declared.label_info.LabelInfo.{LabelInfo}
 use Rattle.ariadne_picture.specs.declared.label_info.LineLabel.{LineLabel}
 use Rattle.ariadne_picture.specs.Bars.{EndsNoEarlier}
-use Rattle.ariadne_picture.specs.Groups.{group_start_line, group_end_line}
-use Rattle.ariadne_picture.specs.Ranks.{is_start, is_of_gutter_label, margin_label, gutter_labels, line_labels}
+use Rattle.ariadne_picture.specs.Ranks.{is_start, is_of_gutter_label, margin_label, gutter_labels, line_labels, first_line, last_line}
 use Rattle.ariadne_picture.specs.Rows.{source, arrow}
 use Rattle.ariadne_picture.specs.Strokes.{is_at_margin}
 use Rattle.ariadne_picture.specs.Pieces.{Section}
@@ -58,8 +57,8 @@ margin-of (Some m) i h = (m, refl, eqb-true m.gutter_column i h)
 
 module _ (v : Picture) {g : ℕ} {s : Section} {i : ℕ} {a : LabelInfo} (o : IsGutterLabelOf v g s i a) where
   -- a gutter label lies within the lines of its group
-  pub gutter-label-lines : (group_start_line s.sheet.labels ≤ a.start_line) × (a.start_line ≤ a.end_line)
-      × (a.end_line ≤ group_end_line s.sheet.labels)
+  pub gutter-label-lines : (first_line s.sheet ≤ a.start_line) × (a.start_line ≤ a.end_line)
+      × (a.end_line ≤ last_line s.sheet)
   gutter-label-lines =
       let within = gutter-label-within s.sheet i a o.owned in
       (within.0, all-at EndsNoEarlier _ i a o.owned (all-gutter-labels EndsNoEarlier s.sheet (v.drawn.rises g s o.group)), within.1)

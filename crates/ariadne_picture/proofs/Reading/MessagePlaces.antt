@@ -10,8 +10,7 @@ use Rattle.ariadne_picture.specs.declared.label_info.LabelInfo.{LabelInfo}
 use Rattle.ariadne_picture.specs.declared.label_info.LineLabel.{LineLabel}
 use Rattle.ariadne_picture.specs.Lists.{joined}
 use Rattle.ariadne_picture.specs.Bars.{EndsNoEarlier}
-use Rattle.ariadne_picture.specs.Groups.{group_start_line, group_end_line, group_lines}
-use Rattle.ariadne_picture.specs.Ranks.{Sheet, is_start, line_labels}
+use Rattle.ariadne_picture.specs.Ranks.{Sheet, is_start, line_labels, first_line, last_line, group_lines}
 use Rattle.ariadne_picture.specs.Rows.{arrow}
 use Rattle.ariadne_picture.specs.Pieces.{Section}
 use Rattle.ariadne_picture.specs.Placing.Group.{messages_of}
@@ -21,7 +20,7 @@ use Rattle.ariadne_picture.proofs.Labels.LabelsAtLine.{same-part, increasing-par
 use Rattle.ariadne_picture.proofs.Lists.ListFacts.{all-filtered, all-joined, all-map, all-at}
 use Rattle.ariadne_picture.proofs.Rows.RowNumbers.{at-part}
 use Rattle.ariadne_picture.proofs.Rows.RowPlacing.{row_list, start_row, rows_of_labels, message_rows, row_placing}
-use Rattle.ariadne_picture.proofs.Rows.RowsThere.{starts-within, ends-within, shown-by-label}
+use Rattle.ariadne_picture.proofs.Rows.RowsThere.{starts-shown, ends-shown, shown-by-label}
 use Rattle.ariadne_picture.proofs.Reading.Pictures.{Picture, number, message_row, number-at}
 use Rattle.ariadne_picture.proofs.Reading.ShownLine.{all-group-lines, group-line-at, IsArrowRow, numbered-at, arrow-row, arrow-at}
 
@@ -92,23 +91,23 @@ module _ (v : Picture) where
       (all-numbered _ v.sections (λ g s e. e))
     where
       of_group : (g : ℕ) (s : Section) → slice_get v.sections g ≡ Some s
-          → AllByRecursion (IsShowing v k) (joined (rows_of_labels v.texts v.sections g s (shows_number k)) (group_lines s.sheet.labels))
+          → AllByRecursion (IsShowing v k) (joined (rows_of_labels v.texts v.sections g s (shows_number k)) (group_lines s.sheet))
       of_group g s h =
-          all-joined _ (λ l. Unit {0}) _ (group_lines s.sheet.labels)
+          all-joined _ (λ l. Unit {0}) _ (group_lines s.sheet)
           (λ l b. all-found g s (shows_number k) l _ (λ r x e passes.
           record { group = g; section = s; line = l; rank = r; label = x; here = h; there = e; shows = passes; is = refl }))
-          (all-group-lines _ s.sheet.labels (λ l low high. tt))
+          (all-group-lines _ s.sheet (λ l low high. tt))
 
   -- and it finds the arrow row of each line label that shows it
   has-showing : (k g : ℕ) (s : Section) (l r : ℕ) (x : LineLabel) → slice_get v.sections g ≡ Some s
-      → group_start_line s.sheet.labels ≤ l → l ≤ group_end_line s.sheet.labels → slice_get (line_labels s.sheet l) r ≡ Some x
+      → first_line s.sheet ≤ l → l ≤ last_line s.sheet → slice_get (line_labels s.sheet l) r ≡ Some x
       → shows_number k x ≡ true → Has (message_rows v.texts v.sections k) (number v g s (arrow l r))
   unfolding message_rows
   has-showing k g s l r x h low high e passes =
       let found = rows_of_labels v.texts v.sections in
-      has-joined (λ e. joined (found e.0 e.1 (shows_number k)) (group_lines e.1.sheet.labels)) (enumerate_from 0 v.sections) g (g, s) _
+      has-joined (λ e. joined (found e.0 e.1 (shows_number k)) (group_lines e.1.sheet)) (enumerate_from 0 v.sections) g (g, s) _
       (numbered-at _ g s h)
-      (has-joined (found g s (shows_number k)) (group_lines s.sheet.labels) _ l _ (group-line-at s.sheet.labels l low high)
+      (has-joined (found g s (shows_number k)) (group_lines s.sheet) _ l _ (group-line-at s.sheet l low high)
       (has-found g s (shows_number k) l r x e passes))
 
   -- ---- labels of the picture
@@ -124,11 +123,11 @@ module _ (v : Picture) where
 
   -- a label lies within the lines of its group
   label-within : (g j : ℕ) (s : Section) (a : LabelInfo) → slice_get v.sections g ≡ Some s → slice_get s.sheet.labels j ≡ Some a
-      → (group_start_line s.sheet.labels ≤ a.end_line) × (a.end_line ≤ group_end_line s.sheet.labels)
+      → (first_line s.sheet ≤ a.end_line) × (a.end_line ≤ last_line s.sheet)
   label-within g j s a e f =
-      let low = all-at (λ (a : LabelInfo). group_start_line s.sheet.labels ≤ a.start_line) _ j a f (starts-within s.sheet.labels) in
+      let low = all-at (λ (a : LabelInfo). first_line s.sheet ≤ a.start_line) _ j a f (starts-shown s.sheet) in
       let up = all-at EndsNoEarlier _ j a f (v.drawn.rises g s e) in
-      (omega arith, all-at (λ (a : LabelInfo). a.end_line ≤ group_end_line s.sheet.labels) _ j a f (ends-within s.sheet.labels))
+      (omega arith, all-at (λ (a : LabelInfo). a.end_line ≤ last_line s.sheet) _ j a f (ends-shown s.sheet))
 
   -- ---- messages
 

@@ -10,8 +10,7 @@ use Rattle.ariadne_picture.specs.declared.switches.Switches.{Switches}
 use Rattle.ariadne_picture.specs.declared.cell.Glyph.TheVariants.{Vbar}
 use Rattle.ariadne_picture.specs.declared.label_info.LabelInfo.{LabelInfo}
 use Rattle.ariadne_picture.specs.Lists.{joined}
-use Rattle.ariadne_picture.specs.Groups.{group_lines}
-use Rattle.ariadne_picture.specs.Ranks.{multi_line_labels, gutter_labels, is_hidden}
+use Rattle.ariadne_picture.specs.Ranks.{multi_line_labels, gutter_labels, is_hidden, group_lines}
 use Rattle.ariadne_picture.specs.Rows.{row_key, Row, source, arrow}
 use Rattle.ariadne_picture.specs.Columns.{layout_of}
 use Rattle.ariadne_picture.specs.Pieces.{Piece, Section, glyph_text, margin_text, blank_piece}

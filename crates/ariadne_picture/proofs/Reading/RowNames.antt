@@ -9,8 +9,7 @@ use Rattle.ariadne_picture.proofs.Lists.Elements.{Has, all-from}
 use Rattle.ariadne_picture.proofs.Rows.LoneRows.{lone}
 use Rattle.ariadne_picture.specs.declared.label_info.LineLabel.{LineLabel}
 use Rattle.ariadne_picture.specs.Lists.{joined}
-use Rattle.ariadne_picture.specs.Groups.{group_start_line, group_end_line, group_lines}
-use Rattle.ariadne_picture.specs.Ranks.{Sheet, line_labels, is_hidden}
+use Rattle.ariadne_picture.specs.Ranks.{Sheet, line_labels, is_hidden, first_line, last_line, group_lines}
 use Rattle.ariadne_picture.specs.Rows.{Row, Aside, help, note, group_header, spacer, source, alternate, arrow, gap, bare, blank, piece, tail}
 use Rattle.ariadne_picture.specs.Rows.{is_inside, line_rows, aside_rows, asides, rows}
 use Rattle.ariadne_picture.specs.Pieces.{Section}
@@ -23,8 +22,8 @@ use Rattle.ariadne_picture.proofs.Rows.RowPlacing.{row_list}
 
 -- line l is shown, with line label r, which has a message
 pub record IsLabelRow (s : Sheet) (l r : ℕ) : Type 0 where
-  pub low : group_start_line s.labels ≤ l
-  pub high : l ≤ group_end_line s.labels
+  pub low : first_line s ≤ l
+  pub high : l ≤ last_line s
   pub seen : is_hidden s l ≡ false
   pub label : LineLabel
   pub there : slice_get (line_labels s l) r ≡ Some label
@@ -32,14 +31,14 @@ pub record IsLabelRow (s : Sheet) (l r : ℕ) : Type 0 where
 
 -- line l is shown, and its block has row x
 pub record IsInBlock (s : Sheet) (l : ℕ) (x : Row) : Type 0 where
-  pub low : group_start_line s.labels ≤ l
-  pub high : l ≤ group_end_line s.labels
+  pub low : first_line s ≤ l
+  pub high : l ≤ last_line s
   pub seen : is_hidden s l ≡ false
   pub row : Has (shown_rows s l) x
 
 -- what the name of a row tells
 abbrev pub IsName : Sheet → Row → Type 0
-IsName s (source l) = (group_start_line s.labels ≤ l) × (l ≤ group_end_line s.labels) × (is_hidden s l ≡ false)
+IsName s (source l) = (first_line s ≤ l) × (l ≤ last_line s) × (is_hidden s l ≡ false)
 IsName s (alternate l r) = IsInBlock s l (alternate l r) × (s.switches.compact ≡ false)
 IsName s (arrow l r) = IsLabelRow s l r
 IsName s (gap l) = is_hidden s l ≡ true
@@ -56,12 +55,12 @@ module _ (s : Sheet) where
   one-or-none b x f = cond_both b [] (x ∷ []) all (λ _. tt) (λ e. (f e, tt))
 
   -- a hidden line has a gap row or a bare row or none, a shown one its source row and its block
-  line-names : (l : ℕ) → group_start_line s.labels ≤ l → l ≤ group_end_line s.labels → all (line_rows s l)
+  line-names : (l : ℕ) → first_line s ≤ l → l ≤ last_line s → all (line_rows s l)
   unfolding line_rows shown_rows
   line-names l low high =
       let bare_row = if s.switches.compact then [] else bare l ∷ [] in
       let row = if is_inside s l then gap l ∷ [] else bare_row in
-      let later : Bool = nat_lt (group_start_line s.labels) l && is_hidden s (l - 1) in
+      let later : Bool = nat_lt (first_line s) l && is_hidden s (l - 1) in
       cond_both (is_hidden s l) (if later then [] else row) _ all
       (λ hidden. cond_both later [] row all (λ _. tt)
       (λ _. cond_both (is_inside s l) (gap l ∷ []) bare_row all (λ _. (hidden, tt))
@@ -93,13 +92,13 @@ module _ (s : Sheet) where
   names-are is_last helps notes =
       let compact = s.switches.compact in
       let top = group_header ∷ (if compact then [] else spacer ∷ []) in
-      let body = joined (line_rows s) (group_lines s.labels) in
+      let body = joined (line_rows s) (group_lines s) in
       let aside = (if is_last then asides compact help helps ++ asides compact note notes else []) in
       all-append _ (top ++ body ++ aside) _
       (all-append _ (top ++ body) aside
       (all-append _ top body (tt, one-or-none compact spacer (λ _. tt))
-      (all-joined _ (λ l. (group_start_line s.labels ≤ l) × (l ≤ group_end_line s.labels)) (line_rows s) (group_lines s.labels)
-      (λ l b. line-names l b.0 b.1) (all-group-lines _ s.labels (λ l low high. (low, high)))))
+      (all-joined _ (λ l. (first_line s ≤ l) × (l ≤ last_line s)) (line_rows s) (group_lines s)
+      (λ l b. line-names l b.0 b.1) (all-group-lines _ s (λ l low high. (low, high)))))
       (cond_both is_last _ [] all
       (λ _. all-append _ _ (asides compact note notes) (aside-names compact help helps) (aside-names compact note notes)) (λ _. tt)))
       (one-or-none compact tail (λ _. tt))

@@ -5,9 +5,7 @@ use Rattle.std.specs.Prelude.{slice_get, slice_index_or}
 use Rattle.std.specs.List.{AllByRecursion, list_all, enumerate_from}
 use Rattle.std.proofs.lemmas.Bool.{not-true}
 use Rattle.std.proofs.lemmas.Option.{slice_get-get_or}
-use Rattle.ariadne_picture.specs.declared.label_info.LabelInfo.{LabelInfo}
-use Rattle.ariadne_picture.specs.Groups.{group_start_line, group_end_line, group_lines}
-use Rattle.ariadne_picture.specs.Ranks.{is_hidden}
+use Rattle.ariadne_picture.specs.Ranks.{is_hidden, Sheet, first_line, last_line, group_lines}
 use Rattle.ariadne_picture.specs.Rows.{Row, source, arrow, alternate}
 use Rattle.ariadne_picture.specs.Columns.{layout_of, arrow_len}
 use Rattle.ariadne_picture.specs.Pieces.{Section}
@@ -31,8 +29,8 @@ use Rattle.ariadne_picture.proofs.Reading.Pictures.{number-at}
 -- group g, which is s, shows line l
 pub record IsShownLine (v : Picture) (g : ℕ) (s : Section) (l : ℕ) : Type 0 where
   pub group : slice_get v.sections g ≡ Some s
-  pub low : group_start_line s.sheet.labels ≤ l
-  pub high : l ≤ group_end_line s.sheet.labels
+  pub low : first_line s.sheet ≤ l
+  pub high : l ≤ last_line s.sheet
   pub seen : is_hidden s.sheet l ≡ false
 
 -- line label r of a shown line, which is x, has a message, and its arrow row stands at this index of the block
@@ -48,18 +46,18 @@ abbrev pub places_of : Section → ℕ → ℕ
 places_of s l = arrow_len s.sheet.switches (layout_of s.sheet l)
 
 -- the lines of a group are those from its first one to its last one
-pub all-group-lines : (P : ℕ → Type 0) (labels : List LabelInfo)
-    → ((l : ℕ) → group_start_line labels ≤ l → l ≤ group_end_line labels → P l) → AllByRecursion P (group_lines labels)
+pub all-group-lines : (P : ℕ → Type 0) (s : Sheet)
+    → ((l : ℕ) → first_line s ≤ l → l ≤ last_line s → P l) → AllByRecursion P (group_lines s)
 unfolding group_lines
-all-group-lines P labels f = all-range P _ _ (λ j less. f (group_start_line labels + j) (omega arith) (omega arith))
+all-group-lines P s f = all-range P _ _ (λ j less. f (first_line s + j) (omega arith) (omega arith))
 
 -- and each of these has its place among them
-pub group-line-at : (labels : List LabelInfo) (l : ℕ) → group_start_line labels ≤ l → l ≤ group_end_line labels
-    → slice_get (group_lines labels) (l - group_start_line labels) ≡ Some l
+pub group-line-at : (s : Sheet) (l : ℕ) → first_line s ≤ l → l ≤ last_line s
+    → slice_get (group_lines s) (l - first_line s) ≡ Some l
 unfolding group_lines
-group-line-at labels l low high =
-    let whole : group_start_line labels + (l - group_start_line labels) ≡ l = omega arith in
-    range-at (group_start_line labels) _ _ (omega arith) ∙ ap Some whole
+group-line-at s l low high =
+    let whole : first_line s + (l - first_line s) ≡ l = omega arith in
+    range-at (first_line s) _ _ (omega arith) ∙ ap Some whole
 
 -- element k of a numbered list is element k with its number
 pub numbered-at : {X : Type 0} (xs : List X) (k : ℕ) (x : X) → slice_get xs k ≡ Some x → slice_get (enumerate_from 0 xs) k ≡ Some (k, x)
@@ -72,7 +70,7 @@ module _ (v : Picture) where
   unfolding shown_lines
   every-line g s P e h =
       all-filtered P (λ l. not (is_hidden s.sheet l)) _
-      (all-group-lines _ s.sheet.labels (λ l low high n. h l (record { group = e; low = low; high = high; seen = not-true _ n })))
+      (all-group-lines _ s.sheet (λ l low high n. h l (record { group = e; low = low; high = high; seen = not-true _ n })))
 
   -- a test that each shown line of each group passes
   pub every-shown-line : (test : ℕ → Section → ℕ → Bool)

@@ -16,7 +16,7 @@ use Rattle.ariadne_picture.specs.declared.switches.Switches.{Switches}
 use Rattle.ariadne_picture.specs.declared.cell.Glyph.TheVariants.{Vbar}
 use Rattle.ariadne_picture.specs.declared.label_info.LabelInfo.{LabelInfo}
 use Rattle.ariadne_picture.specs.Groups.{greatest, group_end_line, printed_number}
-use Rattle.ariadne_picture.specs.Ranks.{multi_line_labels}
+use Rattle.ariadne_picture.specs.Ranks.{multi_line_labels, last_line}
 use Rattle.ariadne_picture.specs.Rows.{Row, group_header, source, rows}
 use Rattle.ariadne_picture.specs.Columns.{layout_of}
 use Rattle.ariadne_picture.specs.Pieces.{Piece, Section, glyph_text, shown_pieces}
@@ -56,7 +56,7 @@ ends-at ls a h =
 
 -- so each shown line is one of its source
 line-within : (v : Picture) → ArePlaced v → {g : ℕ} {s : Section} {l : ℕ} → IsShownLine v g s l → 0 < length s.sheet.lines → l < length s.sheet.lines
-unfolding group_end_line
+unfolding last_line group_end_line
 line-within v placed {g} {s} {l} h some =
     let last = greatest-less (length s.sheet.lines) (map (λ (a : LabelInfo). a.end_line) s.sheet.labels) some
     (all-map _ (λ (a : LabelInfo). a.end_line) s.sheet.labels (all-weaker (IsPlaced s.sheet.lines) _ s.sheet.labels (ends-at s.sheet.lines) (placed g s h.group))) in

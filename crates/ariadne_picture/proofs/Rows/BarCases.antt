@@ -9,9 +9,10 @@ use Rattle.ariadne_picture.specs.declared.label_info.LabelInfo.{LabelInfo}
 use Rattle.ariadne_picture.specs.declared.label_info.LineLabel.{LineLabel}
 use Rattle.ariadne_picture.specs.declared.label_info.Side.{Side}
 use Rattle.ariadne_picture.specs.declared.label_info.Side.TheVariants.{Inline, Starts, Ends}
-use Rattle.ariadne_picture.specs.Ranks.{Sheet, is_start, is_end, gutter_labels, margin_label, is_of_gutter_label, line_labels, is_hidden}
+use Rattle.ariadne_picture.specs.Ranks.{Sheet, is_start, is_end, gutter_labels, margin_label, is_of_gutter_label, line_labels, is_hidden, is_unlabelled}
 use Rattle.ariadne_picture.specs.Rows.{row_key, Row, group_header, spacer, source, alternate, arrow, gap, bare, blank, piece, tail, help, note, aside_part}
 use Rattle.ariadne_picture.specs.Rows.{before}
+use Rattle.ariadne_picture.proofs.Rows.NearLines.{hidden-bare}
 use Rattle.ariadne_picture.proofs.Rows.RowPlacing.{row_part, row_line, row_step}
 use Rattle.ariadne_picture.specs.Strokes.{is_at_margin, rank_at, first_row, last_row, has_tee, bar_at}
 use Rattle.ariadne_picture.specs.Bars.{IsGutterLabel, IsOfLine, IsMarginLabel, IsLineLabel, BarBesideLine, BarBesideLabel, BarBesideAlternate}
@@ -446,10 +447,15 @@ module _ (s : Sheet) (i : ℕ) (a : LabelInfo) (m : IsGutterLabel s i a) where
           let apart = h.not_its_start in
           between-bar s (gap l) i a m.owned (lines-between l (gap l) (gap-row l) (no-tee-gap l) (omega arith) h.to)
 
--- a hidden line has no margin label
+-- a line without labels has no margin label
+unlabelled-margin : (s : Sheet) (l : ℕ) → is_unlabelled s l ≡ true → is_some (margin_label s l) ≡ false
+unfolding is_unlabelled
+unlabelled-margin s l h =
+    not-true (is_some (margin_label s l)) (and_parts (length (line_labels s l) == 0) (not (is_some (margin_label s l))) h).1
+
+-- so a hidden line has none
 pub hidden-margin : (s : Sheet) (l : ℕ) → is_hidden s l ≡ true → is_some (margin_label s l) ≡ false
-unfolding is_hidden
-hidden-margin s l h = not-true (is_some (margin_label s l)) (and_parts (length (line_labels s l) == 0) (not (is_some (margin_label s l))) h).1
+hidden-margin s l h = unlabelled-margin s l (hidden-bare s l h)
 
 -- nothing is of no gutter label
 pub none-of-gutter-label : (o : Option LineLabel) (i : ℕ) → is_some o ≡ false → is_of_gutter_label o i ≡ false
@@ -457,9 +463,13 @@ unfolding is_of_gutter_label
 none-of-gutter-label None i h = refl
 none-of-gutter-label (Some x) i h = absurd (true≢false h)
 
--- so a hidden line's margin label is of no gutter label
+-- so the margin label of a line without labels is of no gutter label
+pub unlabelled-off-margin : (s : Sheet) (l i : ℕ) → is_unlabelled s l ≡ true → is_at_margin s l i ≡ false
+unlabelled-off-margin s l i h = none-of-gutter-label (margin_label s l) i (unlabelled-margin s l h)
+
+-- and that of a hidden line
 pub hidden-off-margin : (s : Sheet) (l i : ℕ) → is_hidden s l ≡ true → is_at_margin s l i ≡ false
-hidden-off-margin s l i h = none-of-gutter-label (margin_label s l) i (hidden-margin s l h)
+hidden-off-margin s l i h = unlabelled-off-margin s l i (hidden-bare s l h)
 
 -- ---- rows of other parts
 

@@ -8,8 +8,7 @@ use Rattle.std.proofs.lemmas.List.Elements.{filter-append}
 use Rattle.ariadne_picture.proofs.Rows.LoneRows.{lone-block, label-block}
 use Rattle.ariadne_picture.specs.declared.label_info.LineLabel.{LineLabel}
 use Rattle.ariadne_picture.specs.Lists.{joined}
-use Rattle.ariadne_picture.specs.Groups.{group_start_line, group_end_line, group_lines}
-use Rattle.ariadne_picture.specs.Ranks.{Sheet, is_hidden, line_labels}
+use Rattle.ariadne_picture.specs.Ranks.{Sheet, is_hidden, line_labels, first_line, last_line, group_lines}
 use Rattle.ariadne_picture.specs.Rows.{row_key, Row, group_header, spacer, source, alternate, arrow, tail, help, note}
 use Rattle.ariadne_picture.proofs.Rows.RowPlacing.{row_part, row_line, row_step}
 use Rattle.ariadne_picture.specs.Rows.{label_rows, is_lone, line_rows, asides, rows}
@@ -126,12 +125,12 @@ module _ (s : Sheet) (is_last : Bool) (helps notes : List (List ℕ)) (l : ℕ) 
   unfoldable pub above : List Row
   above =
       (group_header ∷ (if s.switches.compact then [] else spacer ∷ []))
-      ++ joined (line_rows s) (range_with_len (group_start_line s.labels) (l - group_start_line s.labels))
+      ++ joined (line_rows s) (range_with_len (first_line s) (l - first_line s))
 
   -- those below it and its block
   unfoldable pub below : List Row
   below =
-      joined (line_rows s) (range_with_len (l + 1) (group_end_line s.labels - l))
+      joined (line_rows s) (range_with_len (l + 1) (last_line s - l))
       ++ (if is_last then asides s.switches.compact help helps ++ asides s.switches.compact note notes else [])
       ++ (if s.switches.compact then [] else tail ∷ [])
 
@@ -140,28 +139,28 @@ module _ (s : Sheet) (is_last : Bool) (helps notes : List (List ℕ)) (l : ℕ) 
   unfolding above joined row_key
   above-other =
       all-append (λ y. of_block l y ≡ false) (group_header ∷ (if s.switches.compact then [] else spacer ∷ []))
-      (joined (line_rows s) (range_with_len (group_start_line s.labels) (l - group_start_line s.labels)))
+      (joined (line_rows s) (range_with_len (first_line s) (l - first_line s)))
       (refl, cond_both s.switches.compact [] (spacer ∷ []) (AllByRecursion (λ y. of_block l y ≡ false)) (λ _. tt) (λ _. (refl, tt)))
-      (cases (Rattle.std.proofs.lemmas.Bool.cases_lt l (group_start_line s.labels)))
+      (cases (Rattle.std.proofs.lemmas.Bool.cases_lt l (first_line s)))
     where
-      cases : (l < group_start_line s.labels) ⊎ (group_start_line s.labels ≤ l)
+      cases : (l < first_line s) ⊎ (first_line s ≤ l)
           → AllByRecursion (λ y. of_block l y ≡ false)
-          (joined (line_rows s) (range_with_len (group_start_line s.labels) (l - group_start_line s.labels)))
-      cases (inr h) = lines-before s l (group_start_line s.labels) (l - group_start_line s.labels) (omega arith)
-      cases (inl h) = let z : l - group_start_line s.labels ≡ 0 = omega arith in rw z tt
+          (joined (line_rows s) (range_with_len (first_line s) (l - first_line s)))
+      cases (inr h) = lines-before s l (first_line s) (l - first_line s) (omega arith)
+      cases (inl h) = let z : l - first_line s ≡ 0 = omega arith in rw z tt
 
   -- nor is any below
   below-other : AllByRecursion (λ y. of_block l y ≡ false) below
   unfolding below
   below-other =
       let P : Row → Type 0 = λ y. of_block l y ≡ false in
-      let lines = joined (line_rows s) (range_with_len (l + 1) (group_end_line s.labels - l)) in
+      let lines = joined (line_rows s) (range_with_len (l + 1) (last_line s - l)) in
       let aside = (if is_last then asides s.switches.compact help helps ++ asides s.switches.compact note notes else []) in
       let end = (if s.switches.compact then [] else tail ∷ []) in
       all-append P (lines ++ aside) end
       (all-append P lines aside
       (all-weaker (FromLine 2 (l + 1)) P lines (λ y h. other-line (row_part y) (row_line y) (row_step y) l (λ e. let line = h.line in omega arith))
-      (lines-from s (l + 1) (group_end_line s.labels - l)))
+      (lines-from s (l + 1) (last_line s - l)))
       (all-weaker (λ y. (3 ≤ row_part y) × (row_part y < 5)) P aside
       (λ y h. other-part (row_part y) (row_line y) (row_step y) l (λ e. let from = h.0 in omega arith))
       (aside-rows-behind s.switches.compact is_last helps notes).parts))
@@ -175,28 +174,28 @@ module _ (s : Sheet) (is_last : Bool) (helps notes : List (List ℕ)) (l : ℕ) 
       all-weaker (FromStep 2 l 1) (λ y. of_block l y ≡ true) (shown_rows s l)
       (λ y h. this-block (row_part y) (row_line y) (row_step y) l h.part h.line h.step) (block-from s l)
 
-  module _ (low : group_start_line s.labels ≤ l) (high : l ≤ group_end_line s.labels) (seen : is_hidden s l ≡ false) where
+  module _ (low : first_line s ≤ l) (high : l ≤ last_line s) (seen : is_hidden s l ≡ false) where
     -- the rows of a group that shows line l
     pub rows-about : rows s is_last helps notes ≡ above ++ (source l ∷ shown_rows s l ++ below)
     unfolding rows above below group_lines joined shown_rows
     rows-about =
-        let a = group_start_line s.labels in
+        let a = first_line s in
         let top = group_header ∷ (if s.switches.compact then [] else spacer ∷ []) in
         let aside = (if is_last then asides s.switches.compact help helps ++ asides s.switches.compact note notes else []) in
         let end = (if s.switches.compact then [] else tail ∷ []) in
-        let n : suc (group_end_line s.labels) - a ≡ (l - a) + suc (group_end_line s.labels - l) = omega arith in
+        let n : suc (last_line s) - a ≡ (l - a) + suc (last_line s - l) = omega arith in
         let m : a + (l - a) ≡ l = omega arith in
-        let lines : joined (line_rows s) (group_lines s.labels) ≡ joined (line_rows s) (range_with_len a (l - a))
-        ++ (line_rows s l ++ joined (line_rows s) (range_with_len (l + 1) (group_end_line s.labels - l))) =
-        ap (λ k. joined (line_rows s) (range_with_len a k)) n ∙ ap (joined (line_rows s)) (range-append a (l - a) (suc (group_end_line s.labels - l)))
-        ∙ joined-append (line_rows s) (range_with_len a (l - a)) (range_with_len (a + (l - a)) (suc (group_end_line s.labels - l)))
+        let lines : joined (line_rows s) (group_lines s) ≡ joined (line_rows s) (range_with_len a (l - a))
+        ++ (line_rows s l ++ joined (line_rows s) (range_with_len (l + 1) (last_line s - l))) =
+        ap (λ k. joined (line_rows s) (range_with_len a k)) n ∙ ap (joined (line_rows s)) (range-append a (l - a) (suc (last_line s - l)))
+        ∙ joined-append (line_rows s) (range_with_len a (l - a)) (range_with_len (a + (l - a)) (suc (last_line s - l)))
         ∙ ap (λ b. joined (line_rows s) (range_with_len a (l - a))
-        ++ joined (line_rows s) (range_with_len b (suc (group_end_line s.labels - l)))) m in
+        ++ joined (line_rows s) (range_with_len b (suc (last_line s - l)))) m in
         ap (λ t. top ++ t ++ aside ++ end) (lines ∙ ap
-        (λ t. joined (line_rows s) (range_with_len a (l - a)) ++ (t ++ joined (line_rows s) (range_with_len (l + 1) (group_end_line s.labels - l))))
+        (λ t. joined (line_rows s) (range_with_len a (l - a)) ++ (t ++ joined (line_rows s) (range_with_len (l + 1) (last_line s - l))))
         (shown s l seen))
         ∙ regroup top (joined (line_rows s) (range_with_len a (l - a))) (source l ∷ shown_rows s l)
-        (joined (line_rows s) (range_with_len (l + 1) (group_end_line s.labels - l))) aside end
+        (joined (line_rows s) (range_with_len (l + 1) (last_line s - l))) aside end
 
     -- the source row is behind those above
     pub source-place : slice_get (rows s is_last helps notes) (length above) ≡ Some (source l)

@@ -6,8 +6,9 @@ use Rattle.std.proofs.lemmas.Bool.{cases_Bool, cond-true, cond-false, and_left, 
 use Rattle.std.proofs.lemmas.List.{append-nil}
 use Rattle.ariadne_picture.specs.declared.label_info.LineLabel.{LineLabel}
 use Rattle.ariadne_picture.specs.Lists.{joined}
-use Rattle.ariadne_picture.specs.Ranks.{Sheet, line_labels, margin_label, is_hidden}
+use Rattle.ariadne_picture.specs.Ranks.{Sheet, line_labels, margin_label, is_hidden, is_unlabelled}
 use Rattle.ariadne_picture.specs.Rows.{alternate, label_rows, is_lone, lone_rows}
+use Rattle.ariadne_picture.proofs.Rows.NearLines.{shown-with}
 use Rattle.ariadne_picture.proofs.Lists.Elements.{list_any-true}
 use Rattle.ariadne_picture.proofs.Rows.RowOrder.{all_label_rows, shown_rows}
 
@@ -82,8 +83,8 @@ module _ (s : Sheet) (l : ℕ) where
 
   -- such a line is shown
   pub lone-shown : is_lone s l ≡ true → is_hidden s l ≡ false
-  unfolding is_lone is_hidden
-  lone-shown h = some (line_labels s l) (two _ _ (two _ _ h).0).1
+  unfolding is_lone is_unlabelled
+  lone-shown h = shown-with s l (some (line_labels s l) (two _ _ (two _ _ h).0).1)
     where
       some : (xs : List LineLabel) → list_any (λ (x : LineLabel). nat_lt x.info.start x.info.end) xs ≡ true
           → ((length xs == 0) && not (is_some (margin_label s l))) ≡ false

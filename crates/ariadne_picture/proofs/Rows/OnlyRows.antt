@@ -9,8 +9,7 @@ use Rattle.ariadne_base.specs.Locations.{upto}
 use Rattle.ariadne_picture.proofs.Rows.LoneRows.{lone-shown}
 use Rattle.ariadne_picture.specs.declared.label_info.LineLabel.{LineLabel}
 use Rattle.ariadne_picture.specs.Lists.{joined}
-use Rattle.ariadne_picture.specs.Groups.{group_start_line, group_lines}
-use Rattle.ariadne_picture.specs.Ranks.{Sheet, is_hidden, line_labels}
+use Rattle.ariadne_picture.specs.Ranks.{Sheet, is_hidden, line_labels, first_line, group_lines}
 use Rattle.ariadne_picture.specs.Rows.{Aside, help, note, Row, group_header, spacer, source, alternate, arrow, gap, bare, blank, piece, tail}
 use Rattle.ariadne_picture.specs.Rows.{before, label_rows, is_lone, lone_rows, is_inside, line_rows, aside_rows, asides, rows}
 use Rattle.ariadne_picture.specs.RowNames.{asides_of, HasLine, BeginsHidden, HasMessage, HasUnderlines, HasAside, HasRow}
@@ -84,7 +83,7 @@ module _ (s : Sheet) (is_last : Bool) (helps notes : List (List ℕ)) where
   line-has : (l : ℕ) → HasLine s l → All (line_rows s l)
   unfolding line_rows
   line-has l line =
-      let later : Bool = nat_lt (group_start_line s.labels) l && is_hidden s (l - 1) in
+      let later : Bool = nat_lt (first_line s) l && is_hidden s (l - 1) in
       let bare_row = if s.switches.compact then [] else bare l ∷ [] in
       let row = if is_inside s l then gap l ∷ [] else bare_row in
       let block = joined (label_rows s.switches.compact l) (enumerate_from 0 (line_labels s l)) in
@@ -102,13 +101,13 @@ module _ (s : Sheet) (is_last : Bool) (helps notes : List (List ℕ)) where
             (lone-has l line),
       ))
     where
-      begins-run : (l : ℕ) → HasLine s l → (nat_lt (group_start_line s.labels) l && is_hidden s (l - 1)) ≡ false
-          → (l ≡ group_start_line s.labels) ⊎ (is_hidden s (l - 1) ≡ false)
+      begins-run : (l : ℕ) → HasLine s l → (nat_lt (first_line s) l && is_hidden s (l - 1)) ≡ false
+          → (l ≡ first_line s) ⊎ (is_hidden s (l - 1) ≡ false)
       begins-run l line first = elim (cases_Bool (is_hidden s (l - 1))) [
         | inr seen ↦ inr seen
         | inl hidden ↦
             let low = line.0 in
-            elim (cases_lt (group_start_line s.labels) l) [
+            elim (cases_lt (first_line s) l) [
               | inr least ↦ inl (omega arith)
               | inl less ↦ absurd (true≢false (sym (Rattle.std.specs.Cmp.Derive.both_true (lt-ltb _ l less) hidden) ∙ first))
             ]
@@ -133,14 +132,14 @@ module _ (s : Sheet) (is_last : Bool) (helps notes : List (List ℕ)) where
       let compact = s.switches.compact in
       let P = HasRow s is_last helps notes in
       let top = if compact then [] else spacer ∷ [] in
-      let lines = joined (line_rows s) (group_lines s.labels) in
+      let lines = joined (line_rows s) (group_lines s) in
       let texts = if is_last then asides compact help helps ++ asides compact note notes else [] in
       let end = if compact then [] else tail ∷ [] in (
         tt,
         all-append P (top ++ lines ++ texts) end
             (all-append P (top ++ lines) texts
             (all-append P top lines (cond_both compact [] (spacer ∷ []) All (λ _. tt) (λ open_form. (open_form, tt)))
-            (all-joined P (HasLine s) (line_rows s) (group_lines s.labels) line-has (all-group-lines (HasLine s) s.labels (λ l low high. (low, high)))))
+            (all-joined P (HasLine s) (line_rows s) (group_lines s) line-has (all-group-lines (HasLine s) s (λ l low high. (low, high)))))
             (cond_both is_last (asides compact help helps ++ asides compact note notes) [] All
             (λ last. all-append P (asides compact help helps) (asides compact note notes) (aside-has help last) (aside-has note last)) (λ _. tt)))
             (cond_both compact [] (tail ∷ []) All (λ _. tt) (λ open_form. (open_form, tt))),
@@ -152,7 +151,7 @@ module _ (s : Sheet) (is_last : Bool) (helps notes : List (List ℕ)) where
   top_rows = if s.switches.compact then [] else spacer ∷ []
 
   abbrev all_lines : List Row
-  all_lines = joined (line_rows s) (group_lines s.labels)
+  all_lines = joined (line_rows s) (group_lines s)
 
   abbrev all_asides : List Row
   all_asides = if is_last then asides s.switches.compact help helps ++ asides s.switches.compact note notes else []
@@ -170,7 +169,7 @@ module _ (s : Sheet) (is_last : Bool) (helps notes : List (List ℕ)) where
   of-line : (l : ℕ) (x : Row) → HasLine s l → Has (line_rows s l) x → Has (rows s is_last helps notes) x
   of-line l x line h =
       of-front x (has-back first_rows all_lines x
-      (has-joined (line_rows s) (group_lines s.labels) _ l x (group-line-at s.labels l line.0 line.1) h))
+      (has-joined (line_rows s) (group_lines s) _ l x (group-line-at s l line.0 line.1) h))
 
   of-aside : (x : Row) → Has all_asides x → Has (rows s is_last helps notes) x
   unfolding rows
@@ -188,9 +187,9 @@ module _ (s : Sheet) (is_last : Bool) (helps notes : List (List ℕ)) where
       (has-joined (aside_rows s.switches.compact a) (enumerate_from 0 (asides_of a helps notes)) k (k, h.text) x (numbered-at _ k h.text h.there) has))
 
   -- a run of hidden lines begins there
-  no-later : (l : ℕ) → BeginsHidden s l → (nat_lt (group_start_line s.labels) l && is_hidden s (l - 1)) ≡ false
+  no-later : (l : ℕ) → BeginsHidden s l → (nat_lt (first_line s) l && is_hidden s (l - 1)) ≡ false
   no-later l b = elim b.first [
-    | inl same ↦ and_left _ _ (le-ltb (group_start_line s.labels) l (omega arith))
+    | inl same ↦ and_left _ _ (le-ltb (first_line s) l (omega arith))
     | inr seen ↦ and_right _ _ seen
   ]
 

@@ -10,8 +10,7 @@ use Rattle.std.proofs.lemmas.Bool.{cases_Bool, cond_both, eq-eqb, eqb-true, fals
 use Rattle.ariadne_base.specs.Locations.{upto}
 use Rattle.ariadne_picture.specs.declared.label_info.LineLabel.{LineLabel}
 use Rattle.ariadne_picture.specs.Lists.{joined}
-use Rattle.ariadne_picture.specs.Groups.{group_lines, group_start_line, group_end_line}
-use Rattle.ariadne_picture.specs.Ranks.{Sheet, is_hidden, line_labels}
+use Rattle.ariadne_picture.specs.Ranks.{Sheet, is_hidden, line_labels, first_line, last_line, group_lines}
 use Rattle.ariadne_picture.specs.Rows.{row_key, Row, group_header, spacer, source, alternate, arrow, gap, bare, blank, piece, tail, Aside, help, note}
 use Rattle.ariadne_picture.specs.Rows.{aside_part, before, label_rows, is_lone, lone_rows, is_inside, line_rows, aside_rows, asides, rows}
 use Rattle.ariadne_picture.proofs.Rows.RowPlacing.{row_part, row_line, row_step}
@@ -273,10 +272,10 @@ pub line-rows-case : (P : List Row → Type 0) (s : Sheet) (l : ℕ) → P [] �
 unfolding line_rows shown_rows
 line-rows-case P s l none broken empty shown =
     cond_both (is_hidden s l)
-    (if nat_lt (group_start_line s.labels) l && is_hidden s (l - 1) then [] else if is_inside s l then gap l ∷ [] else if s.switches.compact then []
+    (if nat_lt (first_line s) l && is_hidden s (l - 1) then [] else if is_inside s l then gap l ∷ [] else if s.switches.compact then []
     else bare l ∷ [])
     (source l ∷ joined (label_rows s.switches.compact l) (enumerate_from 0 (line_labels s l)) ++ lone_rows s l) P
-    (λ _. cond_both (nat_lt (group_start_line s.labels) l && is_hidden s (l - 1)) []
+    (λ _. cond_both (nat_lt (first_line s) l && is_hidden s (l - 1)) []
     (if is_inside s l then gap l ∷ [] else if s.switches.compact then [] else bare l ∷ []) P (λ _. none)
     (λ _. cond_both (is_inside s l) (gap l ∷ []) (if s.switches.compact then [] else bare l ∷ []) P (λ _. broken)
     (λ _. cond_both s.switches.compact [] (bare l ∷ []) P (λ _. none) (λ _. empty))))
@@ -479,11 +478,11 @@ tail-behind true = none-behind 5 6
 tail-behind false = record { order = (tt, tt); parts = ((omega arith, omega arith), tt) }
 
 -- the rows of the lines
-pub lines-behind : (s : Sheet) → Behind 2 3 (joined (line_rows s) (group_lines s.labels))
+pub lines-behind : (s : Sheet) → Behind 2 3 (joined (line_rows s) (group_lines s))
 unfolding group_lines
 lines-behind s =
-    let a = group_start_line s.labels in
-    let n : ℕ = suc (group_end_line s.labels) - group_start_line s.labels in
+    let a = first_line s in
+    let n : ℕ = suc (last_line s) - first_line s in
     part-behind 2 a (joined (line_rows s) (range_with_len a n)) (lines-increasing s a n) (lines-from s a n)
 
 -- every row of a group stands before each later one
@@ -492,7 +491,7 @@ unfolding rows
 rows-increasing s is_last helps notes =
     let compact = s.switches.compact in
     let top = group_header ∷ (if compact then [] else spacer ∷ []) in
-    let lines = joined (line_rows s) (group_lines s.labels) in
+    let lines = joined (line_rows s) (group_lines s) in
     let aside = (if is_last then asides compact help helps ++ asides compact note notes else []) in
     let all : Before 6 (top ++ lines ++ aside ++ (if compact then [] else tail ∷ [])) =
     then-rows 5 6 (top ++ lines ++ aside) (if compact then [] else tail ∷ []) (omega arith)

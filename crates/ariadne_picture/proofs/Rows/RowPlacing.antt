@@ -5,8 +5,7 @@ use Rattle.std.specs.List.{enumerate_from}
 use Rattle.ariadne_picture.specs.declared.label_info.LabelInfo.{LabelInfo}
 use Rattle.ariadne_picture.specs.declared.label_info.LineLabel.{LineLabel}
 use Rattle.ariadne_picture.specs.Lists.{joined, total}
-use Rattle.ariadne_picture.specs.Groups.{group_lines}
-use Rattle.ariadne_picture.specs.Ranks.{gutter_labels, line_labels, margin_label, is_of_gutter_label, is_start}
+use Rattle.ariadne_picture.specs.Ranks.{gutter_labels, line_labels, margin_label, is_of_gutter_label, is_start, group_lines}
 use Rattle.ariadne_picture.specs.Rows.{Row, source, arrow, row_key, before, rows}
 use Rattle.ariadne_picture.specs.Columns.{layout_of, arrow_len}
 use Rattle.ariadne_picture.specs.Pieces.{Section, Texts}
@@ -69,7 +68,7 @@ module _ (t : Texts) (ss : List Section) where
 
   unfoldable pub message_rows : ℕ → List ℕ
   message_rows k =
-      joined (λ e. joined (rows_of_labels e.0 e.1 (λ x. not (is_start x.side) && (x.info.position == k))) (group_lines e.1.sheet.labels))
+      joined (λ e. joined (rows_of_labels e.0 e.1 (λ x. not (is_start x.side) && (x.info.position == k))) (group_lines e.1.sheet))
       (enumerate_from 0 ss)
 
   unfoldable pub first_row : ℕ → Section → ℕ → ℕ × LabelInfo → ℕ

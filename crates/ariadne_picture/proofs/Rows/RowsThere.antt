@@ -10,13 +10,14 @@ use Rattle.ariadne_picture.specs.declared.label_info.LineLabel.{LineLabel}
 use Rattle.ariadne_picture.specs.declared.label_info.Side.{Side}
 use Rattle.ariadne_picture.specs.declared.label_info.Side.TheVariants.{Starts, Ends}
 use Rattle.ariadne_picture.specs.Lists.{joined}
-use Rattle.ariadne_picture.specs.Groups.{greatest, least_below, group_start_line, group_end_line, group_lines}
-use Rattle.ariadne_picture.specs.Ranks.{Sheet, span_len, is_on_one_line, multi_line_labels, gutter_labels, margin_label, line_labels, is_hidden}
+use Rattle.ariadne_picture.specs.Groups.{greatest, least_below, group_start_line, group_end_line}
+use Rattle.ariadne_picture.specs.Ranks.{Sheet, span_len, is_on_one_line, multi_line_labels, gutter_labels, margin_label, line_labels, is_hidden, is_unlabelled, first_line, last_line, group_lines}
 use Rattle.ariadne_picture.specs.Rows.{Row, group_header, spacer, source, alternate, arrow, tail, help, note, label_rows, lone_rows, line_rows, asides, rows}
 use Rattle.ariadne_picture.specs.Strokes.{first_row, last_row}
 use Rattle.ariadne_picture.specs.Bars.{IsGutterLabel, IsLineLabel}
-use Rattle.ariadne_picture.proofs.Lists.ListFacts.{none≢some, all-filter, all-kept, all-in_order, all-at}
+use Rattle.ariadne_picture.proofs.Lists.ListFacts.{none≢some, all-weaker, all-filter, all-kept, all-in_order, all-at}
 use Rattle.ariadne_picture.proofs.Rows.GutterLabelRows.{starts-somewhere, ends-somewhere, first-at-source, first-at-arrow, last-at-arrow, label-info}
+use Rattle.ariadne_picture.proofs.Rows.NearLines.{shown-with}
 use Rattle.ariadne_picture.proofs.Rows.GutterLabelRows.{starts≢inline, ends≢inline}
 
 -- ---- elements
@@ -90,6 +91,17 @@ pub ends-within : (group : List LabelInfo) → AllByRecursion (λ a. a.end_line 
 unfolding group_end_line
 ends-within group = mapped (λ n. n ≤ group_end_line group) (λ a. a.end_line) group (below-greatest (map (λ a. a.end_line) group))
 
+-- so none is outside the lines that are shown
+pub starts-shown : (s : Sheet) → AllByRecursion (λ a. first_line s ≤ a.start_line) s.labels
+unfolding first_line
+starts-shown s =
+    all-weaker (λ a. group_start_line s.labels ≤ a.start_line) (λ a. first_line s ≤ a.start_line) s.labels (λ a h. omega (arith, h)) (starts-within s.labels)
+
+pub ends-shown : (s : Sheet) → AllByRecursion (λ a. a.end_line ≤ last_line s) s.labels
+unfolding last_line
+ends-shown s =
+    all-weaker (λ a. a.end_line ≤ group_end_line s.labels) (λ a. a.end_line ≤ last_line s) s.labels (λ a h. omega (arith, h)) (ends-within s.labels)
+
 -- ---- a gutter label is a label of the group, with a message
 
 -- what holds of each label of a group holds of each gutter label
@@ -101,13 +113,13 @@ all-gutter-labels P s h =
     (all-filter P (λ a. not (is_on_one_line a)) s.labels h))
 
 -- so a gutter label lies within the lines of its group
-pub gutter-label-within : (s : Sheet) (i : ℕ) (a : LabelInfo) → slice_get (gutter_labels s) i ≡ Some a → (group_start_line s.labels ≤ a.start_line)
-    × (a.end_line ≤ group_end_line s.labels)
+pub gutter-label-within : (s : Sheet) (i : ℕ) (a : LabelInfo) → slice_get (gutter_labels s) i ≡ Some a → (first_line s ≤ a.start_line)
+    × (a.end_line ≤ last_line s)
 gutter-label-within s i a e = (
-  all-at (λ a. group_start_line s.labels ≤ a.start_line) (gutter_labels s) i a e
-      (all-gutter-labels (λ a. group_start_line s.labels ≤ a.start_line) s (starts-within s.labels)),
-  all-at (λ a. a.end_line ≤ group_end_line s.labels) (gutter_labels s) i a e
-      (all-gutter-labels (λ a. a.end_line ≤ group_end_line s.labels) s (ends-within s.labels)),
+  all-at (λ a. first_line s ≤ a.start_line) (gutter_labels s) i a e
+      (all-gutter-labels (λ a. first_line s ≤ a.start_line) s (starts-shown s)),
+  all-at (λ a. a.end_line ≤ last_line s) (gutter_labels s) i a e
+      (all-gutter-labels (λ a. a.end_line ≤ last_line s) s (ends-shown s)),
 )
 
 -- and has a message
@@ -125,16 +137,16 @@ shown s l h = rw h
 
 -- a line with a line label is not hidden
 pub shown-by-label : (s : Sheet) (l n : ℕ) (x : LineLabel) → slice_get (line_labels s l) n ≡ Some x → is_hidden s l ≡ false
-unfolding is_hidden
+unfolding is_unlabelled
 shown-by-label s l n x e =
     let few = slice_get_within (line_labels s l) n x e in
-    and_left (length (line_labels s l) == 0) (not (is_some (margin_label s l))) (ne_eqb (length (line_labels s l)) 0 (omega arith))
+    shown-with s l (and_left (length (line_labels s l) == 0) (not (is_some (margin_label s l))) (ne_eqb (length (line_labels s l)) 0 (omega arith)))
 
 -- nor is one with a margin label
 pub shown-by-margin : (s : Sheet) (l : ℕ) (x : LineLabel) → margin_label s l ≡ Some x → is_hidden s l ≡ false
-unfolding is_hidden
+unfolding is_unlabelled
 shown-by-margin s l x e =
-    and_right (length (line_labels s l) == 0) (not (is_some (margin_label s l))) (not_from_true (is_some (margin_label s l)) (ap is_some e))
+    shown-with s l (and_right (length (line_labels s l) == 0) (not (is_some (margin_label s l))) (not_from_true (is_some (margin_label s l)) (ap is_some e)))
 
 -- so it has its source row
 pub source-there : (s : Sheet) (l : ℕ) → is_hidden s l ≡ false → Contains (line_rows s l) (source l)
@@ -163,12 +175,12 @@ arrow-there s l n x e h =
 
 module _ (s : Sheet) (is_last : Bool) (helps notes : List (List ℕ)) where
   -- a group has the rows of each of its lines
-  pub line-there : (l : ℕ) (x : Row) → group_start_line s.labels ≤ l → l ≤ group_end_line s.labels → Contains (line_rows s l) x
+  pub line-there : (l : ℕ) (x : Row) → first_line s ≤ l → l ≤ last_line s → Contains (line_rows s l) x
       → Contains (rows s is_last helps notes) x
   unfolding rows group_lines
   line-there l x low high h =
-      let a = group_start_line s.labels in
-      let n : ℕ = suc (group_end_line s.labels) - group_start_line s.labels in
+      let a = first_line s in
+      let n : ℕ = suc (last_line s) - first_line s in
       let z : a + (l - a) ≡ l = omega arith in
       let top = group_header ∷ (if s.switches.compact then [] else spacer ∷ []) in
       let lines = joined (line_rows s) (range_with_len a n) in
@@ -180,7 +192,7 @@ module _ (s : Sheet) (is_last : Bool) (helps notes : List (List ℕ)) where
 
   module _ (i : ℕ) (a : LabelInfo) (m : IsGutterLabel s i a) where
     -- and the arrow row of each line label of a gutter label
-    label-row-there : (l n : ℕ) (side : Side) → group_start_line s.labels ≤ l → l ≤ group_end_line s.labels → (h : IsLineLabel s l side i n)
+    label-row-there : (l n : ℕ) (side : Side) → first_line s ≤ l → l ≤ last_line s → (h : IsLineLabel s l side i n)
         → h.label.info ≡ a → Contains (rows s is_last helps notes) (arrow l n)
     label-row-there l n side low high h same =
         line-there l (arrow l n) low high (arrow-there s l n h.label h.there (ap (λ b. b.has_message) same ∙ gutter-label-message s i a m.owned))

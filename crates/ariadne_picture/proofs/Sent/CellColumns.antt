@@ -20,8 +20,8 @@ use Rattle.ariadne_picture.specs.declared.cell.Ink.{Ink}
 use Rattle.ariadne_picture.specs.declared.cell.Paint.{Paint}
 use Rattle.ariadne_picture.specs.Lists.{joined}
 use Rattle.ariadne_picture.specs.Report.{ReportFields, World}
-use Rattle.ariadne_picture.specs.Groups.{greatest, group_end_line, printed_number, group_start_line, group_lines}
-use Rattle.ariadne_picture.specs.Ranks.{Sheet, is_start, is_hidden, line_labels}
+use Rattle.ariadne_picture.specs.Groups.{greatest, printed_number}
+use Rattle.ariadne_picture.specs.Ranks.{Sheet, is_start, is_hidden, line_labels, first_line, last_line, group_lines}
 use Rattle.ariadne_picture.specs.Rows.{Aside, help, note, Row, group_header, spacer, source, alternate, arrow, gap, bare, blank, piece, tail, rows}
 use Rattle.ariadne_picture.specs.Rows.{label_rows, is_inside, line_rows, aside_rows, asides}
 use Rattle.std.specs.Str.Lines.{lines}
@@ -31,8 +31,8 @@ use Rattle.ariadne_picture.specs.Pieces.{Piece, plain_text, blank_piece, spaces,
 use Rattle.ariadne_picture.specs.Pieces.{char_paint, shown_pieces, area_pieces, margin_text, margin_pieces, column_size}
 use Rattle.ariadne_picture.specs.Pieces.{gutter_len, gutter_pieces, Texts, Section, group_header_pieces, spacer_pieces, tail_pieces}
 use Rattle.ariadne_picture.specs.Pieces.{message_pieces, aside_pieces, text_pieces, rest_pieces, row_pieces, section_rows}
-use Rattle.ariadne_picture.specs.Canvas.{cell_of, palette_of, header_pieces, texts_of, group_source, section_of, groups, number_width}
-use Rattle.ariadne_picture.specs.Canvas.{outline, canvas}
+use Rattle.ariadne_picture.specs.Canvas.{sheet_of, cell_of, palette_of, header_pieces, texts_of, group_source, section_of, groups, number_width}
+use Rattle.ariadne_picture.specs.Canvas.{sheet_of, outline, canvas}
 use Rattle.ariadne_picture.proofs.Lists.ListFacts.{none≢some, all-append, all-weaker, all-map, all-every, all-joined}
 use Rattle.ariadne_picture.proofs.Lists.Elements.{all-numbered}
 use Rattle.ariadne_picture.proofs.Variants.CleanTexts.{all-parts}
@@ -206,21 +206,21 @@ module _ (t : Texts) (w : ℕ) (g : Section) where
 
   -- ---- each line of the group is at most the last one, whose number has room
 
-  module _ (room : number_len g.display_offset g.sheet.labels ≤ w) where
+  module _ (room : number_len g.display_offset g.sheet ≤ w) where
     abbrev HaveRoom : List Row → Type 0
     HaveRoom = AllByRecursion (HasRoom w g.display_offset)
 
     one-or-none : (b : Bool) (x : Row) → HasRoom w g.display_offset x → HaveRoom (if b then [] else x ∷ [])
     one-or-none b x h = cond_both b [] (x ∷ []) HaveRoom (λ _. tt) (λ e. (h, tt))
 
-    line-rooms : (l : ℕ) → l ≤ group_end_line g.sheet.labels → HaveRoom (line_rows g.sheet l)
+    line-rooms : (l : ℕ) → l ≤ last_line g.sheet → HaveRoom (line_rows g.sheet l)
     unfolding line_rows label_rows lone_rows printed_number
     line-rooms l high =
         let s = g.sheet in
-        let rise = decimal-rises (l + 1 + g.display_offset) (group_end_line s.labels + 1 + g.display_offset) (omega (arith, high)) in
+        let rise = decimal-rises (l + 1 + g.display_offset) (last_line s + 1 + g.display_offset) (omega (arith, high)) in
         let bare_row = if s.switches.compact then [] else bare l ∷ [] in
         let row = if is_inside s l then gap l ∷ [] else bare_row in
-        let later : Bool = nat_lt (group_start_line s.labels) l && is_hidden s (l - 1) in
+        let later : Bool = nat_lt (first_line s) l && is_hidden s (l - 1) in
         let label : (e : ℕ × LineLabel) → HaveRoom (label_rows s.switches.compact l e) =
         λ e. cond_both e.1.info.has_message ((if s.switches.compact then [] else alternate l e.0 ∷ []) ++ arrow l e.0 ∷ []) [] HaveRoom
         (λ _. all-append (HasRoom w g.display_offset) (if s.switches.compact then [] else alternate l e.0 ∷ []) (arrow l e.0 ∷ [])
@@ -248,14 +248,14 @@ module _ (t : Texts) (w : ℕ) (g : Section) where
     rooms is_last helps notes =
         let compact = g.sheet.switches.compact in
         let top = group_header ∷ (if compact then [] else spacer ∷ []) in
-        let body = joined (line_rows g.sheet) (group_lines g.sheet.labels) in
+        let body = joined (line_rows g.sheet) (group_lines g.sheet) in
         let aside = (if is_last then asides compact help helps ++ asides compact note notes else []) in
         let All = HasRoom w g.display_offset in
         all-append All (top ++ body ++ aside) _
         (all-append All (top ++ body) aside
         (all-append All top body (tt, one-or-none compact spacer tt)
-        (all-joined All (λ l. l ≤ group_end_line g.sheet.labels) (line_rows g.sheet) (group_lines g.sheet.labels)
-        line-rooms (all-group-lines _ g.sheet.labels (λ l low high. high))))
+        (all-joined All (λ l. l ≤ last_line g.sheet) (line_rows g.sheet) (group_lines g.sheet)
+        line-rooms (all-group-lines _ g.sheet (λ l low high. high))))
         (cond_both is_last _ [] HaveRoom
         (λ _. all-append All _ (asides compact note notes) (aside-rooms compact help helps) (aside-rooms compact note notes)) (λ _. tt)))
         (one-or-none compact tail tt)
@@ -270,12 +270,12 @@ module _ (t : Texts) (w : ℕ) (g : Section) where
 module _ {S Id : Type 0} (w : World S Id) (r : ReportFields S) where
   -- the number width has room for each group
   width-most : (gs : List (List LabelInfo)) (k : ℕ) (group : List LabelInfo) → slice_get gs k ≡ Some group
-      → number_len (group_source w r group).display_offset group ≤ number_width w r gs
+      → number_len (group_source w r group).display_offset (sheet_of w r group) ≤ number_width w r gs
   unfolding number_width greatest
   width-most [] k group e = absurd (none≢some group e)
   width-most (x ∷ gs) zero group e =
       let same : x ≡ group = cc in
-      subst (λ y. number_len (group_source w r y).display_offset y ≤ max (number_len (group_source w r x).display_offset x) (number_width w r gs))
+      subst (λ y. number_len (group_source w r y).display_offset (sheet_of w r y) ≤ max (number_len (group_source w r x).display_offset (sheet_of w r x)) (number_width w r gs))
       same (omega arith)
   width-most (x ∷ gs) (suc k) group e = let more = width-most gs k group e in omega (arith, more)
 
@@ -284,7 +284,7 @@ module _ {S Id : Type 0} (w : World S Id) (r : ReportFields S) where
   wide-outline infos =
       let gs = groups w r infos in
       let t = texts_of r in let m = number_width w r gs in let n = length gs in
-      let IsNarrow : ℕ × List LabelInfo → Type 0 = λ e. number_len (group_source w r e.1).display_offset e.1 ≤ m in
+      let IsNarrow : ℕ × List LabelInfo → Type 0 = λ e. number_len (group_source w r e.1).display_offset (sheet_of w r e.1) ≤ m in
       subst (AllByRecursion AreWide) (sym (outline-is w r infos)) (
         (refl, (refl, tt)),
         all-joined AreWide IsNarrow (λ e. section_rows t m (section_of w r n e)) (enumerate_from 0 gs)

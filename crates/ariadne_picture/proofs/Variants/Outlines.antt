@@ -115,7 +115,9 @@ module _ {S T Id : Type 0} (w : World S Id) (v : World T Id) (r : ReportFields S
     same-width : (gs : List (List LabelInfo)) → number_width w r gs ≡ number_width v q gs
     unfolding number_width greatest
     same-width [] = refl
-    same-width (group ∷ gs) = λ i. max (number_len (same-group_source group i).display_offset group) (same-width gs i)
+    same-width (group ∷ gs) =
+        λ i. max (number_len (same-group_source group i).display_offset
+        (record { switches = same.switches i; lines = listed_lines (same-group_source group i); labels = group })) (same-width gs i)
 
     -- a group's part of the picture is of the same source, under the same name
     same-section : (n k : ℕ) (group : List LabelInfo) → NameOneOffset group → section_of w r n (k, group) ≡ section_of v q n (k, group)

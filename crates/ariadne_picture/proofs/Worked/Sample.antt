@@ -177,6 +177,7 @@ ascii_config = record {
   multiline_arrows = true;
   color = false;
   tab_width = 4;
+  context_lines = 0;
   char_set = Ascii;
   index_type = Char;
 }

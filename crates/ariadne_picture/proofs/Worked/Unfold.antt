@@ -5,10 +5,10 @@ use Rattle.ariadne_base.specs.Locations.{line_offset, line_at, column_at, char_o
 use Rattle.ariadne_picture.specs.Lists.{inserted, in_order, best, joined, total}
 use Rattle.ariadne_picture.specs.Accept.{text_len, offset_in_chars, attach_offset, info_of, within, verdict}
 use Rattle.ariadne_picture.specs.Groups.{ordered, is_cut, last_of, ahead, groups_of, greatest, least_below, group_end_line, group_start_line}
-use Rattle.ariadne_picture.specs.Groups.{group_lines, printed_number}
-use Rattle.ariadne_picture.specs.Ranks.{is_inline, is_start, is_end, span_len, is_on_one_line, multi_line_labels, gutter_labels, gutter_label_ends}
+use Rattle.ariadne_picture.specs.Groups.{printed_number}
+use Rattle.ariadne_picture.specs.Ranks.{is_inline, is_start, is_end, span_len, is_on_one_line, multi_line_labels, gutter_labels, gutter_label_ends, first_line, last_line, group_lines}
 use Rattle.ariadne_picture.specs.Ranks.{ends_at, is_nearer_margin, margin_label, is_of_gutter_label, is_margin, inline_labels, is_before, line_labels}
-use Rattle.ariadne_picture.specs.Ranks.{is_hidden}
+use Rattle.ariadne_picture.specs.Ranks.{is_hidden, is_unlabelled, lines_near}
 use Rattle.ariadne_picture.specs.Rows.{aside_part, before, label_rows, is_lone, lone_rows, is_inside, line_rows, aside_rows, asides, rows, row_key}
 use Rattle.ariadne_picture.specs.Columns.{layout_of, char_columns, text_columns, shown, shown_columns, width_from, column_of, width, places_to_end}
 use Rattle.ariadne_picture.specs.Columns.{arrow_len}
@@ -43,9 +43,9 @@ use Rattle.ariadne_picture.specs.LabelColors.{is_start_colored, is_pointer_color
 unfoldable pub evaluated : Unit {0}
 unfolding digits is_separator begins_with_line_feed ends_line in_front full_lines_of lines_of line_offset line_at column_at char_offset inserted
     in_order best joined total text_len offset_in_chars attach_offset info_of within verdict ordered is_cut
-    last_of ahead groups_of greatest least_below group_end_line group_start_line group_lines printed_number is_inline is_start is_end
+    last_of ahead groups_of greatest least_below group_end_line group_start_line first_line last_line group_lines printed_number is_inline is_start is_end
     span_len is_on_one_line multi_line_labels gutter_labels gutter_label_ends ends_at is_nearer_margin margin_label is_of_gutter_label is_margin
-    inline_labels is_before line_labels is_hidden aside_part row_key before label_rows is_lone lone_rows is_inside line_rows aside_rows asides rows
+    inline_labels is_before line_labels is_unlabelled lines_near is_hidden aside_part row_key before label_rows is_lone lone_rows is_inside line_rows aside_rows asides rows
     layout_of char_columns text_columns shown shown_columns width_from column_of width places_to_end arrow_len has_vertical vertical_at spot_of
     is_crossed holds is_preferred underlines_at underline_at rank_at first_row last_row has_tee bar_at glyph_code
     alternate_ink corner_glyph arrow_ink alternate_place arrow_place gutter_label_paint margin_glyph turn_glyph margin_ink beside_ink below_ink
