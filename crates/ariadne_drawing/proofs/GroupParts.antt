@@ -14,10 +14,9 @@ use Rattle.ariadne_picture.specs.declared.label_info.LabelInfo.{LabelInfo}
 use Rattle.ariadne_picture.specs.declared.verdict.Verdict.TheVariants.{Accepted}
 use Rattle.ariadne_picture.specs.Accept.{info_of, offset_in_chars, text_len, verdict, within}
 use Rattle.ariadne_picture.specs.Canvas.{group_id, group_source, header_offset, section_of, texts_of}
-use Rattle.ariadne_picture.specs.Groups.{group_lines}
 use Rattle.ariadne_picture.specs.Lists.{joined}
 use Rattle.ariadne_picture.specs.Pieces.{Section, Texts, location_text, row_pieces, section_rows}
-use Rattle.ariadne_picture.specs.Ranks.{Sheet, gutter_labels}
+use Rattle.ariadne_picture.specs.Ranks.{Sheet, group_lines, gutter_labels}
 use Rattle.ariadne_picture.specs.Report.{ConfigFields, LabelFields, ReportFields, World, switches_of}
 use Rattle.ariadne_picture.specs.Rows.{Row, asides, group_header, help, line_rows, note, rows, spacer, tail}
 use Rattle.ariadne_picture.proofs.Labels.DrawnLabels.{offset-order}
@@ -181,40 +180,38 @@ module _ {S Id : Type 0} (w : World S Id) (r : ReportFields S) where
 
 module _ (t : Texts) (g : Section) where
   -- the rows of a group, where the picture is compact or not and the group is the last or not
-  parts : Bool → List LabelInfo → Bool → List Row
-  parts compact labels last =
-      group_header ∷ (if compact then [] else spacer ∷ []) ++ joined (line_rows g.sheet) (group_lines labels)
+  parts : Bool → Bool → List Row
+  parts compact last =
+      group_header ∷ (if compact then [] else spacer ∷ []) ++ joined (line_rows g.sheet) (group_lines g.sheet)
       ++ (if last then asides compact help t.helps ++ asides compact note t.notes else []) ++ (if compact then [] else tail ∷ [])
 
   -- they are all its rows
-  parts_are : (width : ℕ) → section_rows t width g ≡ map (row_pieces t width g) (parts g.sheet.switches.compact g.sheet.labels g.is_last)
+  parts_are : (width : ℕ) → section_rows t width g ≡ map (row_pieces t width g) (parts g.sheet.switches.compact g.is_last)
   unfolding section_rows rows parts
   parts_are width = refl
 
   -- those above the lines, those of the lines, and those below them
-  parts_split : (compact : Bool) (labels : List LabelInfo) (last : Bool) → parts compact labels last
-      ≡ (group_header ∷ (if compact then [] else spacer ∷ [])) ++ (joined (line_rows g.sheet) (group_lines labels)
+  parts_split : (compact last : Bool) → parts compact last
+      ≡ (group_header ∷ (if compact then [] else spacer ∷ [])) ++ (joined (line_rows g.sheet) (group_lines g.sheet)
       ++ ((if last then asides compact help t.helps ++ asides compact note t.notes else []) ++ (if compact then [] else tail ∷ [])))
   unfolding parts
-  parts_split compact labels last = simp append_assoc
+  parts_split compact last = simp append_assoc
 
   -- the rows above the lines, the lines and the rows below them, one after another
-  pub whole_group : (old one two new : PenFields) (labels : List LabelInfo) (last : Bool) → g.sheet.switches ≡ old.page.switches
-      → g.sheet.labels ≡ labels
-      → g.is_last ≡ last
+  pub whole_group : (old one two new : PenFields) (last : Bool) → g.sheet.switches ≡ old.page.switches → g.is_last ≡ last
       → DrawsRows old one (map (row_pieces t old.page.number_width g) (group_header ∷ (if old.page.switches.compact then [] else spacer ∷ [])))
-      → DrawsRows one two (map (row_pieces t one.page.number_width g) (joined (line_rows g.sheet) (group_lines labels)))
+      → DrawsRows one two (map (row_pieces t one.page.number_width g) (joined (line_rows g.sheet) (group_lines g.sheet)))
       → DrawsRows two new (map (row_pieces t two.page.number_width g)
       ((if last then asides two.page.switches.compact help t.helps ++ asides two.page.switches.compact note t.notes else [])
       ++ (if two.page.switches.compact then [] else tail ∷ [])))
       → DrawsRows old new (section_rows t old.page.number_width g)
-  whole_group old one two new labels last sw ls el above lines below =
+  whole_group old one two new last sw el above lines below =
       let f = row_pieces t old.page.number_width g in
       let compact : Bool = old.page.switches.compact in
       let page_one : one.page ≡ old.page = ap (λ (x : PenFields). x.page) above in
       let page_two : two.page ≡ old.page = ap (λ (x : PenFields). x.page) lines ∙ page_one in
       let a = group_header ∷ (if compact then [] else spacer ∷ []) in
-      let b = joined (line_rows g.sheet) (group_lines labels) in
+      let b = joined (line_rows g.sheet) (group_lines g.sheet) in
       let d = (if last then asides compact help t.helps ++ asides compact note t.notes else []) ++ (if compact then [] else tail ∷ []) in
       let second : DrawsRows one two (map f b) =
       subst (DrawsRows one two) (ap (λ (p : PageFields). map (row_pieces t p.number_width g) b) page_one) lines in
@@ -225,6 +222,6 @@ module _ (t : Texts) (g : Section) where
       let all : DrawsRows old new (map f a ++ (map f b ++ map f d)) =
       draws_rows-append old one new (map f a) (map f b ++ map f d) above (draws_rows-append one two new (map f b) (map f d) second third) in
       let joins : section_rows t old.page.number_width g ≡ map f a ++ (map f b ++ map f d) =
-      parts_are old.page.number_width ∙ (λ i. map f (parts (sw i).compact (ls i) (el i))) ∙ ap (map f) (parts_split compact labels last)
+      parts_are old.page.number_width ∙ (λ i. map f (parts (sw i).compact (el i))) ∙ ap (map f) (parts_split compact last)
       ∙ map-append f a (b ++ d) ∙ ap (λ z. map f a ++ z) (map-append f b d) in
       subst (DrawsRows old new) (sym joins) all

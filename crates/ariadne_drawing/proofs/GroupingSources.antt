@@ -11,8 +11,9 @@ use Rattle.ariadne_base.proofs.LineLaws.{some_line}
 use Rattle.ariadne_base.specs.Cache.{held}
 use Rattle.ariadne_base.specs.Listing.{Listing, listed_lines}
 use Rattle.ariadne_picture.specs.declared.label_info.LabelInfo.{LabelInfo}
-use Rattle.ariadne_picture.specs.Canvas.{label_id, is_same_id, same_source, group_id, group_source, number_width}
+use Rattle.ariadne_picture.specs.Canvas.{label_id, is_same_id, same_source, group_id, group_source, number_width, sheet_of}
 use Rattle.ariadne_picture.specs.Groups.{is_cut, group_end_line, greatest, HasNoCut, printed_number}
+use Rattle.ariadne_picture.specs.Ranks.{last_line}
 use Rattle.ariadne_picture.specs.Report.{HaveOneSource, LabelFields, ReportFields, World}
 use Rattle.ariadne_picture.proofs.Lists.ListFacts.{all-weaker}
 use Rattle.ariadne_picture.specs.Accept.{IsAccepted}
@@ -137,12 +138,17 @@ module _ {S Id : Type 0} (w : World S Id) (r : ReportFields S) where
     pub over_group : (group : List LabelInfo) → IsGroup w r group → AreOverLines (listed_lines (group_source w r group)) group
     over_group group g = over_labels group g.drawn (cut_first (same_source w r) group [] g.whole)
 
-    -- its last line is one of them
-    pub end_inside : (group : List LabelInfo) → IsGroup w r group → group_end_line group < length (listed_lines (group_source w r group))
+    -- they end on one of them
+    end_inside : (group : List LabelInfo) → IsGroup w r group → group_end_line group < length (listed_lines (group_source w r group))
     end_inside group g =
         let ls = listed_lines (group_source w r group) in
         end_below (length ls) group (some_line (chars (group_source w r group).text))
         (all-weaker (IsOverLines ls) (λ a. a.end_line < length ls) group (λ a o. o.within) (over_group group g))
+
+    -- its last line is one of them
+    pub last_inside : (group : List LabelInfo) → IsGroup w r group → last_line (sheet_of w r group) < length (listed_lines (group_source w r group))
+    unfolding last_line
+    last_inside group g = let ends = end_inside group g in omega (arith, ends)
 
   -- the source that is found for a label that is drawn
   pub found_source : (a : LabelInfo) (d : IsAccepted w r a) (x : LabelFields S) → slice_get r.labels a.position ≡ Some x → (id : Id) → id ≡ w.id_of x.span
@@ -156,7 +162,7 @@ module _ {S Id : Type 0} (w : World S Id) (r : ReportFields S) where
 
   -- a step of the loop for the width of the numbers of groups
   pub width_step : (gs : List (List LabelInfo)) (i : ℕ) (group : List LabelInfo) → drop i gs ≡ group ∷ drop (suc i) gs → (n width new all : ℕ)
-      → n ≡ printed_number (group_source w r group).display_offset (group_end_line group) → new ≡ max width (length (decimal n))
+      → n ≡ printed_number (group_source w r group).display_offset (last_line (sheet_of w r group)) → new ≡ max width (length (decimal n))
       → all ≡ max width (number_width w r (drop i gs)) → all ≡ max new (number_width w r (drop (suc i) gs))
   unfolding number_width greatest
   width_step gs i group at n width new all is more so_far =

@@ -11,9 +11,8 @@ use Rattle.ariadne_base.proofs.LocationLemmas.{get_or-line_table}
 use Rattle.ariadne_base.proofs.TableLemmas.{length-line_table}
 use Rattle.ariadne_picture.specs.declared.label_info.LabelInfo.{LabelInfo}
 use Rattle.ariadne_picture.specs.declared.label_info.LineLabel.{LineLabel}
-use Rattle.ariadne_picture.specs.Groups.{group_start_line}
 use Rattle.ariadne_picture.specs.Bars.{EndsNoEarlier}
-use Rattle.ariadne_picture.specs.Ranks.{Sheet, is_hidden, margin_label}
+use Rattle.ariadne_picture.specs.Ranks.{Sheet, first_line, is_hidden, margin_label}
 use Rattle.ariadne_picture.specs.Rows.{gap, bare, line_rows, is_inside}
 use Rattle.ariadne_picture.specs.Strokes.{holds}
 use Rattle.ariadne_picture.proofs.Lists.ListFacts.{all-weaker}
@@ -103,8 +102,8 @@ module _ (s : Sheet) (l : ℕ) (hidden : is_hidden s l ≡ true) (run : begins_r
   run-rows : line_rows s l ≡ (if is_inside s l then gap l ∷ [] else if s.switches.compact then [] else bare l ∷ [])
   unfolding line_rows begins_run
   run-rows =
-      let first : (nat_lt (group_start_line s.labels) l && is_hidden s (l - 1)) ≡ false =
-      not-true (nat_lt (group_start_line s.labels) l && is_hidden s (l - 1)) run in
+      let first : (nat_lt (first_line s) l && is_hidden s (l - 1)) ≡ false =
+      not-true (nat_lt (first_line s) l && is_hidden s (l - 1)) run in
       rw (hidden, first) refl
 
   -- inside a label

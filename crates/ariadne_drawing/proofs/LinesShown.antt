@@ -13,8 +13,9 @@ use Rattle.ariadne_picture.specs.Lists.{joined}
 use Rattle.ariadne_picture.specs.Ranks.{Sheet, ends_at, inline_labels, is_hidden, is_on_one_line}
 use Rattle.ariadne_picture.proofs.Lists.Elements.{Has, both-true, has-filter, has-map}
 use Rattle.ariadne_picture.proofs.Lists.ListFacts.{all-at, none≢some}
+use Rattle.ariadne_picture.proofs.Rows.NearLines.{hidden-bare}
 use Rattle.ariadne_rows.specs.Sheets.{labels_of}
-use Rattle.ariadne_rows.proofs.Events.{hidden-no_event, labels-at}
+use Rattle.ariadne_rows.proofs.Events.{labels-at, unlabelled-no_event}
 use Rattle.ariadne_drawing.specs.Lines.{AreOverLines, IsOverLines}
 
 -- a text that begins in something has a character
@@ -62,7 +63,7 @@ within-shown s l k a there starts ends hidden =
     let made : Has (inline_labels s l) (make a) = has-map make (filter test s.labels) kept.place a kept.there in
     let more = has-some (inline_labels s l) (make a) made in
     let few : length (ends_at s l ++ inline_labels s l) ≡ 0 =
-    ap length (sym (labels-at s l) ∙ ap (labels_of s) (hidden-no_event s l hidden) ∙ no-labels s) in
+    ap length (sym (labels-at s l) ∙ ap (labels_of s) (unlabelled-no_event s l (hidden-bare s l hidden)) ∙ no-labels s) in
     let sum = length-append (ends_at s l) (inline_labels s l) in
     omega arith
 

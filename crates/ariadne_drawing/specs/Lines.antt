@@ -1,7 +1,8 @@
 -- What is known of the labels, the groups and the lines that are drawn.
-use Rattle.std.specs.Prelude.{ℕ, ◌≡◌, ◌+◌, ◌<◌, ◌≤◌, Bool, true, List, length}
+use Rattle.std.specs.Prelude.{ℕ, ◌≡◌, ◌+◌, ◌<◌, ◌≤◌, Bool, true, false, List, length}
 use Rattle.std.specs.Prelude.{◌-◌, ◌&&◌, nat_lt, not}
 use Rattle.std.specs.List.{AllByRecursion}
+use Rattle.std.specs.declared.ops.Range.{Range}
 use Rattle.ariadne_base.specs.Listing.{Listing, listed_lines}
 use Rattle.ariadne_base.specs.Locations.{line_offset, line_text}
 use Rattle.ariadne_picture.specs.declared.label_info.LabelInfo.{LabelInfo}
@@ -11,8 +12,7 @@ use Rattle.ariadne_cells.specs.declared.table.LineTable.{LineTable}
 use Rattle.ariadne_picture.specs.declared.switches.Switches.{Switches}
 use Rattle.ariadne_picture.specs.Bars.{EndsNoEarlier}
 use Rattle.ariadne_picture.specs.Columns.{Layout, layout_of}
-use Rattle.ariadne_picture.specs.Groups.{group_start_line}
-use Rattle.ariadne_picture.specs.Ranks.{Sheet, is_hidden}
+use Rattle.ariadne_picture.specs.Ranks.{Sheet, first_line, is_hidden, is_unlabelled}
 use Rattle.ariadne_rows.specs.Gutters.{GutterFields, IsBelow}
 use Rattle.ariadne_rows.specs.Headers.{IsOnPage}
 use Rattle.ariadne_rows.specs.Sheets.{HoldersTouch}
@@ -79,7 +79,24 @@ pub record IsAtSome (t : Texts) (page : PageFields) (y : Layout) (gutter : Gutte
 
 -- line l is the first of its group, or the line above it is shown
 unfoldable pub begins_run : Sheet → ℕ → Bool
-begins_run s l = not (nat_lt (group_start_line s.labels) l && is_hidden s (l - 1))
+begins_run s l = not (nat_lt (first_line s) l && is_hidden s (l - 1))
+
+-- no label has anything at the lines from `first` to before `behind`, and each of them is shown
+pub record AreContext (s : Sheet) (first behind : ℕ) : Type 0 where
+  pub unlabelled : (l : ℕ) → first ≤ l → l < behind → is_unlabelled s l ≡ true
+  pub shown : (l : ℕ) → first ≤ l → l < behind → is_hidden s l ≡ false
+
+-- no label has anything at these lines of a group; those of `run` are hidden, the first of them begins
+-- a run, and the others are shown
+pub record AreBetween (s : Sheet) (lines run : Range ℕ) : Type 0 where
+  pub first : first_line s ≤ lines.start
+  pub low : lines.start ≤ run.start
+  pub up : run.start ≤ run.end
+  pub high : run.end ≤ lines.end
+  pub above : AreContext s lines.start run.start
+  pub hidden : (l : ℕ) → run.start ≤ l → l < run.end → is_hidden s l ≡ true
+  pub begins : begins_run s run.start ≡ true
+  pub below : AreContext s run.end lines.end
 
 -- the layout y is that of line l of a group with these labels, and only labels that touch the line
 -- hold a character of it

@@ -5,10 +5,11 @@ ghost use Rattle.std.specs.Prelude.{map, slice_range, true};
 ghost use Rattle.ariadne_accept.specs.Drawn.{AreThere, world};
 ghost use Rattle.ariadne_base.specs.Listing.{Listing};
 ghost use Rattle.ariadne_drawing.specs.Groups.{AreGroups, IsGroup};
-ghost use Rattle.ariadne_picture.specs.Canvas.{group_source, number_width, same_source};
-ghost use Rattle.ariadne_picture.specs.Groups.{group_end_line, groups_of, is_cut, printed_number};
+ghost use Rattle.ariadne_picture.specs.Canvas.{group_source, number_width, same_source, sheet_of};
+ghost use Rattle.ariadne_picture.specs.Groups.{groups_of, is_cut, printed_number};
+ghost use Rattle.ariadne_picture.specs.Ranks.{last_line};
 
-use crate::lines::last_line;
+use crate::lines::{last_line, number_of_lines};
 use ariadne_accept::content::Content;
 use ariadne_base::{Cache, Span};
 use ariadne_cells::margin::decimal_len;
@@ -120,7 +121,7 @@ pub(crate) fn number_width<S: Span, C: Cache<S::SourceId>>(
     width
 }
 
-/// The number of the last line of a group, as it is printed.
+/// The number of the last line of a group that is shown or stands between such, as it is printed.
 fn last_number<S: Span, C: Cache<S::SourceId>>(
     report: &Content<'_, S>,
     cache: &C,
@@ -131,11 +132,12 @@ fn last_number<S: Span, C: Cache<S::SourceId>>(
     ensures { let w = world S.source_of S.start_of S.end_of S.SourceId.eq
         (C.names cache.now) (C.contents cache.now) in
         result ≡ printed_number (group_source w report.now group.now).display_offset
-        (group_end_line group.now) }
+        (last_line (sheet_of w report.now group.now)) }
 {
     let first = group[0];
     let id = report.labels()[first.position].span().source();
     let source = C::get(cache, id).unwrap();
-    let offset = source.display_line_offset();
-    last_line(group) + 1 + offset
+    let context = report.config().switches().context_lines;
+    let last = last_line(group, context, number_of_lines(source));
+    last + 1 + source.display_line_offset()
 }

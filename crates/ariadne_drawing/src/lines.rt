@@ -1,10 +1,12 @@
-//! The rows of the lines of a group, from its first line to its last.
+//! The rows of the lines of a group, from its first line to its last. Lines without labels that stand
+//! near one with some are shown; the others are hidden.
 
 ghost use Rattle.std.specs.Prelude.{◌≡◌, ◌<◌, ◌≤◌, ◌+◌, ◌++◌, ℕ, [], OnOk, false, length, map, replicate};
 ghost use Rattle.std.specs.Prelude.{IfSome, None, Some, ◌^◌, ◌-◌, option_map, slice_get};
-ghost use Rattle.std.specs.Prelude.{slice_range, true};
+ghost use Rattle.std.specs.Prelude.{max, min, slice_range, true};
 ghost use Rattle.std.specs.List.{AllByRecursion, enumerate_from, list_any, range_with_len};
-ghost use Rattle.ariadne_drawing.specs.Lines.{AreOverLines, IsAtLine, IsAtSome, IsBelowLine, IsBelowSome};
+ghost use Rattle.ariadne_drawing.specs.Lines.{AreBetween, AreContext, AreOverLines};
+ghost use Rattle.ariadne_drawing.specs.Lines.{IsAtLine, IsAtSome, IsBelowLine, IsBelowSome};
 ghost use Rattle.ariadne_drawing.specs.Lines.{IsDrawnGroup, IsLaidOut, begins_run};
 ghost use Rattle.ariadne_drawing.specs.LongLines.{IsRemembered};
 ghost use Rattle.ariadne_cells.specs.Pages.{DrawsRow, DrawsRows};
@@ -13,11 +15,11 @@ ghost use Rattle.ariadne_picture.specs.Bars.{EndsNoEarlier};
 ghost use Rattle.ariadne_cells.specs.Tables.{ArePaints, tab_columns};
 ghost use Rattle.ariadne_picture.specs.Columns.{arrow_len};
 ghost use Rattle.ariadne_picture.specs.Canvas.{texts_of};
-ghost use Rattle.ariadne_picture.specs.Groups.{group_end_line, group_lines, group_start_line};
+ghost use Rattle.ariadne_picture.specs.Groups.{group_end_line, group_start_line};
 ghost use Rattle.ariadne_picture.specs.Lists.{joined};
 ghost use Rattle.ariadne_picture.specs.Pieces.{Section, Texts, row_pieces};
-ghost use Rattle.ariadne_picture.specs.Ranks.{Sheet, gutter_labels, is_hidden, is_inline};
-ghost use Rattle.ariadne_picture.specs.Ranks.{multi_line_labels};
+ghost use Rattle.ariadne_picture.specs.Ranks.{Sheet, first_line, group_lines, gutter_labels};
+ghost use Rattle.ariadne_picture.specs.Ranks.{is_hidden, is_inline, last_line, multi_line_labels};
 ghost use Rattle.ariadne_rows.specs.Sheets.{events_at, events_of};
 ghost use Rattle.ariadne_picture.specs.Ranks.{is_start, line_labels, margin_label};
 ghost use Rattle.ariadne_picture.specs.Rows.{arrow, label_rows, line_rows, lone_rows};
@@ -39,6 +41,7 @@ use ariadne_rows::rows::{
 };
 use ariadne_rows::sheet::GroupSheet;
 use std::alloc::{AllocError, Global};
+use std::ops::Range;
 
 /// The lists of the group and of the line that are drawn. They are made once a picture, and filled
 /// anew for each group and for each line.
@@ -94,41 +97,73 @@ pub(crate) fn push_lines<S: Span, I: SourceText>(
     ensures page { OnOk result (lists.new.gutter.page ≡ lists.old.gutter.page) }
     ensures positions { OnOk result
         (lists.new.gutter.positions ≡ lists.old.gutter.positions) }
-    ensures drawn { let page = pen.old.page in let labels = lists.old.sheet.labels in
-        let t = texts_of report.now in (g : Section) →
-        IsDrawnGroup t g page.switches source.now labels →
+    ensures drawn { let page = pen.old.page in let t = texts_of report.now in (g : Section) →
+        IsDrawnGroup t g page.switches source.now lists.old.sheet.labels →
         OnOk result (DrawsRows pen.old pen.new
         (map (row_pieces t page.number_width g)
-        (joined (line_rows g.sheet) (group_lines labels)))) }
+        (joined (line_rows g.sheet) (group_lines g.sheet)))) }
 {
-    // With it the number of each line fits.
-    let _display_offset = source.display_line_offset();
-    let mut line = first_line(lists.sheet.labels());
-    let behind = last_line(lists.sheet.labels()) + 1;
+    let context = pen.page().switches().context_lines;
+    let mut line = first_line(lists.sheet.labels(), context);
+    let behind = last_line(lists.sheet.labels(), context, number_of_lines(source)) + 1;
+    // Of the lines without labels those before it are near one above them.
+    let mut near = line;
     let mut event = 0;
     while let Some(next) = event_line(&lists.sheet, event) {
-        push_hidden_lines(pen, &mut lists.sheet, &lists.gutter, source, line, next)?;
+        let hidden = hidden_lines(near, next.saturating_sub(context), next);
+        push_lines_between(pen, lists, report, source, line..next, hidden)?;
         let end = lists.sheet.line_end(event);
         push_line(pen, lists, report, source, next, event, end)?;
         line = next + 1;
+        near = line.saturating_add(context);
         event = end;
     }
-    push_hidden_lines(pen, &mut lists.sheet, &lists.gutter, source, line, behind)
+    let hidden = hidden_lines(near, behind, behind);
+    push_lines_between(pen, lists, report, source, line..behind, hidden)
 }
 
-/// The first line of a group.
-pub(crate) fn first_line(group: &[LabelInfo]) -> usize
+/// The first line of a group that is shown or stands between such: `context` lines before that of its
+/// first label, or as many as there are.
+fn first_line(group: &[LabelInfo], context: usize) -> usize
+    ensures { (s : Sheet) → s.labels ≡ group.now → s.switches.context_lines ≡ context →
+        result ≡ first_line s }
+{
+    group_start_line(group).saturating_sub(context)
+}
+
+/// The last line of a group that is shown or stands between such: `context` lines behind that of its
+/// last label, or as many as its source has. It has so many lines.
+pub(crate) fn last_line(group: &[LabelInfo], context: usize, lines: usize) -> usize
+    ensures { (s : Sheet) → s.labels ≡ group.now → s.switches.context_lines ≡ context →
+        length s.lines ≡ lines → result ≡ last_line s }
+{
+    let last = group_end_line(group);
+    let behind = lines.saturating_sub(last).saturating_sub(1);
+    last + context.min(behind)
+}
+
+/// How many lines a source has.
+pub(crate) fn number_of_lines<I: SourceText>(source: &Source<I>) -> usize
+    ensures number { result ≡ length (listed_lines source.now) }
+    ensures fits { source.now.display_offset + result < 2 ^ 64 }
+{
+    let _display_offset = source.display_line_offset();
+    source.lines().len()
+}
+
+/// The line on which the first label of a group starts.
+fn group_start_line(group: &[LabelInfo]) -> usize
     ensures { result ≡ group_start_line group.now }
 {
-    let mut first = last_line(group);
+    let mut first = group_end_line(group);
     for info in group {
         first = first.min(info.start_line);
     }
     first
 }
 
-/// The last line of a group.
-pub(crate) fn last_line(group: &[LabelInfo]) -> usize
+/// The line on which the last label of a group ends.
+fn group_end_line(group: &[LabelInfo]) -> usize
     ensures { result ≡ group_end_line group.now }
 {
     let mut last = 0usize;
@@ -136,6 +171,106 @@ pub(crate) fn last_line(group: &[LabelInfo]) -> usize
         last = last.max(info.end_line);
     }
     last
+}
+
+/// The hidden lines before line `next`, of which those before `near` and those from `far` on are
+/// shown.
+fn hidden_lines(near: usize, far: usize, next: usize) -> Range<usize>
+    ensures start { result.start ≡ min near next }
+    ensures end { result.end ≡ max far (min near next) }
+{
+    let start = near.min(next);
+    start..far.max(start)
+}
+
+/// Writes the rows of lines without labels, of which these are hidden and the others shown.
+///
+/// On `Err` there was no memory for them.
+fn push_lines_between<S: Span, I: SourceText>(
+    pen: &mut Pen<'_>,
+    lists: &mut Lists<'_>,
+    report: &Content<'_, S>,
+    source: &Source<I>,
+    lines: Range<usize>,
+    hidden: Range<usize>,
+) -> Result<(), AllocError>
+    requires page { lists.old.gutter.page ≡ pen.old.page }
+    requires texts { (texts_of report.now).switches ≡ pen.old.page.switches }
+    requires onward { lists.old.sheet.line ≤ lines.start }
+    requires within { lines.end ≤ length (listed_lines source.now) }
+    requires labels { 0 < length lists.old.sheet.labels }
+    requires over { AreOverLines (listed_lines source.now) lists.old.sheet.labels }
+    requires between { (s : Sheet) → s.labels ≡ lists.old.sheet.labels →
+        s.switches ≡ pen.old.page.switches → AreBetween s lines hidden }
+    requires beside { (s : Sheet) → s.labels ≡ lists.old.sheet.labels →
+        s.switches ≡ pen.old.page.switches → IsBeside s lines.start lists.old.gutter }
+    requires known { IsRemembered (listed_lines source.now) lists.old.long_line }
+    ensures known { OnOk result (IsRemembered (listed_lines source.now) lists.new.long_line) }
+    ensures page { OnOk result (lists.new.gutter.page ≡ lists.old.gutter.page) }
+    ensures positions { OnOk result
+        (lists.new.gutter.positions ≡ lists.old.gutter.positions) }
+    ensures labels { OnOk result (lists.new.sheet.labels ≡ lists.old.sheet.labels) }
+    ensures onward { OnOk result (lists.new.sheet.line ≤ lines.end) }
+    ensures beside { (s : Sheet) → s.labels ≡ lists.old.sheet.labels →
+        s.switches ≡ pen.old.page.switches →
+        OnOk result (IsBeside s lines.end lists.new.gutter) }
+    ensures drawn { let page = pen.old.page in let t = texts_of report.now in (g : Section) →
+        IsDrawnGroup t g page.switches source.now lists.old.sheet.labels →
+        OnOk result (DrawsRows pen.old pen.new (map (row_pieces t page.number_width g)
+        (joined (line_rows g.sheet) (range_with_len lines.start (lines.end - lines.start))))) }
+{
+    push_context_lines(pen, lists, report, source, lines.start, hidden.start)?;
+    push_hidden_lines(
+        pen,
+        &mut lists.sheet,
+        &lists.gutter,
+        source,
+        hidden.start,
+        hidden.end,
+    )?;
+    push_context_lines(pen, lists, report, source, hidden.end, lines.end)
+}
+
+/// Writes the lines without labels that are shown, from a line to before another: a source row each.
+///
+/// On `Err` there was no memory for them.
+fn push_context_lines<S: Span, I: SourceText>(
+    pen: &mut Pen<'_>,
+    lists: &mut Lists<'_>,
+    report: &Content<'_, S>,
+    source: &Source<I>,
+    first: usize,
+    behind: usize,
+) -> Result<(), AllocError>
+    requires page { lists.old.gutter.page ≡ pen.old.page }
+    requires texts { (texts_of report.now).switches ≡ pen.old.page.switches }
+    requires onward { lists.old.sheet.line ≤ first }
+    requires up { first ≤ behind }
+    requires within { behind ≤ length (listed_lines source.now) }
+    requires over { AreOverLines (listed_lines source.now) lists.old.sheet.labels }
+    requires context { (s : Sheet) → s.labels ≡ lists.old.sheet.labels →
+        s.switches ≡ pen.old.page.switches → AreContext s first behind }
+    requires beside { (s : Sheet) → s.labels ≡ lists.old.sheet.labels →
+        s.switches ≡ pen.old.page.switches → IsBeside s first lists.old.gutter }
+    requires known { IsRemembered (listed_lines source.now) lists.old.long_line }
+    ensures known { OnOk result (IsRemembered (listed_lines source.now) lists.new.long_line) }
+    ensures page { OnOk result (lists.new.gutter.page ≡ lists.old.gutter.page) }
+    ensures positions { OnOk result
+        (lists.new.gutter.positions ≡ lists.old.gutter.positions) }
+    ensures labels { OnOk result (lists.new.sheet.labels ≡ lists.old.sheet.labels) }
+    ensures onward { OnOk result (lists.new.sheet.line ≤ behind) }
+    ensures beside { (s : Sheet) → s.labels ≡ lists.old.sheet.labels →
+        s.switches ≡ pen.old.page.switches →
+        OnOk result (IsBeside s behind lists.new.gutter) }
+    ensures drawn { let page = pen.old.page in let t = texts_of report.now in (g : Section) →
+        IsDrawnGroup t g page.switches source.now lists.old.sheet.labels →
+        OnOk result (DrawsRows pen.old pen.new (map (row_pieces t page.number_width g)
+        (joined (line_rows g.sheet) (range_with_len first (behind - first))))) }
+{
+    for line in first..behind {
+        push_line(pen, lists, report, source, line, 0, 0)?;
+    }
+    Ok(())
 }
 
 /// The line of an event of a group, where there are so many events.
@@ -166,7 +301,7 @@ fn push_hidden_lines<I: SourceText>(
     ensures drawn { let page = pen.old.page in (t : Texts) (g : Section) →
         IsDrawnGroup t g page.switches source.now sheet.old.labels →
         AreOverLines (listed_lines source.now) sheet.old.labels →
-        0 < length sheet.old.labels → group_start_line g.sheet.labels ≤ line →
+        0 < length sheet.old.labels → first_line g.sheet ≤ line →
         IsBeside g.sheet line gutter.now → begins_run g.sheet line ≡ true →
         ((j : ℕ) → line ≤ j → j < next → is_hidden g.sheet j ≡ true) →
         OnOk result (DrawsRows pen.old pen.new (map (row_pieces t page.number_width g)

@@ -22,6 +22,7 @@ pub struct Config {
     multiline_arrows: bool,
     color: bool,
     tab_width: usize,
+    context_lines: usize,
     char_set: CharSet,
     index_type: IndexType,
 }
@@ -41,6 +42,7 @@ impl Model for Config {
       multiline_arrows = a.multiline_arrows;
       color = a.color;
       tab_width = a.tab_width;
+      context_lines = a.context_lines;
       char_set = a.char_set;
       index_type = a.index_type;
     } };
@@ -56,6 +58,7 @@ impl Model for Config {
       multiline_arrows = c.multiline_arrows;
       color = c.color;
       tab_width = c.tab_width;
+      context_lines = c.context_lines;
       char_set = c.char_set;
       index_type = c.index_type;
     } };
@@ -66,7 +69,8 @@ impl Config {
 
     /// The default switches: gaps where arrows cross, arrows attached to the middle, not compact,
     /// underlines but no lone ones, and arrows at the ends of labels over several lines. Colours, a
-    /// tab stop every 4 columns, box drawing characters, and offsets in characters.
+    /// tab stop every 4 columns, no lines but those with labels, box drawing characters, and offsets
+    /// in characters.
     pub const fn new() -> Config
         ensures { result ≡ default_config }
     {
@@ -81,6 +85,7 @@ impl Config {
             lone_underlines: false,
             multiline_arrows: true,
             tab_width: 4,
+            context_lines: 0,
         }
     }
 
@@ -217,6 +222,26 @@ impl Config {
         self
     }
 
+    /// How many lines are shown before each line that has labels, and how many behind it. By default
+    /// none are. Such a line has no rows below it, and the other lines without labels stay hidden.
+    ///
+    /// ```text
+    /// with_context_lines(0)      with_context_lines(1)
+    ///  3 | c                      2 | b
+    ///    | |                      3 | c
+    ///    | `-- x                    | |
+    ///                               | `-- x
+    ///                             4 | d
+    /// ```
+    ///
+    /// At the ends of a source there are fewer, however high the number is.
+    pub const fn with_context_lines(mut self, context_lines: usize) -> Config
+        ensures { result ≡ record self { context_lines = context_lines } }
+    {
+        self.context_lines = context_lines;
+        self
+    }
+
     /// The characters that strokes are drawn with, by default those for boxes of Unicode.
     ///
     /// ```text
@@ -258,6 +283,7 @@ impl Config {
             lone_underlines: self.lone_underlines,
             multiline_arrows: self.multiline_arrows,
             tab_width: self.tab_width,
+            context_lines: self.context_lines,
             char_set: self.char_set,
         }
     }

@@ -10,7 +10,7 @@ use Rattle.ariadne_picture.specs.declared.label_info.LabelInfo.{LabelInfo}
 use Rattle.ariadne_picture.specs.declared.label_info.LineLabel.{LineLabel}
 use Rattle.ariadne_picture.specs.declared.label_info.Side.{Side}
 use Rattle.ariadne_picture.specs.declared.label_info.Side.TheVariants.{Inline, Starts, Ends}
-use Rattle.ariadne_picture.specs.Ranks.{Sheet, gutter_labels, is_start, is_end, is_inline, line_labels, margin_label, is_hidden}
+use Rattle.ariadne_picture.specs.Ranks.{Sheet, gutter_labels, is_start, is_end, is_inline, line_labels, margin_label, is_unlabelled}
 use Rattle.ariadne_picture.specs.Rows.{Row, source, alternate, arrow, gap}
 use Rattle.ariadne_picture.specs.Strokes.{is_at_margin, rank_at, first_row, last_row, has_tee, bar_at}
 use Rattle.ariadne_picture.specs.Bars.{IsGutterLabel, IsMarginLabel, IsLineLabel}
@@ -19,7 +19,7 @@ use Rattle.ariadne_picture.proofs.Lists.ListFacts.{all-at}
 use Rattle.ariadne_picture.proofs.Rows.BarCases.{between-bar, bar-between, IsRow, source-row, gap-row, alternate-row, arrow-row, precedes-row, row-precedes}
 use Rattle.ariadne_picture.proofs.Rows.BarCases.{first_step, first-is, last-is, first-at-margin, first-at-label, start-number, end-number}
 use Rattle.ariadne_picture.proofs.Rows.BarCases.{numbered-start, numbered-end, margin-at, rises, no-tee-gap, no-tee-alternate, no-tee-arrow}
-use Rattle.ariadne_picture.proofs.Rows.BarCases.{tee-source, hidden-off-margin}
+use Rattle.ariadne_picture.proofs.Rows.BarCases.{tee-source, unlabelled-off-margin}
 use Rattle.ariadne_rows.specs.Gutters.{is_beside, is_below, is_own_column, owns_column}
 
 -- ---- where a gutter label starts and ends
@@ -223,12 +223,12 @@ module _ (s : Sheet) (l i : ℕ) (a : LabelInfo) (m : IsGutterLabel s i a) where
       let end = end-rank in
       grind (arith, nat_tests)
 
-  -- beside a hidden line too, since that has no line label and no margin label
-  pub hidden-bar : is_hidden s l ≡ true → is_beside l a ≡ is_beside (l + 1) a
-  unfolding is_beside is_hidden
-  hidden-bar hidden =
-      let off = hidden-off-margin s l i hidden in
-      let none = eqb-true (length (line_labels s l)) 0 (and_parts (length (line_labels s l) == 0) (not (is_some (margin_label s l))) hidden).0 in
+  -- beside a line without labels too, since that has no line label and no margin label
+  pub unlabelled-bar : is_unlabelled s l ≡ true → is_beside l a ≡ is_beside (l + 1) a
+  unfolding is_beside is_unlabelled
+  unlabelled-bar bare =
+      let off = unlabelled-off-margin s l i bare in
+      let none = eqb-true (length (line_labels s l)) 0 (and_parts (length (line_labels s l) == 0) (not (is_some (margin_label s l))) bare).0 in
       let start = start-rank in
       let end = end-rank in
       grind (arith, nat_tests)

@@ -1,4 +1,4 @@
--- The events of a group: they rise by line, those of a line are its labels, and a line without one is hidden.
+-- The events of a group: they rise by line, those of a line are its labels, and a line without one has no labels.
 use Rattle.std.proofs.Common.{◌≡◌, ◌≢◌, ℕ, ◌+◌, ◌<◌, ◌≤◌, Bool, true, false, not, ◌&&◌, ◌==◌, cond, List, [], ◌∷◌, ◌++◌, length, map, get_or, filter, nat_le, nat_lt}
 use Rattle.std.proofs.Common.{refl, sym, ap, ◌∙◌, subst, arith, inl, inr, Some, None, if◌then◌else◌, ◌-◌, take, drop}
 use Rattle.std.specs.Prelude.{slice_get, slice_range, is_some, option_to_list}
@@ -16,7 +16,7 @@ use Rattle.ariadne_picture.specs.declared.label_info.Side.TheVariants.{Inline, S
 use Rattle.ariadne_picture.specs.Groups.{group_start_line, group_end_line}
 use Rattle.ariadne_picture.specs.Lists.{in_order, joined, best}
 use Rattle.ariadne_picture.specs.Ranks.{Sheet, gutter_labels, gutter_label_ends, ends_at, inline_labels, is_on_one_line, is_nearer_margin, is_before, margin_label, is_margin, is_start}
-use Rattle.ariadne_picture.specs.Ranks.{line_labels, is_hidden}
+use Rattle.ariadne_picture.specs.Ranks.{line_labels, first_line, is_unlabelled}
 use Rattle.ariadne_picture.proofs.Labels.Orders.{best-none}
 use Rattle.ariadne_picture.proofs.Lists.Elements.{all-from, all-numbered}
 use Rattle.ariadne_picture.proofs.Lists.Joined.{filter-joined, joined-append, joined-joined}
@@ -209,22 +209,22 @@ none-labelled s (x ∷ xs) a e = elim (event_label s x.side x.index) as (λ o. i
   | Some y ↦ λ _ h. absurd (let few : length (y ∷ labels_of s xs) ≡ 0 = ap length h in omega arith)
 ] a.0 e
 
--- ---- a line without an event is hidden
+-- ---- a line without an event has no labels
 
--- nothing is shown at a line that no event is on
-pub no_event-hidden : (s : Sheet) (l : ℕ) → events_at s l ≡ [] → is_hidden s l ≡ true
-unfolding is_hidden line_labels margin_label labels_of joined best in_order
-no_event-hidden s l e =
+-- no label has anything at a line that no event is on
+pub no_event-unlabelled : (s : Sheet) (l : ℕ) → events_at s l ≡ [] → is_unlabelled s l ≡ true
+unfolding is_unlabelled line_labels margin_label labels_of joined best in_order
+no_event-unlabelled s l e =
     let both : ends_at s l ++ inline_labels s l ≡ [] = sym (labels-at s l) ∙ ap (labels_of s) e in
     let few : length (ends_at s l) + length (inline_labels s l) ≡ 0 = sym (length-append (ends_at s l) (inline_labels s l)) ∙ ap length both in
     let no_ends : ends_at s l ≡ [] = none (ends_at s l) (omega arith) in
     let no_inlines : inline_labels s l ≡ [] = none (inline_labels s l) (omega arith) in
     rw (no_ends, no_inlines) refl
 
--- and no event is on a line where nothing is shown
-pub hidden-no_event : (s : Sheet) (l : ℕ) → is_hidden s l ≡ true → events_at s l ≡ []
-unfolding is_hidden line_labels margin_label events_at
-hidden-no_event s l h =
+-- and no event is on a line where none has
+pub unlabelled-no_event : (s : Sheet) (l : ℕ) → is_unlabelled s l ≡ true → events_at s l ≡ []
+unfolding is_unlabelled line_labels margin_label events_at
+unlabelled-no_event s l h =
     let t : LineLabel → Bool = λ x. not (is_start x.side && is_margin (margin_label s l) x) in
     let all : List LineLabel = filter t (ends_at s l) ++ inline_labels s l in
     let parts = and_parts (length (line_labels s l) == 0) (not (is_some (margin_label s l))) h in
@@ -240,13 +240,13 @@ hidden-no_event s l h =
     is_none None e = refl
     is_none (Some x) e = absurd (true≢false e)
 
--- so the line of an event is shown
-pub event-shown : (s : Sheet) (k : ℕ) (e : Event) → slice_get (events_of s) k ≡ Some e → is_hidden s e.line ≡ false
+-- so the line of an event has some
+pub event-labelled : (s : Sheet) (k : ℕ) (e : Event) → slice_get (events_of s) k ≡ Some e → is_unlabelled s e.line ≡ false
 unfolding events_at
-event-shown s k e there = elim (cases_Bool (is_hidden s e.line)) [
+event-labelled s k e there = elim (cases_Bool (is_unlabelled s e.line)) [
   | inr f ↦ f
   | inl t ↦
-      let gone = hidden-no_event s e.line t in
+      let gone = unlabelled-no_event s e.line t in
       let has = Rattle.ariadne_picture.proofs.Lists.Elements.has-filter (λ x. x.line == e.line) (events_of s) k e there (eq-eqb e.line e.line refl) in
       absurd (none≢some e (sym (ap (λ xs. slice_get xs has.place) gone) ∙ has.there))
 ]
@@ -305,13 +305,27 @@ whole-line events from end l less short on next = record {
 abbrev pub above : Sheet → ℕ → ℕ
 above s l = length (filter (λ e. nat_lt e.line l) (events_of s))
 
--- none is above the first line of the group
-pub none-above : (s : Sheet) → AllByRecursion (λ a. a.start_line ≤ a.end_line) s.labels → above s (group_start_line s.labels) ≡ 0
+-- each event is on the first line of the group or below
+from-first : (s : Sheet) → AllByRecursion (λ a. a.start_line ≤ a.end_line) s.labels → AllByRecursion (λ e. first_line s ≤ e.line) (events_of s)
+unfolding first_line
+from-first s up =
+    all-weaker (λ (e : Event). (group_start_line s.labels ≤ e.line) × (e.line ≤ group_end_line s.labels)) (λ e. first_line s ≤ e.line) (events_of s)
+    (λ e h. let low = h.0 in omega (arith, low)) (event-lines s up)
+
+-- so none is above it
+pub none-above : (s : Sheet) → AllByRecursion (λ a. a.start_line ≤ a.end_line) s.labels → above s (first_line s) ≡ 0
 none-above s up =
-    let first : ℕ = group_start_line s.labels in
-    ap length (filter-none (λ e. nat_lt e.line first) (events_of s)
-    (all-weaker (λ (e : Event). (first ≤ e.line) × (e.line ≤ group_end_line s.labels)) (λ e. nat_lt e.line first ≡ false) (events_of s)
-    (λ e h. le-ltb e.line first h.0) (event-lines s up)))
+    ap length (filter-none (λ e. nat_lt e.line (first_line s)) (events_of s)
+    (all-weaker (λ (e : Event). first_line s ≤ e.line) (λ e. nat_lt e.line (first_line s) ≡ false) (events_of s)
+    (λ e low. le-ltb e.line (first_line s) low) (from-first s up)))
+
+-- and none is on a line above it
+pub none-on-line-above : (s : Sheet) (l : ℕ) → AllByRecursion (λ a. a.start_line ≤ a.end_line) s.labels → l < first_line s → events_at s l ≡ []
+unfolding events_at
+none-on-line-above s l up less =
+    filter-none (λ e. e.line == l) (events_of s)
+    (all-weaker (λ (e : Event). first_line s ≤ e.line) (λ e. (e.line == l) ≡ false) (events_of s)
+    (λ e low. ne_eqb e.line l (omega (arith, low, less))) (from-first s up))
 
 -- at least line l and below the next is line l
 at_line : (l n : ℕ) → (nat_le l n && nat_lt n (l + 1)) ≡ (n == l)

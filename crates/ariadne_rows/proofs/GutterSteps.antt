@@ -12,18 +12,17 @@ use Rattle.ariadne_picture.specs.declared.label_info.LabelInfo.{LabelInfo}
 use Rattle.ariadne_picture.specs.declared.label_info.LineLabel.{LineLabel}
 use Rattle.ariadne_picture.specs.declared.label_info.Side.TheVariants.{Starts, Ends}
 use Rattle.ariadne_picture.specs.Lists.{mapped_numbered}
-use Rattle.ariadne_picture.specs.Groups.{group_start_line}
-use Rattle.ariadne_picture.specs.Ranks.{Sheet, gutter_labels, is_start, is_inline, line_labels, margin_label, is_of_gutter_label, is_hidden}
+use Rattle.ariadne_picture.specs.Ranks.{Sheet, gutter_labels, is_start, is_inline, line_labels, margin_label, is_of_gutter_label, is_unlabelled, first_line}
 use Rattle.ariadne_picture.specs.Rows.{Row, source, alternate, arrow, gap}
 use Rattle.ariadne_picture.specs.Strokes.{is_at_margin, bar_at}
 use Rattle.ariadne_picture.specs.Bars.{EndsNoEarlier, IsGutterLabel}
 use Rattle.ariadne_picture.proofs.Labels.LineLabels.{margin-is}
 use Rattle.ariadne_picture.proofs.Lists.ListFacts.{all-at, all-weaker}
 use Rattle.ariadne_picture.proofs.Rows.BarCases.{starts-margin}
-use Rattle.ariadne_picture.proofs.Rows.RowsThere.{all-gutter-labels, gutter-label-message, starts-within}
+use Rattle.ariadne_picture.proofs.Rows.RowsThere.{all-gutter-labels, gutter-label-message, starts-shown}
 use Rattle.ariadne_rows.specs.Gutters.{GutterFields, is_beside, is_below, bar_in, is_own_column, owns_column, IsOfSheet, IsBeside, IsBelow, HasBarsOf}
 use Rattle.ariadne_rows.proofs.BarBits.{label-end, source-bar, gap-bar, alternate-bar, arrow-bar, first-rank-bar, margin-bar, next-rank-bar, own-bar}
-use Rattle.ariadne_rows.proofs.BarBits.{next-line-bar, hidden-bar}
+use Rattle.ariadne_rows.proofs.BarBits.{next-line-bar, unlabelled-bar}
 use Rattle.ariadne_rows.proofs.Numbered.{length-numbered, numbered-at, numbered-from_map, numbered-same, numbered-set, map-constant}
 
 -- where all labels end no earlier than they start, each gutter label does
@@ -39,11 +38,11 @@ beside-numbered s l g b = b.bars ∙ numbered-from_map (is_beside l) (gutter_lab
 
 -- no gutter label starts above the first line of its group
 pub first-line : (s : Sheet) (g : GutterFields) → IsOfSheet s g → g.bars ≡ replicate (length (gutter_labels s)) false
-    → IsBeside s (group_start_line s.labels) g
+    → IsBeside s (first_line s) g
 unfolding is_beside
 first-line s g sheet bars =
-    let l = group_start_line s.labels in
-    let starts = all-gutter-labels (λ a. l ≤ a.start_line) s (starts-within s.labels) in
+    let l = first_line s in
+    let starts = all-gutter-labels (λ a. l ≤ a.start_line) s (starts-shown s) in
     record {
       sheet = sheet;
       bars =
@@ -179,29 +178,29 @@ below-beside s l g rise b = record {
       ∙ sym (numbered-from_map (is_beside (l + 1)) (gutter_labels s));
 }
 
--- those beside a hidden line are too, since nothing starts or ends there
-pub hidden-beside : (s : Sheet) (l : ℕ) (g : GutterFields) → AllByRecursion EndsNoEarlier s.labels → IsBeside s l g → is_hidden s l ≡ true
+-- those beside a line without labels are too, since nothing starts or ends there
+unlabelled-beside : (s : Sheet) (l : ℕ) (g : GutterFields) → AllByRecursion EndsNoEarlier s.labels → IsBeside s l g → is_unlabelled s l ≡ true
     → IsBeside s (l + 1) g
-hidden-beside s l g rise b hidden = record {
+unlabelled-beside s l g rise b bare = record {
   sheet = b.sheet;
   bars =
       beside-numbered s l g b
       ∙ numbered-same (λ i. is_beside l) (λ i. is_beside (l + 1)) (gutter_labels s)
-      (λ i a e. hidden-bar s l i a (gutter-label s i a rise e) hidden)
+      (λ i a e. unlabelled-bar s l i a (gutter-label s i a rise e) bare)
       ∙ sym (numbered-from_map (is_beside (l + 1)) (gutter_labels s));
 }
 
--- and so are those beside the line below a run of hidden lines
-pub hidden-run : (s : Sheet) (l m : ℕ) (g : GutterFields) → AllByRecursion EndsNoEarlier s.labels → IsBeside s l g
-    → ((j : ℕ) → l ≤ j → j < m → is_hidden s j ≡ true) → l ≤ m → IsBeside s m g
-hidden-run s l m g rise b hidden up =
+-- and so are those beside the line below a run of such lines
+pub unlabelled-run : (s : Sheet) (l m : ℕ) (g : GutterFields) → AllByRecursion EndsNoEarlier s.labels → IsBeside s l g
+    → ((j : ℕ) → l ≤ j → j < m → is_unlabelled s j ≡ true) → l ≤ m → IsBeside s m g
+unlabelled-run s l m g rise b bare up =
     let whole : l + (m - l) ≡ m = omega arith in subst (λ k. IsBeside s k g) whole (run (m - l) (omega arith))
   where
     run : (d : ℕ) → l + d ≤ m → IsBeside s (l + d) g
     run zero h = let z : l ≡ l + 0 = omega arith in subst (λ k. IsBeside s k g) z b
     run (suc d) h =
         let next : l + d + 1 ≡ l + suc d = omega arith in
-        subst (λ k. IsBeside s k g) next (hidden-beside s (l + d) g rise (run d (omega arith)) (hidden (l + d) (omega arith) (omega arith)))
+        subst (λ k. IsBeside s k g) next (unlabelled-beside s (l + d) g rise (run d (omega arith)) (bare (l + d) (omega arith) (omega arith)))
 
 -- ---- the columns of starts and ends
 

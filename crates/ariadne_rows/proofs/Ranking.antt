@@ -31,6 +31,7 @@ sheet_of labels = record {
     lone_underlines = false;
     multiline_arrows = false;
     tab_width = 0;
+    context_lines = 0;
     char_set = Ascii;
   };
   lines = [];

@@ -11,7 +11,7 @@ use Rattle.ariadne_drawing.specs.Lines.{AreOverLines}
 use Rattle.ariadne_drawing.specs.LongLines.{IsRemembered}
 use Rattle.ariadne_drawing.proofs.Grouping.{some_label}
 use Rattle.ariadne_drawing.proofs.GroupingSources.{one_source, over_group}
-use Rattle.ariadne_drawing.proofs.GroupParts.{section_gutter, section_labels, section_last, section_page, section_source, section_switches, texts_switches}
+use Rattle.ariadne_drawing.proofs.GroupParts.{section_gutter, section_last, section_page, section_source, section_switches, texts_switches}
 use Rattle.ariadne_drawing.proofs.GroupParts.{whole_group}
 use Rattle.ariadne_drawing.proofs.drawing.push_group.Goals as goal
 
@@ -92,6 +92,6 @@ returns-clause-drawn g c = λ n k is_first is_last.
     (c.in_ok-push_lines.ensures.positions ∙ ap (λ (x : GutterFields). x.positions) c.in_ok-begin.ensures) in
     let last = section_last w r n k labels ∙ sym is_last in
     on_ok_weaker c.push_foot.result
-    (whole_group (texts_of r) s c.args.pen.now c.push_group_head.new.pen c.push_lines.new.pen c.push_foot.new.pen labels c.args.is_last
-    (section_switches w r n k labels ∙ sym switches) (section_labels w r n k labels) last (c.in_ok-source.ensures.drawn n k is_first) lines)
+    (whole_group (texts_of r) s c.args.pen.now c.push_group_head.new.pen c.push_lines.new.pen c.push_foot.new.pen c.args.is_last
+    (section_switches w r n k labels ∙ sym switches) last (c.in_ok-source.ensures.drawn n k is_first) lines)
     (c.push_foot.ensures s on_page of_sheet last)

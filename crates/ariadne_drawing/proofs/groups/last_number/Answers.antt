@@ -1,12 +1,15 @@
 -- The number of a group's last line, in the source of its first label.
-use Rattle.std.proofs.Common.{◌∙◌, ◌+◌, ◌<◌, ap, arith, length, refl, subst, sym}
+use Rattle.std.proofs.Common.{◌∙◌, ◌+◌, ap, arith, length, refl, sym}
 use Rattle.std.specs.Option.{option_copied}
 use Rattle.ariadne_accept.specs.Drawn.{world}
 use Rattle.ariadne_base.specs.Listing.{Listing, listed_lines}
-use Rattle.ariadne_picture.specs.Groups.{group_end_line, printed_number}
+use Rattle.ariadne_picture.specs.Canvas.{sheet_of}
+use Rattle.ariadne_picture.specs.declared.switches.Switches.{Switches}
+use Rattle.ariadne_picture.specs.Groups.{printed_number}
+use Rattle.ariadne_picture.specs.Report.{switches_of}
 use Rattle.ariadne_drawing.proofs.Grouping.{some_label}
 use Rattle.ariadne_drawing.proofs.GroupParts.{first_is}
-use Rattle.ariadne_drawing.proofs.GroupingSources.{end_inside, one_source}
+use Rattle.ariadne_drawing.proofs.GroupingSources.{last_inside, one_source}
 use Rattle.ariadne_drawing.proofs.groups.last_number.Goals as goal
 
 -- the first label is there
@@ -25,9 +28,12 @@ overflow_add-result g c =
     first_is w r group group _ refl (some_label _ group c.requires.group.whole) c.requires.group.drawn c.labels.result.now c.index-labels-first.result
     c.labels.ensures c.index-labels-first.is c.source-id.result.now (c.source-id.ensures ∙ ap g.S.Span.source_of c.span.ensures.span)
     (option_copied c.get.result) c.get.ensures c.unwrap-source.result.now (ap option_copied c.unwrap-source.ensures) in
-    let last : group_end_line group < length (listed_lines c.unwrap-source.result.now) =
-    subst (λ (s : Listing). group_end_line group < length (listed_lines s)) first.over (end_inside w r one group c.requires.group) in
-    omega (arith, last, c.display_line_offset-offset.ensures.fits, c.last_line.ensures)
+    let context = ap (λ (w : Switches). w.context_lines) (sym (c.switches-context.ensures.switches ∙ ap switches_of c.config.ensures)) in
+    let size = ap (λ (s : Listing). length (listed_lines s)) first.over ∙ sym c.number_of_lines.ensures.number in
+    let is = c.last_line-last.ensures (sheet_of w r group) refl context size in
+    let last = last_inside w r one group c.requires.group in
+    let fits = c.number_of_lines.ensures.fits in
+    omega (arith, last, is, size, fits)
 
 -- so it does with the display offset
 pub overflow_add-result-2 : goal.overflow_add-result-2
@@ -41,9 +47,13 @@ overflow_add-result-2 g c =
     first_is w r group group _ refl (some_label _ group c.requires.group.whole) c.requires.group.drawn c.labels.result.now c.index-labels-first.result
     c.labels.ensures c.index-labels-first.is c.source-id.result.now (c.source-id.ensures ∙ ap g.S.Span.source_of c.span.ensures.span)
     (option_copied c.get.result) c.get.ensures c.unwrap-source.result.now (ap option_copied c.unwrap-source.ensures) in
-    let last : group_end_line group < length (listed_lines c.unwrap-source.result.now) =
-    subst (λ (s : Listing). group_end_line group < length (listed_lines s)) first.over (end_inside w r one group c.requires.group) in
-    omega (arith, last, c.display_line_offset-offset.ensures.fits, c.display_line_offset-offset.ensures.offset, c.last_line.ensures)
+    let context = ap (λ (w : Switches). w.context_lines) (sym (c.switches-context.ensures.switches ∙ ap switches_of c.config.ensures)) in
+    let size = ap (λ (s : Listing). length (listed_lines s)) first.over ∙ sym c.number_of_lines.ensures.number in
+    let is = c.last_line-last.ensures (sheet_of w r group) refl context size in
+    let last = last_inside w r one group c.requires.group in
+    let fits = c.number_of_lines.ensures.fits in
+    let offset = c.display_line_offset.ensures.offset in
+    omega (arith, last, is, size, fits, offset)
 
 -- it is that of the group's source
 pub returns : goal.returns
@@ -57,4 +67,7 @@ returns g c =
     first_is w r group group _ refl (some_label _ group c.requires.group.whole) c.requires.group.drawn c.labels.result.now c.index-labels-first.result
     c.labels.ensures c.index-labels-first.is c.source-id.result.now (c.source-id.ensures ∙ ap g.S.Span.source_of c.span.ensures.span)
     (option_copied c.get.result) c.get.ensures c.unwrap-source.result.now (ap option_copied c.unwrap-source.ensures) in
-    (λ i. c.last_line.ensures i + 1 + (c.display_line_offset-offset.ensures.offset ∙ ap (λ (s : Listing). s.display_offset) (sym first.over)) i)
+    let context = ap (λ (w : Switches). w.context_lines) (sym (c.switches-context.ensures.switches ∙ ap switches_of c.config.ensures)) in
+    let size = ap (λ (s : Listing). length (listed_lines s)) first.over ∙ sym c.number_of_lines.ensures.number in
+    let is = c.last_line-last.ensures (sheet_of w r group) refl context size in
+    (λ i. is i + 1 + (c.display_line_offset.ensures.offset ∙ ap (λ (s : Listing). s.display_offset) (sym first.over)) i)

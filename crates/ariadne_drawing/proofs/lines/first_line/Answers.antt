@@ -1,19 +1,9 @@
-use Rattle.std.proofs.Common.{arith}
-use Rattle.ariadne_drawing.proofs.LinesBounds.{least-start, least-more, least-done}
+use Rattle.std.proofs.Common.{◌∙◌, ◌-◌, sym}
+use Rattle.ariadne_picture.specs.Groups.{group_start_line}
 use Rattle.ariadne_drawing.proofs.lines.first_line.Goals as goal
 
--- all labels are to come
-pub loop-info-init : goal.loop-info-init
-loop-info-init c = record { bound = omega arith; least = least-start _ _ c.last_line-first.ensures }
-
--- one label less
-pub loop-info-preserved : goal.loop-info-preserved
-loop-info-preserved c = record {
-  bound = omega arith;
-  least = least-more _ c.args.group.now c.loop-info.info-index _ c.loop-info.first c.min-first.result _ (omega arith) c.min-first.ensures
-      c.loop-info.invariant.least;
-}
-
--- no label is to come
+-- so many lines before that of the first label, or line 0
 pub returns : goal.returns
-returns c = least-done _ c.args.group.now c.loop-info.info-index _ _ (omega arith) c.loop-info.invariant.bound c.loop-info.invariant.least
+unfolding Rattle.ariadne_picture.specs.Ranks.first_line
+returns c = λ s own context.
+    c.saturating_sub.ensures ∙ (λ i. c.group_start_line.ensures i - c.args.context) ∙ (λ i. group_start_line (sym own i) - sym context i)

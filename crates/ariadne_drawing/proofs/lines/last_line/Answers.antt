@@ -1,16 +1,18 @@
-use Rattle.std.proofs.Common.{arith}
-use Rattle.ariadne_drawing.proofs.LinesBounds.{greatest-start, greatest-more, greatest-done}
+use Rattle.std.proofs.Common.{ap, sym, arith}
+use Rattle.ariadne_picture.specs.Groups.{group_end_line}
 use Rattle.ariadne_drawing.proofs.lines.last_line.Goals as goal
 
--- all labels are to come
-pub loop-info-init : goal.loop-info-init
-loop-info-init c = greatest-start c.args.group.now
+-- it is one of the source, or that of the last label
+pub overflow_add-result : goal.overflow_add-result
+overflow_add-result c = omega arith
 
--- one label less
-pub loop-info-preserved : goal.loop-info-preserved
-loop-info-preserved c = greatest-more c.args.group.now c.loop-info.info-index _ c.loop-info.last c.max-last.result _ (omega arith) c.max-last.ensures
-    c.loop-info.invariant
-
--- no label is to come
+-- so many lines behind that of the last label, or as many as there are
 pub returns : goal.returns
-returns c = greatest-done c.args.group.now c.loop-info.info-index _ _ (omega arith) c.loop-info.invariant
+unfolding Rattle.ariadne_picture.specs.Ranks.last_line
+returns c = λ s own context size.
+    let last = ap group_end_line (sym own) in
+    let behind = c.saturating_sub-behind.ensures in
+    let lines = c.saturating_sub.ensures in
+    let few = c.min.ensures in
+    let is = c.group_end_line-last.ensures in
+    omega (arith, last, context, size, behind, lines, few, is)

@@ -1,15 +1,15 @@
--- The lines so far are written: the next event is the first that is not above the line.
-use Rattle.std.proofs.Common.{◌≡◌, ◌+◌, ◌-◌, ◌≤◌, map}
+-- The lines so far are written: the next event is the first that is not above the line, and the lines near those above are told.
+use Rattle.std.proofs.Common.{◌≡◌, ◌+◌, ◌-◌, ◌≤◌, length, map}
 use Rattle.std.specs.List.{range_with_len}
 use Rattle.ariadne_base.specs.Listing.{listed_lines}
 use Rattle.ariadne_drawing.specs.Lines.{IsDrawnGroup}
 use Rattle.ariadne_drawing.specs.LongLines.{IsRemembered}
 use Rattle.ariadne_cells.specs.Pages.{DrawsRows}
 use Rattle.ariadne_picture.specs.Canvas.{texts_of}
-use Rattle.ariadne_picture.specs.Groups.{group_end_line, group_start_line}
+use Rattle.ariadne_picture.specs.Groups.{group_end_line}
 use Rattle.ariadne_picture.specs.Lists.{joined}
 use Rattle.ariadne_picture.specs.Pieces.{Section, row_pieces}
-use Rattle.ariadne_picture.specs.Ranks.{Sheet}
+use Rattle.ariadne_picture.specs.Ranks.{Sheet, first_line}
 use Rattle.ariadne_picture.specs.Rows.{line_rows}
 use Rattle.ariadne_drawing.proofs.LinesWalk.{IsWalked}
 use Rattle.ariadne_drawing.proofs.lines.push_lines.Given as goal
@@ -22,10 +22,11 @@ invariant-loop-next g l = record {
   known : IsRemembered (listed_lines l.source) l.lists.long_line;
   labels : l.lists.sheet.labels ≡ l.fn.lists.sheet.labels;
   onward : l.lists.sheet.line ≤ l.line;
-  walked : (s : Sheet) → s.labels ≡ l.fn.lists.sheet.labels → s.switches ≡ l.fn.pen.page.switches → IsWalked s l.line l.event l.lists.gutter;
+  walked : (s : Sheet) → s.labels ≡ l.fn.lists.sheet.labels → s.switches ≡ l.fn.pen.page.switches
+      → IsWalked s (length (listed_lines l.source)) l.line l.near l.event l.lists.gutter;
   drawn : (s : Section) → IsDrawnGroup (texts_of l.report) s l.fn.pen.page.switches l.source l.fn.lists.sheet.labels
       → DrawsRows l.fn.pen l.pen (map (row_pieces (texts_of l.report) l.fn.pen.page.number_width s)
-      (joined (line_rows s.sheet) (range_with_len (group_start_line l.fn.lists.sheet.labels) (l.line - group_start_line l.fn.lists.sheet.labels))));
+      (joined (line_rows s.sheet) (range_with_len (first_line s.sheet) (l.line - first_line s.sheet))));
 }
 
 abbrev pub decreases-loop-next : goal.decreases-loop-next

@@ -1,7 +1,7 @@
 -- the first line is the least of it and the start lines of the labels to come
 use Rattle.std.proofs.Common.{◌≡◌, ◌≤◌, drop, map, min}
 use Rattle.ariadne_picture.specs.Groups.{least_below, group_start_line, group_end_line}
-use Rattle.ariadne_drawing.proofs.lines.first_line.Given as goal
+use Rattle.ariadne_drawing.proofs.lines.group_start_line.Given as goal
 
 abbrev pub invariant-loop-info : goal.invariant-loop-info
 invariant-loop-info l = record {
