@@ -1,8 +1,8 @@
 """Random reports whose labels run over short and long lines, with the pictures that report_model.py reckons;
 and the same reports over excerpts, as docs/C.md tells to cut them out of large sources.
 
-Each source ends in a line end, and each label and the report's own start are on a line of it. So lines that
-are added behind a source change no picture.
+Each source ends in lines without a label, of which each has an end, and no more lines are shown near others.
+So lines that are added behind a source change no picture.
 """
 
 import random
@@ -13,18 +13,20 @@ from report_model import Model, Source, sources_of
 
 PIECES = (*MANY.LETTERS, *MANY.CONTROLS, *MANY.BLANKS)
 LINE_PIECES = (0, 0, 2, 8, 60)  # that a line has at the most
+CONTEXT_LINES = (0, 0, 1, 3)
+LAST_LINES = "y\n" * max(CONTEXT_LINES)
 
 
 def random_source(chance, source_id):
     """A source of an id, with lines of very different lengths."""
     lengths = chance.choices(LINE_PIECES, k=chance.randint(1, 12))
     lines = (MANY.random_text(chance, PIECES, most) + chance.choice(MANY.LINE_ENDS) for most in lengths)
-    return {"id": source_id, "text": "".join(lines), "offset": 0}
+    return {"id": source_id, "text": "".join(lines) + LAST_LINES, "offset": 0}
 
 
 def random_offset(chance, source):
-    """An offset on any line of a source."""
-    line = chance.randrange(len(source.lines))
+    """An offset on any line of a source, but for its last ones."""
+    line = chance.randrange(len(source.lines) - max(CONTEXT_LINES))
     return source.starts[line] + chance.randrange(len(source.lines[line]))
 
 
@@ -37,7 +39,7 @@ def random_span(chance, source, others):
     elif way < 0.4 and others:
         first, past = chance.choice(others)
         size = past - first
-    return start, min(start + size, len(source.text))
+    return start, min(start + size, len(source.text) - len(LAST_LINES))
 
 
 def random_places(chance, sources):
@@ -55,7 +57,8 @@ def random_report(seed, number):
     those of a report of try-many."""
     chance = random.Random(f"over lines {seed} {number}")
     report = MANY.random_report(f"over lines {seed}", number)
-    config = dict(report["config"], index_type="Char", color=True)
+    context_lines = chance.choice(CONTEXT_LINES)
+    config = dict(report["config"], index_type="Char", color=True, context_lines=context_lines)
     cache = "source" if report["cache"] == "source" else "sources"
     given = MANY.random_sources(chance, cache, config["tab_width"], random_source)
     own, *places = random_places(chance, sources_of({"sources": given}))
@@ -66,15 +69,17 @@ def random_report(seed, number):
 
 def excerpt_of(report):
     """The same report over excerpts: of each source all lines from the first to the last that a label or the
-    report's own start is on."""
+    report's own start is on, and those near them."""
     own_id, own, _ = report["span"]
+    near = report["config"]["context_lines"]
     spans = [(own_id, own, own), *((it["id"], it["start"], it["end"]) for it in report["labels"])]
     excerpts, begins = [], {}
     for given in report["sources"]:
         source = Source(given)
         ends = ((start, max(start, end - 1)) for source_id, start, end in spans if source_id == given["id"])
         lines = [source.line_at(offset) for pair in ends for offset in pair] or [0]
-        first, text = min(lines), "".join(source.lines[min(lines) : max(lines) + 1])
+        first = max(min(lines) - near, 0)
+        text = "".join(source.lines[first : max(lines) + near + 1])
         excerpts.append(dict(given, text=text, offset=given["offset"] + first))
         begins[given["id"]] = source.starts[first]
 

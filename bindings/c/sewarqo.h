@@ -38,7 +38,8 @@ typedef struct {
 typedef struct {
     sewarqo_optional name; /* shown in front of its lines; none is shown as <unknown> */
     sewarqo_text text;     /* the whole text, or an excerpt: all lines from the first to the last that a
-                              label or the report's start is on */
+                              label or the report's start is on, and with `context_lines` so many lines
+                              more on both sides */
     size_t line_offset;    /* in lines: added to each line's number. An excerpt has the number of lines
                               above it here */
 } sewarqo_source;
@@ -109,6 +110,7 @@ typedef struct {
     uint32_t flags;          /* SEWARQO_PLAIN .. */
     uint32_t attach;         /* SEWARQO_ATTACH_MIDDLE .. */
     size_t tab_width;        /* in columns; 0 is the usual 4 */
+    size_t context_lines;    /* lines that are shown above and below each line with a label */
 } sewarqo_report;
 
 /* A label that is not in the picture. */

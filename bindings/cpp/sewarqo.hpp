@@ -80,8 +80,9 @@ struct Label {
     std::int32_t priority;
 };
 
-// A source, or an excerpt: all its lines from the first to the last that a label or the report's `at` is on.
-// An excerpt has the number of lines above it as its line_offset.
+// A source, or an excerpt: all its lines from the first to the last that a label or the report's `at` is on,
+// and with context_lines so many more on both sides. An excerpt has the number of lines above it as its
+// line_offset.
 struct Source {
     std::string_view text;
     std::optional<std::string_view> name = std::nullopt;
@@ -107,6 +108,7 @@ struct Config {
     std::size_t tab_width = 4; // in columns; 0 is 4 too
     bool safe = true;          // without it texts are drawn as they are, with the escapes that they hold
     bool lone_underlines = false; // underlines also where no label of a line has a message
+    std::size_t context_lines = 0; // lines that are shown above and below each line with a label
 };
 
 // A picture, and the labels that are left out of it.
@@ -245,6 +247,7 @@ private:
         report.flags = flags_of(config);
         report.attach = static_cast<std::uint32_t>(config.attach);
         report.tab_width = config.tab_width;
+        report.context_lines = config.context_lines;
         return report;
     }
 

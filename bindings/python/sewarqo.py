@@ -132,7 +132,8 @@ class Label(NamedTuple):
 class Source(NamedTuple):
     """A text, and what is added to its line numbers.
 
-    The text may be an excerpt: all lines from the first to the last that a label or the report's `at` is on.
+    The text may be an excerpt: all lines from the first to the last that a label or the report's `at` is on,
+    and with `context_lines` so many more on both sides.
     Then `line_offset` is the number of lines above it, and offsets count from its beginning.
 
     `name` is what is shown, where that is not the source's key; "" is the empty name.
@@ -148,6 +149,7 @@ class Config(NamedTuple):
 
     Where `safe` is off, texts are drawn as they are: an escape character in one reaches the terminal.
     With `lone_underlines` labels are underlined also where no label of their line has a message.
+    `context_lines` lines are shown above and below each line that has a label.
 
     >>> report = Report("error", "a \\x1b[1mbold\\x1b[0m word")
     >>> report.render("", Config(color=False))
@@ -164,6 +166,7 @@ class Config(NamedTuple):
     tab_width: int = 4
     safe: bool = True
     lone_underlines: bool = False
+    context_lines: int = 0
 
 
 class LeftOut(NamedTuple):
@@ -268,7 +271,7 @@ class _Report(ctypes.Structure):
         ("labels", ctypes.POINTER(_Label)), ("labels_len", _size),
         ("helps", ctypes.POINTER(_Text)), ("helps_len", _size),
         ("notes", ctypes.POINTER(_Text)), ("notes_len", _size),
-        ("flags", _u32), ("attach", _u32), ("tab_width", _size),
+        ("flags", _u32), ("attach", _u32), ("tab_width", _size), ("context_lines", _size),
     ]
 
 
@@ -365,6 +368,8 @@ class _Call:
             raise BadReport(f"attach: {config.attach!r} is not 'start', 'middle' or 'end'", "config")
         if not 1 <= config.tab_width <= _LARGEST:
             raise BadReport(f"tab_width: {config.tab_width} is no width", "config")
+        if not 0 <= config.context_lines <= _LARGEST:
+            raise BadReport(f"context_lines: {config.context_lines} is no number of lines", "config")
         if not 0 < report.kind_color < 2**32:
             raise BadReport("the colour of the kind is none", "kind_color")
         kind = _KINDS.get(report.kind, _CUSTOM)
@@ -377,7 +382,7 @@ class _Call:
             _part(report.message, "message"), source, start,
             (_Label * len(labels))(*labels), len(labels),
             (_Text * len(helps))(*helps), len(helps), (_Text * len(notes))(*notes), len(notes),
-            self.flags, _ATTACH[config.attach], config.tab_width,
+            self.flags, _ATTACH[config.attach], config.tab_width, config.context_lines,
         )
 
     def drawn(self) -> Picture:

@@ -180,6 +180,9 @@ static void edges(void) {
     call.report.tab_width = SIZE_MAX;
     make("the widest tab", SEWARQO_DRAWN);
     prepare();
+    call.report.context_lines = SIZE_MAX;
+    make("all lines of the sources", SEWARQO_DRAWN);
+    prepare();
     call.report.labels = NULL;
     call.report.helps = call.report.notes = NULL;
     call.report.labels_len = call.report.helps_len = call.report.notes_len = 0;

@@ -82,6 +82,7 @@ class Case:
             cross_gap=settings.get("cross_gap", True),
             attach=settings.get("label_attach", "Middle").lower(),
             tab_width=number(settings.get("tab_width", 4)),
+            context_lines=number(settings.get("context_lines", 0)),
             safe="safe" in self.case,
         )
 

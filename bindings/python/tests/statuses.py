@@ -67,7 +67,10 @@ STATUSES = [
 ]
 NO_TEXT = sewarqo._Text(b"a\xff", 2)
 NO_OPTIONAL = sewarqo._Optional(NO_TEXT, 1)
-CONFIGS = [Config(tab_width=0), Config(tab_width=-1), Config(attach="nowhere")]
+CONFIGS = [
+    Config(tab_width=0), Config(tab_width=-1), Config(attach="nowhere"), Config(context_lines=-1),
+    Config(context_lines=LARGEST + 1),
+]
 
 
 class Call:
@@ -190,7 +193,7 @@ def numbers_of_colors():
     for color in colors:
         if "\x1b[" not in Report("hint", kind_color=color).render("x"):
             yield f"colour {color}"
-    if ctypes.sizeof(sewarqo._Report) != 144:
+    if ctypes.sizeof(sewarqo._Report) != 152:
         yield f"a report of {ctypes.sizeof(sewarqo._Report)} bytes"
 
 

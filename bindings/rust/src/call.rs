@@ -74,6 +74,7 @@ pub(crate) struct GivenReport<'a> {
     pub(crate) flags: u32,
     pub(crate) attach: u32,
     pub(crate) tab_width: usize,
+    pub(crate) context_lines: usize,
 }
 
 impl GivenReport<'_> {

@@ -39,6 +39,7 @@ pub struct Config {
     pub(crate) lone_underlines: bool,
     pub(crate) multiline_arrows: bool,
     pub(crate) color: bool,
+    pub(crate) context_lines: usize,
     pub(crate) tab_width: usize,
     pub(crate) char_set: CharSet,
     pub(crate) index_type: IndexType,
@@ -56,6 +57,7 @@ impl Config {
             lone_underlines: false,
             multiline_arrows: true,
             color: true,
+            context_lines: 0,
             tab_width: 4,
             char_set: CharSet::Unicode,
             index_type: IndexType::Char,
@@ -104,6 +106,12 @@ impl Config {
     /// whenever it was given; texts that are painted stay so.
     pub const fn with_color(mut self, color: bool) -> Config {
         self.color = color;
+        self
+    }
+
+    /// How many lines are shown above and below each line that has a label. Usually 0.
+    pub const fn with_context_lines(mut self, context_lines: usize) -> Config {
+        self.context_lines = context_lines;
         self
     }
 

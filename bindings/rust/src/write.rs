@@ -54,6 +54,7 @@ impl<S: Span> Report<'_, S> {
             flags: flags_of(&content.config),
             attach: attach_of(content.config.label_attach),
             tab_width: content.config.tab_width,
+            context_lines: content.config.context_lines,
         };
         draw(&report, &fetched.given())
     }
@@ -148,8 +149,7 @@ fn named<S: Span, C: Cache<S::SourceId>>(
         Ok(source) => {
             let labelled = report.labels.iter().map(|label| &label.span).filter(|span| span.source() == id);
             let spans = labelled.map(touched).chain(at(&report.span, id).map(|start| [start; 2]));
-            let in_bytes = report.content.config.index_type == IndexType::Byte;
-            Some(Named { name, excerpt: Excerpt::new(source, spans, in_bytes) })
+            Some(Named { name, excerpt: Excerpt::new(source, spans, &report.content.config) })
         }
         Err(error) => {
             eprintln!("no source '{}': {error:?}", name.as_deref().unwrap_or("<unknown>"));

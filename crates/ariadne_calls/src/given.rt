@@ -69,6 +69,8 @@ pub struct GivenReport<'a> {
     pub attach: u32,
     /// In columns; 0 is the usual 4.
     pub tab_width: usize,
+    /// How many lines are shown above and below each line with a label.
+    pub context_lines: usize,
 }
 
 /// A label that is left out of the picture.

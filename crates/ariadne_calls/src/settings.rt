@@ -53,7 +53,10 @@ pub fn config_of(given: &GivenReport<'_>) -> Result<Config, Refusal>
     if given.attach > 2 {
         return Err(Refusal::Faulty(Fault::Attach));
     }
-    Ok(config_with(given.flags, given.tab_width).with_label_attach(attach_of(given.attach)))
+    let config = config_with(given.flags, given.tab_width)
+        .with_label_attach(attach_of(given.attach))
+        .with_context_lines(given.context_lines);
+    Ok(config)
 }
 
 /// Where strokes are attached.
@@ -69,7 +72,7 @@ fn attach_of(attach: u32) -> LabelAttach
 
 /// The configuration of these flags and this tab width.
 fn config_with(flags: u32, tab_width: usize) -> Config
-    ensures { result ≡ config_with flags 0 tab_width }
+    ensures { result ≡ config_with flags 0 tab_width 0 }
 {
     let char_set = if has(flags, 2) {
         CharSet::Ascii
