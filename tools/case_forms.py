@@ -124,6 +124,7 @@ SETTINGS = {
     "lone_underlines": SWITCH,
     "multiline_arrows": SWITCH,
     "color": SWITCH,
+    "context_lines": COUNT,
     "tab_width": WIDTH,
     "char_set": words("Unicode", "Ascii"),
     "index_type": words("Char", "Byte"),

@@ -21,10 +21,13 @@ SETTINGS = {
     "lone_underlines": False,
     "multiline_arrows": True,
     "color": False,
+    "context_lines": 0,
     "tab_width": 4,
     "char_set": "Ascii",
     "index_type": "Char",
 }
+# Those that are numbers. One that is past TOML's is a text of its digits.
+NUMBERS = ("context_lines", "tab_width")
 # What the model of reports has no words for.
 NOT_RECKONED = {"painted", "safe", "takes", "fails"}
 
@@ -187,7 +190,7 @@ def report_of(case):
         "labels": labels,
         "helps": case.get("helps", []),
         "notes": case.get("notes", []),
-        "config": {**settings, "tab_width": int(settings["tab_width"])},
+        "config": {**settings, **{name: int(settings[name]) for name in NUMBERS}},
         "cache": "source" if "source" in case else "custom" if "hidden" in case else "sources",
         "sources": sources,
         "hidden": [case["hidden"]] if "hidden" in case else [],

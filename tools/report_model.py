@@ -331,8 +331,9 @@ class Group:
         self.labels = labels
         self.source = source
         self.config = config
-        self.last_line = max(label.end_line for label in labels)
-        self.first_line = min(self.last_line, *(label.start_line for label in labels))
+        start, end = min(label.start_line for label in labels), max(label.end_line for label in labels)
+        self.first_line = max(start - config["context_lines"], 0)
+        self.last_line = max(end, min(end + config["context_lines"], len(source.lines) - 1))
         over_lines = (label for label in labels if not label.is_within_line)
         self.over_lines = sorted(over_lines, key=lambda label: -label.length)
         self.gutter = [label for label in self.over_lines if label.has_message]
@@ -362,6 +363,21 @@ class Group:
         labels.sort(key=lambda met: (met.label.label["order"], *by_place(met)))
         return Layout(margin, labels, self.source.starts[line], self.source.lines[line], self.config)
 
+    def layout_at(self, line):
+        """The layout of a line. One that is shown near others meets nothing."""
+        return self.layouts.get(line) or self.layout_of(line, [], [])
+
+    @cached_property
+    def met_lines(self):
+        """The lines that show something, in order."""
+        return sorted(self.layouts)
+
+    def is_hidden(self, line):
+        """Whether no line shows something that is at most as far away as lines are shown."""
+        reach = self.config["context_lines"]
+        found = bisect_left(self.met_lines, line - reach)
+        return found == len(self.met_lines) or line + reach < self.met_lines[found]
+
     def is_crossed(self, line):
         """Whether the line's first character lies inside a label over lines."""
         offset = self.source.starts[line]
@@ -385,19 +401,19 @@ class Group:
 
     def line_rows(self, line):
         """The rows of a line. Of hidden lines in turn the first one has a row, or none has."""
-        if line not in self.layouts:
-            if line > self.first_line and line - 1 not in self.layouts:
+        if self.is_hidden(line):
+            if line > self.first_line and self.is_hidden(line - 1):
                 return []
             if self.is_crossed(line):
                 return [Row(LINES_PART, line, 0, GAP)]
             return [] if self.config["compact"] else [Row(LINES_PART, line, 0, BARE)]
-        rows = [source_row(line)]
-        for rank, met in enumerate(self.layouts[line].labels):
+        layout, rows = self.layout_at(line), [source_row(line)]
+        for rank, met in enumerate(layout.labels):
             if met.label.has_message:
                 rows += [] if self.config["compact"] else [alternate_row(line, rank)]
                 rows.append(arrow_row(line, rank))
-        if self.layouts[line].has_underlines_alone:
-            rows.append(alternate_row(line, len(self.layouts[line].labels)))
+        if layout.has_underlines_alone:
+            rows.append(alternate_row(line, len(layout.labels)))
         return rows
 
     # The gutter
@@ -729,7 +745,7 @@ class Model:
             return self.aside(row)
         if row.name not in (SOURCE, ALTERNATE, ARROW):
             return []
-        layout = group.layouts[row.line]
+        layout = group.layout_at(row.line)
         area = TextArea(group, layout)
         if row.name == SOURCE:
             return area.shown_cells()

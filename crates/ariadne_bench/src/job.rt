@@ -86,10 +86,12 @@ pub struct Job {
     pub is_colored: bool,
     /// Whether offsets count bytes.
     pub in_bytes: bool,
+    /// How many lines are shown above and below those with a label.
+    pub context_lines: usize,
 }
 
 impl Job {
-    /// A job without marks and colours, whose offsets count characters.
+    /// A job without marks, colours and context lines, whose offsets count characters.
     pub fn new(alloc: Global, message: &'static str, text: String) -> Job {
         Job {
             text,
@@ -97,6 +99,7 @@ impl Job {
             marks: Vec::new(alloc),
             is_colored: false,
             in_bytes: false,
+            context_lines: 0,
         }
     }
 

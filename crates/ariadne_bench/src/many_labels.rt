@@ -15,6 +15,7 @@ pub fn job(alloc: Global, labels: ManyLabels, number: u16) -> Result<Job, AllocE
         ManyLabels::Under => under(alloc, number),
         ManyLabels::SilentLines => silent_lines(alloc, number),
         ManyLabels::SilentWide => silent_wide(alloc, number),
+        ManyLabels::Context => in_context(alloc, number),
         ManyLabels::OneCharacter => {
             Job::in_lines(alloc, "onechar", 1, number, Row::said("m", 14, 15, 0))
         }
@@ -62,6 +63,15 @@ fn silent_lines(alloc: Global, count: u16) -> Result<Job, AllocError> {
 fn silent_wide(alloc: Global, count: u16) -> Result<Job, AllocError> {
     let mut job = Job::new(alloc, "silentwide", words(alloc, u32::from(count) + 1)?);
     add_line(&mut job, alloc, 0, count)?;
+    Ok(job)
+}
+
+/// A label on every fourth line, and each is shown with the lines next to it. So every fourth line is
+/// hidden.
+fn in_context(alloc: Global, count: u16) -> Result<Job, AllocError> {
+    let row = Row::said("line ", 14, 19, 200);
+    let mut job = Job::in_lines(alloc, "context", 4 * u32::from(count), count, row)?;
+    job.context_lines = 1;
     Ok(job)
 }
 

@@ -55,6 +55,8 @@ pub enum ManyLabels {
     SilentLines,
     /// Without message side by side, in one line.
     SilentWide,
+    /// In every fourth line, of which each is shown with those next to it.
+    Context,
     /// Over one character.
     OneCharacter,
     /// Each in a group of its own, since each lies above the one before it.
@@ -131,6 +133,7 @@ const NUMBERED: &[(&str, Kind)] = &[
     ("under-", Kind::ManyLabels(ManyLabels::Under)),
     ("silentlines-", Kind::ManyLabels(ManyLabels::SilentLines)),
     ("silentwide-", Kind::ManyLabels(ManyLabels::SilentWide)),
+    ("context-", Kind::ManyLabels(ManyLabels::Context)),
     ("onechar-", Kind::ManyLabels(ManyLabels::OneCharacter)),
     ("falling-", Kind::ManyLabels(ManyLabels::Falling)),
     ("linecross-", Kind::ManyLabels(ManyLabels::CrossingInLine)),

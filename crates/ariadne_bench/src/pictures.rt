@@ -47,11 +47,14 @@ fn config_of(job: &Job) -> Config {
     } else {
         plain()
     };
-    if job.in_bytes {
-        config.with_index_type(IndexType::Byte)
+    let index_type = if job.in_bytes {
+        IndexType::Byte
     } else {
-        config
-    }
+        IndexType::Char
+    };
+    config
+        .with_index_type(index_type)
+        .with_context_lines(job.context_lines)
 }
 
 /// The report of a job. Its own span is that of its first label.

@@ -40,9 +40,10 @@ static CHAR_SETS: [(&str, CharSet); 2] = [("Unicode", CharSet::Unicode), ("Ascii
 /// What the offsets of a case count.
 static INDEX_TYPES: [(&str, IndexType); 2] = [("Byte", IndexType::Byte), ("Char", IndexType::Char)];
 
-/// The settings of a case that are switches, and its tabs. They are plain where it tells nothing else,
-/// and otherwise the default ones.
+/// The settings of a case that are switches or numbers. They are plain where it tells nothing else, and
+/// otherwise the default ones.
 fn switched(told: &Value) -> Config {
+    let context_lines = count(told, "context_lines").unwrap_or(0) as usize;
     let tab_width = count(told, "tab_width").unwrap_or(4) as usize;
     Config::new()
         .with_cross_gap(switch(told, "cross_gap", true))
@@ -51,6 +52,7 @@ fn switched(told: &Value) -> Config {
         .with_compact(switch(told, "compact", false))
         .with_multiline_arrows(switch(told, "multiline_arrows", true))
         .with_color(switch(told, "color", false))
+        .with_context_lines(context_lines)
         .with_tab_width(tab_width.max(1))
 }
 
