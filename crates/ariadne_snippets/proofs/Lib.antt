@@ -1,4 +1,5 @@
 pub mod Beginning
+pub mod Begun
 pub mod Covering
 pub mod Endings
 pub mod Joining
@@ -7,3 +8,4 @@ pub mod Parts
 pub mod Puts
 pub mod Telling
 pub mod Texts
+pub mod Wholes

@@ -18,16 +18,16 @@ use Rattle.ariadne_snippets.specs.declared.taken.Mark.{Mark}
 
 -- ---- columns
 
--- the start of a row is in the first column
-pub column_first : (unit : Unit) → column_behind unit 0 [] ≡ 0
-column_first unit = ap (λ cs. fold (λ at c. min (at + columns_of unit at c) (2 ^ 64 - 1)) 0 cs) chars-nil
+-- the start of a row is in its first column
+pub column_first : (unit : Unit) (first : ℕ) → column_behind unit first [] ≡ first
+column_first unit first = ap (λ cs. fold (λ at c. min (at + columns_of unit at c) (2 ^ 64 - 1)) first cs) chars-nil
 
 -- the column behind two texts is that behind the second, which begins in that behind the first
-column_of_both : (unit : Unit) (front text : List ℕ) → IsUtf8 front
-    → column_behind unit 0 (front ++ text) ≡ column_behind unit (column_behind unit 0 front) text
-column_of_both unit front text u =
-    ap (λ cs. fold (λ at c. min (at + columns_of unit at c) (2 ^ 64 - 1)) 0 cs) (chars-append front text u)
-    ∙ fold-append (λ at c. min (at + columns_of unit at c) (2 ^ 64 - 1)) 0 (chars front) (chars text)
+column_of_both : (unit : Unit) (first : ℕ) (front text : List ℕ) → IsUtf8 front
+    → column_behind unit first (front ++ text) ≡ column_behind unit (column_behind unit first front) text
+column_of_both unit first front text u =
+    ap (λ cs. fold (λ at c. min (at + columns_of unit at c) (2 ^ 64 - 1)) first cs) (chars-append front text u)
+    ∙ fold-append (λ at c. min (at + columns_of unit at c) (2 ^ 64 - 1)) first (chars front) (chars text)
 
 -- a text that is left leads to a column
 pub record LeadsTo (unit : Unit) (at : ℕ) (left : List ℕ) (all : ℕ) : Type 0 where
@@ -61,36 +61,36 @@ left_none unit at all left none so_far =
 
 -- ---- parts
 
--- a row is cut: what stands in front of its rest ends in front of a column
-pub record IsCut (row rest : List ℕ) (column : ℕ) : Type 0 where
+-- a row that begins in a column is cut: what stands in front of its rest ends in front of another
+pub record IsCut (first : ℕ) (row rest : List ℕ) (column : ℕ) : Type 0 where
   pub front : List ℕ
   pub utf8 : IsUtf8 front
   pub is_there : row ≡ front ++ rest
-  pub column_is : column ≡ column_behind Char 0 front
+  pub column_is : column ≡ column_behind Char first front
 
 -- at its start
-pub cut_first : (row : List ℕ) → IsCut row row 0
-cut_first row = record {
+pub cut_first : (first : ℕ) (row : List ℕ) → IsCut first row row first
+cut_first first row = record {
   front = [];
   utf8 = IsUtf8-nil;
   is_there = refl;
-  column_is = sym (column_first Char);
+  column_is = sym (column_first Char first);
 }
 
 -- and behind one more part
-pub cut_more : (row rest part behind : List ℕ) (column next : ℕ) → IsCut row rest column → IsUtf8 part
-    → rest ≡ part ++ behind → next ≡ column_behind Char column part → IsCut row behind next
-cut_more row rest part behind column next cut u e is = record {
+pub cut_more : (first : ℕ) (row rest part behind : List ℕ) (column next : ℕ) → IsCut first row rest column
+    → IsUtf8 part → rest ≡ part ++ behind → next ≡ column_behind Char column part → IsCut first row behind next
+cut_more first row rest part behind column next cut u e is = record {
   front = cut.front ++ part;
   utf8 = IsUtf8-append cut.front part cut.utf8 u;
   is_there = cut.is_there ∙ ap (λ x. cut.front ++ x) e ∙ sym (append_assoc cut.front part behind);
-  column_is = is ∙ ap (λ n. column_behind Char n part) cut.column_is ∙ sym (column_of_both Char cut.front part cut.utf8);
+  column_is = is ∙ ap (λ n. column_behind Char n part) cut.column_is ∙ sym (column_of_both Char first cut.front part cut.utf8);
 }
 
 -- marks in front of the rest are a part of the row
-pub part_of_rest : (row rest behind : List ℕ) (part : Part) → IsCut row rest part.column
-    → rest ≡ part.marks.now ++ behind → IsPartOf row part
-part_of_rest row rest behind part cut e = record {
+pub part_of_rest : (first : ℕ) (row rest behind : List ℕ) (part : Part) → IsCut first row rest part.column
+    → rest ≡ part.marks.now ++ behind → IsPartOf first row part
+part_of_rest first row rest behind part cut e = record {
   front = cut.front;
   rest = behind;
   is_there = cut.is_there ∙ ap (λ x. cut.front ++ x) e ∙ sym (append_assoc cut.front part.marks.now behind);
@@ -105,12 +105,12 @@ marks_in_front rest part behind marks count e is =
     ∙ ap (λ x. x ++ (drop count part ++ behind)) (sym is)
 
 -- and all of it is one
-pub part_of_all : (part : Part) → part.column ≡ 0 → IsPartOf part.marks.now part
-part_of_all part first = record {
+pub part_of_all : (first : ℕ) (part : Part) → part.column ≡ first → IsPartOf first part.marks.now part
+part_of_all first part is = record {
   front = [];
   rest = [];
   is_there = sym (append-nil part.marks.now);
-  column = first ∙ sym (column_first Char);
+  column = is ∙ sym (column_first Char first);
 }
 
 -- ---- runs

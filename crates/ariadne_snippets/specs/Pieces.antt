@@ -1,8 +1,9 @@
 -- Pieces of a line of text. Characters stand as their numbers: 32 is a blank.
-use Rattle.std.specs.Prelude.{ℕ, ◌^◌, ◌≡◌, ◌==◌, nat_lt, Bool, ◌&&◌, if◌then◌else◌}
+use Rattle.std.specs.Prelude.{ℕ, ◌^◌, ◌≡◌, ◌≤◌, ◌==◌, nat_lt, Bool, ◌&&◌, if◌then◌else◌}
 use Rattle.std.specs.Prelude.{List, [], ◌∷◌, ◌++◌, length, take, drop, Option, Some, None}
 use Rattle.std.specs.Char.{is_ascii_digit}
 use Rattle.std.specs.List.{prefix_len, starts_with}
+use Rattle.std.specs.Str.{trim_end}
 use Rattle.std.specs.Str.Parse.{digits_value}
 
 -- what stands behind a character that a text begins with
@@ -33,6 +34,12 @@ number_in text =
     if nat_lt 0 (digits_in text) && nat_lt number (2 ^ 64)
     then Some (number, drop (digits_in text) text)
     else None
+
+-- a text is what stands behind blanks that a line begins with, without those at its end
+pub record GoesOn (line text : List ℕ) : Type 0 where
+  pub indent : ℕ
+  pub blanks : indent ≤ prefix_len (λ c. c == 32) line
+  pub rest : text ≡ trim_end (drop indent line)
 
 -- a text stands in a line
 pub record IsIn (text line : List ℕ) : Type 0 where

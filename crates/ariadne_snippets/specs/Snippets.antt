@@ -1,18 +1,19 @@
 -- What a snippet quotes, and what its lines say: what its marks cover, below which of them labels stand,
 -- and what is to be changed.
-use Rattle.std.specs.Prelude.{ℕ, ◌+◌, ◌-◌, ◌^◌, ◌≡◌, ◌==◌, ◌<◌, ◌≤◌, min, List, ◌∷◌, ◌++◌, [], All, chars, drop, length, map}
-use Rattle.std.specs.Prelude.{Option, Some, None, IsSomeAnd, option_and_then, option_map}
-use Rattle.std.specs.List.{prefix_len, range_with_len, AllZip}
+use Rattle.std.specs.Prelude.{ℕ, ◌+◌, ◌-◌, ◌^◌, ◌≡◌, ◌≢◌, true, ◌<◌, ◌≤◌, min, List, ◌∷◌, ◌++◌, [], All, chars, length, map}
+use Rattle.std.specs.Prelude.{Option, Some, None, IsSomeAnd, is_some, option_and_then, option_map}
+use Rattle.std.specs.List.{range_with_len, AllZip}
 use Rattle.std.specs.Str.{trim, trim_end}
 use Rattle.ariadne_columns.specs.declared.unit.Unit.{Unit as ColumnUnit}
 use Rattle.ariadne_columns.specs.declared.unit.Unit.TheVariants.{Char}
 use Rattle.ariadne_snippets.specs.Ends.{IsEnd}
 use Rattle.ariadne_snippets.specs.Gutters.{gutter_in, GutterIn}
 use Rattle.ariadne_snippets.specs.Marks.{char_in, mark_runs, place_in, runs_from}
-use Rattle.ariadne_snippets.specs.Pieces.{IsIn}
+use Rattle.ariadne_snippets.specs.Pieces.{GoesOn, IsIn}
 use Rattle.ariadne_snippets.specs.Rows.{column_behind, run_with}
 use Rattle.ariadne_snippets.specs.Words.{added_in, words_in, noted, helped, advised, placed, placed_elsewhere, inserted, changed}
 use Rattle.ariadne_snippets.specs.Quotes.{Quotes}
+use Rattle.ariadne_snippets.specs.declared.put.Insertion.{Insertion}
 use Rattle.ariadne_snippets.specs.declared.quote.Quote.{Quote}
 use Rattle.ariadne_snippets.specs.declared.quoted.Quoted.{Quoted}
 use Rattle.ariadne_snippets.specs.declared.run.Run.{Run}
@@ -118,12 +119,13 @@ pub record Covers (quoted : Quoted) (mark : Mark) : Type 0 where
   pub line : mark.end.line ≡ quoted.number
   pub bound : mark.end.offset ≤ line_length quoted + 1
 
--- a part of a row begins in the column behind what stands in front of it: each character there has one
-pub record IsPartOf (row : List ℕ) (part : Part) : Type 0 where
+-- a part of a row begins in the column behind what stands in front of it: each character there has one. The
+-- row itself begins this many columns further right than it stands
+pub record IsPartOf (moved : ℕ) (row : List ℕ) (part : Part) : Type 0 where
   pub front : List ℕ
   pub rest : List ℕ
   pub is_there : row ≡ front ++ part.marks.now ++ rest
-  pub column : part.column ≡ column_behind Char 0 front
+  pub column : part.column ≡ column_behind Char moved front
 
 -- the runs of parts
 abbrev pub runs_of : ColumnUnit → List Part → List Run
@@ -133,7 +135,7 @@ runs_of unit (part ∷ parts) = runs_from unit part.column part.marks.now ++ run
 -- the marks of a row, in parts between which texts may be written. Their runs are known from then on
 pub record AreMarksIn (quoted : Quoted) (row : List ℕ) (marks : List Mark) : Type 0 where
   pub parts : List Part
-  pub stand : All (IsPartOf row) parts
+  pub stand : All (IsPartOf quoted.moved row) parts
   pub runs : quoted.runs.items ≡ runs_of quoted.unit parts
   pub each : AllZip (IsMarkOf quoted) quoted.runs.items marks
   pub cover : All (Covers quoted) marks
@@ -196,16 +198,19 @@ pub data AreFixesIn (quoted : Quoted) (row : List ℕ) (fixes : List Fix) : Type
   insertions : (pieces : List Piece) → ArePiecesIn row pieces
       → map change_told fixes ≡ map (insertion quoted) pieces → AreFixesIn quoted row fixes
 
--- a line is to be so by a piece that is put into it, behind what is there in front of it
+-- a piece is to be put into a line
+abbrev pub put_into : ℕ → Insertion → Change
+put_into number piece = record {
+  at = record { line = number; offset = piece.offset };
+  kind = Put;
+  text = piece.text.now;
+}
+
+-- a line is to be so by pieces that are put into it
 pub record IsPutInto (number : ℕ) (text : List ℕ) (fixes : List Fix) : Type 0 where
-  pub offset : ℕ
-  pub piece : List ℕ
-  pub is_there : IsIn piece text
-  pub told : map change_told fixes ≡ record {
-    at = record { line = number; offset = offset };
-    kind = Put;
-    text = piece;
-  } ∷ []
+  pub pieces : List Insertion
+  pub are_there : All (λ piece. IsIn piece.text.now text) pieces
+  pub told : map change_told fixes ≡ map (put_into number) pieces
 
 -- and what a line of output does. Where a help puts in more than one line, each counts those above it
 pub data AreFixesOf (quoted : Option Quoted) (line : List ℕ) (fixes : List Fix) : Type 0 where
@@ -216,6 +221,9 @@ pub data AreFixesOf (quoted : Option Quoted) (line : List ℕ) (fixes : List Fix
       → AreFixesOf quoted line fixes
   put_in_line : (number : ℕ) (text : List ℕ) → TellsHow line number text → IsPutInto number text fixes
       → AreFixesOf quoted line fixes
+  line_put : (number : ℕ) (text : List ℕ) → TellsHow line number text
+      → map change_told fixes ≡ change_of_line number PutLine (trim text) ∷ []
+      → AreFixesOf quoted line fixes
   line_changed : (number : ℕ) (text : List ℕ) → TellsHow line number text
       → map change_told fixes ≡ change_of_line number Become (trim text) ∷ []
       → AreFixesOf quoted line fixes
@@ -224,20 +232,14 @@ pub data AreFixesOf (quoted : Option Quoted) (line : List ℕ) (fixes : List Fix
 
 -- ---- what lines say
 
--- a line says a note: in its words, or as a detail below a place
+-- a line says a note: in its words, or as a detail below a place, without the blanks in front of all details
 pub data IsNote (line text : List ℕ) : Type 0 where
   note_in_words : words_in line ≡ Some (noted text) → IsNote line text
-  detail : text ≡ trim line → IsNote line text
+  detail : GoesOn line text → IsNote line text
 
 pub data IsHelp (line text : List ℕ) : Type 0 where
   of_place : words_in line ≡ Some (helped text) → IsHelp line text
   of_lines : words_in line ≡ Some (advised text) → IsHelp line text
-
--- a line goes on with a note or a help, behind the blanks that stand below what is in front of these
-pub record GoesOn (line text : List ℕ) : Type 0 where
-  pub indent : ℕ
-  pub blanks : indent ≤ prefix_len (λ c. c == 32) line
-  pub rest : text ≡ trim_end (drop indent line)
 
 -- what a row below a quoted line says
 abbrev pub RowTells : Quoted → List ℕ → Taken → Type 0
@@ -267,6 +269,18 @@ TellsOf quoted line (Help text) = IsHelp line text.now
 TellsOf quoted line (More text) = GoesOn line text.now
 TellsOf quoted line (At place) = words_in line ≡ Some (placed place.now)
 TellsOf quoted line (Elsewhere place) = words_in line ≡ Some (placed_elsewhere place.now)
+
+-- ---- first rows
+
+-- a row shows a line of the file whole: it is that line, or has it behind a gutter that names a number
+pub data ShowsWhole (row : List ℕ) (source : Option (List ℕ)) : Type 0 where
+  as_it_is : gutter_in row ≡ None → source ≡ Some (chars row) → ShowsWhole row source
+  has_it : (gutter : GutterIn) → gutter_in row ≡ Some gutter → is_some gutter.number ≡ true
+      → source ≡ Some (chars gutter.text) → ShowsWhole row source
+
+-- a line is one of the snippet
+abbrev pub IsTaken : Taken → Type 0
+IsTaken taken = taken ≢ NotOfSnippet
 
 -- ---- the state of a snippet
 

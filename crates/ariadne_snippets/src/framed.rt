@@ -1,10 +1,12 @@
 //! Snippets of rustc, behind a gutter that begins in a row of its own. Notes and helps stand between them.
 
-ghost use Rattle.std.specs.Prelude.{◌≡◌, chars, option_map, IfOk, IfSome, List, None, Option, Some, ℕ};
+ghost use Rattle.std.specs.Prelude.{◌≡◌, chars, map, option_map, IfOk, IfSome, List, None, Option, Some, ℕ};
 ghost use Rattle.ariadne_snippets.specs.Ends.{IsEnd};
 ghost use Rattle.ariadne_snippets.specs.Gutters.{gutter_in, gutter_told, GutterIn};
+ghost use Rattle.ariadne_snippets.specs.Snippets.{change_told, put_into};
 ghost use Rattle.ariadne_snippets.specs.Snippets.{AreMarksIn, EndsBy, IsSameLine, QuotesNext};
-ghost use Rattle.ariadne_snippets.specs.Snippets.{GoesOn, IsQuoteOf, RowTells, TellsHow, TellsOf};
+ghost use Rattle.ariadne_snippets.specs.Pieces.{GoesOn};
+ghost use Rattle.ariadne_snippets.specs.Snippets.{IsQuoteOf, RowTells, TellsHow, TellsOf};
 ghost use Rattle.ariadne_snippets.specs.Words.{inserted, words_in, words_told};
 ghost use Rattle.ariadne_snippets.specs.declared.quoted.Quoted.{Quoted};
 ghost use Rattle.ariadne_snippets.specs.declared.snippet.Snippet.{Snippet};
@@ -12,13 +14,13 @@ ghost use Rattle.ariadne_snippets.specs.declared.snippet.Snippet.{Snippet};
 use crate::forms::{Words, words_of};
 use crate::gutter::{Gutter, gutter_of};
 use crate::marks::begun_at;
-use crate::pieces::past_blanks;
-use crate::put::put_in;
+use crate::pieces::{behind_indent, past_blanks};
+use crate::put::{Insertion, insertions_in, is_new_line};
 use crate::quote::{LAST_COLUMN, Quote};
 use crate::quoted::Quoted;
-use crate::rows::{has_mark, is_bars, is_blank, marks_and_text};
+use crate::rows::{has_mark, is_bars, is_blank, is_strokes, marks_and_text};
 use crate::snippet::{Advice, Snippet, Stage, one_fix};
-use crate::strokes::{Stroke, behind_stroke, is_corner, stroke_of, text_column};
+use crate::strokes::{Stroke, behind_stroke, is_corner, marks_joined, stroke_of, text_column};
 use crate::taken::{Fix, FixKind, Mark, Point, Taken};
 use ariadne_columns::Unit;
 use std::alloc::{AllocError, Global};
@@ -110,21 +112,15 @@ impl Snippet {
         if Quote::new(self.alloc, text, 0, line)?.is_some() {
             return Ok(Taken::Nothing);
         }
-        match put_in(self.alloc, text, line)? {
-            Some((offset, piece)) => {
-                let mut fixes = Vec::new(self.alloc);
-                fixes.push(Fix {
-                    at: Point {
-                        line: number,
-                        offset,
-                    },
-                    kind: FixKind::Put,
-                    text: piece,
-                })?;
-                Ok(Taken::Fixes(fixes))
-            }
-            None => self.take_whole(number, text),
+        let put = insertions_in(self.alloc, text, line)?;
+        if !put.is_empty() {
+            return Ok(Taken::Fixes(puts(self.alloc, number, put.as_slice())?));
         }
+        if is_new_line(text, line) {
+            let fixes = one_fix(self.alloc, number, FixKind::PutLine, text.trim())?;
+            return Ok(Taken::Fixes(fixes));
+        }
+        self.take_whole(number, text)
     }
 
     /// Takes a text as what a line is to be as a whole.
@@ -190,6 +186,9 @@ impl Snippet {
         if self.stage == Stage::Advised {
             return Ok(Taken::Nothing);
         }
+        if is_strokes(row) {
+            return self.take_strokes(row);
+        }
         let Some(quoted) = &mut self.quoted else {
             return Ok(self.take_none());
         };
@@ -200,7 +199,27 @@ impl Snippet {
         }
     }
 
-    /// Marks, where a stroke leads to the first: a range over lines begins or ends there.
+    /// Takes a row of strokes below marks. Where ranges over lines begin at these, another begins at the mark
+    /// above its last bar.
+    fn take_strokes<'a>(&mut self, row: &'a str) -> Result<Taken<'a>, AllocError>
+        ensures quotes { (source : Option (List ℕ)) → IfOk result (λ taken.
+            QuotesNext row.now source self.old.quoted self.new.quoted) }
+        ensures tells { (line : List ℕ) → IfOk result (λ taken. TellsOf self.new.quoted line taken) }
+        ensures ends { IfOk result (λ taken. EndsBy self.new taken) }
+    {
+        let Some(quoted) = &mut self.quoted else {
+            return Ok(self.take_none());
+        };
+        if self.stroke == Stroke::Begins
+            && let Some(start) = quoted.mark_above(row)
+        {
+            self.opened.push(start)?;
+        }
+        quoted.take_bars(self.alloc, row)?;
+        Ok(Taken::Nothing)
+    }
+
+    /// Marks, where a stroke leads to some of them: ranges over lines begin or end there.
     fn with_lines<'a>(
         &mut self,
         row: &str,
@@ -211,21 +230,45 @@ impl Snippet {
             → AreMarksIn quoted row marks.entry.items → AreMarksIn quoted row all.items) }
     {
         let marks = self.with_own_start(marks);
-        let Some(first) = marks.first().copied() else {
-            return Ok(marks);
-        };
         let (strokes, _) = marks_and_text(row);
-        match stroke_of(strokes) {
+        let joined = marks_joined(strokes);
+        self.stroke = stroke_of(strokes);
+        match self.stroke {
             Stroke::Begins => {
-                self.opened.push(first.start)?;
+                self.open_last(marks.as_slice(), joined)?;
                 Ok(marks)
             }
-            Stroke::Ends => {
-                let start = self.opened.pop().unwrap_or(first.start);
-                Ok(begun_at(marks, 0, start))
-            }
+            Stroke::Ends => Ok(self.begun_above(marks, joined)),
             Stroke::Absent => Ok(marks),
         }
+    }
+
+    /// Has a range over lines begin at the last of the marks to which a stroke leads.
+    fn open_last(&mut self, marks: &[Mark<'_>], joined: usize) -> Result<(), AllocError>
+        ensures { self.new.quoted ≡ self.old.quoted }
+    {
+        match joined.checked_sub(1) {
+            Some(last) if last < marks.len() => {
+                self.opened.push(marks[last].start)?;
+                Ok(())
+            }
+            _ => Ok(()),
+        }
+    }
+
+    /// Marks, where a stroke leads to the first ones: as many of these as ranges over lines have begun end
+    /// one, the last of them that which began first.
+    fn begun_above<'a>(&mut self, mut marks: Vec<Mark<'a>>, joined: usize) -> Vec<Mark<'a>>
+        ensures quoted { self.new.quoted ≡ self.old.quoted }
+        ensures marks { (quoted : Quoted) (row : List ℕ)
+            → AreMarksIn quoted row marks.entry.items → AreMarksIn quoted row result.items }
+    {
+        for place in joined.saturating_sub(self.opened.len())..joined {
+            if let Some(start) = self.opened.pop() {
+                marks = begun_at(marks, place, start);
+            }
+        }
+        marks
     }
 
     /// Marks, where others may be drawn over the front of the place's own: it begins at the head's
@@ -306,6 +349,7 @@ impl Snippet {
     {
         self.quoted = None;
         self.advice = Advice::Puts(0);
+        self.opened.clear();
         let (stage, taken) = match words {
             Words::Note(text) => (Stage::Noted, Taken::Note(text)),
             Words::Help(text) => (Stage::Noted, Taken::Help(text)),
@@ -400,11 +444,34 @@ fn is_drawn_over(marks: &[Mark<'_>], own: usize, line: usize, caret: usize) -> b
 fn further_text(line: &str, bar: usize) -> Option<&str>
     ensures { IfSome result (λ text. GoesOn line.now text.now) }
 {
-    let text = past_blanks(line);
-    let blanks = line.len().saturating_sub(text.len());
-    if text.is_empty() || blanks <= bar {
+    let blanks = line.len().saturating_sub(past_blanks(line).len());
+    if blanks <= bar {
         return None;
     }
-    let indent = blanks.min(bar.saturating_add(NOTE_HEAD));
-    Some(line.get(indent..)?.trim_end())
+    behind_indent(line, bar.saturating_add(NOTE_HEAD))
+}
+
+/// What is put into a line, as changes of it.
+fn puts<'a>(alloc: Global, line: usize, put: &[Insertion<'a>]) -> Result<Vec<Fix<'a>>, AllocError>
+    ensures { IfOk result (λ fixes. map change_told fixes.items ≡ map (put_into line) put.now) }
+{
+    let mut fixes = Vec::new(alloc);
+    for piece in put {
+        fixes.push(put_of(line, piece))?;
+    }
+    Ok(fixes)
+}
+
+/// What is put into a line, as a change of it.
+fn put_of<'a>(line: usize, piece: &Insertion<'a>) -> Fix<'a>
+    ensures { change_told result ≡ put_into line piece.now }
+{
+    Fix {
+        at: Point {
+            line,
+            offset: piece.offset,
+        },
+        kind: FixKind::Put,
+        text: piece.text,
+    }
 }

@@ -1,8 +1,8 @@
 //! Snippets behind a gutter, as gcc and erlc write them.
 
-ghost use Rattle.std.specs.Prelude.{option_map, IfOk, List, Option, ℕ};
+ghost use Rattle.std.specs.Prelude.{◌≡◌, chars, option_map, IfOk, List, Option, Some, ℕ};
 ghost use Rattle.ariadne_snippets.specs.Ends.{IsEnd};
-ghost use Rattle.ariadne_snippets.specs.Snippets.{AreMarksIn, EndsBy, IsSameLine, QuotesNext};
+ghost use Rattle.ariadne_snippets.specs.Snippets.{AreMarksIn, EndsBy, IsSameLine, IsTaken, QuotesNext};
 ghost use Rattle.ariadne_snippets.specs.Snippets.{RowTells, TellsOf};
 
 use crate::forms::added_line;
@@ -36,7 +36,7 @@ impl Snippet {
         }
         match gutter_of(line) {
             Some(gutter) if gutter.bar == bar => match gutter.number {
-                Some(number) => self.take_quote(number, gutter.text, source),
+                Some(number) => self.take_quote(number, gutter.text, Unit::Display, source),
                 None => self.take_row(gutter.text),
             },
             None if line.starts_with("...") => Ok(Taken::Nothing),
@@ -83,6 +83,8 @@ impl Snippet {
         text: &str,
         source: Option<&[char]>,
     ) -> Result<Taken<'a>, AllocError>
+        ensures whole { option_map (λ source. source.now) source.entry ≡ Some (chars text.now)
+            → IfOk result (λ taken. IsTaken taken) }
         ensures quotes { IfOk result (λ taken. QuotesNext text.now
             (option_map (λ source. source.now) source.entry) self.old.quoted self.new.quoted) }
         ensures tells { (line : List ℕ) → IfOk result (λ taken. TellsOf self.new.quoted line taken) }
@@ -164,6 +166,6 @@ fn gutter_row<'a>(alloc: Global, quoted: &mut Quoted, row: &'a str) -> Result<Ta
     if let Some(labels) = quoted.take_labels(alloc, row)? {
         return Ok(Taken::Labels(labels));
     }
-    let pieces = pieces(alloc, quoted.unit, row)?;
+    let pieces = pieces(alloc, quoted.unit, 0, row)?;
     Ok(Taken::Fixes(quoted.fixes_of(alloc, pieces.as_slice())?))
 }

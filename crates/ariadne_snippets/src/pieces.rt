@@ -1,8 +1,9 @@
 //! Pieces of a line of text: what stands behind a character or words, behind blanks, or behind a number.
 
-ghost use Rattle.std.specs.Prelude.{◌≡◌, ◌==◌, ◌<◌, option_map};
+ghost use Rattle.std.specs.Prelude.{◌≡◌, ◌==◌, ◌<◌, option_map, IfSome};
 ghost use Rattle.std.specs.List.{prefix_len};
 ghost use Rattle.ariadne_snippets.specs.Pieces as pieces;
+ghost use Rattle.ariadne_snippets.specs.Pieces.{GoesOn};
 
 /// What stands behind this character of ASCII, if a text begins with it.
 pub(crate) fn behind(text: &str, mark: char) -> Option<&str>
@@ -31,6 +32,19 @@ pub(crate) fn past_blanks(text: &str) -> &str
     ensures { result.now ≡ pieces.past_blanks text.now }
 {
     &text[blanks(text.as_bytes())..]
+}
+
+/// What stands behind the blanks that a line begins with, up to this many: nothing, if it has no other
+/// character. Blanks at its end are left out.
+pub(crate) fn behind_indent(line: &str, indent: usize) -> Option<&str>
+    ensures { IfSome result (λ text. GoesOn line.now text.now) }
+{
+    let text = past_blanks(line);
+    if text.is_empty() {
+        return None;
+    }
+    let blanks = line.len().saturating_sub(text.len());
+    Some(line.get(blanks.min(indent)..)?.trim_end())
 }
 
 /// How many blanks bytes begin with.

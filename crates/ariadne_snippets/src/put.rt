@@ -1,31 +1,64 @@
 //! What a help puts into a line: what the line has there that it doesn't have in the file.
 
-ghost use Rattle.std.specs.Prelude.{◌≡◌, ◌++◌, IfOk, IfSome};
+ghost use Rattle.std.specs.Prelude.{◌≡◌, ◌++◌, All, IfOk, IfSome};
 ghost use Rattle.ariadne_snippets.specs.Pieces.{IsIn};
-ghost use Rattle.ariadne_snippets.specs.Puts.{IsMoreThan};
+ghost use Rattle.ariadne_snippets.specs.Puts.{HaveOneEnd, IsMoreByTwo, IsMoreThan};
 
 use crate::quote::white_length;
 use std::alloc::{AllocError, Global};
 
-/// What a text puts into a line of a file, and the character of the line, from 0, in front of which it
-/// does so: nothing, if the text is more than the line at several places, or something else. White space
-/// in front of both may differ.
-pub(crate) fn put_in<'a>(
+/// A text that is put into a line.
+#[derive(Clone, Copy, Debug, PartialEq, Eq)]
+pub(crate) struct Insertion<'a> {
+    /// The character of the line, from 0, in front of which it is put.
+    pub(crate) offset: usize,
+    /// The text.
+    pub(crate) text: &'a str,
+}
+
+/// What a text puts into a line of a file, at one place or at two: nothing, if it has something else. White
+/// space in front of both may differ.
+pub(crate) fn insertions_in<'a>(
     alloc: Global,
     text: &'a str,
     line: &[char],
-) -> Result<Option<(usize, &'a str)>, AllocError>
-    ensures { IfOk result (λ put. IfSome put (λ put. IsIn put.1.now text.now)) }
+) -> Result<Vec<Insertion<'a>>, AllocError>
+    ensures { IfOk result (λ put. All (λ piece. IsIn piece.text.now text.now) put.items) }
 {
     let lead = white_length(line);
     let source = text_of(alloc, &line[lead..])?;
-    match piece_of(text.trim_start(), source.as_str()) {
-        Some((front, piece)) => {
-            let offset = lead.saturating_add(front.chars().count());
-            Ok(Some((offset, piece)))
-        }
-        None => Ok(None),
+    let text = text.trim_start();
+    let mut put = Vec::new(alloc);
+    if let Some((front, piece)) = piece_of(text, source.as_str()) {
+        put.push(insertion_behind(lead, front, piece))?;
+        return Ok(put);
     }
+    let Some(two) = two_pieces_of(text, source.as_str()) else {
+        return Ok(put);
+    };
+    let first = insertion_behind(lead, two.front, two.first);
+    put.push(first)?;
+    put.push(insertion_behind(first.offset, two.middle, two.second))?;
+    Ok(put)
+}
+
+/// A text that is put in behind what stands in front of it, which begins at a character of its line.
+fn insertion_behind<'a>(start: usize, front: &str, text: &'a str) -> Insertion<'a>
+    ensures { result.text.now ≡ text.now }
+{
+    Insertion {
+        offset: start.saturating_add(front.chars().count()),
+        text,
+    }
+}
+
+/// Whether a text is an attribute or an import, and a line of a file neither: it is a line of its own then.
+/// Older versions of rustc show it behind a number as a line that changes.
+pub(crate) fn is_new_line(text: &str, line: &[char]) -> bool {
+    let text = text.trim_start();
+    let line = &line[white_length(line)..];
+    text.starts_with('#') && !line.starts_with(&['#'])
+        || text.starts_with("use ") && !line.starts_with(&['u', 's', 'e', ' '])
 }
 
 /// Characters as a text.
@@ -58,10 +91,60 @@ fn piece_behind<'a>(text: &'a str, source: &str, front: &str) -> Option<&'a str>
     text.strip_prefix(front)?.strip_suffix(rest)
 }
 
+/// Two pieces that a text has more than a source.
+#[derive(Clone, Copy, Debug, PartialEq, Eq)]
+pub(crate) struct TwoPieces<'a, 's> {
+    /// What stands in front of them.
+    pub(crate) front: &'s str,
+    /// The first.
+    pub(crate) first: &'a str,
+    /// What stands between them.
+    pub(crate) middle: &'s str,
+    /// The second.
+    pub(crate) second: &'a str,
+}
+
+/// The two pieces that a text has more than a source, if it has two: behind the front of both, and in front
+/// of their end.
+fn two_pieces_of<'a, 's>(text: &'a str, source: &'s str) -> Option<TwoPieces<'a, 's>>
+    ensures { IfSome result (λ two. IsMoreByTwo text.now source.now two) }
+{
+    let front = source.get(..same_length(text.as_bytes(), source.as_bytes()))?;
+    let (inner, middle) = without_end(text.strip_prefix(front)?, source.strip_prefix(front)?)?;
+    if middle.is_empty() {
+        return None;
+    }
+    let (first, second) = inner.split_once(middle)?;
+    Some(TwoPieces {
+        front,
+        first,
+        middle,
+        second,
+    })
+}
+
+/// Both without what both end with.
+fn without_end<'a, 's>(text: &'a str, source: &'s str) -> Option<(&'a str, &'s str)>
+    ensures { IfSome result (λ parts. HaveOneEnd text.now source.now parts.0.now parts.1.now) }
+{
+    let length = same_end(text.as_bytes(), source.as_bytes());
+    let end = source.get(source.len().saturating_sub(length)..)?;
+    Some((text.strip_suffix(end)?, source.strip_suffix(end)?))
+}
+
 /// How many bytes both begin with.
 fn same_length(text: &[u8], source: &[u8]) -> usize {
     text.iter()
         .zip(source)
+        .take_while(|(a, b)| **a == **b)
+        .count()
+}
+
+/// How many bytes both end with.
+fn same_end(text: &[u8], source: &[u8]) -> usize {
+    text.iter()
+        .rev()
+        .zip(source.iter().rev())
         .take_while(|(a, b)| **a == **b)
         .count()
 }

@@ -4,7 +4,7 @@
 //! seen as a sign. White space at the ends may differ.
 
 ghost use Rattle.std.specs.Prelude.{◌≡◌, ◌+◌, ◌-◌, ◌<◌, ◌≤◌, ◌^◌, chars, drop, length, take};
-ghost use Rattle.std.specs.Prelude.{option_map, slice_get, true, IfOk, IfSome, List, ℕ};
+ghost use Rattle.std.specs.Prelude.{is_some, option_map, slice_get, true, IfOk, IfSome, List, ℕ};
 ghost use Rattle.std.specs.List.{list_all, prefix_len, range_with_len};
 ghost use Rattle.ariadne_snippets.specs.Snippets.{IsQuoteOf};
 ghost use Rattle.ariadne_snippets.specs.Marks.{char_in, place_in};
@@ -57,7 +57,9 @@ impl Quote {
         strokes: usize,
         line: &[char],
     ) -> Result<Option<Quote>, AllocError>
-        ensures { IfOk result (λ quote. IfSome quote (λ quote.
+        ensures whole { strokes ≡ 0 → line.now ≡ chars text.now
+            → IfOk result (λ quote. is_some quote ≡ true) }
+        ensures quote { IfOk result (λ quote. IfSome quote (λ quote.
             IsQuoteOf quote (chars text.now) line.now)) }
     {
         let chars = chars_of(alloc, text)?;
@@ -101,6 +103,19 @@ impl Quote {
     {
         let place = place_at(self.chars.as_slice(), unit, column);
         chars_before(self.begins.as_slice(), place)
+    }
+
+    /// The column in which a character of the line begins, from 0: 0, where the line doesn't have it.
+    pub(crate) fn column_of(&self, unit: Unit, character: usize) -> usize {
+        match self.begins.get(character) {
+            Some(begin) => column_behind(unit, first_of(self.chars.as_slice(), *begin)),
+            None => 0,
+        }
+    }
+
+    /// Whether all of its characters are ASCII.
+    pub(crate) fn is_ascii(&self) -> bool {
+        self.chars.as_slice().iter().all(|c| c.is_ascii())
     }
 
     /// The first character of the line behind white space.
@@ -382,6 +397,15 @@ fn place_at(quote: &[char], unit: Unit, column: usize) -> usize
         at += columns;
     }
     quote.len() + (column - at)
+}
+
+/// The column behind characters of a quote.
+fn column_behind(unit: Unit, quote: &[char]) -> usize {
+    let mut at = 0usize;
+    for c in quote {
+        at = at.saturating_add(columns_of(unit, at, *c));
+    }
+    at
 }
 
 /// How many characters of a line end at most at a place of its quote.

@@ -11,7 +11,8 @@ ghost use Rattle.ariadne_snippets.specs.Snippets.{point_behind as point_past};
 
 use crate::quote::{LAST_COLUMN, Quote};
 use crate::rows::{
-    Part, Piece, ROW_LENGTH, bars_below, parts_of, pieces_at, row_bytes, run_at, text_behind_bars,
+    Part, Piece, ROW_LENGTH, bar_column, bars_below, parts_of, pieces_at, row_bytes, run_at,
+    text_behind_bars,
 };
 use crate::run::Run;
 use crate::runs::{caret_column, runs_in};
@@ -31,6 +32,8 @@ pub(crate) struct Quoted {
     pub(crate) quote: Quote,
     /// What the columns of the rows below it count.
     pub(crate) unit: Unit,
+    /// How many columns further right than they stand what these rows have is meant.
+    pub(crate) moved: usize,
     /// The runs of the marks below it.
     pub(crate) runs: Vec<Run>,
     /// The columns of the bars below these, under which texts are to come.
@@ -47,6 +50,7 @@ impl Quoted {
             number,
             quote,
             unit,
+            moved: 0,
             runs: Vec::new(alloc),
             bars: Vec::new(alloc),
         }
@@ -62,6 +66,18 @@ impl Quoted {
         match row_bytes(row) {
             Some(row) => self.quote.char_at(unit, caret_column(unit, row)) == character,
             None => false,
+        }
+    }
+
+    /// How many columns further left than a character of the line the `^` of a row stands: none, where each
+    /// character of the line has one column, whatever columns count.
+    pub(crate) fn columns_short(&self, row: &str, character: usize) -> usize {
+        match row_bytes(row) {
+            Some(row) if !self.quote.is_ascii() => {
+                let column = self.quote.column_of(self.unit, character);
+                column.saturating_sub(caret_column(self.unit, row))
+            }
+            _ => 0,
         }
     }
 
@@ -100,7 +116,7 @@ impl Quoted {
             AreMarksIn self.new row.now marks.items)) }
     {
         let part = Part {
-            column: 0,
+            column: self.moved,
             marks: row,
             text: "",
         };
@@ -117,7 +133,7 @@ impl Quoted {
         ensures marks { IfOk result (λ marks. IfSome marks (λ marks.
             AreMarksIn self.new row.now marks.items)) }
     {
-        let parts = parts_of(alloc, row)?;
+        let parts = parts_of(alloc, self.moved, row)?;
         self.take_parts(alloc, parts.as_slice())
     }
 
@@ -129,7 +145,7 @@ impl Quoted {
         parts: &[Part<'a>],
     ) -> Result<Option<Vec<Mark<'a>>>, AllocError>
         ensures line { IsSameLine self.old self.new }
-        ensures marks { (row : List ℕ) → All (IsPartOf row) parts.now
+        ensures marks { (row : List ℕ) → All (IsPartOf self.old.moved row) parts.now
             → IfOk result (λ marks. IfSome marks (λ marks. AreMarksIn self.new row marks.items)) }
     {
         let mut runs = Vec::new(alloc);
@@ -234,6 +250,13 @@ impl Quoted {
         }
         self.bars = bars;
         Ok(Some(labels))
+    }
+
+    /// Where the mark begins above the last bar of a row, if that ends in one and a mark stands there.
+    pub(crate) fn mark_above(&self, row: &str) -> Option<Point> {
+        let column = bar_column(self.unit, row)?;
+        let run = self.runs.get(run_at(self.runs.as_slice(), column)?)?;
+        Some(self.point_at(run.start.min(LAST_COLUMN)))
     }
 
     /// The further label of a mark that has one already, if a row is that: its text begins where the mark

@@ -78,6 +78,12 @@ fn is_all_of_marks(row: &str) -> bool
     row.as_bytes().iter().all(|b| is_of_marks(*b))
 }
 
+/// Whether a row has nothing but strokes, blanks and bars, and one stroke at least.
+pub(crate) fn is_strokes(row: &str) -> bool {
+    let row = row.as_bytes();
+    row.contains(&b'_') && row.iter().all(|b| is_gap(*b) || *b == b'|' || *b == b'_')
+}
+
 /// Whether a row has a mark.
 pub(crate) fn has_mark(row: &str) -> bool
     ensures { result ≡ list_any is_of_mark row.now }
@@ -137,13 +143,17 @@ fn is_gap(byte: u8) -> bool
     byte == b' ' || byte == b'\t'
 }
 
-/// The parts of a row of marks. Where a text is written behind marks, the next part begins with the marks
-/// behind it. rustc gives each character of a text one column.
-pub(crate) fn parts_of<'a>(alloc: Global, row: &'a str) -> Result<Vec<Part<'a>>, AllocError>
-    ensures { IfOk result (λ parts. All (IsPartOf row.now) parts.items) }
+/// The parts of a row of marks that begins in a column. Where a text is written behind marks, the next part
+/// begins with the marks behind it. rustc gives each character of a text one column.
+pub(crate) fn parts_of<'a>(
+    alloc: Global,
+    start: usize,
+    row: &'a str,
+) -> Result<Vec<Part<'a>>, AllocError>
+    ensures { IfOk result (λ parts. All (IsPartOf start row.now) parts.items) }
 {
     let mut parts = Vec::new(alloc);
-    let mut column = 0usize;
+    let mut column = start;
     let mut rest = row;
     while !rest.is_empty() {
         let (part, behind) = cut_at_marks(rest);
@@ -297,16 +307,23 @@ fn bars_length(row: &[u8]) -> usize
         .count()
 }
 
-/// The texts of a row, which two blanks at least part from each other.
+/// The column of the bar that a row ends in, if it does.
+pub(crate) fn bar_column(unit: Unit, row: &str) -> Option<usize> {
+    let front = row.trim_end().strip_suffix('|')?;
+    Some(behind_text(unit, 0, front))
+}
+
+/// The texts of a row that begins in a column, which two blanks at least part from each other.
 pub(crate) fn pieces<'a>(
     alloc: Global,
     unit: Unit,
+    start: usize,
     row: &'a str,
 ) -> Result<Vec<Piece<'a>>, AllocError>
     ensures { IfOk result (λ pieces. ArePiecesIn row.now pieces.items) }
 {
     let mut pieces = Vec::new(alloc);
-    let mut column = 0usize;
+    let mut column = start;
     let mut rest = row;
     while let Some((part, behind)) = rest.split_once(GAP) {
         push_piece(&mut pieces, part, column)?;

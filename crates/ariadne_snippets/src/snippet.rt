@@ -1,15 +1,17 @@
 //! The snippet of a place, line by line: how it begins.
 
-ghost use Rattle.std.specs.Prelude.{◌≡◌, [], ◌∷◌, map, option_map, IfOk, List, ℕ};
+ghost use Rattle.std.specs.Prelude.{◌≡◌, [], ◌∷◌, chars, is_some, map, option_map, true, IfOk, List, Option, Some, ℕ};
 ghost use Rattle.ariadne_snippets.specs.Ends.{IsEnd};
 ghost use Rattle.ariadne_snippets.specs.Snippets.{change_of_line, change_told, number_named, number_quoted};
-ghost use Rattle.ariadne_snippets.specs.Snippets.{EndsBy, HasEnded, IsUnread, QuotesNext, TellsOf};
+ghost use Rattle.ariadne_snippets.specs.Snippets.{EndsBy, HasEnded, IsTaken, IsUnread, QuotesNext, ShowsWhole, TellsOf};
 
 use crate::forms::added_line;
 use crate::gutter::{Gutter, gutter_of};
+use crate::plain::unit_below;
 use crate::quote::Quote;
 use crate::quoted::Quoted;
 use crate::rows::is_blank;
+use crate::strokes::Stroke;
 use crate::taken::{Fix, FixKind, Point, Taken};
 use ariadne_columns::Unit;
 use std::alloc::{AllocError, Global};
@@ -67,6 +69,8 @@ pub struct Snippet {
     pub(crate) quoted: Option<Quoted>,
     /// Where ranges over lines have begun that have not ended.
     pub(crate) opened: Vec<Point>,
+    /// What the strokes of the marks that were read last say.
+    pub(crate) stroke: Stroke,
     /// The line to whose end marks have reached.
     pub(crate) reached: Option<usize>,
 }
@@ -89,6 +93,7 @@ impl Snippet {
             advice: Advice::Puts(0),
             quoted: None,
             opened: Vec::new(alloc),
+            stroke: Stroke::Absent,
             reached: None,
         }
     }
@@ -119,6 +124,9 @@ impl Snippet {
         ensures tells { IfOk result (λ taken. TellsOf self.new.quoted line.now taken) }
         ensures ends { IfOk result (λ taken. EndsBy self.new taken) }
         ensures over { HasEnded self.old → IfOk result (λ taken. taken ≡ Taken.NotOfSnippet) }
+        ensures whole { (number : ℕ) (caret : Option ℕ) → IsUnread number caret self.old
+            → ShowsWhole line.now (option_map (λ source. source.now) source.entry)
+            → IfOk result (λ taken. IsTaken taken) }
     {
         if self.stage == Stage::Ended {
             return Ok(Taken::NotOfSnippet);
@@ -138,6 +146,8 @@ impl Snippet {
         line: &'a str,
         source: Option<&[char]>,
     ) -> Result<Taken<'a>, AllocError>
+        ensures whole { ShowsWhole line.now (option_map (λ source. source.now) source.entry)
+            → IfOk result (λ taken. IsTaken taken) }
         ensures quotes { IfOk result (λ taken. QuotesNext line.now
             (option_map (λ source. source.now) source.entry) self.old.quoted self.new.quoted) }
         ensures tells { IfOk result (λ taken. TellsOf self.new.quoted line.now taken) }
@@ -148,15 +158,31 @@ impl Snippet {
             return Ok(Taken::Fixes(fixes));
         }
         match gutter_of(line) {
-            Some(
-                Gutter {
-                    number: Some(number),
-                    bar,
-                    text,
-                },
-            ) => self.take_first_behind(line, number, bar, text, source),
-            Some(gutter) if is_blank(gutter.text) => self.take_frame(gutter.bar, line, source),
-            _ => self.take_first_plain(line, source),
+            Some(gutter) => self.take_first_gutter(line, &gutter, source),
+            None => self.take_first_plain(line, source),
+        }
+    }
+
+    /// Takes the first line, which has a gutter.
+    fn take_first_gutter<'a>(
+        &mut self,
+        line: &str,
+        gutter: &Gutter<'_>,
+        source: Option<&[char]>,
+    ) -> Result<Taken<'a>, AllocError>
+        requires { IsEnd gutter.now.text.now line.now }
+        ensures whole { is_some gutter.now.number ≡ true
+            → option_map (λ source. source.now) source.entry ≡ Some (chars gutter.now.text.now)
+            → IfOk result (λ taken. IsTaken taken) }
+        ensures quotes { IfOk result (λ taken. QuotesNext line.now
+            (option_map (λ source. source.now) source.entry) self.old.quoted self.new.quoted) }
+        ensures tells { (line : List ℕ) → IfOk result (λ taken. TellsOf self.new.quoted line taken) }
+        ensures ends { IfOk result (λ taken. EndsBy self.new taken) }
+    {
+        match gutter.number {
+            Some(number) => self.take_first_behind(line, number, gutter.bar, gutter.text, source),
+            None if is_blank(gutter.text) => self.take_frame(gutter.bar, line, source),
+            None => self.take_first_plain(line, source),
         }
     }
 
@@ -170,6 +196,8 @@ impl Snippet {
         source: Option<&[char]>,
     ) -> Result<Taken<'a>, AllocError>
         requires { IsEnd text.now line.now }
+        ensures whole { option_map (λ source. source.now) source.entry ≡ Some (chars text.now)
+            → IfOk result (λ taken. IsTaken taken) }
         ensures quotes { IfOk result (λ taken. QuotesNext line.now
             (option_map (λ source. source.now) source.entry) self.old.quoted self.new.quoted) }
         ensures tells { (line : List ℕ) → IfOk result (λ taken. TellsOf self.new.quoted line taken) }
@@ -180,7 +208,7 @@ impl Snippet {
             return self.take_signed_quote(number, text, source);
         }
         self.form = Form::Gutter(bar);
-        self.take_quote(number, text, source)
+        self.take_quote(number, text, Unit::Display, source)
     }
 
     /// Takes an empty row of a gutter as the first line: the frame of those below it, unless it quotes
@@ -196,7 +224,7 @@ impl Snippet {
         ensures tells { (line : List ℕ) → IfOk result (λ taken. TellsOf self.new.quoted line taken) }
         ensures ends { IfOk result (λ taken. EndsBy self.new taken) }
     {
-        self.form = if self.quotes(self.line, line, source)? {
+        self.form = if self.quotes(self.line, line, Unit::Display, source)? {
             Form::Plain
         } else {
             Form::Framed(bar)
@@ -210,28 +238,33 @@ impl Snippet {
         line: &str,
         source: Option<&[char]>,
     ) -> Result<Taken<'a>, AllocError>
+        ensures whole { option_map (λ source. source.now) source.entry ≡ Some (chars line.now)
+            → IfOk result (λ taken. IsTaken taken) }
         ensures quotes { IfOk result (λ taken. QuotesNext line.now
             (option_map (λ source. source.now) source.entry) self.old.quoted self.new.quoted) }
         ensures tells { (line : List ℕ) → IfOk result (λ taken. TellsOf self.new.quoted line taken) }
         ensures ends { IfOk result (λ taken. EndsBy self.new taken) }
     {
         self.form = Form::Plain;
-        self.take_quote(self.line, line, source)
+        self.take_quote(self.line, line, unit_below(line, source), source)
     }
 
-    /// Takes a text as a quote.
+    /// Takes a text as a quote. The columns of the rows below it count this.
     pub(crate) fn take_quote<'a>(
         &mut self,
         number: usize,
         text: &str,
+        unit: Unit,
         source: Option<&[char]>,
     ) -> Result<Taken<'a>, AllocError>
+        ensures whole { option_map (λ source. source.now) source.entry ≡ Some (chars text.now)
+            → IfOk result (λ taken. IsTaken taken) }
         ensures quotes { IfOk result (λ taken. QuotesNext text.now
             (option_map (λ source. source.now) source.entry) self.old.quoted self.new.quoted) }
         ensures tells { (line : List ℕ) → IfOk result (λ taken. TellsOf self.new.quoted line taken) }
         ensures ends { IfOk result (λ taken. EndsBy self.new taken) }
     {
-        if self.quotes(number, text, source)? {
+        if self.quotes(number, text, unit, source)? {
             Ok(Taken::Nothing)
         } else {
             Ok(self.take_none())
@@ -243,9 +276,12 @@ impl Snippet {
         &mut self,
         number: usize,
         text: &str,
+        unit: Unit,
         source: Option<&[char]>,
     ) -> Result<bool, AllocError>
-        ensures { IfOk result (λ is_quote. QuotesNext text.now
+        ensures whole { option_map (λ source. source.now) source.entry ≡ Some (chars text.now)
+            → IfOk result (λ is_quote. is_quote ≡ true) }
+        ensures quotes { IfOk result (λ is_quote. QuotesNext text.now
             (option_map (λ source. source.now) source.entry) self.old.quoted self.new.quoted) }
     {
         let Some(line) = source else {
@@ -254,7 +290,7 @@ impl Snippet {
         let Some(quote) = Quote::new(self.alloc, text, 0, line)? else {
             return Ok(false);
         };
-        self.quoted = Some(Quoted::new(self.alloc, number, quote, Unit::Display));
+        self.quoted = Some(Quoted::new(self.alloc, number, quote, unit));
         Ok(true)
     }
 

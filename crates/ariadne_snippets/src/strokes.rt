@@ -8,16 +8,22 @@
 //!   | |_____- not the same     and ends here
 //!
 //! 6 | /     match x {          another begins where the line does
+//!
+//! 7 | ||     }("a");
+//!   | ||_____^____-            two end at the marks to which the stroke leads
+//!   |  |_____|                 whose other stroke this is
 //! ```
 
-/// What the stroke that leads to a mark says of it.
+use crate::runs::is_mark;
+
+/// What the strokes that lead to marks say of them.
 #[derive(Clone, Copy, Debug, PartialEq, Eq)]
 pub(crate) enum Stroke {
     /// There is none.
     Absent,
-    /// A range over lines begins at the mark.
+    /// Ranges over lines begin at the marks.
     Begins,
-    /// One ends there.
+    /// They end there.
     Ends,
 }
 
@@ -29,6 +35,14 @@ pub(crate) fn stroke_of(row: &str) -> Stroke {
         Some(_) => Stroke::Begins,
         None => Stroke::Absent,
     }
+}
+
+/// To how many marks of a row a stroke leads: it goes on behind each but the last.
+pub(crate) fn marks_joined(row: &str) -> usize {
+    row.as_bytes()
+        .windows(2)
+        .filter(|pair| pair[0] == b'_' && is_mark(pair[1]))
+        .count()
 }
 
 /// Whether a text has a mark.

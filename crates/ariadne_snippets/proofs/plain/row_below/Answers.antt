@@ -1,6 +1,5 @@
-use Rattle.std.proofs.Common.{◌∙◌, ap, map}
 use Rattle.std.specs.List.{All}
-use Rattle.ariadne_snippets.specs.Snippets.{in_row, insertion, insertions, IsLabelIn}
+use Rattle.ariadne_snippets.specs.Snippets.{IsLabelIn}
 use Rattle.ariadne_snippets.proofs.Endings.{end_of_all, in_by_end}
 use Rattle.ariadne_snippets.proofs.plain.row_below.Goals as goal
 
@@ -11,11 +10,3 @@ returns-in-Some-clause-tells c =
     let all : All (IsLabelIn c.take_labels.new.self.runs.items line) c.in-Some.labels.items =
     rw c.in-Some.is at (c.in_ok-labels.ensures).labels in
     (line, in_by_end line line (end_of_all line), all)
-
--- or one of texts that are to be put there
-pub returns-then-may_have_fixes-clause-tells : goal.returns-then-may_have_fixes-clause-tells
-returns-then-may_have_fixes-clause-tells c =
-    let line = c.args.line.now in
-    in_row line (in_by_end line line (end_of_all line))
-    (insertions c.in_ok-pieces.pieces.items c.in_ok-pieces.ensures
-    (c.in_ok-fixes_of.ensures ∙ ap (map (insertion c.take_labels.new.self)) c.as_slice-then-may_have_fixes.ensures.value))

@@ -30,6 +30,7 @@ returns-clause-marks c =
       number = c.args.self.now.number;
       quote = c.args.self.now.quote;
       unit = c.args.self.now.unit;
+      moved = c.args.self.now.moved;
       runs = c.loop-part.runs;
       bars = c.clear.new.self;
     } in record {

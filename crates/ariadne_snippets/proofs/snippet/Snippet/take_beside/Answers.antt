@@ -1,20 +1,22 @@
-use Rattle.std.proofs.Common.{rules, ◌≡◌, [], ◌∷◌, map}
-use Rattle.ariadne_snippets.specs.Pieces.{IsIn}
-use Rattle.ariadne_snippets.specs.Snippets.{change_told, put_in_line, Change}
-use Rattle.ariadne_snippets.specs.declared.taken.FixKind.TheVariants.{Put}
+use Rattle.std.proofs.Common.{◌∙◌, ap, map, [], ◌∷◌}
+use Rattle.ariadne_snippets.specs.Snippets.{change_of_line, line_put, put_in_line, put_into}
+use Rattle.ariadne_snippets.specs.declared.taken.FixKind.TheVariants.{PutLine}
 use Rattle.ariadne_snippets.proofs.snippet.Snippet.take_beside.Goals as goal
 
--- a piece of the text is put into the line
-pub returns-in_ok-push-in-Some-clause-tells : goal.returns-in_ok-push-in-Some-clause-tells
-returns-in_ok-push-in-Some-clause-tells c =
-    let piece = c.in-Some.piece.now in
-    let change : Change = record {
-      at = record { line = c.args.number; offset = c.in-Some.offset };
-      kind = Put;
-      text = piece;
-    } in
-    let told : map change_told c.push.new.self.items ≡ change ∷ [] = search rules in
-    let there : IsIn piece c.args.text.now = rw c.in-Some.is at c.in_ok-offset.ensures in
+-- pieces of the text are put into the line
+pub returns-then-not-is_empty-clause-tells : goal.returns-then-not-is_empty-clause-tells
+returns-then-not-is_empty-clause-tells c =
     λ line how quoted.
     put_in_line c.args.number c.args.text.now how
-    (record { offset = c.in-Some.offset; piece = piece; is_there = there; told = told })
+    (record {
+      pieces = c.in_ok-put.put.items;
+      are_there = c.in_ok-put.ensures;
+      told = c.in_ok-puts.ensures ∙ ap (map (put_into c.args.number)) c.as_slice.ensures.value;
+    })
+
+-- or the text is put in front of it
+pub returns-then-is_new_line-clause-tells : goal.returns-then-is_new_line-clause-tells
+returns-then-is_new_line-clause-tells c =
+    λ line how quoted.
+    line_put c.args.number c.args.text.now how
+    (c.in_ok-fixes.ensures ∙ ap (λ t. change_of_line c.args.number PutLine t ∷ []) c.trim.ensures.trim)

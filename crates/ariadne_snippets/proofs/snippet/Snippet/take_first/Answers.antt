@@ -1,17 +1,27 @@
 use Rattle.std.proofs.Common.{sym}
+use Rattle.ariadne_snippets.specs.Gutters.{gutter_told}
 use Rattle.ariadne_snippets.specs.Snippets.{line_added}
+use Rattle.ariadne_snippets.proofs.Wholes.{shown_behind, shown_plain}
 use Rattle.ariadne_snippets.proofs.snippet.Snippet.take_first.Goals as goal
 
 -- a line is to be put in front of that of the place
 pub returns-in-Some-clause-tells : goal.returns-in-Some-clause-tells
 returns-in-Some-clause-tells c = line_added c.args.self.now.line c.in-Some.text.now (sym c.in-Some.ensures) c.in_ok-fixes.ensures
 
--- a gutter with a number begins it, one without, or none
-pub returns-in-Some-Some-clause-tells : goal.returns-in-Some-Some-clause-tells
-returns-in-Some-Some-clause-tells c = c.take_first_behind.ensures.tells c.args.line.now
-
+-- a gutter begins it
 pub returns-in-Some-gutter_of-clause-tells : goal.returns-in-Some-gutter_of-clause-tells
-returns-in-Some-gutter_of-clause-tells c = c.take_frame.ensures.tells c.args.line.now
+returns-in-Some-gutter_of-clause-tells c = c.take_first_gutter.ensures.tells c.args.line.now
 
-pub returns-in_default-gutter_of-clause-tells : goal.returns-in_default-gutter_of-clause-tells
-returns-in_default-gutter_of-clause-tells c = c.take_first_plain.ensures.tells c.args.line.now
+pub returns-in-Some-gutter_of-clause-whole : goal.returns-in-Some-gutter_of-clause-whole
+returns-in-Some-gutter_of-clause-whole c =
+    λ shows.
+    let shown = shown_behind c.args.line.now _ (gutter_told c.in-Some-gutter_of.gutter) (sym (c.in-Some-gutter_of.ensures).parts) shows in
+    c.take_first_gutter.ensures.whole shown.0 shown.1
+
+-- or none does
+pub returns-in-None-clause-tells : goal.returns-in-None-clause-tells
+returns-in-None-clause-tells c = c.take_first_plain.ensures.tells c.args.line.now
+
+pub returns-in-None-clause-whole : goal.returns-in-None-clause-whole
+returns-in-None-clause-whole c =
+    λ shows. c.take_first_plain.ensures.whole (shown_plain c.args.line.now _ (sym (c.in-None.ensures).parts) shows)

@@ -7,6 +7,10 @@ use Rattle.ariadne_snippets.proofs.Nexts.{next_same}
 use Rattle.ariadne_snippets.proofs.Telling.{not_ended, row_tells, some_and}
 use Rattle.ariadne_snippets.proofs.snippet.Snippet.take_framed_row.Goals as goal
 
+-- it is one of strokes
+pub returns-then-is_strokes-clause-tells : goal.returns-then-is_strokes-clause-tells
+returns-then-is_strokes-clause-tells c = λ line end. c.take_strokes.ensures.tells line
+
 -- nothing is quoted
 pub returns-in_default-clause-tells : goal.returns-in_default-clause-tells
 returns-in_default-clause-tells c = λ line end. c.take_none.ensures.tells line
@@ -51,6 +55,7 @@ returns-in_default-2 c =
       advice = c.args.self.now.advice;
       quoted = Some c.framed_row.new.quoted;
       opened = c.args.self.now.opened;
+      stroke = c.args.self.now.stroke;
       reached = c.args.self.now.reached;
     } in record {
       quotes = λ source. same_line c.in-Some.quoted c.framed_row.new.quoted c.in-Some.is refl c.framed_row.ensures.line;

@@ -33,6 +33,11 @@ returns-in-Fixes-clause-tells c =
     let tells : TellsOf (Some c.plain_row.new.quoted) c.args.line.now (Fixes c.in-Fixes.fixes) = rw c.in-Fixes.is at (c.in_ok-taken.ensures).tells in
     tells
 
+-- it is a detail
+pub returns-in-Note-clause-quotes : goal.returns-in-Note-clause-quotes
+returns-in-Note-clause-quotes c =
+    λ source. same_line c.in-Some.quoted c.plain_row.new.quoted c.in-Some.is refl c.plain_row.ensures.line
+
 -- it says something else
 pub returns-in_default-2 : goal.returns-in_default-2
 returns-in_default-2 c =
@@ -45,6 +50,7 @@ returns-in_default-2 c =
       advice = c.args.self.now.advice;
       quoted = Some c.plain_row.new.quoted;
       opened = c.args.self.now.opened;
+      stroke = c.args.self.now.stroke;
       reached = c.args.self.now.reached;
     } in record {
       quotes = λ source. same_line c.in-Some.quoted c.plain_row.new.quoted c.in-Some.is refl c.plain_row.ensures.line;

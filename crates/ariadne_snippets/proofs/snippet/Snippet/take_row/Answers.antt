@@ -44,6 +44,7 @@ returns-in_default-2 c =
       advice = c.args.self.now.advice;
       quoted = Some c.gutter_row.new.quoted;
       opened = c.args.self.now.opened;
+      stroke = c.args.self.now.stroke;
       reached = c.args.self.now.reached;
     } in record {
       quotes = λ source. same_line c.in-Some.quoted c.gutter_row.new.quoted c.in-Some.is refl c.gutter_row.ensures.line;

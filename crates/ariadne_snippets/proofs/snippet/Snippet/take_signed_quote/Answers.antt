@@ -8,7 +8,7 @@ use Rattle.ariadne_snippets.proofs.snippet.Snippet.take_signed_quote.Goals as go
 pub returns-clause-quotes : goal.returns-clause-quotes
 returns-clause-quotes c =
     let text = chars c.args.text.now in
-    let shown : IsQuoteOf c.in-Some-2.shown text c.in-Some.line.now = rw c.in-Some-2.is at c.in_ok-shown.ensures in
+    let shown : IsQuoteOf c.in-Some-2.shown text c.in-Some.line.now = rw c.in-Some-2.is at (c.in_ok-shown.ensures).quote in
     let quote : IsQuoteOf c.in_ok-quote.quote text c.in-Some.line.now = c.in_ok-quote.ensures text shown in
     newly_quoted c.new-2.result c.args.text.now c.in-Some.line.now refl (end_of_all c.args.text.now)
     (ap (λ (o : Option (Bor (List ℕ))). option_map (λ (s : Bor (List ℕ)). s.now) o) c.in-Some.is)
