@@ -10,7 +10,7 @@ use Rattle.std.specs.Option.{option_or, unwrap_or}
 use Rattle.std.specs.Path.{rsplit_once}
 use Rattle.std.specs.Str.{trim_end}
 use Rattle.ariadne_told.specs.Kinds.{own_kind_in, sure_kind_in, Kind}
-use Rattle.ariadne_told.specs.Pieces.{behind, begins_with, closes_with, in_front_of, is_flush, number_in}
+use Rattle.ariadne_told.specs.Pieces.{behind, begins_with, closes_with, in_front_of, is_flush, number_in, past_blanks}
 use Rattle.ariadne_told.specs.Pieces.{split_once, whole_number}
 use Rattle.ariadne_told.specs.declared.diagnostic.Severity.{Severity}
 use Rattle.ariadne_told.specs.declared.diagnostic.Severity.TheVariants.{Error, Warning}
@@ -204,10 +204,22 @@ unnamed_kind_in file start said =
     )
     else None
 
+-- a note about a file of Python's keeps the blanks in front of its message, by which mypy shows what goes on
+-- with what
+abbrev pub keeps_blanks : List ℕ → Kind → Bool
+keeps_blanks file kind = kind.is_note && (closes_with (codes ".py") file || closes_with (codes ".pyi") file)
+
+-- a message: the blanks in front are none of it, or not where there is no more
+abbrev pub message_kept : List ℕ → Kind → List ℕ → List ℕ
+message_kept file kind words =
+    if keeps_blanks file kind && nat_lt 0 (length (past_blanks words)) then words else past_blanks words
+
 -- the kind of what is said of a place, and the message behind it
 unfoldable pub kind_of_said : List ℕ → Spot → List ℕ → Option (Kind × List ℕ)
 kind_of_said file start said =
-    option_or (named_kind_in file said) (unnamed_kind_in file start said)
+    option_or
+    (option_map (λ found. (found.0, message_kept file found.0 found.1)) (named_kind_in file said))
+    (unnamed_kind_in file start said)
 
 -- a code in the place of a kind is the code, and else the one at the end of the message
 abbrev pub kind_with_code : Kind → List ℕ → Kind

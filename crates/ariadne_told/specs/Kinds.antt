@@ -12,7 +12,7 @@ use Rattle.std.specs.List.{list_all, list_any, prefix_len}
 use Rattle.std.specs.Option.{option_or, unwrap_or}
 use Rattle.std.specs.Path.{rsplit_once}
 use Rattle.std.specs.Str.{trim_end}
-use Rattle.ariadne_told.specs.Pieces.{behind, in_front_of, past_blanks, split_once}
+use Rattle.ariadne_told.specs.Pieces.{behind, in_front_of, split_once}
 use Rattle.ariadne_told.specs.Severities.{is_named, is_own_name, severity_of}
 use Rattle.ariadne_told.specs.declared.diagnostic.Severity.{Severity}
 use Rattle.ariadne_told.specs.declared.diagnostic.Severity.TheVariants.{Error, Warning, Note}
@@ -106,9 +106,9 @@ known_kind text =
 
 -- ---- a kind, and the message behind it
 
--- the message behind a blank, and behind further ones
+-- the message behind a blank
 abbrev pub message_behind : List ℕ → Option (List ℕ)
-message_behind text = option_map past_blanks (behind 32 text)
+message_behind text = behind 32 text
 
 -- in front of the first colon, which a blank follows
 unfoldable pub kind_in_front : List ℕ → Option Kind

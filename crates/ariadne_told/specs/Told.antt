@@ -6,7 +6,7 @@ use Rattle.std.specs.Prelude.{if◌then◌else◌}
 use Rattle.std.specs.Prelude.{List, [], ◌∷◌, codes, map, slice_index}
 use Rattle.std.specs.Prelude.{Option, Some, None, is_some, option_and_then, option_map}
 use Rattle.std.specs.Prelude.{slice_get, Vec, vec_len, string_bytes}
-use Rattle.std.specs.List.{filter, find}
+use Rattle.std.specs.List.{ends_with, filter, find}
 use Rattle.std.specs.Option.{option_or, unwrap_or}
 use Rattle.std.specs.declared.alloc.Global.{Global}
 use Rattle.std.specs.Str.{bytes_eq}
@@ -15,6 +15,7 @@ use Rattle.serde_json.specs.Find.{get, as_array, as_number, as_str, as_u64}
 use Rattle.ariadne_json.specs.Reading.{value_in as value_of}
 use Rattle.ariadne_color.specs.declared.color.Color.{Color}
 use Rattle.ariadne_columns.specs.declared.unit.Unit.{Unit}
+use Rattle.ariadne_columns.specs.declared.unit.Unit.TheVariants.{Char}
 use Rattle.ariadne_told.specs.Heads.{head_of_line, is_among, ranges_in, Head}
 use Rattle.ariadne_told.specs.Places.{place_of, seen, Seen}
 use Rattle.ariadne_told.specs.Sent.{IsHeldNow, WasSent}
@@ -257,11 +258,18 @@ pub record IsOfHead (unit : Unit) (head : Head) (told : Diagnostic) : Type 0 whe
 abbrev pub is_note : Head → Bool
 is_note head = head.kind.is_note && not (is_some head.kind.code)
 
+-- the columns of lines about a file of Rust's count characters: rustc alone reads it
+abbrev pub is_of_rust : List ℕ → Bool
+is_of_rust file = ends_with (λ a b. a == b) file (codes ".rs")
+
+abbrev pub unit_in : List ℕ → Unit → Unit
+unit_in file unit = if is_of_rust file then Char else unit
+
 -- of a head one diagnostic is told, as a note or by itself, and nothing where there is none
 abbrev pub IsToldOfHead : Unit → Option Head → Answer → Type 0
 IsToldOfHead unit None told = told ≡ Nothing
 IsToldOfHead unit (Some head) told =
-    (one : Diagnostic) × (told ≡ (if is_note head then Note one else Header one)) × IsOfHead unit head one
+    (one : Diagnostic) × (told ≡ (if is_note head then Note one else Header one)) × IsOfHead (unit_in head.file unit) head one
 
 -- what is told of a value that cargo may have handed on: a message is held from now on
 abbrev pub IsHeldIfAny : Option Data → Sent → Sent → Type 0

@@ -7,6 +7,7 @@ ghost use Rattle.ariadne_told.specs.Told.{is_gcc, is_gcc_list, tells_gcc};
 
 use crate::diagnostic::{Diagnostic, End, Look, Place, Severity, Spot};
 use crate::fixes::fix_text;
+use crate::heads::place;
 use crate::json::{copied_text, items, number, text};
 use ariadne_columns::Unit;
 use serde_json::Value;
@@ -101,8 +102,39 @@ fn told_by_item(alloc: Global, value: &Value) -> Result<Diagnostic, AllocError> 
         let said = text(location, "label").unwrap_or("");
         push_place(alloc, &mut told, location, said, number == 0)?;
     }
+    push_events(alloc, &mut told, value)?;
     push_fixes(alloc, &mut told, value)?;
     Ok(told)
+}
+
+/// Adds the places of the events that lead to a diagnostic of the analyzer, in their order.
+fn push_events(alloc: Global, told: &mut Diagnostic, value: &Value) -> Result<(), AllocError> {
+    for (number, event) in items(value, "path").iter().enumerate() {
+        push_event(alloc, told, event, number.saturating_add(1))?;
+    }
+    Ok(())
+}
+
+/// Adds the place of an event with this number, from 1. It says the number too, as in gcc's text.
+fn push_event(
+    alloc: Global,
+    told: &mut Diagnostic,
+    event: &Value,
+    number: usize,
+) -> Result<(), AllocError> {
+    let Some(location) = event.get("location") else {
+        return Ok(());
+    };
+    let Some(at) = spot(location) else {
+        return Ok(());
+    };
+    let file = text(location, "file").unwrap_or("");
+    let description = text(event, "description").unwrap_or("");
+    let mut place = place(alloc, file, at, End::OfWord, Unit::Byte)?;
+    place.is_past_mark = true;
+    place.text = format!(in alloc; "({number}) {description}")?;
+    told.places.push(place)?;
+    Ok(())
 }
 
 /// Adds a note: as the label of its first place, if that is elsewhere and has none of its own.

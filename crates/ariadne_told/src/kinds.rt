@@ -11,7 +11,7 @@ ghost use Rattle.ariadne_told.specs.ToldLines.{kind_told};
 
 use crate::diagnostic::Severity;
 use crate::names::{is_named, is_own_name};
-use crate::pieces::{behind, in_front_of, past_blanks, split_at_last, split_once};
+use crate::pieces::{behind, in_front_of, split_at_last, split_once};
 
 /// What the place of a kind tells, in pieces of the line.
 #[derive(Clone, Copy)]
@@ -52,7 +52,7 @@ fn kind_at_colon(said: &str) -> Option<(ToldKind<'_>, &str)>
 {
     let (front, rest) = split_once(said, ':')?;
     let kind = kind_in_front(front)?;
-    Some((kind, message_behind(rest)?))
+    Some((kind, behind(rest, ' ')?))
 }
 
 /// The kind that a text is: a known one, or a code.
@@ -76,14 +76,7 @@ fn kind_in_brackets(said: &str, opened: char, closed: char) -> Option<(ToldKind<
 {
     let (inside, rest) = split_once(behind(said, opened)?, closed)?;
     let kind = kind_inside(inside)?;
-    Some((kind, message_behind(past_colon(rest))?))
-}
-
-/// The message behind a blank, and behind further ones.
-fn message_behind(text: &str) -> Option<&str>
-    ensures { option_map (λ words. words.now) result ≡ kinds.message_behind text.now }
-{
-    Some(past_blanks(behind(text, ' ')?))
+    Some((kind, behind(past_colon(rest), ' ')?))
 }
 
 /// What stands behind a colon, if a text begins with one.
@@ -270,7 +263,7 @@ pub(crate) fn own_kind(said: &str) -> Option<(ToldKind<'_>, &str)>
 {
     let (word, rest) = split_once(said, ':')?;
     let kind = kind_by_word(word)?;
-    Some((kind, message_behind(rest)?))
+    Some((kind, behind(rest, ' ')?))
 }
 
 /// The kind that a word names: a warning, or where it is one letter, what codes with that letter are.

@@ -10,7 +10,9 @@ ghost use Rattle.ariadne_told.specs.ToldLines.{head_told, kind_told, IsCutAtColo
 
 use crate::diagnostic::{Severity, Spot};
 use crate::kinds::{ToldKind, own_kind, sure_kind};
-use crate::pieces::{begins_with, behind, closes_with, in_front_of, is_flush, split_at_last};
+use crate::pieces::{
+    begins_with, behind, closes_with, in_front_of, is_flush, past_blanks, split_at_last,
+};
 use crate::spots::{behind_ranges, place, place_in_parens};
 
 /// How many colons the name of a file may have, as in `C:\a.c`.
@@ -161,9 +163,32 @@ fn kind_of<'a>(file: &str, start: Spot, said: &'a str) -> Option<(ToldKind<'a>, 
         ≡ heads.kind_of_said file.now start said.now }
 {
     match named_kind(file, said) {
-        Some(found) => Some(found),
+        Some((kind, words)) => {
+            let message = message_kept(file, &kind, words);
+            Some((kind, message))
+        }
         None => unnamed_kind(file, start, said),
     }
+}
+
+/// A message without the blanks in front of it, but where a tool of Python's shows by them what goes on with
+/// what.
+fn message_kept<'a>(file: &str, kind: &ToldKind<'_>, words: &'a str) -> &'a str
+    ensures { result.now ≡ heads.message_kept file.now (kind_told kind.now) words.now }
+{
+    let message = past_blanks(words);
+    if keeps_blanks(file, kind) && !message.is_empty() {
+        words
+    } else {
+        message
+    }
+}
+
+/// Whether a note about a file of Python's is told, whose tools indent what notes go on with.
+fn keeps_blanks(file: &str, kind: &ToldKind<'_>) -> bool
+    ensures { result ≡ heads.keeps_blanks file.now (kind_told kind.now) }
+{
+    kind.is_note && (closes_with(file, ".py") || closes_with(file, ".pyi"))
 }
 
 /// The kind that is named, and the message behind it.

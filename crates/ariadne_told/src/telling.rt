@@ -7,7 +7,7 @@ ghost use Rattle.serde_json.specs.Read.{max_depth};
 ghost use Rattle.serde_json.specs.View.{view};
 ghost use Rattle.ariadne_told.specs.Told.{begins_as_json as is_begun_as_json, tells_value};
 ghost use Rattle.ariadne_told.specs.Told.{handed_in, reads_rustc as is_rustc_read, reads_text};
-ghost use Rattle.ariadne_told.specs.Told.{value_in};
+ghost use Rattle.ariadne_told.specs.Told.{is_of_rust as is_rust_file, unit_in as unit_of_file, value_in};
 ghost use Rattle.ariadne_told.specs.Told.{IsHeldIfAny, IsTold, IsToldOfHead, IsToldOfValue};
 ghost use Rattle.ariadne_told.specs.Sent.{WasSent};
 ghost use Rattle.ariadne_told.specs.Heads.{head_of_line};
@@ -132,12 +132,27 @@ fn line_in(alloc: Global, unit: Unit, line: &str) -> Result<Answer, AllocError>
     let Some(it) = line_told(line) else {
         return Ok(Answer::Nothing);
     };
-    let told = told_by_line(alloc, &it, unit)?;
+    let told = told_by_line(alloc, &it, unit_in(it.file, unit))?;
     Ok(if it.is_note() {
         Answer::Note(told)
     } else {
         Answer::Head(told)
     })
+}
+
+/// What the columns of a line count that is about a file, where those of others count this: those of rustc,
+/// which alone reads Rust, count characters.
+fn unit_in(file: &str, unit: Unit) -> Unit
+    ensures { result ≡ unit_of_file file.now unit }
+{
+    if is_of_rust(file) { Unit::Char } else { unit }
+}
+
+/// Whether a file is one of Rust's.
+fn is_of_rust(file: &str) -> bool
+    ensures { result ≡ is_rust_file file.now }
+{
+    file.ends_with(".rs")
 }
 
 /// A list of one diagnostic.

@@ -1,7 +1,8 @@
 use Rattle.std.proofs.Common.{◌≡◌, ◌∙◌, if◌then◌else◌, Option, ap, subst}
 use Rattle.std.specs.Prelude.{Bool}
 use Rattle.ariadne_told.specs.Heads.{Head}
-use Rattle.ariadne_told.specs.Told.{is_note, IsToldOfHead}
+use Rattle.ariadne_columns.specs.declared.unit.Unit.{Unit}
+use Rattle.ariadne_told.specs.Told.{is_note, IsOfHead, IsToldOfHead}
 use Rattle.ariadne_told.specs.ToldLines.{head_told}
 use Rattle.ariadne_told.specs.declared.telling.Answer.{Answer}
 use Rattle.ariadne_told.specs.declared.telling.Answer.TheVariants.{Head as Header, Note}
@@ -19,4 +20,5 @@ returns c =
       | then-is_note w ↦ w.result-is ∙ ap answer w.if-is_note.ensures
       | else-is_note w ↦ w.result-is ∙ ap answer w.if-is_note.ensures
     ] in
-    subst (λ (h : Option Head). IsToldOfHead c.args.unit h c.if-is_note.result) c.in-Some.ensures (one, same, c.in_ok-told.ensures)
+    subst (λ (h : Option Head). IsToldOfHead c.args.unit h c.if-is_note.result) c.in-Some.ensures
+    (one, same, subst (λ (u : Unit). IsOfHead u head one) c.unit_in.ensures c.in_ok-told.ensures)
