@@ -12,10 +12,10 @@ _ariadne_show() {
         --color) words='auto always never' ;;
         --fail-on) words='error warning never' ;;
         --base) COMPREPLY=($(compgen -d -- "$word")); return ;;
-        --max) return ;;
+        --max|--context) return ;;
         *)
-            words='--format --columns --base --output --severity --max --raw --color --ascii --compact --short
-                --fail-on --help --version'
+            words='--format --columns --base --output --severity --max --context --raw --color --ascii --compact
+                --short --fail-on --help --version'
             [[ $word = -* ]] || { COMPREPLY=($(compgen -f -- "$word")); return; }
             ;;
     esac

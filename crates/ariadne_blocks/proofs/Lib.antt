@@ -6,3 +6,4 @@ pub mod Settled
 pub mod Said
 pub mod Viewed
 pub mod Gone
+pub mod Once

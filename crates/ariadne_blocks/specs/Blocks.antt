@@ -21,7 +21,7 @@ use Rattle.ariadne_blocks.specs.Files.{File, file_at, line_at, quotes_escape, so
 use Rattle.ariadne_blocks.specs.Fixes.{fix_help}
 use Rattle.ariadne_blocks.specs.Marks.{Marking, with_labels, with_marks}
 use Rattle.ariadne_blocks.specs.Messages.{had_no_room, is_of_python, with_lines}
-use Rattle.ariadne_blocks.specs.Notes.{note_places}
+use Rattle.ariadne_blocks.specs.Notes.{are_lines_of, is_line_of, note_places}
 use Rattle.ariadne_blocks.specs.Telling.{Telling, telling}
 use Rattle.ariadne_blocks.specs.declared.block.Aside.{Aside}
 use Rattle.ariadne_blocks.specs.declared.block.Aside.TheVariants as aside
@@ -148,23 +148,24 @@ noted note view = record view {
   width = None;
 }
 
--- a note that names no column, in the line that a diagnostic begins in, says nothing of a place there
-abbrev pub is_of_line_at : Option Seen → Option Seen → Bool
-is_of_line_at None other = false
-is_of_line_at (Some own) None = false
-is_of_line_at (Some own) (Some place) =
-    not (is_some place.start.column) && (bytes_eq own.file place.file && own.start.line == place.start.line)
+-- a note has no place of its own: it names no column, in the line that a diagnostic begins in, or all the lines
+-- that this goes over
+abbrev pub is_beside_place : Option Seen → Option Seen → Bool
+is_beside_place None other = false
+is_beside_place (Some own) None = false
+is_beside_place (Some own) (Some place) =
+    bytes_eq own.file place.file && (is_line_of own place || are_lines_of own place)
 
-abbrev pub is_of_line : Diagnostic → Diagnostic → Bool
-is_of_line told note =
-    is_of_line_at (slice_get (map seen told.places.items) 0) (slice_get (map seen note.places.items) 0)
+abbrev pub is_beside : Diagnostic → Diagnostic → Bool
+is_beside told note =
+    is_beside_place (slice_get (map seen told.places.items) 0) (slice_get (map seen note.places.items) 0)
 
 -- so a note is taken in at its places, or as a text
 pub data IsNoted (note : Diagnostic) (caret : Option ℕ) (before after : Block) : Type 0 where
-  at_places : is_of_line (told_of before) note ≡ false
+  at_places : is_beside (told_of before) note ≡ false
       → IsUnread (first_line (telling note).places) caret after.rows.snippet
       → view_of after ≡ noted (telling note) (view_of before) → IsNoted note caret before after
-  as_text : is_of_line (told_of before) note ≡ true → after.rows ≡ before.rows
+  as_text : is_beside (told_of before) note ≡ true → after.rows ≡ before.rows
       → view_of after ≡ with_text aside.Note (telling note).message (record (view_of before) { width = None })
       → IsNoted note caret before after
 

@@ -6,4 +6,5 @@ pub mod Fixes
 pub mod Marks
 pub mod Messages
 pub mod Notes
+pub mod Repeats
 pub mod Telling

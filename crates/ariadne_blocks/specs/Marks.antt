@@ -52,10 +52,19 @@ caret_at file place (Some at) =
     then record { line = at.line; column = Some (column_in file place.unit at) }
     else place.caret
 
+-- the marks of a place whose range a mark is: none where the head says behind which character it ends
+abbrev pub marks_by : Mark → End → Option (Spot × Spot)
+marks_by mark (Before spot) = Some (range_of mark)
+marks_by mark (Behind spot) = None
+marks_by mark OfWord = Some (range_of mark)
+
+abbrev pub own_marks : Mark → Seen → Option (Spot × Spot)
+own_marks mark place = marks_by mark place.end
+
 -- a place that has a mark as its range
 abbrev pub with_range : Option File → Mark → Seen → Seen
 with_range file mark place = record place {
-  marks = Some (range_of mark);
+  marks = own_marks mark place;
   caret = caret_at file place mark.caret;
 }
 

@@ -16,7 +16,7 @@ use crate::file::QuotedFile;
 use crate::fixes::fix_text;
 use crate::line::Line;
 use crate::message::{MessageLine, had_no_room, is_of_python, settle_message, width_of};
-use crate::places::push_note;
+use crate::places::{are_lines_of, is_line_of, push_note};
 use crate::rows::Rows;
 use ariadne_snippets::{Fix, Snippet, Taken};
 use ariadne_told::{Diagnostic, Place, arrow_of};
@@ -77,7 +77,7 @@ impl Block {
     }
 
     /// Takes in a note whose head is the next line, and points at this character. One that names no column,
-    /// in the line that this diagnostic is about, is a text beside.
+    /// in the line that this diagnostic is about, or all the lines that this goes over, is a text beside.
     ///
     /// On `Err` there was no memory for all of its places.
     pub fn add_note(
@@ -89,7 +89,7 @@ impl Block {
         ensures { OnOk result (IsNoted note caret self.old self.new) }
     {
         self.width = None;
-        if self.is_of_line(&note) {
+        if self.is_beside(&note) {
             return self.add_text(alloc, Aside::Note, note.message.as_str());
         }
         let at = self.told.places.len();
@@ -97,15 +97,14 @@ impl Block {
         push_note(&mut self.told.places, note.message, note.places)
     }
 
-    /// Whether a note names no column, in the line that this diagnostic is about.
-    fn is_of_line(&self, note: &Diagnostic) -> bool
-        ensures { result ≡ blocks.is_of_line (told_of self.now) note.now }
+    /// Whether a note is about no place of its own: it names no column, in the line that this diagnostic is
+    /// about, or all the lines that this goes over.
+    fn is_beside(&self, note: &Diagnostic) -> bool
+        ensures { result ≡ blocks.is_beside (told_of self.now) note.now }
     {
         match (self.told.places.first(), note.places.first()) {
             (Some(own), Some(place)) => {
-                place.start.column.is_none()
-                    && own.file == place.file
-                    && own.start.line == place.start.line
+                own.file == place.file && (is_line_of(own, place) || are_lines_of(own, place))
             }
             _ => false,
         }

@@ -10,6 +10,7 @@ mod fixes;
 pub mod line;
 pub mod message;
 mod places;
+pub mod repeats;
 mod rows;
 
 pub use block::Block;
@@ -17,3 +18,4 @@ pub use drawn::{Drawn, settle_marks};
 pub use file::QuotedFile;
 pub use line::Line;
 pub use message::MessageLine;
+pub use repeats::drop_repeats;

@@ -4,9 +4,12 @@ ghost use Rattle.std.specs.Prelude.{◌≡◌, ◌++◌, map, option_map, string
 ghost use Rattle.ariadne_told.specs.Places.{seen};
 ghost use Rattle.ariadne_blocks.specs.Files.{file_of};
 ghost use Rattle.ariadne_blocks.specs.Marks as marks;
-ghost use Rattle.ariadne_blocks.specs.Notes.{as_beside, note_places};
+ghost use Rattle.ariadne_blocks.specs.Notes.{are_lines_of as lines_of_place, as_beside};
+ghost use Rattle.ariadne_blocks.specs.Notes.{is_line_of as line_of_place};
+ghost use Rattle.ariadne_blocks.specs.Notes.{is_over_lines as goes_over_lines, note_places};
 
 use crate::file::{QuotedFile, column_in};
+use crate::repeats::is_same_end;
 use ariadne_snippets::{Mark, Point};
 use ariadne_told::{End, Look, Place, Spot, Unit};
 use std::alloc::AllocError;
@@ -18,6 +21,30 @@ fn spot_of(point: Point) -> Spot
     Spot {
         line: point.line,
         column: Some(point.offset.saturating_add(1)),
+    }
+}
+
+/// Whether a place names no column, in the line that another begins in.
+pub(crate) fn is_line_of(own: &Place, place: &Place) -> bool
+    ensures { result ≡ line_of_place (seen own.now) (seen place.now) }
+{
+    place.start.column.is_none() && own.start.line == place.start.line
+}
+
+/// Whether a place goes over several lines, and another is all of them.
+pub(crate) fn are_lines_of(own: &Place, place: &Place) -> bool
+    ensures { result ≡ lines_of_place (seen own.now) (seen place.now) }
+{
+    is_over_lines(own) && own.start == place.start && is_same_end(own.end, place.end)
+}
+
+/// Whether a place goes over several lines, by its head.
+fn is_over_lines(place: &Place) -> bool
+    ensures { result ≡ goes_over_lines (seen place.now) }
+{
+    match place.end {
+        End::Before(spot) | End::Behind(spot) => spot.line != place.start.line,
+        End::OfWord => false,
     }
 }
 
@@ -47,6 +74,17 @@ pub(crate) fn caret_of(file: Option<QuotedFile<'_>>, place: &Place, mark: &Mark<
             column: Some(column_in(file, place.unit, at)),
         },
         _ => place.caret,
+    }
+}
+
+/// The marks of a place whose range a mark is: none, where the head says behind which character it ends. That
+/// is surer.
+pub(crate) fn own_marks(place: &Place, mark: &Mark<'_>) -> Option<(Spot, Spot)>
+    ensures { result ≡ marks.own_marks mark.now (seen place.now) }
+{
+    match place.end {
+        End::Behind(_) => None,
+        End::Before(_) | End::OfWord => Some(range_of(mark)),
     }
 }
 

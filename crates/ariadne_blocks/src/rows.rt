@@ -13,7 +13,7 @@ ghost use Rattle.ariadne_blocks.specs.Marks.{given_at, is_own_at, marking_of, wi
 ghost use Rattle.ariadne_blocks.specs.Marks.{with_mark, with_marks};
 
 use crate::file::QuotedFile;
-use crate::places::{caret_of, is_range_of, marked_place, range_of, say_at};
+use crate::places::{caret_of, is_range_of, marked_place, own_marks, say_at};
 use ariadne_snippets::{Label, Mark, Snippet};
 use ariadne_told::Place;
 use std::alloc::{AllocError, Global};
@@ -155,7 +155,8 @@ impl Rows {
     }
 }
 
-/// Gives a mark to the place with a number as its range, if it is that, and returns whether it is.
+/// Gives a mark to the place with a number as its range, if it is that, and returns whether it is. A range that
+/// the head tells is kept.
 fn give_range(
     file: Option<QuotedFile<'_>>,
     places: &mut [Place],
@@ -172,7 +173,7 @@ fn give_range(
     }
     let place = &mut places[number];
     place.caret = caret_of(file, place, mark);
-    place.marks = Some(range_of(mark));
+    place.marks = own_marks(place, mark);
     true
 }
 

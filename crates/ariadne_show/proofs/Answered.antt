@@ -11,7 +11,7 @@ use Rattle.ariadne_told.specs.declared.telling.Answer.{Answer}
 use Rattle.ariadne_told.specs.declared.telling.Answer.TheVariants as answer
 use Rattle.ariadne_show.specs.Finding.{is_first_held, IsOpened}
 use Rattle.ariadne_show.specs.Fronts.{IsRoleOf}
-use Rattle.ariadne_show.specs.Known.{is_tally_behind, is_waited_for, IsAboutNone, IsGivenOut, IsMoreInFront, IsNoMore}
+use Rattle.ariadne_show.specs.Known.{is_waited_for, IsAboutNone, IsGivenOut, IsMoreInFront, IsNoMore}
 use Rattle.ariadne_show.specs.Known.{IsNoRowInFront, IsPlacedBy, MayNotGoOn, PlacesNone, Waits, WaitsNot}
 use Rattle.ariadne_show.specs.Lines.{IsLineOf}
 use Rattle.ariadne_show.specs.Shown.{dropped, head as told_head, note as told_note, of_no_form, of_text, whole, AreAllShown}
@@ -21,6 +21,7 @@ use Rattle.ariadne_show.specs.Shown.{IsLinePassed, IsNoteAddedTo, IsNoteShown, I
 use Rattle.ariadne_show.specs.Shown.{IsTextShown, began, began_placed, both_passed, goes_on, head_passed, names_place}
 use Rattle.ariadne_show.specs.Shown.{no_row, note_added, note_began, note_passed, other, passed, tally, waits_in_front}
 use Rattle.ariadne_show.specs.Writing.{HasPassed, Out}
+use Rattle.ariadne_show.specs.Tallies.{is_tally_behind}
 use Rattle.ariadne_show.specs.declared.finder.Finder.{Finder}
 use Rattle.ariadne_show.specs.declared.front.PlacedHead.{PlacedHead}
 use Rattle.ariadne_show.specs.declared.known.Known.{Known}
@@ -106,13 +107,13 @@ note_passed_if (Err e) options line note opened known finder a last held files i
 -- ---- other lines
 
 pub tally_if : {T E : Type 0} (r : Result T E) (options : Options) (line : Line) (first last : At) (is : Bool)
-    → is ≡ is_tally_behind line.text.now first.known → is ≡ true → OnOk r (IsFinished options first last)
+    → is ≡ is_tally_behind line.text.now first.known first.out.shown → is ≡ true → OnOk r (IsFinished options first last)
     → OnOk r (IsOtherShown options line first last)
 tally_if (Ok x) options line first last is behind so it = tally (sym behind ∙ so) it
 tally_if (Err e) options line first last is behind so it = tt
 
 pub other_passed_if : {T E : Type 0} (r : Result T E) (options : Options) (line : Line) (first followed last : At) (is : Bool)
-    → is ≡ is_tally_behind line.text.now first.known → is ≡ false → IsFollowed line.text.now first followed
+    → is ≡ is_tally_behind line.text.now first.known first.out.shown → is ≡ false → IsFollowed line.text.now first followed
     → OnOk r (IsLinePassed options line.bytes.now followed last) → OnOk r (IsOtherShown options line first last)
 other_passed_if (Ok x) options line first followed last is behind not_so way it = passed followed (sym behind ∙ not_so) way it
 other_passed_if (Err e) options line first followed last is behind not_so way it = tt

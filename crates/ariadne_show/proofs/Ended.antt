@@ -8,7 +8,8 @@ use Rattle.ariadne_told.specs.declared.diagnostic.Diagnostic.{Diagnostic}
 use Rattle.ariadne_show.specs.Finding.{IsOpened}
 use Rattle.ariadne_show.specs.Fronts.{passing_of}
 use Rattle.ariadne_show.specs.Known.{AreMarksSettled}
-use Rattle.ariadne_show.specs.Shown.{At, AreAllShown, AreShown, IsBlockFinished, IsBlockWritten, IsFinished, IsLinePassed, IsWholeShown}
+use Rattle.ariadne_show.specs.Shown.{At, AreAllShown, AreShown, HasNoRepeats, IsBlockFinished, IsBlockWritten, IsFinished}
+use Rattle.ariadne_show.specs.Shown.{IsLinePassed, IsWholeShown}
 use Rattle.ariadne_show.specs.Shown.{block_written, no_block}
 use Rattle.ariadne_show.specs.Writing.{HasPassed, HavePassed, IsShownOnce, Out}
 use Rattle.ariadne_show.specs.declared.finder.Finder.{Finder}
@@ -78,14 +79,15 @@ line_passed_if (Err e) options line first finished known a b before same passed 
 
 -- ---- a diagnostic that is whole
 
-pub whole_if : {T E : Type 0} (r : Result T E) (options : Options) (told opened : Diagnostic) (known last : Known)
-    (finder : Finder) (a b : Out) → IsOpened told opened known.finder finder → last ≡ record known { finder = finder }
-    → OnOk r (IsShownOnce options finder.shelf opened a b)
+pub whole_if : {T E : Type 0} (r : Result T E) (options : Options) (told opened single : Diagnostic) (known last : Known)
+    (finder : Finder) (a b : Out) → IsOpened told opened known.finder finder → HasNoRepeats opened single
+    → last ≡ record known { finder = finder } → OnOk r (IsShownOnce options finder.shelf single a b)
     → OnOk r (IsWholeShown options told (record { known = known; out = a }) (record { known = last; out = b }))
-whole_if (Ok x) options told opened known last finder a b files kept once =
+whole_if (Ok x) options told opened single known last finder a b files none kept it =
     subst (λ (k : Known). IsWholeShown options told (record { known = known; out = a }) (record { known = k; out = b }))
-    (sym kept) (record { opened = opened; files = files; once = once; known = refl })
-whole_if (Err e) options told opened known last finder a b files kept once = tt
+    (sym kept)
+    (record { opened = opened; files = files; single = single; repeats = none; shown_once = it; known = refl })
+whole_if (Err e) options told opened single known last finder a b files none kept it = tt
 
 -- all of several
 pub all_shown_if : {T E : Type 0} (r : Result T E) (options : Options) (all : List Diagnostic) (first finished last : At)

@@ -31,15 +31,17 @@ out_with shown output beside = out_of shown (record { output = output; beside = 
 pub passed_to_output : (options : Options) (line bytes : List ℕ) (shown : Shown) (written : Written) (o p b : Option (List ℕ))
     → is_document options.output ≡ false → bytes ≡ passing_bytes options line → Appends o p bytes
     → written ≡ behind_line line
-    → HasPassed options line (out_with shown o b) (out_with (record shown { written = written }) p b)
+    → HasPassed options line (out_with shown o b)
+    (out_with (record shown { written = written; is_told_last = false }) p b)
 passed_to_output options line bytes shown written o p b text same got behind =
     to_output text (subst (λ (sent : List ℕ). Appends o p sent) same got) refl
-    (ap (λ (w : Written). record shown { written = w }) behind)
+    (ap (λ (w : Written). record shown { written = w; is_told_last = false }) behind)
 
 -- it has passed beside a document, after Ok
 pub passed_beside_if : {T E : Type 0} (r : Result T E) (options : Options) (line bytes : List ℕ) (shown : Shown)
     (o b c : Option (List ℕ)) → is_document options.output ≡ true → bytes ≡ passing_bytes options line
-    → OnOk r (Appends b c bytes) → OnOk r (HasPassed options line (out_with shown o b) (out_with shown o c))
+    → OnOk r (Appends b c bytes)
+    → OnOk r (HasPassed options line (out_with shown o b) (out_with (record shown { is_told_last = false }) o c))
 passed_beside_if (Ok x) options line bytes shown o b c document same got =
     beside_it document (subst (λ (sent : List ℕ). Appends b c sent) same got) refl refl
 passed_beside_if (Err e) options line bytes shown o b c document same got = tt
@@ -72,12 +74,12 @@ behind_more options all i line bytes a b c more same so_far now =
 pub counted_only : (options : Options) (shelf : Shelf) (told : Diagnostic) (shown : Shown) (sum : Sum) (drawn : DrawnCount)
     (o b : Option (List ℕ)) → sum ≡ counted told shown.sum → drawn ≡ drawn_after (limits_of options) told shown.drawn
     → is_drawn (limits_of options) told shown.drawn ≡ false
-    → IsShownOnce options shelf told (out_with shown o b) (out_with (record shown { sum = sum; drawn = drawn }) o b)
+    → IsShownOnce options shelf told (out_with shown o b) (out_with (record shown { sum = sum; drawn = drawn; is_told_last = true }) o b)
 counted_only options shelf told shown sum drawn o b summed taken none =
-    subst (λ (s : Sum). IsShownOnce options shelf told (out_with shown o b) (out_with (record shown { sum = s; drawn = drawn }) o b))
+    subst (λ (s : Sum). IsShownOnce options shelf told (out_with shown o b) (out_with (record shown { sum = s; drawn = drawn; is_told_last = true }) o b))
     (sym summed)
     (subst (λ (d : DrawnCount). IsShownOnce options shelf told (out_with shown o b)
-    (out_with (record shown { sum = counted told shown.sum; drawn = d }) o b))
+    (out_with (record shown { sum = counted told shown.sum; drawn = d; is_told_last = true }) o b))
     (sym taken) (counted_alone none refl))
 
 -- it was counted and written
@@ -86,11 +88,11 @@ pub counted_written : (options : Options) (shelf : Shelf) (told : Diagnostic) (s
     → drawn ≡ drawn_after (limits_of options) told shown.drawn → is_drawn (limits_of options) told shown.drawn ≡ true
     → IsWritten options (files_of shelf) (sources_in shelf) told shown.written written o p
     → IsShownOnce options shelf told (out_with shown o b)
-    (out_with (record shown { sum = sum; drawn = drawn; written = written }) p b)
+    (out_with (record shown { sum = sum; drawn = drawn; written = written; is_told_last = true }) p b)
 counted_written options shelf told shown sum drawn written o p b summed taken some it =
     subst (λ (s : Sum). IsShownOnce options shelf told (out_with shown o b)
-    (out_with (record shown { sum = s; drawn = drawn; written = written }) p b))
+    (out_with (record shown { sum = s; drawn = drawn; written = written; is_told_last = true }) p b))
     (sym summed)
     (subst (λ (d : DrawnCount). IsShownOnce options shelf told (out_with shown o b)
-    (out_with (record shown { sum = counted told shown.sum; drawn = d; written = written }) p b))
+    (out_with (record shown { sum = counted told shown.sum; drawn = d; written = written; is_told_last = true }) p b))
     (sym taken) (counted_and_written written some it refl refl))

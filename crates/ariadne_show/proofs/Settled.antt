@@ -5,6 +5,7 @@ use Rattle.std.specs.Vec.{with_items}
 use Rattle.std.specs.Prelude.{Result, Ok, Err, OnOk, Vec}
 use Rattle.std.specs.List.{flat_map}
 use Rattle.std.specs.declared.alloc.Global.{Global}
+use Rattle.ariadne_blocks.specs.Repeats.{once}
 use Rattle.ariadne_blocks.specs.Drawn.{all_settled, marks_at, marks_of}
 use Rattle.ariadne_blocks.specs.declared.drawn.Drawn.{Drawn}
 use Rattle.ariadne_told.specs.Places.{seen}
@@ -19,18 +20,19 @@ pub kept_items : (v : Vec Place Global) (given again ws : List Place) → given 
 kept_items v given again ws start same is =
     is ∙ with_items_is v ws (omega (arith, same, ap length start))
 
--- marks that were drawn before, after Ok
+-- marks that were drawn before, and no repeats, after Ok
 pub settled_if : {T E : Type 0} (r : Result T E) (told : Diagnostic) (known : Known) (drawn : Vec Drawn Global)
-    (places : Vec Place Global) (given marked : List Place) → given ≡ told.places.items
-    → OnOk r (map seen marked ≡ all_settled [] (map marks_of known.marked.items) (map seen given))
-    → OnOk r (map marks_of drawn.items ≡ flat_map marks_at (map seen marked)) → places.items ≡ marked
-    → OnOk r (AreMarksSettled told (record told { places = places }) known (record known { marked = drawn }))
-settled_if (Ok x) told known drawn places given marked start settled held stands =
+    (settled single : Vec Place Global) (given marked : List Place) → given ≡ told.places.items
+    → map seen marked ≡ all_settled [] (map marks_of known.marked.items) (map seen given)
+    → map marks_of drawn.items ≡ flat_map marks_at (map seen marked) → settled.items ≡ marked
+    → OnOk r (map seen single.items ≡ once (map seen settled.items))
+    → OnOk r (AreMarksSettled told (record told { places = single }) known (record known { marked = drawn }))
+settled_if (Ok x) told known drawn settled single given marked start all held stands dropped =
     let now : map seen marked ≡ all_settled [] (map marks_of known.marked.items) (map seen told.places.items) =
-    settled ∙ ap (λ (l : List Place). all_settled [] (map marks_of known.marked.items) (map seen l)) start in record {
-      places = ap (map seen) stands ∙ now;
+    all ∙ ap (λ (l : List Place). all_settled [] (map marks_of known.marked.items) (map seen l)) start in record {
+      places = dropped ∙ ap once (ap (map seen) stands ∙ now);
       others = refl;
       marked = held ∙ ap (flat_map marks_at) now;
       known = refl;
     }
-settled_if (Err e) told known drawn places given marked start settled held stands = tt
+settled_if (Err e) told known drawn settled single given marked start all held stands dropped = tt

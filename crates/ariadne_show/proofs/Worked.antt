@@ -2,7 +2,7 @@
 use Rattle.std.proofs.Common.{◌≡◌, refl, true, false, List, ℕ, [], ◌∷◌, Some, None, codes, unwrap_or}
 use Rattle.clap.proofs.OnLiterals.{clap_on_literals}
 use Rattle.clap.specs.Words.{all_of}
-use Rattle.clap.specs.declared.error.ErrorKind.TheVariants.{DisplayHelp, TooManyValues, UnknownArgument}
+use Rattle.clap.specs.declared.error.ErrorKind.TheVariants.{DisplayHelp, TooManyValues, UnknownArgument, ValueValidation}
 use Rattle.ariadne_show.specs.Words.{Names, entries, refusals}
 use Rattle.ariadne_show.specs.Asked.{is_on, paths_named, value}
 
@@ -37,6 +37,10 @@ no_input_is_standard_input names = refl
 a_switch_has_no_value : (names : Names) → refusals names (codes "--ascii=yes" ∷ []) ≡ TooManyValues ∷ []
 unfolding clap_on_literals
 a_switch_has_no_value names = refl
+
+a_word_is_no_number : (names : Names) → refusals names (codes "--context=two" ∷ []) ≡ ValueValidation ∷ []
+unfolding clap_on_literals
+a_word_is_no_number names = refl
 
 another_word_is_unknown : (names : Names) → refusals names (codes "--odd" ∷ []) ≡ UnknownArgument ∷ []
 unfolding clap_on_literals

@@ -92,20 +92,26 @@ abbrev pub IsNumberIn : Option (List ℕ) → Option ℕ → Type 0
 IsNumberIn None number = number ≡ None
 IsNumberIn (Some text) number = IsNumber text number
 
+-- the same, or 0 where none is said
+abbrev pub IsCountIn : Option (List ℕ) → ℕ → Type 0
+IsCountIn text count = (number : Option ℕ) × IsNumberIn text number × (count ≡ unwrap_or number 0)
+
 -- ---- what the entries ask for
 
--- the style: whether there are colours is not decided yet
-abbrev pub style_of : List Row → Style
-style_of rows = record {
+-- the style with so many context lines: whether there are colours is not decided yet
+abbrev pub style_of : List Row → ℕ → Style
+style_of rows context_lines = record {
   is_colored = false;
   is_ascii = is_on rows (codes "ascii");
   is_compact = is_on rows (codes "compact");
+  context_lines = context_lines;
 }
 
 pub record AreOptionsOf (rows : List Row) (options : Options) : Type 0 where
   pub format : options.reading.format ≡ format_of (value rows (codes "format"))
   pub unit : options.reading.unit ≡ unit_of (value rows (codes "columns"))
-  pub style : options.style ≡ style_of rows
+  pub style : options.style ≡ style_of rows options.style.context_lines
+  pub context : IsCountIn (one_of (codes "context") rows) options.style.context_lines
   pub colors : options.colors ≡ colors_of (value rows (codes "color"))
   pub output : options.output
       ≡ output_of (value rows (codes "output")) (is_on rows (codes "short"))

@@ -51,14 +51,15 @@ kind_for (Some own) severity =
 abbrev pub kind_of : Diagnostic → Kind
 kind_of told = kind_for told.own_kind told.severity
 
--- the default configuration, but for the colours, the strokes and the size that are asked for, and with
--- underlines also where no label of a line has a message
+-- the default configuration, but for the colours, the strokes, the size and the context lines that are
+-- asked for, and with underlines also where no label of a line has a message
 abbrev pub config_of : Style → ConfigFields
 config_of style = record default_config {
   color = style.is_colored;
   char_set = if style.is_ascii then Ascii else Unicode;
   compact = style.is_compact;
   lone_underlines = true;
+  context_lines = style.context_lines;
 }
 
 -- a report has the configuration that is asked for, the kind and the code of a diagnostic, and a text as

@@ -5,13 +5,13 @@ use Rattle.std.specs.Prelude.{Option, Some, None, is_some}
 use Rattle.ariadne_blocks.specs.Blocks.{is_about, may_go_on, path_of, told_of, view_of, HasNoMoreRows, IsMore, IsNamed}
 use Rattle.ariadne_blocks.specs.Blocks.{IsQuotedBy, IsRow, IsSameBlock}
 use Rattle.ariadne_blocks.specs.Drawn.{all_settled, marks_at, marks_of}
+use Rattle.ariadne_blocks.specs.Repeats.{once}
 use Rattle.ariadne_blocks.specs.declared.block.Block.{Block}
 use Rattle.ariadne_blocks.specs.declared.line.Line.{Line}
 use Rattle.ariadne_told.specs.Arrows.{arrow_in}
 use Rattle.ariadne_told.specs.ArrowsTold.{place_of_arrow}
 use Rattle.ariadne_told.specs.Places.{seen}
 use Rattle.ariadne_told.specs.Sent.{has_text}
-use Rattle.ariadne_told.specs.Tallies.{is_tally_line}
 use Rattle.ariadne_told.specs.declared.diagnostic.Diagnostic.{Diagnostic}
 use Rattle.ariadne_told.specs.declared.diagnostic.Place.{Place}
 use Rattle.ariadne_told.specs.declared.diagnostic.Spot.{Spot}
@@ -46,10 +46,6 @@ has_open_block known = is_some known.block && not (has_waiting_lines known)
 -- a diagnostic is held, or lines wait
 abbrev pub is_waited_for : Known → Bool
 is_waited_for known = is_some known.block || has_waiting_lines known
-
--- a line is a tool's own sum behind a diagnostic that is held
-abbrev pub is_tally_behind : List ℕ → Known → Bool
-is_tally_behind text known = has_open_block known && is_tally_line text
 
 -- a note is about the diagnostic that is held, if one is
 abbrev pub is_note_of_block : Diagnostic → Option Block → Bool
@@ -215,10 +211,10 @@ IsBlockTaken note first last (Some block) = IsGivenOut note first last block
 -- ---- the end of a diagnostic
 
 -- a diagnostic of which all lines were read is settled: its places without marks have those that were drawn at the
--- same spots
+-- same spots, and then those that repeat others are left out
 pub record AreMarksSettled (told settled : Diagnostic) (first last : Known) : Type 0 where
   pub places : map seen settled.places.items
-      ≡ all_settled [] (map marks_of first.marked.items) (map seen told.places.items)
+      ≡ once (all_settled [] (map marks_of first.marked.items) (map seen told.places.items))
   pub others : settled ≡ record told { places = settled.places }
   pub marked : map marks_of last.marked.items
       ≡ flat_map marks_at (all_settled [] (map marks_of first.marked.items) (map seen told.places.items))

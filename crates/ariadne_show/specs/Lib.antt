@@ -19,5 +19,6 @@ pub mod Said
 pub mod Shown
 pub mod Streams
 pub mod Sums
+pub mod Tallies
 pub mod Words
 pub mod Writing

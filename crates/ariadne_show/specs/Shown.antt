@@ -3,19 +3,21 @@
 -- next lines may tell more, and then each of them that belongs to it goes to it, and it is written where the
 -- first comes that does not, or at the end. Lines that may stand in front of a diagnostic wait for its head,
 -- and then give it their places, or pass.
-use Rattle.std.specs.Prelude.{ℕ, ◌≡◌, Bool, true, false, List, [], ◌∷◌, ◌++◌}
+use Rattle.std.specs.Prelude.{ℕ, ◌≡◌, Bool, true, false, List, [], ◌∷◌, ◌++◌, map}
 use Rattle.std.specs.Prelude.{Option, Some, None, Vec, ⊤}
 use Rattle.std.specs.Io.KnownBytes.{Appends, IsAtEnd}
 use Rattle.std.specs.declared.alloc.Global.{Global}
 use Rattle.serde_json.specs.Written.{compact_text}
 use Rattle.ariadne_blocks.specs.Blocks.{is_about, lines_behind, told_of, IsBegun, IsNoted}
 use Rattle.ariadne_blocks.specs.Blocks.{IsPlacedBy as IsPlaceAdded}
+use Rattle.ariadne_blocks.specs.Repeats.{once}
 use Rattle.ariadne_blocks.specs.declared.block.Block.{Block}
 use Rattle.ariadne_blocks.specs.declared.line.Line.{Line}
 use Rattle.ariadne_outputs.specs.Sarif.{driver_of}
 use Rattle.ariadne_outputs.specs.declared.sarif.TheConstants.{BEHIND, FRONT, SARIF_TAIL}
 use Rattle.ariadne_search.specs.Folders.{entered_in, followed}
 use Rattle.ariadne_search.specs.Make.{move_in}
+use Rattle.ariadne_told.specs.Places.{seen}
 use Rattle.ariadne_told.specs.Told.{reads_text, IsTold}
 use Rattle.ariadne_told.specs.declared.diagnostic.Diagnostic.{Diagnostic}
 use Rattle.ariadne_told.specs.declared.diagnostic.Place.{Place}
@@ -23,12 +25,13 @@ use Rattle.ariadne_told.specs.declared.telling.Answer.{Answer}
 use Rattle.ariadne_told.specs.declared.telling.Answer.TheVariants as answer
 use Rattle.ariadne_show.specs.Finding.{caret_at, is_first_held, is_held, IsOpened, IsPlaceSettled}
 use Rattle.ariadne_show.specs.Fronts.{passing_of}
-use Rattle.ariadne_show.specs.Known.{is_note_of, is_tally_behind, AreMarksSettled, IsMoreInFront, IsNew, IsNoRowInFront, IsPlacedBy}
+use Rattle.ariadne_show.specs.Known.{is_note_of, AreMarksSettled, IsMoreInFront, IsNew, IsNoRowInFront, IsPlacedBy}
 use Rattle.ariadne_show.specs.Known.{IsRowInFront, MayNotGoOn, PlacesNone, Waits, WaitsNot}
 use Rattle.ariadne_show.specs.Limits.{more_text}
 use Rattle.ariadne_show.specs.Lines.{IsLineOf, ReadsLine}
 use Rattle.ariadne_show.specs.Streams.{StreamBytes}
 use Rattle.ariadne_show.specs.Sums.{line_end, sum_text}
+use Rattle.ariadne_show.specs.Tallies.{is_tally_behind}
 use Rattle.ariadne_show.specs.Writing.{is_document, is_open, nothing_shown, out_of, HasPassed, HavePassed, IsShownOnce, Out}
 use Rattle.ariadne_show.specs.declared.finder.Finder.{Finder}
 use Rattle.ariadne_show.specs.declared.front.PlacedHead.{PlacedHead}
@@ -89,11 +92,18 @@ pub record IsLinePassed (options : Options) (line : List ℕ) (first last : At) 
 
 -- ---- diagnostics that are whole
 
+-- one has no places that repeat others any more
+pub record HasNoRepeats (told single : Diagnostic) : Type 0 where
+  pub places : map seen single.places.items ≡ once (map seen told.places.items)
+  pub others : single ≡ record told { places = single.places }
+
 -- one was shown over its files
 pub record IsWholeShown (options : Options) (told : Diagnostic) (first last : At) : Type 0 where
   pub opened : Diagnostic
   pub files : IsOpened told opened first.known.finder last.known.finder
-  pub once : IsShownOnce options last.known.finder.shelf opened first.out last.out
+  pub single : Diagnostic
+  pub repeats : HasNoRepeats opened single
+  pub shown_once : IsShownOnce options last.known.finder.shelf single first.out last.out
   pub known : last.known ≡ record first.known { finder = last.known.finder }
 
 -- each was, in their order
@@ -235,11 +245,11 @@ pub record IsFollowed (text : List ℕ) (first last : At) : Type 0 where
   pub others : last ≡ with_finder first
       (record first.known.finder { folders = last.known.finder.folders })
 
--- a line that belongs to no diagnostic is a tool's own sum behind one, and is dropped, or passed
+-- a line that belongs to no diagnostic is a sum of its tool's own behind one, and is dropped, or passed
 pub data IsOtherShown (options : Options) (line : Line) (first last : At) : Type 0 where
-  tally : is_tally_behind line.text.now first.known ≡ true → IsFinished options first last
+  tally : is_tally_behind line.text.now first.known first.out.shown ≡ true → IsFinished options first last
       → IsOtherShown options line first last
-  passed : (followed : At) → is_tally_behind line.text.now first.known ≡ false
+  passed : (followed : At) → is_tally_behind line.text.now first.known first.out.shown ≡ false
       → IsFollowed line.text.now first followed → IsLinePassed options line.bytes.now followed last
       → IsOtherShown options line first last
 

@@ -61,9 +61,12 @@ abbrev pub option_rule : List ℕ → Rule
 option_rule name =
     record (new_rule name) { long = Some name; action = Some Set; value_names = 1 }
 
--- one whose value has to be of this kind, and one whose value has to be one of these names
+-- one whose value has to be of this kind, or a number, or one of these names
 abbrev pub typed_rule : List ℕ → ValueParser → Rule
 typed_rule name values = record (option_rule name) { parser = Some values }
+
+abbrev pub number_rule : List ℕ → Rule
+number_rule name = typed_rule name (parser.Unsigned 0 (2 ^ 64 - 1))
 
 abbrev pub choice_rule : List ℕ → Bor (List (Bor (List ℕ))) → Rule
 choice_rule name names = typed_rule name (parser.Names names)
@@ -99,7 +102,8 @@ switches =
 -- the others, and the names of inputs
 abbrev pub others : List Rule
 others =
-    typed_rule (codes "max") (parser.Unsigned 0 (2 ^ 64 - 1))
+    number_rule (codes "context")
+    ∷ number_rule (codes "max")
     ∷ typed_rule (codes "base") parser.NonEmptyString
     ∷ inputs_rule
     ∷ []

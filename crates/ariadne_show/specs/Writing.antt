@@ -47,6 +47,7 @@ nothing_shown = record {
   sum = no_sum;
   drawn = record { drawn = 0; more = 0 };
   written = written.Lines;
+  is_told_last = false;
 }
 
 -- the output ends with a line that no line feed ends
@@ -117,6 +118,7 @@ abbrev pub counted_in : Options → Diagnostic → Shown → Shown
 counted_in options told shown = record shown {
   sum = counted told shown.sum;
   drawn = drawn_after (limits_of options) told shown.drawn;
+  is_told_last = true;
 }
 
 -- a diagnostic has been written: as a picture, behind a row where one stands in front; or as a text for
@@ -167,10 +169,11 @@ behind_line line = if ends_with_byte 10 line then written.Lines else written.Ope
 pub data HasPassed (options : Options) (line : List ℕ) (first last : Out) : Type 0 where
   to_output : is_document options.output ≡ false
       → Appends first.output last.output (passing_bytes options line) → last.beside ≡ first.beside
-      → last.shown ≡ record first.shown { written = behind_line line } → HasPassed options line first last
+      → last.shown ≡ record first.shown { written = behind_line line; is_told_last = false }
+      → HasPassed options line first last
   beside_it : is_document options.output ≡ true
       → Appends first.beside last.beside (passing_bytes options line) → last.output ≡ first.output
-      → last.shown ≡ first.shown → HasPassed options line first last
+      → last.shown ≡ record first.shown { is_told_last = false } → HasPassed options line first last
 
 -- lines have, in their order
 pub data HavePassed (options : Options) : List (List ℕ) → Out → Out → Type 0 where

@@ -99,7 +99,7 @@ impl<R: Files> Task<'_, R> {
     }
 
     /// Shows a line of text that names no kind beside a place: it may name the place of a diagnostic, stand
-    /// in front of one, go on with its message, or be its tool's own sum. Else it passes.
+    /// in front of one, go on with its message, or be a sum of its tool's own. Else it passes.
     fn show_text<W: Write, F: Write>(
         &self,
         run: &mut Run,
@@ -123,7 +123,7 @@ impl<R: Files> Task<'_, R> {
         self.show_other(run, line, streams)
     }
 
-    /// Shows a line of text that belongs to no diagnostic, unless it is the tool's own sum behind one.
+    /// Shows a line of text that belongs to no diagnostic, unless it is a sum of the tool's own behind one.
     fn show_other<W: Write, F: Write>(
         &self,
         run: &mut Run,
@@ -135,7 +135,7 @@ impl<R: Files> Task<'_, R> {
             (at_of run.old streams.old) (at_of run.new streams.new)) }
         ensures sources { OnOk result (HaveSources run.new.known.finder.shelf) }
     {
-        if run.known.is_tally(line.text) {
+        if run.is_tally(line.text) {
             return self.finish(run, streams);
         }
         run.known.finder.folders.follow(line.text)?;

@@ -353,4 +353,5 @@ fn config_of(style: Style) -> Config
         .with_compact(style.is_compact)
         .with_char_set(char_set)
         .with_lone_underlines(true)
+        .with_context_lines(style.context_lines)
 }

@@ -6,7 +6,7 @@ ghost use Rattle.ariadne_show.specs.Asked.{colors_of as colors_named, fail_on_of
 ghost use Rattle.ariadne_show.specs.Asked.{floor_of as floor_named, format_of as format_named};
 ghost use Rattle.ariadne_show.specs.Asked.{input_path, is_on as is_given, path_named, value};
 ghost use Rattle.ariadne_show.specs.Asked.{output_of as output_named, unit_of as unit_named};
-ghost use Rattle.ariadne_show.specs.Asked.{AreInputsOf, AreOptionsOf, IsNumberIn};
+ghost use Rattle.ariadne_show.specs.Asked.{AreInputsOf, AreOptionsOf, IsCountIn, IsNumberIn};
 
 use crate::options::{Colors, FailOn, Input, Options, Output, Style};
 use ariadne_told::{Format, Reading, Severity, Unit};
@@ -26,12 +26,13 @@ pub fn options_of<'a>(matches: &ArgMatches<'a>) -> Options<'a>
             is_colored: false,
             is_ascii: is_on(matches, "ascii"),
             is_compact: is_on(matches, "compact"),
+            context_lines: context_of(matches),
         },
         colors: colors_of(value_of(matches, "color")),
         output: output_of(value_of(matches, "output"), is_on(matches, "short")),
         is_raw: is_on(matches, "raw"),
         floor: floor_of(value_of(matches, "severity")),
-        limit: limit_of(matches),
+        limit: number_of(matches, "max"),
         fail_on: fail_on_of(value_of(matches, "fail-on")),
         base: value_of(matches, "base"),
     }
@@ -53,11 +54,18 @@ fn is_on(matches: &ArgMatches<'_>, name: &str) -> bool
     value_of(matches, name) == Some("true")
 }
 
-/// How many diagnostics are drawn at most.
-fn limit_of(matches: &ArgMatches<'_>) -> Option<usize>
-    ensures { IsNumberIn (one_of (codes "max") (rows_of (found_of matches.now))) result }
+/// The number that an option has, if it was given.
+fn number_of(matches: &ArgMatches<'_>, name: &str) -> Option<usize>
+    ensures { IsNumberIn (one_of name.now (rows_of (found_of matches.now))) result }
 {
-    matches.get_one("max")
+    matches.get_one(name)
+}
+
+/// How many lines are shown above and below each line with a label.
+fn context_of(matches: &ArgMatches<'_>) -> usize
+    ensures { IsCountIn (one_of (codes "context") (rows_of (found_of matches.now))) result }
+{
+    number_of(matches, "context").unwrap_or(0)
 }
 
 /// The form in which lines are read.

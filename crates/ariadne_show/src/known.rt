@@ -4,8 +4,7 @@
 ghost use Rattle.std.specs.Prelude.{◌≡◌, true, IfOk, OnOk};
 ghost use Rattle.ariadne_told.specs.ArrowsTold.{arrow_told};
 ghost use Rattle.ariadne_show.specs.Fronts.{ends_in_head as is_head_last, is_head as is_head_line};
-ghost use Rattle.ariadne_show.specs.Known.{has_open_block as is_block_open, has_waiting_lines, is_note_of};
-ghost use Rattle.ariadne_show.specs.Known.{is_tally_behind, is_waited_for as is_waiting};
+ghost use Rattle.ariadne_show.specs.Known.{has_waiting_lines, is_note_of, is_waited_for as is_waiting};
 ghost use Rattle.ariadne_show.specs.Known.{AreMarksSettled, IsBlockTaken, IsMoreTaken, IsNamedQuoted, IsNew};
 ghost use Rattle.ariadne_show.specs.Known.{IsPlacedAt, IsPlacedIn, IsPlacedNow, IsRowTaken, IsTriedAsRow, IsWaiting};
 ghost use Rattle.ariadne_show.specs.Read.{HaveSources};
@@ -13,8 +12,8 @@ ghost use Rattle.ariadne_show.specs.Read.{HaveSources};
 use crate::finder::Finder;
 use crate::front::{PlacedHead, Role, WaitingLine, ends_in_head, role_of};
 use crate::options::Options;
-use ariadne_blocks::{Block, Drawn, Line, settle_marks};
-use ariadne_told::{Arrow, Diagnostic, Sent, arrow_of, is_tally};
+use ariadne_blocks::{Block, Drawn, Line, drop_repeats, settle_marks};
+use ariadne_told::{Arrow, Diagnostic, Sent, arrow_of};
 use std::alloc::{AllocError, Global};
 use std::rt::Files;
 
@@ -52,20 +51,6 @@ impl Known {
         })
     }
 
-    /// Whether a diagnostic is held, and no other line waits behind it.
-    fn has_open_block(&self) -> bool
-        ensures { result ≡ is_block_open self.now }
-    {
-        self.block.is_some() && !self.lines_wait()
-    }
-
-    /// Whether a line is a tool's own sum, behind a diagnostic that is held.
-    pub fn is_tally(&self, text: &str) -> bool
-        ensures { result ≡ is_tally_behind text.now self.now }
-    {
-        self.has_open_block() && is_tally(text)
-    }
-
     /// Whether a diagnostic is held, or lines wait.
     fn is_waited_for(&self) -> bool
         ensures { result ≡ is_waiting self.now }
@@ -74,7 +59,7 @@ impl Known {
     }
 
     /// Whether lines wait.
-    fn lines_wait(&self) -> bool
+    pub(crate) fn lines_wait(&self) -> bool
         ensures { result ≡ has_waiting_lines self.now }
     {
         !self.front.is_empty()
@@ -150,11 +135,12 @@ impl Known {
     }
 
     /// Gives the places of a diagnostic of which all lines were read the marks that were drawn at the same
-    /// spots.
+    /// spots, and drops those that repeat others.
     pub fn settle(&mut self, alloc: Global, told: &mut Diagnostic) -> Result<(), AllocError>
         ensures { OnOk result (AreMarksSettled told.old told.new self.old self.new) }
     {
-        settle_marks(alloc, &mut self.marked, told.places.as_mut_slice())
+        settle_marks(alloc, &mut self.marked, told.places.as_mut_slice())?;
+        drop_repeats(alloc, &mut told.places)
     }
 
     /// The diagnostic in front, which is then no longer held, if there is one that a note is about.

@@ -46,6 +46,8 @@ pub struct Style {
     pub is_ascii: bool,
     /// `--compact`: whether the pictures have fewer rows and columns.
     pub is_compact: bool,
+    /// `--context`: how many lines are shown above and below each line with a label.
+    pub context_lines: usize,
 }
 
 /// What the options ask for.

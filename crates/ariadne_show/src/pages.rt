@@ -42,6 +42,7 @@ What is written:
   --short          the same as --output short, where there is no --output
   --severity KIND  error, warning or note: what is less severe is counted, and not drawn
   --max N          draws N diagnostics at most, and tells how many more there are
+  --context N      shows N lines above and below those of a picture; none, where nothing is said
   --raw            lines go through as they are, with what a terminal obeys
   --color WHEN     auto, always or never; auto is as the environment asks, and else at a terminal
   --ascii          strokes are ASCII, and not box drawing characters

@@ -1,6 +1,7 @@
 //! A run: what it knows behind the lines that it has read, and what was shown of them.
 
 ghost use Rattle.std.specs.Prelude.{◌≡◌, IfOk};
+ghost use Rattle.ariadne_show.specs.Tallies.{ends_in_diagnostic as is_behind_one, is_tally_behind};
 ghost use Rattle.ariadne_show.specs.Known.{IsNew};
 ghost use Rattle.ariadne_show.specs.Read.{HaveSources};
 ghost use Rattle.ariadne_show.specs.Writing.{nothing_shown};
@@ -8,6 +9,7 @@ ghost use Rattle.ariadne_show.specs.Writing.{nothing_shown};
 use crate::known::Known;
 use crate::options::Options;
 use crate::writing::Shown;
+use ariadne_told::is_tally;
 use std::alloc::{AllocError, Global};
 use std::rt::Files;
 
@@ -31,5 +33,19 @@ impl Run {
             known: Known::new(files, alloc, options)?,
             shown: Shown::nothing(),
         })
+    }
+
+    /// Whether a line is a tool's own sum, behind a diagnostic or another sum.
+    pub fn is_tally(&self, text: &str) -> bool
+        ensures { result ≡ is_tally_behind text.now self.now.known self.now.shown }
+    {
+        self.ends_in_diagnostic() && is_tally(text)
+    }
+
+    /// Whether the last line that was read is of a diagnostic, or of a sum behind one.
+    fn ends_in_diagnostic(&self) -> bool
+        ensures { result ≡ is_behind_one self.now.known self.now.shown }
+    {
+        !self.known.lines_wait() && (self.known.block.is_some() || self.shown.is_told_last)
     }
 }

@@ -8,6 +8,7 @@ use crate::fault::Fault;
 use crate::run::Run;
 use crate::streams::Streams;
 use crate::task::Task;
+use ariadne_blocks::drop_repeats;
 use ariadne_told::Diagnostic;
 use std::io::Write;
 use std::rt::Files;
@@ -47,7 +48,7 @@ impl<R: Files> Task<'_, R> {
         Ok(())
     }
 
-    /// Writes a diagnostic that is whole over its files, and counts it.
+    /// Writes a diagnostic that is whole over its files, without places that repeat others, and counts it.
     fn show_whole<W: Write, F: Write>(
         &self,
         run: &mut Run,
@@ -60,6 +61,7 @@ impl<R: Files> Task<'_, R> {
         ensures sources { OnOk result (HaveSources run.new.known.finder.shelf) }
     {
         run.known.finder.open(self.files, &mut told)?;
+        drop_repeats(self.alloc, &mut told.places)?;
         self.show_one(run, &told, streams)
     }
 }

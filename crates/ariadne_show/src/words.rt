@@ -5,7 +5,8 @@ ghost use Rattle.clap.specs.Words.{app_of, rule_of, with_rule};
 ghost use Rattle.ariadne_show.specs.Asked.{IsAskedBy, IsRefusedFor};
 ghost use Rattle.ariadne_show.specs.Faults.{TellsWords};
 ghost use Rattle.ariadne_show.specs.Words.{choice_rule, choices, command as command_app};
-ghost use Rattle.ariadne_show.specs.Words.{inputs_rule, option_rule, switch_rule, switches};
+ghost use Rattle.ariadne_show.specs.Words.{inputs_rule, number_rule, option_rule, switch_rule};
+ghost use Rattle.ariadne_show.specs.Words.{switches};
 ghost use Rattle.ariadne_show.specs.Words.{texts_in, ForList, ForNames, IsParsedBy};
 
 use crate::entries::{inputs_of, options_of};
@@ -89,7 +90,8 @@ fn command<'a>(alloc: Global) -> Result<Command<'a>, AllocError>
     let command = with_choices(alloc, command)?;
     let command = with_switches(alloc, command)?;
     command
-        .arg(option(alloc, "max", "N").value_parser(value_parser!(usize)))?
+        .arg(number(alloc, "context"))?
+        .arg(number(alloc, "max"))?
         .arg(option(alloc, "base", "DIR").value_parser(ValueParser::NonEmptyString))?
         .arg(inputs(alloc))
 }
@@ -125,6 +127,13 @@ fn choice<'a>(alloc: Global, name: &'a str, value: &'a str, names: &'a [&'a str]
         rule_of result ≡ choice_rule name.entry.now list) }
 {
     option(alloc, name, value).value_parser(names)
+}
+
+/// An option whose value is a number.
+fn number<'a>(alloc: Global, name: &'a str) -> Arg<'a>
+    ensures { rule_of result ≡ number_rule name.entry.now }
+{
+    option(alloc, name, "N").value_parser(value_parser!(usize))
 }
 
 /// An option that has a value.

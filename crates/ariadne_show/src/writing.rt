@@ -53,6 +53,8 @@ pub struct Shown {
     pub drawn: DrawnCount,
     /// What the output ends with.
     pub written: Written,
+    /// Whether a diagnostic was told last: no line has passed behind it.
+    pub is_told_last: bool,
 }
 
 impl Shown {
@@ -68,6 +70,7 @@ impl Shown {
             },
             drawn: DrawnCount { drawn: 0, more: 0 },
             written: Written::Lines,
+            is_told_last: false,
         }
     }
 }
@@ -85,6 +88,7 @@ pub fn show_one<W: Write, F: Write>(
         (out_of shown.old streams.old) (out_of shown.new streams.new)) }
 {
     shown.sum.count(told);
+    shown.is_told_last = true;
     if !shown.drawn.take(told, limits_of(options)) {
         return Ok(());
     }
@@ -242,6 +246,7 @@ fn send_line<W: Write, F: Write>(
     ensures { OnOk result (HasPassed options.now line.now
         (out_of shown.old streams.old) (out_of shown.new streams.new)) }
 {
+    shown.is_told_last = false;
     if is_document(options.output) {
         return send(&mut streams.beside, bytes);
     }

@@ -188,6 +188,7 @@ pub(crate) const CALLS: &[(&str, &[&str])] = &[
             "Block::take_row",
             "Snippet::take",
             "settle_marks",
+            "drop_repeats",
             // Which files it is about.
             "Finder::open",
             "Finder::settle",

@@ -1,9 +1,9 @@
 use Rattle.std.proofs.Common.{◌∙◌, ap, get_or}
-use Rattle.std.specs.Prelude.{option_map, Some}
+use Rattle.std.specs.Prelude.{option_map}
 use Rattle.ariadne_told.specs.Places.{seen}
 use Rattle.ariadne_told.specs.declared.diagnostic.Place.{Place}
 use Rattle.ariadne_blocks.specs.Files.{file_of}
-use Rattle.ariadne_blocks.specs.Marks.{range_of}
+use Rattle.ariadne_blocks.specs.Marks.{own_marks}
 use Rattle.ariadne_blocks.proofs.Said.{given_own}
 use Rattle.ariadne_blocks.proofs.rows.give_range.Goals as goal
 
@@ -13,7 +13,7 @@ returns-clause-given c = λ yes.
     let ps = c.args.places.now in
     let x : Place = get_or ps c.args.number c.index-places-number-2.result in
     given_own (option_map file_of c.args.file) c.args.mark.now c.args.number ps x
-    (record x { caret = c.caret_of-place.result; marks = Some c.range_of.result }) c.if-number-places.false
+    (record x { caret = c.caret_of-place.result; marks = c.own_marks-place.result }) c.if-number-places.false
     (ap (get_or ps c.args.number) c.index-places-number-2.is)
-    (ap (λ r. record (seen x) { caret = c.caret_of-place.result; marks = Some r }) c.range_of.ensures
-    ∙ ap (λ t. record (seen x) { caret = t; marks = Some (range_of c.args.mark.now) }) c.caret_of-place.ensures)
+    (ap (λ r. record (seen x) { caret = c.caret_of-place.result; marks = r }) c.own_marks-place.ensures
+    ∙ ap (λ t. record (seen x) { caret = t; marks = own_marks c.args.mark.now (seen x) }) c.caret_of-place.ensures)

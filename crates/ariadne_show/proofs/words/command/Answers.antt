@@ -13,11 +13,10 @@ returns c =
     c.args_override_self-command.ensures in
     let chosen = c.in_ok-command.ensures in
     let switched = c.in_ok-command-2.ensures in
-    let number = c.value_parser-2.ensures in
-    let max = typed _ _ _ _ c.option.ensures number.others (number.given.1 ∙ ap Some (number.given.2 ∙ c.value_parser.ensures)) in
-    let folder = c.value_parser-3.ensures in
-    let base = typed _ _ _ _ c.option-2.ensures folder.others (folder.given.1 ∙ ap Some folder.given.2) in
+    let folder = c.value_parser.ensures in
+    let base = typed _ _ _ _ c.option.ensures folder.others (folder.given.1 ∙ ap Some folder.given.2) in
     let before = switched ∙ ap (λ app. fold with_rule app switches) (chosen.2 ∙ ap (λ app. fold with_rule app (choices chosen.0)) bare) in
-    let one = with_one _ _ _ _ _ c.in_ok-arg.ensures max refl before in
-    let two = with_one _ _ _ _ _ c.in_ok-arg-2.ensures base refl one in
-    IfOk-weaker c.arg-3.result _ _ (λ made added. (chosen.0, chosen.1, with_one _ made _ _ _ added c.inputs.ensures refl two)) c.arg-3.ensures
+    let one = with_one _ _ _ _ _ c.in_ok-arg.ensures c.number.ensures refl before in
+    let two = with_one _ _ _ _ _ c.in_ok-arg-2.ensures c.number-2.ensures refl one in
+    let three = with_one _ _ _ _ _ c.in_ok-arg-3.ensures base refl two in
+    IfOk-weaker c.arg-4.result _ _ (λ made added. (chosen.0, chosen.1, with_one _ made _ _ _ added c.inputs.ensures refl three)) c.arg-4.ensures

@@ -5,7 +5,7 @@ use Rattle.std.proofs.lemmas.List.{length-map}
 use Rattle.std.proofs.lemmas.Result.{IfOk-weaker}
 use Rattle.ariadne_snippets.specs.Snippets.{IsUnread}
 use Rattle.ariadne_told.specs.Places.{seen, Seen}
-use Rattle.ariadne_blocks.specs.Blocks.{noted, view_of, IsNoted}
+use Rattle.ariadne_blocks.specs.Blocks.{noted, view_of}
 use Rattle.ariadne_blocks.specs.Blocks.IsNoted.{at_places}
 use Rattle.ariadne_blocks.specs.Telling.{telling}
 use Rattle.ariadne_blocks.proofs.Viewed.{first_line_is, first_path, same_view}
@@ -19,7 +19,7 @@ returns c =
     let first : option_copied c.first.result ≡ slice_get note.places.items 0 =
     c.first.ensures.value ∙ ap (λ ps. slice_get ps 0) c.deref.ensures.value in
     IfOk-weaker c.push_note.result _ _
-    (λ ok added. at_places (sym c.is_of_line.ensures ∙ c.if-is_of_line.false)
+    (λ ok added. at_places (sym c.is_beside.ensures ∙ c.if-is_beside.false)
     (subst (λ (line : ℕ). IsUnread line c.args.caret c.in_ok-self.field-0.snippet)
     (first_line_is note.places.items c.first.result first) c.in_ok-self.ensures.awaits)
     (same_view _ (noted (telling note) (view_of old))
