@@ -9,6 +9,7 @@ marked is in that line.
 """
 
 import re
+from collections import Counter
 from itertools import product
 from typing import NamedTuple
 
@@ -154,6 +155,12 @@ class PictureJudge:
         yield from self.header_faults()
         yield from self.mark_faults()
         yield from self.text_faults()
+        yield from self.repeat_faults()
+
+    def repeat_faults(self):
+        """What is said twice at one column."""
+        arrows = [arrow for arrow in self.picture.arrows if arrow.column is not None and arrow.text != "here"]
+        yield from (f"twice: {arrow.text!r}" for arrow, times in Counter(arrows).items() if times > 1)
 
     def header_faults(self):
         path, line, column = self.picture.place
@@ -171,9 +178,10 @@ class PictureJudge:
         return set(range(start, max(end + ((piece.end_column or 0) > len(line) + 1), start + 1)))
 
     def wanted_marks(self):
-        """By file and line, what has to be marked; and the pieces of several lines."""
+        """By file and line, what has to be marked; and the pieces of several lines. A note at all of the
+        diagnostic's own has no other label over them."""
         marks, spans = {}, []
-        for piece in (piece for part in self.parts for piece in part.pieces):
+        for part, piece in ((part, piece) for part in self.parts for piece in part.pieces):
             wanted = marks.setdefault((piece.path, piece.line), Marks.none())
             if piece.column is None:
                 wanted.is_any.append(piece)
@@ -182,7 +190,7 @@ class PictureJudge:
                 wanted.may.update(*map(self.columns, self.ranges.get(piece[:3], ())))
             elif piece.end_line == piece.line:
                 wanted.sure.update(self.columns(piece))
-            else:
+            elif part is self.told or piece[:5] != self.told.pieces[0][:5]:
                 spans.append(Span(piece.path, piece.line, piece.end_line))
         return marks, spans
 

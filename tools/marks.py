@@ -8,9 +8,9 @@ A text becomes a list of items, in the order of its lines:
     Line         a line that is no diagnostic's, and its role:
         pass     it has to stand in the output as it is
         scope    `F: In function ..`: it may stand there as it is
-        sum      `2 errors generated.`: likewise
+        sum      `2 errors generated.` behind what is no diagnostic's: likewise
         blank    an empty line that ends what a tool says of one thing: likewise
-        own      what a build tool writes for itself: it must not stand there
+        own      what a tool writes for itself, as its sums behind a diagnostic: it must not stand there
         again    a diagnostic that was told before: it must not be drawn
 
 Lines of files and columns count from 1, columns count characters, and the end of a piece is the column
@@ -25,6 +25,7 @@ from dataclasses import dataclass, field
 from pathlib import Path
 from typing import NamedTuple
 
+COUNT = re.compile(r"\d+ (?:warning|error)s?\b")
 SGR = re.compile(r"\x1b\[[0-9;]*[mK]")
 MARK = "\ufeff"
 
@@ -104,6 +105,11 @@ def columns_of(character):
     return 2 if unicodedata.east_asian_width(character) in "WF" else 1
 
 
+def columns_by_clang(character):
+    """How many columns clang gives a character: it takes no emoji for a wide one."""
+    return 1 if 0x1F000 <= ord(character) < 0x20000 else columns_of(character)
+
+
 def is_never_escaped(_):
     return False
 
@@ -124,11 +130,11 @@ def escaped(character):
     return f"<{code - 0xDC00:02X}>" if 0xDC80 <= code <= 0xDCFF else f"<U+{code:04X}>"
 
 
-def cells_of(line, is_escaped=is_never_escaped):
+def cells_of(line, is_escaped=is_never_escaped, widths=columns_of):
     """The characters of a line as a compiler quotes them: the text and the columns of each."""
     column = 0
     for character in line:
-        shown, width = character, columns_of(character)
+        shown, width = character, widths(character)
         if is_escaped(character):
             shown = escaped(character)
             width = len(shown)
@@ -167,11 +173,11 @@ class Quote:
     """A line of a file, and the row that shows it, if it does: in one of the ways of the tools. The row has
     no colours, and lacks those that the line has itself; the marks below it count these all the same."""
 
-    def __init__(self, line, row):
+    def __init__(self, line, row, widths=columns_of):
         for is_escaped in (is_never_escaped, is_escaped_by_clang, is_escaped_by_gcc):
             for mark in (MARK, ""):
                 text = line.removeprefix(mark)
-                cells = list(cells_of(text, is_escaped))
+                cells = list(cells_of(text, is_escaped, widths))
                 self.left_out = left_out_of(SGR.sub("", "".join(shown for shown, _ in cells)), row)
                 if self.left_out is not None:
                     self.cells = [("", 0)] * (len(line) - len(text)) + cells
@@ -179,9 +185,6 @@ class Quote:
 
     def __bool__(self):
         return self.left_out is not None
-
-    def is_ascii(self):
-        return all(shown.isascii() for shown, _ in self.cells)
 
     def character(self, column):
         """The number of the character that has a column of the row."""
@@ -224,8 +227,13 @@ class Reader:
         """The role of the next row, which is no head's."""
         for role, pattern in (("scope", self.SCOPE), ("sum", self.SUM)):
             if pattern and pattern.match(self.row()):
-                return role
+                return "own" if COUNT.match(self.row()) and self.is_behind_told() else role
         return "pass"
+
+    def is_behind_told(self):
+        """Whether the row in front of the next one is of a diagnostic, or a sum behind one."""
+        last = self.items[-1] if self.items else None
+        return (last.last if isinstance(last, Diagnostic) else last and last.role == "own" and last.first) == self.at
 
     def take_line(self, role):
         """Takes a row that is no diagnostic's. Fronts go with it, and notes behind it are by themselves."""
@@ -433,7 +441,7 @@ class Clang(Compiler):
     def quote(self, told):
         """The line of a place, if the next row quotes it, and marks stand below it."""
         marks = self.rows[self.at + 1] if self.at + 1 < len(self.rows) else ""
-        quote = Quote(self.files.line(told.path, told.line), self.row())
+        quote = Quote(self.files.line(told.path, told.line), self.row(), columns_by_clang)
         return quote if quote and MARKS.match(marks) else None
 
     def take_snippet(self, told):
@@ -476,6 +484,21 @@ class Shellcheck(Compiler):
         pass
 
 
+class RustcShort(Shellcheck):
+    """rustc's lines of `--error-format=short`, which quote nothing. Columns count characters."""
+
+    HEAD = re.compile(
+        r"(?P<path>[^\s:][^:]*):(?P<line>\d+):(?P<column>\d+): (?P<kind>error|warning)(?:\[(?P<code>\w+)\])?: (?P<words>.*)$"
+    )
+
+    def take_head(self):
+        match, name = self.match(self.HEAD)
+        if not name:
+            return False
+        told = self.begin(match["kind"], match["code"], match["words"], name, match["line"], match["column"])
+        return self.keep(told)
+
+
 class Make(Gcc):
     """gcc's text among make's, which tells the folders that it enters."""
 
@@ -515,7 +538,8 @@ class Javac(Reader):
 class Mypy(Reader):
     """mypy's text. Its columns count bytes, but those of syntax errors. What it says stands in the order of
     the lines of files, so that a note belongs to an error of its line alone. With --pretty a message goes on in
-    the next lines, the line is quoted, and what its marks mean is known where all characters are ASCII."""
+    the next lines, and the line is quoted, with marks that count bytes below it. These go no further than the line
+    has characters: what stands there is not known, but where the head says it."""
 
     HEAD = re.compile(
         r"(?P<path>[^:]+):(?P<line>\d+)(?::(?P<column>\d+)(?::(?P<end_line>\d+):(?P<end_column>\d+))?)?: "
@@ -533,7 +557,7 @@ class Mypy(Reader):
             column = int(match["column"])
             told.column = column if code == "syntax" else self.column(told, column)
             told.pieces = [self.piece(told, match)]
-        elif told.kind != "note":
+        if told.kind != "note":
             self.take_snippet(told)
         return self.keep(told)
 
@@ -555,13 +579,28 @@ class Mypy(Reader):
         told.details = [row.strip() for row in self.rows[self.at : self.at + ahead]]
         row, marks = self.rows[self.at + ahead : self.at + ahead + 2]
         self.at += ahead + 2
-        quote = Quote(self.files.line(told.path, told.line), row.removeprefix("    "))
-        if quote.is_ascii():
-            run = self.MARKS.match(marks)
-            start, end = (quote.character(run.start(1) - 4 + at) for at in (0, len(run[1])))
-            told.column = start + 1
-            is_whole = len(run[1]) > 1 and not run[2]
-            told.pieces = [Piece(told.path, told.line, start + 1, *((told.line, end + 1) if is_whole else ()))]
+        if told.column is None:
+            self.take_marks(told, row.removeprefix("    "), self.MARKS.match(marks))
+
+    def take_marks(self, told, row, run):
+        """Takes the marks below a quoted line, as far as they say which bytes they mean."""
+        line = self.files.line(told.path, told.line)
+        left_out = Quote(line, row).left_out
+        if left_out and not line.isascii():
+            return
+        start, last = (self.byte_at(line, run.start(1) - 4 + left_out + at) for at in (0, len(run[1]) - 1))
+        if start is not None:
+            told.column = self.column(told, start + 1)
+            is_whole = len(run[1]) > 1 and not run[2] and self.byte_at(line, run.end(1) - 4 + left_out) is not None
+            end = (told.line, self.column(told, last + 1) + 1) if is_whole else ()
+            told.pieces = [Piece(told.path, told.line, told.column, *end)]
+
+    @staticmethod
+    def byte_at(line, column):
+        """The byte that mypy means by a column of a row below a line, both from 0: it shows the first so many
+        characters. None where it may mean any behind them."""
+        byte = next((at for at in range(len(line)) if len(line[:at].expandtabs()) >= column), len(line))
+        return byte if line.isascii() or byte < len(line) else None
 
     def is_snippet(self, told, at):
         """Whether a row quotes the line of a place, and marks stand below it."""
@@ -648,6 +687,7 @@ class GccJson(Json):
             told.path, told.line = self.files.name(caret["file"]), caret["line"]
             told.column = self.column_of(caret)
         told.pieces = [self.piece(location) for location in item["locations"]]
+        told.pieces += [self.event(*it) for it in enumerate(item.get("path", ()), 1)]
         told.puts = [it["string"].strip() for it in item.get("fixits", ()) if it["string"].strip()]
         put_own_first(told)
         return told
@@ -657,6 +697,12 @@ class GccJson(Json):
         name, line = self.files.name(point["file"]), point["line"]
         mark = len(MARK.encode()) if self.files.line(name, line).startswith(MARK) else 0
         return self.character(name, line, mark + point["byte-column"] + behind)
+
+    def event(self, number, event):
+        """An event that leads to a diagnostic of the analyzer: where it is, and its number and what is done."""
+        at = event["location"]
+        label = f"({number}) {event['description']}"
+        return Piece(self.files.name(at["file"]), at["line"], self.column_of(at), label=label)
 
     def piece(self, location):
         """A location: its start and its finish, which is the last byte, or the caret alone."""
@@ -764,6 +810,7 @@ FORMS = {
     "clang": Clang,
     "cppcheck": Cppcheck,
     "shellcheck": Shellcheck,
+    "rustc short": RustcShort,
     "javac": Javac,
     "mypy": Mypy,
     "pylint": Pylint,

@@ -43,6 +43,7 @@ PY = ("corpus/py/*.py",)
 CPPCHECK = ("cppcheck", "--enable=all")
 CPPCHECK_FILES = ("corpus/c/09*.c", "corpus/c/11*.c", "corpus/c/19*.c", "corpus/c/20*.c", "corpus/cpp/[01][156]*.cpp")
 GONE = "cp {} {out}/gone.c; gcc -Wall -fsyntax-only {out}/gone.c; rm {out}/gone.c"
+EVENTS = ("gcc", "-fanalyzer", "-fdiagnostics-format=json", "-c", "-o", "{out}/x.o", "{}")
 DISPLAY, CHARS = ("--columns=display",), ("--columns=chars",)
 TEXTS = {
     "gcc_carets": Text("gcc", (*GCC, "{}"), C, DISPLAY),
@@ -72,12 +73,18 @@ TEXTS = {
     "mypy_columns": Text("mypy", (*MYPY, "--show-column-numbers", "{}"), PY),
     "mypy_end": Text("mypy", (*MYPY, "--show-error-end", "{}"), PY),
     "mypy_pretty": Text("mypy", (*MYPY, "--pretty", "{}"), PY),
+    "mypy_pretty_end": Text("mypy", (*MYPY, "--pretty", "--show-error-end", "{}"), PY),
     "cppcheck": Text("cppcheck", (*CPPCHECK, "{}"), CPPCHECK_FILES),
     "cppcheck_gcc": Text("cppcheck", (*CPPCHECK, "--quiet", "--template=gcc", "{}"), CPPCHECK_FILES),
     "pylint": Text("pylint", ("pylint", "{}"), PY),
     "pylint_color": Text("pylint", ("pylint", "--output-format=colorized", "{}"), PY, like="pylint"),
     "erlc": Text("erlc", ("erlc", "-o", "{out}", "{}"), ("corpus/erl/*.erl",), CHARS),
     "shellcheck": Text("shellcheck", ("shellcheck", "-f", "gcc", "{}"), ("corpus/sh/*.sh",), CHARS),
+    "gxx_repeats": Text("gcc", (*GXX, "{}"), ("corpus/repeats/*.cpp",), DISPLAY),
+    "gcc_events": Text("gcc json", EVENTS, ("corpus/events/*.c",)),
+    "rustc_short": Text("rustc short", (*RUST, "--error-format=short", "{}"), ("corpus/short/*.rs",)),
+    "javac_sums": Text("javac", ("javac", "-Xlint", "-d", "{out}", "{}"), ("corpus/sums/*.java",)),
+    "mypy_lines": Text("mypy", (*MYPY, "--show-error-end", "{}"), ("corpus/lines/*.py",)),
     "gone": Text("gcc", ("sh", "-c", GONE), ("corpus/c/1[178]*.c",)),
     "log": Text("none", ()),
     "make": Text("make", ("make", "--keep-going"), folder="corpus/make", words=DISPLAY),

@@ -16,7 +16,7 @@ TAIL = re.compile(r"-+'$")
 SOURCE = re.compile(r" *(\d+) \| ?")
 BELOW = re.compile(r" *[|:] ?")
 ARROW = re.compile(r"( *\| [ |]*)(`-+|--+) (.*)$")
-ASIDE = re.compile(r" *\| (Help|Note)\b(?: \d+)?: (.*)$")
+ASIDE = re.compile(r" *\| +(Help|Note)\b(?: \d+)?: (.*)$")
 MORE = re.compile(r" *\| {2,}(.*)$")
 TAB = 4
 

@@ -201,7 +201,7 @@ fn ranges_of_others(rt: HostRuntime) {
                 "  symbol:   variable undefined",
                 "note symbol:   variable undefined",
             ),
-            ("  location: class B", "note location: class B"),
+            ("  location: class B", "more location: class B"),
             ("B.java:5: error: incompatible types", "no"),
         ],
     );
@@ -240,6 +240,95 @@ fn ranges_of_others(rt: HostRuntime) {
             ("", "no"),
         ],
     );
+}
+
+#[test]
+fn details_of_javac(rt: HostRuntime) {
+    assert_learned(
+        &rt,
+        &["        List<Integer> li = List.of(\"a\", \"b\");"],
+        1,
+        None,
+        &[
+            ("        List<Integer> li = List.of(\"a\", \"b\");", ""),
+            ("                                  ^", " 1:34..35^"),
+            (
+                "    equality constraints: Integer",
+                "note   equality constraints: Integer",
+            ),
+            ("    lower bounds: String", "more   lower bounds: String"),
+            (
+                "  where E is a type-variable:",
+                "more where E is a type-variable:",
+            ),
+            (
+                "    E extends Object declared in method <E>of(E,E)",
+                "more   E extends Object declared in method <E>of(E,E)",
+            ),
+            ("J.java:14: error: for-each not applicable", "no"),
+        ],
+    );
+}
+
+/// mypy counts bytes, and a row is no longer than the line has characters: a head says then where it is.
+#[test]
+fn bytes_in_marks_of_mypy(rt: HostRuntime) {
+    let python = ["漢字: int = \"größe\"; zwei: str = 3 + \"漢字\" + maybe(4, k=2)"];
+    let quote = "    漢字: int = \"größe\"; zwei: str = 3 + \"漢字\" + maybe(4, k=2)";
+    let cases = [
+        (None, "                  ^~~~~~~~~", " 1:10..17^"),
+        (Some(10), "                  ^~~~~~~~~", " 1:10..17^"),
+        (
+            None,
+            "                                             ^~~~~~~~",
+            " 1:35..39^",
+        ),
+        (
+            Some(48),
+            "                                                           ^",
+            " 1:48..49^",
+        ),
+    ];
+    for (caret, marks, want) in cases {
+        assert_learned(&rt, &python, 1, caret, &[(quote, ""), (marks, want)]);
+    }
+}
+
+/// clang gives one of these wide characters two columns, and the other one.
+#[test]
+fn wide_characters_of_clang(rt: HostRuntime) {
+    let cpp = [
+        "auto e = \"😀\" + \"😀\"; /* 😀 */ int q = qq;",
+        "auto e = \"漢😀\" + nope; /* 😀 */ int q = qq;",
+    ];
+    let cases = [
+        (1, 13, "         ~~~ ^ ~~~", " 1:9..12 1:13..14^ 1:15..18"),
+        (1, 36, "                                    ^", " 1:36..37^"),
+        (2, 16, "                 ^", " 2:16..17^"),
+        (
+            2,
+            38,
+            "                                       ^",
+            " 2:38..39^",
+        ),
+    ];
+    for (line, caret, marks, want) in cases {
+        let quote = cpp[line - 1];
+        assert_learned(&rt, &cpp, line, Some(caret), &[(quote, ""), (marks, want)]);
+    }
+}
+
+#[test]
+fn lines_that_a_first_row_shows_whole(rt: HostRuntime) {
+    let cases = [
+        ("", ""),
+        ("\u{feff}\tx\t漢", "\u{feff}\tx\t漢"),
+        ("| a", "7 | | a"),
+        (" \r", "7 |  \r"),
+    ];
+    for (line, row) in cases {
+        assert_learned(&rt, &["", "", "", "", "", "", line], 7, None, &[(row, "")]);
+    }
 }
 
 #[test]

@@ -326,3 +326,65 @@ fn notes_of_rustc_over_lines(rt: HostRuntime) {
         ],
     );
 }
+
+#[test]
+fn two_ranges_over_the_same_lines_of_rustc(rt: HostRuntime) {
+    assert_learned(
+        &rt,
+        &["    let f = |x: i32| {", "        x + 1", "    }(\"a\");"],
+        1,
+        Some(21),
+        &[
+            ("  |", ""),
+            ("1 |        let f = |x: i32| {", ""),
+            ("  |   ______________________^", " 1:21..22^"),
+            ("  |  |______________________|", ""),
+            ("2 | ||         x + 1", ""),
+            ("3 | ||     }(\"a\");", ""),
+            (
+                "  | ||_____^____- call expression requires function",
+                " 1:21..3:5^ 1:21..3:10call expression requires function",
+            ),
+            ("  |  |_____|", ""),
+            ("  |", ""),
+        ],
+    );
+}
+
+#[test]
+fn what_a_help_of_rustc_puts_in(rt: HostRuntime) {
+    let file = ["fn main() {", "    if x as usize < y {}", "}"];
+    assert_learned(
+        &rt,
+        &file,
+        2,
+        Some(18),
+        &[
+            ("  |", ""),
+            ("2 |     if x as usize < y {}", ""),
+            ("  |                   ^", " 2:18..19^"),
+            ("  |", ""),
+            (
+                "help: try comparing the cast value",
+                "help try comparing the cast value",
+            ),
+            ("  |", ""),
+            ("2 |     if (x as usize) < y {}", " put 2:7 ( put 2:17 )"),
+            ("  |        +          +", ""),
+            (
+                "help: consider importing this",
+                "help consider importing this",
+            ),
+            ("  |", ""),
+            (
+                "1 | use std::collections::HashMap;",
+                " line 1:0 use std::collections::HashMap;",
+            ),
+            ("  |", ""),
+            ("help: use another name", "help use another name"),
+            ("  |", ""),
+            ("1 | fn start() {", " become 1:0 fn start() {"),
+            ("  |    ~~~~~", ""),
+        ],
+    );
+}

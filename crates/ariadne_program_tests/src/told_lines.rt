@@ -21,6 +21,12 @@ const LINES: &[(&str, &str)] = &[
         "a.cc 1:21 Note () () candidate expects 1 argument, 2 provided",
     ),
     (
+        "p.py:20: note:     def area(self) -> float",
+        "p.py 20 Note () ()     def area(self) -> float",
+    ),
+    ("p.py:20: error:   m", "p.py 20 Error () () m"),
+    ("p.py:20: note:   ", ""),
+    (
         "a.c:3:9:{3:5-3:8}{3:9-3:12}: error: m",
         "a.c 3:9 before 3:12 Error () () m",
     ),
@@ -158,6 +164,13 @@ const LINES: &[(&str, &str)] = &[
         "a.py 1:9 Warning (invalid-syntax) () m",
     ),
     ("Makefile:3: two words: m", ""),
+    // rustc --error-format=short: its columns count characters
+    (
+        "a.rs:2:5: error[E0308]: mismatched types",
+        "a.rs 2:5 in characters Error () (E0308) mismatched types",
+    ),
+    ("a.rs:2:5: error: m", "a.rs 2:5 in characters Error () () m"),
+    ("a.rs.c:2:5: error: m", "a.rs.c 2:5 Error () () m"),
     // erlc
     (
         "a.erl:3:16: variable 'Z' is unbound",
@@ -185,6 +198,9 @@ fn place_text(alloc: Global, place: &Place) -> Result<String, AllocError> {
     match place.end {
         End::Before(end) => format!(in alloc; "{file} {start} before {}", spot_text(alloc, end)?),
         End::Behind(end) => format!(in alloc; "{file} {start} behind {}", spot_text(alloc, end)?),
+        End::OfWord if place.unit == Unit::Char => format!(in alloc;
+            "{file} {start} in characters"
+        ),
         End::OfWord => format!(in alloc; "{file} {start}"),
     }
 }

@@ -1,0 +1,2 @@
+auto a = "😀" + "😀"; /* 😀 */ int b = missing;
+	auto c = "漢😀" + nowhere; /* 😀 */ int d = missing;

@@ -1,0 +1,9 @@
+import java.util.List;
+
+class Bounds {
+    List<Integer> list = List.of("a", "b");
+
+    void add(List raw) {
+        raw.add("x");
+    }
+}

@@ -1,0 +1,11 @@
+import java.util.List;
+
+class Sums {
+    int wrong = "x";
+
+    List plain() {
+        return null;
+    }
+
+    int late = "größe";
+}
