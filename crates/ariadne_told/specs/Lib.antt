@@ -1,9 +1,11 @@
 pub mod Arrows
 pub mod ArrowsTold
+pub mod Fixes
 pub mod Fronts
 pub mod FrontsTold
 pub mod Heads
 pub mod Kinds
+pub mod Noted
 pub mod Pieces
 pub mod Places
 pub mod Sent

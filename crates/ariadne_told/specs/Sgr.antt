@@ -1,10 +1,13 @@
 -- A line without the sequences that colour it: the escape, `[`, digits, `;` and `:`, and `m`; or `K` at the
--- end, as gcc writes it, which clears the rest of a row. The escape is 27, `m` 109 and `K` 75.
-use Rattle.std.specs.Prelude.{ℕ, ◌==◌, Bool, ◌||◌, List, [], ◌∷◌, ◌++◌, drop, Option, option_and_then}
+-- end, as gcc writes it, which clears the rest of a row. What sets terminals back goes with them: the shift in
+-- behind an `m`, and the escape with `(B`; so do the begin and the end of a link. The bell is 7, the shift in
+-- 15, the escape 27, `K` 75 and `m` 109.
+use Rattle.std.specs.Prelude.{ℕ, ◌==◌, Bool, ◌||◌, List, [], ◌∷◌, ◌++◌, codes, drop, Option, option_and_then}
+use Rattle.std.specs.Prelude.{option_map}
 use Rattle.std.specs.Char.{is_ascii_digit}
 use Rattle.std.specs.List.{flat_map, prefix_len, slice_split}
 use Rattle.std.specs.Option.{option_or, unwrap_or}
-use Rattle.ariadne_told.specs.Pieces.{behind}
+use Rattle.ariadne_told.specs.Pieces.{behind, behind_text, split_once}
 
 -- a character may stand between the bracket and the end of a sequence
 abbrev pub is_parameter : ℕ → Bool
@@ -13,13 +16,30 @@ is_parameter c = is_ascii_digit c || c == 58 || c == 59
 abbrev pub past_parameters : List ℕ → List ℕ
 past_parameters text = drop (prefix_len is_parameter text) text
 
+-- without the shift in that stands in front, by which terminals like screen are set back
+unfoldable pub past_shift : List ℕ → List ℕ
+past_shift text = unwrap_or (behind 15 text) text
+
 -- what stands behind the end of a sequence
 unfoldable pub behind_end : List ℕ → Option (List ℕ)
-behind_end text = option_or (behind 109 text) (behind 75 text)
+behind_end text = option_or (option_map past_shift (behind 109 text)) (behind 75 text)
+
+-- what stands behind a sequence that colours
+unfoldable pub behind_color : List ℕ → Option (List ℕ)
+behind_color text = option_and_then (λ rest. behind_end (past_parameters rest)) (behind 91 text)
+
+-- what stands behind where a link begins or ends: `]8;`, what it leads to, and a bell
+unfoldable pub behind_link : List ℕ → Option (List ℕ)
+behind_link text =
+    option_and_then (λ rest. option_map (λ parts. parts.1) (split_once 7 rest)) (behind_text (codes "]8;") text)
+
+-- what stands behind a sequence that doesn't colour: `(B` sets terminals like xterm back
+unfoldable pub behind_other : List ℕ → Option (List ℕ)
+behind_other text = option_or (behind_link text) (behind_text (codes "(B") text)
 
 -- what stands behind a sequence, if one stands behind an escape
 unfoldable pub behind_sequence : List ℕ → Option (List ℕ)
-behind_sequence text = option_and_then (λ rest. behind_end (past_parameters rest)) (behind 91 text)
+behind_sequence text = option_or (behind_color text) (behind_other text)
 
 -- a piece behind an escape, without the sequence; where none stands there, with the escape
 abbrev pub without_sequence : List ℕ → List ℕ

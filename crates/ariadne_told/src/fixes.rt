@@ -1,17 +1,93 @@
-//! What helps say that put something into a file.
+//! What helps say that change a file.
 
+ghost use Rattle.std.specs.Prelude.{◌≡◌, string_bytes, IfOk};
+ghost use Rattle.ariadne_told.specs.Fixes.{change_words, fix_words, line_words, place_words, put_words};
+ghost use Rattle.ariadne_told.specs.Fixes.{there_words};
+
+use crate::diagnostic::Spot;
 use std::alloc::{AllocError, Global};
 
-/// What a help says that puts a text in at a line and a column; where it is empty, what is there is
+/// What stands at a place of a file before it is changed.
+#[derive(Clone, Copy)]
+pub(crate) enum Covered<'a> {
+    /// Nothing, or what the tool doesn't name.
+    Unnamed,
+    /// This, in one line.
+    Text(&'a str),
+    /// What goes on up to here, in a later line.
+    UpTo(Spot),
+}
+
+/// What a help says that puts a text in at a place, for what stands there; where the text is empty, that is
 /// removed.
-pub(crate) fn fix_text(
+pub(crate) fn change_text(
     alloc: Global,
-    line: usize,
-    column: usize,
+    at: Spot,
+    covered: &Covered<'_>,
     put_in: &str,
-) -> Result<String, AllocError> {
+) -> Result<String, AllocError>
+    ensures { IfOk result (λ text. string_bytes text ≡ change_words at covered.now put_in.now) }
+{
     if put_in.is_empty() {
-        return format!(in alloc; "remove what stands at {line}:{column}");
+        let there = there_text(alloc, at, covered)?;
+        return format!(in alloc; "remove {there}");
     }
-    format!(in alloc; "put `{put_in}` at {line}:{column}")
+    put_text(alloc, at, covered, put_in)
+}
+
+/// What a help says that puts a text in at a place, for what stands there.
+fn put_text(
+    alloc: Global,
+    at: Spot,
+    covered: &Covered<'_>,
+    put_in: &str,
+) -> Result<String, AllocError>
+    ensures { IfOk result (λ text. string_bytes text ≡ put_words at covered.now put_in.now) }
+{
+    match covered {
+        Covered::Unnamed => fix_text(alloc, at, put_in),
+        Covered::Text(_) | Covered::UpTo(_) => {
+            let there = there_text(alloc, at, covered)?;
+            format!(in alloc; "put `{put_in}` in place of {there}")
+        }
+    }
+}
+
+/// What a help says that puts a text in at a place.
+pub(crate) fn fix_text(alloc: Global, at: Spot, put_in: &str) -> Result<String, AllocError>
+    ensures { IfOk result (λ text. string_bytes text ≡ fix_words at put_in.now) }
+{
+    let place = place_text(alloc, at)?;
+    format!(in alloc; "put `{put_in}` at {place}")
+}
+
+/// What a help says that puts lines in.
+pub(crate) fn line_text(alloc: Global, line: usize, put_in: &str) -> Result<String, AllocError>
+    ensures { IfOk result (λ text. string_bytes text ≡ line_words line put_in.now) }
+{
+    format!(in alloc; "put the line `{put_in}` in front of line {line}")
+}
+
+/// What stands at a place, and where that is.
+fn there_text(alloc: Global, at: Spot, covered: &Covered<'_>) -> Result<String, AllocError>
+    ensures { IfOk result (λ text. string_bytes text ≡ there_words at covered.now) }
+{
+    let place = place_text(alloc, at)?;
+    match covered {
+        Covered::Unnamed => format!(in alloc; "what stands at {place}"),
+        Covered::Text(text) => format!(in alloc; "`{text}` at {place}"),
+        Covered::UpTo(end) => {
+            let end = place_text(alloc, *end)?;
+            format!(in alloc; "what stands from {place} to {end}")
+        }
+    }
+}
+
+/// A line and a column, which is the first where it has none.
+fn place_text(alloc: Global, at: Spot) -> Result<String, AllocError>
+    ensures { IfOk result (λ text. string_bytes text ≡ place_words at) }
+{
+    let line = at.line;
+    let column = at.column.unwrap_or(1);
+    format!(in alloc; "{line}:{column}")
 }

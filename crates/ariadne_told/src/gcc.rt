@@ -6,7 +6,7 @@ ghost use Rattle.serde_json.specs.View.{items_view, view};
 ghost use Rattle.ariadne_told.specs.Told.{is_gcc, is_gcc_list, tells_gcc};
 
 use crate::diagnostic::{Diagnostic, End, Look, Place, Severity, Spot};
-use crate::fixes::fix_text;
+use crate::fixes::{Covered, change_text, line_text};
 use crate::heads::place;
 use crate::json::{copied_text, items, number, text};
 use ariadne_columns::Unit;
@@ -99,12 +99,23 @@ fn told_by_item(alloc: Global, value: &Value) -> Result<Diagnostic, AllocError> 
     let mut told = Diagnostic::new(alloc, severity.unwrap_or(Severity::Error), message)?;
     told.code = copied_text(alloc, value, "option")?;
     for (number, location) in items(value, "locations").iter().enumerate() {
-        let said = text(location, "label").unwrap_or("");
-        push_place(alloc, &mut told, location, said, number == 0)?;
+        if number == 0 || says_something(location) {
+            let said = text(location, "label").unwrap_or("");
+            push_place(alloc, &mut told, location, said, number == 0)?;
+        }
     }
     push_events(alloc, &mut told, value)?;
     push_fixes(alloc, &mut told, value)?;
     Ok(told)
+}
+
+/// Whether a location says something: it has a label, or a column. gcc gives the end of a file none.
+fn says_something(location: &Value) -> bool {
+    text(location, "label").is_some()
+        || location
+            .get("caret")
+            .and_then(spot)
+            .is_some_and(|at| at.column.is_some())
 }
 
 /// Adds the places of the events that lead to a diagnostic of the analyzer, in their order.
@@ -239,9 +250,17 @@ fn push_fixes(alloc: Global, told: &mut Diagnostic, value: &Value) -> Result<(),
     for fix in items(value, "fixits") {
         let at = fix.get("start").and_then(spot);
         if let (Some(at), Some(put_in)) = (at, text(fix, "string")) {
-            let column = at.column.unwrap_or(1);
-            told.helps.push(fix_text(alloc, at.line, column, put_in)?)?;
+            told.helps.push(put_text(alloc, fix, at, put_in)?)?;
         }
     }
     Ok(())
+}
+
+/// What a help says that puts a text in: a line, where the text ends its line and takes the place of nothing.
+fn put_text(alloc: Global, fix: &Value, at: Spot, put_in: &str) -> Result<String, AllocError> {
+    let is_line = at.column == Some(1) && fix.get("next").and_then(spot) == Some(at);
+    match put_in.strip_suffix('\n') {
+        Some(line) if is_line => line_text(alloc, at.line, line),
+        _ => change_text(alloc, at, &Covered::Unnamed, put_in),
+    }
 }

@@ -103,7 +103,7 @@ fn is_own(own: Option<(Spot, Spot)>, start: Spot, end: Spot) -> bool
 }
 
 /// Whether two spots are the same.
-fn is_same(a: Spot, b: Spot) -> bool
+pub(crate) fn is_same(a: Spot, b: Spot) -> bool
     ensures { result ≡ is_of_same_spot a b }
 {
     a.line == b.line && a.column.unwrap_or(0) == b.column.unwrap_or(0)

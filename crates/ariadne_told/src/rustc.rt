@@ -5,8 +5,10 @@ ghost use Rattle.serde_json.specs.View.{view};
 ghost use Rattle.ariadne_told.specs.Told.{is_rustc as is_of_rustc, rustc_in};
 
 use crate::diagnostic::{Diagnostic, End, Look, Place, QuotedLine, Severity, Spot};
-use crate::fixes::fix_text;
 use crate::json::{copied_text, has_list, is_true, items, number, text};
+use crate::noted::{named_place, push_row};
+use crate::spots::is_among;
+use crate::suggested::{end_of, quoted_text, start_of, suggestion};
 use ariadne_columns::Unit;
 use serde_json::Value;
 use std::alloc::{AllocError, Global};
@@ -157,41 +159,56 @@ fn push_quoted(
         quoted.push(QuotedLine {
             file: String::from_str(alloc, file)?,
             line: first.saturating_add(number),
-            text: String::from_str(alloc, first_line(text(line, "text").unwrap_or("")))?,
+            text: String::from_str(alloc, quoted_text(line))?,
         })?;
     }
     Ok(())
 }
 
-/// What stands in front of the first line feed of a text.
-fn first_line(text: &str) -> &str {
-    match text.split_once('\n') {
-        Some((line, _)) => line,
-        None => text,
-    }
-}
-
-/// Adds the place of the macro call that a span of the user's was made by.
+/// Adds the place of the outermost macro call that a span of the user's was made by, where it isn't a part of
+/// that.
 fn push_macro_call(alloc: Global, told: &mut Diagnostic, span: &Value) -> Result<(), AllocError> {
-    match macro_call(span) {
-        Some(call) if is_own(span) && is_own(call) => {
+    let own = own_span(span);
+    match macro_call(own) {
+        Some(call) if is_own(own) && is_own(call) && !is_part(own, call) => {
             push_place(alloc, told, call, "in this macro invocation", false)
         }
         _ => Ok(()),
     }
 }
 
-/// The span of the macro call that a span was made by. What the compiler itself writes in other words, as
-/// a `for` loop, calls none.
-fn macro_call(span: &Value) -> Option<&Value> {
-    let expansion = span.get("expansion")?;
-    if text(expansion, "macro_decl_name")?.starts_with("desugaring of ") {
-        return None;
-    }
-    expansion.get("span")
+/// Whether a span begins within another one.
+fn is_part(span: &Value, whole: &Value) -> bool {
+    text(span, "file_name") == text(whole, "file_name")
+        && is_among(start_of(span), start_of(whole), end_of(whole))
 }
 
-/// Adds a note or a help: as labels where it has places, and with what it puts in.
+/// The span of the outermost macro call that a span was made by. What the compiler itself writes in other
+/// words, as a `for` loop, calls none.
+fn macro_call(span: &Value) -> Option<&Value> {
+    let mut call = None;
+    let mut at = span;
+    for _ in 0..EXPANSIONS {
+        let Some(outer) = at.get("expansion").and_then(|it| it.get("span")) else {
+            break;
+        };
+        if is_by_macro(at) {
+            call = Some(outer);
+        }
+        at = outer;
+    }
+    call
+}
+
+/// Whether it is a macro that a span was made by.
+fn is_by_macro(span: &Value) -> bool {
+    span.get("expansion")
+        .and_then(|it| text(it, "macro_decl_name"))
+        .is_some_and(|name| !name.starts_with("desugaring of "))
+}
+
+/// Adds a note or a help: with what it puts in, or as labels where its places can be shown, and else as a
+/// text.
 fn push_child(alloc: Global, told: &mut Diagnostic, child: &Value) -> Result<(), AllocError> {
     let message = text(child, "message").unwrap_or("");
     let spans = items(child, "spans");
@@ -199,10 +216,11 @@ fn push_child(alloc: Global, told: &mut Diagnostic, child: &Value) -> Result<(),
         told.helps.push(format!(in alloc; "{message}: {put_in}")?)?;
         return Ok(());
     }
-    if !spans.is_empty() {
-        return push_noted_places(alloc, told, spans, message);
+    push_noted_places(alloc, told, spans, message)?;
+    let said = noted_text(alloc, spans, message)?;
+    if !spans.is_empty() && said.is_empty() {
+        return Ok(());
     }
-    let said = String::from_str(alloc, message)?;
     if text(child, "level") == Some("help") {
         told.helps.push(said)?;
     } else {
@@ -211,14 +229,15 @@ fn push_child(alloc: Global, told: &mut Diagnostic, child: &Value) -> Result<(),
     Ok(())
 }
 
-/// Adds the places of a note: the primary ones say the note, the others what they say themselves.
+/// Adds those places of a note that can be shown: the primary ones say the note, the others what they say
+/// themselves.
 fn push_noted_places(
     alloc: Global,
     told: &mut Diagnostic,
     spans: &[Value],
     message: &str,
 ) -> Result<(), AllocError> {
-    for span in spans {
+    for span in spans.iter().filter(|span| is_shown(own_span(span))) {
         let said = match text(span, "label") {
             Some(label) => label,
             None if is_true(span, "is_primary") => message,
@@ -226,37 +245,40 @@ fn push_noted_places(
         };
         push_place(alloc, told, span, said, false)?;
     }
-    let is_said = spans.iter().any(|span| is_true(span, "is_primary")
-        && text(span, "label").is_none());
-    if !is_said {
-        told.notes.push(String::from_str(alloc, message)?)?;
-    }
     Ok(())
 }
 
-/// What is put in at each of these spans, if any is.
-fn suggestion(alloc: Global, spans: &[Value]) -> Result<Option<String>, AllocError> {
-    let mut said = String::new(alloc);
-    for span in spans {
-        if let Some(put_in) = text(span, "suggested_replacement") {
-            if !said.is_empty() {
-                said.push_str(", ")?;
-            }
-            push_part(&mut said, alloc, span, put_in)?;
-        }
+/// What a note says beside its labels: its message, where none of them says it, and the places that can't
+/// be shown.
+fn noted_text(alloc: Global, spans: &[Value], message: &str) -> Result<String, AllocError> {
+    let said = if spans.iter().any(says_note) {
+        ""
+    } else {
+        message
+    };
+    let mut text = String::from_str(alloc, said)?;
+    for span in spans.iter().filter(|span| !is_shown(own_span(span))) {
+        push_named_place(alloc, &mut text, span)?;
     }
-    Ok(if said.is_empty() { None } else { Some(said) })
+    Ok(text)
 }
 
-/// Adds what is put in at a span; where that is nothing, what is there is removed.
-fn push_part(
-    said: &mut String,
-    alloc: Global,
-    span: &Value,
-    put_in: &str,
-) -> Result<(), AllocError> {
-    let line = number(span, "line_start").unwrap_or(0);
-    let column = number(span, "column_start").unwrap_or(0);
-    let part = fix_text(alloc, line, column, put_in)?;
-    said.push_str(part.as_str())
+/// Whether a span of a note is shown, and its label says the note.
+fn says_note(span: &Value) -> bool {
+    is_shown(own_span(span)) && is_true(span, "is_primary") && text(span, "label").is_none()
+}
+
+/// Whether a place can be shown: it lies in a file of the user's, or rustc quotes it.
+fn is_shown(span: &Value) -> bool {
+    is_own(span) || !items(span, "text").is_empty()
+}
+
+/// Has a text go on with where a span is, and what is said of it.
+fn push_named_place(alloc: Global, said: &mut String, span: &Value) -> Result<(), AllocError> {
+    let Some(start) = spot(span, "line_start", "column_start") else {
+        return Ok(());
+    };
+    let file = text(span, "file_name").unwrap_or("");
+    let label = text(span, "label").unwrap_or("");
+    push_row(said, named_place(alloc, file, start, label)?.as_str())
 }

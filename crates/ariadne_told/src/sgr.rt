@@ -4,11 +4,14 @@ ghost use Rattle.std.specs.Prelude.{◌≡◌, ◌++◌, ◌==◌, false, option
 ghost use Rattle.std.specs.List.{flat_map, list_any, prefix_len, slice_split};
 ghost use Rattle.ariadne_told.specs.Sgr as sgr;
 
-use crate::pieces::{behind, split_once};
+use crate::pieces::{behind, behind_text, split_once};
 use std::alloc::{AllocError, Global};
 
 /// The escape, with which sequences begin.
 const ESCAPE: char = '\x1b';
+
+/// The bell, with which links end.
+const BELL: char = '\x07';
 
 /// Whether a line has an escape. One that has none is the same without its sequences.
 pub fn has_escape(line: &str) -> bool
@@ -18,7 +21,8 @@ pub fn has_escape(line: &str) -> bool
     line.as_bytes().contains(&0x1b)
 }
 
-/// A line without its sequences: the escape, `[`, digits, `;` and `:`, and `m` or `K`. Other escapes stay.
+/// A line without its sequences: the escape, `[`, digits, `;` and `:`, and `m` or `K`; a shift in behind the
+/// `m`; the escape and `(B`; and where links begin and end. Other escapes stay.
 /// On `Err` there was no memory for it.
 #[tactic(auto, unfolding(crate::specs::Sgr::bare_line))]
 pub fn without_sgr(alloc: Global, line: &str) -> Result<String, AllocError>
@@ -61,10 +65,42 @@ fn push_piece(bare: &mut String, piece: &str) -> Result<(), AllocError>
     }
 }
 
-/// What stands behind a sequence, if one stands behind an escape.
+/// What stands behind a sequence, if one stands behind an escape: one that colours, one that begins or ends
+/// a link, or `(B`, by which terminals like xterm are set back.
 #[tactic(auto, unfolding(crate::specs::Sgr::behind_sequence))]
 fn behind_sequence(text: &str) -> Option<&str>
     ensures { option_map (λ rest. rest.now) result ≡ sgr.behind_sequence text.now }
+{
+    match behind_color(text) {
+        Some(rest) => Some(rest),
+        None => behind_other(text),
+    }
+}
+
+/// What stands behind a sequence that doesn't colour.
+#[tactic(auto, unfolding(crate::specs::Sgr::behind_other))]
+fn behind_other(text: &str) -> Option<&str>
+    ensures { option_map (λ rest. rest.now) result ≡ sgr.behind_other text.now }
+{
+    match behind_link(text) {
+        Some(rest) => Some(rest),
+        None => behind_text(text, "(B"),
+    }
+}
+
+/// What stands behind where a link begins or ends: `]8;`, what it leads to, and a bell.
+#[tactic(auto, unfolding(crate::specs::Sgr::behind_link))]
+fn behind_link(text: &str) -> Option<&str>
+    ensures { option_map (λ rest. rest.now) result ≡ sgr.behind_link text.now }
+{
+    let (_, rest) = split_once(behind_text(text, "]8;")?, BELL)?;
+    Some(rest)
+}
+
+/// What stands behind a sequence that colours.
+#[tactic(auto, unfolding(crate::specs::Sgr::behind_color))]
+fn behind_color(text: &str) -> Option<&str>
+    ensures { option_map (λ rest. rest.now) result ≡ sgr.behind_color text.now }
 {
     behind_end(past_parameters(behind(text, '[')?))
 }
@@ -75,8 +111,19 @@ fn behind_end(text: &str) -> Option<&str>
     ensures { option_map (λ rest. rest.now) result ≡ sgr.behind_end text.now }
 {
     match behind(text, 'm') {
-        Some(rest) => Some(rest),
+        Some(rest) => Some(past_shift(rest)),
         None => behind(text, 'K'),
+    }
+}
+
+/// What stands behind the shift in, by which terminals like screen are set back, if a text begins with it.
+#[tactic(auto, unfolding(crate::specs::Sgr::past_shift))]
+fn past_shift(text: &str) -> &str
+    ensures { result.now ≡ sgr.past_shift text.now }
+{
+    match behind(text, '\x0f') {
+        Some(rest) => rest,
+        None => text,
     }
 }
 

@@ -1,0 +1,46 @@
+-- What a help says that changes a file: what is put in, and what stands there before.
+use Rattle.std.specs.Prelude.{ℕ, ◌==◌, if◌then◌else◌, List, [], ◌++◌, length, codes, decimal}
+use Rattle.std.specs.Prelude.{Option, Some, None, unwrap_or}
+use Rattle.ariadne_told.specs.Told.{is_same_spot}
+use Rattle.ariadne_told.specs.declared.diagnostic.Spot.{Spot}
+use Rattle.ariadne_told.specs.declared.fixes.Covered.{Covered}
+use Rattle.ariadne_told.specs.declared.fixes.Covered.TheVariants.{Unnamed, Text, UpTo}
+
+-- a line and a column, which is the first where there is none
+abbrev pub place_words : Spot → List ℕ
+place_words at = decimal at.line ++ codes ":" ++ decimal (unwrap_or at.column 1)
+
+-- what stands at a place: by its text, or by where it ends, or by the place alone
+abbrev pub there_words : Spot → Covered → List ℕ
+there_words at Unnamed = codes "what stands at " ++ place_words at
+there_words at (Text text) = codes "`" ++ text.now ++ codes "` at " ++ place_words at
+there_words at (UpTo end) = codes "what stands from " ++ place_words at ++ codes " to " ++ place_words end
+
+-- a text is put in
+abbrev pub fix_words : Spot → List ℕ → List ℕ
+fix_words at text = codes "put `" ++ text ++ codes "` at " ++ place_words at
+
+-- it is put in place of what is named there
+abbrev pub in_place_words : List ℕ → List ℕ → List ℕ
+in_place_words text there = codes "put `" ++ text ++ codes "` in place of " ++ there
+
+abbrev pub put_words : Spot → Covered → List ℕ → List ℕ
+put_words at Unnamed text = fix_words at text
+put_words at (Text old) text = in_place_words text (there_words at (Text old))
+put_words at (UpTo end) text = in_place_words text (there_words at (UpTo end))
+
+-- where the text is empty, what stands there is removed
+abbrev pub change_words : Spot → Covered → List ℕ → List ℕ
+change_words at covered text =
+    if length text == 0 then codes "remove " ++ there_words at covered else put_words at covered text
+
+-- a text is put in as a line
+abbrev pub line_words : ℕ → List ℕ → List ℕ
+line_words line text =
+    codes "put the line `" ++ text ++ codes "` in front of line " ++ decimal line
+
+-- in front of the first part of a help stands nothing. One that begins where the first does is of another
+-- suggestion, and stands in a row of its own; others go on in their row
+abbrev pub joint_words : Option Spot → Spot → List ℕ
+joint_words None start = []
+joint_words (Some first) start = if is_same_spot first start then codes ",\nor " else codes ", "
