@@ -3,6 +3,7 @@ pub mod Begun
 pub mod Covering
 pub mod Endings
 pub mod Joining
+pub mod Leading
 pub mod Nexts
 pub mod Parts
 pub mod Puts

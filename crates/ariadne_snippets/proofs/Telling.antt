@@ -5,7 +5,7 @@ use Rattle.ariadne_snippets.specs.Snippets.{in_row, EndsBy, HasEnded, RowTells, 
 use Rattle.ariadne_snippets.specs.declared.quoted.Quoted.{Quoted}
 use Rattle.ariadne_snippets.specs.declared.snippet.Snippet.{Snippet}
 use Rattle.ariadne_snippets.specs.declared.taken.Taken.{Taken}
-use Rattle.ariadne_snippets.specs.declared.taken.Taken.TheVariants.{NotOfSnippet, Nothing, Ranges, Labels, Fixes, Note, Help, More, At, Elsewhere}
+use Rattle.ariadne_snippets.specs.declared.taken.Taken.TheVariants.{NotOfSnippet, Nothing, Ranges, Labels, Begun, Fixes, Note, Help, More, At, Elsewhere}
 use Rattle.ariadne_snippets.proofs.Endings.{in_by_end, in_further}
 
 -- what a row tells, a line tells that ends in it
@@ -16,6 +16,7 @@ row_tells quoted row line Nothing end tells = tt
 row_tells quoted row line (Ranges marks) end tells =
     (tells.0, in_further tells.0 row line tells.1 (in_by_end row line end), tells.2)
 row_tells quoted row line (Labels labels) end tells = (row, in_by_end row line end, tells)
+row_tells quoted row line (Begun mark start) end tells = absurd tells
 row_tells quoted row line (Fixes fixes) end tells = in_row row (in_by_end row line end) tells
 row_tells quoted row line (Note text) end tells = absurd tells
 row_tells quoted row line (Help text) end tells = absurd tells
@@ -29,6 +30,7 @@ ended snippet NotOfSnippet end = end
 ended snippet Nothing end = tt
 ended snippet (Ranges marks) end = tt
 ended snippet (Labels labels) end = tt
+ended snippet (Begun mark start) end = tt
 ended snippet (Fixes fixes) end = tt
 ended snippet (Note text) end = tt
 ended snippet (Help text) end = tt
@@ -42,6 +44,7 @@ not_ended snippet NotOfSnippet is = absurd (is refl)
 not_ended snippet Nothing is = tt
 not_ended snippet (Ranges marks) is = tt
 not_ended snippet (Labels labels) is = tt
+not_ended snippet (Begun mark start) is = tt
 not_ended snippet (Fixes fixes) is = tt
 not_ended snippet (Note text) is = tt
 not_ended snippet (Help text) is = tt

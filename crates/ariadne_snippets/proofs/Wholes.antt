@@ -1,5 +1,5 @@
 -- A text that is a line whole quotes it.
-use Rattle.std.proofs.Common.{◌≡◌, ◌∙◌, ap, refl, subst, sym, ℕ, ◌+◌, Bool, true, false, eqb, cond, List, [], ◌∷◌, ◌++◌, drop, length, arith, min, Option, Some, None, option_map, eq-eqb}
+use Rattle.std.proofs.Common.{◌≡◌, ◌∙◌, ap, refl, subst, sym, ℕ, ◌+◌, Bool, true, false, eqb, cond, List, [], ◌∷◌, ◌++◌, drop, take, length, arith, min, Option, Some, None, option_map, eq-eqb}
 use Rattle.std.specs.Prelude.{chars, is_some}
 use Rattle.std.proofs.lemmas.Bool.{eqb-true}
 use Rattle.ariadne_snippets.specs.Gutters.{gutter_in, GutterIn}
@@ -61,13 +61,13 @@ quotes_itself line =
     ap
     (λ start.
     is_some
-    (option_map (λ begins. lead_begins (lead_length line (drop start line)) start ++ begins)
+    (option_map (λ begins. lead_begins (take (lead_length line (drop start line)) line) start ++ begins)
     (begins_from start (drop (lead_length line (drop start line)) line) (drop start line))))
     (start_is line)
     ∙ ap
-    (λ n. is_some (option_map (λ begins. lead_begins n w ++ begins) (begins_from w (drop n line) (drop w line))))
+    (λ n. is_some (option_map (λ begins. lead_begins (take n line) w ++ begins) (begins_from w (drop n line) (drop w line))))
     (lead_same line)
-    ∙ ap (λ o. is_some (option_map (λ begins. lead_begins w w ++ begins) o)) rest.1
+    ∙ ap (λ o. is_some (option_map (λ begins. lead_begins (take w line) w ++ begins) o)) rest.1
 
 -- so there are places in a quote of it
 some_by : {X : Type 0} (f : X → List ℕ) (o : Option X) → is_some o ≡ is_some (option_map f o)

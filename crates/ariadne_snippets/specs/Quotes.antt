@@ -2,11 +2,13 @@
 -- tab may stand in it as blanks, and what can't be seen as a sign. White space at its ends may differ.
 -- Characters stand as their numbers: 9 is a tab, 13 a carriage return, 32 a blank, 43 `+`, 46 a dot, 60
 -- `<`, 62 `>`, 85 `U`, 92 `\`, 120 `x`, 123 and 125 braces, 65279 a byte order mark.
-use Rattle.std.specs.Prelude.{ℕ, ◌+◌, ◌-◌, ◌≡◌, ◌≤◌, ◌==◌, nat_le, min, if◌then◌else◌, Bool, true, false, ◌&&◌, ◌||◌}
+use Rattle.std.specs.Prelude.{ℕ, ◌+◌, ◌-◌, ◌≡◌, ◌≤◌, ◌==◌, nat_le, min, max, if◌then◌else◌, Bool, true, false, ◌&&◌, ◌||◌}
 use Rattle.std.specs.Prelude.{List, [], ◌∷◌, ◌++◌, drop, length, map, take, slice_get, slice_range}
 use Rattle.std.specs.Prelude.{Option, Some, None, option_map}
 use Rattle.std.specs.Char.{is_ascii_graphic, is_ascii_hexdigit}
 use Rattle.std.specs.List.{list_all, prefix_len, range_with_len, starts_with}
+use Rattle.ariadne_columns.specs.declared.unit.Unit.TheVariants.{Display}
+use Rattle.ariadne_snippets.specs.Rows.{column_past}
 
 -- ---- white space
 
@@ -103,9 +105,14 @@ lead_length line quote =
     then (if shows_mark quote then 0 else 1 + white_length (drop 1 line))
     else white_length line
 
--- where these begin, in front of a quote that begins at a place
-abbrev pub lead_begins : ℕ → ℕ → List ℕ
-lead_begins lead start = map (λ place. min place start) (range_with_len 0 lead)
+-- where one of these begins, in front of a quote that begins at a place: as many columns in front of it as their
+-- line has them in front of its rest, or further behind, where the quote has its tabs as they are
+abbrev pub lead_begin : List ℕ → ℕ → ℕ → ℕ
+lead_begin lead start place =
+    max (min place start) (start - (column_past Display 0 lead - column_past Display 0 (take place lead)))
+
+abbrev pub lead_begins : List ℕ → ℕ → List ℕ
+lead_begins lead start = map (lead_begin lead start) (range_with_len 0 (length lead))
 
 -- where a text goes on behind white space, from a place on
 abbrev pub ink_from : ℕ → List ℕ → ℕ
@@ -116,7 +123,7 @@ unfoldable pub begins_in : List ℕ → List ℕ → ℕ → Option (List ℕ)
 begins_in line quote strokes =
     let start = ink_from (min strokes (length quote)) quote in
     let lead = lead_length line (drop start quote) in
-    option_map (λ begins. lead_begins lead start ++ begins)
+    option_map (λ begins. lead_begins (take lead line) start ++ begins)
     (begins_from start (drop lead line) (drop start quote))
 
 -- what has been read of a quote behind a place is where the characters of a line begin, if it quotes it

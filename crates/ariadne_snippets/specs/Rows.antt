@@ -33,10 +33,14 @@ is_mark_row row = list_any is_mark row && list_all is_of_marks row
 abbrev pub marks_length : List ℕ → ℕ
 marks_length row = prefix_len (λ c. is_of_marks c || c == 95) row
 
--- the column behind a text that begins in one, up to the greatest number
+-- the column behind characters that begin in one, up to the greatest number
+abbrev pub column_past : Unit → ℕ → List ℕ → ℕ
+column_past unit column characters =
+    fold (λ at c. min (at + columns_of unit at c) (2 ^ 64 - 1)) column characters
+
+-- the column behind a text
 abbrev pub column_behind : Unit → ℕ → List ℕ → ℕ
-column_behind unit column text =
-    fold (λ at c. min (at + columns_of unit at c) (2 ^ 64 - 1)) column (chars text)
+column_behind unit column text = column_past unit column (chars text)
 
 -- the number of the first run that has a column
 abbrev pub run_with : List Run → ℕ → Option ℕ

@@ -1,5 +1,6 @@
 -- What a snippet quotes, and what its lines say: what its marks cover, below which of them labels stand,
 -- and what is to be changed.
+use Rattle.std.specs.Prelude.{Bool, false, ◌&&◌, ◌||◌, if◌then◌else◌, nat_lt, slice_get}
 use Rattle.std.specs.Prelude.{ℕ, ◌+◌, ◌-◌, ◌^◌, ◌≡◌, ◌≢◌, true, ◌<◌, ◌≤◌, min, List, ◌∷◌, ◌++◌, [], All, chars, length, map}
 use Rattle.std.specs.Prelude.{Option, Some, None, IsSomeAnd, is_some, option_and_then, option_map}
 use Rattle.std.specs.List.{range_with_len, AllZip}
@@ -11,7 +12,11 @@ use Rattle.ariadne_snippets.specs.Gutters.{gutter_in, GutterIn}
 use Rattle.ariadne_snippets.specs.Marks.{char_in, mark_runs, place_in, runs_from}
 use Rattle.ariadne_snippets.specs.Pieces.{GoesOn, IsIn}
 use Rattle.ariadne_snippets.specs.Rows.{column_behind, run_with}
+use Rattle.std.specs.Option.{option_or}
 use Rattle.ariadne_snippets.specs.Words.{added_in, words_in, noted, helped, advised, placed, placed_elsewhere, inserted, changed}
+use Rattle.ariadne_snippets.specs.Words.{LineWords}
+use Rattle.ariadne_snippets.specs.declared.snippet.Advice.{Advice}
+use Rattle.ariadne_snippets.specs.declared.snippet.Advice.TheVariants.{Puts, Changes, Replaces}
 use Rattle.ariadne_snippets.specs.Quotes.{Quotes}
 use Rattle.ariadne_snippets.specs.declared.put.Insertion.{Insertion}
 use Rattle.ariadne_snippets.specs.declared.quote.Quote.{Quote}
@@ -20,7 +25,7 @@ use Rattle.ariadne_snippets.specs.declared.run.Run.{Run}
 use Rattle.ariadne_snippets.specs.declared.rows.Part.{Part}
 use Rattle.ariadne_snippets.specs.declared.rows.Piece.{Piece}
 use Rattle.ariadne_snippets.specs.declared.snippet.Form.{Form}
-use Rattle.ariadne_snippets.specs.declared.snippet.Form.TheVariants.{Unread}
+use Rattle.ariadne_snippets.specs.declared.snippet.Form.TheVariants.{Unread, Framed}
 use Rattle.ariadne_snippets.specs.declared.snippet.Snippet.{Snippet}
 use Rattle.ariadne_snippets.specs.declared.snippet.Stage.TheVariants.{Ended, Rows}
 use Rattle.ariadne_snippets.specs.declared.taken.Fix.{Fix}
@@ -30,7 +35,7 @@ use Rattle.ariadne_snippets.specs.declared.taken.Label.{Label}
 use Rattle.ariadne_snippets.specs.declared.taken.Mark.{Mark}
 use Rattle.ariadne_snippets.specs.declared.taken.Point.{Point}
 use Rattle.ariadne_snippets.specs.declared.taken.Taken.{Taken}
-use Rattle.ariadne_snippets.specs.declared.taken.Taken.TheVariants.{NotOfSnippet, Nothing, Ranges, Labels, Fixes, Note, Help, More, At, Elsewhere}
+use Rattle.ariadne_snippets.specs.declared.taken.Taken.TheVariants.{NotOfSnippet, Nothing, Ranges, Labels, Begun, Fixes, Note, Help, More, At, Elsewhere}
 
 -- ---- quotes
 
@@ -142,11 +147,34 @@ pub record AreMarksIn (quoted : Quoted) (row : List ℕ) (marks : List Mark) : T
 
 -- ---- labels
 
--- a text of a row is the label of the first mark above its column
-pub record IsLabelIn (runs : List Run) (row : List ℕ) (label : Label) : Type 0 where
+-- a column is behind the first one of a run, and no other mark says that it is the run's own: a `^` does
+abbrev pub has_caret_before : ℕ → Option ℕ → Bool
+has_caret_before column None = false
+has_caret_before column (Some caret) = nat_lt caret column
+
+abbrev pub is_inside : Run → ℕ → Bool
+is_inside run column = nat_lt run.start column && (run.is_dashed || has_caret_before column run.caret)
+
+-- the point in a column of a mark, if a range of its own begins there
+abbrev pub inner_of : Quoted → ℕ → Option Run → Option Point
+inner_of quoted column None = None
+inner_of quoted column (Some run) =
+    if is_inside run column then Some (point_at quoted (min column (2 ^ 63 - 1))) else None
+
+abbrev pub inner_at : Quoted → ℕ → ℕ → Option Point
+inner_at quoted mark column = inner_of quoted column (slice_get quoted.runs.items mark)
+
+-- a text of a row is the label of the first mark above its column, or of what begins there
+pub record IsLabelIn (runs : List Run) (inner : ℕ → ℕ → Option Point) (row : List ℕ) (label : Label) : Type 0 where
   pub text : IsIn label.text.now row
   pub column : ℕ
   pub mark : run_with runs column ≡ Some label.mark
+  pub inner_point : label.inner ≡ inner label.mark column
+
+-- a mark below the line has this number
+pub record IsMarked (quoted : Quoted) (mark : ℕ) : Type 0 where
+  pub column : ℕ
+  pub is_there : run_with quoted.runs.items column ≡ Some mark
 
 -- ---- changes
 
@@ -187,6 +215,11 @@ pub data TellsHow (line : List ℕ) (number : ℕ) (text : List ℕ) : Type 0 wh
   behind_gutter : (gutter : GutterIn) → gutter_in line ≡ Some gutter → gutter.number ≡ Some number
       → gutter.text ≡ text → TellsHow line number text
 
+-- a line of output tells a line that is to be put in: as one that is inserted, or as one that becomes it
+pub data TellsLine (line : List ℕ) (number : ℕ) (text : List ℕ) : Type 0 where
+  as_inserted : words_in line ≡ Some (inserted number text) → TellsLine line number text
+  as_changed : words_in line ≡ Some (changed number text) → TellsLine line number text
+
 -- the texts of a row
 abbrev pub ArePiecesIn : List ℕ → List Piece → Type 0
 ArePiecesIn row pieces = All (λ piece. IsIn piece.text.now row) pieces
@@ -216,8 +249,11 @@ pub record IsPutInto (number : ℕ) (text : List ℕ) (fixes : List Fix) : Type 
 pub data AreFixesOf (quoted : Option Quoted) (line : List ℕ) (fixes : List Fix) : Type 0 where
   line_added : (number : ℕ) (text : List ℕ) → added_in line ≡ Some text
       → map change_told fixes ≡ change_of_line number PutLine text ∷ [] → AreFixesOf quoted line fixes
-  line_inserted : (number above : ℕ) (text : List ℕ) → words_in line ≡ Some (inserted number text)
+  line_inserted : (number above : ℕ) (text : List ℕ) → TellsLine line number text
       → map change_told fixes ≡ change_of_line (number - above) PutLine (trim_end text) ∷ []
+      → AreFixesOf quoted line fixes
+  line_changed_below : (number above : ℕ) (text : List ℕ) → words_in line ≡ Some (changed number text)
+      → map change_told fixes ≡ change_of_line (number - above) Become (trim text) ∷ []
       → AreFixesOf quoted line fixes
   put_in_line : (number : ℕ) (text : List ℕ) → TellsHow line number text → IsPutInto number text fixes
       → AreFixesOf quoted line fixes
@@ -247,7 +283,8 @@ RowTells quoted row NotOfSnippet = Unit {0}
 RowTells quoted row Nothing = Unit {0}
 RowTells quoted row (Ranges marks) =
     (part : List ℕ) × IsIn part row × AreMarksIn quoted part marks.items
-RowTells quoted row (Labels labels) = All (IsLabelIn quoted.runs.items row) labels.items
+RowTells quoted row (Labels labels) = All (IsLabelIn quoted.runs.items (inner_at quoted) row) labels.items
+RowTells quoted row (Begun mark start) = ⊥
 RowTells quoted row (Fixes fixes) = AreFixesIn quoted row fixes.items
 RowTells quoted row (Note text) = ⊥
 RowTells quoted row (Help text) = ⊥
@@ -262,7 +299,9 @@ TellsOf quoted line Nothing = Unit {0}
 TellsOf quoted line (Ranges marks) =
     (part : List ℕ) × IsIn part line × IsSomeAnd quoted (λ q. AreMarksIn q part marks.items)
 TellsOf quoted line (Labels labels) =
-    (row : List ℕ) × IsIn row line × IsSomeAnd quoted (λ q. All (IsLabelIn q.runs.items row) labels.items)
+    (row : List ℕ) × IsIn row line
+    × IsSomeAnd quoted (λ q. All (IsLabelIn q.runs.items (inner_at q) row) labels.items)
+TellsOf quoted line (Begun mark start) = IsSomeAnd quoted (λ q. IsMarked q mark × (start.line < q.number))
 TellsOf quoted line (Fixes fixes) = AreFixesOf quoted line fixes.items
 TellsOf quoted line (Note text) = IsNote line text.now
 TellsOf quoted line (Help text) = IsHelp line text.now
@@ -302,6 +341,7 @@ EndsBy snippet NotOfSnippet = HasEnded snippet
 EndsBy snippet Nothing = Unit {0}
 EndsBy snippet (Ranges marks) = Unit {0}
 EndsBy snippet (Labels labels) = Unit {0}
+EndsBy snippet (Begun mark start) = Unit {0}
 EndsBy snippet (Fixes fixes) = Unit {0}
 EndsBy snippet (Note text) = Unit {0}
 EndsBy snippet (Help text) = Unit {0}
@@ -313,11 +353,23 @@ EndsBy snippet (Elsewhere place) = Unit {0}
 abbrev pub number_named : List ℕ → Option ℕ
 number_named line = option_and_then (λ gutter. gutter.number) (gutter_in line)
 
--- the number of the line that a line of output would quote: that of its gutter, or the place's own
-abbrev pub number_by : ℕ → Form → Option ℕ → Option ℕ
-number_by line form (Some number) = Some number
-number_by line Unread None = Some line
-number_by line form None = None
+-- how many lines a help has put in so far
+abbrev pub above : Advice → ℕ
+above (Puts lines) = lines
+above (Changes lines) = lines
+above Replaces = 0
+
+-- the number of the line of the file that words say how to change: that of the words counts these lines
+abbrev pub number_changed : ℕ → Option LineWords → Option ℕ
+number_changed lines (Some (changed number text)) = Some (number - lines)
+number_changed lines _ = None
+
+-- the number of the line that a line of output would quote where no gutter names one: the place's own, or that
+-- of the line that is to be changed
+abbrev pub number_by : Snippet → List ℕ → Form → Option ℕ
+number_by snippet line Unread = Some snippet.line
+number_by snippet line (Framed bar) = number_changed (above snippet.advice) (words_in line)
+number_by snippet line _ = None
 
 abbrev pub number_quoted : Snippet → List ℕ → Option ℕ
-number_quoted snippet line = number_by snippet.line snippet.form (number_named line)
+number_quoted snippet line = option_or (number_named line) (number_by snippet line snippet.form)

@@ -50,10 +50,16 @@ abbrev pub changed_in : List ℕ → Option LineWords
 changed_in line =
     option_and_then (λ found. changed_by found.0 (past_blanks found.1)) (number_in (past_blanks line))
 
+-- a note that names no place, maybe behind the name of the part of gcc that says it
+abbrev pub note_in : List ℕ → Option (List ℕ)
+note_in line =
+    option_or (option_or (behind_text (codes "note: ") line) (behind_text (codes "cc1: note: ") line))
+    (behind_text (codes "cc1plus: note: ") line)
+
 -- the words of a line, if it has some
 abbrev pub words_in : List ℕ → Option LineWords
 words_in line =
-    option_or (option_map noted (behind_text (codes "note: ") line))
+    option_or (option_map noted (note_in line))
     (option_or (option_map advised (behind_text (codes "help: ") line))
     (if begins_with (codes "...") line then Some gap
     else option_or (changed_in line) (indented_in (past_blanks line))))

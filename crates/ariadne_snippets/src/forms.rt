@@ -1,7 +1,7 @@
 //! Lines of snippets that stand behind no bar.
 
 ghost use Rattle.std.specs.Prelude.{◌≡◌, option_map};
-ghost use Rattle.ariadne_snippets.specs.Words.{added_in, changed_in, indented_in, words_in, words_told};
+ghost use Rattle.ariadne_snippets.specs.Words.{added_in, changed_in, indented_in, note_in, words_in, words_told};
 
 use crate::pieces::{begins_with, behind_text, number, past_blanks};
 
@@ -32,7 +32,7 @@ pub(crate) enum Words<'a> {
 pub(crate) fn words_of(line: &str) -> Option<Words<'_>>
     ensures { option_map words_told result ≡ words_in line.now }
 {
-    if let Some(text) = behind_text(line, "note: ") {
+    if let Some(text) = note_of(line) {
         return Some(Words::Note(text));
     }
     if let Some(text) = behind_text(line, "help: ") {
@@ -45,6 +45,15 @@ pub(crate) fn words_of(line: &str) -> Option<Words<'_>>
         Some(words) => Some(words),
         None => indented_words(past_blanks(line)),
     }
+}
+
+/// What a note says that names no place.
+pub(crate) fn note_of(line: &str) -> Option<&str>
+    ensures { option_map (λ text. text.now) result ≡ note_in line.now }
+{
+    behind_text(line, "note: ")
+        .or(behind_text(line, "cc1: note: "))
+        .or(behind_text(line, "cc1plus: note: "))
 }
 
 /// The words of a line that is indented.

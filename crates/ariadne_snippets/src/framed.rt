@@ -6,8 +6,8 @@ ghost use Rattle.ariadne_snippets.specs.Gutters.{gutter_in, gutter_told, GutterI
 ghost use Rattle.ariadne_snippets.specs.Snippets.{change_told, put_into};
 ghost use Rattle.ariadne_snippets.specs.Snippets.{AreMarksIn, EndsBy, IsSameLine, QuotesNext};
 ghost use Rattle.ariadne_snippets.specs.Pieces.{GoesOn};
-ghost use Rattle.ariadne_snippets.specs.Snippets.{IsQuoteOf, RowTells, TellsHow, TellsOf};
-ghost use Rattle.ariadne_snippets.specs.Words.{inserted, words_in, words_told};
+ghost use Rattle.ariadne_snippets.specs.Snippets.{IsQuoteOf, RowTells, TellsHow, TellsLine, TellsOf};
+ghost use Rattle.ariadne_snippets.specs.Words.{changed, inserted, words_in, words_told};
 ghost use Rattle.ariadne_snippets.specs.declared.quoted.Quoted.{Quoted};
 ghost use Rattle.ariadne_snippets.specs.declared.snippet.Snippet.{Snippet};
 
@@ -15,12 +15,14 @@ use crate::forms::{Words, words_of};
 use crate::gutter::{Gutter, gutter_of};
 use crate::marks::begun_at;
 use crate::pieces::{behind_indent, past_blanks};
-use crate::put::{Insertion, insertions_in, is_new_line};
+use crate::put::{Insertion, Kept, insertions_in, is_new_line, kept_of};
 use crate::quote::{LAST_COLUMN, Quote};
 use crate::quoted::Quoted;
 use crate::rows::{has_mark, is_bars, is_blank, is_strokes, marks_and_text};
 use crate::snippet::{Advice, Snippet, Stage, one_fix};
-use crate::strokes::{Stroke, behind_stroke, is_corner, marks_joined, stroke_of, text_column};
+use crate::strokes::{
+    Stroke, behind_stroke, is_corner, marks_joined, opens, stroke_of, text_column,
+};
 use crate::taken::{Fix, FixKind, Mark, Point, Taken};
 use ariadne_columns::Unit;
 use std::alloc::{AllocError, Global};
@@ -50,7 +52,7 @@ impl Snippet {
         }
         match gutter_of(line) {
             Some(gutter) if gutter.bar == bar => self.take_framed_gutter(&gutter, source),
-            _ => self.take_words(bar, line),
+            _ => self.take_words(bar, line, source),
         }
     }
 
@@ -199,8 +201,7 @@ impl Snippet {
         }
     }
 
-    /// Takes a row of strokes below marks. Where ranges over lines begin at these, another begins at the mark
-    /// above its last bar.
+    /// Takes a row of strokes below marks: a range over lines begins or ends at the mark above its last bar.
     fn take_strokes<'a>(&mut self, row: &'a str) -> Result<Taken<'a>, AllocError>
         ensures quotes { (source : Option (List ℕ)) → IfOk result (λ taken.
             QuotesNext row.now source self.old.quoted self.new.quoted) }
@@ -210,13 +211,36 @@ impl Snippet {
         let Some(quoted) = &mut self.quoted else {
             return Ok(self.take_none());
         };
-        if self.stroke == Stroke::Begins
+        if opens(self.stroke, row)
             && let Some(start) = quoted.mark_above(row)
         {
             self.opened.push(start)?;
         }
         quoted.take_bars(self.alloc, row)?;
-        Ok(Taken::Nothing)
+        Ok(self.begun_by(row))
+    }
+
+    /// What a row of strokes says of a mark above it: the range that began last ends there, where no stroke leads
+    /// to the marks themselves.
+    fn begun_by<'a>(&mut self, row: &str) -> Taken<'a>
+        ensures quoted { self.new.quoted ≡ self.old.quoted }
+        ensures tells { (line : List ℕ) → TellsOf self.new.quoted line result }
+        ensures ends { EndsBy self.new result }
+    {
+        if self.stroke != Stroke::Absent || stroke_of(row) != Stroke::Ends {
+            return Taken::Nothing;
+        }
+        let Some(quoted) = &self.quoted else {
+            return Taken::Nothing;
+        };
+        let number = quoted.number;
+        let Some(mark) = quoted.run_above(row) else {
+            return Taken::Nothing;
+        };
+        match self.opened.pop() {
+            Some(start) if start.line < number => Taken::Begun(mark, start),
+            _ => Taken::Nothing,
+        }
     }
 
     /// Marks, where a stroke leads to some of them: ranges over lines begin or end there.
@@ -289,7 +313,12 @@ impl Snippet {
     }
 
     /// Takes a line of rustc without a gutter.
-    fn take_words<'a>(&mut self, bar: usize, line: &'a str) -> Result<Taken<'a>, AllocError>
+    fn take_words<'a>(
+        &mut self,
+        bar: usize,
+        line: &'a str,
+        source: Option<&[char]>,
+    ) -> Result<Taken<'a>, AllocError>
         ensures quotes { (source : Option (List ℕ)) → IfOk result (λ taken.
             QuotesNext line.now source self.old.quoted self.new.quoted) }
         ensures tells { IfOk result (λ taken. TellsOf self.new.quoted line.now taken) }
@@ -297,10 +326,7 @@ impl Snippet {
     {
         match words_of(line) {
             Some(Words::Inserted(number, text)) => self.take_inserted(number, text),
-            Some(Words::Changed(number, text)) => {
-                self.advice = Advice::Replaces;
-                self.take_whole(number, text)
-            }
+            Some(Words::Changed(number, text)) => self.take_changed(number, text, source),
             Some(Words::Gone) => {
                 self.advice = Advice::Replaces;
                 Ok(Taken::Nothing)
@@ -319,13 +345,49 @@ impl Snippet {
             → IfOk result (λ taken. TellsOf self.new.quoted line taken) }
         ensures ends { IfOk result (λ taken. EndsBy self.new taken) }
     {
-        let Advice::Puts(above) = self.advice else {
+        if self.advice == Advice::Replaces {
             return self.take_whole(number, text);
-        };
-        self.advice = Advice::Puts(above.saturating_add(1));
-        let line = number.saturating_sub(above);
+        }
+        self.put_line(number, text)
+    }
+
+    /// Takes a line as one that is put in front of what is there.
+    fn put_line<'a>(&mut self, number: usize, text: &'a str) -> Result<Taken<'a>, AllocError>
+        ensures quoted { self.new.quoted ≡ self.old.quoted }
+        ensures tells { (line : List ℕ) → TellsLine line number text.now
+            → IfOk result (λ taken. TellsOf self.new.quoted line taken) }
+        ensures ends { IfOk result (λ taken. EndsBy self.new taken) }
+    {
+        let line = number.saturating_sub(self.advice.above());
+        self.advice = self.advice.with_line();
         let fixes = one_fix(self.alloc, line, FixKind::PutLine, text.trim_end())?;
         Ok(Taken::Fixes(fixes))
+    }
+
+    /// Takes how a line is to be. Its number counts the lines that the help has put in above it. What the file
+    /// has there says nothing, and a text that keeps little of that is a line of its own in front of it.
+    fn take_changed<'a>(
+        &mut self,
+        number: usize,
+        text: &'a str,
+        source: Option<&[char]>,
+    ) -> Result<Taken<'a>, AllocError>
+        ensures quoted { self.new.quoted ≡ self.old.quoted }
+        ensures tells { (line : List ℕ) → words_in line ≡ Some (changed number text.now)
+            → IfOk result (λ taken. TellsOf self.new.quoted line taken) }
+        ensures ends { IfOk result (λ taken. EndsBy self.new taken) }
+    {
+        let above = self.advice.above();
+        self.advice = Advice::Changes(above);
+        match kept_of(self.alloc, text, source)? {
+            Kept::Same => Ok(Taken::Nothing),
+            Kept::Other => self.put_line(number, text),
+            Kept::Changed => {
+                let line = number.saturating_sub(above);
+                let fixes = one_fix(self.alloc, line, FixKind::Become, text.trim())?;
+                Ok(Taken::Fixes(fixes))
+            }
+        }
     }
 
     /// Takes a line that goes on with a note or a help, if it does.

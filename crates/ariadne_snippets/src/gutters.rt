@@ -166,6 +166,11 @@ fn gutter_row<'a>(alloc: Global, quoted: &mut Quoted, row: &'a str) -> Result<Ta
     if let Some(labels) = quoted.take_labels(alloc, row)? {
         return Ok(Taken::Labels(labels));
     }
+    if let Some(label) = quoted.event_label(row) {
+        let mut labels = Vec::new(alloc);
+        labels.push(label)?;
+        return Ok(Taken::Labels(labels));
+    }
     let pieces = pieces(alloc, quoted.unit, 0, row)?;
     Ok(Taken::Fixes(quoted.fixes_of(alloc, pieces.as_slice())?))
 }

@@ -40,7 +40,7 @@ impl Snippet {
         match plain_row(self.alloc, self.caret, quoted, line)? {
             Taken::NotOfSnippet => Ok(self.take_none()),
             Taken::Fixes(fixes) => {
-                self.stage = Stage::Ended;
+                self.stage = Stage::Placeless;
                 Ok(Taken::Fixes(fixes))
             }
             Taken::Note(text) => {

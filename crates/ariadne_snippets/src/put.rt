@@ -33,12 +33,16 @@ pub(crate) fn insertions_in<'a>(
         put.push(insertion_behind(lead, front, piece))?;
         return Ok(put);
     }
-    let Some(two) = two_pieces_of(text, source.as_str()) else {
+    if let Some(two) = two_pieces_of(text, source.as_str()) {
+        let first = insertion_behind(lead, two.front, two.first);
+        put.push(first)?;
+        put.push(insertion_behind(first.offset, two.middle, two.second))?;
+        return Ok(put);
+    }
+    let Some((front, attribute)) = attribute_of(text, source.as_str()) else {
         return Ok(put);
     };
-    let first = insertion_behind(lead, two.front, two.first);
-    put.push(first)?;
-    put.push(insertion_behind(first.offset, two.middle, two.second))?;
+    put.push(insertion_behind(lead, front, attribute))?;
     Ok(put)
 }
 
@@ -59,6 +63,40 @@ pub(crate) fn is_new_line(text: &str, line: &[char]) -> bool {
     let line = &line[white_length(line)..];
     text.starts_with('#') && !line.starts_with(&['#'])
         || text.starts_with("use ") && !line.starts_with(&['u', 's', 'e', ' '])
+}
+
+/// What a text is beside a line of a file, without the white space around both.
+#[derive(Clone, Copy, Debug, PartialEq, Eq)]
+pub(crate) enum Kept {
+    /// The same.
+    Same,
+    /// That line, changed: more than half of it is kept, or the file has none.
+    Changed,
+    /// A line of its own.
+    Other,
+}
+
+/// What a text is beside a line of a file.
+pub(crate) fn kept_of(
+    alloc: Global,
+    text: &str,
+    line: Option<&[char]>,
+) -> Result<Kept, AllocError> {
+    let Some(line) = line else {
+        return Ok(Kept::Changed);
+    };
+    let source = text_of(alloc, line)?;
+    let (text, source) = (text.trim(), source.as_str().trim());
+    if text == source {
+        return Ok(Kept::Same);
+    }
+    let (text, source) = (text.as_bytes(), source.as_bytes());
+    let kept = same_length(text, source).saturating_add(same_end(text, source));
+    if kept.saturating_mul(2) > source.len() {
+        Ok(Kept::Changed)
+    } else {
+        Ok(Kept::Other)
+    }
 }
 
 /// Characters as a text.
@@ -89,6 +127,19 @@ fn piece_behind<'a>(text: &'a str, source: &str, front: &str) -> Option<&'a str>
 {
     let rest = source.strip_prefix(front)?;
     text.strip_prefix(front)?.strip_suffix(rest)
+}
+
+/// The attribute that a text ends in, if what stands in front of it is what a source begins with: what the
+/// source goes on with then stands in the next line, which isn't shown.
+fn attribute_of<'a>(text: &'a str, source: &str) -> Option<(&'a str, &'a str)>
+    ensures { IfSome result (λ found. IsIn found.1.now text.now) }
+{
+    let (front, rest) = text.split_at_checked(text.rfind("#[")?)?;
+    let attribute = rest.trim_end();
+    if front.is_empty() || !source.starts_with(front) || !attribute.ends_with(']') {
+        return None;
+    }
+    Some((front, attribute))
 }
 
 /// Two pieces that a text has more than a source.

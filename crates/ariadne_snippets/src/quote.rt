@@ -21,6 +21,7 @@ ghost use Rattle.ariadne_snippets.specs.Quotes.{sign_length as length_of_sign};
 ghost use Rattle.ariadne_snippets.specs.Quotes.{tab_width as width_of_tab};
 ghost use Rattle.ariadne_snippets.specs.Quotes.{white_length as white_in};
 ghost use Rattle.ariadne_snippets.specs.Quotes.{IsBegun};
+ghost use Rattle.ariadne_snippets.specs.Rows.{column_past};
 
 use crate::cut::cut_begins;
 use ariadne_columns::Unit;
@@ -168,7 +169,7 @@ fn begins_of(
     let strokes = strokes.min(quote.len());
     let start = strokes + white_length(&quote[strokes..]);
     let lead = lead_length(line, &quote[start..]);
-    let mut begins = lead_begins(alloc, lead, start)?;
+    let mut begins = lead_begins(alloc, &line[..lead], start)?;
     if push_begins(&mut begins, rest_of(line, lead), quote, start)? {
         Ok(Some(begins))
     } else {
@@ -176,11 +177,20 @@ fn begins_of(
     }
 }
 
-/// Where white space in front of a line begins, in front of a quote that begins behind `start` characters.
-fn lead_begins(alloc: Global, lead: usize, start: usize) -> Result<Vec<usize>, AllocError>
-    ensures { IfOk result (λ begins. begins.items ≡ begins_of_lead lead start) }
+/// Where the white space in front of a line begins, in front of a quote that begins behind `start`
+/// characters: as many columns in front of it as in its line.
+fn lead_begins(alloc: Global, lead: &[char], start: usize) -> Result<Vec<usize>, AllocError>
+    ensures { IfOk result (λ begins. begins.items ≡ begins_of_lead lead.now start) }
 {
-    (0..lead).map(|place| place.min(start)).collect(alloc)
+    let width = column_behind(Unit::Display, lead);
+    let mut begins = Vec::new(alloc);
+    let mut at = 0usize;
+    for (place, c) in lead.iter().enumerate() {
+        let aligned = start.saturating_sub(width.saturating_sub(at));
+        begins.push(place.min(start).max(aligned))?;
+        at = at.saturating_add(columns_of(Unit::Display, at, *c));
+    }
+    Ok(begins)
 }
 
 /// Adds where the characters of a line, and its end, begin in a quote, from a place in it on. The result
@@ -399,10 +409,12 @@ fn place_at(quote: &[char], unit: Unit, column: usize) -> usize
     quote.len() + (column - at)
 }
 
-/// The column behind characters of a quote.
-fn column_behind(unit: Unit, quote: &[char]) -> usize {
+/// The column behind characters, which begin in the first.
+fn column_behind(unit: Unit, text: &[char]) -> usize
+    ensures { result ≡ column_past unit 0 text.now }
+{
     let mut at = 0usize;
-    for c in quote {
+    for c in text {
         at = at.saturating_add(columns_of(unit, at, *c));
     }
     at

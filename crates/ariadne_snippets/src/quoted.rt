@@ -3,12 +3,14 @@
 ghost use Rattle.std.specs.Prelude.{◌≡◌, ◌+◌, ◌^◌, ◌<◌, ◌≤◌, All, IfOk, IfSome, List, OnOk, map, ℕ};
 ghost use Rattle.ariadne_snippets.specs.Marks.{runs_from, IsNear};
 ghost use Rattle.ariadne_snippets.specs.Snippets.{caret_in, change_told, covered, extent_of};
-ghost use Rattle.ariadne_snippets.specs.Snippets.{insertion, line_length, point_at as point_in};
+ghost use Rattle.ariadne_snippets.specs.Snippets.{inner_at, insertion, is_inside, line_length};
+ghost use Rattle.ariadne_snippets.specs.Snippets.{point_at as point_in};
 ghost use Rattle.ariadne_snippets.specs.Snippets.{removal, AreMarksIn, ArePiecesIn, AreFixesIn};
-ghost use Rattle.ariadne_snippets.specs.Snippets.{Covers, IsLabelIn, IsPartOf, IsSameLine};
+ghost use Rattle.ariadne_snippets.specs.Snippets.{Covers, IsLabelIn, IsMarked, IsPartOf, IsSameLine};
 ghost use Rattle.ariadne_snippets.specs.Pieces.{IsIn};
 ghost use Rattle.ariadne_snippets.specs.Snippets.{point_behind as point_past};
 
+use crate::pieces::{begins_with, behind, number};
 use crate::quote::{LAST_COLUMN, Quote};
 use crate::rows::{
     Part, Piece, ROW_LENGTH, bar_column, bars_below, parts_of, pieces_at, row_bytes, run_at,
@@ -238,7 +240,7 @@ impl Quoted {
     ) -> Result<Option<Vec<Label<'a>>>, AllocError>
         ensures line { IsSameLine self.old self.new }
         ensures labels { IfOk result (λ labels. IfSome labels (λ labels.
-            All (IsLabelIn self.new.runs.items row.now) labels.items)) }
+            All (IsLabelIn self.new.runs.items (inner_at self.new) row.now) labels.items)) }
     {
         let Some(pieces) = pieces_at(alloc, self.unit, row, self.bars.as_slice())? else {
             return Ok(None);
@@ -254,18 +256,36 @@ impl Quoted {
 
     /// Where the mark begins above the last bar of a row, if that ends in one and a mark stands there.
     pub(crate) fn mark_above(&self, row: &str) -> Option<Point> {
-        let column = bar_column(self.unit, row)?;
-        let run = self.runs.get(run_at(self.runs.as_slice(), column)?)?;
+        let run = self.runs.get(self.run_above(row)?)?;
         Some(self.point_at(run.start.min(LAST_COLUMN)))
+    }
+
+    /// The number of the mark above the last bar of a row, if that ends in one and a mark stands there.
+    pub(crate) fn run_above(&self, row: &str) -> Option<usize>
+        ensures { IfSome result (λ mark. IsMarked self.now mark) }
+    {
+        run_at(self.runs.as_slice(), bar_column(self.unit, row)?)
     }
 
     /// The further label of a mark that has one already, if a row is that: its text begins where the mark
     /// does, and no bar stands above it.
     pub(crate) fn further_label<'a>(&self, row: &'a str) -> Option<Label<'a>>
-        ensures { IfSome result (λ label. IsLabelIn self.now.runs.items row.now label) }
+        ensures { IfSome result (λ label. IsLabelIn self.now.runs.items (inner_at self.now) row.now label) }
     {
         let piece = text_behind_bars(self.unit, row);
         if self.bars.contains(&piece.column) || !self.begins_run(piece.column) {
+            return None;
+        }
+        self.label_of(&piece)
+    }
+
+    /// The label of a mark that a row is which tells an event of gcc's analyzer: where a mark has more than
+    /// one, no bar stands above the others.
+    pub(crate) fn event_label<'a>(&self, row: &'a str) -> Option<Label<'a>>
+        ensures { IfSome result (λ label. IsLabelIn self.now.runs.items (inner_at self.now) row.now label) }
+    {
+        let piece = text_behind_bars(self.unit, row);
+        if !tells_event(piece.text) {
             return None;
         }
         self.label_of(&piece)
@@ -284,8 +304,8 @@ impl Quoted {
         piece: &Piece<'a>,
     ) -> Result<(), AllocError>
         ensures { OnOk result ((row : List ℕ) → IsIn piece.now.text.now row
-            → All (IsLabelIn self.now.runs.items row) labels.old.items
-            → All (IsLabelIn self.now.runs.items row) labels.new.items) }
+            → All (IsLabelIn self.now.runs.items (inner_at self.now) row) labels.old.items
+            → All (IsLabelIn self.now.runs.items (inner_at self.now) row) labels.new.items) }
     {
         if piece.text == "|" {
             bars.push(piece.column)?;
@@ -300,14 +320,25 @@ impl Quoted {
     /// The label that a text is, if a mark stands above it.
     fn label_of<'a>(&self, piece: &Piece<'a>) -> Option<Label<'a>>
         ensures { (row : List ℕ) → IsIn piece.now.text.now row
-            → IfSome result (λ label. IsLabelIn self.now.runs.items row label) }
+            → IfSome result (λ label. IsLabelIn self.now.runs.items (inner_at self.now) row label) }
     {
         match run_at(self.runs.as_slice(), piece.column) {
             Some(mark) => Some(Label {
                 mark,
+                inner: self.inner_at(mark, piece.column),
                 text: piece.text,
             }),
             None => None,
+        }
+    }
+
+    /// The point in a column, if a range begins there that a mark covers with others in front.
+    fn inner_at(&self, mark: usize, column: usize) -> Option<Point>
+        ensures { result ≡ inner_at self.now mark column }
+    {
+        match self.runs.get(mark) {
+            Some(run) if is_inside(run, column) => Some(self.point_at(column.min(LAST_COLUMN))),
+            _ => None,
         }
     }
 
@@ -398,6 +429,29 @@ fn runs_of_part(alloc: Global, unit: Unit, part: &Part<'_>) -> Result<Option<Vec
             Ok(Some(runs_in(alloc, unit, part.column, marks)?))
         }
         _ => Ok(None),
+    }
+}
+
+/// Whether a range may begin in a column of a run, behind its first: rustc draws bars below the first character
+/// of a range, and other tools below carets.
+fn is_inside(run: &Run, column: usize) -> bool
+    ensures { result ≡ is_inside run.now column }
+{
+    let has_caret = match run.caret {
+        Some(caret) => caret < column,
+        None => false,
+    };
+    run.start < column && (run.is_dashed || has_caret)
+}
+
+/// Whether a text tells an event: it begins with its number in brackets, `(4) freed here`.
+fn tells_event(text: &str) -> bool {
+    match behind(text, '(') {
+        Some(rest) => match number(rest) {
+            Some((_, rest)) => begins_with(rest, ") "),
+            None => false,
+        },
+        None => false,
     }
 }
 

@@ -247,7 +247,7 @@ pub(crate) fn pieces_at<'a>(
     let mut front = row;
     for column in columns.iter().rev() {
         let (before, text) = cut_at(unit, front, *column);
-        if text.is_empty() || text.starts_with(' ') {
+        if text.is_empty() || text.starts_with(' ') || text.starts_with("| ") {
             return Ok(None);
         }
         pieces.push(Piece {

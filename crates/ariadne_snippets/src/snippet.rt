@@ -2,10 +2,12 @@
 
 ghost use Rattle.std.specs.Prelude.{◌≡◌, [], ◌∷◌, chars, is_some, map, option_map, true, IfOk, List, Option, Some, ℕ};
 ghost use Rattle.ariadne_snippets.specs.Ends.{IsEnd};
-ghost use Rattle.ariadne_snippets.specs.Snippets.{change_of_line, change_told, number_named, number_quoted};
+ghost use Rattle.ariadne_snippets.specs.Snippets.{above, change_of_line, change_told, number_changed, number_named};
+ghost use Rattle.ariadne_snippets.specs.Snippets.{number_quoted};
+ghost use Rattle.ariadne_snippets.specs.Words.{words_in};
 ghost use Rattle.ariadne_snippets.specs.Snippets.{EndsBy, HasEnded, IsTaken, IsUnread, QuotesNext, ShowsWhole, TellsOf};
 
-use crate::forms::added_line;
+use crate::forms::{Words, added_line, note_of, words_of};
 use crate::gutter::{Gutter, gutter_of};
 use crate::plain::unit_below;
 use crate::quote::Quote;
@@ -40,6 +42,8 @@ pub(crate) enum Stage {
     Noted,
     /// Lines as they are to be, as a help says.
     Advised,
+    /// Notes that name no place alone.
+    Placeless,
     /// None.
     Ended,
 }
@@ -49,8 +53,31 @@ pub(crate) enum Stage {
 pub(crate) enum Advice {
     /// That this many lines are put in.
     Puts(usize),
-    /// That lines go, or become others.
+    /// That lines become others, and this many are put in.
+    Changes(usize),
+    /// That lines go, and others come in their place.
     Replaces,
+}
+
+impl Advice {
+    /// How many lines are put in.
+    pub(crate) fn above(self) -> usize
+        ensures { result ≡ above self }
+    {
+        match self {
+            Advice::Puts(above) | Advice::Changes(above) => above,
+            Advice::Replaces => 0,
+        }
+    }
+
+    /// That one line more is put in.
+    pub(crate) fn with_line(self) -> Advice {
+        match self {
+            Advice::Puts(above) => Advice::Puts(above.saturating_add(1)),
+            Advice::Changes(above) => Advice::Changes(above.saturating_add(1)),
+            Advice::Replaces => Advice::Replaces,
+        }
+    }
 }
 
 /// The snippet of a place.
@@ -98,14 +125,33 @@ impl Snippet {
         }
     }
 
-    /// The number of the line of the file that a line of output would quote.
+    /// Whether it has ended, and takes no line any more.
+    pub fn has_ended(&self) -> bool
+        ensures ended { result ≡ true → HasEnded self.now }
+        ensures not_ended { HasEnded self.now → result ≡ true }
+    {
+        self.stage == Stage::Ended
+    }
+
+    /// The number of the line of the file that a line of output would quote, or that it says how to change.
     pub fn quoted_number(&self, line: &str) -> Option<usize>
         ensures { result ≡ number_quoted self.now line.now }
     {
         match (named_number(line), self.form) {
             (Some(number), _) => Some(number),
             (None, Form::Unread) => Some(self.line),
+            (None, Form::Framed(_)) => self.changed_number(line),
             (None, _) => None,
+        }
+    }
+
+    /// The number of the line of the file that a line of rustc's form would change.
+    fn changed_number(&self, line: &str) -> Option<usize>
+        ensures { result ≡ number_changed (above self.now.advice) (words_in line.now) }
+    {
+        match words_of(line) {
+            Some(Words::Changed(number, _)) => Some(number.saturating_sub(self.advice.above())),
+            _ => None,
         }
     }
 
@@ -131,6 +177,39 @@ impl Snippet {
         if self.stage == Stage::Ended {
             return Ok(Taken::NotOfSnippet);
         }
+        match note_of(line) {
+            Some(text) if self.may_be_noted() => {
+                self.stage = Stage::Placeless;
+                Ok(Taken::Note(text))
+            }
+            _ if self.stage == Stage::Placeless => Ok(self.take_none()),
+            _ => self.take_line(line, source),
+        }
+    }
+
+    /// Whether a note that names no place may follow: behind marks of another form than rustc's, whose notes may
+    /// name places in a line of their own.
+    fn may_be_noted(&self) -> bool {
+        match (self.form, &self.quoted) {
+            (Form::Plain | Form::Gutter(_), Some(quoted)) => quoted.is_marked(),
+            _ => false,
+        }
+    }
+
+    /// Takes the next line of output, which is no such note.
+    fn take_line<'a>(
+        &mut self,
+        line: &'a str,
+        source: Option<&[char]>,
+    ) -> Result<Taken<'a>, AllocError>
+        ensures quotes { IfOk result (λ taken. QuotesNext line.now
+            (option_map (λ source. source.now) source.entry) self.old.quoted self.new.quoted) }
+        ensures tells { IfOk result (λ taken. TellsOf self.new.quoted line.now taken) }
+        ensures ends { IfOk result (λ taken. EndsBy self.new taken) }
+        ensures whole { (number : ℕ) (caret : Option ℕ) → IsUnread number caret self.old
+            → ShowsWhole line.now (option_map (λ source. source.now) source.entry)
+            → IfOk result (λ taken. IsTaken taken) }
+    {
         match self.form {
             Form::Unread => self.take_first(line, source),
             Form::Plain => self.take_plain(line),

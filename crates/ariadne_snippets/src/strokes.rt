@@ -12,6 +12,10 @@
 //! 7 | ||     }("a");
 //!   | ||_____^____-            two end at the marks to which the stroke leads
 //!   |  |_____|                 whose other stroke this is
+//!
+//! 9 | |         3].iter() + 1;
+//!   | |                 - ^ -
+//!   | |_________________|      another ends at the mark above
 //! ```
 
 use crate::runs::is_mark;
@@ -34,6 +38,16 @@ pub(crate) fn stroke_of(row: &str) -> Stroke {
         Some((front, _)) if front.ends_with('|') => Stroke::Ends,
         Some(_) => Stroke::Begins,
         None => Stroke::Absent,
+    }
+}
+
+/// Whether a range begins at the mark above the last bar of a row of strokes, behind what the strokes of the
+/// marks themselves say.
+pub(crate) fn opens(of_marks: Stroke, row: &str) -> bool {
+    match of_marks {
+        Stroke::Begins => true,
+        Stroke::Absent => stroke_of(row) == Stroke::Begins,
+        Stroke::Ends => false,
     }
 }
 

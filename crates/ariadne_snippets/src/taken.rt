@@ -30,6 +30,9 @@ pub struct Mark<'a> {
 pub struct Label<'a> {
     /// The number of the mark, from 0, among the ranges that were taken last.
     pub mark: usize,
+    /// The character that it stands below, where that is behind the mark's first: a range begins there which
+    /// the mark covers too. Only rustc draws so.
+    pub inner: Option<Point>,
     /// The text.
     pub text: &'a str,
 }
@@ -69,6 +72,9 @@ pub enum Taken<'a> {
     Ranges(Vec<Mark<'a>>),
     /// A row of texts below marks.
     Labels(Vec<Label<'a>>),
+    /// A stroke to the mark with this number, from 0, among the ranges that were taken last: its range begins
+    /// here, in a line above.
+    Begun(usize, Point),
     /// A row of what is to be changed.
     Fixes(Vec<Fix<'a>>),
     /// A note of the diagnostic.
