@@ -4,10 +4,11 @@ use Rattle.std.specs.Prelude.{Bool, true, false, cond, ◌==◌, map, slice_get,
 use Rattle.std.specs.declared.alloc.Global.{Global}
 use Rattle.std.proofs.lemmas.List.{map-set}
 use Rattle.ariadne_snippets.specs.declared.taken.Mark.{Mark}
+use Rattle.ariadne_snippets.specs.declared.taken.Point.{Point}
 use Rattle.ariadne_told.specs.Places.{seen, Seen}
 use Rattle.ariadne_told.specs.declared.diagnostic.Place.{Place}
 use Rattle.ariadne_blocks.specs.Files.{File}
-use Rattle.ariadne_blocks.specs.Marks.{beside, given_at, given_to, said_at, said_by, with_range}
+use Rattle.ariadne_blocks.specs.Marks.{begun_if, begun_in, begun_place, beside, given_at, given_to, said_at, said_by, with_range}
 use Rattle.ariadne_blocks.specs.Notes.{as_beside, note_places}
 use Rattle.ariadne_blocks.proofs.Lists.{get_mapped, pushed, same_read}
 
@@ -62,6 +63,14 @@ pub given_own : (file : Option File) (mark : Mark) (n : ℕ) (ps : List Place) (
 given_own file mark n ps x y h is wrote =
     set_seen ps n y (with_range file mark (seen x)) wrote
     ∙ ap (given_to file mark n (map seen ps)) (sym (get_mapped seen ps n x h is))
+
+-- a place whose range begins further in front
+pub begun_own : (is_own : Bool) (start : Point) (n : ℕ) (ps : List Place) (x y : Place) → n < length ps
+    → x ≡ get_or ps n x → seen y ≡ begun_place is_own start (seen x)
+    → map seen (set ps n y) ≡ begun_in is_own start n (map seen ps)
+begun_own is_own start n ps x y h is wrote =
+    set_seen ps n y (begun_place is_own start (seen x)) wrote
+    ∙ ap (begun_if is_own start n (map seen ps)) (sym (get_mapped seen ps n x h is))
 
 -- ---- the places of a note
 

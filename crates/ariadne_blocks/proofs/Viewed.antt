@@ -1,13 +1,15 @@
 -- Blocks as they are read.
 use Rattle.std.proofs.Common.{◌≡◌, ◌∙◌, ℕ, List, refl, ap, sym}
-use Rattle.std.specs.Prelude.{map, slice_get, is_some, Option, None, Some, option_map}
+use Rattle.std.specs.Prelude.{Bool, map, slice_get, is_some, Option, None, Some, option_map}
 use Rattle.std.specs.Option.{option_copied}
 use Rattle.std.specs.Borrow.{Bor}
 use Rattle.ariadne_told.specs.Places.{seen}
 use Rattle.ariadne_told.specs.declared.diagnostic.Place.{Place}
-use Rattle.ariadne_blocks.specs.Blocks.{first_file, first_line, View}
-use Rattle.ariadne_blocks.specs.Files.{file_at, line_at}
+use Rattle.ariadne_blocks.specs.Blocks.{first_file, first_line, of_file, of_snippet, IsRow, View}
+use Rattle.ariadne_blocks.specs.Files.{file_at, line_at, File}
 use Rattle.ariadne_blocks.specs.Telling.{Telling}
+use Rattle.ariadne_blocks.specs.declared.block.Block.{Block}
+use Rattle.ariadne_blocks.specs.declared.line.Line.{Line}
 use Rattle.ariadne_blocks.proofs.Lists.{first_mapped}
 
 -- views are the same whose parts are
@@ -26,6 +28,24 @@ same_view v w told path at marked behind width aside named caret =
     ∙ ap (λ t. record w { aside = t; named = v.named; caret = v.caret }) aside
     ∙ ap (λ t. record w { named = t; caret = v.caret }) named
     ∙ ap (λ t. record w { caret = t }) caret
+
+-- a row is one, whatever is known of events behind it
+pub row_with_events : (file : Option File) (line : Line) (before after : Block) (has_events : Bool)
+    → IsRow file line before after → IsRow file line before (record after { has_events = has_events })
+row_with_events file line before after has_events (of_snippet text row) =
+    of_snippet text
+    (record {
+      taken = row.taken;
+      of_snippet = row.of_snippet;
+      gained = record {
+        source = row.gained.source;
+        of_file = row.gained.of_file;
+        quotes = row.gained.quotes;
+        tells = row.gained.tells;
+        view = row.gained.view;
+      };
+    })
+row_with_events file line before after has_events (of_file told view) = of_file told view
 
 -- the file of the first of places
 pub first_path : (ps : List Place) (first : Option (Bor Place)) (path : List ℕ) → option_copied first ≡ slice_get ps 0

@@ -10,16 +10,18 @@ use Rattle.ariadne_snippets.specs.Snippets.{number_quoted, HasEnded, IsUnread, Q
 use Rattle.ariadne_snippets.specs.declared.snippet.Snippet.{Snippet}
 use Rattle.ariadne_snippets.specs.declared.taken.Fix.{Fix}
 use Rattle.ariadne_snippets.specs.declared.taken.Taken.{Taken}
-use Rattle.ariadne_snippets.specs.declared.taken.Taken.TheVariants.{NotOfSnippet, Nothing, Ranges, Labels, Fixes, Note, Help, More, At, Elsewhere}
+use Rattle.ariadne_snippets.specs.declared.taken.Taken.TheVariants.{NotOfSnippet, Nothing, Ranges, Labels, Begun, Fixes, Note, Help, More, At, Elsewhere}
 use Rattle.ariadne_told.specs.Arrows.{arrow_in}
 use Rattle.ariadne_told.specs.ArrowsTold.{place_of_arrow}
+use Rattle.ariadne_told.specs.Noted.{place_row}
 use Rattle.ariadne_told.specs.Places.{seen, Seen}
 use Rattle.ariadne_told.specs.declared.diagnostic.Diagnostic.{Diagnostic}
 use Rattle.ariadne_told.specs.declared.diagnostic.Place.{Place}
 use Rattle.ariadne_blocks.specs.Colors.{IsBare}
+use Rattle.ariadne_blocks.specs.Events.{event_in, frame, in_file, quoting}
 use Rattle.ariadne_blocks.specs.Files.{File, file_at, line_at, quotes_escape, source_in}
 use Rattle.ariadne_blocks.specs.Fixes.{fix_help}
-use Rattle.ariadne_blocks.specs.Marks.{Marking, with_labels, with_marks}
+use Rattle.ariadne_blocks.specs.Marks.{Marking, with_begun, with_labels, with_marks}
 use Rattle.ariadne_blocks.specs.Messages.{had_no_room, is_of_python, with_lines}
 use Rattle.ariadne_blocks.specs.Notes.{are_lines_of, is_line_of, note_places}
 use Rattle.ariadne_blocks.specs.Telling.{Telling, telling}
@@ -271,7 +273,9 @@ with_row file text is_quote Nothing view = if is_quote then with_message view el
 with_row file text is_quote (Ranges marks) view =
     with_marking (with_marks file view.path view.at marks.items view.told.places) view
 with_row file text is_quote (Labels labels) view =
-    with_places_now (with_labels view.marked labels.items view.told.places) view
+    with_places_now (with_labels view.path view.marked labels.items view.told.places) view
+with_row file text is_quote (Begun mark start) view =
+    with_places_now (with_begun view.at view.marked mark start view.told.places) view
 with_row file text is_quote (Fixes fixes) view = with_fixes file fixes.items view
 with_row file text is_quote (Note note) view = with_text aside.Note note.now view
 with_row file text is_quote (Help help) view = with_text aside.Help help.now view
@@ -288,6 +292,7 @@ is_row NotOfSnippet = false
 is_row Nothing = true
 is_row (Ranges marks) = true
 is_row (Labels labels) = true
+is_row (Begun mark start) = true
 is_row (Fixes fixes) = true
 is_row (Note note) = true
 is_row (Help help) = true
@@ -301,12 +306,14 @@ keeps_escapes file line snippet =
     not (bytes_eq line.whole.now line.text.now) && quotes_escape file snippet line.text.now
 
 -- a text is that of a line as rows are read: without the colours of its tool, or where it quotes a line with an
--- escape, without gcc's own alone
+-- escape, without gcc's own alone. A row of events is read as what stands behind its bar, or tells nothing
 pub data IsTextOf (file : Option File) (line : Line) (snippet : Snippet) : List ℕ → Type 0 where
   without_colors : keeps_escapes file line snippet ≡ false
       → IsTextOf file line snippet line.text.now
   without_own : {text : List ℕ} → keeps_escapes file line snippet ≡ true
       → IsBare line.whole.now text → IsTextOf file line snippet text
+  of_event : {text : List ℕ} → event_in line.text.now ≡ Some (quoting text) → IsTextOf file line snippet text
+  of_frame : event_in line.text.now ≡ Some frame → IsTextOf file line snippet line.text.now
 
 -- a text was taken so by the snippet: what it tells is told from then on, and nothing else changes
 pub record IsTaken (file : Option File) (text : List ℕ) (before after : Block) (taken : Taken)
@@ -323,11 +330,17 @@ pub record IsRowOf (file : Option File) (text : List ℕ) (before after : Block)
   pub of_snippet : is_row taken ≡ true
   pub gained : IsTaken file text before after taken
 
--- so was a line
-pub record IsRow (file : Option File) (line : Line) (before after : Block) : Type 0 where
-  pub text : List ℕ
-  pub of_line : IsTextOf file line before.rows.snippet text
-  pub row : IsRowOf file text before after
+-- a file as a place of which nothing is said: its first line
+abbrev pub file_place : List ℕ → Seen
+file_place path = place_of_arrow (path, record { line = 1; column = None }, true)
+
+-- so was a line; or it names the file of the next rows of events
+pub data IsRow (file : Option File) (line : Line) (before after : Block) : Type 0 where
+  of_snippet : {text : List ℕ} → IsTextOf file line before.rows.snippet text
+      → IsRowOf file text before after → IsRow file line before after
+  of_file : {path : List ℕ} → event_in line.text.now ≡ Some (in_file path)
+      → view_of after ≡ record (view_of before) { named = Some (file_place path) }
+      → IsRow file line before after
 
 -- its snippet has ended: no line is a row of it any more
 abbrev pub HasNoMoreRows : Block → Type 0
@@ -374,6 +387,16 @@ with_said place view (text ∷ texts) = record view {
 abbrev pub with_own_place : Seen → View → View
 with_own_place place view =
     if place.is_primary then with_said place view (reverse (texts_of view)) else view
+
+-- a place that can't be shown is a row below the text that was read last, or a note
+abbrev pub with_place_told : Seen → View → View
+with_place_told place view =
+    if place.is_primary
+    then with_more_text (place_row place.file place.start []) view
+    else with_text aside.Note (place_row place.file place.start []) view
+
+abbrev pub IsPlaceTold : Place → Block → Block → Type 0
+IsPlaceTold place before after = view_of after ≡ with_place_told (seen place) (view_of before)
 
 abbrev pub IsQuotedBy : Place → Block → Block → Type 0
 IsQuotedBy place before after =

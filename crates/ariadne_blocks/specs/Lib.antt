@@ -1,6 +1,7 @@
 pub mod Blocks
 pub mod Colors
 pub mod Drawn
+pub mod Events
 pub mod Files
 pub mod Fixes
 pub mod Marks

@@ -1,7 +1,7 @@
 -- What the marks of a row tell, and the texts below them. The first mark with a `^` is the range of the place
 -- that the snippet is of, where it stands in the line that the place begins in; each other is a place beside.
 -- A text below a mark is said of the place of the mark.
-use Rattle.std.specs.Prelude.{ℕ, ◌==◌, Bool, true, false, not, ◌&&◌, if◌then◌else◌, pos}
+use Rattle.std.specs.Prelude.{ℕ, ◌==◌, Bool, true, false, not, ◌&&◌, if◌then◌else◌, pos, ◌+◌, ◌-◌, ◌^◌, min}
 use Rattle.std.specs.Prelude.{List, [], ◌∷◌, ◌++◌, length, map, slice_get, slice_set}
 use Rattle.std.specs.Prelude.{Option, None, Some, fold, is_some}
 use Rattle.ariadne_columns.specs.declared.unit.Unit.{Unit}
@@ -141,15 +141,62 @@ abbrev pub with_marks : Option File → List ℕ → ℕ → List Mark → List 
 with_marks file path at marks places =
     fold (with_mark file path at) (record { places = places; marked = [] }) marks
 
+-- ---- a stroke to a mark
+
+-- marks whose range begins at a point
+abbrev pub begun_marks : Point → Option (Spot × Spot) → Option (Spot × Spot)
+begun_marks start None = None
+begun_marks start (Some marks) = Some (spot_of start, marks.1)
+
+-- a place whose range begins there. The diagnostic's own place stays where its head names it
+abbrev pub begun_place : Bool → Point → Seen → Seen
+begun_place true start place = record place { marks = begun_marks start place.marks }
+begun_place false start place = record place {
+  start = spot_of start;
+  caret = spot_of start;
+  marks = begun_marks start place.marks;
+}
+
+-- so is the place with a number, if there is one
+abbrev pub begun_if : Bool → Point → ℕ → List Seen → Option Seen → List Seen
+begun_if is_own start number places None = places
+begun_if is_own start number places (Some place) =
+    slice_set places number (begun_place is_own start place)
+
+abbrev pub begun_in : Bool → Point → ℕ → List Seen → List Seen
+begun_in is_own start number places = begun_if is_own start number places (slice_get places number)
+
+abbrev pub begun_by : ℕ → Point → List Seen → Option ℕ → List Seen
+begun_by at start places None = places
+begun_by at start places (Some number) = begun_in (number == at) start number places
+
+-- that of a mark of the row that was read last
+abbrev pub with_begun : ℕ → List ℕ → ℕ → Point → List Seen → List Seen
+with_begun at marked mark start places = begun_by at start places (slice_get marked mark)
+
 -- ---- a row of texts below marks
 
--- a text is said of the place of its mark
-abbrev pub with_label_at : List ℕ → List Seen → Option ℕ → List Seen
-with_label_at text places None = places
-with_label_at text places (Some number) = said_at text number places
+-- the point behind a character
+abbrev pub behind_point : Point → Point
+behind_point point = record { line = point.line; offset = min (point.offset + 1) (2 ^ 64 - 1) }
 
-abbrev pub with_label : List ℕ → List Seen → Label → List Seen
-with_label marked places label = with_label_at label.text.now places (slice_get marked label.mark)
+-- a place beside, of one character
+abbrev pub inner_place : List ℕ → List ℕ → Point → Seen
+inner_place path text point =
+    record (place_of path (spot_of point) (Before (spot_of (behind_point point))) Char) {
+      text = text;
+      marks = Some (spot_of point, spot_of (behind_point point));
+    }
 
-abbrev pub with_labels : List ℕ → List Label → List Seen → List Seen
-with_labels marked labels places = fold (with_label marked) places labels
+-- a text is said of the place of its mark, or of the character below which a range of its own begins
+abbrev pub with_label_at : List ℕ → List ℕ → List Seen → Option Point → Option ℕ → List Seen
+with_label_at path text places (Some point) number = places ++ inner_place path text point ∷ []
+with_label_at path text places None None = places
+with_label_at path text places None (Some number) = said_at text number places
+
+abbrev pub with_label : List ℕ → List ℕ → List Seen → Label → List Seen
+with_label path marked places label =
+    with_label_at path label.text.now places label.inner (slice_get marked label.mark)
+
+abbrev pub with_labels : List ℕ → List ℕ → List Label → List Seen → List Seen
+with_labels path marked labels places = fold (with_label path marked) places labels

@@ -2,16 +2,18 @@
 //! and its notes with theirs.
 
 ghost use Rattle.std.specs.Prelude.{◌≡◌, map, option_map, reverse, string_bytes, false, true};
-ghost use Rattle.std.specs.Prelude.{IfOk, OnOk};
+ghost use Rattle.std.specs.Prelude.{IfOk, IfSome, OnOk, Some};
 ghost use Rattle.ariadne_told.specs.Arrows.{arrow_in};
 ghost use Rattle.ariadne_told.specs.ArrowsTold.{place_of_arrow};
 ghost use Rattle.ariadne_told.specs.Places.{seen};
 ghost use Rattle.ariadne_blocks.specs.Blocks as blocks;
 ghost use Rattle.ariadne_blocks.specs.Blocks.{told_of, view_of, HasNoMoreRows, IsBegun, IsMore, IsNamed, IsNoted};
 ghost use Rattle.ariadne_blocks.specs.Blocks.{IsPlacedBy, IsQuotedBy, IsRow, IsRowOf, IsSameBlock};
+ghost use Rattle.ariadne_blocks.specs.Events.{event_in, event_told};
 ghost use Rattle.ariadne_blocks.specs.Files.{file_of};
 
 use crate::colors::without_gcc_colors;
+use crate::events::{EventRow, event_row, is_events_head};
 use crate::file::QuotedFile;
 use crate::fixes::fix_text;
 use crate::line::Line;
@@ -19,8 +21,14 @@ use crate::message::{MessageLine, had_no_room, is_of_python, settle_message, wid
 use crate::places::{are_lines_of, is_line_of, push_note};
 use crate::rows::Rows;
 use ariadne_snippets::{Fix, Snippet, Taken};
-use ariadne_told::{Diagnostic, Place, arrow_of};
+use ariadne_told::{Arrow, Diagnostic, Place, Spot, arrow_of, named_place};
 use std::alloc::{AllocError, Global};
+
+/// The line that stands for a file as a whole.
+const FIRST_LINE: Spot = Spot {
+    line: 1,
+    column: None,
+};
 
 /// A diagnostic whose lines are being read.
 #[derive(Debug, Drop)]
@@ -40,6 +48,8 @@ pub struct Block {
     /// The place that a row named: the next rows quote its file. It is primary where it is that of the
     /// text that was read last.
     named: Option<Place>,
+    /// Whether rows of events are read, as gcc's analyzer writes them.
+    has_events: bool,
 }
 
 /// A text beside the message.
@@ -73,6 +83,7 @@ impl Block {
             width: Some(width_of(head)),
             aside: Aside::Note,
             named: None,
+            has_events: false,
         })
     }
 
@@ -195,8 +206,103 @@ impl Block {
     /// the block's path, if it is held.
     ///
     /// gcc quotes the escapes of a source as they are: in such a row its own colours alone are left out.
-    /// On `Err` there was no memory.
+    /// The rows of its events stand behind bars. On `Err` there was no memory.
     pub fn take_row(
+        &mut self,
+        alloc: Global,
+        file: Option<QuotedFile<'_>>,
+        line: Line<'_>,
+    ) -> Result<bool, AllocError>
+        ensures row { IfOk result (λ is_row. is_row ≡ true
+            → IsRow (option_map file_of file.entry) line.entry self.old self.new) }
+        ensures none { IfOk result (λ is_row. is_row ≡ false → IsSameBlock self.old self.new) }
+        ensures ends { IfOk result (λ is_row. is_row ≡ false → HasNoMoreRows self.new) }
+        ensures over { HasNoMoreRows self.old → IfOk result (λ is_row. is_row ≡ false) }
+    {
+        match self.event_row(line.text) {
+            Some(EventRow::Frame) => self.take_frame(alloc, file, line.text),
+            Some(EventRow::File(path)) => self.take_file(alloc, path),
+            Some(EventRow::Quoting(row)) => self.take_text(alloc, file, row),
+            None => self.take_other(alloc, file, line),
+        }
+    }
+
+    /// What a line is of the events whose head it is, or whose head was read.
+    fn event_row<'a>(&self, text: &'a str) -> Option<EventRow<'a>>
+        ensures { IfSome result (λ row. event_in text.now ≡ Some (event_told row)) }
+    {
+        if self.has_events || is_events_head(text) {
+            event_row(text)
+        } else {
+            None
+        }
+    }
+
+    /// Takes in a row of events that tells nothing, unless the rows have ended, and returns whether they
+    /// haven't.
+    fn take_frame(
+        &mut self,
+        alloc: Global,
+        file: Option<QuotedFile<'_>>,
+        text: &str,
+    ) -> Result<bool, AllocError>
+        ensures row { IfOk result (λ is_row. is_row ≡ true
+            → IsRowOf (option_map file_of file.entry) text.now self.old self.new) }
+        ensures none { IfOk result (λ is_row. is_row ≡ false → self.new ≡ self.old) }
+        ensures ends { IfOk result (λ is_row. is_row ≡ false → HasNoMoreRows self.new) }
+        ensures over { HasNoMoreRows self.old → IfOk result (λ is_row. is_row ≡ false) }
+    {
+        if self.rows.snippet.has_ended() {
+            return Ok(false);
+        }
+        let is_quote = self.rows.source(file, text).is_some();
+        self.tell(alloc, file, text, is_quote, Taken::Nothing)?;
+        self.has_events = true;
+        Ok(true)
+    }
+
+    /// Takes in the file of the next rows of events, unless the rows have ended, and returns whether they
+    /// haven't.
+    fn take_file(&mut self, alloc: Global, path: &str) -> Result<bool, AllocError>
+        ensures file { IfOk result (λ is_row. is_row ≡ true → view_of self.new
+            ≡ record (view_of self.old) { named = Some (blocks.file_place path.now) }) }
+        ensures none { IfOk result (λ is_row. is_row ≡ false → self.new ≡ self.old) }
+        ensures ends { IfOk result (λ is_row. is_row ≡ false → HasNoMoreRows self.new) }
+        ensures over { HasNoMoreRows self.old → IfOk result (λ is_row. is_row ≡ false) }
+    {
+        if self.rows.snippet.has_ended() {
+            return Ok(false);
+        }
+        let arrow = Arrow {
+            file: path,
+            start: FIRST_LINE,
+            is_further: true,
+        };
+        self.named = Some(arrow.place(alloc)?);
+        Ok(true)
+    }
+
+    /// Takes in a line that is no row of events, if it is a row of the snippet, and returns whether it is. No
+    /// events are told behind such a row.
+    fn take_other(
+        &mut self,
+        alloc: Global,
+        file: Option<QuotedFile<'_>>,
+        line: Line<'_>,
+    ) -> Result<bool, AllocError>
+        ensures row { IfOk result (λ is_row. is_row ≡ true
+            → IsRow (option_map file_of file.entry) line.entry self.old self.new) }
+        ensures none { IfOk result (λ is_row. is_row ≡ false → IsSameBlock self.old self.new) }
+        ensures ends { IfOk result (λ is_row. is_row ≡ false → HasNoMoreRows self.new) }
+        ensures over { HasNoMoreRows self.old → IfOk result (λ is_row. is_row ≡ false) }
+    {
+        let is_row = self.take_whole(alloc, file, line)?;
+        self.has_events = self.has_events && !is_row;
+        Ok(is_row)
+    }
+
+    /// Takes in a line as it stands, if it is a row of the snippet, and returns whether it is.
+    fn take_whole(
         &mut self,
         alloc: Global,
         file: Option<QuotedFile<'_>>,
@@ -265,6 +371,10 @@ impl Block {
             Taken::Nothing | Taken::NotOfSnippet => Ok(()),
             Taken::Ranges(marks) => self.rows.add_marks(alloc, file, places, marks.as_slice()),
             Taken::Labels(labels) => self.rows.add_labels(alloc, places, labels.as_slice()),
+            Taken::Begun(mark, start) => {
+                self.rows.begin_mark(places.as_mut_slice(), mark, start);
+                Ok(())
+            }
             Taken::Fixes(fixes) => self.add_fixes(alloc, file, fixes.as_slice()),
             Taken::Note(text) => self.add_text(alloc, Aside::Note, text),
             Taken::Help(text) => self.add_text(alloc, Aside::Help, text),
@@ -376,6 +486,21 @@ impl Block {
             self.place_text(place)?;
         }
         Ok(())
+    }
+
+    /// Tells a place that can't be shown: the text that was read last goes on with it, in a row of its own, if it
+    /// is that of the text. Else it is a note. On `Err` there was no memory.
+    pub fn tell_place(&mut self, alloc: Global, place: &Place) -> Result<(), AllocError>
+        ensures view { OnOk result (view_of self.new
+            ≡ blocks.with_place_told (seen place.now) (view_of self.old)) }
+        ensures rows { OnOk result (self.new.rows ≡ self.old.rows) }
+    {
+        let row = named_place(alloc, place.file.as_str(), place.start, "")?;
+        if place.is_primary {
+            self.add_more(row.as_str())
+        } else {
+            self.add_text(alloc, Aside::Note, row.as_str())
+        }
     }
 
     /// Has the text that was read last be said of a place, and the next marks be of that.

@@ -5,6 +5,7 @@
 pub mod block;
 mod colors;
 pub mod drawn;
+mod events;
 pub mod file;
 mod fixes;
 pub mod line;

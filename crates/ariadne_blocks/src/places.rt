@@ -108,6 +108,49 @@ pub(crate) fn marked_place(file: String, mark: &Mark<'_>, text: String) -> Place
     }
 }
 
+/// A place of one character, of which this is said.
+pub(crate) fn inner_place(file: String, point: Point, text: String) -> Place
+    ensures { seen result ≡ marks.inner_place (string_bytes file) (string_bytes text) point }
+{
+    let end = Point {
+        line: point.line,
+        offset: point.offset.saturating_add(1),
+    };
+    let mark = Mark {
+        start: point,
+        end,
+        caret: None,
+        goes_on: false,
+        text: "",
+    };
+    marked_place(file, &mark, text)
+}
+
+/// Has the range of the place with a number begin at a point, if there is one. The diagnostic's own place stays
+/// where its head names it.
+pub(crate) fn begin_at(places: &mut [Place], number: usize, is_own: bool, start: Point)
+    ensures { map seen places.new ≡ marks.begun_in is_own start number (map seen places.old) }
+{
+    if number < places.len() {
+        begin_place(&mut places[number], is_own, start);
+    }
+}
+
+/// Has the range of a place begin at a point.
+fn begin_place(place: &mut Place, is_own: bool, start: Point)
+    ensures { seen place.new ≡ marks.begun_place is_own start (seen place.old) }
+{
+    let start = spot_of(start);
+    place.marks = match place.marks {
+        Some((_, end)) => Some((start, end)),
+        None => None,
+    };
+    if !is_own {
+        place.start = start;
+        place.caret = start;
+    }
+}
+
 /// A place with the range of another, of which this is said.
 fn place_beside(place: &Place, text: String) -> Result<Place, AllocError>
     ensures { IfOk result (λ it. seen it ≡ marks.beside (string_bytes text) (seen place.now)) }

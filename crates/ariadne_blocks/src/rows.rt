@@ -9,12 +9,15 @@ ghost use Rattle.ariadne_told.specs.Places.{seen};
 ghost use Rattle.ariadne_blocks.specs.Files.{file_at, file_of, line_at};
 ghost use Rattle.ariadne_blocks.specs.Files.{begins_with_number as begins_with_digit};
 ghost use Rattle.ariadne_blocks.specs.Files.{quotes_escape as quotes_escape_in, source_in};
-ghost use Rattle.ariadne_blocks.specs.Marks.{given_at, is_own_at, marking_of, with_label, with_labels};
+ghost use Rattle.ariadne_blocks.specs.Marks.{given_at, is_own_at, marking_of, with_begun, with_label};
+ghost use Rattle.ariadne_blocks.specs.Marks.{with_labels};
 ghost use Rattle.ariadne_blocks.specs.Marks.{with_mark, with_marks};
 
 use crate::file::QuotedFile;
-use crate::places::{caret_of, is_range_of, marked_place, own_marks, say_at};
-use ariadne_snippets::{Label, Mark, Snippet};
+use crate::places::{
+    begin_at, caret_of, inner_place, is_range_of, marked_place, own_marks, say_at,
+};
+use ariadne_snippets::{Label, Mark, Point, Snippet};
 use ariadne_told::Place;
 use std::alloc::{AllocError, Global};
 
@@ -122,6 +125,16 @@ impl Rows {
         Ok(())
     }
 
+    /// Has the range of a mark in the row that was read last begin at a point in a line above.
+    pub(crate) fn begin_mark(&self, places: &mut [Place], mark: usize, start: Point)
+        ensures { map seen places.new
+            ≡ with_begun self.now.at self.now.marked.items mark start (map seen places.old) }
+    {
+        if let Some(number) = self.marked.get(mark) {
+            begin_at(places, *number, *number == self.at, start);
+        }
+    }
+
     /// Takes in a row of texts below marks: each is said of the place of its mark.
     pub(crate) fn add_labels(
         &self,
@@ -130,7 +143,8 @@ impl Rows {
         labels: &[Label<'_>],
     ) -> Result<(), AllocError>
         ensures { OnOk result (map seen places.new.items
-            ≡ with_labels self.now.marked.items labels.now (map seen places.old.items)) }
+            ≡ with_labels (string_bytes self.now.path) self.now.marked.items labels.now
+            (map seen places.old.items)) }
     {
         for label in labels {
             self.add_label(alloc, places, label)?;
@@ -138,7 +152,7 @@ impl Rows {
         Ok(())
     }
 
-    /// Takes in a text below a mark.
+    /// Takes in a text below a mark: it is said of the place of that, or of the character that it stands below.
     fn add_label(
         &self,
         alloc: Global,
@@ -146,11 +160,18 @@ impl Rows {
         label: &Label<'_>,
     ) -> Result<(), AllocError>
         ensures { OnOk result (map seen places.new.items
-            ≡ with_label self.now.marked.items (map seen places.old.items) label.now) }
+            ≡ with_label (string_bytes self.now.path) self.now.marked.items
+            (map seen places.old.items) label.now) }
     {
-        match self.marked.get(label.mark) {
-            Some(number) => say_at(places, *number, String::from_str(alloc, label.text)?),
-            None => Ok(()),
+        let text = String::from_str(alloc, label.text)?;
+        match (label.inner, self.marked.get(label.mark)) {
+            (Some(point), _) => {
+                let file = String::from_str(alloc, self.path.as_str())?;
+                places.push(inner_place(file, point, text))?;
+                Ok(())
+            }
+            (None, Some(number)) => say_at(places, *number, text),
+            (None, None) => Ok(()),
         }
     }
 }

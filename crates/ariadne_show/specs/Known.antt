@@ -3,7 +3,7 @@
 use Rattle.std.specs.Prelude.{ℕ, ◌≡◌, ◌==◌, Bool, true, false, not, ◌&&◌, ◌||◌, List, [], ◌∷◌, ◌++◌, flat_map, length, map}
 use Rattle.std.specs.Prelude.{Option, Some, None, is_some}
 use Rattle.ariadne_blocks.specs.Blocks.{is_about, may_go_on, path_of, told_of, view_of, HasNoMoreRows, IsMore, IsNamed}
-use Rattle.ariadne_blocks.specs.Blocks.{IsQuotedBy, IsRow, IsSameBlock}
+use Rattle.ariadne_blocks.specs.Blocks.{IsPlaceTold, IsQuotedBy, IsRow, IsSameBlock}
 use Rattle.ariadne_blocks.specs.Drawn.{all_settled, marks_at, marks_of}
 use Rattle.ariadne_blocks.specs.Repeats.{once}
 use Rattle.ariadne_blocks.specs.declared.block.Block.{Block}
@@ -57,12 +57,12 @@ is_note_of note known = is_note_of_block note known.block
 
 -- ---- rows of a snippet
 
--- where a row names a place whose file can be read, the next rows quote that
+-- where a row names a place whose file can be read, the next rows quote that; any other place is told
 pub data IsNamedQuoted (first last : Finder) (before after : Block) : Type 0 where
   names_none : IsNamed before after None → last ≡ first → IsNamedQuoted first last before after
-  unread : (place settled : Place) → IsNamed before after (Some place)
+  unread : (named : Block) (place settled : Place) → IsNamed before named (Some place)
       → IsPlaceSettled place settled first last → is_held last settled ≡ false
-      → IsNamedQuoted first last before after
+      → IsPlaceTold settled named after → IsNamedQuoted first last before after
   quotes : (named : Block) (place settled : Place) → IsNamed before named (Some place)
       → IsPlaceSettled place settled first last → is_held last settled ≡ true
       → IsQuotedBy settled named after → IsNamedQuoted first last before after

@@ -181,13 +181,14 @@ fn take_row_of<R: Files>(
     if !block.take_row(alloc, file, line)? {
         return Ok(false);
     }
-    quote_named(files, finder, block)?;
+    quote_named(files, alloc, finder, block)?;
     Ok(true)
 }
 
-/// Has the next rows quote the file of the place that a row named, if one did and it can be read.
+/// Has the next rows quote the file of the place that a row named, if one did. One that can't be read is told.
 fn quote_named<R: Files>(
     files: &R,
+    alloc: Global,
     finder: &mut Finder,
     block: &mut Block,
 ) -> Result<(), AllocError>
@@ -199,9 +200,10 @@ fn quote_named<R: Files>(
         return Ok(());
     };
     if finder.settle(files, &mut place)? {
-        block.quote(place)?;
+        block.quote(place)
+    } else {
+        block.tell_place(alloc, &place)
     }
-    Ok(())
 }
 
 /// The diagnostic whose head waited, with the place that an arrow names.

@@ -1,32 +1,41 @@
-use Rattle.std.proofs.Common.{◌∙◌, ◌≡◌, List, ℕ, subst, sym, true}
+use Rattle.std.proofs.Common.{◌≡◌, Some, true}
 use Rattle.std.specs.Prelude.{option_map}
 use Rattle.std.proofs.lemmas.Result.{IfOk-weaker}
-use Rattle.ariadne_blocks.specs.Blocks.{without_colors, without_own, IsRow, IsRowOf}
-use Rattle.ariadne_blocks.specs.Colors.{IsBare}
+use Rattle.ariadne_blocks.specs.Blocks.{file_place, of_event, of_file, of_frame, of_snippet, view_of, IsRow, IsRowOf}
+use Rattle.ariadne_blocks.specs.Events.{event_in, frame, in_file, quoting}
 use Rattle.ariadne_blocks.specs.Files.{file_of}
 use Rattle.ariadne_blocks.proofs.block.Block.take_row.Goals as goal
 
--- without any colours
-pub returns-then-not-keeps_escapes-clause-row : goal.returns-then-not-keeps_escapes-clause-row
-returns-then-not-keeps_escapes-clause-row c =
-    IfOk-weaker c.take_text.result
+-- a row of events tells nothing
+pub returns-in-Some-Frame-clause-row : goal.returns-in-Some-Frame-clause-row
+returns-in-Some-Frame-clause-row c =
+    let told : event_in c.args.line.text.now ≡ Some frame = rw c.in-Some-Frame.field-0-is at c.in-Some-Frame.ensures in
+    IfOk-weaker c.take_frame.result
     (λ is_row. is_row ≡ true
-    → IsRowOf (option_map file_of c.args.file) c.args.line.text.now c.args.self.now c.take_text.new.self)
-    (λ is_row. is_row ≡ true → IsRow (option_map file_of c.args.file) c.args.line c.args.self.now c.take_text.new.self)
-    (λ is_row row yes. record { text = c.args.line.text.now; of_line = without_colors (sym c.keeps_escapes.ensures ∙ c.if-not-keeps_escapes.true); row = row yes })
-    c.take_text.ensures.row
+    → IsRowOf (option_map file_of c.args.file) c.args.line.text.now c.args.self.now c.take_frame.new.self)
+    (λ is_row. is_row ≡ true → IsRow (option_map file_of c.args.file) c.args.line c.args.self.now c.take_frame.new.self)
+    (λ is_row row yes. of_snippet (of_frame told) (row yes))
+    c.take_frame.ensures.row
 
--- or without gcc's own
-pub returns-clause-row : goal.returns-clause-row
-returns-clause-row c =
-    IfOk-weaker c.take_text-2.result
+-- or names a file
+pub returns-in-Some-File-clause-row : goal.returns-in-Some-File-clause-row
+returns-in-Some-File-clause-row c =
+    let path = c.in-Some-File.path.now in
+    let told : event_in c.args.line.text.now ≡ Some (in_file path) = rw c.in-Some-File.field-0-is at c.in-Some-File.ensures in
+    IfOk-weaker c.take_file.result
     (λ is_row. is_row ≡ true
-    → IsRowOf (option_map file_of c.args.file) c.as_str.result.now c.args.self.now c.take_text-2.new.self)
-    (λ is_row. is_row ≡ true → IsRow (option_map file_of c.args.file) c.args.line c.args.self.now c.take_text-2.new.self)
-    (λ is_row row yes. record {
-      text = c.as_str.result.now;
-      of_line = without_own (sym c.keeps_escapes.ensures ∙ c.if-not-keeps_escapes.false)
-          (subst (λ (t : List ℕ). IsBare c.args.line.whole.now t) (sym c.as_str.ensures.value) c.in_ok-bare.ensures);
-      row = row yes;
-    })
-    c.take_text-2.ensures.row
+    → view_of c.take_file.new.self ≡ record (view_of c.args.self.now) { named = Some (file_place path) })
+    (λ is_row. is_row ≡ true → IsRow (option_map file_of c.args.file) c.args.line c.args.self.now c.take_file.new.self)
+    (λ is_row named yes. of_file told (named yes))
+    c.take_file.ensures.file
+
+-- or stands behind a bar
+pub returns-in-Some-Quoting-clause-row : goal.returns-in-Some-Quoting-clause-row
+returns-in-Some-Quoting-clause-row c =
+    let row = c.in-Some-Quoting.row.now in
+    let told : event_in c.args.line.text.now ≡ Some (quoting row) = rw c.in-Some-Quoting.field-0-is at c.in-Some-Quoting.ensures in
+    IfOk-weaker c.take_text.result
+    (λ is_row. is_row ≡ true → IsRowOf (option_map file_of c.args.file) row c.args.self.now c.take_text.new.self)
+    (λ is_row. is_row ≡ true → IsRow (option_map file_of c.args.file) c.args.line c.args.self.now c.take_text.new.self)
+    (λ is_row taken yes. of_snippet (of_event told) (taken yes))
+    c.take_text.ensures.row

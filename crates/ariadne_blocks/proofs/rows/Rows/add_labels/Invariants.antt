@@ -1,5 +1,5 @@
 use Rattle.std.proofs.Common.{◌≡◌, take}
-use Rattle.std.specs.Prelude.{map}
+use Rattle.std.specs.Prelude.{map, string_bytes}
 use Rattle.ariadne_told.specs.Places.{seen}
 use Rattle.ariadne_blocks.specs.Marks.{with_labels}
 use Rattle.ariadne_blocks.proofs.rows.Rows.add_labels.Given as goal
@@ -8,4 +8,5 @@ use Rattle.ariadne_blocks.proofs.rows.Rows.add_labels.Given as goal
 abbrev pub invariant-loop-label : goal.invariant-loop-label
 invariant-loop-label l =
     map seen l.places.items
-    ≡ with_labels l.self.marked.items (take l.label-index l.labels) (map seen l.initial.places.items)
+    ≡ with_labels (string_bytes l.self.path) l.self.marked.items (take l.label-index l.labels)
+    (map seen l.initial.places.items)

@@ -1,0 +1,6 @@
+use Rattle.std.proofs.lemmas.Str.Pattern.{starts_text}
+use Rattle.ariadne_blocks.proofs.events.begins_with.Goals as goal
+
+-- as std tells it
+pub returns : goal.returns
+returns c = starts_text c.starts_with.result c.args.words.now c.args.text.now c.starts_with.ensures.cases

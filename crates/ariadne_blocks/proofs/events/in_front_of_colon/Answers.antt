@@ -1,0 +1,10 @@
+use Rattle.std.proofs.Common.{lit<}
+use Rattle.std.proofs.lemmas.Str.Pattern.{strip_suffix_char}
+use Rattle.ariadne_told.proofs.Texts.{in_front_is}
+use Rattle.ariadne_blocks.proofs.events.in_front_of_colon.Goals as goal
+
+-- as std strips it
+pub returns : goal.returns
+returns c =
+    in_front_is 58 c.args.text.now c.strip_suffix.result
+    (strip_suffix_char 58 c.args.text.now c.strip_suffix.result c.strip_suffix.ensures.cases (lit< tt))
