@@ -315,6 +315,7 @@ INCLUDED = re.compile(r"(?P<message>In file included from) (?P<path>[^:]+):(?P<l
 FROM = re.compile(r" +(?P<message>from) (?P<path>[^:]+):(?P<line>\d+)(?::(?P<column>\d+))?[,:]$")
 REQUIRED = re.compile(r"(?P<path>[^\s:][^:]*):(?P<line>\d+):(?P<column>\d+):   (?P<message>(?:required|in) .*)$")
 MARKS = re.compile(r"[ ~^]*[~^][ ~^]*$")
+PLACELESS = re.compile(r"(?:cc1: |cc1plus: )?note: (?P<words>.*)$")
 
 
 def message_and_code(words):
@@ -333,7 +334,7 @@ class Compiler(Reader):
     def take_head(self):
         match, name = self.match(HEAD)
         if not name:
-            return False
+            return self.take_placeless()
         message, code = message_and_code(match["words"])
         told = self.begin(match["kind"], code, message, name, match["line"], match["column"])
         self.take_ranges(told, match["ranges"])
@@ -342,6 +343,16 @@ class Compiler(Reader):
             self.at += 1
         self.take_snippet(told)
         return self.keep(told)
+
+    def take_placeless(self):
+        """Takes a note of the diagnostic in front that names no place."""
+        match = PLACELESS.match(self.row())
+        if not match or not self.current or self.current.last != self.at:
+            return False
+        self.at += 1
+        self.current.notes.append(Diagnostic(self.at, self.at, "note", None, match["words"]))
+        self.current.last = self.at
+        return True
 
     def is_detail(self, _):
         """Whether the next row goes on with the message of a head."""
@@ -376,6 +387,14 @@ class Gcc(Compiler):
     """gcc's text, with a gutter: quoted lines by their numbers, marks, labels and fix-its below them."""
 
     GUTTER = re.compile(r" *(\d+|\+\+\+)? \|(.*)$")
+    # What the analyzer's events begin with, each row of theirs, where a function returns, and the file of rows.
+    EVENTS = re.compile(r"  .*: events? \d+(?:-\d+)?$")
+    BAR = re.compile(r" *\|(.*)$")
+    RETURN = re.compile(r" *<-+\+$")
+    IN_FILE = re.compile(r"(?P<path>\S[^:]*):\d+:\d+:$")
+    # A second event at a mark has no bar of its own.
+    EVENT = re.compile(r"\(\d+\) ")
+    has_events = False
 
     def column(self, told, column):
         """gcc's text counts columns of a terminal."""
@@ -385,21 +404,35 @@ class Gcc(Compiler):
         return self.row().startswith("   ") and not self.GUTTER.match(self.row()) and not FROM.match(self.row())
 
     def take_snippet(self, told):
-        number, quote, columns = None, None, None
-        while self.GUTTER.match(self.row()) or self.row() == "......":
-            match = self.GUTTER.match(self.row())
+        path = told.path
+        while (row := self.snippet_row()) is not None:
             self.at += 1
+            match, file = self.GUTTER.match(row), self.IN_FILE.match(row)
             text = match[2].removeprefix(" ") if match else ""
-            if match and match[1] == "+++":
+            if file:
+                path = self.files.name(file["path"])
+            elif match and match[1] == "+++":
                 told.puts.append(text.removeprefix("+"))
             elif match and match[1]:
                 number, columns = int(match[1]), None
-                quote = self.quote(told.path, number, text)
+                quote = self.quote(path, number, text)
             elif match and columns is None:
-                columns, bars = self.take_marks(told, number, quote, text), set()
+                columns, bars = self.take_marks(told, path, number, quote, text), set()
             elif match:
                 bars = self.take_below(told, columns, bars, text)
         put_own_first(told)
+
+    def snippet_row(self):
+        """The next row of a snippet, which stands behind a bar where events are told; None where it is no row."""
+        row, behind = self.row(), self.BAR.match(self.row())
+        is_frame = self.EVENTS.match(row) or self.has_events and self.RETURN.match(row)
+        if is_frame or self.has_events and behind:
+            self.has_events = True
+            return "" if is_frame else behind[1]
+        if not self.GUTTER.match(row) and row != "......":
+            return None
+        self.has_events = False
+        return row
 
     def quote(self, path, number, text):
         """The line of a file that a row quotes."""
@@ -408,12 +441,12 @@ class Gcc(Compiler):
             raise ValueError(f"line {self.at} of the text doesn't quote {path}:{number}")
         return quote
 
-    def take_marks(self, told, number, quote, text):
+    def take_marks(self, told, path, number, quote, text):
         """Takes a row of marks. The columns that it marks lead to their pieces."""
         columns = {}
         for run in re.finditer(r"[~^]+", text):
             columns |= {column: len(told.pieces) for column in range(*run.span())}
-            told.pieces.append(piece_of_run(told.path, number, quote, run))
+            told.pieces.append(piece_of_run(path, number, quote, run))
         return columns
 
     def take_below(self, told, columns, bars, text):
@@ -421,12 +454,16 @@ class Gcc(Compiler):
         that go on come back."""
         words = {run.start(): run[0] for run in re.finditer(r"\|(?= |$)|\S+(?: \S+)*", text)}
         going_on = {column for column, word in words.items() if word == "|"}
-        if not going_on and not set(words) <= bars:
+        if not going_on and not set(words) <= bars and not all(map(self.EVENT.match, words.values())):
             told.puts += [word for word in words.values() if word.strip("-")]
             return bars
         for column in set(words) - going_on:
             place = columns[column]
-            told.pieces[place] = told.pieces[place]._replace(label=words[column])
+            piece = told.pieces[place]._replace(label=words[column])
+            if told.pieces[place].label:
+                told.pieces.append(piece)
+            else:
+                told.pieces[place] = piece
         return going_on
 
 
@@ -458,7 +495,7 @@ class Clang(Compiler):
 
     def is_known(self):
         """Whether the next row is one that can stand behind marks."""
-        patterns = (HEAD, self.SUM, *self.FRONTS, re.compile(r"===|Found compiler error|$"))
+        patterns = (HEAD, PLACELESS, self.SUM, *self.FRONTS, re.compile(r"===|Found compiler error|$"))
         return any(pattern.match(self.row()) for pattern in patterns)
 
 
@@ -588,11 +625,11 @@ class Mypy(Reader):
         left_out = Quote(line, row).left_out
         if left_out and not line.isascii():
             return
-        start, last = (self.byte_at(line, run.start(1) - 4 + left_out + at) for at in (0, len(run[1]) - 1))
+        start, behind = (self.byte_at(line, at - 4 + left_out) for at in run.span(1))
         if start is not None:
             told.column = self.column(told, start + 1)
-            is_whole = len(run[1]) > 1 and not run[2] and self.byte_at(line, run.end(1) - 4 + left_out) is not None
-            end = (told.line, self.column(told, last + 1) + 1) if is_whole else ()
+            is_whole = len(run[1]) > 1 and not run[2] and behind is not None
+            end = (told.line, self.column(told, behind) + 1) if is_whole else ()
             told.pieces = [Piece(told.path, told.line, told.column, *end)]
 
     @staticmethod
@@ -747,15 +784,20 @@ class RustcJson(Json):
         return told
 
     def pieces(self, span):
-        """The piece of a span, if it is in one of the files. Where a macro has the span in its body, there
-        are those of the calls around it."""
+        """The pieces of a span: where it is, or else the first of the macro calls around it that is in one of the
+        files; and where the outermost of them is, if it isn't around that."""
+        spans = list(self.spans_around(span))
+        own = [it for it in spans if it.path]
+        yield from own[:1]
+        if own and spans[-1].path and not is_within(own[0], spans[-1]):
+            yield spans[-1]
+
+    def spans_around(self, span):
+        """Where a span is, and the macro calls around it, the innermost first."""
         name = self.files.name(span["file_name"])
-        piece = Piece(name, *(span[it] for it in ("line_start", "column_start", "line_end", "column_end", "label")))
-        if name:
-            yield piece
-        for call in self.pieces(span["expansion"]["span"]) if span["expansion"] else ():
-            if name is None or not is_within(piece, call):
-                yield call
+        yield Piece(name, *(span[it] for it in ("line_start", "column_start", "line_end", "column_end", "label")))
+        if span["expansion"]:
+            yield from self.spans_around(span["expansion"]["span"])
 
 
 def is_within(piece, other):

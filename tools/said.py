@@ -44,6 +44,8 @@ CPPCHECK = ("cppcheck", "--enable=all")
 CPPCHECK_FILES = ("corpus/c/09*.c", "corpus/c/11*.c", "corpus/c/19*.c", "corpus/c/20*.c", "corpus/cpp/[01][156]*.cpp")
 GONE = "cp {} {out}/gone.c; gcc -Wall -fsyntax-only {out}/gone.c; rm {out}/gone.c"
 EVENTS = ("gcc", "-fanalyzer", "-fdiagnostics-format=json", "-c", "-o", "{out}/x.o", "{}")
+PATHS, PATH_FILES = ("gcc", "-fanalyzer", "-c", "-o", "{out}/x.o", "{}"), ("corpus/events/*.c", "corpus/paths/*.c")
+OVERLAPPING = "-checks=-*,readability-braces-*,readability-else-*,readability-implicit-*,readability-simplify-*"
 DISPLAY, CHARS = ("--columns=display",), ("--columns=chars",)
 TEXTS = {
     "gcc_carets": Text("gcc", (*GCC, "{}"), C, DISPLAY),
@@ -65,6 +67,7 @@ TEXTS = {
     "rustc": Text("rustc json", (*RUST, "--error-format=json", "{}"), RUST_FILES),
     "rustc_text": Text("rustc", (*RUST, "{}"), RUST_FILES),
     "rustc_color": Text("rustc", (*RUST, "--color=always", "{}"), RUST_FILES, like="rustc_text"),
+    "rustc_helps": Text("rustc json", (*RUST, "--error-format=json", "{}"), ("corpus/helps/*.rs",)),
     "cargo_workspace": Text("rustc json", CARGO, folder="corpus/cargo"),
     "cargo_member": Text("rustc json", CARGO, folder="corpus/cargo/pear"),
     "cargo_targets": Text("rustc json", (*CARGO, "--all-targets", "--keep-going"), folder="corpus/cargo"),
@@ -80,10 +83,15 @@ TEXTS = {
     "pylint_color": Text("pylint", ("pylint", "--output-format=colorized", "{}"), PY, like="pylint"),
     "erlc": Text("erlc", ("erlc", "-o", "{out}", "{}"), ("corpus/erl/*.erl",), CHARS),
     "shellcheck": Text("shellcheck", ("shellcheck", "-f", "gcc", "{}"), ("corpus/sh/*.sh",), CHARS),
+    "clang_tidy_overlaps": Text("clang", ("clang-tidy", OVERLAPPING, "{}", "--"), ("corpus/overlaps/*.cpp",)),
+    "gcc_paths": Text("gcc", PATHS, PATH_FILES, DISPLAY),
+    "gcc_paths_apart": Text("gcc", (*PATHS, "-fdiagnostics-path-format=separate-events"), PATH_FILES, DISPLAY),
+    "gxx_unmet": Text("gcc", (*GXX, "{}"), ("corpus/unmet/*.cpp",), DISPLAY),
     "gxx_repeats": Text("gcc", (*GXX, "{}"), ("corpus/repeats/*.cpp",), DISPLAY),
     "gcc_events": Text("gcc json", EVENTS, ("corpus/events/*.c",)),
     "rustc_short": Text("rustc short", (*RUST, "--error-format=short", "{}"), ("corpus/short/*.rs",)),
     "javac_sums": Text("javac", ("javac", "-Xlint", "-d", "{out}", "{}"), ("corpus/sums/*.java",)),
+    "mypy_imports": Text("mypy", (*MYPY, "--pretty", "{}"), ("corpus/imports/*.py",)),
     "mypy_lines": Text("mypy", (*MYPY, "--show-error-end", "{}"), ("corpus/lines/*.py",)),
     "gone": Text("gcc", ("sh", "-c", GONE), ("corpus/c/1[178]*.c",)),
     "log": Text("none", ()),

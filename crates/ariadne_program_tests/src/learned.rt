@@ -77,6 +77,11 @@ fn taken_text(alloc: Global, taken: &Taken<'_>) -> Result<String, AllocError> {
         Taken::Nothing => String::from_str(alloc, ""),
         Taken::Ranges(marks) => marks_text(alloc, marks.as_slice()),
         Taken::Labels(labels) => labels_text(alloc, labels.as_slice()),
+        Taken::Begun(mark, start) => {
+            let line = start.line;
+            let offset = start.offset;
+            format!(in alloc; "begun {mark}={line}:{offset}")
+        }
         Taken::Fixes(fixes) => fixes_text(alloc, fixes.as_slice()),
         Taken::Note(said) => format!(in alloc; "note {said}"),
         Taken::Help(said) => format!(in alloc; "help {said}"),

@@ -17,8 +17,8 @@ const NO_MEMORY: &[u8] = b"ariadne-show: no memory\n";
 
 /// What tools print, with a `@` for the folder of its files: JSON of cargo's about a file that is gone,
 /// with half of a pair that stands alone; a line of make's; a report with a name of its own; gcc's text with
-/// lines in front, a snippet and notes; rustc's text; a line that its file lacks; mypy's text; and a line that
-/// passes.
+/// lines in front, a snippet and notes; rustc's text, with a place that isn't here; a line that its file
+/// lacks; mypy's text; and a line that passes.
 ///
 /// The longest line stands first. Where there is no memory for a line, a diagnostic that is held is shown
 /// as it was read, as in front of a line that can't be read: that is no beginning of the whole.
@@ -55,6 +55,8 @@ note: n
 1 | let x = y;
   |     ^
   = help: h
+note: p
+ --> gone.c:1:5
 a.c:9:1: error: m
 b.py:1: error: m
 aaaaaaaaaaaaaaaaaaaaaaaaaaaaaaaaaaaaaaaaaaaaaaaaaaaaaaaaaaaaaaaaaaaaaaaaaaaaaaaaa

@@ -294,6 +294,98 @@ fn bytes_in_marks_of_mypy(rt: HostRuntime) {
     }
 }
 
+/// mypy's column of an import that isn't found is the first of the line, in the white space in front of it: blanks, or
+/// tabs that it shows as 8 blanks each.
+#[test]
+fn marks_in_white_space_of_mypy(rt: HostRuntime) {
+    let cases = [
+        (
+            "    import notamodule",
+            "        import notamodule",
+            "    ^",
+            " 1:0..1^",
+        ),
+        (
+            "\t\timport not_there",
+            "                    import not_there",
+            "    ^~~~~~~~",
+            " 1:0..1^",
+        ),
+        (
+            "\t  import not_there",
+            "              import not_there",
+            "            ^",
+            " 1:1..2^",
+        ),
+    ];
+    for (line, quote, marks, want) in cases {
+        assert_learned(&rt, &[line], 1, None, &[(quote, ""), (marks, want)]);
+    }
+}
+
+/// A note of clang-tidy and g++ may name no place: it stands behind marks, or behind what is to be put there.
+#[test]
+fn notes_without_a_place(rt: HostRuntime) {
+    let overlaps = "note: this fix will not be applied because it overlaps with another fix";
+    assert_learned(
+        &rt,
+        &["    if (n > 3)"],
+        1,
+        Some(14),
+        &[
+            ("    if (n > 3)", ""),
+            ("              ^", " 1:14..15^"),
+            ("               {", " put 1:14 {"),
+            (
+                overlaps,
+                "note this fix will not be applied because it overlaps with another fix",
+            ),
+            ("               {", "no"),
+        ],
+    );
+    assert_learned(
+        &rt,
+        &["    show(1);"],
+        1,
+        Some(8),
+        &[
+            ("    1 |     show(1);", ""),
+            ("      |     ~~~~^~~", " 1:4..11^"),
+            ("cc1plus: note: set more", "note set more"),
+            ("cc1: note: set more", "note set more"),
+            ("      |     ~~~~^~~", "no"),
+        ],
+    );
+    assert_learned(
+        &rt,
+        &["    show(1);"],
+        1,
+        Some(8),
+        &[("    show(1);", ""), (overlaps, "no")],
+    );
+}
+
+/// Where events share a mark, one bar stands above all of them.
+#[test]
+fn events_at_one_mark(rt: HostRuntime) {
+    assert_learned(
+        &rt,
+        &["    free(b); free(a);"],
+        1,
+        None,
+        &[
+            ("    1 |     free(b); free(a);", ""),
+            ("      |     ~~~~~~~  ~~~~~~~", " 1:4..11 1:13..20"),
+            ("      |     |        |", ""),
+            ("      |     |        (2) ...to here", " 1=(2) ...to here"),
+            ("      |     |        (3) freed here", " 1=(3) freed here"),
+            ("      |     (1) first", " 0=(1) first"),
+            ("      |     (4) more", " 0=(4) more"),
+            ("      |     if", " put 1:4 if"),
+        ],
+    );
+}
+
 /// clang gives one of these wide characters two columns, and the other one.
 #[test]
 fn wide_characters_of_clang(rt: HostRuntime) {

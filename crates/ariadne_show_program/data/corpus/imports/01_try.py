@@ -1,0 +1,4 @@
+try:
+    import notamodule
+except ImportError:
+    pass
