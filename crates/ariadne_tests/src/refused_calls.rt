@@ -184,6 +184,8 @@ pub(crate) const CALLS: &[(&str, &[&str])] = &[
             "Block::add_note",
             "Block::add_place",
             "Block::quote",
+            "Block::tell_place",
+            "named_place",
             "Block::take_more",
             "Block::take_row",
             "Snippet::take",
