@@ -1,21 +1,23 @@
 """Edits of a crate's code that the prover has to refuse, and copies of a crate in which they are made.
 
-An edit is a file in the form that `rt` reads, with one line more, which it passes over:
+An edit is a file in the form that `rt` reads, with one line more or two, which it passes over:
 
     # by: MODULE::TYPE::FUNCTION   the function whose proof refuses it, as the prover names it below the crate
+    # with: FUNCTION ..            functions that it calls, without whose bodies its proof file is not read; or no line
     file: src/lines.rt
     old: column.saturating_add(1)  stands once in that file, in the body of this function or outside of all bodies
     new: column
 
 A function is proved from its own body and from the contracts of what it calls. So a copy has the bodies of
-the functions alone that its edits name, and the proof of the others is not paid for.
+the functions alone that its edits name, and the proof of the others is not paid for. But a proof file is read
+only where those of the functions that it calls can be, and one that names steps can't without their body.
 """
 
 import re
 import shutil
 from typing import NamedTuple
 
-LINE = re.compile(r"^(# by|file|old|new): ?(.*)$", re.M)
+LINE = re.compile(r"^(# by|# with|file|old|new): ?(.*)$", re.M)
 FUNCTION = re.compile(r"^( *)(?:pub(?:\([a-z ]+\))? )?(?:const )?(?:unsafe )?fn (\w+)")
 LEFT_OUT = "unreachable!()"  # stands for a body that a copy doesn't have, whatever the function returns
 PARTS = ("src", "specs", "proofs")
@@ -26,11 +28,13 @@ class BadEdit(ValueError):
 
 
 class Edit(NamedTuple):
-    """A wrong belief, the function that refuses it, and what it changes: a file, its text and a new one, each."""
+    """A wrong belief, the function that refuses it, what it changes: a file, its text and a new one, each, and the
+    functions that keep their bodies beside that one."""
 
     name: str
     by: str
     pairs: tuple
+    beside: tuple
 
     def function(self):
         """The name of the function alone."""
@@ -39,17 +43,19 @@ class Edit(NamedTuple):
 
 def read_edit(name, text):
     """The edit of this name and text. It may be cut short, which `made` tells."""
-    by, file, old, pairs = "", "", "", []
+    by, file, old, pairs, beside = "", "", "", [], ()
     for word, rest in LINE.findall(text):
         if word == "# by":
             by = rest
+        elif word == "# with":
+            beside = tuple(rest.split())
         elif word == "file":
             file = rest
         elif word == "old":
             old = rest
         else:
             pairs.append((file, old, rest))
-    return Edit(name, by, tuple(pairs))
+    return Edit(name, by, tuple(pairs), beside)
 
 
 def edits_in(folder):
@@ -140,6 +146,7 @@ def copied(edits, texts, are_made=True):
             raise BadEdit(f"it stands in the body of another function than {edit.by}")
     for edit in edits if are_made else []:
         texts = made(edit, texts)
+    kept.update(*(edit.beside for edit in edits))
     return {file: without_bodies(text, kept) for file, text in texts.items()}
 
 
