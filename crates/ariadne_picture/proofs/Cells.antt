@@ -1,6 +1,7 @@
 -- The cells of a row, by its name.
 pub mod CanvasRows
 pub mod LineColumns
+pub mod CutLines
 pub mod RowCells
 pub mod MarginTexts
 pub mod GutterInks

@@ -13,10 +13,10 @@ use Rattle.ariadne_picture.specs.Report.{ReportFields, World}
 use Rattle.ariadne_picture.specs.Groups.{printed_number}
 use Rattle.ariadne_picture.specs.Ranks.{Sheet, last_line, gutter_labels, is_margin}
 use Rattle.ariadne_picture.specs.Rows.{Row, before}
-use Rattle.ariadne_picture.specs.Columns.{Layout, column_of, shown}
+use Rattle.ariadne_picture.specs.Columns.{Layout, shown}
 use Rattle.ariadne_picture.specs.Strokes.{Spot, corner, level, free, first_row, last_row, has_tee}
 use Rattle.ariadne_picture.specs.Cells.{arrow_ink}
-use Rattle.ariadne_picture.specs.Pieces.{Piece, Section, char_paint, char_pieces, section_rows}
+use Rattle.ariadne_picture.specs.Pieces.{Piece, Section, char_paint, source_pieces, section_rows}
 use Rattle.ariadne_picture.specs.Canvas.{Cell, header_pieces, texts_of, group_id, groups, number_width, section_of, sections, outline}
 use Rattle.ariadne_picture.specs.Placing.Rows.{Placing}
 use Rattle.ariadne_picture.proofs.Lists.Joined.{joined-map}
@@ -49,7 +49,7 @@ arrow_ink_by switches r x at_corner crossed vertical = arrow_ink switches r x (s
 -- the pieces of the character at place k
 abbrev pub place_pieces : Switches → List LabelInfo → Layout → ℕ → List Piece
 place_pieces switches multi_line y k =
-    char_pieces switches (char_paint multi_line y k) (column_of switches y k) (slice_index (shown y) k)
+    source_pieces switches (char_paint multi_line y k) y k (slice_index (shown y) k)
 
 -- row n has the head or the message of a gutter label before i
 abbrev pub is_crossed_in : List (List Cell) → List Section → Placing → ℕ → Section → ℕ → ℕ → Bool

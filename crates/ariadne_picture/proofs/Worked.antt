@@ -5,6 +5,8 @@ mod InlinePictures
 mod LonePictures
 mod ColumnPictures
 mod ContextPictures
+mod CutPictures
+mod CutReadings
 mod GroupPictures
 mod LongLabelPictures
 mod AsidePictures

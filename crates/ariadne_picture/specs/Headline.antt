@@ -22,7 +22,7 @@ use Rattle.ariadne_picture.specs.Causes.{has_no_other_strokes}
 use Rattle.ariadne_picture.specs.GutterCauses.{has_no_other_gutter_strokes}
 use Rattle.ariadne_picture.specs.LabelColors.{label_color, has_label_colors}
 use Rattle.ariadne_picture.specs.LoneLines.{has_lone_underlines}
-use Rattle.ariadne_picture.specs.ReadBack.{HaveShortNumbers, IsReadBack}
+use Rattle.ariadne_picture.specs.ReadBack.{HaveShortNumbers, HaveWholeLines, IsReadBack, IsReadBackByGutters}
 use Rattle.ariadne_picture.specs.Readings.{AgreeOnStrokes}
 use Rattle.ariadne_picture.specs.Variants.{HaveNoEscapes, ColorsMoveNothing}
 use Rattle.ariadne_picture.specs.Variants.{BytesDrawAsCharacters}
@@ -69,7 +69,8 @@ pub record Headline {S Id : Type 0} (w : World S Id) (r : ReportFields S) (infos
   pub each_message_is_traced : IsTraced (canvas w r infos) (sections w r infos)
       (texts_of r).message_of (label_color r)
   pub in_one_way : AreReadInOneWay (canvas w r infos) (sections w r infos) (texts_of r).message_of
-  pub and_can_be_read_back : HaveShortNumbers w → IsReadBack w r infos
+  pub and_can_be_read_back : HaveShortNumbers w → HaveWholeLines w r infos → IsReadBack w r infos
+  pub by_their_gutters_also_where_lines_are_cut : HaveShortNumbers w → IsReadBackByGutters w r infos
   pub each_cell_takes_the_columns_of_its_text : HaveColumnsOfTexts (canvas w r infos)
   pub its_rows_are_the_lines_that_are_sent : HaveNoEscapes w r → HaveNoLineFeeds w r
       → RowsAreLines (canvas w r infos)

@@ -8,6 +8,7 @@ use Rattle.std.specs.Char.{is_whitespace}
 use Rattle.std.specs.Str.Lines.{lines}
 use Rattle.ariadne_base.specs.Locations.{line_at, column_at, upto}
 use Rattle.ariadne_picture.specs.declared.switches.CharSet.{CharSet}
+use Rattle.ariadne_picture.specs.declared.switches.CharSet.TheVariants.{Unicode, Ascii}
 use Rattle.ariadne_picture.specs.declared.label_info.LabelInfo.{LabelInfo}
 use Rattle.ariadne_picture.specs.declared.label_info.LineLabel.{LineLabel}
 use Rattle.ariadne_picture.specs.declared.cell.Glyph.{Glyph}
@@ -23,8 +24,10 @@ use Rattle.ariadne_picture.specs.Groups.{printed_number}
 use Rattle.ariadne_picture.specs.Ranks.{Sheet, is_start, multi_line_labels, gutter_labels}
 use Rattle.ariadne_picture.specs.Rows.{Aside, help, note, Row, group_header, spacer, source}
 use Rattle.ariadne_picture.specs.Rows.{alternate, arrow, gap, bare, piece, tail, rows}
+use Rattle.ariadne_picture.specs.declared.sight.Sight.{Sight}
+use Rattle.ariadne_picture.specs.declared.sight.Sight.TheVariants.{Seen, Marked, Unseen}
 use Rattle.ariadne_picture.specs.Columns.{Layout, layout_of, text_columns, shown, shown_columns}
-use Rattle.ariadne_picture.specs.Columns.{column_of, width, arrow_len}
+use Rattle.ariadne_picture.specs.Columns.{whole_column, sight_of, mark_columns, width, arrow_len}
 use Rattle.ariadne_picture.specs.Strokes.{holds, is_preferred}
 use Rattle.ariadne_picture.specs.Cells.{glyph_code, paint_of, alternate_place, arrow_place, column_ink}
 
@@ -88,10 +91,27 @@ char_pieces switches paint column c =
     if c == 9 then replicate columns (record { text = 32 ∷ []; paint = paint; columns = 1 })
     else record { text = shown_text c; paint = paint; columns = columns } ∷ []
 
--- the text of a source row, character by character
+-- the mark in place of what is cut
+unfoldable pub mark_text : CharSet → List ℕ
+mark_text Unicode = encode_utf8 0x2026
+mark_text Ascii = codes "..."
+
+-- what is seen of place k of a line, whose character is c
+unfoldable pub seen_pieces : Switches → Paint → Layout → ℕ → ℕ → Sight → List Piece
+seen_pieces switches paint y k c Seen =
+    char_pieces switches paint (whole_column switches.tab_width (shown y) k) c
+seen_pieces switches paint y k c Marked =
+    record { text = mark_text switches.char_set; paint = paint; columns = mark_columns switches.char_set } ∷ []
+seen_pieces switches paint y k c Unseen = []
+
+-- the cells of place k of a source row, whose character is c
+unfoldable pub source_pieces : Switches → Paint → Layout → ℕ → ℕ → List Piece
+source_pieces switches paint y k c = seen_pieces switches paint y k c (sight_of y k)
+
+-- the text of a source row, place by place
 unfoldable pub shown_pieces : Switches → List LabelInfo → Layout → List Piece
 shown_pieces switches multi_line y =
-    joined (λ k. char_pieces switches (char_paint multi_line y k) (column_of switches y k) (slice_index (shown y) k))
+    joined (λ k. source_pieces switches (char_paint multi_line y k) y k (slice_index (shown y) k))
     (upto (length (shown y)))
 
 -- ---- the text area of an alternate or arrow row, whose place k has this ink

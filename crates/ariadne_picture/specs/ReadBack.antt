@@ -12,4 +12,5 @@ pub mod Labels
 pub mod Reports
 pub use Rattle.ariadne_picture.specs.ReadBack.Answer.{End, Told, read_back}
 pub use Rattle.ariadne_picture.specs.ReadBack.Labels.{labels_told}
-pub use Rattle.ariadne_picture.specs.ReadBack.Reports.{HaveShortNumbers, IsReadBack, group_sources}
+pub use Rattle.ariadne_picture.specs.ReadBack.Reports.{HaveShortNumbers, HasWholeLines, HaveWholeLines, group_sources}
+pub use Rattle.ariadne_picture.specs.ReadBack.Reports.{group_sources_and_gutters, IsReadBack, IsReadBackByGutters}

@@ -23,6 +23,7 @@ pub record ConfigFields : Type 0 where
   pub color : Bool
   pub tab_width : ℕ
   pub context_lines : ℕ
+  pub width : ℕ
   pub char_set : CharSet
   pub index_type : IndexType
 
@@ -38,6 +39,7 @@ default_config = record {
   color = true;
   tab_width = 4;
   context_lines = 0;
+  width = 0;
   char_set = Unicode;
   index_type = Char;
 }
@@ -116,5 +118,6 @@ switches_of config = record {
   multiline_arrows = config.multiline_arrows;
   tab_width = config.tab_width;
   context_lines = config.context_lines;
+  width = config.width;
   char_set = config.char_set;
 }

@@ -3,7 +3,7 @@
 
 ghost use Rattle.std.specs.Prelude.{◌≡◌, ◌↔◌, ◌⊎◌, ℕ, Bool, true, List, [], Some, None};
 ghost use Rattle.std.specs.Prelude.{◌≤◌, nat_lt, int_lt, length, slice_get, IsTrue, IsFalse};
-ghost use Rattle.std.specs.Prelude.{is_some, option_and_then};
+ghost use Rattle.std.specs.Prelude.{◌+◌, ◌++◌, map, is_some, option_and_then, option_to_list};
 ghost use Rattle.std.specs.Prelude.{All, AllPairs, Contains, IsPermutation, IsSortedBy};
 ghost use Rattle.std.specs.Cmp.{IsStrictWeakOrder};
 ghost use Rattle.std.specs.List.{AllByRecursion, IsFirstBest};
@@ -12,7 +12,10 @@ ghost use Rattle.ariadne_picture.specs.declared.cell.Glyph.TheVariants.{Blank, H
 ghost use Rattle.ariadne_picture.specs.declared.cell.Glyph.TheVariants.{Lbot, Lcross, Ltop};
 ghost use Rattle.ariadne_picture.specs.declared.cell.Glyph.TheVariants.{Rarrow, VbarGap};
 ghost use Rattle.ariadne_picture.specs.declared.label_info.LabelInfo.{LabelInfo};
+ghost use Rattle.ariadne_picture.specs.declared.label_info.LineLabel.{LineLabel};
 ghost use Rattle.ariadne_picture.specs.declared.label_info.Side.TheVariants.{Starts, Ends};
+ghost use Rattle.ariadne_picture.specs.declared.sight.Sight.TheVariants.{Seen};
+ghost use Rattle.ariadne_picture.specs.declared.switches.Switches.{Switches};
 ghost use Rattle.ariadne_picture.specs.Accept.{AreAccepted};
 ghost use Rattle.ariadne_picture.specs.Bars.{BarBesideAlternate, BarBesideArrow, BarBesideLine};
 ghost use Rattle.ariadne_picture.specs.Bars.{EndsNoEarlier, IsLineLabel, IsMarginLabel};
@@ -21,6 +24,9 @@ ghost use Rattle.ariadne_picture.specs.Bars.{IsInside, IsOutside, Shows};
 ghost use Rattle.ariadne_picture.specs.Blocks.{has_whole_blocks};
 ghost use Rattle.ariadne_picture.specs.Canvas.{Cell, canvas, group_id, groups, sections, texts_of};
 ghost use Rattle.ariadne_picture.specs.Causes.{has_no_other_strokes};
+ghost use Rattle.ariadne_picture.specs.Columns.{cut_columns, goes_on, layout_of, needed_labels};
+ghost use Rattle.ariadne_picture.specs.Columns.{or_begin, parts_of, place_part, shown};
+ghost use Rattle.ariadne_picture.specs.Columns.{sight_of, widened};
 ghost use Rattle.ariadne_picture.specs.GutterCauses.{has_no_other_gutter_strokes};
 ghost use Rattle.ariadne_picture.specs.Groups.{AreGroupsOf, group_start_line, groups_of, ordered};
 ghost use Rattle.ariadne_picture.specs.Headline.{AreReadInOneWay, CanBeRead, IsReadBy, IsTraced};
@@ -31,9 +37,10 @@ ghost use Rattle.ariadne_picture.specs.Placing.{has_ends_of_gutter_traces, has_g
 ghost use Rattle.ariadne_picture.specs.Placing.{has_inline_traces, has_message_rows, is_aligned};
 ghost use Rattle.ariadne_picture.specs.Placing.{Placing, is_placing};
 ghost use Rattle.ariadne_picture.specs.Ranks.{Sheet, is_before, is_hidden, is_nearer_margin};
-ghost use Rattle.ariadne_picture.specs.Ranks.{gutter_labels};
+ghost use Rattle.ariadne_picture.specs.Ranks.{gutter_labels, line_labels, margin_label};
 ghost use Rattle.ariadne_picture.specs.Ranks.{span_len};
-ghost use Rattle.ariadne_picture.specs.ReadBack.{HaveShortNumbers, IsReadBack};
+ghost use Rattle.ariadne_picture.specs.ReadBack.{HaveShortNumbers, HaveWholeLines};
+ghost use Rattle.ariadne_picture.specs.ReadBack.{IsReadBack, IsReadBackByGutters};
 ghost use Rattle.ariadne_picture.specs.Readings.{AgreeOnEnds, AgreeOnHeads, AgreeOnLines};
 ghost use Rattle.ariadne_picture.specs.Report.{AreForward, HaveOneSource, ReportFields, World};
 ghost use Rattle.ariadne_picture.specs.RowNames.{HasRow};
@@ -347,14 +354,54 @@ pub fn pictures_are_read_in_one_way<S, Id>()
         → AreReadInOneWay (canvas w r infos) (sections w r infos) (texts_of r).message_of }
 {}
 
+/// Where a line is cut, what strokes lead to is seen: the place of each of its labels that has a
+/// message, and of its margin label.
+pub fn strokes_lead_to_what_is_seen()
+    ensures { (s : Sheet) (l k : ℕ) (x : LineLabel)
+        → slice_get (option_to_list (margin_label s l) ++ line_labels s l) k ≡ Some x
+        → x.info.has_message ≡ true → sight_of (layout_of s l) x.place ≡ Seen }
+{}
+
+/// Letters are seen whole: a place that goes on with a letter, as an accent does, is seen where that
+/// letter is, and nowhere else. So no mark takes the accent of a letter that is cut.
+pub fn letters_are_seen_whole()
+    ensures { (s : Sheet) (l k : ℕ) → let y = layout_of s l in
+        goes_on s.switches.tab_width (shown y) (k + 1) ≡ true
+        → (sight_of y k ≡ Seen) ↔ (sight_of y (k + 1) ≡ Seen) }
+{}
+
+/// A line that is cut takes no more columns than are asked for, or it shows the letters that strokes
+/// lead to and no others.
+pub fn cut_lines_fit()
+    ensures { (switches : Switches) (offset : ℕ) (labels : List LineLabel) (text : List ℕ)
+        → let parts = parts_of switches offset labels text in
+        (cut_columns switches text parts ≤ switches.width)
+        ⊎ (parts ≡ widened switches.tab_width text 0
+        (or_begin (map place_part (needed_labels labels)))) }
+{}
+
+/// Where no width is asked for, lines are shown whole.
+pub fn lines_are_whole_without_a_width()
+    ensures { (s : Sheet) (l k : ℕ) → s.switches.width ≡ 0 → sight_of (layout_of s l) k ≡ Seen }
+{}
+
 /// Pictures can be read back: from the rows, the sources of the groups and the switches alone, without
 /// any label, each message is found with the line and the column, or the two ends, that its strokes
 /// lead to. That is what the labels are, in another order. The numbers of lines have to be below
-/// 2 ^ 64, as those of a `Source` are, so that no two are printed alike.
+/// 2 ^ 64, as those of a `Source` are, so that no two are printed alike. No line of a group may be
+/// cut: the cells of a cut one don't tell how many stand before its text.
 pub fn pictures_can_be_read_back<S, Id>()
     ensures { (w : World S Id) (r : ReportFields S) (infos : List LabelInfo)
         → AreAccepted w r infos → HaveOneSource w → AreForward w r → HaveShortNumbers w
-        → IsReadBack w r infos }
+        → HaveWholeLines w r infos → IsReadBack w r infos }
+{}
+
+/// Also where lines are cut, pictures can be read back by one who knows besides how many gutter
+/// columns each group has. The columns are then those of the text as it is shown.
+pub fn cut_pictures_can_be_read_back<S, Id>()
+    ensures { (w : World S Id) (r : ReportFields S) (infos : List LabelInfo)
+        → AreAccepted w r infos → HaveOneSource w → AreForward w r → HaveShortNumbers w
+        → IsReadBackByGutters w r infos }
 {}
 
 /// Each cell of a picture takes the columns of the characters of its text. So alignment is a fact of

@@ -35,5 +35,6 @@
 pub mod cell;
 pub mod label_info;
 pub mod laws;
+pub mod sight;
 pub mod switches;
 pub mod verdict;

@@ -40,5 +40,7 @@ pub struct Switches {
     pub tab_width: usize,
     /// How many lines without labels are shown before and behind each that has some.
     pub context_lines: usize,
+    /// How many columns of its text a line may take, or 0 where it may take any.
+    pub width: usize,
     pub char_set: CharSet,
 }

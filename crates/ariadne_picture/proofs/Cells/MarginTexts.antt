@@ -17,9 +17,11 @@ use Rattle.ariadne_picture.specs.declared.label_info.LabelInfo.{LabelInfo}
 use Rattle.ariadne_picture.specs.Lists.{joined_numbered}
 use Rattle.ariadne_picture.specs.Groups.{printed_number}
 use Rattle.ariadne_picture.specs.Rows.{Row, source, alternate, arrow}
-use Rattle.ariadne_picture.specs.Columns.{Layout, shown, shown_columns, column_of}
+use Rattle.ariadne_picture.specs.declared.sight.Sight.{Sight}
+use Rattle.ariadne_picture.specs.declared.sight.Sight.TheVariants.{Seen, Marked, Unseen}
+use Rattle.ariadne_picture.specs.Columns.{Layout, shown, shown_columns, whole_column, sight_of, mark_columns}
 use Rattle.ariadne_picture.specs.Cells.{glyph_code}
-use Rattle.ariadne_picture.specs.Pieces.{blank_piece, Piece, Section, spaces, glyph_text, char_pieces, char_paint}
+use Rattle.ariadne_picture.specs.Pieces.{blank_piece, Piece, Section, spaces, glyph_text, char_pieces, char_paint, mark_text, seen_pieces, source_pieces}
 use Rattle.ariadne_picture.specs.Pieces.{shown_text, shown_pieces, margin_text, margin_paint, margin_pieces}
 use Rattle.ariadne_picture.specs.Placing.Together.{unindented}
 use Rattle.ariadne_picture.proofs.Lists.Joined.{joined-numbered, map-joined, joined-same}
@@ -140,9 +142,27 @@ same-cells f same switches paint x c = elim (cases_Bool (c == 9)) [
   | inr other ↦ rw other (ap (λ x. x ∷ []) (same (shown_text c) paint Plain (shown_columns switches.tab_width x c)))
 ]
 
--- the cells of all characters
+-- so it is with what is seen of a place
+same-seen : {X : Type 0} (f : Piece → X) → ((text : List ℕ) (p q : Paint) (n : ℕ)
+    → f (record { text = text; paint = p; columns = n }) ≡ f (record { text = text; paint = q; columns = n }))
+    → (switches : Switches) (paint : Paint) (y : Layout) (k c : ℕ) (sight : Sight)
+    → map f (seen_pieces switches paint y k c sight) ≡ map f (seen_pieces switches Plain y k c sight)
+unfolding seen_pieces
+same-seen f same switches paint y k c Seen = same-cells f same switches paint (whole_column switches.tab_width (shown y) k) c
+same-seen f same switches paint y k c Marked =
+    ap (λ x. x ∷ []) (same (mark_text switches.char_set) paint Plain (mark_columns switches.char_set))
+same-seen f same switches paint y k c Unseen = refl
+
+same-source : {X : Type 0} (f : Piece → X) → ((text : List ℕ) (p q : Paint) (n : ℕ)
+    → f (record { text = text; paint = p; columns = n }) ≡ f (record { text = text; paint = q; columns = n }))
+    → (switches : Switches) (paint : Paint) (y : Layout) (k c : ℕ)
+    → map f (source_pieces switches paint y k c) ≡ map f (source_pieces switches Plain y k c)
+unfolding source_pieces
+same-source f same switches paint y k c = same-seen f same switches paint y k c (sight_of y k)
+
+-- the cells of all places
 abbrev pub plain_cells : Switches → Layout → List Piece
-plain_cells switches y = joined_numbered (λ k. char_pieces switches Plain (column_of switches y k)) (shown y)
+plain_cells switches y = joined_numbered (source_pieces switches Plain y) (shown y)
 
 -- so it is with those of a source row
 pub shown-alike : {X : Type 0} (f : Piece → X) → ((text : List ℕ) (p q : Paint) (n : ℕ)
@@ -152,11 +172,11 @@ unfolding shown_pieces
 shown-alike f same switches labels y =
     map-joined f (place_pieces switches labels y) (upto (length (shown y)))
     ∙ joined-same (λ (k : ℕ). map f (place_pieces switches labels y k))
-    (λ (k : ℕ). map f (char_pieces switches Plain (column_of switches y k) (slice_index (shown y) k)))
-    (λ k. same-cells f same switches (char_paint labels y k) (column_of switches y k) (slice_index (shown y) k)) (upto (length (shown y)))
-    ∙ joined-numbered (λ e. map f (char_pieces switches Plain (column_of switches y e.0) e.1)) (shown y) 0 (shown y)
+    (λ (k : ℕ). map f (source_pieces switches Plain y k (slice_index (shown y) k)))
+    (λ k. same-source f same switches (char_paint labels y k) y k (slice_index (shown y) k)) (upto (length (shown y)))
+    ∙ joined-numbered (λ e. map f (source_pieces switches Plain y e.0 e.1)) (shown y) 0 (shown y)
     (λ k. let z : k ≡ 0 + k = omega arith in ap (slice_index (shown y)) z)
-    ∙ sym (map-joined f (λ e. char_pieces switches Plain (column_of switches y e.0) e.1) (enumerate_from 0 (shown y)))
+    ∙ sym (map-joined f (λ e. source_pieces switches Plain y e.0 e.1) (enumerate_from 0 (shown y)))
 
 -- its texts
 pub shown-texts : (switches : Switches) (labels : List LabelInfo) (y : Layout)

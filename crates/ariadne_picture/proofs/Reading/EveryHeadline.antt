@@ -8,7 +8,7 @@ use Rattle.ariadne_picture.specs.Print.{printed}
 use Rattle.ariadne_picture.specs.Headline.{Headline}
 use Rattle.ariadne_picture.proofs.OneReading.ReadingsAgree.{every-agree}
 use Rattle.ariadne_picture.proofs.Reading.EveryReport.{every-traced}
-use Rattle.ariadne_picture.proofs.ReadingBack.ReportsRead.{every-read}
+use Rattle.ariadne_picture.proofs.ReadingBack.ReportsRead.{every-read, every-read-by-gutters}
 use Rattle.ariadne_picture.proofs.Sent.CellColumns.{columns-of-texts}
 use Rattle.ariadne_picture.proofs.Sent.LinesSent.{rows-are-lines}
 use Rattle.ariadne_picture.proofs.Variants.CharLabels.{bytes-draw}
@@ -23,6 +23,7 @@ module _ {S Id : Type 0} (w : World S Id) (r : ReportFields S) (infos : List Lab
     each_message_is_traced = every-traced w r infos accepted forward law;
     in_one_way = every-agree w r infos accepted law forward;
     and_can_be_read_back = every-read w r infos accepted law forward;
+    by_their_gutters_also_where_lines_are_cut = every-read-by-gutters w r infos accepted law forward;
     each_cell_takes_the_columns_of_its_text = columns-of-texts w r infos;
     its_rows_are_the_lines_that_are_sent = rows-are-lines w r infos;
     colors_move_nothing = colors-move-nothing w r infos;

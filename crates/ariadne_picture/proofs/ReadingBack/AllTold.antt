@@ -1,4 +1,5 @@
 -- What the message rows of a picture tell is what its labels are: each label that has a message has one row, and no other row has a message.
+use Rattle.ariadne_picture.specs.ReadBack.Rows.{Known}
 use Rattle.std.proofs.Common.{◌≡◌, ◌≢◌, ℕ, ◌+◌, ◌-◌, Bool, true, false, not, List, [], ◌∷◌, ◌++◌, map, filter, length, Some, refl, sym, ap, ◌∙◌}
 use Rattle.std.proofs.Common.{subst, arith, IsPermutation}
 use Rattle.std.specs.Prelude.{slice_get, nat_lt}
@@ -90,7 +91,7 @@ module _ (v : Picture) where
   rows-differ =
       subst (Increasing (λ (n m : ℕ). n ≢ m)) (sym (map-joined row messages_of v.sections)) (distinct-from _ (two-true _ _ (rows-placed v)).1)
 
-  module _ (sources : List Listing)
+  module _ (sources : List Known)
       (message_there : (g : ℕ) (s : Section) (l r : ℕ) (x : LineLabel) → IsArrowRow v g s l r x → is_start x.side ≡ false
       → has_message (rows_of v) sources v.texts.switches (number v g s (arrow l r)) ≡ true)
       (message_only : (g : ℕ) (s : Section) (k : ℕ) (y : Row) → RowAt v g s k y

@@ -1,5 +1,6 @@
 -- The rows of a line's labels: above each stands the source row of the line, and of each two, if not compact, the
 -- second is an arrow row.
+use Rattle.ariadne_picture.specs.ReadBack.Rows.{Known}
 use Rattle.std.proofs.Common.{◌≡◌, ℕ, zero, suc, ◌+◌, ◌-◌, ◌%◌, false, List, [], ◌∷◌, ◌++◌, Some, refl, sym, ap, ◌∙◌, subst, arith}
 use Rattle.std.proofs.Common.{inl, inr, ◌⊎◌, length}
 use Rattle.std.specs.Prelude.{slice_get, slice_index_or}
@@ -64,7 +65,7 @@ paired s l i y loose e = elim (cases_Bool (is_lone s l)) [
 
 -- ---- the row of the line
 
-module _ (v : Picture) (sources : List Listing) {g : ℕ} {s : Section} {l : ℕ} (h : IsShownLine v g s l) where
+module _ (v : Picture) (sources : List Known) {g : ℕ} {s : Section} {l : ℕ} (h : IsShownLine v g s l) where
   -- no row of a block shows a line
   block-no-line : (i : ℕ) (y : Row) → slice_get (shown_rows s.sheet l) i ≡ Some y
       → shows_line (rows_of v) sources v.texts.switches (number v g s y) ≡ false

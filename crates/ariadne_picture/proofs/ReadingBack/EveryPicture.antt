@@ -1,5 +1,6 @@
 -- Every picture is read back: over the sources of its groups, whose lines have numbers that are printed apart, its rows tell
 -- what its labels are, in another order.
+use Rattle.ariadne_picture.specs.ReadBack.Rows.{Known}
 use Rattle.std.proofs.Common.{◌≡◌, ℕ, true, List, Some, IsPermutation, refl, sym, ap, ◌∙◌}
 use Rattle.std.specs.Prelude.{slice_get}
 use Rattle.std.proofs.lemmas.Bool.{true≢false, not-true}
@@ -17,7 +18,7 @@ use Rattle.ariadne_picture.proofs.ReadingBack.LineFound.{line-is, begin-is, sour
 use Rattle.ariadne_picture.proofs.ReadingBack.MessageKinds.{is_no_start, names_message, is-message, message-kind}
 use Rattle.ariadne_picture.proofs.ReadingBack.AllTold.{HasMessage, told-back}
 
-module _ (v : Picture) (sources : List Listing) (from : AreSources v sources) (placed : ArePlaced v)
+module _ (v : Picture) (sources : List Known) (from : AreSources v sources) (placed : ArePlaced v)
     (apart : (g : ℕ) (s : Section) → slice_get v.sections g ≡ Some s → ArePrintedApart s) where
   -- a row that has a message is the arrow row of a line label that is no start
   message-only : (g : ℕ) (s : Section) (k : ℕ) (y : Row) → RowAt v g s k y → names_message s y ≡ true → HasMessage v g s y

@@ -1,5 +1,6 @@
 -- The first cell that passes a test: among the places of the row of a label, and in its gutter. What a reader finds there hangs on the inks of
 -- the places, or of the gutter columns.
+use Rattle.ariadne_picture.specs.ReadBack.Rows.{Known}
 use Rattle.std.proofs.Common.{◌≡◌, ℕ, zero, suc, ◌+◌, ◌-◌, ◌*◌, ◌<◌, ◌≤◌, Bool, true, false, not, List, [], ◌∷◌, ◌++◌, map, take, drop, length}
 use Rattle.std.proofs.Common.{Some, None, refl, sym, ap, ◌∙◌, subst, arith, if◌then◌else◌}
 use Rattle.std.specs.Prelude.{slice_get, slice_index_or, find}
@@ -37,7 +38,7 @@ use Rattle.ariadne_picture.proofs.Reading.TextRows.{IsTextRow, area, text-cells,
 use Rattle.ariadne_picture.proofs.ReadingBack.LineTexts.{find-range}
 
 -- what a reader finds of row x of line l: the line, and the first cell of the text behind its gutter
-pub record IsFound (v : Picture) (sources : List Listing) (g : ℕ) (s : Section) (l : ℕ) (x : Row) : Type 0 where
+pub record IsFound (v : Picture) (sources : List Known) (g : ℕ) (s : Section) (l : ℕ) (x : Row) : Type 0 where
   pub line : line_of (rows_of v) sources v.texts.switches (number v g s x) ≡ l
   pub begin : text_begin (rows_of v) sources v.texts.switches (number v g s x) ≡ text_cell s
 
@@ -207,7 +208,7 @@ module _ (v : Picture) {g : ℕ} {s : Section} {x : Row} {text : List Piece} (r 
       ap test (gutter-piece c p (ap (λ xs. slice_get xs c) whole ∙ at-front front _ c p there))
       ∙ all-at (Misses v s test) front c p there misses
 
-  module _ (sources : List Listing) (begin : text_begin (rows_of v) sources v.texts.switches (number v g s x) ≡ text_cell s) where
+  module _ (sources : List Known) (begin : text_begin (rows_of v) sources v.texts.switches (number v g s x) ≡ text_cell s) where
     same-switches : v.texts.switches ≡ s.sheet.switches
     same-switches = sym (v.drawn.same_switches g s r.is.group)
 

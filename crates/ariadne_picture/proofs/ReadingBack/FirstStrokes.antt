@@ -1,5 +1,6 @@
 -- Behind the gutter of the arrow row of a message stands a stroke or a blank, and no such cell in bare rows, helps and
 -- notes.
+use Rattle.ariadne_picture.specs.ReadBack.Rows.{Known}
 use Rattle.std.proofs.Common.{◌≡◌, ℕ, zero, suc, ◌+◌, ◌<◌, ◌≤◌, Bool, true, false, not, ◌&&◌, ◌==◌, List, [], ◌∷◌, ◌++◌, length, Option, Some, None}
 use Rattle.std.proofs.Common.{refl, sym, ap, ◌∙◌, arith, inl, inr, append_assoc}
 use Rattle.std.specs.Prelude.{slice_get}
@@ -117,7 +118,7 @@ abbrev pub behind : Picture → Section → ℕ → Cell
 behind v s n = cell_at (rows_of v) n (text_cell s)
 
 -- tells whether the row has strokes
-pub strokes-by : (v : Picture) (sources : List Listing) (g : ℕ) (s : Section) (n : ℕ) → slice_get v.sections g ≡ Some s
+pub strokes-by : (v : Picture) (sources : List Known) (g : ℕ) (s : Section) (n : ℕ) → slice_get v.sections g ≡ Some s
     → text_begin (rows_of v) sources v.texts.switches n ≡ text_cell s
     → has_strokes (rows_of v) sources v.texts.switches n ≡ shows_some (set_of s) (behind v s n)
 unfolding has_strokes

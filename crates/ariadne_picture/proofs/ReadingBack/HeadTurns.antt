@@ -1,4 +1,5 @@
 -- The corner of a head stands in the gutter of the arrow row of its start, and of no other line label.
+use Rattle.ariadne_picture.specs.ReadBack.Rows.{Known}
 use Rattle.std.proofs.Common.{◌≡◌, ℕ, true, false, not, ◌&&◌, ◌==◌, List, Some, None, refl, sym, ap, ◌∙◌, subst, arith, inl, inr, nat_lt}
 use Rattle.std.specs.Prelude.{slice_get}
 use Rattle.std.proofs.lemmas.Bool.{cond_both, eqb-true, true≢false}
@@ -74,7 +75,7 @@ ink-no-top h l r i x e off =
 
 -- ---- arrow rows
 
-module _ (v : Picture) (sources : List Listing) {g : ℕ} {s : Section} {l r : ℕ} {x : LineLabel} (q : IsArrowRow v g s l r x)
+module _ (v : Picture) (sources : List Known) {g : ℕ} {s : Section} {l r : ℕ} {x : LineLabel} (q : IsArrowRow v g s l r x)
     (begin : text_begin (rows_of v) sources v.texts.switches (number v g s (arrow l r)) ≡ text_cell s) where
   -- that of a start turns in its own column
   pub head-turns : is_start x.side ≡ true

@@ -1,18 +1,19 @@
 -- The line that a row shows or stands below, and the first cell of the text behind its gutter, are found from the
 -- sources of the groups alone.
-use Rattle.std.proofs.Common.{◌≡◌, ℕ, zero, suc, ◌+◌, ◌<◌, Bool, true, false, List, length, Some, refl, sym, ap, ◌∙◌}
+use Rattle.ariadne_picture.specs.ReadBack.Rows.{Known}
+use Rattle.std.proofs.Common.{◌≡◌, ℕ, zero, suc, ◌+◌, ◌<◌, ◌⊎◌, Bool, true, false, List, [], length, Option, Some, None, refl, sym, ap, ◌∙◌}
 use Rattle.std.proofs.Common.{arith}
 use Rattle.std.specs.Prelude.{slice_get, find, decimal}
-use Rattle.std.specs.Str.{drop_trailing_whitespace}
-use Rattle.std.specs.List.{range_with_len, enumerate_from}
+use Rattle.ariadne_picture.specs.declared.label_info.LineLabel.{LineLabel}
+use Rattle.std.specs.List.{range_with_len}
 use Rattle.std.proofs.lemmas.Bool.{cond-true, cond-false}
 use Rattle.ariadne_base.specs.Listing.{Listing, listed_lines}
+use Rattle.ariadne_picture.specs.declared.sight.Sight.{Sight}
 use Rattle.ariadne_picture.specs.declared.switches.Switches.{Switches}
-use Rattle.ariadne_picture.specs.declared.cell.Paint.TheVariants.{Plain}
-use Rattle.ariadne_picture.specs.Lists.{joined}
 use Rattle.ariadne_picture.specs.Groups.{printed_number}
-use Rattle.ariadne_picture.specs.Columns.{Layout, column_of, width_from, shown}
-use Rattle.ariadne_picture.specs.Pieces.{Section, char_pieces}
+use Rattle.ariadne_picture.specs.Columns.{Layout, shown, sight_of, is_too_wide, sights_of}
+use Rattle.ariadne_picture.specs.Pieces.{Section, gutter_len, source_pieces, seen_pieces}
+use Rattle.ariadne_picture.specs.ReadBack.Reports.{HasWholeLines}
 use Rattle.ariadne_picture.proofs.Cells.MarginTexts.{plain_cells}
 use Rattle.ariadne_picture.proofs.Reading.Pictures.{Picture}
 
@@ -31,32 +32,37 @@ find-range test a (suc n) (suc j) few on none =
     (λ i less. let x : a + 1 + i ≡ a + suc i = omega arith in ap test x ∙ none (suc i) (omega arith))
     ∙ ap Some y
 
--- ---- the cells of a line hang on its text alone
+-- ---- the cells of a line that is shown whole hang on its text alone
 
-width-same : (switches : Switches) (y z : Layout) → y.text ≡ z.text → (n k : ℕ) → width_from switches y n k ≡ width_from switches z n k
-unfolding width_from shown
-width-same switches y z same n k = λ i. width_from switches (record y { text = same i }) n k
+-- what a line's cells are made of
+abbrev bare : List ℕ → List Sight → Layout
+bare text sights = record { margin = None; labels = []; offset = 0; text = text; sights = sights }
 
-column-same : (switches : Switches) (y z : Layout) → y.text ≡ z.text → (k : ℕ) → column_of switches y k ≡ column_of switches z k
-unfolding column_of
-column-same switches y z same zero = refl
-column-same switches y z same (suc k) =
-    let rest = column-same switches y z same k in
-    (λ i. rest i + width_from switches y (rest i) k)
-    ∙ ap (λ n. column_of switches z k + n) (width-same switches y z same (column_of switches z k) k)
+cells-bare : (switches : Switches) (y : Layout) → plain_cells switches y ≡ plain_cells switches (bare y.text y.sights)
+unfolding shown source_pieces seen_pieces sight_of
+cells-bare switches y = refl
 
-pub cells-same : (switches : Switches) (y z : Layout) → y.text ≡ z.text → plain_cells switches y ≡ plain_cells switches z
-unfolding shown
-cells-same switches y z same =
-    λ i. joined (λ e. char_pieces switches Plain (column-same switches y z same e.0 i) e.1) (enumerate_from 0 (drop_trailing_whitespace (same i)))
+pub cells-same : (switches : Switches) (y z : Layout) → y.text ≡ z.text → y.sights ≡ z.sights → plain_cells switches y ≡ plain_cells switches z
+cells-same switches y z text sights =
+    cells-bare switches y ∙ (λ i. plain_cells switches (bare (text i) (sights i))) ∙ sym (cells-bare switches z)
+
+-- a text that is not cut has no list of what is seen, whatever its labels are
+pub whole-sights : (switches : Switches) (o : ℕ) (xs : List LineLabel) (text : List ℕ) → is_too_wide switches text ≡ false
+    → sights_of switches o xs text ≡ []
+unfolding sights_of
+whole-sights switches o xs text e = cond-false (is_too_wide switches text) _ [] e
 
 -- ---- a picture over these sources
 
+-- the number of the group's gutter columns is told, or no line of it is cut
+abbrev pub TellsBegins : Section → Option ℕ → Type 0
+TellsBegins s gutter = (gutter ≡ Some (gutter_len s.sheet)) ⊎ ((gutter ≡ None) × HasWholeLines s)
+
 -- the sources of its groups, in their order
-pub record AreSources (v : Picture) (sources : List Listing) : Type 0 where
+pub record AreSources (v : Picture) (sources : List Known) : Type 0 where
   pub there : (g : ℕ) (s : Section) → slice_get v.sections g ≡ Some s
-      → (source : Listing) × (slice_get sources g ≡ Some source) × (listed_lines source ≡ s.sheet.lines)
-      × (source.display_offset ≡ s.display_offset)
+      → (source : Known) × (slice_get sources g ≡ Some source) × (listed_lines source.listing ≡ s.sheet.lines)
+      × (source.listing.display_offset ≡ s.display_offset) × TellsBegins s source.gutter
 
 -- the numbers of a group's lines are printed apart
 abbrev pub ArePrintedApart : Section → Type 0

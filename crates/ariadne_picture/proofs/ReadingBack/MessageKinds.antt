@@ -1,4 +1,5 @@
 -- The rows that a reader takes for those of messages are the arrow rows of line labels that are no starts.
+use Rattle.ariadne_picture.specs.ReadBack.Rows.{Known}
 use Rattle.std.proofs.Common.{◌≡◌, ℕ, suc, ◌-◌, ◌%◌, Bool, true, false, not, ◌&&◌, ◌||◌, ◌==◌, List, Option, Some, None}
 use Rattle.std.proofs.Common.{is_some, refl, sym, ap, ◌∙◌, arith, inl, inr}
 use Rattle.std.specs.Prelude.{slice_get}
@@ -53,7 +54,7 @@ fourth-off a b c d e off = rw (off, and_right (a && b && c) false refl) refl
 all-but-last : (a b c d e : Bool) → a ≡ true → b ≡ true → c ≡ true → d ≡ true → (a && b && c && d && e) ≡ e
 all-but-last a b c d e f g h i = rw (f, g, h, i) refl
 
-module _ (v : Picture) (sources : List Listing) where
+module _ (v : Picture) (sources : List Known) where
   abbrev switches : Switches
   switches = v.texts.switches
 
@@ -76,7 +77,7 @@ module _ (v : Picture) (sources : List Listing) where
       ∙ fourth-off (is_below_lines (rows_of v) sources switches n) (has_line (rows_of v) sources switches n) (has_strokes (rows_of v) sources switches n)
       (odd n) (not (is_some (gutter_turn (rows_of v) sources switches Ltop n))) off
 
-module _ (v : Picture) (sources : List Listing) (from : AreSources v sources) (placed : ArePlaced v) {g : ℕ} {s : Section}
+module _ (v : Picture) (sources : List Known) (from : AreSources v sources) (placed : ArePlaced v) {g : ℕ} {s : Section}
     (apart : ArePrintedApart s) where
   -- ---- rows of other kinds
 

@@ -1,5 +1,5 @@
 -- The picture of a report is read back over the sources of its groups, where the numbers of their lines are below 2 ^ 64.
-use Rattle.std.proofs.Common.{◌≡◌, ℕ, zero, suc, ◌+◌, ◌<◌, ◌^◌, List, [], ◌∷◌, length, map, Option, Some, None, IsPermutation, refl, sym, ap, ◌∙◌, subst, arith}
+use Rattle.std.proofs.Common.{◌≡◌, ℕ, zero, suc, ◌+◌, ◌<◌, ◌^◌, List, [], ◌∷◌, length, map, Option, Some, None, IsPermutation, refl, sym, ap, ◌∙◌, subst, arith, inl, inr}
 use Rattle.std.specs.Prelude.{slice_get, option_map, option_and_then, unwrap_or, chars}
 use Rattle.std.specs.List.{enumerate_from}
 use Rattle.std.proofs.lemmas.Fmt.{decimal_injective}
@@ -11,12 +11,14 @@ use Rattle.ariadne_picture.specs.declared.label_info.LabelInfo.{LabelInfo}
 use Rattle.ariadne_picture.specs.Report.{ReportFields, World, HaveOneSource, AreForward, switches_of}
 use Rattle.ariadne_picture.specs.Accept.{AreAccepted}
 use Rattle.ariadne_picture.specs.Groups.{printed_number}
-use Rattle.ariadne_picture.specs.Pieces.{Section}
-use Rattle.ariadne_picture.specs.Canvas.{group_id, group_source, groups, section_of, sections, texts_of}
+use Rattle.ariadne_picture.specs.Pieces.{Section, gutter_len}
+use Rattle.ariadne_picture.specs.ReadBack.Rows.{Known}
+use Rattle.ariadne_picture.specs.Canvas.{canvas, group_id, group_source, groups, section_of, sections, texts_of}
 use Rattle.ariadne_picture.specs.ReadBack.Answer.{read_back}
 use Rattle.ariadne_picture.specs.ReadBack.Labels.{labels_told}
-use Rattle.ariadne_picture.specs.ReadBack.Reports.{HaveShortNumbers, IsReadBack, group_sources}
-use Rattle.ariadne_picture.proofs.Lists.ListFacts.{none≢some}
+use Rattle.ariadne_picture.specs.ReadBack.Reports.{HaveShortNumbers, HasWholeLines, HaveWholeLines, IsReadBack, IsReadBackByGutters}
+use Rattle.ariadne_picture.specs.ReadBack.Reports.{group_sources, group_sources_and_gutters}
+use Rattle.ariadne_picture.proofs.Lists.ListFacts.{none≢some, all-at}
 use Rattle.ariadne_picture.proofs.Cells.CanvasRows.{canvas-rows}
 use Rattle.ariadne_picture.proofs.Reading.DrawnReports.{picture_of}
 use Rattle.ariadne_picture.proofs.Reading.EveryReport.{numbered, all-placed}
@@ -72,6 +74,7 @@ module _ {S Id : Type 0} (w : World S Id) (r : ReportFields S) where
     pub there : slice_get (groups w r infos) g ≡ Some group
     pub lines : listed_lines (group_source w r group) ≡ s.sheet.lines
     pub offset : (group_source w r group).display_offset ≡ s.display_offset
+    pub gutter : gutter_len (record { switches = switches_of r.config; lines = listed_lines (group_source w r group); labels = group }) ≡ gutter_len s.sheet
 
   shown : (infos : List LabelInfo) (g : ℕ) (s : Section) → slice_get (sections w r infos) g ≡ Some s → Shown infos g s
   unfolding sections section_of
@@ -82,6 +85,7 @@ module _ {S Id : Type 0} (w : World S Id) (r : ReportFields S) where
         there = from.1;
         lines = ap (λ (s : Section). s.sheet.lines) from.2;
         offset = ap (λ (s : Section). s.display_offset) from.2;
+        gutter = ap (λ (s : Section). gutter_len s.sheet) from.2;
       }
 
 module _ {S Id : Type 0} (w : World S Id) (r : ReportFields S) (infos : List LabelInfo) (accepted : AreAccepted w r infos) (law : HaveOneSource w)
@@ -89,20 +93,52 @@ module _ {S Id : Type 0} (w : World S Id) (r : ReportFields S) (infos : List Lab
   abbrev picture : Picture
   picture = picture_of w r infos (numbered w r infos accepted forward)
 
-  are-sources : AreSources picture (group_sources w r infos)
+  -- the picture is read back by one who knows these sources of its groups
+  by-sources : (known : List Known) → AreSources picture known
+      → IsPermutation (read_back (canvas w r infos) known (switches_of r.config)) (labels_told (texts_of r).message_of (sections w r infos))
+  unfolding texts_of
+  by-sources known are =
+      subst (λ rows. IsPermutation (read_back rows known (switches_of r.config)) (labels_told (texts_of r).message_of (sections w r infos)))
+      (sym (canvas-rows w r infos))
+      (picture-read picture known are (all-placed w r infos accepted forward law) (λ g s e.
+      let h = shown w r infos g s e in
+      short-apart s (group_source w r h.group) h.lines h.offset (sources-short w r short h.group)))
+
+  -- their sources alone, where no line is cut
+  abbrev untold : List LabelInfo → Known
+  untold group = record { listing = group_source w r group; gutter = None }
+
+  whole-sources : HaveWholeLines w r infos → AreSources picture (group_sources w r infos)
   unfolding group_sources
-  are-sources = record {
+  whole-sources whole = record {
+    there = λ g s e.
+        let h = shown w r infos g s e in (
+          untold h.group,
+          slice_get-map untold (groups w r infos) g ∙ ap (option_map untold) h.there,
+          h.lines,
+          h.offset,
+          inr (refl, all-at HasWholeLines (sections w r infos) g s e whole),
+        );
+  }
+
+  pub every-read : HaveWholeLines w r infos → IsReadBack w r infos
+  every-read whole = by-sources (group_sources w r infos) (whole-sources whole)
+
+  -- or with the numbers of their gutter columns
+  abbrev told : List LabelInfo → Known
+  told group = record {
+    listing = group_source w r group;
+    gutter = Some (gutter_len (record { switches = switches_of r.config; lines = listed_lines (group_source w r group); labels = group }));
+  }
+
+  gutter-sources : AreSources picture (group_sources_and_gutters w r infos)
+  unfolding group_sources_and_gutters
+  gutter-sources = record {
     there = λ g s e.
         let h = shown w r infos g s e in
-        (group_source w r h.group, slice_get-map (group_source w r) (groups w r infos) g ∙ ap (option_map (group_source w r)) h.there, h.lines, h.offset);
+        (told h.group, slice_get-map told (groups w r infos) g ∙ ap (option_map told) h.there, h.lines, h.offset, inl (ap Some h.gutter));
   }
 
   -- the picture of every report is read back
-  pub every-read : IsReadBack w r infos
-  unfolding texts_of
-  every-read =
-      subst (λ rows. IsPermutation (read_back rows (group_sources w r infos) (switches_of r.config)) (labels_told (texts_of r).message_of (sections w r infos)))
-      (sym (canvas-rows w r infos))
-      (picture-read picture (group_sources w r infos) are-sources (all-placed w r infos accepted forward law) (λ g s e.
-      let h = shown w r infos g s e in
-      short-apart s (group_source w r h.group) h.lines h.offset (sources-short w r short h.group)))
+  pub every-read-by-gutters : IsReadBackByGutters w r infos
+  every-read-by-gutters = by-sources (group_sources_and_gutters w r infos) gutter-sources

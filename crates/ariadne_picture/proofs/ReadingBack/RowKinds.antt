@@ -1,5 +1,6 @@
 -- What the rows of a picture are is told by their margins: group headers, rows that show a line, and rows that
 -- stand below lines.
+use Rattle.ariadne_picture.specs.ReadBack.Rows.{Known}
 use Rattle.std.proofs.Common.{◌≡◌, ℕ, ◌+◌, Bool, true, false, not, ◌&&◌, List, [], ◌∷◌, ◌++◌, map, refl, sym, ap, ◌∙◌, arith, append_assoc}
 use Rattle.std.specs.Prelude.{slice_index_or, decimal, codes}
 use Rattle.std.proofs.lemmas.Bool.{true≢false, false_from_ne_true}
@@ -162,7 +163,7 @@ module _ (palette : Palette) (t : Texts) (w : ℕ) (s : Section) where
 
 -- ---- the rows of a picture
 
-module _ (v : Picture) (sources : List Listing) {g : ℕ} {s : Section} {k : ℕ} {x : Row} (is : RowAt v g s k x) where
+module _ (v : Picture) (sources : List Known) {g : ℕ} {s : Section} {k : ℕ} {x : Row} (is : RowAt v g s k x) where
   cell-is : (c : ℕ) → cell_at (rows_of v) (number v g s x) c ≡ cell v.palette v.texts v.width s x c
   unfolding cell_at
   cell-is c = ap (λ row. slice_index_or row c no_cell) (row-read v is)

@@ -1,5 +1,6 @@
 -- Where the rows of a picture stand: each row below a group header is found to be of its group, and the row of a line
 -- above it is that of a line of the group.
+use Rattle.ariadne_picture.specs.ReadBack.Rows.{Known}
 use Rattle.std.proofs.Common.{◌≡◌, ℕ, zero, suc, ◌+◌, ◌-◌, ◌<◌, ◌≤◌, Bool, true, false, cond, List, [], ◌∷◌, length, filter, Some, refl, sym, ap, ◌∙◌, arith}
 use Rattle.std.proofs.Common.{inl, inr}
 use Rattle.std.specs.Prelude.{slice_get}
@@ -77,7 +78,7 @@ source-named : (x : Row) → names_line x ≡ true → (l : ℕ) × (x ≡ sourc
 source-named (source l) h = (l, refl)
 source-named x h = absurd (true≢false (sym h))
 
-module _ (v : Picture) (sources : List Listing) where
+module _ (v : Picture) (sources : List Known) where
   abbrev heading : ℕ → Bool
   heading = is_heading (rows_of v) sources v.texts.switches
 

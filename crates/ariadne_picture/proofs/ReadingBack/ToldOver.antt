@@ -1,5 +1,6 @@
 -- The row of the end of a label over several lines tells what the label is: its corner in the gutter leads up to its head, and the head to the
 -- line and the column where the label starts.
+use Rattle.ariadne_picture.specs.ReadBack.Rows.{Known}
 use Rattle.std.proofs.Common.{◌≡◌, ℕ, suc, ◌+◌, ◌-◌, ◌<◌, Bool, true, false, not, ◌&&◌, ◌||◌, List, length, map, Option, Some, None, refl, sym, ap, ◌∙◌}
 use Rattle.std.proofs.Common.{subst, arith, inl, inr, ◌⊎◌, ◌==◌, if◌then◌else◌}
 use Rattle.std.specs.List.{list_any}
@@ -124,7 +125,7 @@ same-end l m c d e f = λ j. end_at (e j) (f j)
 
 -- ---- the row of a start or an end
 
-module _ (v : Picture) (sources : List Listing) {g : ℕ} {s : Section} {l r : ℕ} {x : LineLabel} (q : IsArrowRow v g s l r x) where
+module _ (v : Picture) (sources : List Known) {g : ℕ} {s : Section} {l r : ℕ} {x : LineLabel} (q : IsArrowRow v g s l r x) where
   -- left of its own column bars go on
   turn-gutter : is_inline x.side ≡ false → (j : ℕ) → j < x.gutter_column → IsBarInk (column_ink s.sheet (arrow l r) j)
   unfolding column_ink turn_ink
@@ -224,7 +225,7 @@ module _ (v : Picture) (sources : List Listing) {g : ℕ} {s : Section} {l r : �
 
 -- ---- a label over several lines
 
-module _ (v : Picture) (sources : List Listing) (placed : ArePlaced v)
+module _ (v : Picture) (sources : List Known) (placed : ArePlaced v)
     (source_found : (g : ℕ) (s : Section) (l : ℕ) → IsShownLine v g s l → IsFound v sources g s l (source l))
     (arrow_found : (g : ℕ) (s : Section) (l r : ℕ) (x : LineLabel) → IsArrowRow v g s l r x → IsFound v sources g s l (arrow l r))
     {g : ℕ} {s : Section} {i : ℕ} {a : LabelInfo} (o : IsGutterLabelOf v g s i a) where

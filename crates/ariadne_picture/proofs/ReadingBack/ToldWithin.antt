@@ -1,5 +1,6 @@
 -- The row of a label within one line tells what the label is: no corner stands in the gutter, the strokes begin at the column where it is
 -- attached, and its message ends the row.
+use Rattle.ariadne_picture.specs.ReadBack.Rows.{Known}
 use Rattle.std.proofs.Common.{◌≡◌, ℕ, ◌+◌, ◌-◌, ◌<◌, Bool, true, false, not, ◌||◌, List, [], ◌∷◌, ◌++◌, length, Option, Some, None, refl, sym}
 use Rattle.std.proofs.Common.{ap, ◌∙◌, subst, arith, inl, inr, ◌⊎◌}
 use Rattle.std.specs.List.{prefix_len}
@@ -87,7 +88,7 @@ an-own-stroke v s glyph paint (inr e) = right-true _ _ (shows-level v s glyph pa
 
 -- ---- the row of a line label
 
-module _ (v : Picture) (sources : List Listing) {g : ℕ} {s : Section} {l r : ℕ} {x : LineLabel} (q : IsArrowRow v g s l r x) where
+module _ (v : Picture) (sources : List Known) {g : ℕ} {s : Section} {l r : ℕ} {x : LineLabel} (q : IsArrowRow v g s l r x) where
   -- its number
   abbrev pub row : ℕ
   row = number v g s (arrow l r)
@@ -191,7 +192,7 @@ module _ (v : Picture) (sources : List Listing) {g : ℕ} {s : Section} {l r : �
 
 -- ---- the row of the message of a label within one line
 
-module _ (v : Picture) (sources : List Listing) (placed : ArePlaced v)
+module _ (v : Picture) (sources : List Known) (placed : ArePlaced v)
     (arrow_found : (g : ℕ) (s : Section) (l r : ℕ) (x : LineLabel) → IsArrowRow v g s l r x → IsFound v sources g s l (arrow l r)) where
   pub told-within : {g : ℕ} {s : Section} {a : LabelInfo} → IsMessage v g s a → is_on_one_line a ≡ true
       → told_by (rows_of v) sources v.texts.switches (message_row v a.position) ≡ told_within v.texts.message_of g s a

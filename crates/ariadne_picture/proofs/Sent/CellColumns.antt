@@ -18,17 +18,19 @@ use Rattle.ariadne_picture.specs.declared.cell.Glyph.{Glyph}
 use Rattle.ariadne_picture.specs.declared.cell.Glyph.TheVariants.{Blank, Vbar}
 use Rattle.ariadne_picture.specs.declared.cell.Ink.{Ink}
 use Rattle.ariadne_picture.specs.declared.cell.Paint.{Paint}
-use Rattle.ariadne_picture.specs.Lists.{joined}
+use Rattle.ariadne_picture.specs.Lists.{joined, total}
 use Rattle.ariadne_picture.specs.Report.{ReportFields, World}
 use Rattle.ariadne_picture.specs.Groups.{greatest, printed_number}
 use Rattle.ariadne_picture.specs.Ranks.{Sheet, is_start, is_hidden, line_labels, first_line, last_line, group_lines}
 use Rattle.ariadne_picture.specs.Rows.{Aside, help, note, Row, group_header, spacer, source, alternate, arrow, gap, bare, blank, piece, tail, rows}
 use Rattle.ariadne_picture.specs.Rows.{label_rows, is_inside, line_rows, aside_rows, asides}
 use Rattle.std.specs.Str.Lines.{lines}
-use Rattle.ariadne_picture.specs.Columns.{Layout, char_columns, text_columns, shown, shown_columns, width, column_of, arrow_len}
+use Rattle.ariadne_picture.specs.declared.sight.Sight.{Sight}
+use Rattle.ariadne_picture.specs.declared.sight.Sight.TheVariants.{Seen, Marked, Unseen}
+use Rattle.ariadne_picture.specs.Columns.{Layout, char_columns, text_columns, shown, shown_columns, width, column_of, arrow_len, whole_column, sight_of, mark_columns}
 use Rattle.ariadne_picture.specs.Cells.{glyph_code, column_ink}
 use Rattle.ariadne_picture.specs.Pieces.{Piece, plain_text, blank_piece, spaces, stroke, glyph_text, ink_pieces, shown_text, char_pieces}
-use Rattle.ariadne_picture.specs.Pieces.{char_paint, shown_pieces, area_pieces, margin_text, margin_pieces, column_size}
+use Rattle.ariadne_picture.specs.Pieces.{mark_text, seen_pieces, source_pieces, char_paint, shown_pieces, area_pieces, margin_text, margin_pieces, column_size}
 use Rattle.ariadne_picture.specs.Pieces.{gutter_len, gutter_pieces, Texts, Section, group_header_pieces, spacer_pieces, tail_pieces}
 use Rattle.ariadne_picture.specs.Pieces.{message_pieces, aside_pieces, text_pieces, rest_pieces, row_pieces, section_rows}
 use Rattle.ariadne_picture.specs.Canvas.{sheet_of, cell_of, palette_of, header_pieces, texts_of, group_source, section_of, groups, number_width}
@@ -110,11 +112,29 @@ wide-char switches paint x c = elim (cases_Bool (c == 9)) [
   ]
 ]
 
+-- the mark
+mark-wide : (set : CharSet) → mark_columns set ≡ text_columns (mark_text set)
+unfolding mark_columns mark_text text_columns char_columns total unicode_width lib.Utf8.encode
+mark-wide Unicode = refl
+mark-wide Ascii = refl
+
+-- what is seen of a place
+wide-seen : (switches : Switches) (paint : Paint) (y : Layout) (k c : ℕ) (sight : Sight)
+    → AreWide (seen_pieces switches paint y k c sight)
+unfolding seen_pieces
+wide-seen switches paint y k c Seen = wide-char switches paint (whole_column switches.tab_width (shown y) k) c
+wide-seen switches paint y k c Marked = (mark-wide switches.char_set, tt)
+wide-seen switches paint y k c Unseen = tt
+
+wide-source : (switches : Switches) (paint : Paint) (y : Layout) (k c : ℕ) → AreWide (source_pieces switches paint y k c)
+unfolding source_pieces
+wide-source switches paint y k c = wide-seen switches paint y k c (sight_of y k)
+
 wide-line : (switches : Switches) (labels : List LabelInfo) (y : Layout) → AreWide (shown_pieces switches labels y)
 unfolding shown_pieces
 wide-line switches labels y =
     all-parts IsWide (place_pieces switches labels y)
-    (λ k. wide-char switches (char_paint labels y k) (column_of switches y k) (slice_index (shown y) k)) (upto (length (shown y)))
+    (λ k. wide-source switches (char_paint labels y k) y k (slice_index (shown y) k)) (upto (length (shown y)))
 
 -- ---- margins, headers and tails
 

@@ -17,10 +17,12 @@ use Rattle.ariadne_picture.specs.declared.cell.Ink.{Ink}
 use Rattle.ariadne_picture.specs.Lists.{joined}
 use Rattle.ariadne_picture.specs.Ranks.{Sheet, is_start, multi_line_labels}
 use Rattle.ariadne_picture.specs.Rows.{Aside, help, note, Row, group_header, spacer, source, alternate, arrow, bare, piece, tail}
-use Rattle.ariadne_picture.specs.Columns.{Layout, layout_of, shown, shown_columns, width, column_of, arrow_len}
+use Rattle.ariadne_picture.specs.declared.sight.Sight.{Sight}
+use Rattle.ariadne_picture.specs.declared.sight.Sight.TheVariants.{Seen, Marked, Unseen}
+use Rattle.ariadne_picture.specs.Columns.{Layout, layout_of, shown, shown_columns, width, arrow_len, whole_column, sight_of}
 use Rattle.ariadne_picture.specs.Cells.{column_ink}
 use Rattle.ariadne_picture.specs.Pieces.{Piece, blank_piece, plain_text, spaces, stroke, glyph_text, ink_pieces, shown_text, char_pieces, char_paint}
-use Rattle.ariadne_picture.specs.Pieces.{shown_pieces, area_pieces, margin_text, margin_pieces, column_size, gutter_len, gutter_pieces}
+use Rattle.ariadne_picture.specs.Pieces.{mark_text, seen_pieces, source_pieces, shown_pieces, area_pieces, margin_text, margin_pieces, column_size, gutter_len, gutter_pieces}
 use Rattle.ariadne_picture.specs.Pieces.{Texts, Section, location_text, group_header_pieces, spacer_pieces, repeated, tail_pieces, message_pieces}
 use Rattle.ariadne_picture.specs.Pieces.{aside_texts, aside_name, aside_prefix, aside_line, aside_pieces, rest_pieces, row_pieces, text_pieces}
 use Rattle.ariadne_picture.proofs.Lists.ListFacts.{all-append}
@@ -110,14 +112,22 @@ module _ (P : List ℕ → Type 0) (kept : IsKept P) where
       cond_both (c == 9) (replicate n blank) (record { text = shown_text c; paint = paint; columns = n } ∷ []) (AreClean P)
       (λ _. all-replicate (IsCleanPiece P) n blank (clean-printable (32 ∷ []) refl)) (λ _. (h, tt))
 
+  -- what is seen of a place
+  clean-seen : (switches : Switches) (paint : Paint) (y : Layout) (k c : ℕ) → P (shown_text c) → (sight : Sight)
+      → AreClean P (seen_pieces switches paint y k c sight)
+  unfolding seen_pieces
+  clean-seen switches paint y k c h Seen = clean-char switches paint (whole_column switches.tab_width (shown y) k) c h
+  clean-seen switches paint y k c h Marked = (kept.mark switches.char_set, tt)
+  clean-seen switches paint y k c h Unseen = tt
+
   -- the characters of a line
   clean-line : (switches : Switches) (labels : List LabelInfo) (y : Layout) → AllByRecursion (λ c. P (shown_text c)) y.text → AreClean P (shown_pieces switches labels y)
-  unfolding shown_pieces shown
+  unfolding shown_pieces source_pieces shown
   clean-line switches labels y a =
       let IsShown : ℕ → Type 0 = λ c. P (shown_text c) in
       all-below (IsCleanPiece P) (place_pieces switches labels y) 0 (length (shown y))
-      (λ k less. clean-char switches (char_paint labels y k) (column_of switches y k) (slice_index (shown y) k)
-      (all-in IsShown (shown y) k 0 (omega (arith, less)) (all-trimmed IsShown y.text a)))
+      (λ k less. clean-seen switches (char_paint labels y k) y k (slice_index (shown y) k)
+      (all-in IsShown (shown y) k 0 (omega (arith, less)) (all-trimmed IsShown y.text a)) (sight_of y k))
 
   -- line number l of a sheet
   clean-source : (switches : Switches) (s : Sheet) (l : ℕ) → AreShownClean P s.lines

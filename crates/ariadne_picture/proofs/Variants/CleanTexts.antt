@@ -17,7 +17,7 @@ use Rattle.ariadne_picture.specs.declared.cell.Glyph.{Glyph}
 use Rattle.ariadne_picture.specs.declared.cell.Glyph.TheVariants.{Blank}
 use Rattle.ariadne_picture.specs.Cells.{glyph_code}
 use Rattle.ariadne_picture.specs.Lists.{joined}
-use Rattle.ariadne_picture.specs.Pieces.{spaces, glyph_text, shown_text}
+use Rattle.ariadne_picture.specs.Pieces.{spaces, glyph_text, shown_text, mark_text}
 use Rattle.ariadne_picture.proofs.Lists.ListFacts.{all-append, all-weaker}
 use Rattle.ariadne_picture.proofs.Lists.Elements.{list_all-true}
 use Rattle.ariadne_picture.proofs.Cells.RowCells.{all-replicate}
@@ -93,11 +93,12 @@ module _ {X : Type 0} (P : X → Type 0) where
 abbrev pub is_plain : ℕ → Bool
 is_plain c = nat_le 32 c && nat_lt c 127
 
--- it holds of printable ASCII, of strokes, and of texts that are joined
+-- it holds of printable ASCII, of strokes, of the mark, and of texts that are joined
 pub record IsKept (P : List ℕ → Type 0) : Type 0 where
   pub append : (s t : List ℕ) → P s → P t → P (s ++ t)
   pub plain : (t : List ℕ) → list_all is_plain t ≡ true → P t
   pub glyph : (set : CharSet) (glyph : Glyph) → P (glyph_text set glyph)
+  pub mark : (set : CharSet) → P (mark_text set)
 
 -- between 32 and 126
 plain-from : (c : ℕ) → 32 ≤ c → c < 127 → is_plain c ≡ true
@@ -209,9 +210,15 @@ module _ (b : ℕ) (control : IsControl b) where
       test Unicode glyph = refl
       test Ascii glyph = refl
 
+  -- the mark
+  clean-mark : (set : CharSet) → IsClean b (mark_text set)
+  unfolding mark_text lib.Utf8.encode
+  clean-mark Unicode = clean-printable (mark_text Unicode) refl
+  clean-mark Ascii = clean-printable (mark_text Ascii) refl
+
   -- so texts without it are kept
   pub clean-kept : IsKept (IsClean b)
-  clean-kept = record { append = clean-append b; plain = clean-plain; glyph = clean-glyph }
+  clean-kept = record { append = clean-append b; plain = clean-plain; glyph = clean-glyph; mark = clean-mark }
 
   -- ---- characters
 

@@ -1,12 +1,13 @@
 -- Finished pictures that are read back, without their labels: what they tell is what the labels are. Where a stroke,
 -- a number or a message is changed by hand, they tell otherwise.
-use Rattle.std.specs.Prelude.{ℕ, ◌≡◌, refl, false, List, [], ◌∷◌, Option, Some, None}
+use Rattle.std.specs.Prelude.{ℕ, ◌≡◌, refl, false, List, [], ◌∷◌, map, Option, Some, None}
 use Prim.Native.String.{String}
 use Rattle.ariadne_base.specs.Listing.{Listing}
 use Rattle.ariadne_picture.specs.Report.{ConfigFields, ReportFields, switches_of}
 use Rattle.ariadne_picture.specs.Canvas.{texts_of}
-use Rattle.ariadne_picture.specs.ReadBack.Rows.{last_before, begins_with_digit, unlabelled, margin_of, is_heading, shows_line, is_below_lines}
-use Rattle.ariadne_picture.specs.ReadBack.Rows.{group_of, source_of, line_row, has_line, has_number, line_of, text_begin, has_strokes, is_arrow_row}
+use Rattle.ariadne_picture.specs.Pieces.{Section, gutter_len}
+use Rattle.ariadne_picture.specs.ReadBack.Rows.{last_before, Known, unlabelled, begins_with_digit, margin_of, is_heading, shows_line, is_below_lines}
+use Rattle.ariadne_picture.specs.ReadBack.Rows.{group_of, source_of, line_row, has_line, has_number, line_of, text_begin_by, text_begin, has_strokes, is_arrow_row}
 use Rattle.ariadne_picture.specs.ReadBack.Answer.{Told, first_showing, gutter_turn, has_message, message_of_row, text_of_row, attach_of_row}
 use Rattle.ariadne_picture.specs.ReadBack.Answer.{start_of_head, head_of, told_with, told_by, read_back}
 use Rattle.ariadne_picture.specs.ReadBack.Labels.{told_within, gutter_end, told_over, group_told, labels_told}
@@ -35,19 +36,38 @@ told_from group first from last to message = record {
 unfoldable source : String → Listing
 source t = record { text = utf8 t; display_offset = 0 }
 
+-- what the reader is told of a group: its source alone
+unfoldable untold : Listing → Known
+untold listing = record { listing = listing; gutter = None }
+
 -- what the rows of a report tell, changed or as they are drawn
 unfoldable rows_tell : List Listing → List Entry → ReportFields Span → (Rows → Rows) → List Told
-rows_tell sources entries r change = read_back (change (cells_of entries r)) sources (switches_of r.config)
+rows_tell sources entries r change = read_back (change (cells_of entries r)) (map untold sources) (switches_of r.config)
+
+-- or its source and the number of its gutter columns
+unfoldable with_gutters : List Listing → List Section → List Known
+with_gutters (l ∷ ls) (s ∷ ss) = record { listing = l; gutter = Some (gutter_len s.sheet) } ∷ with_gutters ls ss
+with_gutters ls ss = []
+
+unfoldable rows_tell_by_gutters : List Listing → List Entry → ReportFields Span → (Rows → Rows) → List Told
+rows_tell_by_gutters sources entries r change =
+    read_back (change (cells_of entries r)) (with_gutters sources (parts_of entries r)) (switches_of r.config)
 
 -- what its labels are
 unfoldable labels_tell : List Entry → ReportFields Span → List Told
 labels_tell entries r = labels_told (texts_of r).message_of (parts_of entries r)
 
 unfoldable read : Unit {0}
-unfolding judged nested apart wide last_before begins_with_digit unlabelled margin_of is_heading shows_line is_below_lines group_of source_of line_row
-    has_line has_number line_of text_begin has_strokes is_arrow_row first_showing gutter_turn has_message message_of_row text_of_row attach_of_row
-    start_of_head head_of told_with told_by read_back told_within gutter_end told_over group_told labels_told told told_from source rows_tell labels_tell
+unfolding judged nested apart wide last_before begins_with_digit untold with_gutters unlabelled margin_of is_heading shows_line is_below_lines group_of source_of line_row
+    has_line has_number line_of text_begin_by text_begin has_strokes is_arrow_row first_showing gutter_turn has_message message_of_row text_of_row attach_of_row
+    start_of_head head_of told_with told_by read_back told_within gutter_end told_over group_told labels_told told told_from source rows_tell rows_tell_by_gutters labels_tell
 read = tt
+
+-- a cut line: the column is that of the text as it is shown
+a_cut_line_is_read_back : rows_tell_by_gutters (source "abcdefghijklmnop" ∷ []) (one "abcdefghijklmnop")
+    (configured (record unicode_config { width = 9 }) (label 7 8 "h" ∷ [])) as_drawn ≡ told 0 0 4 "h" ∷ []
+unfolding read
+a_cut_line_is_read_back = refl
 
 -- ---- two labels within one line
 

@@ -178,6 +178,7 @@ ascii_config = record {
   color = false;
   tab_width = 4;
   context_lines = 0;
+  width = 0;
   char_set = Ascii;
   index_type = Char;
 }

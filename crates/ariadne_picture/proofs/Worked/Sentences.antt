@@ -17,7 +17,8 @@ use Rattle.ariadne_picture.specs.Placing.Group.{messages_of, shown_lines}
 use Rattle.ariadne_picture.specs.Placing.Rows.{Placing}
 use Rattle.ariadne_picture.specs.LabelColors.{label_color, has_label_colors}
 use Rattle.ariadne_picture.specs.LoneLines.{has_lone_underlines}
-use Rattle.ariadne_picture.specs.ReadBack.{HaveShortNumbers, IsReadBack, group_sources, labels_told, read_back}
+use Rattle.ariadne_picture.specs.ReadBack.{HaveShortNumbers, HaveWholeLines, IsReadBack, IsReadBackByGutters, group_sources}
+use Rattle.ariadne_picture.specs.ReadBack.{group_sources_and_gutters, labels_told, read_back}
 use Rattle.ariadne_picture.specs.Readings.{AgreeOnEnds, HasSameRow, AreTwins, attach_column}
 use Rattle.ariadne_picture.specs.Variants.{HaveNoEscapes, ColorsMoveNothing, BytesDrawAsCharacters, colorless, char_world, char_report, verdict_at}
 use Rattle.ariadne_picture.specs.Headline.{IsReadBy, IsTraced, AreReadInOneWay, Headline}
@@ -43,7 +44,8 @@ all_sentences : {S Id : Type 0} (w : World S Id) (r : ReportFields S) (labels : 
     → (bytes ≡ printed (canvas w r labels))
     × IsTraced (canvas w r labels) (sections w r labels) (texts_of r).message_of (label_color r)
     × AreReadInOneWay (canvas w r labels) (sections w r labels) (texts_of r).message_of
-    × (HaveShortNumbers w → IsReadBack w r labels)
+    × (HaveShortNumbers w → HaveWholeLines w r labels → IsReadBack w r labels)
+    × (HaveShortNumbers w → IsReadBackByGutters w r labels)
     × HaveColumnsOfTexts (canvas w r labels) × (HaveNoEscapes w r → HaveNoLineFeeds w r → RowsAreLines (canvas w r labels))
     × ColorsMoveNothing w r labels × BytesDrawAsCharacters w r labels
 all_sentences w r labels bytes h = (
@@ -51,6 +53,7 @@ all_sentences w r labels bytes h = (
   h.each_message_is_traced,
   h.in_one_way,
   h.and_can_be_read_back,
+  h.by_their_gutters_also_where_lines_are_cut,
   h.each_cell_takes_the_columns_of_its_text,
   h.its_rows_are_the_lines_that_are_sent,
   h.colors_move_nothing,
@@ -67,10 +70,19 @@ without_colors h = (h.cells, h.bytes no_text_has_an_escape)
 -- what its rows tell, with its sources and switches alone, is what its labels are
 told_back : let w = world sources in
     let labels = infos sources colored in
-    (HaveShortNumbers w → IsReadBack w colored labels)
+    (HaveShortNumbers w → HaveWholeLines w colored labels → IsReadBack w colored labels)
+    → HaveWholeLines w colored labels
     → IsPermutation (read_back (canvas w colored labels) (group_sources w colored labels) (switches_of colored.config))
     (labels_told (texts_of colored).message_of (sections w colored labels))
-told_back h = h lines_have_short_numbers
+told_back h whole = h lines_have_short_numbers whole
+
+-- and so is what they tell one who also knows how many gutter columns its groups have
+told_back_by_gutters : let w = world sources in
+    let labels = infos sources colored in
+    (HaveShortNumbers w → IsReadBackByGutters w colored labels)
+    → IsPermutation (read_back (canvas w colored labels) (group_sources_and_gutters w colored labels) (switches_of colored.config))
+    (labels_told (texts_of colored).message_of (sections w colored labels))
+told_back_by_gutters h = h lines_have_short_numbers
 
 -- its rows are the lines that are sent
 whole_lines : let labels = infos sources colored in

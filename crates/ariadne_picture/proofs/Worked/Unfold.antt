@@ -10,13 +10,15 @@ use Rattle.ariadne_picture.specs.Ranks.{is_inline, is_start, is_end, span_len, i
 use Rattle.ariadne_picture.specs.Ranks.{ends_at, is_nearer_margin, margin_label, is_of_gutter_label, is_margin, inline_labels, is_before, line_labels}
 use Rattle.ariadne_picture.specs.Ranks.{is_hidden, is_unlabelled, lines_near}
 use Rattle.ariadne_picture.specs.Rows.{aside_part, before, label_rows, is_lone, lone_rows, is_inside, line_rows, aside_rows, asides, rows, row_key}
-use Rattle.ariadne_picture.specs.Columns.{layout_of, char_columns, text_columns, shown, shown_columns, width_from, column_of, width, places_to_end}
+use Rattle.ariadne_picture.specs.Columns.{layout_of, char_columns, text_columns, shown, shown_columns, whole_column, whole_width, goes_on, letter_start, letter_end}
+use Rattle.ariadne_picture.specs.Columns.{is_in, sight_in, mark_columns, columns_of, cut_columns, widened_part, widened, fits_with, context, place_part, span_part}
+use Rattle.ariadne_picture.specs.Columns.{needed_labels, or_begin, needed_parts, parts_of, is_too_wide, sights_of, sight_of, column_of, width, places_to_end}
 use Rattle.ariadne_picture.specs.Columns.{arrow_len}
 use Rattle.ariadne_picture.specs.Strokes.{has_vertical, vertical_at, spot_of, is_crossed, holds, is_preferred, underlines_at, underline_at}
 use Rattle.ariadne_picture.specs.Strokes.{rank_at, first_row, last_row, has_tee, bar_at}
 use Rattle.ariadne_picture.specs.Cells.{glyph_code, alternate_ink, corner_glyph, arrow_ink, alternate_place, arrow_place, gutter_label_paint}
 use Rattle.ariadne_picture.specs.Cells.{margin_glyph, turn_glyph, margin_ink, beside_ink, below_ink, turn_ink, column_ink}
-use Rattle.ariadne_picture.specs.Pieces.{spaces, glyph_text, ink_pieces, painters, char_paint, shown_text, char_pieces}
+use Rattle.ariadne_picture.specs.Pieces.{spaces, glyph_text, ink_pieces, painters, char_paint, shown_text, char_pieces, mark_text, seen_pieces, source_pieces}
 use Rattle.ariadne_picture.specs.Pieces.{shown_pieces, area_pieces, margin_text, margin_paint, margin_pieces, column_size, gutter_len, gutter_pieces}
 use Rattle.ariadne_picture.specs.Pieces.{location_text, group_header_pieces, spacer_pieces, repeated, tail_pieces, message_pieces, aside_texts}
 use Rattle.ariadne_picture.specs.Pieces.{aside_name, aside_prefix, aside_line, aside_pieces, text_pieces, rest_pieces, row_pieces, section_rows}
@@ -46,10 +48,12 @@ unfolding digits is_separator begins_with_line_feed ends_line in_front full_line
     last_of ahead groups_of greatest least_below group_end_line group_start_line first_line last_line group_lines printed_number is_inline is_start is_end
     span_len is_on_one_line multi_line_labels gutter_labels gutter_label_ends ends_at is_nearer_margin margin_label is_of_gutter_label is_margin
     inline_labels is_before line_labels is_unlabelled lines_near is_hidden aside_part row_key before label_rows is_lone lone_rows is_inside line_rows aside_rows asides rows
-    layout_of char_columns text_columns shown shown_columns width_from column_of width places_to_end arrow_len has_vertical vertical_at spot_of
+    layout_of char_columns text_columns shown shown_columns whole_column whole_width goes_on letter_start letter_end
+    is_in sight_in mark_columns columns_of cut_columns widened_part widened fits_with context place_part span_part needed_labels or_begin
+    needed_parts parts_of is_too_wide sights_of sight_of column_of width places_to_end arrow_len has_vertical vertical_at spot_of
     is_crossed holds is_preferred underlines_at underline_at rank_at first_row last_row has_tee bar_at glyph_code
     alternate_ink corner_glyph arrow_ink alternate_place arrow_place gutter_label_paint margin_glyph turn_glyph margin_ink beside_ink below_ink
-    turn_ink column_ink spaces glyph_text ink_pieces painters char_paint shown_text char_pieces shown_pieces area_pieces
+    turn_ink column_ink spaces glyph_text ink_pieces painters char_paint shown_text char_pieces mark_text seen_pieces source_pieces shown_pieces area_pieces
     margin_text margin_paint margin_pieces column_size gutter_len gutter_pieces location_text group_header_pieces spacer_pieces repeated tail_pieces
     message_pieces aside_texts aside_name aside_prefix aside_line aside_pieces text_pieces rest_pieces row_pieces section_rows header_pieces paint_color color_of
     label_id is_same_id same_source texts_of group_id group_source header_offset section_of groups number_width outline sections

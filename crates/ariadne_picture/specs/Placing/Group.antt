@@ -8,7 +8,7 @@ use Rattle.ariadne_picture.specs.Lists.{joined_numbered}
 use Rattle.ariadne_picture.specs.Ranks.{gutter_labels, is_hidden, group_lines}
 use Rattle.ariadne_picture.specs.Rows.{is_lone}
 use Rattle.ariadne_picture.specs.Columns.{layout_of, shown, width, column_of}
-use Rattle.ariadne_picture.specs.Pieces.{Piece, Section, column_size, gutter_len, char_pieces}
+use Rattle.ariadne_picture.specs.Pieces.{Piece, Section, column_size, gutter_len, source_pieces}
 
 module _ (s : Section) where
   -- the character set of its strokes
@@ -51,8 +51,9 @@ module _ (s : Section) where
   unfoldable pub has_cell : ℕ → ℕ → Bool
   has_cell l k = nat_lt 0 (width s.sheet.switches (layout_of s.sheet l) k)
 
-  -- the cells of line l, without their colours: one for each character, and one for each blank of a tab
+  -- the cells of line l, without their colours: one for each character that is seen, one for each blank
+  -- of a tab, and one for each mark
   unfoldable pub shown_cells : ℕ → List Piece
   shown_cells l =
       let y = layout_of s.sheet l in
-      joined_numbered (λ k. char_pieces s.sheet.switches Plain (column_of s.sheet.switches y k)) (shown y)
+      joined_numbered (source_pieces s.sheet.switches Plain y) (shown y)

@@ -3,7 +3,6 @@
 use Rattle.std.specs.Prelude.{ℕ, ◌-◌, Bool, not, ◌&&◌, ◌||◌, ◌==◌, if◌then◌else◌, List, length, map}
 use Rattle.std.specs.Prelude.{filter, find, take, drop, Option, Some, None, is_some}
 use Rattle.std.specs.List.{prefix_len}
-use Rattle.ariadne_base.specs.Listing.{Listing}
 use Rattle.ariadne_picture.specs.declared.switches.CharSet.{CharSet}
 use Rattle.ariadne_picture.specs.declared.switches.Switches.{Switches}
 use Rattle.ariadne_picture.specs.declared.cell.Glyph.{Glyph}
@@ -11,7 +10,7 @@ use Rattle.ariadne_picture.specs.declared.cell.Glyph.TheVariants.{Ltop, Lbot, Rb
 use Rattle.ariadne_picture.specs.Canvas.{Cell}
 use Rattle.ariadne_picture.specs.Placing.Cells.{is_glyph, is_level}
 use Rattle.ariadne_picture.specs.Placing.Rows.{between, row_at, cell_at}
-use Rattle.ariadne_picture.specs.ReadBack.Rows.{last_before, group_of, line_row, line_of, text_begin}
+use Rattle.ariadne_picture.specs.ReadBack.Rows.{Known, last_before, group_of, line_row, line_of, text_begin}
 use Rattle.ariadne_picture.specs.ReadBack.Rows.{is_arrow_row}
 
 -- where strokes end: at a line, and at the column of its text where they turn, if they do
@@ -32,7 +31,7 @@ unfoldable pub first_showing : CharSet → Glyph → List Cell → Option ℕ
 first_showing set glyph cells =
     let k = prefix_len (λ c. not (is_glyph set glyph c)) cells in if k == length cells then None else Some k
 
-module _ (rows : List (List Cell)) (sources : List Listing) (switches : Switches) where
+module _ (rows : List (List Cell)) (sources : List Known) (switches : Switches) where
   -- the gutter cell where row n shows this corner
   unfoldable pub gutter_turn : Glyph → ℕ → Option ℕ
   gutter_turn glyph n =

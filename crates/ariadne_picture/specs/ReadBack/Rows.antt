@@ -1,7 +1,7 @@
 -- What the rows of a finished picture are, as a reader finds it: by their margins, and by the lines of the
 -- sources. No label is asked. Rows, cells, lines and groups count from 0.
-use Rattle.std.specs.Prelude.{ℕ, zero, suc, ◌-◌, ◌%◌, Bool, true, false, not, ◌&&◌, ◌||◌, ◌==◌, nat_le}
-use Rattle.std.specs.Prelude.{nat_lt, if◌then◌else◌, List, [], ◌∷◌, ◌++◌, length, filter, find, None, unwrap_or}
+use Rattle.std.specs.Prelude.{ℕ, zero, suc, ◌+◌, ◌*◌, ◌-◌, ◌%◌, Bool, true, false, not, ◌&&◌, ◌||◌, ◌==◌, nat_le}
+use Rattle.std.specs.Prelude.{nat_lt, if◌then◌else◌, List, [], ◌∷◌, ◌++◌, length, filter, find, Option, Some, None, unwrap_or}
 use Rattle.std.specs.Prelude.{slice_index_or, codes, decimal}
 use Rattle.std.specs.List.{list_any}
 use Rattle.ariadne_base.specs.Locations.{upto}
@@ -11,7 +11,7 @@ use Rattle.ariadne_picture.specs.declared.cell.Glyph.{Glyph}
 use Rattle.ariadne_picture.specs.declared.cell.Glyph.TheVariants.{Blank, Hbar, Vbar, Xbar, Uarrow}
 use Rattle.ariadne_picture.specs.declared.cell.Glyph.TheVariants.{Lbot, Rbot, Mbot, Lbox}
 use Rattle.ariadne_picture.specs.Groups.{printed_number}
-use Rattle.ariadne_picture.specs.Pieces.{Section, glyph_text}
+use Rattle.ariadne_picture.specs.Pieces.{Section, column_size, glyph_text}
 use Rattle.ariadne_picture.specs.Canvas.{Cell}
 use Rattle.ariadne_picture.specs.Placing.Cells.{is_text, is_blank, is_glyph}
 use Rattle.ariadne_picture.specs.Placing.Group.{shown_cells}
@@ -28,6 +28,11 @@ unfoldable pub begins_with_digit : List ℕ → Bool
 begins_with_digit [] = false
 begins_with_digit (b ∷ text) = nat_le 48 b && nat_le b 57
 
+-- what the reader is told of a group: its source, and how many gutter columns it has, or not even that
+pub record Known : Type 0 where
+  pub listing : Listing
+  pub gutter : Option ℕ
+
 -- the lines of a source, as a group without labels
 unfoldable pub unlabelled : Switches → Listing → Section
 unlabelled switches source = record {
@@ -43,7 +48,7 @@ unlabelled switches source = record {
 abbrev pub arrow_glyphs : List Glyph
 arrow_glyphs = Blank ∷ Hbar ∷ Vbar ∷ Xbar ∷ Uarrow ∷ Lbot ∷ Rbot ∷ Mbot ∷ []
 
-module _ (rows : List (List Cell)) (sources : List Listing) (switches : Switches) where
+module _ (rows : List (List Cell)) (sources : List Known) (switches : Switches) where
   -- ---- by their margins
 
   -- the text of the margin of row n
@@ -69,8 +74,8 @@ module _ (rows : List (List Cell)) (sources : List Listing) (switches : Switches
   group_of n = length (filter is_heading (between 1 n)) - 1
 
   -- the source of that group
-  unfoldable pub source_of : ℕ → Listing
-  source_of n = slice_index_or sources (group_of n) (record { text = []; display_offset = 0 })
+  unfoldable pub source_of : ℕ → Known
+  source_of n = slice_index_or sources (group_of n) (record { listing = record { text = []; display_offset = 0 }; gutter = None })
 
   -- the row of the line that row n shows, or stands below
   unfoldable pub line_row : ℕ → ℕ
@@ -83,17 +88,24 @@ module _ (rows : List (List Cell)) (sources : List Listing) (switches : Switches
   -- the margin of row n has the number of line l
   unfoldable pub has_number : ℕ → ℕ → Bool
   has_number n l =
-      let number = decimal (printed_number (source_of n).display_offset l) in
+      let number = decimal (printed_number (source_of n).listing.display_offset l) in
       is_text (margin_of n) (number ++ codes " " ++ glyph_text switches.char_set Vbar)
 
   -- the line that row n shows, or stands below
   unfoldable pub line_of : ℕ → ℕ
-  line_of n = unwrap_or (find (has_number (line_row n)) (upto (length (listed_lines (source_of n))))) 0
+  line_of n = unwrap_or (find (has_number (line_row n)) (upto (length (listed_lines (source_of n).listing)))) 0
 
-  -- the first cell of row n behind its gutter: as in the row of the line, which ends in the line's text
+  -- the first cell of row n behind a gutter of so many columns; where their number is not told, as in the
+  -- row of the line, which ends in the line's text
+  unfoldable pub text_begin_by : ℕ → Option ℕ → ℕ
+  text_begin_by n (Some columns) = (if switches.compact then 2 else 3) + columns * column_size switches
+  text_begin_by n None =
+      length (row_at rows (line_row n))
+      - length (shown_cells (unlabelled switches (source_of n).listing) (line_of n))
+
+  -- the first cell of row n behind its gutter
   unfoldable pub text_begin : ℕ → ℕ
-  text_begin n =
-      length (row_at rows (line_row n)) - length (shown_cells (unlabelled switches (source_of n)) (line_of n))
+  text_begin n = text_begin_by n (source_of n).gutter
 
   -- ---- the rows of labels
 
