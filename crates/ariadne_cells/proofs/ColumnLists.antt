@@ -7,17 +7,22 @@ use Rattle.std.proofs.lemmas.List.FromFn.{get_or-map-range_with_len, length-map-
 use Rattle.std.proofs.lemmas.Option.{unwrap_or-slice_get}
 use Rattle.ariadne_base.specs.Locations.{upto}
 use Rattle.ariadne_picture.specs.declared.switches.Switches.{Switches}
-use Rattle.ariadne_picture.specs.Columns.{Layout, shown, shown_columns, width, column_of}
+use Rattle.ariadne_picture.specs.Columns.{Layout, shown, shown_columns, whole_column, whole_width, sight_of, columns_of, width, column_of}
 use Rattle.ariadne_picture.proofs.Lists.Joined.{range_more}
-use Rattle.ariadne_cells.specs.Tables.{AreColumns, column_in}
-use Rattle.ariadne_cells.proofs.PlaceColumns.{width-shown, column_of-more, column_of-behind, column_of-plain}
+use Rattle.ariadne_cells.specs.Tables.{AreColumns, AreWholeColumns, column_in}
+use Rattle.ariadne_cells.proofs.PlaceColumns.{width-shown, column_of-more, column_of-behind, column_of-plain, column_of-whole, whole_column-more, whole_column-plain}
 
 -- ---- a line of printable ASCII
 
 -- needs no list
-pub columns-plain : (s : Switches) (y : Layout) (len : ℕ) → AllByRecursion (λ c. (32 ≤ c) × (c ≤ 126)) (shown y) → AreColumns s y len []
+pub columns-plain : (s : Switches) (y : Layout) (len : ℕ) → y.sights ≡ [] → AllByRecursion (λ c. (32 ≤ c) × (c ≤ 126)) (shown y)
+    → AreColumns s y len []
 unfolding column_in
-columns-plain s y len plain = λ k h. sym (column_of-plain s y k plain)
+columns-plain s y len whole plain = λ k h. sym (column_of-plain s y k whole plain)
+
+pub whole-plain : (t : ℕ) (text : List ℕ) → AllByRecursion (λ c. (32 ≤ c) × (c ≤ 126)) text → AreWholeColumns t text []
+unfolding column_in
+whole-plain t text plain = λ k h. sym (whole_column-plain t text k plain h)
 
 -- ---- the shown characters
 
@@ -31,20 +36,40 @@ shown-turn cs len n c below item =
     (short, long, get_or_read cs n c long (item ∙ get_or-take len cs n c short) 0)
 
 -- it pushes the column of its place
-pub columns-more : (s : Switches) (y : Layout) (columns more : List ℕ) (n x : ℕ) → columns ≡ map (column_of s y) (upto n) → x ≡ column_of s y n
-    → more ≡ columns ++ x ∷ [] → more ≡ map (column_of s y) (upto (n + 1))
-columns-more s y columns more n x sofar here pushed =
+pub columns-more : (f : ℕ → ℕ) (columns more : List ℕ) (n x : ℕ) → columns ≡ map f (upto n) → x ≡ f n → more ≡ columns ++ x ∷ []
+    → more ≡ map f (upto (n + 1))
+columns-more f columns more n x sofar here pushed =
     let z : 0 + n ≡ n = omega arith in
-    pushed ∙ (λ i. sofar i ++ here i ∷ []) ∙ sym (map-range_with_len_more (column_of s y) 0 n n z)
+    pushed ∙ (λ i. sofar i ++ here i ∷ []) ∙ sym (map-range_with_len_more f 0 n n z)
 
--- and then has that of the next
-pub column-step : (s : Switches) (y : Layout) (n c x w : ℕ) → n < length (shown y) → c ≡ get_or (shown y) n 0
-    → x ≡ column_of s y n → w ≡ shown_columns s.tab_width x c → x + w ≡ column_of s y (n + 1)
-column-step s y n c x w below char sofar size =
-    let here : shown_columns s.tab_width x c ≡ width s y n =
-    (λ i. shown_columns s.tab_width (sofar i) (char i)) ∙ sym (width-shown s y n below) in
-    let more = column_of-more s y n in
+-- and then has that of the next, where the text is shown whole
+pub whole-step : (t : ℕ) (text : List ℕ) (n c x w : ℕ) → c ≡ get_or text n 0 → x ≡ whole_column t text n → w ≡ shown_columns t x c
+    → x + w ≡ whole_column t text (n + 1)
+unfolding whole_width
+whole-step t text n c x w char sofar size =
+    let here : shown_columns t x c ≡ whole_width t text n = (λ i. shown_columns t (sofar i) (char i)) in
+    let more = whole_column-more t text n in
     omega (arith, sofar, size, here, more)
+
+-- or where the line is cut
+pub cut-step : (s : Switches) (y : Layout) (n c x w whole : ℕ) → n < length (shown y) → c ≡ get_or (shown y) n 0 → x ≡ column_of s y n
+    → whole ≡ whole_column s.tab_width (shown y) n → w ≡ shown_columns s.tab_width whole c
+    → x + columns_of s.char_set (sight_of y n) w ≡ column_of s y (n + 1)
+unfolding whole_width
+cut-step s y n c x w whole below char sofar counted size =
+    let here : w ≡ whole_width s.tab_width (shown y) n = size ∙ (λ i. shown_columns s.tab_width (counted i) (char i)) in
+    (λ i. sofar i + columns_of s.char_set (sight_of y n) (here i)) ∙ (λ i. column_of s y n + sym (width-shown s y n below) i)
+    ∙ sym (column_of-more s y n)
+
+-- the columns of a line that is shown whole are those of its text
+pub whole-list : (s : Switches) (y : Layout) (n : ℕ) → y.sights ≡ [] → n ≤ length (shown y)
+    → map (whole_column s.tab_width (shown y)) (upto n) ≡ map (column_of s y) (upto n)
+whole-list s y n whole within = from 0 n (omega (arith, within))
+  where
+    from : (a n : ℕ) → a + n ≤ length (shown y)
+        → map (whole_column s.tab_width (shown y)) (range_with_len a n) ≡ map (column_of s y) (range_with_len a n)
+    from a zero h = refl
+    from a (suc n) h = λ i. sym (column_of-whole s y a whole (omega (arith, h))) i ∷ from (a + 1) n (omega (arith, h)) i
 
 -- the end of that loop
 pub shown-end : (cs : List ℕ) (len n : ℕ) → n ≡ length (take len cs) → n ≡ min len (length cs)
@@ -73,7 +98,7 @@ columns-run s y n (suc d) each =
     let last : f n + d ≡ f (n + d) = sym (each d (omega arith)) in
     ap (λ m. map f (upto n) ++ range_with_len (f n) m) e ∙ ap (λ t. map f (upto n) ++ t) (range_more (f n) d)
     ∙ sym (append_assoc (map f (upto n)) (range_with_len (f n) d) ((f n + d) ∷ []))
-    ∙ columns-more s y (map f (upto n) ++ range_with_len (f n) d) _ (n + d) (f n + d) sofar last refl ∙ ap (λ m. map f (upto m)) g
+    ∙ columns-more f (map f (upto n) ++ range_with_len (f n) d) _ (n + d) (f n + d) sofar last refl ∙ ap (λ m. map f (upto m)) g
 
 -- ---- both together
 
@@ -100,3 +125,15 @@ columns-held s y len columns full = λ k h.
     let z : 0 + k ≡ k = omega arith in
     let below : k < len + 1 = omega arith in
     unwrap_or-slice_get columns k k ∙ ap (λ t. get_or t k k) full ∙ get_or-map-range_with_len (column_of s y) 0 (len + 1) k k k below z
+
+-- so it is with all places of a text and its end
+pub whole-held : (t : ℕ) (text columns : List ℕ) → columns ≡ map (whole_column t text) (upto (length text)) ++ whole_column t text (length text) ∷ []
+    → AreWholeColumns t text columns
+unfolding column_in
+whole-held t text columns full = λ k h.
+    let n = length text in
+    let y : 0 + n ≡ n = omega arith in
+    let z : 0 + k ≡ k = omega arith in
+    let below : k < n + 1 = omega (arith, h) in
+    unwrap_or-slice_get columns k k ∙ ap (λ t. get_or t k k) (full ∙ sym (map-range_with_len_more (whole_column t text) 0 n n y))
+    ∙ get_or-map-range_with_len (whole_column t text) 0 (n + 1) k k k below z

@@ -1,5 +1,5 @@
 -- What is found of a line: its shown text, whether each character of it is printable ASCII, and where the last of its labels ends.
-use Rattle.std.proofs.Common.{◌≡◌, ℕ, ◌+◌, ◌-◌, ◌<◌, ◌≤◌, max, zero, suc, Bool, true, ◌&&◌, nat_le, eqb, List, [], ◌∷◌, ◌++◌, length, map, fold, take, get_or}
+use Rattle.std.proofs.Common.{◌==◌, ◌≡◌, ℕ, ◌+◌, ◌-◌, ◌<◌, ◌≤◌, max, zero, suc, Bool, true, ◌&&◌, nat_le, eqb, List, [], ◌∷◌, ◌++◌, length, map, fold, take, get_or}
 use Rattle.std.proofs.Common.{encode_utf8, encode_utf8_all, refl, sym, ap, ap₂, ◌∙◌, subst, arith, drop, cond}
 use Rattle.std.proofs.Common.{◌≢◌, ◌%◌, ◌^◌, false, not, replicate, Option, None, Some, MatchOption, Bor, inl, inr, lit≤, w8}
 use lib.Lanes.{zip2, top}
@@ -10,13 +10,18 @@ use Rattle.std.proofs.lemmas.Simd.{bitmask_splat, get_or-chunk, length-chunk, no
 use Rattle.std.proofs.lemmas.Bool.Decides.{nat_tests}
 use Rattle.std.specs.List.{AllByRecursion}
 use Rattle.std.specs.Str.{chars, all_scalars, drop_trailing_whitespace, trim_end, IsAscii, IsCharBoundary, IsUtf8}
-use Rattle.std.proofs.lemmas.Bool.{cases_lt, cond_both, and_parts, and_from, le-leb, leb-true}
+use Rattle.std.proofs.lemmas.Bool.{cases_lt, cond_both, and_parts, and_from, le-leb, leb-true, ne_eqb, true≢false}
 use Rattle.std.proofs.lemmas.List.{take_more, map-append, length-append, get_or-drop, length-drop, take-append-drop, take-append-le, take_all}
 use Rattle.std.proofs.lemmas.List.Recursion.{max_push}
 use Rattle.std.proofs.lemmas.Str.{chars-append, encodes-append, IsCharBoundary-from_take, IsUtf8-take, chars-encodes, chars-IsAscii, encodes-chars, scalars-chars, length-encode, encode_ascii, length-le-encodes, len_utf8_bounds}
+use Rattle.std.proofs.lemmas.List.FromFn.{length-map-range_with_len}
+use Rattle.ariadne_base.specs.Locations.{upto}
+use Rattle.ariadne_cells.specs.Cuts.{sights_in}
 use Rattle.ariadne_cells.specs.Ends.{shown_bytes}
+use Rattle.ariadne_picture.specs.declared.sight.Part.{Part}
+use Rattle.ariadne_picture.specs.declared.sight.Sight.{Sight}
 use Rattle.ariadne_picture.specs.declared.label_info.LineLabel.{LineLabel}
-use Rattle.ariadne_picture.specs.Columns.{Layout, places_to_end}
+use Rattle.ariadne_picture.specs.Columns.{Layout, places_to_end, sight_in}
 use Rattle.ariadne_picture.specs.Groups.{greatest}
 
 -- ---- printable ASCII
@@ -253,3 +258,28 @@ greatest_end_more y xs i d g r o h start sofar one =
     (λ j. max (sofar j) ((one ∙ ap (λ t. x.info.end - t) start) j))
     ∙ sym (ap (λ t. greatest (map ends t)) (take_more xs i d h) ∙ ap greatest (map-append ends (take i xs) (x ∷ []))
     ∙ greatest_push (map ends (take i xs)) (ends x))
+
+-- ---- what is seen
+
+-- a line without parts is shown whole
+pub whole-is : (parts : List Part) (n : ℕ) (sights : List Sight) → sights_in parts n ≡ sights → (length parts == 0) ≡ true → sights ≡ []
+unfolding sights_in
+whole-is [] n sights seen none = sym seen
+whole-is (p ∷ parts) n sights seen none = absurd (true≢false (sym none ∙ ne_eqb (suc (length parts)) 0 (λ e. omega (arith, e))))
+
+-- so is one of which nothing is shown
+pub empty-is : (parts : List Part) (n m : ℕ) (sights : List Sight) → sights_in parts n ≡ sights → m ≡ n → m ≤ 0 → sights ≡ []
+unfolding sights_in
+empty-is [] n m sights seen same none = sym seen
+empty-is (p ∷ parts) zero m sights seen same none = sym seen
+empty-is (p ∷ parts) (suc n) m sights seen same none = absurd (omega (arith, same, none))
+
+-- another is not
+pub cut-is : (parts : List Part) (n m : ℕ) (sights : List Sight) → sights_in parts n ≡ sights → m ≡ n → (length parts == 0) ≡ false → 0 < m
+    → sights ≡ [] → ⊥
+unfolding sights_in
+cut-is [] n m sights seen same some more none = true≢false some
+cut-is (p ∷ parts) n m sights seen same some more none =
+    let size : length (map (sight_in (p ∷ parts)) (upto n)) ≡ n = length-map-range_with_len (sight_in (p ∷ parts)) 0 n in
+    let zero_of = ap length (seen ∙ none) in
+    omega (arith, size, zero_of, same, more)

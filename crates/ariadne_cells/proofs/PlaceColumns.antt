@@ -1,5 +1,5 @@
 -- How wide the places of a line are, and the columns that they begin at.
-use Rattle.std.proofs.Common.{◌≡◌, ℕ, zero, suc, ◌+◌, ◌-◌, ◌*◌, ◌<◌, ◌≤◌, false, cond, ◌==◌, List, [], ◌∷◌, length, get_or, Option, Some, None}
+use Rattle.std.proofs.Common.{◌≡◌, ℕ, zero, suc, ◌+◌, ◌-◌, ◌*◌, ◌<◌, ◌≤◌, false, cond, ◌==◌, List, [], ◌∷◌, length, get_or, slice_get, Option, Some, None}
 use Rattle.std.proofs.Common.{unwrap_or, refl, sym, ap, ◌∙◌, arith, inl, inr}
 use Rattle.std.specs.Char.{is_whitespace}
 use Rattle.std.specs.List.{AllByRecursion, range_with_len}
@@ -9,9 +9,13 @@ use Rattle.std.proofs.lemmas.List.{get_or_past}
 use Rattle.unicode_width.specs.Width.{char_width}
 use Rattle.unicode_width.proofs.Rules.{width_or_zero-le}
 use Rattle.ariadne_base.specs.Locations.{upto}
+use Rattle.ariadne_picture.specs.declared.sight.Sight.{Sight}
+use Rattle.ariadne_picture.specs.declared.sight.Sight.TheVariants.{Seen, Marked, Unseen}
+use Rattle.ariadne_picture.specs.declared.switches.CharSet.{CharSet}
+use Rattle.ariadne_picture.specs.declared.switches.CharSet.TheVariants.{Unicode, Ascii}
 use Rattle.ariadne_picture.specs.declared.switches.Switches.{Switches}
 use Rattle.ariadne_picture.specs.Lists.{total}
-use Rattle.ariadne_picture.specs.Columns.{Layout, char_columns, shown, shown_columns, width_from, column_of, width}
+use Rattle.ariadne_picture.specs.Columns.{Layout, char_columns, shown, shown_columns, whole_column, whole_width, sight_of, mark_columns, columns_of, column_of, width}
 use Rattle.ariadne_picture.proofs.Cells.LineColumns.{column_of-total, total-upto_more}
 use Rattle.ariadne_picture.proofs.Lists.Occurrences.{total-append}
 use Rattle.ariadne_picture.proofs.Rows.LineBlock.{range-append}
@@ -55,18 +59,37 @@ shown_columns-printable tab_width x c low high =
     let printed : unwrap_or (char_width false c) 1 ≡ 1 = grind (arith, nat_tests) in
     rw other (cond_both (is_whitespace c) 1 (unwrap_or (char_width false c) 1) (λ n. n ≡ 1) (λ _. refl) (λ _. printed))
 
--- a place of the shown text has the columns of its character
+-- a place of the shown text has the columns of its character, or those of a mark, or none
 pub width-shown : (s : Switches) (y : Layout) (k : ℕ) → k < length (shown y)
-    → width s y k ≡ shown_columns s.tab_width (column_of s y k) (get_or (shown y) k 0)
-unfolding width width_from
+    → width s y k ≡ columns_of s.char_set (sight_of y k) (whole_width s.tab_width (shown y) k)
+unfolding width
 width-shown s y k below =
-    sym (cond_below k (length (shown y)) (shown_columns s.tab_width (column_of s y k) (get_or (shown y) k 0)) 1 below)
+    sym (cond_below k (length (shown y)) (columns_of s.char_set (sight_of y k) (whole_width s.tab_width (shown y) k)) 1 below)
+
+-- each is seen of a line that has no list
+pub whole-seen : (y : Layout) (k : ℕ) → y.sights ≡ [] → sight_of y k ≡ Seen
+unfolding sight_of
+whole-seen y k whole = ap (λ (sights : List Sight). unwrap_or (slice_get sights k) Seen) whole
+
+-- so there it has the columns of its character
+pub width-whole : (s : Switches) (y : Layout) (k : ℕ) → y.sights ≡ [] → k < length (shown y) → width s y k ≡ whole_width s.tab_width (shown y) k
+unfolding columns_of
+width-whole s y k whole below =
+    width-shown s y k below ∙ ap (λ sight. columns_of s.char_set sight (whole_width s.tab_width (shown y) k)) (whole-seen y k whole)
+
+-- three columns at most, if it has no more where its line is shown whole
+columns_of-le : (set : CharSet) (sight : Sight) (n : ℕ) → n ≤ 3 → columns_of set sight n ≤ 3
+unfolding columns_of mark_columns
+columns_of-le set Seen n few = few
+columns_of-le Unicode Marked n few = omega arith
+columns_of-le Ascii Marked n few = omega arith
+columns_of-le set Unseen n few = omega arith
 
 -- one past it has one column
 pub width-behind : (s : Switches) (y : Layout) (k : ℕ) → length (shown y) ≤ k → width s y k ≡ 1
-unfolding width width_from
+unfolding width
 width-behind s y k past =
-    sym (cond_above k (length (shown y)) (shown_columns s.tab_width (column_of s y k) (get_or (shown y) k 0)) 1 1 past refl)
+    sym (cond_above k (length (shown y)) (columns_of s.char_set (sight_of y k) (whole_width s.tab_width (shown y) k)) 1 1 past refl)
 
 -- ---- the columns that places begin at
 
@@ -79,6 +102,26 @@ column_of-first s y = refl
 pub column_of-more : (s : Switches) (y : Layout) (k : ℕ) → column_of s y (k + 1) ≡ column_of s y k + width s y k
 unfolding width column_of
 column_of-more s y k = let e : k + 1 ≡ suc k = omega arith in ap (column_of s y) e
+
+-- so it is where a text is shown whole
+pub whole_column-first : (t : ℕ) (text : List ℕ) → whole_column t text 0 ≡ 0
+unfolding whole_column
+whole_column-first t text = refl
+
+pub whole_column-more : (t : ℕ) (text : List ℕ) (k : ℕ) → whole_column t text (k + 1) ≡ whole_column t text k + whole_width t text k
+unfolding whole_column whole_width
+whole_column-more t text k = let e : k + 1 ≡ suc k = omega arith in ap (whole_column t text) e
+
+-- a line that is shown whole has the columns of its text
+pub column_of-whole : (s : Switches) (y : Layout) (k : ℕ) → y.sights ≡ [] → k ≤ length (shown y)
+    → column_of s y k ≡ whole_column s.tab_width (shown y) k
+column_of-whole s y zero whole within = column_of-first s y ∙ sym (whole_column-first s.tab_width (shown y))
+column_of-whole s y (suc k) whole within =
+    let e : suc k ≡ k + 1 = omega arith in
+    let sofar = column_of-whole s y k whole (omega (arith, within)) in
+    let here = width-whole s y k whole (omega (arith, within)) in
+    ap (column_of s y) e ∙ column_of-more s y k ∙ (λ i. sofar i + here i) ∙ sym (whole_column-more s.tab_width (shown y) k)
+    ∙ ap (whole_column s.tab_width (shown y)) (sym e)
 
 -- and n places later the widths of those between are added
 pub column_of-between : (s : Switches) (y : Layout) (k n : ℕ) → column_of s y (k + n) ≡ column_of s y k + total (width s y) (range_with_len k n)
@@ -107,13 +150,17 @@ tab_part s y k = cond (get_or (shown y) k 0 == 9) (width s y k) 0
 
 -- a place has three columns beside them at most
 width-le : (s : Switches) (y : Layout) (k : ℕ) → width s y k ≤ tab_part s y k + 3
+unfolding whole_width
 width-le s y k =
     let c = get_or (shown y) k 0 in
     elim (cases_lt k (length (shown y))) [
       | inl below ↦
           let here = width-shown s y k below in
           cond_both (c == 9) (width s y k) 0 (λ t. width s y k ≤ t + 3) (λ _. omega arith)
-          (λ other. let most = shown_columns-le s.tab_width (column_of s y k) c other in omega (arith, here, most))
+          (λ other.
+          let printed = shown_columns-le s.tab_width (whole_column s.tab_width (shown y) k) c other in
+          let most = columns_of-le s.char_set (sight_of y k) (whole_width s.tab_width (shown y) k) printed in
+          omega (arith, here, most))
       | inr past ↦ let one = width-behind s y k past in omega (arith, one)
     ]
 
@@ -166,22 +213,40 @@ get_or-all P [] k a h = absurd (omega arith)
 get_or-all P (x ∷ xs) zero a h = a.0
 get_or-all P (x ∷ xs) (suc k) a h = get_or-all P xs k a.1 (omega arith)
 
--- each place has one column
-width-plain : (s : Switches) (y : Layout) (k : ℕ) → AllByRecursion (λ c. (32 ≤ c) × (c ≤ 126)) (shown y) → width s y k ≡ 1
-width-plain s y k plain =
+-- each place of a text has one column
+whole_width-plain : (t : ℕ) (text : List ℕ) (k : ℕ) → AllByRecursion (λ c. (32 ≤ c) × (c ≤ 126)) text → k < length text
+    → whole_width t text k ≡ 1
+unfolding whole_width
+whole_width-plain t text k plain below =
+    let c = get_or-all (λ c. (32 ≤ c) × (c ≤ 126)) text k plain below in
+    shown_columns-printable t (whole_column t text k) (get_or text k 0) c.0 c.1
+
+-- so each is its column
+pub whole_column-plain : (t : ℕ) (text : List ℕ) (k : ℕ) → AllByRecursion (λ c. (32 ≤ c) × (c ≤ 126)) text → k ≤ length text
+    → whole_column t text k ≡ k
+whole_column-plain t text zero plain within = whole_column-first t text
+whole_column-plain t text (suc k) plain within =
+    let e : suc k ≡ k + 1 = omega arith in
+    let sofar = whole_column-plain t text k plain (omega (arith, within)) in
+    let one = whole_width-plain t text k plain (omega (arith, within)) in
+    let more = whole_column-more t text k in
+    ap (whole_column t text) e ∙ omega (arith, sofar, one, more)
+
+-- each place of a line that is shown whole has one column
+width-plain : (s : Switches) (y : Layout) (k : ℕ) → y.sights ≡ [] → AllByRecursion (λ c. (32 ≤ c) × (c ≤ 126)) (shown y) → width s y k ≡ 1
+width-plain s y k whole plain =
     elim (cases_lt k (length (shown y))) [
-      | inl below ↦
-          let c = get_or-all (λ c. (32 ≤ c) × (c ≤ 126)) (shown y) k plain below in
-          width-shown s y k below ∙ shown_columns-printable s.tab_width (column_of s y k) (get_or (shown y) k 0) c.0 c.1
+      | inl below ↦ width-whole s y k whole below ∙ whole_width-plain s.tab_width (shown y) k plain below
       | inr past ↦ width-behind s y k past
     ]
 
 -- so each place is its column
-pub column_of-plain : (s : Switches) (y : Layout) (k : ℕ) → AllByRecursion (λ c. (32 ≤ c) × (c ≤ 126)) (shown y) → column_of s y k ≡ k
-column_of-plain s y zero plain = column_of-first s y
-column_of-plain s y (suc k) plain =
+pub column_of-plain : (s : Switches) (y : Layout) (k : ℕ) → y.sights ≡ [] → AllByRecursion (λ c. (32 ≤ c) × (c ≤ 126)) (shown y)
+    → column_of s y k ≡ k
+column_of-plain s y zero whole plain = column_of-first s y
+column_of-plain s y (suc k) whole plain =
     let e : suc k ≡ k + 1 = omega arith in
-    let sofar = column_of-plain s y k plain in
-    let one = width-plain s y k plain in
+    let sofar = column_of-plain s y k whole plain in
+    let one = width-plain s y k whole plain in
     let more = column_of-more s y k in
     ap (column_of s y) e ∙ omega (arith, sofar, one, more)

@@ -15,7 +15,7 @@ use Rattle.ariadne_picture.specs.declared.switches.Switches.{Switches}
 use Rattle.ariadne_base.specs.Locations.{upto}
 use Rattle.ariadne_picture.specs.Lists.{total}
 use Rattle.ariadne_picture.specs.Ranks.{is_inline}
-use Rattle.ariadne_picture.specs.Columns.{Layout, shown, arrow_len, column_of, width}
+use Rattle.ariadne_picture.specs.Columns.{Layout, shown, arrow_len, column_of, whole_column, width}
 use Rattle.ariadne_picture.specs.Strokes.{vertical_at, underline_at, underline_row}
 use Rattle.ariadne_picture.specs.Pieces.{char_paint}
 
@@ -60,6 +60,11 @@ position_of x = x.info.position
 abbrev pub AreColumns : Switches → Layout → ℕ → List ℕ → Type 0
 AreColumns switches y len columns =
     (k : ℕ) → k ≤ len → column_in columns k ≡ column_of switches y k
+
+-- those of the places of a text that is shown whole, up to its end
+abbrev pub AreWholeColumns : ℕ → List ℕ → List ℕ → Type 0
+AreWholeColumns tab_width text columns =
+    (k : ℕ) → k ≤ length text → column_in columns k ≡ whole_column tab_width text k
 
 -- the verticals that are seen in the rows of rank r
 abbrev pub AreVerticals : Layout → ℕ → List Vertical → Type 0

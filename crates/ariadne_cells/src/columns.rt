@@ -1,28 +1,23 @@
-//! The columns of a line.
+//! The columns of characters and of a line that is shown whole.
 
-ghost use Rattle.std.specs.Prelude.{◌≡◌, ◌+◌, ◌-◌, ◌≤◌, ◌<◌, ◌^◌, IfOk, OnOk, [], ◌++◌};
-ghost use Rattle.std.specs.Prelude.{length, map, min};
-ghost use Rattle.std.specs.List.{range_with_len};
+ghost use Rattle.std.specs.Prelude.{◌≡◌, ◌-◌, ◌≤◌, IfOk, OnOk, [], chars, length, map, min};
 ghost use Rattle.ariadne_base.specs.Locations.{upto};
-ghost use Rattle.ariadne_cells.specs.Tables.{AreColumns, column_in, tab_columns};
-ghost use Rattle.ariadne_picture.specs.Columns.{column_of, shown, shown_columns};
+ghost use Rattle.ariadne_cells.specs.Tables.{AreWholeColumns, column_in};
+ghost use Rattle.ariadne_picture.specs.Columns.{mark_columns, shown, shown_columns, whole_column};
 
 use crate::layout::LineLayout;
-use ariadne_picture::switches::Switches;
+use ariadne_picture::switches::{CharSet, Switches};
 use std::alloc::{AllocError, Global};
 use std::marker::Model;
 use unicode_width::UnicodeWidthChar;
 
-/// There is no memory for as many columns, of 8 bytes each.
-const TOO_MANY: usize = 1 << 60;
-
-/// The column that each place of a line begins at.
+/// The column that each place of a line begins at where the line is shown whole.
 #[derive(Drop)]
-pub struct Columns {
+pub struct WholeColumns {
     list: Vec<usize>,
 }
 
-impl Model for Columns {
+impl Model for WholeColumns {
     ghost use Rattle.std.specs.Prelude.{ℕ, List};
 
     ghost Value = { List ℕ };
@@ -30,39 +25,32 @@ impl Model for Columns {
     ghost view = { λ a. a.list.items };
 }
 
-impl Columns {
+impl WholeColumns {
     /// The columns of a line without tabs and wide characters: each place is its own column.
-    pub fn new(alloc: Global) -> Columns
+    pub fn new(alloc: Global) -> WholeColumns
         ensures { result ≡ [] }
     {
-        Columns {
+        WholeColumns {
             list: Vec::new(alloc),
         }
     }
 
-    /// Finds those of the first `len` places of a line, and of the place behind them.
+    /// Finds those of the shown places of a line, and of their end.
     ///
-    /// On `Err` there was no memory for them, and what is held is of no line.
-    pub fn fill(
-        &mut self,
-        switches: &Switches,
-        layout: &LineLayout<'_>,
-        len: usize,
-    ) -> Result<(), AllocError>
+    /// On `Err` there was no memory for them, or none holds so many columns. What is held is then of
+    /// no line.
+    pub fn fill(&mut self, switches: &Switches, layout: &LineLayout<'_>) -> Result<(), AllocError>
         requires tabs { 1 ≤ switches.now.tab_width }
-        requires fits { tab_columns switches.now layout.now < 2 ^ 63 }
-        ensures { OnOk result (AreColumns switches.now layout.now len self.new) }
+        ensures { OnOk result (AreWholeColumns switches.now.tab_width (shown layout.now) self.new) }
     {
         self.list.clear();
         if layout.is_plain() {
             return Ok(());
         }
-        if len >= TOO_MANY {
-            return Err(AllocError);
-        }
-        self.list.reserve(len + 1)?;
-        let column = push_shown(&mut self.list, switches, layout, len)?;
-        push_behind(&mut self.list, column, len)
+        let len = layout.shown_len();
+        let column = push_whole(&mut self.list, switches.tab_width, layout.shown(), len)?;
+        self.list.push(column)?;
+        Ok(())
     }
 
     /// The column that a place begins at; where none is held it is the place itself.
@@ -81,45 +69,41 @@ impl Columns {
     }
 }
 
-/// Appends the columns that the shown places before `len` begin at, and gives that of the place
-/// behind them. On `Err` there was no memory for them.
-fn push_shown(
+/// Appends the columns that the places of a text before `len` begin at, where it is shown whole, and
+/// gives that of the place behind them.
+///
+/// On `Err` there was no memory for them, or none holds so many columns.
+pub fn push_whole(
     list: &mut Vec<usize>,
-    switches: &Switches,
-    layout: &LineLayout<'_>,
+    tab_width: usize,
+    text: &str,
     len: usize,
 ) -> Result<usize, AllocError>
     requires empty { list.old.items ≡ [] }
-    requires tabs { 1 ≤ switches.now.tab_width }
-    requires fits { tab_columns switches.now layout.now < 2 ^ 63 }
-    requires short { len < 2 ^ 60 }
-    ensures columns { let n = min len (length (shown layout.now)) in
-        OnOk result (list.new.items ≡ map (column_of switches.now layout.now) (upto n)) }
-    ensures behind { let n = min len (length (shown layout.now)) in
-        IfOk result (λ column. column ≡ column_of switches.now layout.now n) }
+    requires tabs { 1 ≤ tab_width }
+    ensures columns { let n = min len (length (chars text.now)) in
+        OnOk result (list.new.items ≡ map (whole_column tab_width (chars text.now)) (upto n)) }
+    ensures behind { let n = min len (length (chars text.now)) in
+        IfOk result (λ column. column ≡ whole_column tab_width (chars text.now) n) }
 {
-    let mut column = 0;
-    for c in layout.shown().chars().take(len) {
+    let mut column = 0usize;
+    for c in text.chars().take(len) {
         list.push(column)?;
-        column += shown_columns(switches.tab_width, column, c);
+        let width = shown_columns(tab_width, column, c);
+        column = column.checked_add(width).ok_or(AllocError)?;
     }
     Ok(column)
 }
 
-/// Appends the columns that the places past the shown text begin at, up to `len`: the first of them
-/// begins at `column`, and each has one. On `Err` there was no memory for them.
-fn push_behind(list: &mut Vec<usize>, column: usize, len: usize) -> Result<(), AllocError>
-    requires short { len < 2 ^ 60 }
-    requires fits { column + len < 2 ^ 64 }
-    requires some { length list.old.items ≤ len }
-    ensures { let behind = range_with_len column (len + 1 - length list.old.items) in
-        OnOk result (list.new.items ≡ list.old.items ++ behind) }
+/// How many columns the mark has in place of what is cut.
+#[tactic(auto, unfolding(ariadne_picture::specs::Columns::mark_columns))]
+pub fn mark_columns(set: CharSet) -> usize
+    ensures { result ≡ mark_columns set }
 {
-    let first = list.len();
-    for place in first..len + 1 {
-        list.push(column + (place - first))?;
+    match set {
+        CharSet::Unicode => 1,
+        CharSet::Ascii => 3,
     }
-    Ok(())
 }
 
 /// How many columns a shown character has that begins at `column`. A tab reaches to the next

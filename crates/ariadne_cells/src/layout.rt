@@ -1,9 +1,10 @@
 //! What is drawn at one line of a source: its labels, and its characters.
 
-ghost use Rattle.std.specs.Prelude.{◌≡◌, ℕ, ◌≤◌, ◌<◌, ◌^◌, ◌↔◌, IfSome, IsTrue, chars, length, map, nat_lt, not};
-ghost use Rattle.std.specs.Prelude.{slice_index, true};
+ghost use Rattle.std.specs.Prelude.{◌≡◌, ℕ, ◌≤◌, ◌<◌, ◌^◌, ◌↔◌, IfSome, IsFalse, IsTrue, chars, length, map, nat_lt, not};
+ghost use Rattle.std.specs.Prelude.{slice_index, true, [], ◌++◌, option_to_list};
 ghost use Rattle.std.specs.Str.{drop_trailing_whitespace, trim_end};
 ghost use Rattle.std.specs.List.{AllByRecursion, list_any};
+ghost use Rattle.ariadne_cells.specs.Cuts.{AreApart, sights_in};
 ghost use Rattle.ariadne_cells.specs.Ends.{shown_bytes};
 ghost use Rattle.ariadne_picture.specs.Columns.{arrow_len, places_to_end, shown};
 ghost use Rattle.ariadne_picture.specs.Groups.{greatest};
@@ -12,6 +13,7 @@ ghost use Rattle.ariadne_picture.specs.Rows.{are_lone};
 
 use ariadne_base::blocks::count::count_chars;
 use ariadne_picture::label_info::LineLabel;
+use ariadne_picture::sight::Part;
 use ariadne_picture::switches::Switches;
 use std::marker::Model;
 use std::simd::prelude::*;
@@ -32,12 +34,15 @@ pub struct LineLayout<'a> {
     shown_len: usize,
     /// Whether all of them are printable ASCII.
     is_plain: bool,
+    /// The parts of it that are shown, in their order, or none where it is shown whole.
+    parts: &'a [Part],
 }
 
 impl<'a> Model for LineLayout<'a> {
     ghost use Rattle.std.specs.Prelude.{◌≡◌, ◌≤◌, ◌↔◌, IsTrue, chars, length};
     ghost use Rattle.std.specs.List.{AllByRecursion};
     ghost use Rattle.std.specs.Str.{drop_trailing_whitespace};
+    ghost use Rattle.ariadne_cells.specs.Cuts.{AreApart, sights_in};
     ghost use Rattle.ariadne_picture.specs.Columns.{Layout};
 
     ghost Value = { Layout };
@@ -47,11 +52,13 @@ impl<'a> Model for LineLayout<'a> {
       labels = a.labels.now;
       offset = a.offset;
       text = chars a.text.now;
+      sights = sights_in a.parts.now (length (drop_trailing_whitespace (chars a.text.now)));
     } };
 
     ghost invariant = { λ a. (a.len ≡ length (chars a.text.now))
         × (chars a.shown.now ≡ drop_trailing_whitespace (chars a.text.now))
         × (a.shown_len ≡ length (chars a.shown.now))
+        × AreApart a.parts.now
         × (IsTrue a.is_plain ↔ AllByRecursion (λ c. (32 ≤ c) × (c ≤ 126)) (chars a.shown.now)) };
 }
 
@@ -76,6 +83,7 @@ impl<'a> LineLayout<'a> {
           labels = labels.now;
           offset = offset;
           text = chars text.now;
+          sights = [];
         } }
     {
         let shown = shown_part(text, known);
@@ -94,7 +102,19 @@ impl<'a> LineLayout<'a> {
             shown,
             shown_len,
             is_plain,
+            parts: &[],
         }
+    }
+
+    /// Shows these parts of it, or the whole line where there are none.
+    #[tactic(auto, unfolding(ariadne_picture::specs::Columns::shown))]
+    pub fn cut(&mut self, parts: &'a [Part])
+        requires apart { AreApart parts.now }
+        ensures { self.new ≡ record self.old {
+          sights = sights_in parts.now (length (shown self.old));
+        } }
+    {
+        self.parts = parts;
     }
 
     /// The label whose arrow leaves the gutter beside the source row.
@@ -142,6 +162,32 @@ impl<'a> LineLayout<'a> {
         self.is_plain
     }
 
+    /// The parts of the shown characters that are seen, in their order, or none where all are. A
+    /// mark stands before each of them, and behind the last, where there is anything to cut.
+    #[tactic(auto, unfolding(ariadne_picture::specs::Columns::shown))]
+    pub fn parts(&self) -> &'a [Part]
+        ensures apart { AreApart result.now }
+        ensures sights { self.now.sights ≡ sights_in result.now (length (shown self.now)) }
+    {
+        self.parts
+    }
+
+    /// Whether not all of them are seen.
+    pub fn is_cut(&self) -> bool
+        ensures { IsFalse result ↔ (self.now.sights ≡ []) }
+    {
+        !self.parts.is_empty() && self.shown_len > 0
+    }
+
+    /// Whether each place takes one column: all of them are seen, and none is a tab or a wide
+    /// character.
+    pub fn is_even(&self) -> bool
+        ensures whole { IsTrue result → self.now.sights ≡ [] }
+        ensures plain { IsTrue result → AllByRecursion (λ c. (32 ≤ c) × (c ≤ 126)) (shown self.now) }
+    {
+        self.is_plain() && !self.is_cut()
+    }
+
     /// How many characters the line has, its terminator among them.
     pub fn len(&self) -> usize
         ensures { result ≡ length self.now.text }
@@ -157,6 +203,16 @@ impl<'a> LineLayout<'a> {
         match &self.margin {
             Some(margin) => !label.side.is_inline() && margin.gutter_column == label.gutter_column,
             None => false,
+        }
+    }
+
+    /// Whether one of its labels has a message, be it the margin label.
+    pub fn has_told(&self) -> bool
+        ensures { result ≡ list_any (λ x. x.info.has_message) (option_to_list self.now.margin ++ self.now.labels) }
+    {
+        match &self.margin {
+            Some(margin) => margin.info.has_message || self.has_rows(),
+            None => self.has_rows(),
         }
     }
 

@@ -5,7 +5,9 @@
 mod candidates;
 mod choice;
 pub mod columns;
+pub mod cuts;
 pub mod layout;
+pub mod line_columns;
 pub mod margin;
 mod opening;
 pub mod order;

@@ -9,8 +9,8 @@ ghost use Rattle.ariadne_picture.specs.declared.label_info.LabelInfo.{LabelInfo}
 ghost use Rattle.ariadne_picture.specs.Columns.{arrow_len, shown};
 ghost use Rattle.ariadne_picture.specs.Strokes.{holds, underline_row};
 
-use crate::columns::Columns;
 use crate::layout::LineLayout;
+use crate::line_columns::LineColumns;
 use crate::stretches::{Stretch, find_paints, find_underlines};
 use crate::verticals::Verticals;
 use ariadne_picture::label_info::LabelInfo;
@@ -23,7 +23,7 @@ pub struct LineTable {
     /// How many places the rows below the line have.
     pub len: usize,
     /// The column that each place begins at.
-    pub columns: Columns,
+    pub columns: LineColumns,
     /// The verticals of the line labels that are still to be written.
     pub verticals: Verticals,
     /// The rank of the alternate row that has the underlines.
@@ -46,7 +46,7 @@ impl LineTable {
     {
         LineTable {
             len: 0,
-            columns: Columns::new(alloc),
+            columns: LineColumns::new(alloc),
             verticals: Verticals::new(alloc),
             underline_row: 0,
             underlines: Vec::new(alloc),

@@ -1,6 +1,6 @@
 use Rattle.std.proofs.Common.{◌∙◌}
 use Rattle.ariadne_cells.proofs.ColumnLists.{run-more}
-use Rattle.ariadne_cells.proofs.columns.push_behind.Goals as goal
+use Rattle.ariadne_cells.proofs.line_columns.push_behind.Goals as goal
 
 -- a turn pushes the column behind the last
 pub loop-place-preserved : goal.loop-place-preserved

@@ -1,0 +1,28 @@
+-- The columns of a line that is cut, as they are held: those of the places of which anything is seen,
+-- in their order. A place between two of them takes no columns, so it begins where the next one does.
+use Rattle.std.specs.Prelude.{⊤, ℕ, ◌≡◌, ◌<◌, ◌≤◌, nat_le, if◌then◌else◌, List, [], ◌∷◌, map}
+use Rattle.std.specs.List.{AllByRecursion}
+use Rattle.ariadne_base.specs.Locations.{upto}
+use Rattle.ariadne_cells.specs.declared.line_columns.Knot.{Knot}
+
+-- each stands behind the one before it
+unfoldable pub AreRising : List Knot → Type 0
+AreRising [] = ⊤
+AreRising (q ∷ knots) = AllByRecursion (λ r. q.place < r.place) knots × AreRising knots
+
+-- the column of place k: that of the first of these from k on, or else this one
+unfoldable pub knot_column : ℕ → List Knot → ℕ → ℕ
+knot_column column [] k = column
+knot_column column (q ∷ knots) k = if nat_le k q.place then q.column else knot_column column knots k
+
+-- the columns of the first places of a line: these, or those of n places of a cut line
+unfoldable pub held_columns : List ℕ → List Knot → ℕ → List ℕ
+held_columns columns [] n = columns
+held_columns columns (q ∷ knots) n = map (knot_column 0 (q ∷ knots)) (upto n)
+
+-- the columns of the places before n are held, where place k begins at f k; that of place n is this one
+pub record HoldColumns (f : ℕ → ℕ) (knots : List Knot) (n column : ℕ) : Type 0 where
+  pub rising : AreRising knots
+  pub before : AllByRecursion (λ q. q.place < n) knots
+  pub next : column ≡ f n
+  pub held : (k : ℕ) → k ≤ n → knot_column column knots k ≡ f k
