@@ -1,5 +1,5 @@
 //! Drawing the accepted labels of a report: they are cut into groups (`groups`), whose lines are
-//! drawn one after another (`lines`) between the header and the tail (`drawing`). What is public
+//! drawn one after another (`lines`, `below`) between the header and the tail (`drawing`). What is public
 //! here serves `ariadne`, and is no part of its surface.
 //!
 //! ```text
@@ -20,6 +20,7 @@
 //! ```
 #![tactic(auto)]
 
+mod below;
 pub mod drawing;
 mod groups;
 mod lines;

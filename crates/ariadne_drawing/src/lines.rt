@@ -1,44 +1,40 @@
 //! The rows of the lines of a group, from its first line to its last. Lines without labels that stand
 //! near one with some are shown; the others are hidden.
 
-ghost use Rattle.std.specs.Prelude.{◌≡◌, ◌<◌, ◌≤◌, ◌+◌, ◌++◌, ℕ, [], OnOk, false, length, map, replicate};
-ghost use Rattle.std.specs.Prelude.{IfSome, None, Some, ◌^◌, ◌-◌, option_map, slice_get};
+ghost use Rattle.std.specs.Prelude.{◌≡◌, ◌<◌, ◌≤◌, ◌+◌, ℕ, [], OnOk, false, length, map, replicate};
+ghost use Rattle.std.specs.Prelude.{None, Some, ◌^◌, ◌-◌, option_map, slice_get};
 ghost use Rattle.std.specs.Prelude.{max, min, slice_range, true};
-ghost use Rattle.std.specs.List.{AllByRecursion, enumerate_from, list_any, range_with_len};
+ghost use Rattle.std.specs.List.{range_with_len};
 ghost use Rattle.ariadne_drawing.specs.Lines.{AreBetween, AreContext, AreOverLines};
-ghost use Rattle.ariadne_drawing.specs.Lines.{IsAtLine, IsAtSome, IsBelowLine, IsBelowSome};
 ghost use Rattle.ariadne_drawing.specs.Lines.{IsDrawnGroup, IsLaidOut, begins_run};
 ghost use Rattle.ariadne_drawing.specs.LongLines.{IsRemembered};
-ghost use Rattle.ariadne_cells.specs.Pages.{DrawsRow, DrawsRows};
+ghost use Rattle.ariadne_cells.specs.Pages.{DrawsRows};
 ghost use Rattle.ariadne_picture.specs.declared.label_info.LineLabel.{LineLabel};
-ghost use Rattle.ariadne_picture.specs.Bars.{EndsNoEarlier};
-ghost use Rattle.ariadne_cells.specs.Tables.{ArePaints, tab_columns};
-ghost use Rattle.ariadne_picture.specs.Columns.{arrow_len};
+ghost use Rattle.ariadne_cells.specs.Tables.{ArePaints};
 ghost use Rattle.ariadne_picture.specs.Canvas.{texts_of};
 ghost use Rattle.ariadne_picture.specs.Groups.{group_end_line, group_start_line};
 ghost use Rattle.ariadne_picture.specs.Lists.{joined};
 ghost use Rattle.ariadne_picture.specs.Pieces.{Section, Texts, row_pieces};
 ghost use Rattle.ariadne_picture.specs.Ranks.{Sheet, first_line, group_lines, gutter_labels};
-ghost use Rattle.ariadne_picture.specs.Ranks.{is_hidden, is_inline, last_line, multi_line_labels};
+ghost use Rattle.ariadne_picture.specs.Ranks.{is_hidden, last_line, multi_line_labels};
 ghost use Rattle.ariadne_rows.specs.Sheets.{events_at, events_of};
-ghost use Rattle.ariadne_picture.specs.Ranks.{is_start, line_labels, margin_label};
-ghost use Rattle.ariadne_picture.specs.Rows.{arrow, label_rows, line_rows, lone_rows};
-ghost use Rattle.ariadne_rows.specs.Gutters.{IsBelow, IsBeside};
+ghost use Rattle.ariadne_picture.specs.Rows.{line_rows};
+ghost use Rattle.ariadne_rows.specs.Gutters.{IsBeside};
 ghost use Rattle.ariadne_base.specs.Listing.{listed_lines};
 ghost use Rattle.ariadne_base.specs.Locations.{line_text};
 
+use crate::below::{push_rows_below, start_margin};
 use crate::long_line::{LongLine, known_bytes, remember};
 use ariadne_accept::content::Content;
 use ariadne_base::{Source, SourceText, Span};
+use ariadne_cells::cuts::Cuts;
 use ariadne_cells::layout::LineLayout;
 use ariadne_cells::page::Page;
 use ariadne_cells::pen::Pen;
 use ariadne_cells::table::LineTable;
-use ariadne_picture::label_info::{LabelInfo, LineLabel, Side};
+use ariadne_picture::label_info::{LabelInfo, LineLabel};
 use ariadne_rows::gutter::Gutter;
-use ariadne_rows::rows::{
-    push_alternate_row, push_arrow_row, push_bare_row, push_gap_row, push_source_row,
-};
+use ariadne_rows::rows::{push_bare_row, push_gap_row, push_source_row};
 use ariadne_rows::sheet::GroupSheet;
 use std::alloc::{AllocError, Global};
 use std::ops::Range;
@@ -51,6 +47,8 @@ pub(crate) struct Lists<'a> {
     pub(crate) gutter: Gutter<'a>,
     pub(crate) labels: Vec<LineLabel>,
     pub(crate) table: LineTable,
+    /// What is seen of the line, where it is cut.
+    pub(crate) cuts: Cuts,
     /// The last line of the source that was shown with much white space at its end.
     pub(crate) long_line: Option<LongLine>,
 }
@@ -69,6 +67,7 @@ impl<'a> Lists<'a> {
             gutter: Gutter::new(alloc, page),
             labels: Vec::new(alloc),
             table: LineTable::new(alloc),
+            cuts: Cuts::new(alloc),
             long_line: None,
         }
     }
@@ -391,6 +390,7 @@ fn push_line<S: Span, I: SourceText>(
         gutter,
         labels,
         table,
+        cuts,
         long_line,
     } = lists;
     let _text = source.text();
@@ -399,7 +399,9 @@ fn push_line<S: Span, I: SourceText>(
     let extent = source.line(line).unwrap();
     let text = source.get_line_text(extent).unwrap();
     let known = known_bytes(*long_line, line);
-    let layout = LineLayout::new(margin, labels, extent.offset(), extent.len(), text, known);
+    let mut layout = LineLayout::new(margin, labels, extent.offset(), extent.len(), text, known);
+    cuts.find(pen.page().switches(), &layout)?;
+    layout.cut(&cuts.parts);
     find_paints(pen, sheet, table, &layout, line)?;
     let number = line + 1 + display_offset;
     push_source_row(pen, gutter, &layout, &table.paints, number)?;
@@ -431,217 +433,4 @@ fn find_paints(
     }
     sheet.go_to(line)?;
     table.fill_paints(layout, sheet.multi_line(), sheet.touching())
-}
-
-/// Begins the bar of a line's margin label, if it has one that starts there.
-fn start_margin(gutter: &mut Gutter<'_>, margin: Option<LineLabel>) -> Result<(), AllocError>
-    requires column { IfSome margin (λ m. m.gutter_column < length gutter.old.bars) }
-    ensures page { OnOk result (gutter.new.page ≡ gutter.old.page) }
-    ensures positions { OnOk result (gutter.new.positions ≡ gutter.old.positions) }
-    ensures below { (s : Sheet) (l : ℕ) → AllByRecursion EndsNoEarlier s.labels →
-        IsBeside s l gutter.old → margin_label s l ≡ margin →
-        OnOk result (IsBelow s l 0 gutter.new) }
-{
-    match margin {
-        None => Ok(()),
-        Some(margin) => {
-            if starts(margin.side) {
-                gutter.set(margin.gutter_column, true)
-            } else {
-                Ok(())
-            }
-        }
-    }
-}
-
-/// Writes the rows below a line: those of its labels, or one of underlines alone.
-fn push_rows_below<S: Span>(
-    pen: &mut Pen<'_>,
-    gutter: &mut Gutter<'_>,
-    table: &mut LineTable,
-    layout: &LineLayout<'_>,
-    report: &Content<'_, S>,
-) -> Result<(), AllocError>
-    requires page { gutter.old.page ≡ pen.old.page }
-    requires columns_fit { tab_columns pen.old.page.switches layout.now < 2 ^ 63 }
-    requires places_fit { arrow_len pen.old.page.switches layout.now < 2 ^ 64 }
-    requires there { IsAtSome (texts_of report.now) pen.old.page layout.now gutter.old }
-    ensures page { OnOk result (gutter.new.page ≡ gutter.old.page) }
-    ensures positions { OnOk result (gutter.new.positions ≡ gutter.old.positions) }
-    ensures drawn { let page = pen.old.page in let t = texts_of report.now in
-        (g : Section) (l : ℕ) → IsAtLine t g page l layout.now gutter.old →
-        OnOk result (DrawsRows pen.old pen.new (map (row_pieces t page.number_width g)
-        (joined (label_rows page.switches.compact l) (enumerate_from 0 layout.now.labels)
-        ++ lone_rows g.sheet l))) }
-    ensures below { let page = pen.old.page in let t = texts_of report.now in
-        (g : Section) (l : ℕ) → IsAtLine t g page l layout.now gutter.old →
-        OnOk result (IsBelow g.sheet l (length layout.now.labels) gutter.new) }
-{
-    if !layout.has_rows() {
-        return push_lone_row(pen, gutter, table, layout);
-    }
-    table.fill(pen.page().switches(), layout)?;
-    push_label_rows(pen, gutter, table, layout, report)
-}
-
-/// Writes the row of underlines alone, if the line has one: none of its labels has a message.
-fn push_lone_row(
-    pen: &mut Pen<'_>,
-    gutter: &Gutter<'_>,
-    table: &mut LineTable,
-    layout: &LineLayout<'_>,
-) -> Result<(), AllocError>
-    requires page { gutter.now.page ≡ pen.old.page }
-    requires columns_fit { tab_columns pen.old.page.switches layout.now < 2 ^ 63 }
-    requires places_fit { arrow_len pen.old.page.switches layout.now < 2 ^ 64 }
-    requires silent { list_any (λ x. x.info.has_message) layout.now.labels ≡ false }
-    ensures { let page = pen.old.page in (t : Texts) (g : Section) (l : ℕ) →
-        IsAtLine t g page l layout.now gutter.now →
-        OnOk result (DrawsRows pen.old pen.new
-        (map (row_pieces t page.number_width g) (lone_rows g.sheet l))) }
-{
-    if !layout.is_lone(pen.page().switches()) {
-        return Ok(());
-    }
-    table.fill(pen.page().switches(), layout)?;
-    push_alternate_row(pen, gutter, table, layout.labels().len())
-}
-
-/// Writes the rows of the labels of a line.
-fn push_label_rows<S: Span>(
-    pen: &mut Pen<'_>,
-    gutter: &mut Gutter<'_>,
-    table: &mut LineTable,
-    layout: &LineLayout<'_>,
-    report: &Content<'_, S>,
-) -> Result<(), AllocError>
-    requires page { gutter.old.page ≡ pen.old.page }
-    requires there { IsBelowSome (texts_of report.now) pen.old.page 0 layout.now
-        gutter.old table.old }
-    ensures page { OnOk result (gutter.new.page ≡ gutter.old.page) }
-    ensures positions { OnOk result (gutter.new.positions ≡ gutter.old.positions) }
-    ensures drawn { let page = pen.old.page in let t = texts_of report.now in
-        (g : Section) (l : ℕ) →
-        IsBelowLine t g page l 0 layout.now gutter.old table.old →
-        OnOk result (DrawsRows pen.old pen.new (map (row_pieces t page.number_width g)
-        (joined (label_rows page.switches.compact l) (enumerate_from 0 layout.now.labels)))) }
-    ensures below { let page = pen.old.page in let t = texts_of report.now in
-        (g : Section) (l : ℕ) →
-        IsBelowLine t g page l 0 layout.now gutter.old table.old →
-        OnOk result (IsBelow g.sheet l (length layout.now.labels) gutter.new) }
-{
-    let labels = layout.labels();
-    for rank in 0..labels.len() {
-        push_label(pen, gutter, table, layout, report, rank)?;
-    }
-    Ok(())
-}
-
-/// Writes the rows of the line label of a rank, and goes on to the next.
-fn push_label<S: Span>(
-    pen: &mut Pen<'_>,
-    gutter: &mut Gutter<'_>,
-    table: &mut LineTable,
-    layout: &LineLayout<'_>,
-    report: &Content<'_, S>,
-    rank: usize,
-) -> Result<(), AllocError>
-    requires page { gutter.old.page ≡ pen.old.page }
-    requires rank { rank < length layout.now.labels }
-    requires there { IsBelowSome (texts_of report.now) pen.old.page rank layout.now
-        gutter.old table.old }
-    ensures page { OnOk result (gutter.new.page ≡ gutter.old.page) }
-    ensures positions { OnOk result (gutter.new.positions ≡ gutter.old.positions) }
-    ensures drawn { let page = pen.old.page in let t = texts_of report.now in
-        (g : Section) (l : ℕ) (x : LineLabel) →
-        IsBelowLine t g page l rank layout.now gutter.old table.old →
-        slice_get layout.now.labels rank ≡ Some x →
-        OnOk result (DrawsRows pen.old pen.new
-        (map (row_pieces t page.number_width g) (label_rows page.switches.compact l (rank, x)))) }
-    ensures below { let page = pen.old.page in let t = texts_of report.now in
-        (g : Section) (l : ℕ) →
-        IsBelowLine t g page l rank layout.now gutter.old table.old →
-        OnOk result (IsBelowLine t g page l (rank + 1) layout.now gutter.new table.new) }
-{
-    let labels = layout.labels();
-    let label = &labels[rank];
-    push_rows_of_label(pen, gutter, table, layout, report, rank, label)?;
-    table.verticals.pass(layout, rank);
-    pass_bar(gutter, label)
-}
-
-/// Goes on to the bars below the rows of a line label: its own begins or has ended.
-fn pass_bar(gutter: &mut Gutter<'_>, label: &LineLabel) -> Result<(), AllocError>
-    requires column { is_inline label.now.side ≡ false →
-        label.now.gutter_column < length gutter.old.bars }
-    ensures page { OnOk result (gutter.new.page ≡ gutter.old.page) }
-    ensures positions { OnOk result (gutter.new.positions ≡ gutter.old.positions) }
-    ensures below { (s : Sheet) (l r : ℕ) → AllByRecursion EndsNoEarlier s.labels →
-        IsBelow s l r gutter.old → slice_get (line_labels s l) r ≡ Some label.now →
-        OnOk result (IsBelow s l (r + 1) gutter.new) }
-{
-    if label.side.is_inline() {
-        return Ok(());
-    }
-    gutter.set(label.gutter_column, starts(label.side))
-}
-
-/// Whether a label starts at its line and ends on a later one.
-#[tactic(auto, unfolding(ariadne_picture::specs::Ranks::is_start))]
-fn starts(side: Side) -> bool
-    ensures { result ≡ is_start side }
-{
-    matches!(side, Side::Starts)
-}
-
-/// Writes the rows of a label of a line: underlines and verticals, and the arrow to its message.
-/// Without a message it has none.
-fn push_rows_of_label<S: Span>(
-    pen: &mut Pen<'_>,
-    gutter: &Gutter<'_>,
-    table: &LineTable,
-    layout: &LineLayout<'_>,
-    report: &Content<'_, S>,
-    rank: usize,
-    label: &LineLabel,
-) -> Result<(), AllocError>
-    requires page { gutter.now.page ≡ pen.old.page }
-    requires there { IsBelowSome (texts_of report.now) pen.old.page rank layout.now
-        gutter.now table.now }
-    ensures { let page = pen.old.page in let t = texts_of report.now in (g : Section) (l : ℕ) →
-        IsBelowLine t g page l rank layout.now gutter.now table.now →
-        slice_get layout.now.labels rank ≡ Some label.now →
-        OnOk result (DrawsRows pen.old pen.new (map (row_pieces t page.number_width g)
-        (label_rows page.switches.compact l (rank, label.now)))) }
-{
-    if !label.info.has_message {
-        return Ok(());
-    }
-    if pen.page().switches().compact {
-        return push_arrow_to_message(pen, gutter, table, layout, report, rank, label);
-    }
-    push_alternate_row(pen, gutter, table, rank)?;
-    push_arrow_to_message(pen, gutter, table, layout, report, rank, label)
-}
-
-/// Writes the arrow row of a label of a line.
-fn push_arrow_to_message<S: Span>(
-    pen: &mut Pen<'_>,
-    gutter: &Gutter<'_>,
-    table: &LineTable,
-    layout: &LineLayout<'_>,
-    report: &Content<'_, S>,
-    rank: usize,
-    label: &LineLabel,
-) -> Result<(), AllocError>
-    requires page { gutter.now.page ≡ pen.old.page }
-    ensures { let page = pen.old.page in let t = texts_of report.now in (g : Section) (l : ℕ) →
-        IsBelowLine t g page l rank layout.now gutter.now table.now →
-        slice_get layout.now.labels rank ≡ Some label.now →
-        OnOk result (DrawsRow pen.old pen.new
-        (row_pieces t page.number_width g (arrow l rank))) }
-{
-    let message = report.message_of(label.info.position);
-    let at_margin = layout.is_margin(label);
-    push_arrow_row(pen, gutter, table, rank, label, at_margin, message)
 }

@@ -23,6 +23,7 @@ pub struct Config {
     color: bool,
     tab_width: usize,
     context_lines: usize,
+    width: usize,
     char_set: CharSet,
     index_type: IndexType,
 }
@@ -43,6 +44,7 @@ impl Model for Config {
       color = a.color;
       tab_width = a.tab_width;
       context_lines = a.context_lines;
+      width = a.width;
       char_set = a.char_set;
       index_type = a.index_type;
     } };
@@ -59,6 +61,7 @@ impl Model for Config {
       color = c.color;
       tab_width = c.tab_width;
       context_lines = c.context_lines;
+      width = c.width;
       char_set = c.char_set;
       index_type = c.index_type;
     } };
@@ -69,8 +72,8 @@ impl Config {
 
     /// The default switches: gaps where arrows cross, arrows attached to the middle, not compact,
     /// underlines but no lone ones, and arrows at the ends of labels over several lines. Colours, a
-    /// tab stop every 4 columns, no lines but those with labels, box drawing characters, and offsets
-    /// in characters.
+    /// tab stop every 4 columns, lines of any width and none but those with labels, box drawing
+    /// characters, and offsets in characters.
     pub const fn new() -> Config
         ensures { result ≡ default_config }
     {
@@ -86,6 +89,7 @@ impl Config {
             multiline_arrows: true,
             tab_width: 4,
             context_lines: 0,
+            width: 0,
         }
     }
 
@@ -242,6 +246,27 @@ impl Config {
         self
     }
 
+    /// How many columns of its text a line may take: 0 by default, where each is shown whole. A
+    /// longer line is cut to what its labels need and to what stands round it, with a mark in place
+    /// of what is left out: `…`, or `...` in ASCII. The margin, the gutter and the messages take
+    /// columns of their own.
+    ///
+    /// ```text
+    /// with_width(0)                      with_width(16)
+    ///  1 | let x = sum(one, two, three);  1 | ...e, two, t...
+    ///    |                  ^|^             |       ^|^
+    ///    |                   `--- no        |        `--- no
+    /// ```
+    ///
+    /// Labels that stand far apart have parts of their own. Where what they need takes more columns,
+    /// the line takes them. A line without labels is cut to its beginning.
+    pub const fn with_width(mut self, width: usize) -> Config
+        ensures { result ≡ record self { width = width } }
+    {
+        self.width = width;
+        self
+    }
+
     /// The characters that strokes are drawn with, by default those for boxes of Unicode.
     ///
     /// ```text
@@ -284,6 +309,7 @@ impl Config {
             multiline_arrows: self.multiline_arrows,
             tab_width: self.tab_width,
             context_lines: self.context_lines,
+            width: self.width,
             char_set: self.char_set,
         }
     }

@@ -4,8 +4,8 @@ use Rattle.std.specs.Str.Iter.{chars_rest}
 use Rattle.std.proofs.lemmas.List.{length-drop, nil_from_length}
 use Rattle.std.proofs.lemmas.Str.{IsUtf8-past_char, chars-nil, chars_past_char}
 use Rattle.ariadne_picture.specs.declared.switches.Switches.{Switches}
-use Rattle.ariadne_picture.specs.Columns.{Layout, column_of, shown, shown_columns}
-use Rattle.ariadne_cells.proofs.ColumnLists.{column-step}
+use Rattle.ariadne_picture.specs.Columns.{Layout, shown, shown_columns, whole_column}
+use Rattle.ariadne_cells.proofs.ColumnLists.{whole-step}
 use Rattle.ariadne_rows.specs.declared.counted.Counted.{Counted}
 use Rattle.ariadne_rows.specs.Counted.{IsCounted}
 
@@ -28,7 +28,7 @@ counted-more s y a b c w h step width sum next =
     record {
       utf8 = IsUtf8-past_char _ _ c h.utf8 step;
       rest = sym at.2 ∙ ap (λ n. drop n (shown y)) (sym next);
-      column = sum ∙ column-step s y a.place c a.column w at.0 at.1 h.column width ∙ ap (column_of s y) (sym next);
+      column = sum ∙ whole-step s.tab_width (shown y) a.place c a.column w at.1 h.column width ∙ ap (whole_column s.tab_width (shown y)) (sym next);
     }
 
 -- where no character is to come, the line ends

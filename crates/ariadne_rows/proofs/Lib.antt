@@ -3,6 +3,7 @@ pub mod ArrowRows
 pub mod AsideRows
 pub mod BarBits
 pub mod CountedColumns
+pub mod CutRows
 pub mod Events
 pub mod GutterBytes
 pub mod GutterLevels
@@ -20,6 +21,7 @@ pub mod Passing
 pub mod Ranking
 pub mod Rising
 pub mod SeenInks
+pub mod SeenPlaces
 pub mod ShownRows
 pub mod Touching
 pub mod UnderlinedRows

@@ -32,6 +32,7 @@ sheet_of labels = record {
     multiline_arrows = false;
     tab_width = 0;
     context_lines = 0;
+    width = 0;
     char_set = Ascii;
   };
   lines = [];

@@ -1,9 +1,9 @@
 -- The characters of a source row: how each is written, and how many bytes its tabs take at least.
 use Rattle.std.proofs.Common.{◌≡◌, ℕ, zero, suc, ◌+◌, ◌<◌, ◌≤◌, ◌==◌, eq-eqb, cond, Bool, true, false, List, [], ◌∷◌, ◌++◌, Option, Some, None, length, replicate, encode_utf8, encode_utf8_all, take, get_or, drop, ltb, slice_get, slice_index}
 use Rattle.std.proofs.Common.{lit<, refl, sym, ap, subst, ◌∙◌, arith, length-append}
-use Rattle.std.specs.Char.{is_whitespace}
+use Rattle.std.specs.Char.{is_whitespace, len_utf8}
 use Rattle.std.specs.Bool.{MatchBool}
-use Rattle.std.specs.Prelude.{IsTrue, ⊤}
+use Rattle.std.specs.Prelude.{IsTrue, ⊤, codes}
 use Rattle.std.specs.List.{AllByRecursion, AllWithin, HoldsAt}
 use Rattle.std.specs.Str.{chars, IsUtf8}
 use Rattle.std.proofs.lemmas.Bool.{ne_eqb, cond_both, lt-ltb, le-ltb}
@@ -11,7 +11,7 @@ use Rattle.std.proofs.lemmas.List.Elements.{All-from_all_within, recursion_from_
 use Rattle.std.proofs.lemmas.List.{append-nil, at_drop_all, at_drop_more, take_more, take_all}
 use Rattle.std.proofs.lemmas.Bool.Decides.{nat_tests}
 use Rattle.std.proofs.lemmas.Option.{get_or_from_slice_get, slice_get_within}
-use Rattle.std.proofs.lemmas.Str.{encode_ascii, encodes-append, encodes-chars}
+use Rattle.std.proofs.lemmas.Str.{encode_ascii, encodes-append, encodes-chars, length-encode}
 use Rattle.ariadne_color.specs.declared.color.Color.{Color}
 use Rattle.ariadne_color.specs.Colors.{painted}
 use Rattle.ariadne_color.specs.Escapes.{opened, closed}
@@ -20,13 +20,16 @@ use Rattle.ariadne_picture.specs.declared.cell.Glyph.TheVariants.{Blank}
 use Rattle.ariadne_picture.specs.declared.cell.Paint.{Paint}
 use Rattle.ariadne_picture.specs.declared.cell.Paint.TheVariants.{Plain, Unimportant}
 use Rattle.ariadne_picture.specs.declared.label_info.LabelInfo.{LabelInfo}
+use Rattle.ariadne_picture.specs.declared.sight.Sight.{Sight}
+use Rattle.ariadne_picture.specs.declared.sight.Sight.TheVariants.{Seen, Marked, Unseen}
 use Rattle.ariadne_picture.specs.declared.switches.CharSet.{CharSet}
+use Rattle.ariadne_picture.specs.declared.switches.CharSet.TheVariants.{Unicode, Ascii}
 use Rattle.ariadne_picture.specs.declared.switches.Switches.{Switches}
 use Rattle.ariadne_picture.specs.Canvas.{Palette, color_of, paint_color}
 use Rattle.ariadne_picture.specs.Cells.{glyph_code}
-use Rattle.ariadne_picture.specs.Columns.{Layout, shown, shown_columns, column_of, width}
+use Rattle.ariadne_picture.specs.Columns.{Layout, shown, shown_columns, whole_column, whole_width, sight_of, mark_columns, columns_of, width}
 use Rattle.ariadne_picture.specs.Lists.{joined, total}
-use Rattle.ariadne_picture.specs.Pieces.{Piece, char_paint, char_pieces, glyph_text, repeated, shown_pieces, shown_text, stroke}
+use Rattle.ariadne_picture.specs.Pieces.{Piece, char_paint, char_pieces, glyph_text, mark_text, repeated, seen_pieces, shown_pieces, shown_text, source_pieces, stroke}
 use Rattle.ariadne_picture.specs.Print.{pieces_bytes}
 use Rattle.ariadne_picture.proofs.Lists.Joined.{joined-upto_more}
 use Rattle.ariadne_picture.proofs.Lists.ListFacts.{all-weaker}
@@ -36,8 +39,8 @@ use Rattle.ariadne_cells.specs.Tables.{position_paint, shown_at, tab_columns}
 use Rattle.ariadne_cells.proofs.Bytes.{painted_parts, plain_bytes, pieces_bytes-append, pieces_bytes_first, pieces_bytes_none, pieces_bytes_one, run_bytes}
 use Rattle.ariadne_cells.proofs.Drawn.{adds_same, draws_one, draws_places_more, page_kept}
 use Rattle.ariadne_picture.proofs.Cells.LineColumns.{total-upto_more}
-use Rattle.ariadne_cells.proofs.PlaceColumns.{get_or-all, width-shown}
-use Rattle.ariadne_rows.specs.ShownTexts.{IsAsShown, blank_of, place_in, shown_in}
+use Rattle.ariadne_cells.proofs.PlaceColumns.{get_or-all, whole-seen, width-shown}
+use Rattle.ariadne_rows.specs.ShownTexts.{IsAsShown, blank_of, mark_of, place_in, shown_in}
 use Rattle.ariadne_picture.proofs.Parts.{place_pieces}
 
 -- ---- single characters
@@ -87,6 +90,39 @@ char_bytes p s q r k c e = each (c == 9)
     each true = run_bytes p n (blank_of q) ∙ ap (λ o. repeated n (painted o (32 ∷ []))) e ∙ sym (run_bytes p n (blank_of r))
     each false = pieces_bytes_one p (one q) ∙ ap (λ o. painted o (shown_text c)) e ∙ sym (pieces_bytes_one p (one r))
 
+-- and so it does of what is seen of a place
+source_bytes : (p : Palette) (s : Switches) (q r : Paint) (y : Layout) (k c : ℕ) → color_of p q ≡ color_of p r
+    → pieces_bytes p (source_pieces s q y k c) ≡ pieces_bytes p (source_pieces s r y k c)
+unfolding source_pieces seen_pieces
+source_bytes p s q r y k c e = each (sight_of y k)
+  where
+    each : (sight : Sight) → pieces_bytes p (seen_pieces s q y k c sight) ≡ pieces_bytes p (seen_pieces s r y k c sight)
+    each Seen = char_bytes p s q r (whole_column s.tab_width (shown y) k) c e
+    each Marked =
+        pieces_bytes_one p (mark_of s.char_set q) ∙ ap (λ o. painted o (mark_text s.char_set)) e ∙ sym (pieces_bytes_one p (mark_of s.char_set r))
+    each Unseen = refl
+
+-- of a line that is shown whole each character is seen
+pub whole_pieces : (s : Switches) (paint : Paint) (y : Layout) (k c : ℕ) → y.sights ≡ []
+    → source_pieces s paint y k c ≡ char_pieces s paint (whole_column s.tab_width (shown y) k) c
+unfolding source_pieces seen_pieces
+whole_pieces s paint y k c whole = ap (seen_pieces s paint y k c) (whole-seen y k whole)
+
+-- of another each place is a mark or nothing, where it is not seen
+pub seen_place : (s : Switches) (paint : Paint) (y : Layout) (k c : ℕ) → sight_of y k ≡ Seen
+    → char_pieces s paint (whole_column s.tab_width (shown y) k) c ≡ source_pieces s paint y k c
+unfolding source_pieces seen_pieces
+seen_place s paint y k c e = sym (ap (seen_pieces s paint y k c) e)
+
+pub marked_place : (s : Switches) (paint : Paint) (y : Layout) (k c : ℕ) → sight_of y k ≡ Marked
+    → mark_of s.char_set paint ∷ [] ≡ source_pieces s paint y k c
+unfolding source_pieces seen_pieces
+marked_place s paint y k c e = sym (ap (seen_pieces s paint y k c) e)
+
+pub unseen_place : (s : Switches) (paint : Paint) (y : Layout) (k c : ℕ) → sight_of y k ≡ Unseen → [] ≡ source_pieces s paint y k c
+unfolding source_pieces seen_pieces
+unseen_place s paint y k c e = sym (ap (seen_pieces s paint y k c) e)
+
 -- places with the same bytes
 bytes_on : (p : Palette) (f g : ℕ → List Piece) (n : ℕ) → ((k : ℕ) → k < n → pieces_bytes p (f k) ≡ pieces_bytes p (g k))
     → pieces_bytes p (joined f (upto n)) ≡ pieces_bytes p (joined g (upto n))
@@ -106,7 +142,7 @@ unfolding shown_in shown_pieces place_in
 draws_shown a b s multi_line y q e h =
     let p = a.page.palette in
     adds_same a b _ _ (bytes_on p (place_in s y q) (place_pieces s multi_line y) (length (shown y))
-    (λ k l. char_bytes p s (q k) (char_paint multi_line y k) (column_of s y k) (slice_index (shown y) k) (e k l))) h
+    (λ k l. source_bytes p s (q k) (char_paint multi_line y k) y k (slice_index (shown y) k) (e k l))) h
 
 -- without colours none has one
 pub no_colors : (p : Palette) (q r : Paint) → p.is_on ≡ false → color_of p q ≡ color_of p r
@@ -132,6 +168,20 @@ blanks_least p paint (suc n) =
     let whole = ap length (pieces_bytes_first p (blank_of paint) rest) ∙ length-append _ (pieces_bytes p rest) in
     omega (arith, one, whole, blanks_least p paint n)
 
+-- a mark has as many bytes as columns at least
+marks_least : (set : CharSet) → mark_columns set ≤ length (mark_text set)
+unfolding mark_columns mark_text
+marks_least Unicode = let e : length (encode_utf8 0x2026) ≡ len_utf8 0x2026 = length-encode 0x2026 in let n : len_utf8 0x2026 ≡ 3 = refl in omega (arith, e, n)
+marks_least Ascii = let e : length (codes "...") ≡ 3 = refl in omega (arith, e)
+
+mark_least : (p : Palette) (set : CharSet) (paint : Paint) → mark_columns set ≤ length (pieces_bytes p (mark_of set paint ∷ []))
+mark_least p set paint =
+    let text = marks_least set in
+    let whole = ap length (pieces_bytes_one p (mark_of set paint) ∙ painted_parts (color_of p paint) (mark_text set)) in
+    let first = length-append (opened (color_of p paint)) (mark_text set) in
+    let both = length-append (opened (color_of p paint) ++ mark_text set) (closed (color_of p paint)) in
+    omega (arith, text, whole, first, both)
+
 -- the columns of a tab, and none of another place
 abbrev tab_part : Switches → Layout → ℕ → ℕ
 tab_part s y k = cond (slice_index (shown y) k == 9) (width s y k) 0
@@ -139,19 +189,29 @@ tab_part s y k = cond (slice_index (shown y) k == 9) (width s y k) 0
 -- a place has as many bytes
 place_least : (p : Palette) (s : Switches) (y : Layout) (q : ℕ → Paint) (k : ℕ) → k < length (shown y)
     → tab_part s y k ≤ length (pieces_bytes p (place_in s y q k))
-unfolding place_in char_pieces
-place_least p s y q k h = each (slice_index (shown y) k == 9)
+unfolding place_in char_pieces source_pieces seen_pieces columns_of whole_width mark_columns mark_text
+place_least p s y q k h =
+    subst (λ w. cond (slice_index (shown y) k == 9) w 0 ≤ length (pieces_bytes p (place_in s y q k))) (sym (width-shown s y k h))
+    (by-sight (sight_of y k))
   where
     c : ℕ
     c = slice_index (shown y) k
 
     n : ℕ
-    n = shown_columns s.tab_width (column_of s y k) c
+    n = shown_columns s.tab_width (whole_column s.tab_width (shown y) k) c
 
-    each : (b : Bool) → cond b (width s y k) 0
+    each : (b : Bool) → cond b n 0
         ≤ length (pieces_bytes p (cond b (replicate n (blank_of (q k))) (record { text = shown_text c; paint = q k; columns = n } ∷ [])))
-    each true = let least = blanks_least p (q k) n in let wide : width s y k ≡ n = width-shown s y k h in omega (arith, least, wide)
+    each true = blanks_least p (q k) n
     each false = omega arith
+
+    by-sight : (sight : Sight) → cond (c == 9) (columns_of s.char_set sight (whole_width s.tab_width (shown y) k)) 0
+        ≤ length (pieces_bytes p (seen_pieces s (q k) y k c sight))
+    by-sight Seen = each (c == 9)
+    by-sight Marked =
+        let least = mark_least p s.char_set (q k) in
+        cond_both (c == 9) (mark_columns s.char_set) 0 (λ m. m ≤ length (pieces_bytes p (mark_of s.char_set (q k) ∷ []))) (λ _. least) (λ _. omega arith)
+    by-sight Unseen = cond_both (c == 9) 0 0 (λ m. m ≤ length (pieces_bytes p [])) (λ _. omega arith) (λ _. omega arith)
 
 -- and so have the first places
 places_least : (p : Palette) (s : Switches) (y : Layout) (q : ℕ → Paint) (n : ℕ) → n ≤ length (shown y)
@@ -188,14 +248,14 @@ draws_tab a b c paint n e h =
     (subst (λ (x : Piece). Draws b c (replicate n x)) (blank_stroke b.page.switches.char_set paint) h)
 
 -- one place more
-pub draws_place : (a b c : PenFields) (y : Layout) (q : ℕ → Paint) (n column x : ℕ) (paint : Paint)
-    → Draws a b (joined (place_in a.page.switches y q) (upto n)) → column ≡ column_of a.page.switches y n → x ≡ slice_index (shown y) n
-    → paint ≡ q n → Draws b c (char_pieces b.page.switches paint column x) → Draws a c (joined (place_in a.page.switches y q) (upto (n + 1)))
+pub draws_place : (a b c : PenFields) (y : Layout) (q : ℕ → Paint) (n k x : ℕ) (paint : Paint)
+    → Draws a b (joined (place_in a.page.switches y q) (upto n)) → k ≡ n → x ≡ slice_index (shown y) n
+    → paint ≡ q n → Draws b c (source_pieces b.page.switches paint y k x) → Draws a c (joined (place_in a.page.switches y q) (upto (n + 1)))
 unfolding place_in
-draws_place a b c y q n column x paint before begins char own here =
+draws_place a b c y q n k x paint before is char own here =
     let kept = page_kept a b _ before in
     draws_places_more a b c (place_in a.page.switches y q) n before
-    (subst (Draws b c) (λ i. char_pieces ((kept i).switches) (own i) (begins i) (char i)) here)
+    (subst (Draws b c) (λ i. source_pieces ((kept i).switches) (own i) y (is i) (char i)) here)
 
 -- all places
 pub draws_all : (a b : PenFields) (y : Layout) (q : ℕ → Paint) (n : ℕ) → n ≡ length (shown y)
@@ -236,27 +296,28 @@ whole_bytes p s k c is =
     ∙ pieces_bytes_one p one ∙ plain_bytes p (shown_text c) ∙ is.1
 
 -- the first places are written as they are
-whole_places : (p : Palette) (s : Switches) (y : Layout) (n : ℕ) → AllByRecursion IsAsShown (shown y) → n ≤ length (shown y)
+whole_places : (p : Palette) (s : Switches) (y : Layout) (n : ℕ) → y.sights ≡ [] → AllByRecursion IsAsShown (shown y) → n ≤ length (shown y)
     → pieces_bytes p (joined (place_in s y (λ k. Plain)) (upto n)) ≡ encode_utf8_all (take n (shown y))
 unfolding joined place_in
-whole_places p s y zero all h = pieces_bytes_none p
-whole_places p s y (suc n) all h =
+whole_places p s y zero whole all h = pieces_bytes_none p
+whole_places p s y (suc n) whole all h =
     let f = place_in s y (λ k. Plain) in
     let e : suc n ≡ n + 1 = omega arith in
     let c = get_or-all IsAsShown (shown y) n all (omega arith) in
     let x = get_or (shown y) n 0 in
     ap (λ j. pieces_bytes p (joined f (upto j))) e ∙ ap (pieces_bytes p) (joined-upto_more f n) ∙ pieces_bytes-append p (joined f (upto n)) (f n)
-    ∙ (λ i. whole_places p s y n all (omega arith) i ++ whole_bytes p s (column_of s y n) x c i)
+    ∙ (λ i. whole_places p s y n whole all (omega arith) i
+    ++ (ap (pieces_bytes p) (whole_pieces s Plain y n x whole) ∙ whole_bytes p s (whole_column s.tab_width (shown y) n) x c) i)
     ∙ sym (ap encode_utf8_all (ap (λ j. take j (shown y)) e ∙ take_more (shown y) n 0 (omega arith)) ∙ encodes-append (take n (shown y)) (x ∷ []) ∙ ap (λ t. encode_utf8_all (take n (shown y)) ++ t) (append-nil (encode_utf8 x)))
 
 -- the whole text
-pub draws_whole : (a b : PenFields) (y : Layout) (text : List ℕ) → AllByRecursion IsAsShown (shown y) → IsUtf8 text → chars text ≡ shown y
+pub draws_whole : (a b : PenFields) (y : Layout) (text : List ℕ) → y.sights ≡ [] → AllByRecursion IsAsShown (shown y) → IsUtf8 text → chars text ≡ shown y
     → Adds a b text → Draws a b (shown_in a.page.switches y (λ k. Plain))
 unfolding shown_in
-draws_whole a b y text all u e h =
+draws_whole a b y text whole all u e h =
     let p = a.page.palette in
     adds_same a b text _
-    (sym (whole_places p a.page.switches y (length (shown y)) all (omega arith)
+    (sym (whole_places p a.page.switches y (length (shown y)) whole all (omega arith)
     ∙ ap encode_utf8_all (take_all (length (shown y)) (shown y) (omega arith)) ∙ ap encode_utf8_all (sym e) ∙ encodes-chars text u)) h
 
 -- ---- stretches of places in one colour

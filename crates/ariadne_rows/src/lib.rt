@@ -12,5 +12,6 @@ mod group_lists;
 pub mod gutter;
 pub mod headers;
 pub mod rows;
+mod seen;
 pub mod sheet;
 pub mod shown;

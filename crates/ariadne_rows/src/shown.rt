@@ -1,22 +1,25 @@
 //! The text of a source row: the shown characters of its line, each in the colour of a label.
 
-ghost use Rattle.std.specs.Prelude.{◌≡◌, ◌+◌, ◌<◌, ◌≤◌, ◌^◌, ℕ, List, Some, true, OnOk, drop, encode_utf8};
-ghost use Rattle.std.specs.Prelude.{IsTrue, length, replicate, slice_get};
+ghost use Rattle.std.specs.Prelude.{◌≡◌, ◌≢◌, ◌+◌, ◌<◌, ◌≤◌, ◌^◌, ℕ, List, Some, true, OnOk, drop, encode_utf8};
+ghost use Rattle.std.specs.Prelude.{IsTrue, [], ◌∷◌, length, replicate, slice_get, slice_index};
 ghost use Rattle.std.specs.List.{AllByRecursion};
 ghost use Rattle.ariadne_cells.specs.Pages.{Draws};
 ghost use Rattle.ariadne_cells.specs.Tables.{ArePaints, position_paint, shown_at, tab_columns};
 ghost use Rattle.ariadne_picture.specs.declared.label_info.LabelInfo.{LabelInfo};
-ghost use Rattle.ariadne_picture.specs.Columns.{Layout, column_of, shown};
-ghost use Rattle.ariadne_picture.specs.Pieces.{char_pieces, shown_pieces, shown_text};
+ghost use Rattle.ariadne_picture.specs.Columns.{Layout, shown, sight_of, whole_column};
+ghost use Rattle.ariadne_picture.specs.Pieces.{char_pieces, shown_pieces, shown_text, source_pieces};
 ghost use Rattle.ariadne_rows.specs.Counted.{IsCounted};
-ghost use Rattle.ariadne_rows.specs.ShownTexts.{IsAsShown, blank_of, shown_in};
+ghost use Rattle.ariadne_rows.specs.ShownTexts.{IsAsShown, blank_of, mark_of, shown_in};
 
 use crate::counted::Counted;
+use crate::seen::{SeenPlace, next_seen};
 use ariadne_cells::columns::shown_columns;
 use ariadne_cells::layout::LineLayout;
 use ariadne_cells::pen::Pen;
 use ariadne_cells::stretches::Stretch;
 use ariadne_picture::cell::{Glyph, Paint};
+use ariadne_picture::sight::Sight;
+use ariadne_picture::switches::CharSet;
 use std::alloc::AllocError;
 
 /// Writes the text of a source row. `paints` are the labels that colour its characters; without
@@ -55,12 +58,35 @@ fn push_characters(
     ensures tabs { OnOk result
         (tab_columns pen.old.page.switches layout.now ≤ length pen.new.bytes) }
 {
+    if layout.is_cut() {
+        return push_cut_characters(pen, layout, paints);
+    }
     if pen.page().is_colored() {
         push_stretches(pen, layout, paints)
     } else if is_shown_whole(layout) {
         pen.push_text(layout.shown())
     } else {
         push_stretches(pen, layout, &[])
+    }
+}
+
+/// Writes what is seen of a cut line, in the colours that there are.
+fn push_cut_characters(
+    pen: &mut Pen<'_>,
+    layout: &LineLayout<'_>,
+    paints: &[Stretch],
+) -> Result<(), AllocError>
+    requires cut { layout.now.sights ≢ [] }
+    ensures drawn { let page = pen.old.page in (multi_line : List LabelInfo) →
+        (page.palette.is_on ≡ true → ArePaints multi_line layout.now paints.now) →
+        OnOk result (Draws pen.old pen.new (shown_pieces page.switches multi_line layout.now)) }
+    ensures tabs { OnOk result
+        (tab_columns pen.old.page.switches layout.now ≤ length pen.new.bytes) }
+{
+    if pen.page().is_colored() {
+        push_cut(pen, layout, paints)
+    } else {
+        push_cut(pen, layout, &[])
     }
 }
 
@@ -78,6 +104,7 @@ fn push_stretches(
     layout: &LineLayout<'_>,
     paints: &[Stretch],
 ) -> Result<(), AllocError>
+    requires whole { layout.now.sights ≡ [] }
     ensures { let switches = pen.old.page.switches in
         OnOk result (Draws pen.old pen.new
         (shown_in switches layout.now (λ k. position_paint (shown_at paints.now k)))) }
@@ -90,6 +117,102 @@ fn push_stretches(
         push_char(pen, &mut counted, stretch_paint(paints, number), index, c)?;
     }
     Ok(())
+}
+
+/// Writes what is seen of a cut line, each place in the colour of its stretch.
+fn push_cut(
+    pen: &mut Pen<'_>,
+    layout: &LineLayout<'_>,
+    paints: &[Stretch],
+) -> Result<(), AllocError>
+    requires cut { layout.now.sights ≢ [] }
+    ensures { let switches = pen.old.page.switches in
+        OnOk result (Draws pen.old pen.new
+        (shown_in switches layout.now (λ k. position_paint (shown_at paints.now k)))) }
+{
+    let mut number = 0;
+    let mut part = 0;
+    let mut place = 0;
+    let parts = layout.parts();
+    let len = layout.shown_len();
+    let mut counted = Counted::new(layout.shown());
+    while let Some(seen) = next_seen(parts, part, place, len) {
+        number = stretch_at(paints, number, seen.place);
+        push_seen(
+            pen,
+            &mut counted,
+            layout,
+            stretch_paint(paints, number),
+            &seen,
+        )?;
+        part = seen.part;
+        place = seen.place + 1;
+    }
+    Ok(())
+}
+
+/// Writes what is seen of a place: its character, or a mark. On `Err` there was no memory for it, or
+/// none holds so many columns.
+fn push_seen(
+    pen: &mut Pen<'_>,
+    counted: &mut Counted<'_>,
+    layout: &LineLayout<'_>,
+    paint: Paint,
+    seen: &SeenPlace,
+) -> Result<(), AllocError>
+    requires within { seen.now.place < length (shown layout.now) }
+    requires later { counted.old.place ≤ seen.now.place }
+    ensures place { OnOk result (counted.new.place ≤ seen.now.place) }
+    ensures drawn { let switches = pen.old.page.switches in let place = seen.now.place in
+        IsCounted switches layout.now counted.old → sight_of layout.now place ≡ seen.now.sight →
+        OnOk result (IsCounted switches layout.now counted.new
+        × Draws pen.old pen.new
+        (source_pieces switches paint layout.now place (slice_index (shown layout.now) place))) }
+{
+    match seen.sight {
+        Sight::Seen => push_place(pen, counted, layout, paint, seen.place),
+        Sight::Marked => push_mark(pen, paint),
+        Sight::Unseen => Ok(()),
+    }
+}
+
+/// Writes the shown character at a place. That of printable ASCII is a byte, and no other is looked
+/// at. On `Err` there was no memory for it, or none holds so many columns.
+fn push_place(
+    pen: &mut Pen<'_>,
+    counted: &mut Counted<'_>,
+    layout: &LineLayout<'_>,
+    paint: Paint,
+    place: usize,
+) -> Result<(), AllocError>
+    requires within { place < length (shown layout.now) }
+    requires later { counted.old.place ≤ place }
+    ensures place { OnOk result (counted.new.place ≤ place) }
+    ensures drawn { let switches = pen.old.page.switches in let text = shown layout.now in
+        IsCounted switches layout.now counted.old →
+        OnOk result (IsCounted switches layout.now counted.new
+        × Draws pen.old pen.new (char_pieces switches paint
+        (whole_column switches.tab_width text place) (slice_index text place))) }
+{
+    if layout.is_plain() {
+        let c = layout.shown().as_bytes()[place] as char;
+        return push_char(pen, counted, paint, place, c);
+    }
+    match counted.char_at(pen.page().switches().tab_width, place)? {
+        Some(c) => push_char(pen, counted, paint, place, c),
+        None => Ok(()),
+    }
+}
+
+/// Writes the mark in place of what is cut. On `Err` there was no memory for it.
+fn push_mark(pen: &mut Pen<'_>, paint: Paint) -> Result<(), AllocError>
+    ensures { let set = pen.old.page.switches.char_set in
+        OnOk result (Draws pen.old pen.new (mark_of set paint ∷ [])) }
+{
+    match pen.page().switches().char_set {
+        CharSet::Unicode => pen.push_piece_char(paint, '…'),
+        CharSet::Ascii => pen.push_piece(paint, "..."),
+    }
 }
 
 /// The number of the first stretch that ends behind a place, from number `first` on.
@@ -141,7 +264,8 @@ fn push_char(
     ensures drawn { let switches = pen.old.page.switches in (y : Layout) →
         IsCounted switches y counted.old → place < length (shown y) →
         OnOk result (IsCounted switches y counted.new
-        × Draws pen.old pen.new (char_pieces switches paint (column_of switches y place) c)) }
+        × Draws pen.old pen.new
+        (char_pieces switches paint (whole_column switches.tab_width (shown y) place) c)) }
 {
     if c != '\t' {
         return pen.push_piece_char(paint, shown_char(c));

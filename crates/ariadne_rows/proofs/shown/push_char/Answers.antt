@@ -3,7 +3,7 @@ use Rattle.std.proofs.lemmas.Result.{on_ok_weaker}
 use Rattle.ariadne_color.specs.Colors.{painted}
 use Rattle.ariadne_picture.specs.declared.switches.Switches.{Switches}
 use Rattle.ariadne_picture.specs.Canvas.{color_of}
-use Rattle.ariadne_picture.specs.Columns.{column_of, shown_columns}
+use Rattle.ariadne_picture.specs.Columns.{shown, shown_columns, whole_column}
 use Rattle.ariadne_picture.specs.Pieces.{char_pieces}
 use Rattle.ariadne_cells.specs.Pages.{Draws, PageFields}
 use Rattle.ariadne_cells.proofs.Drawn.{adds_same}
@@ -19,7 +19,7 @@ returns-then-c-ne9-clause-drawn c = λ y h below.
     on_ok_weaker c.push_piece_char.result
     (λ adds. (
       h,
-      draws_char pen c.push_piece_char.new.self s c.args.paint (column_of s y c.args.place) c.args.c c.if-c-ne9.true
+      draws_char pen c.push_piece_char.new.self s c.args.paint (whole_column s.tab_width (shown y) c.args.place) c.args.c c.if-c-ne9.true
           (adds_same pen c.push_piece_char.new.self _ _ (ap (painted (color_of pen.page.palette c.args.paint)) c.shown_char.ensures) adds),
     ))
     c.push_piece_char.ensures
@@ -33,10 +33,10 @@ pub returns-clause-drawn : goal.returns-clause-drawn
 returns-clause-drawn c = λ y h below.
     let pen = c.args.pen.now in
     let s = pen.page.switches in
-    let x = column_of s y c.args.place in
+    let x = whole_column s.tab_width (shown y) c.args.place in
     let same : c.switches.result.now ≡ s = c.switches.ensures.switches ∙ ap (λ (p : PageFields). p.switches) c.page.ensures in
     let counted = c.in_ok-go_to.ensures.counted s y (sym (ap (λ (q : Switches). q.tab_width) same)) h (omega (arith, below)) in
-    let begins : c.go_to.new.self.column ≡ x = counted.0.column ∙ ap (column_of s y) counted.1 in
+    let begins : c.go_to.new.self.column ≡ x = counted.0.column ∙ ap (whole_column s.tab_width (shown y)) counted.1 in
     let columns : c.shown_columns.result ≡ shown_columns s.tab_width x c.args.c =
     c.shown_columns.ensures ∙ (λ i. shown_columns ((same i).tab_width) (begins i) c.args.c) in
     let cells : replicate c.shown_columns.result (blank_of c.args.paint) ≡ char_pieces s c.args.paint x c.args.c =

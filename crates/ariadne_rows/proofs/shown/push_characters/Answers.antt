@@ -1,4 +1,4 @@
-use Rattle.std.proofs.Common.{◌≡◌, ◌∙◌, ℕ, [], sym, ap}
+use Rattle.std.proofs.Common.{◌≡◌, ◌∙◌, ℕ, [], sym, ap, rules}
 use Rattle.std.proofs.lemmas.Result.{on_ok_weaker}
 use Rattle.ariadne_picture.specs.declared.cell.Paint.{Paint}
 use Rattle.ariadne_picture.specs.declared.cell.Paint.TheVariants.{Plain}
@@ -8,6 +8,13 @@ use Rattle.ariadne_cells.specs.Pages.{PageFields}
 use Rattle.ariadne_cells.specs.Tables.{position_paint, shown_at}
 use Rattle.ariadne_rows.proofs.ShownRows.{draws_whole, draws_shown, no_colors, tabs_written}
 use Rattle.ariadne_rows.proofs.shown.push_characters.Goals as goal
+
+-- the line is shown whole
+pub push_stretches-requires : goal.push_stretches-requires
+push_stretches-requires c = record { whole = c.is_cut.ensures.0 (search rules) }
+
+pub push_stretches-requires-else-is_shown_whole : goal.push_stretches-requires-else-is_shown_whole
+push_stretches-requires-else-is_shown_whole c = record { whole = c.is_cut.ensures.0 (search rules) }
 
 -- with colours the stretches tell them
 pub returns-then-is_colored-clause-drawn : goal.returns-then-is_colored-clause-drawn
@@ -38,7 +45,7 @@ returns-then-is_shown_whole-clause-drawn c = λ multi_line paints.
     let off = sym lit ∙ c.if-is_colored.false in
     on_ok_weaker c.push_text.result
     (λ h. draws_shown pen new pen.page.switches multi_line y (λ k. Plain) (λ k l. no_colors pen.page.palette Plain (char_paint multi_line y k) off)
-    (draws_whole pen new y c.shown.result.now (c.is_shown_whole.ensures c.if-is_shown_whole.true) c.shown.utf8 c.shown.ensures h))
+    (draws_whole pen new y c.shown.result.now (c.is_cut.ensures.0 (search rules)) (c.is_shown_whole.ensures c.if-is_shown_whole.true) c.shown.utf8 c.shown.ensures h))
     c.push_text.ensures
 
 pub returns-then-is_shown_whole-clause-tabs : goal.returns-then-is_shown_whole-clause-tabs
@@ -48,7 +55,7 @@ returns-then-is_shown_whole-clause-tabs c =
     let y = c.args.layout.now in
     on_ok_weaker c.push_text.result
     (λ h. tabs_written pen new pen.page.switches y (λ k. Plain)
-    (draws_whole pen new y c.shown.result.now (c.is_shown_whole.ensures c.if-is_shown_whole.true) c.shown.utf8 c.shown.ensures h))
+    (draws_whole pen new y c.shown.result.now (c.is_cut.ensures.0 (search rules)) (c.is_shown_whole.ensures c.if-is_shown_whole.true) c.shown.utf8 c.shown.ensures h))
     c.push_text.ensures
 
 -- and others are written one by one

@@ -5,14 +5,14 @@ use Rattle.std.proofs.lemmas.Iterator.{YieldsList-from_chars}
 use Rattle.std.proofs.lemmas.Iterator.Consumers.{YieldsList-from_enumerate, YieldsList-at, YieldsList-turn, YieldsList-end}
 use Rattle.std.specs.Str.{chars}
 use Rattle.ariadne_picture.specs.declared.switches.Switches.{Switches}
-use Rattle.ariadne_picture.specs.Columns.{column_of, shown}
+use Rattle.ariadne_picture.specs.Columns.{shown}
 use Rattle.ariadne_cells.specs.Tables.{position_paint, shown_at}
-use Rattle.ariadne_cells.specs.Pages.{PageFields}
+use Rattle.ariadne_cells.specs.Pages.{Draws, PageFields}
 use Rattle.ariadne_cells.proofs.Drawn.{draws_places_none, page_kept}
 use Rattle.ariadne_rows.specs.ShownTexts.{place_in}
 use Rattle.ariadne_rows.proofs.Listing.{numbered-turn}
 use Rattle.ariadne_rows.specs.Counted.{IsCounted}
-use Rattle.ariadne_rows.proofs.ShownRows.{draws_all, draws_place}
+use Rattle.ariadne_rows.proofs.ShownRows.{draws_all, draws_place, whole_pieces}
 use Rattle.ariadne_rows.proofs.shown.push_stretches.Goals as goal
 
 -- a turn is at the next place, and at its character
@@ -69,8 +69,10 @@ loop-index-preserved c =
     let drawn = c.in_ok-push_char.ensures.drawn y (subst (λ (q : Switches). IsCounted q y c.loop-index.counted) (sym kept) c.loop-index.invariant.2) (omega (arith, t.0, t.1)) in
     let place = c.in_ok-push_char.ensures.place in
     rw e (
-      draws_place c.args.pen.now c.loop-index.pen c.push_char.new.pen y (λ k. position_paint (shown_at paints k)) n (column_of r y c.in-Some.index)
-          c.in-Some.c c.stretch_paint.result c.loop-index.invariant.0 (λ i. column_of (kept i) y (t.1 i)) t.2 paint drawn.1,
+      draws_place c.args.pen.now c.loop-index.pen c.push_char.new.pen y (λ k. position_paint (shown_at paints k)) n c.in-Some.index
+          c.in-Some.c c.stretch_paint.result c.loop-index.invariant.0 t.1 t.2 paint
+          (subst (Draws c.loop-index.pen c.push_char.new.pen)
+          (sym (whole_pieces r c.stretch_paint.result y c.in-Some.index c.in-Some.c c.requires.whole)) drawn.1),
       λ k h. seen k (omega (arith, h)),
       subst (λ (q : Switches). IsCounted q y c.push_char.new.counted) kept drawn.0,
       omega (arith, place, t.1),

@@ -1,7 +1,7 @@
 use Rattle.ariadne_picture.specs.Canvas.{texts_of}
 use Rattle.std.proofs.lemmas.Result.{on_ok_weaker}
 use Rattle.ariadne_drawing.proofs.LinesRows.{column-at, drawn-at, line-label-at, table-next}
-use Rattle.ariadne_drawing.proofs.lines.push_label.Goals as goal
+use Rattle.ariadne_drawing.proofs.below.push_label.Goals as goal
 
 -- a start or an end has a column
 pub pass_bar-requires : goal.pass_bar-requires

@@ -3,7 +3,7 @@ use Rattle.ariadne_picture.proofs.Rows.BarCases.{start-side, side-starts}
 use Rattle.ariadne_rows.proofs.GutterSteps.{beside-below, beside-below_start, margin-ends}
 use Rattle.std.proofs.lemmas.Bool.{true≢false}
 use Rattle.std.proofs.lemmas.Result.{on_ok_weaker}
-use Rattle.ariadne_drawing.proofs.lines.start_margin.Goals as goal
+use Rattle.ariadne_drawing.proofs.below.start_margin.Goals as goal
 
 -- there is none
 pub returns-in-None-clause-below : goal.returns-in-None-clause-below

@@ -13,7 +13,7 @@ use Rattle.ariadne_picture.specs.Ranks.{line_labels}
 use Rattle.ariadne_picture.specs.Rows.{label_rows, lone_rows}
 use Rattle.ariadne_drawing.proofs.LinesRows.{rows-of}
 use Rattle.ariadne_drawing.proofs.LinesQuiet.{layout-labels, quiet-rows, quiet-bars, no-lone-row, messages-not-lone}
-use Rattle.ariadne_drawing.proofs.lines.push_rows_below.Goals as goal
+use Rattle.ariadne_drawing.proofs.below.push_rows_below.Goals as goal
 
 -- without messages there is no row but that of their underlines
 pub returns-then-not-has_rows-clause-drawn : goal.returns-then-not-has_rows-clause-drawn

@@ -6,7 +6,7 @@ use Rattle.ariadne_picture.specs.Lists.{joined}
 use Rattle.ariadne_picture.specs.Pieces.{Section, row_pieces}
 use Rattle.ariadne_picture.specs.Rows.{label_rows}
 use Rattle.ariadne_drawing.specs.Lines.{IsBelowLine}
-use Rattle.ariadne_drawing.proofs.lines.push_label_rows.Given as goal
+use Rattle.ariadne_drawing.proofs.below.push_label_rows.Given as goal
 
 -- the rows of the labels so far are written, and bars and verticals are those of the next
 abbrev pub invariant-loop-rank : goal.invariant-loop-rank

@@ -9,7 +9,7 @@ use Rattle.ariadne_picture.specs.Rows.{label_rows}
 use Rattle.ariadne_rows.proofs.Listing.{all-enumerated}
 use Rattle.ariadne_drawing.specs.Lines.{IsBelowLine}
 use Rattle.ariadne_drawing.proofs.LinesRows.{labels-more, some-label}
-use Rattle.ariadne_drawing.proofs.lines.push_label_rows.Goals as goal
+use Rattle.ariadne_drawing.proofs.below.push_label_rows.Goals as goal
 
 -- no row is written
 pub loop-rank-init : goal.loop-rank-init

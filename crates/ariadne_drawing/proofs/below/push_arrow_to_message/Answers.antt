@@ -2,7 +2,7 @@ use Rattle.std.proofs.Common.{◌∙◌, sym, ap}
 use Rattle.ariadne_picture.specs.Ranks.{is_margin}
 use Rattle.ariadne_picture.specs.Canvas.{texts_of}
 use Rattle.ariadne_drawing.proofs.LinesRows.{table-there, bars-arrow, label-there, margin-of}
-use Rattle.ariadne_drawing.proofs.lines.push_arrow_to_message.Goals as goal
+use Rattle.ariadne_drawing.proofs.below.push_arrow_to_message.Goals as goal
 
 -- the row is that of the label, with its message
 pub returns : goal.returns

@@ -12,7 +12,7 @@ use Rattle.ariadne_picture.proofs.Rows.LoneRows.{lone}
 use Rattle.ariadne_rows.proofs.GutterSteps.{below-alternate}
 use Rattle.ariadne_drawing.proofs.LinesRows.{rows-of}
 use Rattle.ariadne_drawing.proofs.LinesQuiet.{layout-labels, quiet-bars, quiet-table, lone-row, no-lone-row, lone-asked}
-use Rattle.ariadne_drawing.proofs.lines.push_lone_row.Goals as goal
+use Rattle.ariadne_drawing.proofs.below.push_lone_row.Goals as goal
 
 -- the switches that are read are those of the page
 pub returns-then-not-is_lone : goal.returns-then-not-is_lone

@@ -9,7 +9,7 @@ use Rattle.std.proofs.lemmas.Result.{on_ok_weaker}
 use Rattle.ariadne_cells.proofs.Drawn.{draws_rows-append, draws_rows_none, draws_rows_one}
 use Rattle.ariadne_drawing.proofs.LinesRows.{row-page, label-none, label-one, label-two, table-there}
 use Rattle.ariadne_drawing.proofs.LinesRows.{bars-alternate, rows-of}
-use Rattle.ariadne_drawing.proofs.lines.push_rows_of_label.Goals as goal
+use Rattle.ariadne_drawing.proofs.below.push_rows_of_label.Goals as goal
 
 -- without a message there is no row
 pub returns-then-not-label : goal.returns-then-not-label

@@ -1,7 +1,7 @@
 use Rattle.std.proofs.Common.{◌∙◌, sym, ap}
 use Rattle.ariadne_rows.proofs.GutterSteps.{below-next_inline, below-next}
 use Rattle.std.proofs.lemmas.Result.{on_ok_weaker}
-use Rattle.ariadne_drawing.proofs.lines.pass_bar.Goals as goal
+use Rattle.ariadne_drawing.proofs.below.pass_bar.Goals as goal
 
 -- a label within the line leaves the bars
 pub returns-then-is_inline-clause-below : goal.returns-then-is_inline-clause-below
