@@ -125,7 +125,9 @@ SETTINGS = {
     "multiline_arrows": SWITCH,
     "color": SWITCH,
     "context_lines": COUNT,
+    "width": COUNT,
     "tab_width": WIDTH,
+    "width": COUNT,
     "char_set": words("Unicode", "Ascii"),
     "index_type": words("Char", "Byte"),
 }

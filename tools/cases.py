@@ -22,12 +22,14 @@ SETTINGS = {
     "multiline_arrows": True,
     "color": False,
     "context_lines": 0,
+    "width": 0,
     "tab_width": 4,
+    "width": 0,
     "char_set": "Ascii",
     "index_type": "Char",
 }
 # Those that are numbers. One that is past TOML's is a text of its digits.
-NUMBERS = ("context_lines", "tab_width")
+NUMBERS = ("context_lines", "width", "tab_width")
 # What the model of reports has no words for.
 NOT_RECKONED = {"painted", "safe", "takes", "fails"}
 

@@ -212,6 +212,75 @@ def preferred_at(labels, offset, length):
     return places
 
 
+# ---- lines that are cut
+
+SEEN, MARKED, UNSEEN = "seen", "marked", "unseen"
+MARKS = {"Unicode": "…", "Ascii": "..."}
+
+
+def runs_of(parts):
+    """Parts joined to runs that neither meet nor overlap, in order. Each is a first place and one behind it."""
+    runs = []
+    for first, behind in sorted(parts):
+        if runs and first <= runs[-1][1]:
+            runs[-1][1] = max(behind, runs[-1][1])
+        else:
+            runs.append([first, behind])
+    return runs
+
+
+class Cut:
+    """A text that takes more columns than it may: which of its places are seen, round what is met there."""
+
+    def __init__(self, columns, limit, mark):
+        self.columns = columns  # where each place of the whole text begins, and where it ends
+        self.size = len(columns) - 1
+        self.limit = limit
+        self.mark = mark
+
+    def goes_on(self, place):
+        """Whether a place has no columns, and so goes on with a letter before it."""
+        return place < self.size and self.columns[place] == self.columns[place + 1]
+
+    def widened(self, parts, more):
+        """Parts with so many more places on both sides, and with whole letters at their ends."""
+        wide = []
+        for first, behind in parts:
+            first, behind = max(first - more, 0), behind + more
+            while first > 0 and self.goes_on(first):
+                first -= 1
+            while self.goes_on(behind):
+                behind += 1
+            wide.append((first, behind))
+        return runs_of(wide)
+
+    def marked(self, runs):
+        """The places of marks: right before each run, and right behind the last one."""
+        places = [first - 1 for first, _ in runs if 0 < first <= self.size]
+        return places + [runs[-1][1]] * (runs[-1][1] < self.size)
+
+    def fits(self, parts, more):
+        """Whether parts that are so much wider take no more columns than they may."""
+        runs = self.widened(parts, more)
+        seen = sum(self.columns[min(behind, self.size)] - self.columns[min(first, self.size)] for first, behind in runs)
+        return seen + len(self.mark) * len(self.marked(runs)) <= self.limit
+
+    def sights(self, spans, places):
+        """What is seen of each place: round these spans, or these places if that doesn't fit."""
+        needed = spans if self.fits(spans, 0) else places
+        more = 0
+        while more + 1 < self.size and self.fits(needed, more) and self.fits(needed, more + 1):
+            more += 1
+        runs = self.widened(needed, more)
+        sights = [UNSEEN] * self.size
+        for first, behind in runs:
+            seen = range(self.size)[first:behind]
+            sights[first:behind] = [SEEN] * len(seen)
+        for place in self.marked(runs):
+            sights[place] = MARKED
+        return sights
+
+
 class Layout:
     """A line of a group that shows something: what meets it, its text, and where its places are."""
 
@@ -222,16 +291,38 @@ class Layout:
         self.text = text
         self.shown = text.rstrip(WHITE_SPACE)
         self.config = config
-        self.columns = [0]  # where each shown place begins, and where the first one past them does
+        self.mark = MARKS[config["char_set"]]
+        self.columns = [0]  # where each shown place of the whole line begins, and where they end
         for character in self.shown:
             column = self.columns[-1]
             self.columns.append(column + shown_columns(character, column, config["tab_width"]))
 
+    @cached_property
+    def sights(self):
+        """What is seen of each shown place. A line is cut round its labels with a message, or round all of them
+        where none has one; or to its beginning."""
+        limit = self.config["width"]
+        if not 0 < limit < self.columns[-1]:
+            return [SEEN] * len(self.shown)
+        labels = [*([self.margin] if self.margin else []), *self.labels]
+        labels = [met for met in labels if met.label.has_message] or labels
+        places = [(met.place, met.place + 1) for met in labels] or [(0, 1)]
+        spans = [self.span_of(met) for met in labels] or [(0, 1)]
+        return Cut(self.columns, limit, self.mark).sights(spans, places)
+
+    def span_of(self, met):
+        """The places of a label within the line, with that of its arrow; or that of another's stroke."""
+        if met.side != WITHIN:
+            return met.place, met.place + 1
+        start, end = met.label.start - self.offset, met.label.end - self.offset
+        return min(start, met.place), max(end, met.place + 1)
+
     def width(self, place):
         """The columns of a place. Past the shown text each has one."""
-        if place < len(self.shown):
-            return self.columns[place + 1] - self.columns[place]
-        return 1
+        if place >= len(self.shown):
+            return 1
+        whole = self.columns[place + 1] - self.columns[place]
+        return {SEEN: whole, MARKED: len(self.mark), UNSEEN: 0}[self.sights[place]]
 
     @cached_property
     def arrow_length(self):
@@ -514,7 +605,9 @@ class TextArea:
         painters = preferred_at(labels, layout.offset, len(layout.shown))
         for place, (character, painter) in enumerate(zip(layout.shown, painters)):
             color = painter.color if painter else UNIMPORTANT_COLOR
-            if character == "\t":
+            if layout.sights[place] != SEEN:
+                yield from [(layout.mark, color)] * (layout.sights[place] == MARKED)
+            elif character == "\t":
                 yield from [(" ", color)] * layout.width(place)
             else:
                 yield " " if character in WHITE_SPACE else character, color

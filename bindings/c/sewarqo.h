@@ -111,6 +111,7 @@ typedef struct {
     uint32_t attach;         /* SEWARQO_ATTACH_MIDDLE .. */
     size_t tab_width;        /* in columns; 0 is the usual 4 */
     size_t context_lines;    /* lines that are shown above and below each line with a label */
+    size_t width;            /* in columns: of the text of a line, which is cut where it is longer. 0 is any */
 } sewarqo_report;
 
 /* A label that is not in the picture. */

@@ -109,6 +109,7 @@ struct Config {
     bool safe = true;          // without it texts are drawn as they are, with the escapes that they hold
     bool lone_underlines = false; // underlines also where no label of a line has a message
     std::size_t context_lines = 0; // lines that are shown above and below each line with a label
+    std::size_t width = 0; // in columns: of the text of a line, which is cut where it is longer. 0 is any
 };
 
 // A picture, and the labels that are left out of it.
@@ -248,6 +249,7 @@ private:
         report.attach = static_cast<std::uint32_t>(config.attach);
         report.tab_width = config.tab_width;
         report.context_lines = config.context_lines;
+        report.width = config.width;
         return report;
     }
 

@@ -149,7 +149,8 @@ class Config(NamedTuple):
 
     Where `safe` is off, texts are drawn as they are: an escape character in one reaches the terminal.
     With `lone_underlines` labels are underlined also where no label of their line has a message.
-    `context_lines` lines are shown above and below each line that has a label.
+    `context_lines` lines are shown above and below each line that has a label. `width` is how many columns
+    the text of a line may take, which is cut where it takes more; 0 is any number.
 
     >>> report = Report("error", "a \\x1b[1mbold\\x1b[0m word")
     >>> report.render("", Config(color=False))
@@ -167,6 +168,7 @@ class Config(NamedTuple):
     safe: bool = True
     lone_underlines: bool = False
     context_lines: int = 0
+    width: int = 0
 
 
 class LeftOut(NamedTuple):
@@ -272,6 +274,7 @@ class _Report(ctypes.Structure):
         ("helps", ctypes.POINTER(_Text)), ("helps_len", _size),
         ("notes", ctypes.POINTER(_Text)), ("notes_len", _size),
         ("flags", _u32), ("attach", _u32), ("tab_width", _size), ("context_lines", _size),
+        ("width", _size),
     ]
 
 
@@ -370,6 +373,8 @@ class _Call:
             raise BadReport(f"tab_width: {config.tab_width} is no width", "config")
         if not 0 <= config.context_lines <= _LARGEST:
             raise BadReport(f"context_lines: {config.context_lines} is no number of lines", "config")
+        if not 0 <= config.width <= _LARGEST:
+            raise BadReport(f"width: {config.width} is no number of columns", "config")
         if not 0 < report.kind_color < 2**32:
             raise BadReport("the colour of the kind is none", "kind_color")
         kind = _KINDS.get(report.kind, _CUSTOM)
@@ -382,7 +387,7 @@ class _Call:
             _part(report.message, "message"), source, start,
             (_Label * len(labels))(*labels), len(labels),
             (_Text * len(helps))(*helps), len(helps), (_Text * len(notes))(*notes), len(notes),
-            self.flags, _ATTACH[config.attach], config.tab_width, config.context_lines,
+            self.flags, _ATTACH[config.attach], config.tab_width, config.context_lines, config.width,
         )
 
     def drawn(self) -> Picture:

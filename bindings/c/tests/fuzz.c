@@ -97,7 +97,7 @@ static void try_once(void) {
         is_rare(30) ? (uint32_t)number(SIZE_MAX) : byte() % 4u, color(), text(9), optional(9), text(9), number(4),
         number(60), labels, labels_len, helps, byte() % (TEXTS + 1), notes, byte() % (TEXTS + 1),
         is_rare(30) ? (uint32_t)number(SIZE_MAX) : (uint32_t)byte(), is_rare(30) ? (uint32_t)number(9) : byte() % 3u,
-        number(9), number(9)};
+        number(9), number(9), number(60)};
     size_t room = byte() % 4 ? ROOM : number(2000) % ROOM, len = 1, count = 1, left_room = byte() % (LEFT + 1);
     memset(out, '#', ROOM);
     memset(left, 0x5a, sizeof left);

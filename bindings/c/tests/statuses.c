@@ -183,6 +183,12 @@ static void edges(void) {
     call.report.context_lines = SIZE_MAX;
     make("all lines of the sources", SEWARQO_DRAWN);
     prepare();
+    call.report.width = 1;
+    make("lines of one column", SEWARQO_DRAWN);
+    prepare();
+    call.report.width = SIZE_MAX;
+    make("the widest lines", SEWARQO_DRAWN);
+    prepare();
     call.report.labels = NULL;
     call.report.helps = call.report.notes = NULL;
     call.report.labels_len = call.report.helps_len = call.report.notes_len = 0;

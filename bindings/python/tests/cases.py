@@ -83,6 +83,7 @@ class Case:
             attach=settings.get("label_attach", "Middle").lower(),
             tab_width=number(settings.get("tab_width", 4)),
             context_lines=number(settings.get("context_lines", 0)),
+            width=number(settings.get("width", 0)),
             safe="safe" in self.case,
         )
 

@@ -69,7 +69,7 @@ NO_TEXT = sewarqo._Text(b"a\xff", 2)
 NO_OPTIONAL = sewarqo._Optional(NO_TEXT, 1)
 CONFIGS = [
     Config(tab_width=0), Config(tab_width=-1), Config(attach="nowhere"), Config(context_lines=-1),
-    Config(context_lines=LARGEST + 1),
+    Config(context_lines=LARGEST + 1), Config(width=-1), Config(width=LARGEST + 1),
 ]
 
 

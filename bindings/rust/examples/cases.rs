@@ -1,7 +1,7 @@
 //! Draws stored cases, and compares their pictures. Each line of standard input is a case, in words that
 //! blanks part; a text is its bytes in hexadecimal behind an `x`, and `-` is none:
 //!
-//!     NAME KIND KIND_COLOR CODE MESSAGE ID START FLAGS ATTACH TAB_WIDTH CONTEXT_LINES PICTURE
+//!     NAME KIND KIND_COLOR CODE MESSAGE ID START FLAGS ATTACH TAB_WIDTH CONTEXT_LINES WIDTH PICTURE
 //!         source ID SHOWN TEXT LINE_OFFSET .. label ID START END MESSAGE COLOR ORDER PRIORITY ..
 //!         help TEXT .. note TEXT ..
 //!
@@ -105,6 +105,7 @@ impl Words<'_> {
             .with_label_attach(attach)
             .with_tab_width(self.number())
             .with_context_lines(self.number())
+            .with_width(self.number())
     }
 
     fn label(&mut self) -> Label<Place> {

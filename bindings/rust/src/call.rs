@@ -75,6 +75,7 @@ pub(crate) struct GivenReport<'a> {
     pub(crate) attach: u32,
     pub(crate) tab_width: usize,
     pub(crate) context_lines: usize,
+    pub(crate) width: usize,
 }
 
 impl GivenReport<'_> {

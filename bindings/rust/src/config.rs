@@ -40,6 +40,7 @@ pub struct Config {
     pub(crate) multiline_arrows: bool,
     pub(crate) color: bool,
     pub(crate) context_lines: usize,
+    pub(crate) width: usize,
     pub(crate) tab_width: usize,
     pub(crate) char_set: CharSet,
     pub(crate) index_type: IndexType,
@@ -58,6 +59,7 @@ impl Config {
             multiline_arrows: true,
             color: true,
             context_lines: 0,
+            width: 0,
             tab_width: 4,
             char_set: CharSet::Unicode,
             index_type: IndexType::Char,
@@ -112,6 +114,13 @@ impl Config {
     /// How many lines are shown above and below each line that has a label. Usually 0.
     pub const fn with_context_lines(mut self, context_lines: usize) -> Config {
         self.context_lines = context_lines;
+        self
+    }
+
+    /// How many columns the text of a line may take. A longer line is cut to what its labels need and to what
+    /// stands round it. Usually 0: lines are shown whole. Margin, gutter and messages have columns of their own.
+    pub const fn with_width(mut self, width: usize) -> Config {
+        self.width = width;
         self
     }
 

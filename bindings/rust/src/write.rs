@@ -55,6 +55,7 @@ impl<S: Span> Report<'_, S> {
             attach: attach_of(content.config.label_attach),
             tab_width: content.config.tab_width,
             context_lines: content.config.context_lines,
+            width: content.config.width,
         };
         draw(&report, &fetched.given())
     }

@@ -33,6 +33,8 @@ pub use Rattle.ariadne_picture.specs.declared.cell.Paint
 pub use Rattle.ariadne_picture.specs.declared.label_info.LabelInfo
 pub use Rattle.ariadne_picture.specs.declared.label_info.LineLabel
 pub use Rattle.ariadne_picture.specs.declared.label_info.Side
+pub use Rattle.ariadne_picture.specs.declared.sight.Part
+pub use Rattle.ariadne_picture.specs.declared.sight.Sight
 pub use Rattle.ariadne_picture.specs.declared.verdict.Verdict
 pub use Rattle.ariadne_picture.specs.Lists
 pub use Rattle.ariadne_picture.specs.Report

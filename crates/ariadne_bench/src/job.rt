@@ -88,10 +88,13 @@ pub struct Job {
     pub in_bytes: bool,
     /// How many lines are shown above and below those with a label.
     pub context_lines: usize,
+    /// How many columns a line may take; 0 is any number.
+    pub width: usize,
 }
 
 impl Job {
-    /// A job without marks, colours and context lines, whose offsets count characters.
+    /// A job without marks, colours and context lines, whose offsets count characters and whose lines are
+    /// shown whole.
     pub fn new(alloc: Global, message: &'static str, text: String) -> Job {
         Job {
             text,
@@ -100,6 +103,7 @@ impl Job {
             is_colored: false,
             in_bytes: false,
             context_lines: 0,
+            width: 0,
         }
     }
 

@@ -2,7 +2,7 @@
 
 use crate::job::{Job, Row};
 use crate::order::LongLine;
-use crate::texts::narrow;
+use crate::texts::{narrow, words};
 use std::alloc::{AllocError, Global};
 
 /// The bytes of a long line of two characters in turn of two bytes and of one, with its line feed.
@@ -19,6 +19,7 @@ pub fn job(alloc: Global, line: LongLine, number: u16) -> Result<Job, AllocError
         LongLine::Trailing => trailing(alloc, number),
         LongLine::Chinese => at_end(alloc, "\u{6f22}\u{5b57}", "cjkline", number),
         LongLine::Latin => at_end(alloc, "\u{e9}a", "latinline", number),
+        LongLine::Minified => minified(alloc, number),
     }
 }
 
@@ -68,6 +69,15 @@ fn trailing_row(number: u16) -> Row {
     } else {
         Row::said("m", 0, 4, 0)
     }
+}
+
+/// A line of so many words of ten characters, which is cut to 80 columns round a label in its middle.
+fn minified(alloc: Global, count: u16) -> Result<Job, AllocError> {
+    let start = 10 * (usize::from(count) / 2);
+    let mut job = Job::new(alloc, "minified", words(alloc, u32::from(count))?);
+    job.say(alloc, start, start + 7, "in the middle")?;
+    job.width = 80;
+    Ok(job)
 }
 
 /// A line of so many characters, two in turn, and a label near its end.

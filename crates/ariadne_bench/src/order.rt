@@ -44,6 +44,8 @@ pub enum LongLine {
     Chinese,
     /// Letters of which each second one has two bytes, and one label at its end.
     Latin,
+    /// Words, and one label in its middle, round which it is cut.
+    Minified,
 }
 
 /// How many labels lie over few or many lines.
@@ -113,6 +115,7 @@ const NAMED: &[(&str, Kind, u16)] = &[
     ("wide", Kind::Drawn(Shape::Wide), 200),
     ("large", Kind::Drawn(Shape::Large), 3),
     ("large-bytes", Kind::Drawn(Shape::LargeBytes), 3),
+    ("minified", Kind::LongLine(LongLine::Minified), 30_000),
 ];
 
 /// What the names of the others begin with, before their number.
@@ -146,7 +149,7 @@ const NUMBERED: &[(&str, Kind)] = &[
 ];
 
 /// A workload: what is measured, and a number. That is the number of its labels, of its sources or
-/// of the copies of its lines, or of the characters of its line.
+/// of the copies of its lines, of the characters of its line, or of its words.
 #[derive(Clone, Copy)]
 pub struct Workload {
     pub kind: Kind,

@@ -55,6 +55,7 @@ fn config_of(job: &Job) -> Config {
     config
         .with_index_type(index_type)
         .with_context_lines(job.context_lines)
+        .with_width(job.width)
 }
 
 /// The report of a job. Its own span is that of its first label.

@@ -29,9 +29,9 @@ is_as_it_is r = has r.flags 128
 abbrev pub attach_of : ℕ → LabelAttach
 attach_of attach = if attach == 1 then Start else (if attach == 2 then End else Middle)
 
--- the configuration of flags, an attachment, a tab width and a number of context lines
-abbrev pub config_with : ℕ → ℕ → ℕ → ℕ → ConfigFields
-config_with flags attach tab_width context_lines = record {
+-- the configuration of flags, an attachment, a tab width, a number of context lines and a width
+abbrev pub config_with : ℕ → ℕ → ℕ → ℕ → ℕ → ConfigFields
+config_with flags attach tab_width context_lines width = record {
   cross_gap = not (has flags 64);
   label_attach = attach_of attach;
   compact = has flags 4;
@@ -41,12 +41,13 @@ config_with flags attach tab_width context_lines = record {
   color = not (has flags 1);
   tab_width = if tab_width == 0 then 4 else tab_width;
   context_lines = context_lines;
+  width = width;
   char_set = if has flags 2 then Ascii else Unicode;
   index_type = if has flags 8 then Byte else Char;
 }
 
 abbrev pub config_of : GivenReport → ConfigFields
-config_of r = config_with r.flags r.attach r.tab_width r.context_lines
+config_of r = config_with r.flags r.attach r.tab_width r.context_lines r.width
 
 -- the kind with the report's own name and colour
 abbrev pub custom_of : GivenReport → Kind

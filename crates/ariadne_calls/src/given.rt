@@ -71,6 +71,8 @@ pub struct GivenReport<'a> {
     pub tab_width: usize,
     /// How many lines are shown above and below each line with a label.
     pub context_lines: usize,
+    /// How many columns the text of a line may take; 0 is any number.
+    pub width: usize,
 }
 
 /// A label that is left out of the picture.

@@ -55,7 +55,8 @@ pub fn config_of(given: &GivenReport<'_>) -> Result<Config, Refusal>
     }
     let config = config_with(given.flags, given.tab_width)
         .with_label_attach(attach_of(given.attach))
-        .with_context_lines(given.context_lines);
+        .with_context_lines(given.context_lines)
+        .with_width(given.width);
     Ok(config)
 }
 
@@ -72,7 +73,7 @@ fn attach_of(attach: u32) -> LabelAttach
 
 /// The configuration of these flags and this tab width.
 fn config_with(flags: u32, tab_width: usize) -> Config
-    ensures { result ≡ config_with flags 0 tab_width 0 }
+    ensures { result ≡ config_with flags 0 tab_width 0 0 }
 {
     let char_set = if has(flags, 2) {
         CharSet::Ascii

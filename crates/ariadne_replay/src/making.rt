@@ -44,6 +44,7 @@ static INDEX_TYPES: [(&str, IndexType); 2] = [("Byte", IndexType::Byte), ("Char"
 /// otherwise the default ones.
 fn switched(told: &Value) -> Config {
     let context_lines = count(told, "context_lines").unwrap_or(0) as usize;
+    let width = count(told, "width").unwrap_or(0) as usize;
     let tab_width = count(told, "tab_width").unwrap_or(4) as usize;
     Config::new()
         .with_cross_gap(switch(told, "cross_gap", true))
@@ -53,7 +54,10 @@ fn switched(told: &Value) -> Config {
         .with_multiline_arrows(switch(told, "multiline_arrows", true))
         .with_color(switch(told, "color", false))
         .with_context_lines(context_lines)
+        .with_width(width)
         .with_tab_width(tab_width.max(1))
+        .with_context_lines(count(told, "context_lines").unwrap_or(0) as usize)
+        .with_width(count(told, "width").unwrap_or(0) as usize)
 }
 
 /// The settings of a case. Where it tells nothing else they are in ASCII. (A case has no members of

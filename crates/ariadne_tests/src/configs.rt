@@ -18,6 +18,7 @@ fn a_new_configuration_is_the_default(rt: HostRuntime) {
         .with_color(true)
         .with_context_lines(0)
         .with_tab_width(4)
+        .with_width(0)
         .with_char_set(CharSet::Unicode)
         .with_index_type(IndexType::Char);
     assert_same(&rt, &config, &Config::new());

@@ -96,7 +96,8 @@ pub(crate) const CALLS: &[(&str, &[&str])] = &[
             "draw",
             "LineTable::fill",
             "LineTable::fill_paints",
-            "Columns::fill",
+            "LineColumns::fill",
+            "push_whole",
             "Page::new",
             "put_in_order",
             "Pen::reserve",
@@ -155,6 +156,10 @@ pub(crate) const CALLS: &[(&str, &[&str])] = &[
         &["find_underlines"],
     ),
     (
+        "a_refused_line_that_is_cut_sends_nothing",
+        &["WholeColumns::fill", "Cuts::find"],
+    ),
+    (
         "a_refused_request_is_told_and_no_line_is_cut",
         &[
             "Run::new",
@@ -180,6 +185,7 @@ pub(crate) const CALLS: &[(&str, &[&str])] = &[
             "BareHead::told",
             "Arrow::place",
             "WaitingLine::new",
+            "WaitingLine::add_row",
             "Block::new",
             "Block::add_note",
             "Block::add_place",
@@ -207,6 +213,7 @@ pub(crate) const CALLS: &[(&str, &[&str])] = &[
             // What is written of it, and of lines that pass.
             "ordered_places",
             "spot_text",
+            "wrapped",
             "with_asides",
             "line_texts",
             "located_places",
@@ -222,7 +229,7 @@ pub(crate) const CALLS: &[(&str, &[&str])] = &[
     ),
     (
         "a_refused_request_of_reading_words_is_want_of_memory",
-        &["inputs_of", "Fault::words"],
+        &["inputs_of", "Fault::words", "Fault::no_width"],
     ),
     (
         "a_refused_request_of_the_environment_or_an_input_is_told",

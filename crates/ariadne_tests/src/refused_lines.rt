@@ -1,10 +1,10 @@
-//! A line of many labels when memory is refused: each request in turn, until the call meets no
-//! refusal.
+//! A line of many labels, and one that is cut, when memory is refused: each request in turn, until
+//! the call meets no refusal.
 
 use crate::refused::{MOST_REQUESTS, assert_refused, refuse_at};
 use crate::refused_pictures::assert_answer;
 use ariadne::{Label, Report, Source};
-use ariadne_asserts::asserts::{assert_trimmed, plain_error, source_of};
+use ariadne_asserts::asserts::{assert_trimmed, plain, plain_error, source_of};
 use std::alloc::{AllocError, Global};
 use std::process::Abort;
 
@@ -22,6 +22,20 @@ const ROWS: &[&str] = &[
     "---'",
 ];
 
+/// A line, and how many columns of it are shown.
+const LONG: (&str, usize) = ("abcdefghijklmnop", 9);
+
+/// The picture of it, with a label on its last character.
+const CUT_ROWS: &[&str] = &[
+    "Error:",
+    "   ,-[ <unknown>:1:1 ]",
+    "   |",
+    " 1 | ...klmnop",
+    "   |         |",
+    "   |         `-- p",
+    "---'",
+];
+
 /// The report with these labels.
 fn crowded(alloc: Global) -> Result<Report<'static>, AllocError> {
     let label = Label::new(0..1).with_message(alloc, "m")?;
@@ -32,40 +46,60 @@ fn crowded(alloc: Global) -> Result<Report<'static>, AllocError> {
     Ok(builder.finish())
 }
 
-/// Asserts that nothing was sent of a picture that was refused, and else the whole.
-fn assert_sent(rt: &(impl Abort + AllocGlobal), out: Vec<u8>, is_refused: bool) {
+/// The report over the line that is cut.
+fn cut(alloc: Global) -> Result<Report<'static>, AllocError> {
+    let label = Label::new(15..16).with_message(alloc, "p")?;
+    let config = plain().with_width(LONG.1);
+    let builder = plain_error(alloc).with_config(config);
+    Ok(builder.with_label(label)?.finish())
+}
+
+/// Asserts that nothing was sent of a picture that was refused, and else these rows.
+fn assert_sent(rt: &(impl Abort + AllocGlobal), out: Vec<u8>, rows: &[&str], is_refused: bool) {
     if is_refused {
         assert!(rt; out.is_empty());
         return;
     }
     let picture = String::from_utf8(out).expect(rt, "text");
-    assert_trimmed(rt, picture.as_str(), ROWS).expect(rt, "the picture")
+    assert_trimmed(rt, picture.as_str(), rows).expect(rt, "the picture")
 }
 
-/// Refuses the nth request of writing the report, of which a refusal sends nothing.
+/// Refuses the nth request of writing a report with these rows, of which a refusal sends nothing.
 fn try_write(
     rt: &(impl Abort + AllocGlobal),
     report: &Report<'_>,
     source: &mut Source,
+    rows: &[&str],
     nth: u16,
 ) -> bool {
     let mut out = Vec::with_capacity(rt.alloc(), 1_000).expect(rt, "memory");
     refuse_at(rt, nth);
     let answer = report.write(source, &mut out);
-    let is_refused = assert_refused(rt, ("a line of many labels", nth), answer.is_err());
+    let is_refused = assert_refused(rt, ("a line", nth), answer.is_err());
     assert_answer(rt, answer, &[]);
-    assert_sent(rt, out, is_refused);
+    assert_sent(rt, out, rows, is_refused);
     is_refused
+}
+
+/// Refuses each request in turn of writing a report over a text, which has these rows.
+fn try_writes(rt: &(impl Abort + AllocGlobal), report: &Report<'_>, text: &str, rows: &[&str]) {
+    let mut source = source_of(rt.alloc(), text).expect(rt, "memory");
+    for nth in 1..MOST_REQUESTS {
+        if !try_write(rt, report, &mut source, rows, nth) {
+            return;
+        }
+    }
+    panic!(rt; "every request was refused")
 }
 
 #[test]
 fn a_refused_line_of_many_labels_sends_nothing(rt: HostRuntime) {
     let report = crowded(rt.alloc()).expect(&rt, "memory");
-    let mut source = source_of(rt.alloc(), "ab").expect(&rt, "memory");
-    for nth in 1..MOST_REQUESTS {
-        if !try_write(&rt, &report, &mut source, nth) {
-            return;
-        }
-    }
-    panic!(rt; "every request was refused")
+    try_writes(&rt, &report, "ab", ROWS);
+}
+
+#[test]
+fn a_refused_line_that_is_cut_sends_nothing(rt: HostRuntime) {
+    let report = cut(rt.alloc()).expect(&rt, "memory");
+    try_writes(&rt, &report, LONG.0, CUT_ROWS);
 }

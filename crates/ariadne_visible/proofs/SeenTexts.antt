@@ -2,7 +2,7 @@
 -- nothing are such as they are shown.
 use Rattle.std.proofs.Common.{◌≡◌, ℕ, ◌-◌, ◌<◌, Bool, true, false, List, [], ◌∷◌, ◌++◌, take, length}
 use Rattle.std.proofs.Common.{refl, sym, ap, ◌∙◌, subst, arith, ◌==◌, nat_lt, nat_le, inl, inr}
-use Rattle.std.specs.Prelude.{encode_utf8, encode_utf8_all, slice_index}
+use Rattle.std.specs.Prelude.{codes, encode_utf8, encode_utf8_all, slice_index}
 use Rattle.std.specs.Char.{is_whitespace}
 use Rattle.std.specs.Bool.{MatchBool}
 use Rattle.std.specs.List.{AllByRecursion, AllWithin, HoldsAt, list_all, slice_split, onto_first}
@@ -19,7 +19,7 @@ use Rattle.ariadne_picture.specs.declared.switches.CharSet.TheVariants.{Unicode,
 use Rattle.ariadne_picture.specs.declared.cell.Glyph.{Glyph}
 use Rattle.ariadne_picture.specs.declared.cell.Glyph.TheVariants.{Blank}
 use Rattle.ariadne_picture.specs.Cells.{glyph_code}
-use Rattle.ariadne_picture.specs.Pieces.{glyph_text, shown_text}
+use Rattle.ariadne_picture.specs.Pieces.{glyph_text, mark_text, shown_text}
 use Rattle.ariadne_picture.proofs.Variants.CleanTexts.{IsKept, is_plain, IsClean, IsControl, clean-encode, all-lines_of}
 use Rattle.ariadne_picture.proofs.Variants.CleanPieces.{AreShownClean}
 use Rattle.ariadne_visible.specs.declared.text.TextKind.TheVariants.{OneRow, Aside, Lines}
@@ -64,9 +64,15 @@ glyph_seen set glyph = one_seen (glyph_code set glyph) (test set glyph)
     test Unicode glyph = refl
     test Ascii glyph = refl
 
+-- the mark in place of what is cut
+mark_seen : (set : CharSet) → IsSeen (mark_text set)
+unfolding mark_text is_hidden
+mark_seen Unicode = one_seen 0x2026 refl
+mark_seen Ascii = plain_seen (codes "...") refl
+
 -- and texts that are joined
 pub kept_seen : IsKept IsSeen
-kept_seen = record { append = NoCharPasses-append is_hidden; plain = plain_seen; glyph = glyph_seen }
+kept_seen = record { append = NoCharPasses-append is_hidden; plain = plain_seen; glyph = glyph_seen; mark = mark_seen }
 
 -- ---- texts that rows show whole
 
