@@ -1,6 +1,6 @@
 -- The sequence that a text begins with is the same by characters and by bytes, but for what stands
 -- behind it.
-use Rattle.std.proofs.Common.{◌≡◌, ◌∙◌, inl, inr, ℕ, suc, ◌+◌, ◌<◌, ◌≤◌, Bool, true, false, ◌&&◌, eqb, cond, List, [], ◌∷◌, ◌++◌, refl, ap, sym, subst, take, drop, arith, Some, None, option_map}
+use Rattle.std.proofs.Common.{◌≡◌, ◌∙◌, inl, inr, ℕ, suc, ◌+◌, ◌<◌, ◌≤◌, Bool, true, false, ◌&&◌, eqb, cond, List, [], ◌∷◌, ◌++◌, refl, ap, sym, subst, take, drop, arith, Some, None, option_map, unwrap_or, lit<}
 use Rattle.std.specs.Prelude.{chars, encode_utf8, encode_utf8_all}
 use Rattle.std.specs.Char.{is_ascii_digit}
 use Rattle.std.specs.List.{list_all, prefix_len}
@@ -8,7 +8,8 @@ use Rattle.std.specs.Str.{IsUtf8}
 use Rattle.std.proofs.lemmas.Bool.{cases_lt, cond-false, cond-true, ne_eqb}
 use Rattle.std.proofs.lemmas.Bool.Decides.{nat_tests}
 use Rattle.std.proofs.lemmas.Str.{IsUtf8-nil, IsUtf8-past_char, byte_from_char, chars-nil, chars_past_char, encode_ascii}
-use Rattle.ariadne_outputs.specs.Sequences.{Sequence, ended, is_of_parameters, sequence_in}
+use Rattle.std.specs.Prelude.{Option, option_and_then}
+use Rattle.ariadne_outputs.specs.Sequences.{Sequence, behind_charset, behind_letter, ended, is_of_parameters, sequence_in}
 
 -- ---- the first character
 
@@ -159,3 +160,46 @@ pub sequence_chars : (text : List ℕ) → IsUtf8 text
 unfolding sequence_in
 sequence_chars [] u = rw chars-nil refl
 sequence_chars (b ∷ text) u = sequence_first b text (begins_with b text u)
+
+-- ---- letters of ASCII
+
+-- what stands behind one is text, and the same by characters
+record IsBehindLetter (letter : ℕ) (text : List ℕ) : Type 0 where
+  same : behind_letter letter (chars text) ≡ option_map chars (behind_letter letter text)
+  utf8 : (rest : List ℕ) → behind_letter letter text ≡ Some rest → IsUtf8 rest
+
+letter_by : (text : List ℕ) (is : Bool) → cond is (Some (chars text)) None ≡ option_map chars (cond is (Some text) None)
+letter_by text true = refl
+letter_by text false = refl
+
+rest_by : (text rest : List ℕ) (is : Bool) → IsUtf8 text → cond is (Some text) None ≡ Some rest → IsUtf8 rest
+rest_by text rest true u e = subst IsUtf8 (ap (λ (o : Option (List ℕ)). unwrap_or o text) e) u
+rest_by text rest false u e = cc
+
+letter_first : (letter b : ℕ) (text : List ℕ) → letter < 128 → BeginsWith b text → IsBehindLetter letter (b ∷ text)
+letter_first letter b text small (ascii low e u) = record {
+  same = rw e (letter_by text (eqb b letter));
+  utf8 = λ rest. rest_by text rest (eqb b letter) u;
+}
+letter_first letter b text small (other c rest high up e) =
+    let c1 : eqb c letter ≡ false = ne_eqb c letter (λ is. omega arith) in
+    let b1 : eqb b letter ≡ false = ne_eqb b letter (λ is. omega arith) in
+    record {
+      same = rw (e, c1, b1) refl;
+      utf8 = rw b1 (λ (rest : List ℕ) (found : None ≡ Some rest). cc);
+    }
+
+letter_chars : (letter : ℕ) (text : List ℕ) → letter < 128 → IsUtf8 text → IsBehindLetter letter text
+letter_chars letter [] small u = record { same = rw chars-nil refl; utf8 = λ rest found. cc }
+letter_chars letter (b ∷ text) small u = letter_first letter b text small (begins_with b text u)
+
+-- and so is what stands behind two
+second_chars : (found : Option (List ℕ)) → ((rest : List ℕ) → found ≡ Some rest → IsUtf8 rest)
+    → option_and_then (behind_letter 66) (option_map chars found) ≡ option_map chars (option_and_then (behind_letter 66) found)
+second_chars None u = refl
+second_chars (Some rest) u = (letter_chars 66 rest (lit< tt) (u rest refl)).same
+
+pub charset_chars : (text : List ℕ) → IsUtf8 text → behind_charset (chars text) ≡ option_map chars (behind_charset text)
+charset_chars text u =
+    let first = letter_chars 40 text (lit< tt) u in
+    ap (option_and_then (behind_letter 66)) first.same ∙ second_chars (behind_letter 40 text) first.utf8

@@ -1,15 +1,15 @@
 -- What was added for the parts of a line.
-use Rattle.std.proofs.Common.{◌≡◌, ◌∙◌, ℕ, Bool, true, false, not, ◌&&◌, cond, List, [], ◌∷◌, ◌++◌, map, refl, ap, sym, subst, lit<, append_assoc, append-nil, codes, Some, None, option_map, Result, Ok, Err, IfOk, OnOk}
+use Rattle.std.proofs.Common.{◌≡◌, ◌∙◌, ℕ, Bool, true, false, not, ◌&&◌, cond, List, [], ◌∷◌, ◌++◌, map, refl, ap, sym, subst, lit<, append_assoc, append-nil, codes, Option, Some, None, option_map, Result, Ok, Err, IfOk, OnOk}
 use Rattle.std.specs.Prelude.{chars, encode_utf8, encode_utf8_all}
 use Rattle.std.specs.List.{flat_map, list_all}
 use Rattle.std.specs.Str.{IsUtf8}
 use Rattle.std.proofs.lemmas.Bool.{and_parts, cond-false, cond-true}
 use Rattle.std.proofs.lemmas.List.Concat.{flat_map-append}
 use Rattle.std.proofs.lemmas.Str.{encode_ascii, encodes-append}
-use Rattle.ariadne_outputs.specs.Passing.{HasPassed, HavePassed, Piece, text_piece, kept_piece, dropped_piece, is_painted_behind, line_code, passing_text, pieces_behind, pieces_behind_all, pieces_with, shown_piece}
-use Rattle.ariadne_outputs.specs.Sequences.{Sequence, is_kept, is_of_parameters, is_reset, sequence_in}
+use Rattle.ariadne_outputs.specs.Passing.{HasPassed, HavePassed, Piece, text_piece, kept_piece, dropped_piece, is_painted_behind, line_code, passing_text, pieces_behind, pieces_behind_all, pieces_beside, pieces_with, shown_piece}
+use Rattle.ariadne_outputs.specs.Sequences.{Sequence, behind_charset, is_kept, is_of_parameters, is_reset, sequence_in}
 use Rattle.ariadne_outputs.proofs.CharLemmas.{HasNoEscapeByte, cut_chars, cut_texts, more_parts, no_escape_chars, one_part}
-use Rattle.ariadne_outputs.proofs.CharSequences.{of_parameters_low, sequence_chars, with_chars}
+use Rattle.ariadne_outputs.proofs.CharSequences.{charset_chars, of_parameters_low, sequence_chars, with_chars}
 use Rattle.ariadne_outputs.proofs.PieceLemmas.{painted_append}
 use Rattle.ariadne_outputs.proofs.Pushed.{shown_bytes}
 use Rattle.ariadne_outputs.proofs.SequenceLemmas.{found_first, last_of}
@@ -29,19 +29,44 @@ text_bytes t = ap encode_utf8_all (append-nil (map line_code (chars t)))
 
 -- ---- one part
 
--- text alone
-pub none_passed : (colors : Bool) (part : List ℕ) (before : Bool) (old mid new : List ℕ) → IsUtf8 part
-    → sequence_in part ≡ None → mid ≡ old ++ encode_utf8 (line_code 27) → new ≡ mid ++ shown_bytes part
+-- letters are painted behind it as before
+beside_painted : (before : Bool) (part : List ℕ) (o : Option (List ℕ)) → before ≡ is_painted_behind before (pieces_beside part o)
+beside_painted before part None = refl
+beside_painted before part (Some behind) = refl
+
+-- one that begins with no sequence
+pub none_passed : (colors : Bool) (part : List ℕ) (before : Bool) (old new : List ℕ) → IsUtf8 part → sequence_in part ≡ None
+    → new ≡ old ++ pieces_bytes (pieces_beside (chars part) (behind_charset (chars part)))
     → HasPassed colors (chars part) before old new before
-none_passed colors part before old mid new u none first rest =
+none_passed colors part before old new u none added =
     let found : sequence_in (chars part) ≡ None = sequence_chars part u ∙ ap (option_map with_chars) none in
-    let pieces : pieces_behind colors (chars part) ≡ text_piece (27 ∷ chars part) ∷ [] = ap (pieces_with colors (chars part)) found in
+    let pieces : pieces_behind colors (chars part) ≡ pieces_beside (chars part) (behind_charset (chars part)) =
+    ap (pieces_with colors (chars part)) found in
     record {
-      bytes = rest ∙ ap (λ t. t ++ shown_bytes part) first ∙ append_assoc old (encode_utf8 (line_code 27)) (shown_bytes part)
-          ∙ ap (λ t. old ++ t) (sym (ap encode_utf8_all (append-nil (map line_code (27 ∷ chars part)))))
-          ∙ ap (λ ps. old ++ pieces_bytes ps) (sym pieces);
-      painted = ap (is_painted_behind before) (sym pieces);
+      bytes = added ∙ ap (λ ps. old ++ pieces_bytes ps) (sym pieces);
+      painted = beside_painted before (chars part) (behind_charset (chars part)) ∙ ap (is_painted_behind before) (sym pieces);
     }
+
+-- text behind `(B`
+pub charset_added_if : {T E : Type 0} (r : Result T E) (part behind old new : List ℕ) → IsUtf8 part → behind_charset part ≡ Some behind
+    → OnOk r (new ≡ old ++ shown_bytes behind)
+    → OnOk r (new ≡ old ++ pieces_bytes (pieces_beside (chars part) (behind_charset (chars part))))
+charset_added_if (Ok x) part behind old new u is added =
+    let found : behind_charset (chars part) ≡ Some (chars behind) = charset_chars part u ∙ ap (option_map chars) is in
+    added ∙ ap (λ t. old ++ t) (sym (text_bytes behind))
+    ∙ ap (λ o. old ++ pieces_bytes (pieces_beside (chars part) o)) (sym found)
+charset_added_if (Err e) part behind old new u is added = tt
+
+-- text alone
+pub text_added_if : {T E : Type 0} (r : Result T E) (part old mid new : List ℕ) → IsUtf8 part → behind_charset part ≡ None
+    → mid ≡ old ++ encode_utf8 (line_code 27) → OnOk r (new ≡ mid ++ shown_bytes part)
+    → OnOk r (new ≡ old ++ pieces_bytes (pieces_beside (chars part) (behind_charset (chars part))))
+text_added_if (Ok x) part old mid new u none first rest =
+    let found : behind_charset (chars part) ≡ None = charset_chars part u ∙ ap (option_map chars) none in
+    rest ∙ ap (λ t. t ++ shown_bytes part) first ∙ append_assoc old (encode_utf8 (line_code 27)) (shown_bytes part)
+    ∙ ap (λ t. old ++ t) (sym (ap encode_utf8_all (append-nil (map line_code (27 ∷ chars part)))))
+    ∙ ap (λ o. old ++ pieces_bytes (pieces_beside (chars part) o)) (sym found)
+text_added_if (Err e) part old mid new u none first rest = tt
 
 -- the pieces of a part that begins with a sequence
 module _ (colors : Bool) (part : List ℕ) (s : Sequence) (u : IsUtf8 part) (is : sequence_in part ≡ Some s) where

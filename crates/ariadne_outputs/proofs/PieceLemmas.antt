@@ -6,12 +6,12 @@ use Rattle.std.proofs.lemmas.List.Concat.{flat_map-append}
 use Rattle.std.proofs.lemmas.List.Folds.{list_all-append}
 use Rattle.std.proofs.lemmas.List.Splits.{join_with_byte-slice_split}
 use Rattle.std.proofs.lemmas.List.Sums.{fold-append}
-use Rattle.ariadne_outputs.specs.Passing.{Piece, text_piece, kept_piece, dropped_piece, hides_nothing, is_painted_behind, line_code, passing_text, piece_text, pieces_behind, pieces_of, pieces_of_parts, pieces_with, sequence_piece, shown_piece}
-use Rattle.ariadne_outputs.specs.Sequences.{Sequence, are_kept, is_kept, is_of_parameters, is_reset, parts_of, sequence_in}
+use Rattle.ariadne_outputs.specs.Passing.{Piece, text_piece, kept_piece, dropped_piece, hides_nothing, is_painted_behind, line_code, passing_text, piece_text, pieces_behind, pieces_beside, pieces_of, pieces_of_parts, pieces_with, sequence_piece, shown_piece}
+use Rattle.ariadne_outputs.specs.Sequences.{Sequence, are_kept, behind_charset, is_kept, is_of_parameters, is_reset, parts_of, sequence_in}
 use Rattle.ariadne_outputs.specs.Terminal.{look_behind, plain, step}
 use Rattle.ariadne_outputs.specs.declared.sequence.Awaited.TheVariants.{Attribute}
 use Rattle.ariadne_outputs.proofs.Codes.{clear_text_stays, codes_clear, no_escape, is_clear}
-use Rattle.ariadne_outputs.proofs.SequenceLemmas.{IsFirst, found_first, last_of}
+use Rattle.ariadne_outputs.proofs.SequenceLemmas.{IsFirst, charset_first, found_first, last_of}
 use Rattle.ariadne_outputs.proofs.TerminalLemmas.{at_rest, kept_behind, reset_behind_look, reset_clears, text_behind}
 
 -- ---- lists of pieces
@@ -63,11 +63,19 @@ sequence_leaves colors look before s all rests =
     (λ e. let behind = text_leaves look before s.behind rests in
     record { last = behind.last; shown = behind.shown; plainly = behind.plainly })
 
--- what stands behind an escape character does
+-- what stands behind an escape character does, where it begins with no sequence
+beside_leaves : (look : List ℕ) (before : Bool) (part : List ℕ) (o : Option (List ℕ)) → (before ≡ false → look ≡ [])
+    → LeavesAtRest look before (pieces_beside part o)
+beside_leaves look before part None rests = text_leaves look before (27 ∷ part) rests
+beside_leaves look before part (Some behind) rests =
+    let text = text_leaves look before behind rests in
+    record { last = text.last; shown = text.shown; plainly = text.plainly }
+
+-- and where it begins with one
 part_leaves_with : (colors : Bool) (look : List ℕ) (before : Bool) (part : List ℕ) (o : Option Sequence)
     → ((s : Sequence) → o ≡ Some s → IsFirst part s) → (before ≡ false → look ≡ [])
     → LeavesAtRest look before (pieces_with colors part o)
-part_leaves_with colors look before part None first rests = text_leaves look before (27 ∷ part) rests
+part_leaves_with colors look before part None first rests = beside_leaves look before part (behind_charset part) rests
 part_leaves_with colors look before part (Some s) first rests =
     sequence_leaves colors look before s (first s refl).parameters rests
 
@@ -129,8 +137,13 @@ bare_text before t = record {
   painted = refl;
 }
 
+bare_beside : (before : Bool) (part : List ℕ) (o : Option (List ℕ)) → IsBare before (pieces_beside part o)
+bare_beside before part None = bare_text before (27 ∷ part)
+bare_beside before part (Some behind) =
+    let text = bare_text before behind in record { clear = text.clear; painted = text.painted }
+
 bare_with : (before : Bool) (part : List ℕ) (o : Option Sequence) → IsBare before (pieces_with false part o)
-bare_with before part None = bare_text before (27 ∷ part)
+bare_with before part None = bare_beside before part (behind_charset part)
 bare_with before part (Some s) =
     let behind = bare_text before s.behind in record { clear = behind.clear; painted = behind.painted }
 
@@ -176,9 +189,15 @@ sequence_whole colors part s first =
     ap (λ b. (27 ∷ 91 ∷ (s.parameters ++ cond b (codes "m") (codes "K"))) ++ (s.behind ++ [])) (sym paint) ∙ whole)
     (λ e. whole)
 
+beside_whole : (part : List ℕ) (o : Option (List ℕ)) → ((behind : List ℕ) → o ≡ Some behind → part ≡ 40 ∷ 66 ∷ behind)
+    → flat_map piece_text (pieces_beside part o) ≡ 27 ∷ part
+beside_whole part None first = append-nil (27 ∷ part)
+beside_whole part (Some behind) first =
+    ap (λ t. 27 ∷ 40 ∷ 66 ∷ t) (append-nil behind) ∙ ap (λ t. 27 ∷ t) (sym (first behind refl))
+
 part_whole_with : (colors : Bool) (part : List ℕ) (o : Option Sequence)
     → ((s : Sequence) → o ≡ Some s → IsFirst part s) → flat_map piece_text (pieces_with colors part o) ≡ 27 ∷ part
-part_whole_with colors part None first = append-nil (27 ∷ part)
+part_whole_with colors part None first = beside_whole part (behind_charset part) (charset_first part)
 part_whole_with colors part (Some s) first = sequence_whole colors part s (first s refl)
 
 -- each part, with its escape character

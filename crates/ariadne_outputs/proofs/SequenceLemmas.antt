@@ -1,10 +1,11 @@
 -- The sequence that a text begins with, and what its parameters are.
-use Rattle.std.proofs.Common.{◌≡◌, ◌≢◌, ◌∙◌, ℕ, suc, ◌+◌, Bool, true, false, ◌&&◌, eqb, cond, List, [], ◌∷◌, ◌++◌, refl, ap, sym, subst, take, drop, codes, Some, None, unwrap_or, append_assoc, arith}
+use Rattle.std.proofs.Common.{eq-eqb, option_map, Bor, ◌≡◌, ◌≢◌, ◌∙◌, ℕ, suc, ◌+◌, Bool, true, false, ◌&&◌, eqb, cond, List, [], ◌∷◌, ◌++◌, refl, ap, sym, subst, take, drop, codes, Some, None, unwrap_or, append_assoc, arith}
 use Rattle.std.specs.Char.{is_ascii_digit}
 use Rattle.std.specs.List.{list_all, prefix_len}
 use Rattle.std.proofs.lemmas.Bool.{and_from, and_parts, cond_both, eqb-true, ne_eqb}
 use Rattle.std.proofs.lemmas.List.{take-append-drop}
-use Rattle.ariadne_outputs.specs.Sequences.{Sequence, ended, is_of_parameters, sequence_in}
+use Rattle.std.specs.Prelude.{MatchOption, Option, option_and_then}
+use Rattle.ariadne_outputs.specs.Sequences.{Sequence, behind_charset, behind_letter, ended, is_of_parameters, sequence_in}
 
 -- what ends a sequence
 abbrev pub last_of : Sequence → List ℕ
@@ -81,6 +82,46 @@ pub found_first : (text : List ℕ) (s : Sequence) → sequence_in text ≡ Some
 unfolding sequence_in
 found_first [] s found = cc
 found_first (c ∷ text) s found = first_is c text s (eqb c 91) (eqb-true c 91) found
+
+-- ---- other escapes
+
+-- a text begins with a letter
+letter_by : (c letter : ℕ) (text rest : List ℕ) (is : Bool) → (is ≡ true → c ≡ letter) → cond is (Some text) None ≡ Some rest
+    → c ∷ text ≡ letter ∷ rest
+letter_by c letter text rest true same found =
+    ap (λ x. x ∷ text) (same refl) ∙ ap (λ (o : Option (List ℕ)). letter ∷ unwrap_or o text) found
+letter_by c letter text rest false same found = cc
+
+letter_first : (letter : ℕ) (text rest : List ℕ) → behind_letter letter text ≡ Some rest → text ≡ letter ∷ rest
+letter_first letter [] rest found = cc
+letter_first letter (c ∷ text) rest found = letter_by c letter text rest (eqb c letter) (eqb-true c letter) found
+
+-- and with both of `(B`
+second_first : (text : List ℕ) (found : Option (List ℕ)) → ((rest : List ℕ) → found ≡ Some rest → text ≡ 40 ∷ rest)
+    → (behind : List ℕ) → option_and_then (behind_letter 66) found ≡ Some behind → text ≡ 40 ∷ 66 ∷ behind
+second_first text None first behind found = cc
+second_first text (Some rest) first behind found = first rest refl ∙ ap (λ t. 40 ∷ t) (letter_first 66 rest behind found)
+
+pub charset_first : (text behind : List ℕ) → behind_charset text ≡ Some behind → text ≡ 40 ∷ 66 ∷ behind
+charset_first text behind found = second_first text (behind_letter 40 text) (letter_first 40 text) behind found
+
+-- a text that a letter doesn't begin
+pub no_letter : (letter : ℕ) (text : List ℕ) → ((rest : List ℕ) → text ≢ letter ∷ rest) → behind_letter letter text ≡ None
+no_letter letter [] none = refl
+no_letter letter (c ∷ text) none =
+    let b : eqb c letter ≡ false = ne_eqb c letter (λ e. none text (ap (λ x. x ∷ text) e)) in
+    rw b refl
+
+-- one that it does
+pub some_letter : (letter : ℕ) (text rest : List ℕ) → text ≡ letter ∷ rest → behind_letter letter text ≡ Some rest
+some_letter letter text rest is = rw (is, eq-eqb letter letter refl) refl
+
+-- so it is what is left when it was cut off
+pub behind_letter_is : (letter : ℕ) (text : List ℕ) (r : Option (Bor (List ℕ)))
+    → MatchOption r ((rest : List ℕ) → text ≢ letter ∷ rest) (λ x. text ≡ letter ∷ x.now)
+    → option_map (λ x. x.now) r ≡ behind_letter letter text
+behind_letter_is letter text None none = sym (no_letter letter text none)
+behind_letter_is letter text (Some x) is = sym (some_letter letter text x.now is)
 
 -- ---- none
 

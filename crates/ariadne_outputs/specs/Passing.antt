@@ -10,7 +10,7 @@ use Rattle.std.specs.List.{flat_map, list_all, slice_split}
 use Rattle.std.specs.Str.Lossy.{utf8_lossy}
 use Rattle.ariadne_visible.specs.Visible.{is_hidden, shown_code}
 use Rattle.ariadne_visible.specs.declared.text.TextKind.TheVariants.{OneRow}
-use Rattle.ariadne_outputs.specs.Sequences.{Sequence, is_kept, is_reset, sequence_in}
+use Rattle.ariadne_outputs.specs.Sequences.{Sequence, behind_charset, is_kept, is_reset, sequence_in}
 
 -- ---- pieces
 
@@ -27,9 +27,15 @@ sequence_piece colors sequence =
     else dropped_piece
     (27 ∷ 91 ∷ sequence.parameters ++ (if sequence.is_paint then codes "m" else codes "K"))
 
--- those of what stands behind an escape character, and of that
+-- those of what stands behind an escape character, and of that, where it begins with no sequence: `(B` is
+-- dropped with it
+abbrev pub pieces_beside : List ℕ → Option (List ℕ) → List Piece
+pieces_beside part None = text_piece (27 ∷ part) ∷ []
+pieces_beside part (Some behind) = dropped_piece (27 ∷ codes "(B") ∷ text_piece behind ∷ []
+
+-- and by the sequence that it begins with, if there is one
 abbrev pub pieces_with : Bool → List ℕ → Option Sequence → List Piece
-pieces_with colors part None = text_piece (27 ∷ part) ∷ []
+pieces_with colors part None = pieces_beside part (behind_charset part)
 pieces_with colors part (Some sequence) = sequence_piece colors sequence ∷ text_piece sequence.behind ∷ []
 
 abbrev pub pieces_behind : Bool → List ℕ → List Piece

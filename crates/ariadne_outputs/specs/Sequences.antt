@@ -1,6 +1,6 @@
 -- Sequences of a terminal, and which of them a line keeps: those that paint its letters, and hide
--- nothing behind them. Characters stand as their numbers: 48 is `0`, 58 `:`, 59 `;`, 75 `K`, 91 `[` and
--- 109 `m`.
+-- nothing behind them. Characters stand as their numbers: 40 is `(`, 48 `0`, 58 `:`, 59 `;`, 66 `B`, 75 `K`,
+-- 91 `[` and 109 `m`.
 use Rattle.std.specs.Prelude.{ℕ, ◌==◌, nat_lt, Bool, true, false, ◌&&◌, ◌||◌, if◌then◌else◌, List, []}
 use Rattle.std.specs.Prelude.{◌∷◌, take, drop, Option, Some, None, option_and_then}
 use Rattle.std.specs.Char.{is_ascii_digit}
@@ -39,6 +39,17 @@ sequence_in [] = None
 sequence_in (c ∷ text) =
     let n = prefix_len is_of_parameters text in
     if c == 91 then ended (take n text) (drop n text) else None
+
+-- ---- other escapes
+
+-- what stands behind a letter, if a text begins with it
+abbrev pub behind_letter : ℕ → List ℕ → Option (List ℕ)
+behind_letter letter [] = None
+behind_letter letter (c ∷ text) = if c == letter then Some text else None
+
+-- what stands behind `(B`, by which terminals like xterm choose their usual letters
+abbrev pub behind_charset : List ℕ → Option (List ℕ)
+behind_charset text = option_and_then (behind_letter 66) (behind_letter 40 text)
 
 -- ---- numbers
 

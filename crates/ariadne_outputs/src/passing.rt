@@ -3,11 +3,12 @@
 
 ghost use Rattle.std.specs.Prelude.{◌≡◌, ◌∷◌, ◌++◌, IfOk, OnOk, chars, codes, encode_utf8};
 ghost use Rattle.std.specs.Prelude.{encode_utf8_all, map, not, string_bytes};
+ghost use Rattle.std.specs.List.{flat_map};
 ghost use Rattle.ariadne_outputs.specs.Passing.{HasPassed, HavePassed, line_code, line_end, line_front};
-ghost use Rattle.ariadne_outputs.specs.Passing.{passed_line, passing_text};
-ghost use Rattle.ariadne_outputs.specs.Sequences.{is_reset};
+ghost use Rattle.ariadne_outputs.specs.Passing.{passed_line, passing_text, pieces_beside, shown_piece};
+ghost use Rattle.ariadne_outputs.specs.Sequences.{behind_charset as charset_behind, is_reset};
 
-use crate::sequence::{Sequence, first_sequence};
+use crate::sequence::{Sequence, behind_charset, first_sequence};
 use ariadne_visible::TextKind;
 use ariadne_visible::text::shown_char;
 use std::alloc::{AllocError, Global};
@@ -23,8 +24,8 @@ const RESET: &str = "\u{1b}[0m";
 /// Bytes that are no UTF-8 stand as U+FFFD, and each hidden character but a tab as its sign. Sequences
 /// `ESC [ PARAMETERS m` are kept where `colors` is, and their numbers only paint letters, so that they hide
 /// nothing: 0 to 4, 22 to 24, 30 to 37, 39, 90 to 97, `38;5;N` and `38;2;R;G;B`. The others are
-/// dropped, and so is gcc's `ESC [ DIGITS K`. Where letters are left painted a reset stands in front of
-/// the end. On `Err` there was no memory.
+/// dropped, and so are gcc's `ESC [ DIGITS K` and xterm's `ESC ( B`. Where letters are left painted a reset
+/// stands in front of the end. On `Err` there was no memory.
 pub fn passing_line(alloc: Global, line: &[u8], colors: bool) -> Result<String, AllocError>
     ensures { IfOk result (λ shown. string_bytes shown ≡ passed_line colors line.now) }
 {
@@ -96,9 +97,24 @@ fn push_part(
             Ok(is_painted)
         }
         None => {
-            push_char(shown, ESCAPE)?;
-            push_visible(shown, part)?;
+            push_other(shown, part)?;
             Ok(is_painted)
+        }
+    }
+}
+
+/// Adds what stands for an escape character and the part behind it, which begins with no sequence: for the
+/// escape with `(B` nothing does.
+fn push_other(shown: &mut String, part: &str) -> Result<(), AllocError>
+    ensures { OnOk result (string_bytes shown.new ≡ string_bytes shown.old
+        ++ encode_utf8_all (flat_map shown_piece
+        (pieces_beside (chars part.now) (charset_behind (chars part.now))))) }
+{
+    match behind_charset(part) {
+        Some(behind) => push_visible(shown, behind),
+        None => {
+            push_char(shown, ESCAPE)?;
+            push_visible(shown, part)
         }
     }
 }

@@ -1,10 +1,11 @@
 //! Sequences of a terminal, and which of them a line keeps: those that paint its letters, and hide
 //! nothing behind them.
 
-ghost use Rattle.std.specs.Prelude.{◌≡◌, Some, option_and_then, option_map};
+ghost use Rattle.std.specs.Prelude.{◌≡◌, ◌<◌, Some, option_and_then, option_map};
 ghost use Rattle.std.specs.Char.{is_ascii_digit as is_digit};
 ghost use Rattle.std.specs.List.{list_all, prefix_len};
 ghost use Rattle.ariadne_outputs.specs.Sequences.{are_kept as are_all_kept, awaited_behind};
+ghost use Rattle.ariadne_outputs.specs.Sequences.{behind_charset as charset_behind, behind_letter as letter_behind};
 ghost use Rattle.ariadne_outputs.specs.Sequences.{ended as ended_by, is_attribute as is_kept_attribute};
 ghost use Rattle.ariadne_outputs.specs.Sequences.{is_kept as keeps, is_of_parameters as is_one_of_them};
 ghost use Rattle.ariadne_outputs.specs.Sequences.{is_reset as resets, is_whole as leaves_none_open};
@@ -72,6 +73,22 @@ fn ended<'a>(parameters: &'a str, text: &'a str) -> Option<Sequence<'a>>
         is_paint: false,
         behind,
     })
+}
+
+/// What stands behind `(B`, by which terminals like xterm choose their usual letters, if a text begins with
+/// that.
+pub(crate) fn behind_charset(text: &str) -> Option<&str>
+    ensures { option_map (λ rest. rest.now) result ≡ charset_behind text.now }
+{
+    behind_letter(behind_letter(text, '(')?, 'B')
+}
+
+/// What stands behind a letter, if a text begins with it.
+fn behind_letter(text: &str, letter: char) -> Option<&str>
+    requires { letter < 128 }
+    ensures { option_map (λ rest. rest.now) result ≡ letter_behind letter text.now }
+{
+    text.strip_prefix(letter)
 }
 
 /// How many characters of parameters bytes begin with.

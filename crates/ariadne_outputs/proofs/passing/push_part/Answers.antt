@@ -29,8 +29,7 @@ returns-in_ok-push_visible-in-Some-2 c =
     (string_bytes c.args.shown.now) (string_bytes c.push_visible.new.shown) dropped c.in_ok-push_visible-in-Some-2.ensures
 
 -- none
-pub returns-in_ok-push_visible-in-None : goal.returns-in_ok-push_visible-in-None
-returns-in_ok-push_visible-in-None c =
+pub returns-in_ok-push_other-in-None : goal.returns-in_ok-push_other-in-None
+returns-in_ok-push_other-in-None c =
     none_passed c.args.colors c.args.part.now c.args.is_painted (string_bytes c.args.shown.now)
-    (string_bytes c.push_char.new.shown) (string_bytes c.push_visible-in-None.new.shown) c.utf8.part (sym c.in-None.ensures)
-    c.in_ok-push_char-in-None.ensures c.in_ok-push_visible-in-None.ensures
+    (string_bytes c.push_other.new.shown) c.utf8.part (sym c.in-None.ensures) c.in_ok-push_other-in-None.ensures
