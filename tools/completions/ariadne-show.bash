@@ -11,10 +11,11 @@ _ariadne_show() {
         --severity) words='error warning note' ;;
         --color) words='auto always never' ;;
         --fail-on) words='error warning never' ;;
+        --width) words='auto full' ;;
         --base) COMPREPLY=($(compgen -d -- "$word")); return ;;
         --max|--context) return ;;
         *)
-            words='--format --columns --base --output --severity --max --context --raw --color --ascii --compact
+            words='--format --columns --base --output --severity --max --context --width --raw --color --ascii --compact
                 --short --fail-on --help --version'
             [[ $word = -* ]] || { COMPREPLY=($(compgen -f -- "$word")); return; }
             ;;

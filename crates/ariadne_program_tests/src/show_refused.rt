@@ -17,8 +17,8 @@ const NO_MEMORY: &[u8] = b"ariadne-show: no memory\n";
 
 /// What tools print, with a `@` for the folder of its files: JSON of cargo's about a file that is gone,
 /// with half of a pair that stands alone; a line of make's; a report with a name of its own; gcc's text with
-/// lines in front, a snippet and notes; rustc's text, with a place that isn't here; a line that its file
-/// lacks; mypy's text; and a line that passes.
+/// lines in front, a snippet and notes; rustc's text, with a message of two rows and a place that isn't
+/// here; a line that its file lacks; mypy's text; and a line that passes.
 ///
 /// The longest line stands first. Where there is no memory for a line, a diagnostic that is held is shown
 /// as it was read, as in front of a line that can't be read: that is no beginning of the whole.
@@ -39,6 +39,7 @@ b.c:1:5: note: n
       |     ^
 b.c:9:1: note: o
 error[E1]: m
+           o
  --> a.c:1:5
   |
 1 | let x = y;
@@ -67,6 +68,7 @@ let x = y;
 /// Words, with a `@` for the folder, by which all that is written of a diagnostic is written.
 const WORDS: &[&[&str]] = &[
     &["--ascii"],
+    &["--ascii", "--width", "22"],
     &["--base", "@", "--max", "3"],
     &["--output", "short"],
     &["--output", "github"],
@@ -176,7 +178,13 @@ const READ: &[(&[&str], &str)] = &[
          tip: to pass '--odd' as a value, use '-- --odd'\n\n\
          Usage: ariadne-show [OPTIONS] [FILE]...\n\nFor more information, try '--help'.\n",
     ),
-    (&["--base", "b", "--max", "4", "a", "-"], ""),
+    (
+        &["--width", "odd"],
+        "ariadne-show: invalid value 'odd' for '--width <N>'\n  \
+         [possible values: auto, full, and numbers of columns]\n\n\
+         For more information, try '--help'.\n",
+    ),
+    (&["--base", "b", "--max", "4", "--width", "9", "a", "-"], ""),
 ];
 
 /// What is told of these words, with this request refused.

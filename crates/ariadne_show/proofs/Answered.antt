@@ -10,7 +10,7 @@ use Rattle.ariadne_told.specs.declared.sent.Sent.{Sent}
 use Rattle.ariadne_told.specs.declared.telling.Answer.{Answer}
 use Rattle.ariadne_told.specs.declared.telling.Answer.TheVariants as answer
 use Rattle.ariadne_show.specs.Finding.{is_first_held, IsOpened}
-use Rattle.ariadne_show.specs.Fronts.{IsRoleOf}
+use Rattle.ariadne_show.specs.Fronts.{added_row, bytes_in, IsRoleOf}
 use Rattle.ariadne_show.specs.Known.{is_waited_for, IsAboutNone, IsGivenOut, IsMoreInFront, IsNoMore}
 use Rattle.ariadne_show.specs.Known.{IsNoRowInFront, IsPlacedBy, MayNotGoOn, PlacesNone, Waits, WaitsNot}
 use Rattle.ariadne_show.specs.Lines.{IsLineOf}
@@ -18,9 +18,9 @@ use Rattle.ariadne_show.specs.Shown.{dropped, head as told_head, note as told_no
 use Rattle.ariadne_show.specs.Shown.{IsLineShown}
 use Rattle.ariadne_show.specs.Shown.{At, IsAnswered, IsBegunBehind, IsFinished, IsFollowed, IsHeadShown}
 use Rattle.ariadne_show.specs.Shown.{IsLinePassed, IsNoteAddedTo, IsNoteShown, IsOtherShown, IsPlacedShown, IsReadShown}
-use Rattle.ariadne_show.specs.Shown.{IsTextShown, began, began_placed, both_passed, goes_on, head_passed, names_place}
+use Rattle.ariadne_show.specs.Shown.{IsTextShown, all_passed, began, began_placed, goes_on, head_passed, names_place}
 use Rattle.ariadne_show.specs.Shown.{no_row, note_added, note_began, note_passed, other, passed, tally, waits_in_front}
-use Rattle.ariadne_show.specs.Writing.{HasPassed, Out}
+use Rattle.ariadne_show.specs.Writing.{HasPassed, HavePassed, Out}
 use Rattle.ariadne_show.specs.Tallies.{is_tally_behind}
 use Rattle.ariadne_show.specs.declared.finder.Finder.{Finder}
 use Rattle.ariadne_show.specs.declared.front.PlacedHead.{PlacedHead}
@@ -57,20 +57,18 @@ placed_began_if (Ok x) options line head opened known finder a last held files i
     began_placed opened finder files (sym is ∙ so) it
 placed_began_if (Err e) options line head opened known finder a last held files is so it = tt
 
-pub both_passed_if : {T E : Type 0} (r : Result T E) (options : Options) (line : Line) (head : PlacedHead) (opened : Diagnostic)
-    (known : Known) (finder : Finder) (a : Out) (between last : Known) (b c : Out) (held : Bool) (bytes : List ℕ)
+pub all_passed_if : {T E : Type 0} (r : Result T E) (options : Options) (line : Line) (head : PlacedHead) (opened : Diagnostic)
+    (known : Known) (finder : Finder) (a : Out) (finished between last : Known) (b c d : Out) (held : Bool) (lines : List (Vec ℕ Global))
     → IsOpened head.told opened known.finder finder
-    → held ≡ is_first_held finder opened → held ≡ false → bytes ≡ head.bytes.items
-    → IsLinePassed options bytes (record { known = record known { finder = finder }; out = a })
-    (record { known = between; out = b })
-    → last ≡ between → OnOk r (HasPassed options line.bytes.now b c)
-    → OnOk r (IsPlacedShown options line head (record { known = known; out = a }) (record { known = last; out = c }))
-both_passed_if (Ok x) options line head opened known finder a between last b c held bytes files is not_so same first kept second =
-    both_passed opened finder (record { known = between; out = b }) files (sym is ∙ not_so)
-    (subst (λ (l : List ℕ). IsLinePassed options l (record { known = record known { finder = finder }; out = a })
-    (record { known = between; out = b })) same first)
-    second kept
-both_passed_if (Err e) options line head opened known finder a between last b c held bytes files is not_so same first kept second =
+    → held ≡ is_first_held finder opened → held ≡ false → lines ≡ head.lines.items
+    → IsFinished options (record { known = record known { finder = finder }; out = a }) (record { known = finished; out = b })
+    → between ≡ finished → HavePassed options (bytes_in lines) b c
+    → last ≡ between → OnOk r (HasPassed options line.bytes.now c d)
+    → OnOk r (IsPlacedShown options line head (record { known = known; out = a }) (record { known = last; out = d }))
+all_passed_if (Ok x) options line head opened known finder a finished between last b c d held lines files is not_so same before kept first kept_too second =
+    all_passed opened finder (record { known = finished; out = b }) c files (sym is ∙ not_so) before
+    (subst (λ (l : List (Vec ℕ Global)). HavePassed options (bytes_in l) b c) same first) second (kept_too ∙ kept)
+all_passed_if (Err e) options line head opened known finder a finished between last b c d held lines files is not_so same before kept first kept_too second =
     tt
 
 -- ---- notes
@@ -142,6 +140,7 @@ waited options line first placed last a none waits =
 pub not_waited : (options : Options) (line : Line) (first placed waiting : Known) → PlacesNone line.text.now first placed
     → WaitsNot line placed waiting → WaitsNot line first first
 not_waited options line first placed waiting none not = record {
+  adds_none = subst (λ (k : Known). added_row k.front.items line.text.now ≡ None) none.same not.adds_none;
   role = subst (λ (k : Known). IsRoleOf (is_waited_for k) line.text.now None) none.same not.role;
   same = refl;
 }

@@ -1,12 +1,12 @@
 -- What the words of the command line come to: the steps from `clap`'s clauses to those of `words`.
 use Rattle.std.proofs.Common.{◌≡◌, ◌∙◌, ◌&&◌, ◌==◌, ap, ap₂, refl, sym, Bool, true, false, not, is_some, ℕ, List, [], ◌∷◌, length, map, option_map, Option, Some, None, unwrap_or, Result, Ok, Err, IfOk, inl, inr}
-use Rattle.std.proofs.Common.{arith}
+use Rattle.std.proofs.Common.{arith, codes}
 use Rattle.std.proofs.lemmas.Bool.{eqb-true}
 use Rattle.std.specs.Str.Parse.{ParsesUnsigned}
 use Rattle.std.specs.Borrow.{Bor}
 use Rattle.clap.specs.Simple.{app_of_fields}
 use Rattle.clap.specs.Words.{AddsArg, App, FailsBy, HasMatchesOf, Rule, app_of, fault_of, is_simple, is_simple_and_free}
-use Rattle.clap.specs.Words.{ReadsOne, matches_of, new_app, rule_of, with_rule}
+use Rattle.clap.specs.Words.{ReadsOne, found_of, matches_of, new_app, rows_of, rule_of, with_rule}
 use Rattle.clap.specs.declared.Error.{Error}
 use Rattle.clap.specs.declared.ArgMatches.{ArgMatches}
 use Rattle.clap.proofs.OnLiterals.{clap_on_literals}
@@ -16,7 +16,11 @@ use Rattle.clap.specs.declared.builder.arg.Arg.{Arg}
 use Rattle.clap.specs.declared.builder.command.Command.{Command}
 use Rattle.clap.specs.declared.builder.value_parser.ValueParser.{ValueParser}
 use Rattle.ariadne_show.specs.Words.{AreNames, IsParsedBy, Names, bare_command, command}
-use Rattle.ariadne_show.specs.Asked.{IsNumber, IsNumberIn, input_path}
+use Rattle.ariadne_show.specs.Asked.{IsNumber, IsNumberIn, IsRefusedFor, IsWidthIn, input_path, value}
+use Rattle.ariadne_show.specs.Faults.{TellsWords}
+use Rattle.ariadne_show.specs.declared.fault.Fault.{Fault}
+use Rattle.ariadne_show.specs.declared.fault.Fault.TheVariants.{NoText, Words, Unread, UnreadFile}
+use Rattle.ariadne_show.specs.declared.fault.Fault.TheVariants.{Writer, BrokenPipe, Memory}
 use Rattle.ariadne_show.specs.Words.{option_rule, texts_in, typed_rule}
 use Rattle.ariadne_show.specs.Asked.{path_named, paths_named}
 use Rattle.ariadne_show.specs.declared.options.Input.{Input}
@@ -90,6 +94,19 @@ parsed names are app is words (Err e) matches kinds = elim (kinds (ap is_simple_
   | inl memory ↦ inl memory
   | inr among ↦ inr (names, are, rw is at among)
 ]
+
+-- words whose width is none are refused for that
+pub wrong_width : (words : List (List ℕ)) (m : ArgMatches) (fault : Fault) → IsParsedBy words (Ok m)
+    → IsWidthIn (value (rows_of (found_of m)) (codes "width")) None → TellsWords fault → IsRefusedFor words fault
+wrong_width words m (Words text) parsed none tells =
+    let rows = parsed.2 in
+    ((parsed.0, parsed.1, inr (rw rows.1 at none)), tells)
+wrong_width words m NoText parsed none tells = absurd tells
+wrong_width words m Unread parsed none tells = absurd tells
+wrong_width words m (UnreadFile path reason) parsed none tells = absurd tells
+wrong_width words m Writer parsed none tells = absurd tells
+wrong_width words m BrokenPipe parsed none tells = absurd tells
+wrong_width words m (Memory refused) parsed none tells = absurd tells
 
 -- ---- numbers
 

@@ -5,9 +5,10 @@ use Rattle.std.specs.declared.alloc.Global.{Global}
 use Rattle.ariadne_blocks.specs.declared.block.Block.{Block}
 use Rattle.ariadne_told.specs.declared.diagnostic.Place.{Place}
 use Rattle.ariadne_show.specs.Finding.{is_held, IsPlaceSettled}
+use Rattle.ariadne_show.specs.Fronts.{bytes_in}
 use Rattle.ariadne_show.specs.Shown.{giving, tells_place, At, AreGiven, Giving, HasLineGone}
 use Rattle.ariadne_show.specs.Shown.{IsFrontGiven, IsPlaceGone, passed_placeless, passed_unread, told_place}
-use Rattle.ariadne_show.specs.Writing.{HasPassed, Out}
+use Rattle.ariadne_show.specs.Writing.{HavePassed, Out}
 use Rattle.ariadne_show.specs.declared.finder.Finder.{Finder}
 use Rattle.ariadne_show.specs.declared.front.Role.TheVariants as role
 use Rattle.ariadne_show.specs.declared.front.WaitingLine.{WaitingLine}
@@ -17,34 +18,34 @@ use Rattle.ariadne_show.specs.declared.options.Options.{Options}
 -- ---- one line
 
 -- its place is in a file that can't be read, and it passed, after Ok
-pub unread_if : {T E : Type 0} (r : Result T E) (options : Options) (bytes : List ℕ) (place settled : Place)
+pub unread_if : {T E : Type 0} (r : Result T E) (options : Options) (lines : List (List ℕ)) (place settled : Place)
     (finder after last : Finder) (block : Block) (a b : Out) → IsPlaceSettled place settled finder after
-    → is_held after settled ≡ false → last ≡ after → OnOk r (HasPassed options bytes a b)
-    → OnOk r (IsPlaceGone options bytes place (record { finder = finder; block = block; out = a })
+    → is_held after settled ≡ false → last ≡ after → OnOk r (HavePassed options lines a b)
+    → OnOk r (IsPlaceGone options lines place (record { finder = finder; block = block; out = a })
     (record { finder = last; block = block; out = b }))
-unread_if (Ok x) options bytes place settled finder after last block a b looked none kept passed =
-    subst (λ (f : Finder). IsPlaceGone options bytes place (record { finder = finder; block = block; out = a })
+unread_if (Ok x) options lines place settled finder after last block a b looked none kept passed =
+    subst (λ (f : Finder). IsPlaceGone options lines place (record { finder = finder; block = block; out = a })
     (record { finder = f; block = block; out = b }))
     (sym kept) (passed_unread settled looked none passed refl)
-unread_if (Err e) options bytes place settled finder after last block a b looked none kept passed = tt
+unread_if (Err e) options lines place settled finder after last block a b looked none kept passed = tt
 
 -- its place went
-pub told_if : {T E : Type 0} (r : Result T E) (options : Options) (line : WaitingLine) (bytes : List ℕ) (place : Place)
-    (first last : Giving) → line.role ≡ role.Place place → bytes ≡ line.bytes.items
-    → OnOk r (IsPlaceGone options bytes place first last) → OnOk r (HasLineGone options line first last)
-told_if (Ok x) options line bytes place first last told same gone =
-    told_place place told (subst (λ (l : List ℕ). IsPlaceGone options l place first last) same gone)
-told_if (Err e) options line bytes place first last told same gone = tt
+pub told_if : {T E : Type 0} (r : Result T E) (options : Options) (line : WaitingLine) (lines : List (Vec ℕ Global)) (place : Place)
+    (first last : Giving) → line.role ≡ role.Place place → lines ≡ line.lines.items
+    → OnOk r (IsPlaceGone options (bytes_in lines) place first last) → OnOk r (HasLineGone options line first last)
+told_if (Ok x) options line lines place first last told same gone =
+    told_place place told (subst (λ (l : List (Vec ℕ Global)). IsPlaceGone options (bytes_in l) place first last) same gone)
+told_if (Err e) options line lines place first last told same gone = tt
 
 -- it tells no place, and passed
-pub placeless_if : {T E : Type 0} (r : Result T E) (options : Options) (line : WaitingLine) (bytes : List ℕ)
-    (finder : Finder) (block : Block) (a b : Out) → tells_place line.role ≡ false → bytes ≡ line.bytes.items
-    → OnOk r (HasPassed options bytes a b)
+pub placeless_if : {T E : Type 0} (r : Result T E) (options : Options) (line : WaitingLine) (lines : List (Vec ℕ Global))
+    (finder : Finder) (block : Block) (a b : Out) → tells_place line.role ≡ false → lines ≡ line.lines.items
+    → OnOk r (HavePassed options (bytes_in lines) a b)
     → OnOk r (HasLineGone options line (record { finder = finder; block = block; out = a })
     (record { finder = finder; block = block; out = b }))
-placeless_if (Ok x) options line bytes finder block a b told same passed =
-    passed_placeless told (subst (λ (l : List ℕ). HasPassed options l a b) same passed) refl refl
-placeless_if (Err e) options line bytes finder block a b told same passed = tt
+placeless_if (Ok x) options line lines finder block a b told same passed =
+    passed_placeless told (subst (λ (l : List (Vec ℕ Global)). HavePassed options (bytes_in l) a b) same passed) refl refl
+placeless_if (Err e) options line lines finder block a b told same passed = tt
 
 -- ---- all of them
 

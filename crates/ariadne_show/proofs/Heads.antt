@@ -79,17 +79,17 @@ about_more style told text r labels notes helps about = record {
 pub report_about : (style : Style) (files : Files) (told : Diagnostic) (main : Found) (ordered : List Found)
     (r s : ReportFields (ℕ × Range ℕ)) (under sources : List SafeSource) → IsAbout style told (string_bytes told.message) r → IsBare r
     → r.span ≡ shown_header r.config.index_type under main → AreOrdered files main.number told.places.items ordered
-    → s ≡ with_helps (helps_of told) (with_notes (notes_of files told)
+    → s ≡ with_helps (helps_of style.width told) (with_notes (notes_of style.width files told)
     (with_labels (labels_of r.config.index_type under told.severity style.is_compact ordered) r))
     → sources ≡ under → IsReportOf style files told main sources s
 report_about style files told main ordered r s under sources about bare span places is same = rw (is, same) (record {
-  about = about_more style told (string_bytes told.message) r (labels_of r.config.index_type under told.severity style.is_compact ordered) (notes_of files told) (helps_of told) about;
+  about = about_more style told (string_bytes told.message) r (labels_of r.config.index_type under told.severity style.is_compact ordered) (notes_of style.width files told) (helps_of style.width told) about;
   span = span;
   ordered = ordered;
   places = places;
   labels = ap (λ l. l ++ labels_of r.config.index_type under told.severity style.is_compact ordered) bare.labels;
-  notes = ap (λ l. l ++ notes_of files told) bare.notes;
-  helps = ap (λ l. l ++ helps_of told) bare.helps;
+  notes = ap (λ l. l ++ notes_of style.width files told) bare.notes;
+  helps = ap (λ l. l ++ helps_of style.width told) bare.helps;
 })
 
 -- a header that ends at the end of a place

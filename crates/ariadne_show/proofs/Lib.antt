@@ -4,6 +4,7 @@ pub mod Ended
 pub mod Final
 pub mod Given
 pub mod Heads
+pub mod InRows
 pub mod Locating
 pub mod Notes
 pub mod Ordered
@@ -14,5 +15,6 @@ pub mod Said
 pub mod Searching
 pub mod Settled
 pub mod Answered
+pub mod Blanks
 pub mod Waiting
 pub mod Worked

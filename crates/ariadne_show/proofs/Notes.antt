@@ -10,8 +10,9 @@ use Rattle.ariadne.specs.Report.{ReportFields}
 use Rattle.ariadne_visible.specs.Visible.{visible_bytes}
 use Rattle.ariadne_visible.specs.declared.text.TextKind.TheVariants.{Aside}
 use Rattle.ariadne_told.specs.declared.diagnostic.Place.{Place}
-use Rattle.ariadne_show.specs.Asides.{aside_notes, missing, missing_notes, spot_text, with_helps, with_notes}
+use Rattle.ariadne_show.specs.Asides.{aside_notes, aside_text, missing, missing_notes, spot_text, with_helps, with_notes}
 use Rattle.ariadne_show.specs.Found.{Files, is_found}
+use Rattle.ariadne_show.specs.Wrapped.{wrapped}
 
 -- no note more
 pub no_notes : (r : ReportFields (ℕ × Range ℕ)) → r ≡ with_notes [] r
@@ -34,31 +35,32 @@ helps_more r0 r s xs ys is more =
     ∙ ap (λ (l : List (List ℕ)). record r0 { helps = l }) (append_assoc r0.helps xs ys)
 
 -- those of texts, and that of one more
-pub texts_more : (xs all : List (String Global)) (x : String Global) (text : List ℕ) → text ≡ string_bytes x
-    → all ≡ xs ++ x ∷ [] → aside_notes xs ++ visible_bytes Aside text ∷ [] ≡ aside_notes all
-texts_more xs all x text same more =
-    ap (λ t. aside_notes xs ++ visible_bytes Aside t ∷ []) same
-    ∙ sym (map-append (λ (t : String Global). visible_bytes Aside (string_bytes t)) xs (x ∷ []))
-    ∙ ap aside_notes (sym more)
+pub texts_more : (n : ℕ) (xs all : List (String Global)) (x : String Global) (text : List ℕ)
+    → text ≡ wrapped n (string_bytes x) → all ≡ xs ++ x ∷ []
+    → aside_notes n xs ++ visible_bytes Aside text ∷ [] ≡ aside_notes n all
+texts_more n xs all x text same more =
+    ap (λ t. aside_notes n xs ++ visible_bytes Aside t ∷ []) same
+    ∙ sym (map-append (λ (t : String Global). aside_text n (string_bytes t)) xs (x ∷ []))
+    ∙ ap (aside_notes n) (sym more)
 
 -- ---- the places that can't be drawn
 
-note_of : Place → List ℕ
-note_of place = visible_bytes Aside (spot_text place (string_bytes place.text))
+note_of : ℕ → Place → List ℕ
+note_of n place = aside_text n (spot_text place (string_bytes place.text))
 
-pub missing_more : (files : Files) (xs all : List Place) (x : Place) → all ≡ xs ++ x ∷ []
-    → missing_notes files xs ++ missing_notes files (x ∷ []) ≡ missing_notes files all
+pub missing_more : (n : ℕ) (files : Files) (xs all : List Place) (x : Place) → all ≡ xs ++ x ∷ []
+    → missing_notes n files xs ++ missing_notes n files (x ∷ []) ≡ missing_notes n files all
 unfolding note_of
-missing_more files xs all x more =
-    sym (map-append note_of (missing files xs) (missing files (x ∷ [])))
-    ∙ ap (map note_of) (sym (filter-append (λ (place : Place). not (is_found files place)) xs (x ∷ [])))
-    ∙ ap (missing_notes files) (sym more)
+missing_more n files xs all x more =
+    sym (map-append (note_of n) (missing files xs) (missing files (x ∷ [])))
+    ∙ ap (map (note_of n)) (sym (filter-append (λ (place : Place). not (is_found files place)) xs (x ∷ [])))
+    ∙ ap (missing_notes n files) (sym more)
 
-pub not_missing : (files : Files) (x : Place) → is_found files x ≡ true → missing_notes files (x ∷ []) ≡ []
+pub not_missing : (n : ℕ) (files : Files) (x : Place) → is_found files x ≡ true → missing_notes n files (x ∷ []) ≡ []
 unfolding note_of
-not_missing files x found = ap (λ (b : Bool). map note_of (cond (not b) (x ∷ []) [])) found
+not_missing n files x found = ap (λ (b : Bool). map (note_of n) (cond (not b) (x ∷ []) [])) found
 
-pub one_missing : (files : Files) (x : Place) → is_found files x ≡ false
-    → missing_notes files (x ∷ []) ≡ visible_bytes Aside (spot_text x (string_bytes x.text)) ∷ []
+pub one_missing : (n : ℕ) (files : Files) (x : Place) → is_found files x ≡ false
+    → missing_notes n files (x ∷ []) ≡ aside_text n (spot_text x (string_bytes x.text)) ∷ []
 unfolding note_of
-one_missing files x found = ap (λ (b : Bool). map note_of (cond (not b) (x ∷ []) [])) found
+one_missing n files x found = ap (λ (b : Bool). map (note_of n) (cond (not b) (x ∷ []) [])) found

@@ -1,17 +1,19 @@
 -- Lines that have passed, and diagnostics that were written.
-use Rattle.std.proofs.Common.{◌≡◌, ◌∙◌, ◌+◌, ◌++◌, ◌∷◌, [], ℕ, List, Option, ap, subst, sym, take, refl}
-use Rattle.std.specs.Prelude.{true, false, Result, Ok, Err, OnOk}
+use Rattle.std.proofs.Common.{◌≡◌, ◌∙◌, ◌+◌, ◌++◌, ◌∷◌, [], ℕ, List, Option, ap, append-nil, append_assoc, subst, sym, take, refl}
+use Rattle.std.specs.Prelude.{true, false, Result, Ok, Err, OnOk, Vec}
+use Rattle.std.specs.declared.alloc.Global.{Global}
 use Rattle.std.specs.Io.KnownBytes.{Appends}
+use Rattle.std.proofs.lemmas.Grind.{flat_map-append}
 use Rattle.std.proofs.lemmas.List.{map-append}
 use Rattle.ariadne_blocks.specs.declared.message.MessageLine.{MessageLine}
 use Rattle.ariadne_told.specs.declared.diagnostic.Diagnostic.{Diagnostic}
 use Rattle.ariadne_show.specs.Found.{files_of}
-use Rattle.ariadne_show.specs.Fronts.{bytes_of, passing_of}
+use Rattle.ariadne_show.specs.Fronts.{bytes_in, bytes_of, lines_of, passing_of}
 use Rattle.ariadne_show.specs.Limits.{drawn_after, is_drawn, limits_of}
 use Rattle.ariadne_show.specs.Read.{sources_in}
 use Rattle.ariadne_show.specs.Sums.{counted}
 use Rattle.ariadne_show.specs.Writing.{behind_line, is_document, out_of, passing_bytes, HasPassed, HavePassed}
-use Rattle.ariadne_show.specs.Writing.{IsShownOnce, IsWritten, beside_it, counted_alone, counted_and_written, one_passed_more}
+use Rattle.ariadne_show.specs.Writing.{IsShownOnce, IsWritten, beside_it, counted_alone, counted_and_written, none_passed, one_passed_more}
 use Rattle.ariadne_show.specs.Writing.{to_output, Out}
 use Rattle.ariadne_show.specs.declared.front.WaitingLine.{WaitingLine}
 use Rattle.ariadne_show.specs.declared.limits.DrawnCount.{DrawnCount}
@@ -48,15 +50,36 @@ passed_beside_if (Err e) options line bytes shown o b c document same got = tt
 
 -- ---- lines, one behind the other
 
--- one more of those that wait
-pub waiting_more : (options : Options) (all : List WaitingLine) (i : ℕ) (line : WaitingLine) (bytes : List ℕ) (a b c : Out)
-    → take (i + 1) all ≡ take i all ++ line ∷ [] → bytes ≡ line.bytes.items
-    → HavePassed options (passing_of (take i all)) a b → HasPassed options bytes b c
+-- those behind others
+have_behind : (options : Options) (front : List (List ℕ)) (a : Out) (lines : List (List ℕ)) (b c : Out)
+    → HavePassed options lines b c → HavePassed options front a b → HavePassed options (front ++ lines) a c
+have_behind options front a lines b c (none_passed {a = x}) first =
+    subst (λ (l : List (List ℕ)). HavePassed options l a x) (sym (append-nil front)) first
+have_behind options front a lines b c (one_passed_more {lines = so} {a = x} {b = y} {c = z} so_far line now) first =
+    subst (λ (l : List (List ℕ)). HavePassed options l a z) (append_assoc front so (line ∷ []))
+    (one_passed_more (have_behind options front a so x y so_far first) line now)
+
+-- those of one more that waits
+pub waiting_more : (options : Options) (all : List WaitingLine) (i : ℕ) (line : WaitingLine) (lines : List (Vec ℕ Global)) (a b c : Out)
+    → take (i + 1) all ≡ take i all ++ line ∷ [] → lines ≡ line.lines.items
+    → HavePassed options (passing_of (take i all)) a b → HavePassed options (bytes_in lines) b c
     → HavePassed options (passing_of (take (i + 1) all)) a c
-waiting_more options all i line bytes a b c more same so_far now =
+waiting_more options all i line lines a b c more same so_far now =
+    subst (λ (l : List (List ℕ)). HavePassed options l a c)
+    (sym (ap passing_of more ∙ flat_map-append lines_of (take i all) (line ∷ [])
+    ∙ ap (λ l. passing_of (take i all) ++ l) (append-nil (lines_of line))))
+    (have_behind options (passing_of (take i all)) a (lines_of line) b c
+    (subst (λ (l : List (Vec ℕ Global)). HavePassed options (bytes_in l) b c) same now) so_far)
+
+-- one more of lines
+pub lines_more : (options : Options) (all : List (Vec ℕ Global)) (i : ℕ) (line : Vec ℕ Global) (bytes : List ℕ) (a b c : Out)
+    → take (i + 1) all ≡ take i all ++ line ∷ [] → bytes ≡ line.items
+    → HavePassed options (bytes_in (take i all)) a b → HasPassed options bytes b c
+    → HavePassed options (bytes_in (take (i + 1) all)) a c
+lines_more options all i line bytes a b c more same so_far now =
     subst (λ (lines : List (List ℕ)). HavePassed options lines a c)
-    (sym (ap passing_of more ∙ map-append (λ (w : WaitingLine). w.bytes.items) (take i all) (line ∷ [])))
-    (one_passed_more so_far line.bytes.items (subst (λ (l : List ℕ). HasPassed options l b c) same now))
+    (sym (ap bytes_in more ∙ map-append (λ (w : Vec ℕ Global). w.items) (take i all) (line ∷ [])))
+    (one_passed_more so_far line.items (subst (λ (l : List ℕ). HasPassed options l b c) same now))
 
 -- and of those that turned out to be none of a message
 pub behind_more : (options : Options) (all : List MessageLine) (i : ℕ) (line : MessageLine) (bytes : List ℕ) (a b c : Out)

@@ -1,5 +1,5 @@
 -- What the words of the command line ask for, by the entries that `clap` finds in them.
-use Rattle.std.specs.Prelude.{◌≡◌, ◌≢◌, ℕ, ◌<◌, ◌^◌, Bool, false, List, [], ◌∷◌, map, codes}
+use Rattle.std.specs.Prelude.{◌≡◌, ◌≢◌, ◌⊎◌, ℕ, ◌<◌, ◌^◌, Bool, false, List, [], ◌∷◌, map, codes}
 use Rattle.std.specs.Prelude.{Option, Some, None, if◌then◌else◌, option_map, unwrap_or, ⊤}
 use Rattle.std.specs.Option.{option_map_or}
 use Rattle.std.specs.Str.{bytes_eq}
@@ -27,6 +27,8 @@ use Rattle.ariadne_show.specs.declared.options.Options.{Options}
 use Rattle.ariadne_show.specs.declared.options.Output.{Output}
 use Rattle.ariadne_show.specs.declared.options.Output.TheVariants as output
 use Rattle.ariadne_show.specs.declared.options.Style.{Style}
+use Rattle.ariadne_show.specs.declared.options.Width.{Width}
+use Rattle.ariadne_show.specs.declared.options.Width.TheVariants as width
 use Rattle.ariadne_show.specs.declared.pages.Page.TheVariants.{Help, Version}
 use Rattle.ariadne_show.specs.declared.words.Asked.{Asked}
 use Rattle.ariadne_show.specs.declared.words.Asked.TheVariants.{Show, Page}
@@ -96,15 +98,29 @@ IsNumberIn (Some text) number = IsNumber text number
 abbrev pub IsCountIn : Option (List ℕ) → ℕ → Type 0
 IsCountIn text count = (number : Option ℕ) × IsNumberIn text number × (count ≡ unwrap_or number 0)
 
+-- the width that a text says, if it says one: `auto`, `full`, or a number
+abbrev pub IsWidth : List ℕ → Option Width → Type 0
+IsWidth text (Some width.Auto) = text ≡ codes "auto"
+IsWidth text (Some width.Full) = text ≡ codes "full"
+IsWidth text (Some (width.Columns n)) = IsNumber text (Some n)
+IsWidth text None = (text ≢ codes "auto") × (text ≢ codes "full") × IsNumber text None
+
+-- the same, or `auto` where there is no text
+abbrev pub IsWidthIn : Option (List ℕ) → Option Width → Type 0
+IsWidthIn None asked = asked ≡ Some width.Auto
+IsWidthIn (Some text) asked = IsWidth text asked
+
 -- ---- what the entries ask for
 
--- the style with so many context lines: whether there are colours is not decided yet
+-- the style with so many context lines: whether there are colours is not decided yet, nor how wide lines
+-- are
 abbrev pub style_of : List Row → ℕ → Style
 style_of rows context_lines = record {
   is_colored = false;
   is_ascii = is_on rows (codes "ascii");
   is_compact = is_on rows (codes "compact");
   context_lines = context_lines;
+  width = 0;
 }
 
 pub record AreOptionsOf (rows : List Row) (options : Options) : Type 0 where
@@ -144,16 +160,19 @@ AreInputsOf rows inputs =
 abbrev pub IsAskedOf : Names → List (List ℕ) → Asked → Type 0
 IsAskedOf names words (Show options inputs) = (refusals names words ≡ [])
     × AreOptionsOf (entries names words) options × AreInputsOf (entries names words) inputs.items
+    × IsWidthIn (value (entries names words) (codes "width")) (Some options.width)
 IsAskedOf names words (Page Help) = IsAmong kind.DisplayHelp (refusals names words)
 IsAskedOf names words (Page Version) = IsAmong kind.DisplayVersion (refusals names words)
 
 abbrev pub IsAskedBy : List (List ℕ) → Asked → Type 0
 IsAskedBy words asked = ForNames (λ names. IsAskedOf names words asked)
 
--- something is wrong with words: what `clap` says of them is more than that they ask for a page
+-- something is wrong with words: what `clap` says of them is more than that they ask for a page, or
+-- their width is none
 abbrev pub AreWrong : List (List ℕ) → Type 0
-AreWrong words = ForNames (λ names. (what : ErrorKind) × IsAmong what (refusals names words)
+AreWrong words = ForNames (λ names. ((what : ErrorKind) × IsAmong what (refusals names words)
     × (what ≢ kind.DisplayHelp) × (what ≢ kind.DisplayVersion))
+    ⊎ IsWidthIn (value (entries names words) (codes "width")) None)
 
 -- why the words ask for nothing: they are wrong, which is told, or there was no memory
 abbrev pub IsRefusedFor : List (List ℕ) → Fault → Type 0

@@ -51,8 +51,8 @@ kind_for (Some own) severity =
 abbrev pub kind_of : Diagnostic → Kind
 kind_of told = kind_for told.own_kind told.severity
 
--- the default configuration, but for the colours, the strokes, the size and the context lines that are
--- asked for, and with underlines also where no label of a line has a message
+-- the default configuration, but for the colours, the strokes, the size, the context lines and the width
+-- that are asked for, and with underlines also where no label of a line has a message
 abbrev pub config_of : Style → ConfigFields
 config_of style = record default_config {
   color = style.is_colored;
@@ -60,6 +60,7 @@ config_of style = record default_config {
   compact = style.is_compact;
   lone_underlines = true;
   context_lines = style.context_lines;
+  width = style.width;
 }
 
 -- a report has the configuration that is asked for, the kind and the code of a diagnostic, and a text as
@@ -93,8 +94,8 @@ pub record IsReportOf (style : Style) (files : Files) (told : Diagnostic) (main 
   pub places : AreOrdered files main.number told.places.items ordered
   pub labels : report.labels
       ≡ labels_of report.config.index_type sources told.severity style.is_compact ordered
-  pub notes : report.notes ≡ notes_of files told
-  pub helps : report.helps ≡ helps_of told
+  pub notes : report.notes ≡ notes_of style.width files told
+  pub helps : report.helps ≡ helps_of style.width told
 
 -- ---- pictures
 

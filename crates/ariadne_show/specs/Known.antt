@@ -16,10 +16,11 @@ use Rattle.ariadne_told.specs.declared.diagnostic.Diagnostic.{Diagnostic}
 use Rattle.ariadne_told.specs.declared.diagnostic.Place.{Place}
 use Rattle.ariadne_told.specs.declared.diagnostic.Spot.{Spot}
 use Rattle.ariadne_show.specs.Finding.{file_at, is_held, IsNewFinder, IsPlaceSettled}
-use Rattle.ariadne_show.specs.Fronts.{ends_in_head, IsRoleOf}
+use Rattle.ariadne_show.specs.Fronts.{added_row, ends_in_head, lines_of, HasRow, IsRoleOf}
 use Rattle.ariadne_show.specs.declared.finder.Finder.{Finder}
 use Rattle.ariadne_show.specs.declared.front.PlacedHead.{PlacedHead}
 use Rattle.ariadne_show.specs.declared.front.Role.TheVariants as role
+use Rattle.ariadne_show.specs.declared.front.WaitingHead.{WaitingHead}
 use Rattle.ariadne_show.specs.declared.front.WaitingLine.{WaitingLine}
 use Rattle.ariadne_show.specs.declared.known.Known.{Known}
 
@@ -134,16 +135,38 @@ IsMoreTaken line first last false = IsNoMore line first last
 
 -- ---- lines that wait
 
--- a line waits behind those that do, since it may stand in front of a diagnostic
-pub record Waits (line : Line) (first last : Known) : Type 0 where
+-- the head that waits last has a row more
+pub record IsRowAdded (line row : List ℕ) (first last : Known) : Type 0 where
+  pub in_front : List WaitingLine
+  pub shorter : WaitingLine
+  pub longer : WaitingLine
+  pub had : first.front.items ≡ in_front ++ shorter ∷ []
+  pub has : last.front.items ≡ in_front ++ longer ∷ []
+  pub grown : HasRow line row shorter longer
+  pub known : last ≡ record first { front = last.front }
+
+-- a line waits with that head, as a further row of its message
+pub record WaitsWithHead (line : Line) (first last : Known) : Type 0 where
+  pub row : List ℕ
+  pub told : added_row first.front.items line.text.now ≡ Some row
+  pub added : IsRowAdded line.bytes.now row first last
+
+-- or behind those that do, since it may stand in front of a diagnostic
+pub record WaitsBehind (line : Line) (first last : Known) : Type 0 where
   pub waiting : WaitingLine
+  pub adds_none : added_row first.front.items line.text.now ≡ None
   pub role : IsRoleOf (is_waited_for first) line.text.now (Some waiting.role)
-  pub bytes : waiting.bytes.items ≡ line.bytes.now
+  pub bytes : lines_of waiting ≡ line.bytes.now ∷ []
   pub behind : last.front.items ≡ first.front.items ++ waiting ∷ []
   pub known : last ≡ record first { front = last.front }
 
--- or it may not
+pub data Waits (line : Line) (first last : Known) : Type 0 where
+  with_head : WaitsWithHead line first last → Waits line first last
+  behind_others : WaitsBehind line first last → Waits line first last
+
+-- or it may do neither
 pub record WaitsNot (line : Line) (first last : Known) : Type 0 where
+  pub adds_none : added_row first.front.items line.text.now ≡ None
   pub role : IsRoleOf (is_waited_for first) line.text.now None
   pub same : last ≡ first
 
@@ -153,13 +176,13 @@ IsWaiting line first last false = WaitsNot line first last
 
 -- a head that waited has the place that an arrow names
 pub record HasPlace (arrow : List ℕ × Spot × Bool) (waiting : WaitingLine) (head : PlacedHead) : Type 0 where
-  pub told : Diagnostic
+  pub waited : WaitingHead
   pub place : Place
-  pub is_head : waiting.role ≡ role.Head told
-  pub bytes : head.bytes ≡ waiting.bytes
+  pub is_head : waiting.role ≡ role.Head waited
+  pub lines : head.lines ≡ waiting.lines
   pub named : seen place ≡ place_of_arrow arrow
-  pub places : head.told.places.items ≡ told.places.items ++ place ∷ []
-  pub others : head.told ≡ record told { places = head.told.places }
+  pub places : head.told.places.items ≡ waited.told.places.items ++ place ∷ []
+  pub others : head.told ≡ record waited.told { places = head.told.places }
 
 abbrev pub IsPlacedNow : List ℕ × Spot × Bool → WaitingLine → Option PlacedHead → Type 0
 IsPlacedNow arrow waiting None = ⊥

@@ -20,5 +20,7 @@ pub mod Shown
 pub mod Streams
 pub mod Sums
 pub mod Tallies
+pub mod Widths
 pub mod Words
+pub mod Wrapped
 pub mod Writing

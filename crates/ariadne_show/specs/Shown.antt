@@ -24,7 +24,7 @@ use Rattle.ariadne_told.specs.declared.diagnostic.Place.{Place}
 use Rattle.ariadne_told.specs.declared.telling.Answer.{Answer}
 use Rattle.ariadne_told.specs.declared.telling.Answer.TheVariants as answer
 use Rattle.ariadne_show.specs.Finding.{caret_at, is_first_held, is_held, IsOpened, IsPlaceSettled}
-use Rattle.ariadne_show.specs.Fronts.{passing_of}
+use Rattle.ariadne_show.specs.Fronts.{bytes_in, lines_of, passing_of}
 use Rattle.ariadne_show.specs.Known.{is_note_of, AreMarksSettled, IsMoreInFront, IsNew, IsNoRowInFront, IsPlacedBy}
 use Rattle.ariadne_show.specs.Known.{IsRowInFront, MayNotGoOn, PlacesNone, Waits, WaitsNot}
 use Rattle.ariadne_show.specs.Limits.{more_text}
@@ -129,23 +129,23 @@ pub record Giving : Type 0 where
 -- a line tells no place
 abbrev pub tells_place : Role → Bool
 tells_place (role.Place place) = true
-tells_place (role.Head told) = false
+tells_place (role.Head head) = false
 tells_place role.Scope = false
 
 -- the place of a line goes to the diagnostic, if its file can be read; else the line passed
-pub data IsPlaceGone (options : Options) (bytes : List ℕ) (place : Place) (first last : Giving) : Type 0 where
+pub data IsPlaceGone (options : Options) (lines : List (List ℕ)) (place : Place) (first last : Giving) : Type 0 where
   gave_place : (settled : Place) → IsPlaceSettled place settled first.finder last.finder
       → is_held last.finder settled ≡ true → IsPlaceAdded settled first.block last.block
-      → last.out ≡ first.out → IsPlaceGone options bytes place first last
+      → last.out ≡ first.out → IsPlaceGone options lines place first last
   passed_unread : (settled : Place) → IsPlaceSettled place settled first.finder last.finder
-      → is_held last.finder settled ≡ false → HasPassed options bytes first.out last.out
-      → last.block ≡ first.block → IsPlaceGone options bytes place first last
+      → is_held last.finder settled ≡ false → HavePassed options lines first.out last.out
+      → last.block ≡ first.block → IsPlaceGone options lines place first last
 
 -- a line gave its place so, or tells none and passed
 pub data HasLineGone (options : Options) (line : WaitingLine) (first last : Giving) : Type 0 where
   told_place : (place : Place) → line.role ≡ role.Place place
-      → IsPlaceGone options line.bytes.items place first last → HasLineGone options line first last
-  passed_placeless : tells_place line.role ≡ false → HasPassed options line.bytes.items first.out last.out
+      → IsPlaceGone options (lines_of line) place first last → HasLineGone options line first last
+  passed_placeless : tells_place line.role ≡ false → HavePassed options (lines_of line) first.out last.out
       → last.finder ≡ first.finder → last.block ≡ first.block → HasLineGone options line first last
 
 -- so did all that waited, in their order
@@ -207,16 +207,17 @@ pub data IsHeadShown (options : Options) (line : Line) (told : Diagnostic) (firs
       → IsLinePassed options line.bytes.now (with_finder first finder) last
       → IsHeadShown options line told first last
 
--- so does one that waited, at the place that a line names; else both lines passed
+-- so does one that waited, at the place that a line names; else its lines passed, and that line
 pub data IsPlacedShown (options : Options) (line : Line) (head : PlacedHead) (first last : At) : Type 0 where
   began_placed : (opened : Diagnostic) (finder : Finder) → IsOpened head.told opened first.known.finder finder
       → is_first_held finder opened ≡ true
       → IsBegunBehind options line.text.now opened (with_finder first finder) last
       → IsPlacedShown options line head first last
-  both_passed : (opened : Diagnostic) (finder : Finder) (head_passed : At)
+  all_passed : (opened : Diagnostic) (finder : Finder) (finished : At) (head_passed : Out)
       → IsOpened head.told opened first.known.finder finder → is_first_held finder opened ≡ false
-      → IsLinePassed options head.bytes.items (with_finder first finder) head_passed
-      → HasPassed options line.bytes.now head_passed.out last.out → last.known ≡ head_passed.known
+      → IsFinished options (with_finder first finder) finished
+      → HavePassed options (bytes_in head.lines.items) finished.out head_passed
+      → HasPassed options line.bytes.now head_passed last.out → last.known ≡ finished.known
       → IsPlacedShown options line head first last
 
 -- a note was given to the diagnostic in front that it is about, or began one of its own; where its file can't

@@ -104,6 +104,7 @@ abbrev pub others : List Rule
 others =
     number_rule (codes "context")
     ∷ number_rule (codes "max")
+    ∷ typed_rule (codes "width") parser.NonEmptyString
     ∷ typed_rule (codes "base") parser.NonEmptyString
     ∷ inputs_rule
     ∷ []

@@ -143,7 +143,7 @@ impl<R: Files> Task<'_, R> {
     }
 
     /// Holds a diagnostic whose head waited, and whose place a line names, if its file can be read. Else
-    /// both lines pass.
+    /// the lines of the head pass, and that line.
     fn show_placed<W: Write, F: Write>(
         &self,
         run: &mut Run,
@@ -156,11 +156,12 @@ impl<R: Files> Task<'_, R> {
             (at_of run.old streams.old) (at_of run.new streams.new)) }
         ensures sources { OnOk result (HaveSources run.new.known.finder.shelf) }
     {
-        let PlacedHead { bytes, mut told } = head;
+        let PlacedHead { lines, mut told } = head;
         if run.known.finder.open(self.files, &mut told)? {
             return self.begin(run, told, line.text, streams);
         }
-        self.pass_line(run, bytes.as_slice(), streams)?;
+        self.finish(run, streams)?;
+        self.pass_lines(run, lines.as_slice(), streams)?;
         self.pass(run, line.bytes, streams)
     }
 

@@ -10,24 +10,27 @@ ghost use Rattle.ariadne_show.specs.Found.{files_of};
 
 use crate::found::found_place;
 use crate::shelf::Shelf;
+use crate::wrapping::wrapped;
 use ariadne_safe::SafeBuilder;
 use ariadne_told::{Diagnostic, Place};
 use std::alloc::{AllocError, Global};
 
-/// The report with the notes and helps, and before them a note for each place that can't be drawn.
+/// The report with the notes and helps, and before them a note for each place that can't be drawn, in
+/// rows of so many columns, or of any number where that is 0.
 pub fn with_asides<'s>(
     alloc: Global,
     builder: SafeBuilder<'s>,
     shelf: &Shelf,
     told: &Diagnostic,
+    width: usize,
 ) -> Result<SafeBuilder<'s>, AllocError>
-    ensures report { IfOk result (λ b. made_of b ≡ more_helps (helps_of told.now)
-        (more_notes (notes_of (files_of shelf.now) told.now) (made_of builder.entry))) }
+    ensures report { IfOk result (λ b. made_of b ≡ more_helps (helps_of width told.now)
+        (more_notes (notes_of width (files_of shelf.now) told.now) (made_of builder.entry))) }
     ensures sources { IfOk result (λ b. sources_under b ≡ sources_under builder.entry) }
 {
-    let builder = with_missing(alloc, builder, shelf, told.places.as_slice())?;
-    let builder = with_notes(builder, told.notes.as_slice())?;
-    with_helps(builder, told.helps.as_slice())
+    let builder = with_missing(alloc, builder, shelf, told.places.as_slice(), width)?;
+    let builder = with_notes(alloc, builder, told.notes.as_slice(), width)?;
+    with_helps(alloc, builder, told.helps.as_slice(), width)
 }
 
 /// The report with a note for each place that can't be drawn.
@@ -36,14 +39,15 @@ fn with_missing<'s>(
     builder: SafeBuilder<'s>,
     shelf: &Shelf,
     places: &[Place],
+    width: usize,
 ) -> Result<SafeBuilder<'s>, AllocError>
     ensures report { IfOk result (λ b. made_of b ≡ more_notes
-        (missing_notes (files_of shelf.now) places.now) (made_of builder.entry)) }
+        (missing_notes width (files_of shelf.now) places.now) (made_of builder.entry)) }
     ensures sources { IfOk result (λ b. sources_under b ≡ sources_under builder.entry) }
 {
     let mut builder = builder;
     for place in places {
-        builder = with_missing_one(alloc, builder, shelf, place)?;
+        builder = with_missing_one(alloc, builder, shelf, place, width)?;
     }
     Ok(builder)
 }
@@ -54,41 +58,55 @@ fn with_missing_one<'s>(
     builder: SafeBuilder<'s>,
     shelf: &Shelf,
     place: &Place,
+    width: usize,
 ) -> Result<SafeBuilder<'s>, AllocError>
     ensures report { IfOk result (λ b. made_of b ≡ more_notes
-        (missing_notes (files_of shelf.now) (place.now ∷ [])) (made_of builder.entry)) }
+        (missing_notes width (files_of shelf.now) (place.now ∷ [])) (made_of builder.entry)) }
     ensures sources { IfOk result (λ b. sources_under b ≡ sources_under builder.entry) }
 {
     match found_place(shelf, place) {
         Some(_) => Ok(builder),
         None => {
             let note = spot_text(alloc, place, place.text.as_str())?;
-            builder.with_note(note.as_str())
+            let rows = wrapped(alloc, note.as_str(), width)?;
+            builder.with_note(rows.as_str())
         }
     }
 }
 
 /// The report with these notes.
-fn with_notes<'s>(builder: SafeBuilder<'s>, notes: &[String]) -> Result<SafeBuilder<'s>, AllocError>
+fn with_notes<'s>(
+    alloc: Global,
+    builder: SafeBuilder<'s>,
+    notes: &[String],
+    width: usize,
+) -> Result<SafeBuilder<'s>, AllocError>
     ensures report { IfOk result (λ b. made_of b
-        ≡ more_notes (aside_notes notes.now) (made_of builder.entry)) }
+        ≡ more_notes (aside_notes width notes.now) (made_of builder.entry)) }
     ensures sources { IfOk result (λ b. sources_under b ≡ sources_under builder.entry) }
 {
     let mut builder = builder;
     for note in notes {
+        let note = wrapped(alloc, note.as_str(), width)?;
         builder = builder.with_note(note.as_str())?;
     }
     Ok(builder)
 }
 
 /// The report with these helps.
-fn with_helps<'s>(builder: SafeBuilder<'s>, helps: &[String]) -> Result<SafeBuilder<'s>, AllocError>
+fn with_helps<'s>(
+    alloc: Global,
+    builder: SafeBuilder<'s>,
+    helps: &[String],
+    width: usize,
+) -> Result<SafeBuilder<'s>, AllocError>
     ensures report { IfOk result (λ b. made_of b
-        ≡ more_helps (aside_notes helps.now) (made_of builder.entry)) }
+        ≡ more_helps (aside_notes width helps.now) (made_of builder.entry)) }
     ensures sources { IfOk result (λ b. sources_under b ≡ sources_under builder.entry) }
 {
     let mut builder = builder;
     for help in helps {
+        let help = wrapped(alloc, help.as_str(), width)?;
         builder = builder.with_help(help.as_str())?;
     }
     Ok(builder)

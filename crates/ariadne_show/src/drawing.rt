@@ -214,7 +214,7 @@ fn report_of<'s>(
         style.is_compact,
         places.as_slice(),
     )?;
-    Ok(with_asides(alloc, builder, shelf, told)?.finish())
+    Ok(with_asides(alloc, builder, shelf, told, style.width)?.finish())
 }
 
 /// The report with the code of a diagnostic, if it has one.
@@ -354,4 +354,5 @@ fn config_of(style: Style) -> Config
         .with_char_set(char_set)
         .with_lone_underlines(true)
         .with_context_lines(style.context_lines)
+        .with_width(style.width)
 }

@@ -6,16 +6,17 @@ ghost use Rattle.ariadne_show.specs.Asked.{colors_of as colors_named, fail_on_of
 ghost use Rattle.ariadne_show.specs.Asked.{floor_of as floor_named, format_of as format_named};
 ghost use Rattle.ariadne_show.specs.Asked.{input_path, is_on as is_given, path_named, value};
 ghost use Rattle.ariadne_show.specs.Asked.{output_of as output_named, unit_of as unit_named};
-ghost use Rattle.ariadne_show.specs.Asked.{AreInputsOf, AreOptionsOf, IsCountIn, IsNumberIn};
+ghost use Rattle.ariadne_show.specs.Asked.{AreInputsOf, AreOptionsOf, IsCountIn, IsNumberIn, IsWidthIn};
 
-use crate::options::{Colors, FailOn, Input, Options, Output, Style};
+use crate::options::{Colors, FailOn, Input, Options, Output, Style, Width};
 use ariadne_told::{Format, Reading, Severity, Unit};
 use clap::ArgMatches;
 use std::alloc::{AllocError, Global};
 
-/// What the options ask for.
-pub fn options_of<'a>(matches: &ArgMatches<'a>) -> Options<'a>
-    ensures { AreOptionsOf (rows_of (found_of matches.now)) result }
+/// What the options ask for, with this width.
+pub fn options_of<'a>(matches: &ArgMatches<'a>, width: Width) -> Options<'a>
+    ensures options { AreOptionsOf (rows_of (found_of matches.now)) result }
+    ensures width { result.width ≡ width }
 {
     Options {
         reading: Reading {
@@ -27,8 +28,10 @@ pub fn options_of<'a>(matches: &ArgMatches<'a>) -> Options<'a>
             is_ascii: is_on(matches, "ascii"),
             is_compact: is_on(matches, "compact"),
             context_lines: context_of(matches),
+            width: 0,
         },
         colors: colors_of(value_of(matches, "color")),
+        width,
         output: output_of(value_of(matches, "output"), is_on(matches, "short")),
         is_raw: is_on(matches, "raw"),
         floor: floor_of(value_of(matches, "severity")),
@@ -66,6 +69,25 @@ fn context_of(matches: &ArgMatches<'_>) -> usize
     ensures { IsCountIn (one_of (codes "context") (rows_of (found_of matches.now))) result }
 {
     number_of(matches, "context").unwrap_or(0)
+}
+
+/// How many columns the rows of a picture may take, if the value of the option says it.
+pub fn width_of(matches: &ArgMatches<'_>) -> Option<Width>
+    ensures { IsWidthIn (value (rows_of (found_of matches.now)) (codes "width")) result }
+{
+    match value_of(matches, "width") {
+        None | Some("auto") => Some(Width::Auto),
+        Some("full") => Some(Width::Full),
+        Some(number) => match number.parse::<usize>() {
+            Ok(columns) => Some(Width::Columns(columns)),
+            Err(_) => None,
+        },
+    }
+}
+
+/// The value that the option for it has; empty where it has none.
+pub fn width_text<'a>(matches: &ArgMatches<'a>) -> &'a str {
+    value_of(matches, "width").unwrap_or("")
 }
 
 /// The form in which lines are read.

@@ -1,15 +1,20 @@
-//! What the environment asks for: colours, or none.
+//! What the environment asks for: colours, or none; and how wide a terminal is.
 
-ghost use Rattle.std.specs.Prelude.{◌≡◌, IfOk, Some, None};
+ghost use Rattle.std.specs.Prelude.{◌≡◌, option_map, string_bytes, IfOk, Some, None};
+ghost use Rattle.ariadne_show.specs.Asked.{IsCountIn};
 ghost use Rattle.ariadne_show.specs.Colors.{are_colored, asked, holds, is_set};
+ghost use Rattle.ariadne_show.specs.Widths.{text_width, IsTextWidth};
 
-use crate::options::Colors;
+use crate::options::{Colors, Width};
 use std::alloc::AllocError;
 use std::env;
 use std::env::VarError;
 use std::rt::Env;
 
-/// The variables that ask for colours or for none: what each holds, where it is set.
+/// How many columns of a row are left for numbers and bars.
+const BESIDE_TEXT: usize = 12;
+
+/// The variables that are read: what each holds, where it is set.
 #[derive(Default, Drop)]
 pub struct Environment {
     /// `NO_COLOR`: none, where it is not empty.
@@ -22,6 +27,8 @@ pub struct Environment {
     pub clicolor: Option<String>,
     /// `TERM`: none, where it is `dumb`.
     pub term: Option<String>,
+    /// `COLUMNS`: how many columns the terminal has, where it is a number.
+    pub columns: Option<String>,
 }
 
 impl Environment {
@@ -33,6 +40,7 @@ impl Environment {
             clicolor_force: variable(rt, "CLICOLOR_FORCE")?,
             clicolor: variable(rt, "CLICOLOR")?,
             term: variable(rt, "TERM")?,
+            columns: variable(rt, "COLUMNS")?,
         })
     }
 
@@ -47,6 +55,22 @@ impl Environment {
             Colors::Always => true,
             Colors::Never => false,
             Colors::Auto => self.asked().unwrap_or(is_terminal),
+        }
+    }
+
+    /// How many columns the text of a line may take, by `--width`, `COLUMNS`, and whether the output is a
+    /// terminal; 0 is any number.
+    ///
+    /// Of the columns of a row some are left for numbers and bars. Without a terminal, or where `COLUMNS`
+    /// is no number, `--width auto` is any number.
+    pub fn width(&self, width: Width, is_terminal: bool) -> usize
+        ensures { IsTextWidth width self.now is_terminal result }
+    {
+        match width {
+            Width::Full => 0,
+            Width::Columns(columns) => text_width(columns),
+            Width::Auto if is_terminal => text_width(number_in(&self.columns)),
+            Width::Auto => 0,
         }
     }
 
@@ -67,6 +91,16 @@ impl Environment {
     }
 }
 
+/// How many columns the text of a line may take in a row of so many; 0 is any number of both.
+fn text_width(columns: usize) -> usize
+    ensures { result ≡ text_width columns }
+{
+    match columns {
+        0 => 0,
+        _ => columns.saturating_sub(BESIDE_TEXT).max(1),
+    }
+}
+
 /// What a variable holds, if it is set: U+FFFD in place of what is not UTF-8.
 fn variable<R: Env + AllocGlobal>(rt: &R, name: &str) -> Result<Option<String>, AllocError> {
     match env::var(rt, name) {
@@ -74,6 +108,19 @@ fn variable<R: Env + AllocGlobal>(rt: &R, name: &str) -> Result<Option<String>, 
         Err(VarError::NotPresent) => Ok(None),
         Err(VarError::NotUnicode) => Ok(Some(String::from_str(rt.alloc(), "\u{fffd}")?)),
         Err(VarError::OutOfMemory) => Err(AllocError),
+    }
+}
+
+/// The number that a variable holds, or 0 where it holds none.
+fn number_in(value: &Option<String>) -> usize
+    ensures { IsCountIn (option_map string_bytes value.now) result }
+{
+    match value {
+        Some(text) => match text.parse::<usize>() {
+            Ok(number) => number,
+            Err(_) => 0,
+        },
+        None => 0,
     }
 }
 

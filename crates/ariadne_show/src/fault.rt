@@ -92,6 +92,21 @@ impl Fault {
         })
     }
 
+    /// That a value of `--width` is none, told with such signs.
+    pub fn no_width(alloc: Global, value: &str) -> Result<Fault, AllocError>
+        ensures { IfOk result TellsWords }
+    {
+        let value = visible(alloc, value, TextKind::OneRow)?;
+        let text = format!(in alloc;
+            "invalid value '{value}' for '--width <N>'\n  \
+             [possible values: auto, full, and numbers of columns]\n\n\
+             For more information, try '--help'."
+        )?;
+        Ok(Fault::Words {
+            text: visible(alloc, text.as_str(), TextKind::Aside)?,
+        })
+    }
+
     /// That the file at a path, which was named as an input, can't be read. The path is told in such
     /// signs too. On `Err` there was no memory, or the error says so.
     pub fn unread_file(alloc: Global, path: &str, error: &io::Error) -> Result<Fault, AllocError>

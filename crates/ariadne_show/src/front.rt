@@ -1,10 +1,12 @@
 //! Lines in front of a diagnostic that may belong to it. Whether they do is known when its place is read,
 //! and until then they wait.
 
-ghost use Rattle.std.specs.Prelude.{◌≡◌, ◌&&◌, IfOk};
+ghost use Rattle.std.specs.Prelude.{◌≡◌, ◌&&◌, ◌==◌, ◌∷◌, [], true, option_map, IfOk, OnOk};
+ghost use Rattle.std.specs.List.{prefix_len};
 ghost use Rattle.ariadne_told.specs.Fronts.{is_scope_line as is_scope_in};
 ghost use Rattle.ariadne_show.specs.Fronts.{ends_in_head as is_head_last, is_head as is_head_line};
-ghost use Rattle.ariadne_show.specs.Fronts.{IsRoleOf};
+ghost use Rattle.ariadne_show.specs.Fronts.{added_row as row_added, behind_blanks as text_behind_blanks, lines_of};
+ghost use Rattle.ariadne_show.specs.Fronts.{row_of_role as row_in_role, HasRow, IsRoleOf};
 
 use ariadne_told::{Diagnostic, Place, bare_head_of, front_of, is_scope_line};
 use std::alloc::{AllocError, Global};
@@ -15,16 +17,25 @@ pub enum Role {
     /// It tells one of its places.
     Place(Place),
     /// It tells all of it but its place, which the next line may name.
-    Head(Diagnostic),
+    Head(WaitingHead),
     /// It says what the tool was in, and passes.
     Scope,
+}
+
+/// The head of a diagnostic, which waits for its place.
+#[derive(Drop)]
+pub struct WaitingHead {
+    /// What it tells.
+    pub told: Diagnostic,
+    /// How many bytes stand in front of its message: a further row of that begins with as many blanks.
+    pub margin: usize,
 }
 
 /// A line that waits.
 #[derive(Drop)]
 pub struct WaitingLine {
-    /// Its bytes, with what ends it.
-    pub bytes: Vec<u8>,
+    /// Its bytes, with what ends it, and behind it the rows that go on with its message.
+    pub lines: Vec<Vec<u8>>,
     /// What it is.
     pub role: Role,
 }
@@ -32,12 +43,25 @@ pub struct WaitingLine {
 impl WaitingLine {
     /// A line with these bytes. On `Err` there was no memory.
     pub fn new(alloc: Global, line: &[u8], role: Role) -> Result<WaitingLine, AllocError>
-        ensures bytes { IfOk result (λ waiting. waiting.bytes.items ≡ line.now) }
+        ensures lines { IfOk result (λ waiting. lines_of waiting ≡ line.now ∷ []) }
         ensures role { IfOk result (λ waiting. waiting.role ≡ role) }
     {
-        let mut bytes = Vec::new(alloc);
-        bytes.extend_from_slice(line)?;
-        Ok(WaitingLine { bytes, role })
+        let mut lines = Vec::new(alloc);
+        lines.push(bytes_of_line(alloc, line)?)?;
+        Ok(WaitingLine { lines, role })
+    }
+
+    /// Adds a row to the message of a head, and the line that has it.
+    pub fn add_row(&mut self, alloc: Global, line: &[u8], row: &str) -> Result<(), AllocError>
+        requires { is_head_line self.old ≡ true }
+        ensures { OnOk result (HasRow line.now row.now self.old self.new) }
+    {
+        if let Role::Head(head) = &mut self.role {
+            head.told.message.push('\n')?;
+            head.told.message.push_str(row)?;
+        }
+        self.lines.push(bytes_of_line(alloc, line)?)?;
+        Ok(())
     }
 
     /// Whether it is the head of a diagnostic.
@@ -51,11 +75,20 @@ impl WaitingLine {
     }
 }
 
+/// The bytes of a line.
+fn bytes_of_line(alloc: Global, line: &[u8]) -> Result<Vec<u8>, AllocError>
+    ensures { IfOk result (λ bytes. bytes.items ≡ line.now) }
+{
+    let mut bytes = Vec::new(alloc);
+    bytes.extend_from_slice(line)?;
+    Ok(bytes)
+}
+
 /// A diagnostic whose head waited, and which has a place now.
 #[derive(Drop)]
 pub struct PlacedHead {
-    /// The bytes of its head, with what ends it.
-    pub bytes: Vec<u8>,
+    /// The bytes of the lines of its head, each with what ends it.
+    pub lines: Vec<Vec<u8>>,
     /// What it tells.
     pub told: Diagnostic,
 }
@@ -70,6 +103,42 @@ pub fn ends_in_head(front: &[WaitingLine]) -> bool
     }
 }
 
+/// The row that a text adds to the message of the last of lines that wait, if that is a head and the text
+/// goes on with it.
+pub fn added_row<'a>(front: &[WaitingLine], text: &'a str) -> Option<&'a str>
+    ensures { option_map (λ row. row.now) result ≡ row_added front.now text.now }
+{
+    row_of_role(&front.last()?.role, text)
+}
+
+/// The row that a text adds to the message of a head.
+fn row_of_role<'a>(role: &Role, text: &'a str) -> Option<&'a str>
+    ensures { option_map (λ row. row.now) result ≡ row_in_role role.now text.now }
+{
+    match role {
+        Role::Head(head) => behind_blanks(head.margin, text),
+        Role::Place(_) | Role::Scope => None,
+    }
+}
+
+/// What a text says behind so many blanks.
+fn behind_blanks(margin: usize, text: &str) -> Option<&str>
+    ensures { option_map (λ row. row.now) result ≡ text_behind_blanks margin text.now }
+{
+    if margin <= leading_blanks(text.as_bytes()) {
+        Some(&text[margin..])
+    } else {
+        None
+    }
+}
+
+/// How many blanks a text begins with.
+fn leading_blanks(text: &[u8]) -> usize
+    ensures { result ≡ prefix_len (λ c. c == 32) text.now }
+{
+    text.iter().take_while(|byte| **byte == b' ').count()
+}
+
 /// What a line is to a diagnostic behind it, if it may stand in front of one. Words for what a tool was in
 /// count only where something is waited for.
 pub fn role_of(alloc: Global, is_waited_for: bool, text: &str) -> Result<Option<Role>, AllocError>
@@ -79,7 +148,9 @@ pub fn role_of(alloc: Global, is_waited_for: bool, text: &str) -> Result<Option<
         return Ok(Some(Role::Place(front.place(alloc)?)));
     }
     if let Some(head) = bare_head_of(text) {
-        return Ok(Some(Role::Head(head.told(alloc)?)));
+        let told = head.told(alloc)?;
+        let margin = text.len().saturating_sub(head.message.len());
+        return Ok(Some(Role::Head(WaitingHead { told, margin })));
     }
     if tells_scope(is_waited_for, text) {
         return Ok(Some(Role::Scope));

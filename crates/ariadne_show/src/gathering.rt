@@ -2,6 +2,7 @@
 //! that waited in front of it and of its notes.
 
 ghost use Rattle.std.specs.Prelude.{◌≡◌, None, OnOk};
+ghost use Rattle.ariadne_show.specs.Fronts.{bytes_in};
 ghost use Rattle.ariadne_show.specs.Read.{HaveSources};
 ghost use Rattle.ariadne_show.specs.Shown.{at_of, giving, HasLineGone, IsBegunBehind, IsFrontGiven};
 ghost use Rattle.ariadne_show.specs.Shown.{IsNoteAddedTo, IsPlaceGone};
@@ -98,25 +99,25 @@ impl<R: Files> Task<'_, R> {
             ≡ record run.old.known { finder = run.new.known.finder }) }
         ensures sources { OnOk result (HaveSources run.new.known.finder.shelf) }
     {
-        let WaitingLine { bytes, role } = waiting;
+        let WaitingLine { lines, role } = waiting;
         match role {
-            Role::Place(place) => self.give_place(run, place, bytes.as_slice(), block, streams),
-            Role::Head(_) | Role::Scope => self.pass(run, bytes.as_slice(), streams),
+            Role::Place(place) => self.give_place(run, place, lines.as_slice(), block, streams),
+            Role::Head(_) | Role::Scope => self.pass_lines(run, lines.as_slice(), streams),
         }
     }
 
-    /// Gives the place that a line of these bytes tells to a diagnostic. If its file can't be read, the line
-    /// passes.
+    /// Gives the place that lines of these bytes tell to a diagnostic. If its file can't be read, the lines
+    /// pass.
     fn give_place<W: Write, F: Write>(
         &self,
         run: &mut Run,
         mut place: Place,
-        bytes: &[u8],
+        lines: &[Vec<u8>],
         block: &mut Block,
         streams: &mut Streams<W, F>,
     ) -> Result<(), Fault>
         requires { HaveSources run.old.known.finder.shelf }
-        ensures gone { OnOk result (IsPlaceGone self.now.options.now bytes.now place
+        ensures gone { OnOk result (IsPlaceGone self.now.options.now (bytes_in lines.now) place
             (giving (at_of run.old streams.old) block.old)
             (giving (at_of run.new streams.new) block.new)) }
         ensures known { OnOk result (run.new.known
@@ -127,6 +128,6 @@ impl<R: Files> Task<'_, R> {
             block.add_place(place)?;
             return Ok(());
         }
-        self.pass(run, bytes, streams)
+        self.pass_lines(run, lines, streams)
     }
 }

@@ -6,11 +6,11 @@ ghost use Rattle.ariadne_told.specs.ArrowsTold.{arrow_told};
 ghost use Rattle.ariadne_show.specs.Fronts.{ends_in_head as is_head_last, is_head as is_head_line};
 ghost use Rattle.ariadne_show.specs.Known.{has_waiting_lines, is_note_of, is_waited_for as is_waiting};
 ghost use Rattle.ariadne_show.specs.Known.{AreMarksSettled, IsBlockTaken, IsMoreTaken, IsNamedQuoted, IsNew};
-ghost use Rattle.ariadne_show.specs.Known.{IsPlacedAt, IsPlacedIn, IsPlacedNow, IsRowTaken, IsTriedAsRow, IsWaiting};
+ghost use Rattle.ariadne_show.specs.Known.{IsPlacedAt, IsPlacedIn, IsPlacedNow, IsRowAdded, IsRowTaken, IsTriedAsRow, IsWaiting};
 ghost use Rattle.ariadne_show.specs.Read.{HaveSources};
 
 use crate::finder::Finder;
-use crate::front::{PlacedHead, Role, WaitingLine, ends_in_head, role_of};
+use crate::front::{PlacedHead, Role, WaitingHead, WaitingLine, added_row, ends_in_head, role_of};
 use crate::options::Options;
 use ariadne_blocks::{Block, Drawn, Line, drop_repeats, settle_marks};
 use ariadne_told::{Arrow, Diagnostic, Sent, arrow_of};
@@ -121,10 +121,15 @@ impl Known {
         }
     }
 
-    /// Has a line wait that may stand in front of a diagnostic, and returns whether it may.
+    /// Has a line wait that may stand in front of a diagnostic, or goes on with the message of the head that
+    /// waits last, and returns whether it does.
     pub fn takes_in_front(&mut self, alloc: Global, line: Line<'_>) -> Result<bool, AllocError>
         ensures { IfOk result (IsWaiting line.entry self.old self.new) }
     {
+        if let Some(row) = added_row(self.front.as_slice(), line.text) {
+            self.add_row(alloc, line.bytes, row)?;
+            return Ok(true);
+        }
         match role_of(alloc, self.is_waited_for(), line.text)? {
             Some(role) => {
                 self.front.push(WaitingLine::new(alloc, line.bytes, role)?)?;
@@ -132,6 +137,18 @@ impl Known {
             }
             None => Ok(false),
         }
+    }
+
+    /// Adds a row to the message of the head that waits last, and the line that has it.
+    fn add_row(&mut self, alloc: Global, line: &[u8], row: &str) -> Result<(), AllocError>
+        requires { is_head_last self.old.front.items ≡ true }
+        ensures { OnOk result (IsRowAdded line.now row.now self.old self.new) }
+    {
+        if let Some(mut waiting) = self.front.pop() {
+            waiting.add_row(alloc, line, row)?;
+            self.front.push(waiting)?;
+        }
+        Ok(())
     }
 
     /// Gives the places of a diagnostic of which all lines were read the marks that were drawn at the same
@@ -215,11 +232,11 @@ fn placed_head(
     requires { is_head_line waiting ≡ true }
     ensures { IfOk result (IsPlacedNow (arrow_told arrow.entry) waiting) }
 {
-    let WaitingLine { bytes, role } = waiting;
+    let WaitingLine { lines, role } = waiting;
     match role {
-        Role::Head(mut told) => {
+        Role::Head(WaitingHead { mut told, .. }) => {
             told.places.push(arrow.place(alloc)?)?;
-            Ok(Some(PlacedHead { bytes, told }))
+            Ok(Some(PlacedHead { lines, told }))
         }
         Role::Place(_) | Role::Scope => Ok(None),
     }

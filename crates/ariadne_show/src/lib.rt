@@ -32,6 +32,7 @@ mod task;
 mod texts;
 mod whole;
 pub mod words;
+mod wrapping;
 pub mod writing;
 
 pub use bounds::Bounds;
@@ -39,7 +40,7 @@ pub use environment::Environment;
 pub use fault::{Fault, Status, tell_fault};
 pub use inputs::Inputs;
 pub use limits::{DrawnCount, Limits};
-pub use options::{Colors, FailOn, Input, Options, Output, Style};
+pub use options::{Colors, FailOn, Input, Options, Output, Style, Width};
 pub use pages::{Page, show_page};
 pub use showing::show;
 pub use streams::Streams;

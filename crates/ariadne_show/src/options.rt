@@ -26,6 +26,17 @@ pub enum Output {
     Sarif,
 }
 
+/// `--width`: how many columns the rows of a picture may take.
+#[derive(Clone, Copy, PartialEq, Eq)]
+pub enum Width {
+    /// As many as a terminal has, where the environment says how many that are.
+    Auto,
+    /// Any number: lines are shown whole.
+    Full,
+    /// So many.
+    Columns(usize),
+}
+
 /// `--fail-on`: which diagnostics the status tells of.
 #[derive(Clone, Copy, PartialEq, Eq)]
 pub enum FailOn {
@@ -48,6 +59,8 @@ pub struct Style {
     pub is_compact: bool,
     /// `--context`: how many lines are shown above and below each line with a label.
     pub context_lines: usize,
+    /// How many columns the text of a line may take. 0 is any number.
+    pub width: usize,
 }
 
 /// What the options ask for.
@@ -55,10 +68,12 @@ pub struct Style {
 pub struct Options<'a> {
     /// How lines are read.
     pub reading: Reading,
-    /// How diagnostics are drawn. Whether there are colours is not decided yet.
+    /// How diagnostics are drawn. Whether there are colours is not decided yet, nor how wide lines are.
     pub style: Style,
     /// When there are colours.
     pub colors: Colors,
+    /// How many columns the rows of a picture may take.
+    pub width: Width,
     /// In which form diagnostics are written.
     pub output: Output,
     /// `--raw`: whether a line that tells nothing is written as it is, with what a terminal obeys.

@@ -1,13 +1,14 @@
 //! What is to be done, and its simplest steps: a line passes, and a diagnostic is shown.
 
 ghost use Rattle.std.specs.Prelude.{◌≡◌, OnOk};
-ghost use Rattle.ariadne_show.specs.Writing.{out_of, HasPassed, IsShownOnce};
+ghost use Rattle.ariadne_show.specs.Fronts.{bytes_in};
+ghost use Rattle.ariadne_show.specs.Writing.{out_of, HasPassed, HavePassed, IsShownOnce};
 
 use crate::fault::Fault;
 use crate::options::Options;
 use crate::run::Run;
 use crate::streams::Streams;
-use crate::writing::{pass, show_one};
+use crate::writing::{pass, pass_lines, show_one};
 use ariadne_told::Diagnostic;
 use std::alloc::Global;
 use std::io::Write;
@@ -37,6 +38,20 @@ impl<R: Files> Task<'_, R> {
         ensures known { run.new.known ≡ run.old.known }
     {
         pass(self.alloc, self.options, line, &mut run.shown, streams)
+    }
+
+    /// Writes lines that pass, in their order.
+    pub(crate) fn pass_lines<W: Write, F: Write>(
+        &self,
+        run: &mut Run,
+        lines: &[Vec<u8>],
+        streams: &mut Streams<W, F>,
+    ) -> Result<(), Fault>
+        ensures passed { OnOk result (HavePassed self.now.options.now (bytes_in lines.now)
+            (out_of run.old.shown streams.old) (out_of run.new.shown streams.new)) }
+        ensures known { run.new.known ≡ run.old.known }
+    {
+        pass_lines(self.alloc, self.options, lines, &mut run.shown, streams)
     }
 
     /// Counts a diagnostic whose files were read, and writes it, if that is asked for.

@@ -6,10 +6,11 @@ ghost use Rattle.ariadne_show.specs.Asked.{IsAskedBy, IsRefusedFor};
 ghost use Rattle.ariadne_show.specs.Faults.{TellsWords};
 ghost use Rattle.ariadne_show.specs.Words.{choice_rule, choices, command as command_app};
 ghost use Rattle.ariadne_show.specs.Words.{inputs_rule, number_rule, option_rule, switch_rule};
-ghost use Rattle.ariadne_show.specs.Words.{switches};
+ghost use Rattle.ariadne_show.specs.Words.{switches, typed_rule};
+ghost use Rattle.clap.specs.declared.builder.value_parser.ValueParser.TheVariants.{NonEmptyString};
 ghost use Rattle.ariadne_show.specs.Words.{texts_in, ForList, ForNames, IsParsedBy};
 
-use crate::entries::{inputs_of, options_of};
+use crate::entries::{inputs_of, options_of, width_of, width_text};
 use crate::fault::Fault;
 use crate::options::{Input, Options};
 use crate::pages::{HELP, Page, VERSION};
@@ -58,10 +59,13 @@ pub fn read_words<'a>(alloc: Global, words: &'a [String]) -> Result<Asked<'a>, F
     ensures refused { IfErr result (IsRefusedFor (map string_bytes words.now)) }
 {
     match parse(alloc, words) {
-        Ok(matches) => Ok(Asked::Show {
-            options: options_of(&matches),
-            inputs: inputs_of(alloc, &matches)?,
-        }),
+        Ok(matches) => match width_of(&matches) {
+            Some(width) => Ok(Asked::Show {
+                options: options_of(&matches, width),
+                inputs: inputs_of(alloc, &matches)?,
+            }),
+            None => Err(Fault::no_width(alloc, width_text(&matches))?),
+        },
         Err(error) => match error.kind() {
             ErrorKind::DisplayHelp => Ok(Asked::Page(Page::Help)),
             ErrorKind::DisplayVersion => Ok(Asked::Page(Page::Version)),
@@ -92,7 +96,8 @@ fn command<'a>(alloc: Global) -> Result<Command<'a>, AllocError>
     command
         .arg(number(alloc, "context"))?
         .arg(number(alloc, "max"))?
-        .arg(option(alloc, "base", "DIR").value_parser(ValueParser::NonEmptyString))?
+        .arg(text(alloc, "width", "N"))?
+        .arg(text(alloc, "base", "DIR"))?
         .arg(inputs(alloc))
 }
 
@@ -134,6 +139,13 @@ fn number<'a>(alloc: Global, name: &'a str) -> Arg<'a>
     ensures { rule_of result ≡ number_rule name.entry.now }
 {
     option(alloc, name, "N").value_parser(value_parser!(usize))
+}
+
+/// An option whose value is any text but the empty one.
+fn text<'a>(alloc: Global, name: &'a str, value: &'a str) -> Arg<'a>
+    ensures { rule_of result ≡ typed_rule name.entry.now NonEmptyString }
+{
+    option(alloc, name, value).value_parser(ValueParser::NonEmptyString)
 }
 
 /// An option that has a value.

@@ -3,7 +3,7 @@
 ghost use Rattle.std.specs.Prelude.{◌≡◌, IfOk, OnOk, map, string_bytes};
 ghost use Rattle.ariadne_outputs.specs.Located.{locations_of};
 ghost use Rattle.ariadne_show.specs.Found.{files_of};
-ghost use Rattle.ariadne_show.specs.Fronts.{bytes_of, passing_of};
+ghost use Rattle.ariadne_show.specs.Fronts.{bytes_in, bytes_of, passing_of};
 ghost use Rattle.ariadne_show.specs.Limits.{limits_of as limits_in};
 ghost use Rattle.ariadne_show.specs.Read.{sources_in};
 ghost use Rattle.ariadne_show.specs.Writing.{behind_line as is_behind_line, behind_text as is_behind_text};
@@ -301,7 +301,24 @@ pub fn pass_waiting<W: Write, F: Write>(
         (out_of shown.old streams.old) (out_of shown.new streams.new)) }
 {
     for waiting in lines {
-        pass(alloc, options, waiting.bytes.as_slice(), shown, streams)?;
+        pass_lines(alloc, options, waiting.lines.as_slice(), shown, streams)?;
+    }
+    Ok(())
+}
+
+/// Writes lines that pass, in their order.
+pub fn pass_lines<W: Write, F: Write>(
+    alloc: Global,
+    options: &Options<'_>,
+    lines: &[Vec<u8>],
+    shown: &mut Shown,
+    streams: &mut Streams<W, F>,
+) -> Result<(), Fault>
+    ensures { OnOk result (HavePassed options.now (bytes_in lines.now)
+        (out_of shown.old streams.old) (out_of shown.new streams.new)) }
+{
+    for line in lines {
+        pass(alloc, options, line.as_slice(), shown, streams)?;
     }
     Ok(())
 }

@@ -26,7 +26,9 @@ fn show_inputs(
     inputs: &[Input<'_>],
 ) -> Result<Status, Fault> {
     let environment = Environment::of(rt)?;
-    options.style.is_colored = environment.is_colored(options.colors, rt.stdout().is_terminal());
+    let is_terminal = rt.stdout().is_terminal();
+    options.style.is_colored = environment.is_colored(options.colors, is_terminal);
+    options.style.width = environment.width(options.width, is_terminal);
     let inputs = Inputs::new(rt, rt.alloc(), rt.stdin(), inputs);
     let mut input = match BufReader::new(rt.alloc(), inputs) {
         Ok(input) => input,

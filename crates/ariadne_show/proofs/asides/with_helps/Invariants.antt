@@ -6,6 +6,6 @@ use Rattle.ariadne_show.proofs.asides.with_helps.Given as goal
 -- those that are passed are in the report
 abbrev pub invariant-loop-help : goal.invariant-loop-help
 invariant-loop-help l = record {
-  report : made_of l.builder ≡ with_helps (aside_notes (take l.help-index l.helps)) (made_of l.fn.builder);
+  report : made_of l.builder ≡ with_helps (aside_notes l.width (take l.help-index l.helps)) (made_of l.fn.builder);
   sources : sources_under l.builder ≡ sources_under l.fn.builder;
 }

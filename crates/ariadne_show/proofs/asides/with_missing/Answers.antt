@@ -17,13 +17,14 @@ loop-place-preserved c =
     let i = c.loop-place.place-index in
     let all = c.args.places.now in
     let files = files_of c.args.shelf.now in
+    let n = c.args.width in
     let place = c.place-item.result in
     let more : take (i + 1) all ≡ take i all ++ place ∷ [] =
     take_more all i place c.loop-place-test.true ∙ ap (λ x. take i all ++ x ∷ []) (sym c.place-item.is) in record {
       report = notes_more (made_of c.args.builder) (made_of c.loop-place.builder) (made_of c.in_ok-builder.builder)
-          (missing_notes files (take i all)) (missing_notes files (place ∷ [])) c.loop-place.invariant.report
+          (missing_notes n files (take i all)) (missing_notes n files (place ∷ [])) c.loop-place.invariant.report
           c.in_ok-builder.ensures.report
           ∙ ap (λ (l : List (List ℕ)). with_notes l (made_of c.args.builder))
-          (missing_more files (take i all) (take (i + 1) all) place more);
+          (missing_more n files (take i all) (take (i + 1) all) place more);
       sources = c.in_ok-builder.ensures.sources ∙ c.loop-place.invariant.sources;
     }

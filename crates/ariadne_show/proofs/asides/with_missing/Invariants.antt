@@ -8,6 +8,6 @@ use Rattle.ariadne_show.proofs.asides.with_missing.Given as goal
 abbrev pub invariant-loop-place : goal.invariant-loop-place
 invariant-loop-place l = record {
   report : made_of l.builder
-      ≡ with_notes (missing_notes (files_of l.shelf) (take l.place-index l.places)) (made_of l.fn.builder);
+      ≡ with_notes (missing_notes l.width (files_of l.shelf) (take l.place-index l.places)) (made_of l.fn.builder);
   sources : sources_under l.builder ≡ sources_under l.fn.builder;
 }

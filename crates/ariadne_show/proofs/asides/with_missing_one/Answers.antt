@@ -6,6 +6,7 @@ use Rattle.ariadne_visible.specs.Visible.{visible_bytes}
 use Rattle.ariadne_visible.specs.declared.text.TextKind.TheVariants.{Aside}
 use Rattle.ariadne_show.specs.Asides.{missing_notes, spot_text, with_notes}
 use Rattle.ariadne_show.specs.Found.{files_of}
+use Rattle.ariadne_show.specs.Wrapped.{wrapped}
 use Rattle.ariadne_show.proofs.Notes.{no_notes, not_missing, one_missing}
 use Rattle.ariadne_show.proofs.asides.with_missing_one.Goals as goal
 
@@ -13,20 +14,22 @@ use Rattle.ariadne_show.proofs.asides.with_missing_one.Goals as goal
 pub returns-in-Some : goal.returns-in-Some
 returns-in-Some c =
     let built = made_of c.args.builder in
-    let none : missing_notes (files_of c.args.shelf.now) (c.args.place.now ∷ []) ≡ [] =
-    not_missing (files_of c.args.shelf.now) c.args.place.now (ap is_some (sym c.in-Some.ensures.found)) in record {
+    let none : missing_notes c.args.width (files_of c.args.shelf.now) (c.args.place.now ∷ []) ≡ [] =
+    not_missing c.args.width (files_of c.args.shelf.now) c.args.place.now (ap is_some (sym c.in-Some.ensures.found)) in record {
       report = no_notes built ∙ ap (λ (l : List (List ℕ)). with_notes l built) (sym none);
       sources = refl;
     }
 
 -- another has one
-pub returns-in_ok-note-in-None : goal.returns-in_ok-note-in-None
-returns-in_ok-note-in-None c =
+pub returns-in_ok-rows-in-None : goal.returns-in_ok-rows-in-None
+returns-in_ok-rows-in-None c =
     let place = c.args.place.now in
-    let one : visible_bytes Aside c.as_str-in-None.result.now ∷ [] ≡ missing_notes (files_of c.args.shelf.now) (place ∷ []) =
+    let n = c.args.width in
+    let one : visible_bytes Aside c.as_str-in-None-2.result.now ∷ [] ≡ missing_notes n (files_of c.args.shelf.now) (place ∷ []) =
     ap (λ t. visible_bytes Aside t ∷ [])
-    (c.as_str-in-None.ensures.value ∙ c.in_ok-note-in-None.ensures.text ∙ ap (spot_text place) c.as_str.ensures.value)
-    ∙ sym (one_missing (files_of c.args.shelf.now) place (ap is_some (sym c.in-None.ensures.found))) in record {
+    (c.as_str-in-None-2.ensures.value ∙ c.in_ok-rows-in-None.ensures.rows ∙ ap (wrapped n)
+    (c.as_str-in-None.ensures.value ∙ c.in_ok-note-in-None.ensures.text ∙ ap (spot_text place) c.as_str.ensures.value))
+    ∙ sym (one_missing n (files_of c.args.shelf.now) place (ap is_some (sym c.in-None.ensures.found))) in record {
       report = subst (λ (l : List (List ℕ)). IfOk c.with_note.result (λ (b : SafeBuilder). made_of b ≡ with_notes l (made_of c.args.builder)))
           one c.with_note.ensures.report;
       sources = c.with_note.ensures.sources;

@@ -5,6 +5,7 @@ use Rattle.ariadne_safe.specs.Building.{made_of}
 use Rattle.ariadne_visible.specs.Visible.{visible_bytes}
 use Rattle.ariadne_visible.specs.declared.text.TextKind.TheVariants.{Aside}
 use Rattle.ariadne_show.specs.Asides.{aside_notes, with_notes}
+use Rattle.ariadne_show.specs.Wrapped.{wrapped}
 use Rattle.ariadne_show.proofs.Notes.{no_notes, notes_more, texts_more}
 use Rattle.ariadne_show.proofs.asides.with_notes.Goals as goal
 
@@ -17,14 +18,16 @@ pub loop-note-preserved : goal.loop-note-preserved
 loop-note-preserved c =
     let i = c.loop-note.note-index in
     let all = c.args.notes.now in
+    let n = c.args.width in
     let note = c.note-item.result in
-    let text = c.as_str.result.now in
+    let text = c.as_str-in-loop-note.result.now in
     let more : take (i + 1) all ≡ take i all ++ note ∷ [] =
     take_more all i note c.loop-note-test.true ∙ ap (λ x. take i all ++ x ∷ []) (sym c.note-item.is) in record {
       report = notes_more (made_of c.args.builder) (made_of c.loop-note.builder) (made_of c.in_ok-builder.builder)
-          (aside_notes (take i all)) (visible_bytes Aside text ∷ []) c.loop-note.invariant.report
+          (aside_notes n (take i all)) (visible_bytes Aside text ∷ []) c.loop-note.invariant.report
           c.in_ok-builder.ensures.report
           ∙ ap (λ (l : List (List ℕ)). with_notes l (made_of c.args.builder))
-          (texts_more (take i all) (take (i + 1) all) note text c.as_str.ensures.value more);
+          (texts_more n (take i all) (take (i + 1) all) note text
+          (c.as_str-in-loop-note.ensures.value ∙ c.in_ok-note.ensures.rows ∙ ap (wrapped n) c.as_str.ensures.value) more);
       sources = c.in_ok-builder.ensures.sources ∙ c.loop-note.invariant.sources;
     }

@@ -38,10 +38,10 @@ returns c =
     c.in_ok-builder-2.ensures.report
     ∙ ap (λ (places : List FoundPlace). with_labels (labels_of built.config.index_type under told.severity c.args.style.is_compact (map found_of places)) built)
     c.as_slice-2.ensures.value in
-    let whole : report ≡ with_helps (helps_of told) (with_notes (notes_of files told)
+    let whole : report ≡ with_helps (helps_of c.args.style.width told) (with_notes (notes_of c.args.style.width files told)
     (with_labels (labels_of built.config.index_type under told.severity c.args.style.is_compact ordered) built)) =
     c.finish.ensures.report ∙ c.in_ok-with_asides.ensures.report
-    ∙ ap (λ (r : ReportFields (ℕ × Range ℕ)). with_helps (helps_of told) (with_notes (notes_of files told) r)) labelled in
+    ∙ ap (λ (r : ReportFields (ℕ × Range ℕ)). with_helps (helps_of c.args.style.width told) (with_notes (notes_of c.args.style.width files told) r)) labelled in
     let span : built.span ≡ shown_header built.config.index_type under main =
     begun_span told main _ _ _ _ (made_of c.new-builder.result) (made_of c.in_ok-with_message.field-0) built
     (sources_of c.sources.result.now) under (header_ends main c.max.result (search rules)) c.new-builder.ensures.report c.in_ok-with_message.ensures.report

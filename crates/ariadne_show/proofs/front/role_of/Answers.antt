@@ -1,4 +1,4 @@
-use Rattle.std.proofs.Common.{◌≡◌, ◌∙◌, Option, Some, None, refl, sym}
+use Rattle.std.proofs.Common.{◌≡◌, ◌∙◌, Option, Some, None, refl, rules, sym}
 use Rattle.std.specs.Prelude.{option_map}
 use Rattle.ariadne_told.specs.Arrows.{bare_head_in}
 use Rattle.ariadne_told.specs.ArrowsTold.{bare_of, bare_told}
@@ -18,8 +18,9 @@ returns-in-Some c = tells_place (front_told c.in-Some.front) c.in_ok-place.field
 -- it is a head
 pub returns-in-Some-bare_head_of : goal.returns-in-Some-bare_head_of
 returns-in-Some-bare_head_of c =
-    is_bare_head (bare_told c.in-Some-bare_head_of.head) c.in_ok-told.field-0 (sym c.in_default.ensures)
-    (sym c.in-Some-bare_head_of.ensures) c.in_ok-told.ensures
+    is_bare_head (bare_told c.in-Some-bare_head_of.head) (record { told = c.in_ok-told.told; margin = c.saturating_sub-margin.result })
+    (sym c.in_default.ensures) (sym c.in-Some-bare_head_of.ensures) c.in_ok-told.ensures
+    (search rules)
 
 -- it says what the tool was in
 pub returns-then-tells_scope : goal.returns-then-tells_scope

@@ -1,10 +1,10 @@
 -- The command is the bare one with each of its words.
-use Rattle.std.proofs.Common.{refl, ap, ◌∙◌, Some}
+use Rattle.std.proofs.Common.{refl, ap, ◌∙◌}
 use Rattle.std.proofs.lemmas.Result.{IfOk-weaker}
 use Rattle.clap.specs.Words.{with_rule}
 use Rattle.std.specs.List.{fold}
 use Rattle.ariadne_show.specs.Words.{choices, switches}
-use Rattle.ariadne_show.proofs.Commands.{typed, with_one, with_settings}
+use Rattle.ariadne_show.proofs.Commands.{with_one, with_settings}
 use Rattle.ariadne_show.proofs.words.command.Goals as goal
 
 pub returns : goal.returns
@@ -13,10 +13,9 @@ returns c =
     c.args_override_self-command.ensures in
     let chosen = c.in_ok-command.ensures in
     let switched = c.in_ok-command-2.ensures in
-    let folder = c.value_parser.ensures in
-    let base = typed _ _ _ _ c.option.ensures folder.others (folder.given.1 ∙ ap Some folder.given.2) in
     let before = switched ∙ ap (λ app. fold with_rule app switches) (chosen.2 ∙ ap (λ app. fold with_rule app (choices chosen.0)) bare) in
     let one = with_one _ _ _ _ _ c.in_ok-arg.ensures c.number.ensures refl before in
     let two = with_one _ _ _ _ _ c.in_ok-arg-2.ensures c.number-2.ensures refl one in
-    let three = with_one _ _ _ _ _ c.in_ok-arg-3.ensures base refl two in
-    IfOk-weaker c.arg-4.result _ _ (λ made added. (chosen.0, chosen.1, with_one _ made _ _ _ added c.inputs.ensures refl three)) c.arg-4.ensures
+    let three = with_one _ _ _ _ _ c.in_ok-arg-3.ensures c.text.ensures refl two in
+    let four = with_one _ _ _ _ _ c.in_ok-arg-4.ensures c.text-2.ensures refl three in
+    IfOk-weaker c.arg-5.result _ _ (λ made added. (chosen.0, chosen.1, with_one _ made _ _ _ added c.inputs.ensures refl four)) c.arg-5.ensures

@@ -17,4 +17,4 @@ loop-waiting-preserved g c =
     let more : take (i + 1) all ≡ take i all ++ line ∷ [] =
     take_more all i line c.loop-waiting-test.true ∙ ap (λ x. take i all ++ x ∷ []) (sym c.waiting-item.is) in
     waiting_more c.args.options.now all i line c.as_slice.result.now _ _ _ more c.as_slice.ensures.value c.loop-waiting.invariant
-    c.in_ok-pass.ensures
+    c.in_ok-pass_lines.ensures

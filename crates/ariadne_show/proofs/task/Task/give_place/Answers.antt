@@ -1,4 +1,5 @@
 use Rattle.std.proofs.Common.{◌∙◌, ap, refl, sym}
+use Rattle.ariadne_show.specs.Fronts.{bytes_in}
 use Rattle.ariadne_show.specs.Shown.{gave_place}
 use Rattle.ariadne_show.specs.Writing.{out_of}
 use Rattle.ariadne_show.specs.declared.known.Known.{Known}
@@ -11,10 +12,10 @@ returns-then-branch-clause-gone g c =
     gave_place c.settle.new.place c.in_ok-settle.ensures.settled (sym c.in_ok-settle.ensures.held ∙ c.if-branch.true)
     c.in_ok-add_place.ensures refl
 
--- its line passed
+-- its lines passed
 pub returns-clause-gone : goal.returns-clause-gone
 returns-clause-gone g c =
-    unread_if c.pass.result c.args.self.now.options.now c.args.bytes.now c.args.place c.settle.new.place
-    c.args.run.now.known.finder c.settle.new.self c.pass.new.run.known.finder c.args.block.now
+    unread_if c.pass_lines.result c.args.self.now.options.now (bytes_in c.args.lines.now) c.args.place c.settle.new.place
+    c.args.run.now.known.finder c.settle.new.self c.pass_lines.new.run.known.finder c.args.block.now
     (out_of c.args.run.now.shown c.args.streams.now) _ c.in_ok-settle.ensures.settled (sym c.in_ok-settle.ensures.held ∙ c.if-branch.false)
-    (ap (λ (k : Known). k.finder) c.pass.ensures.known) c.pass.ensures.passed
+    (ap (λ (k : Known). k.finder) c.pass_lines.ensures.known) c.pass_lines.ensures.passed
