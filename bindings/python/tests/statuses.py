@@ -193,7 +193,7 @@ def numbers_of_colors():
     for color in colors:
         if "\x1b[" not in Report("hint", kind_color=color).render("x"):
             yield f"colour {color}"
-    if ctypes.sizeof(sewarqo._Report) != 152:
+    if ctypes.sizeof(sewarqo._Report) != 160:
         yield f"a report of {ctypes.sizeof(sewarqo._Report)} bytes"
 
 
