@@ -49,6 +49,7 @@ pub use Rattle.ariadne_picture.specs.Bars
 pub use Rattle.ariadne_picture.specs.Cells
 pub use Rattle.ariadne_picture.specs.Pieces
 pub use Rattle.ariadne_picture.specs.Canvas
+pub use Rattle.ariadne_picture.specs.Margins
 pub use Rattle.ariadne_picture.specs.Print
 pub use Rattle.ariadne_picture.specs.Sent
 pub use Rattle.ariadne_picture.specs.Placing

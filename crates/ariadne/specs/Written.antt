@@ -1,5 +1,5 @@
 -- What `write` ensures, by its result: which labels it left out and why, and what of the picture of
--- the others has reached the writer.
+-- the others has reached the writer. And what `margin_columns` tells of the others.
 use Rattle.std.specs.Prelude.{ℕ, ◌<◌, ◌≡◌, List, length, take, Option, Result, Ok, Err, Vec}
 use Rattle.std.specs.Io.KnownBytes.{Appends, Keeps}
 use Rattle.std.specs.declared.alloc.Global.{Global}
@@ -7,6 +7,7 @@ use Rattle.ariadne_accept.specs.declared.accept.LeftOut.{LeftOut}
 use Rattle.ariadne.specs.declared.write_error.WriteError.{WriteError}
 use Rattle.ariadne.specs.declared.write_error.WriteError.TheVariants.{Memory, Io}
 use Rattle.ariadne_accept.specs.Judging.{AreOutcomes, Outcome, drawn_labels, listed}
+use Rattle.ariadne_picture.specs.Margins.{margin_columns}
 use Rattle.ariadne_picture.specs.Report.{ReportFields, World}
 use Rattle.ariadne_picture.specs.Headline.{Headline}
 
@@ -18,6 +19,12 @@ module _ {S Id E : Type 0} (fails : Id → E → Type 0) (old w : World S Id) (r
     pub are_outcomes : AreOutcomes fails old w r.config r.labels outcomes
     pub left_out : list ≡ listed 0 outcomes
     pub drawn : Headline w r (drawn_labels outcomes) bytes
+
+  -- so many columns stand in front of the source texts of the labels that are drawn
+  pub record HasMargin (columns : ℕ) : Type 0 where
+    pub outcomes : List (Outcome E)
+    pub are_outcomes : AreOutcomes fails old w r.config r.labels outcomes
+    pub columns_are : columns ≡ margin_columns w r (drawn_labels outcomes)
 
   -- the whole picture was written, and the list is that of its left-out labels
   pub record IsWritten (list : List (LeftOut E)) (before after : Option (List ℕ)) : Type 0 where

@@ -23,7 +23,7 @@ use std::ops::Range;
 /// leaves it as it was; where it adds several texts or labels, those before stay added.
 #[derive(Debug, Drop)]
 pub struct ReportBuilder<'a, S: Span = Range<usize>> {
-    report: Content<'a, S>,
+    pub(crate) report: Content<'a, S>,
 }
 
 impl<'a, S: Span> Model for ReportBuilder<'a, S> {
@@ -313,6 +313,13 @@ impl<'a, S: Span> ReportBuilder<'a, S> {
     {
         self.add_labels(labels)?;
         Ok(self)
+    }
+
+    /// How the report will be drawn, and what its offsets count.
+    pub fn config(&self) -> Config
+        ensures { result ≡ self.now.config }
+    {
+        self.report.config()
     }
 
     /// The report with this configuration, whatever it had.

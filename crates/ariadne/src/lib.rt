@@ -3,6 +3,7 @@
 
 pub mod builder;
 pub mod laws;
+pub mod margins;
 pub mod report;
 pub mod write;
 pub mod write_error;

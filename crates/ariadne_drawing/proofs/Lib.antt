@@ -1,3 +1,4 @@
+pub mod FrontColumns
 pub mod GroupParts
 pub mod GroupRows
 pub mod Grouping

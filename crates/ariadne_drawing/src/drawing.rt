@@ -68,7 +68,7 @@ pub fn draw<S: Span, C: Cache<S::SourceId>>(
 }
 
 /// The labels in the order in which they are drawn.
-fn in_order(alloc: Global, infos: Vec<LabelInfo>) -> Result<Vec<LabelInfo>, AllocError>
+pub(crate) fn in_order(alloc: Global, infos: Vec<LabelInfo>) -> Result<Vec<LabelInfo>, AllocError>
     ensures { IfOk result (λ sorted. sorted.items ≡ ordered infos.items) }
 {
     let mut infos = infos;

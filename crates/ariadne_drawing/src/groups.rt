@@ -110,9 +110,10 @@ pub(crate) fn number_width<S: Span, C: Cache<S::SourceId>>(
     requires groups { let w = world S.source_of S.start_of S.end_of S.SourceId.eq
         (C.names cache.now) (C.contents cache.now) in
         AreGroups w report.now (map (λ g. g.now) groups.now) }
-    ensures { let w = world S.source_of S.start_of S.end_of S.SourceId.eq
+    ensures width { let w = world S.source_of S.start_of S.end_of S.SourceId.eq
         (C.names cache.now) (C.contents cache.now) in
         result ≡ number_width w report.now (map (λ g. g.now) groups.now) }
+    ensures few { result ≤ 20 }
 {
     let mut width = 0;
     for group in groups {

@@ -25,3 +25,4 @@ pub mod drawing;
 mod groups;
 mod lines;
 mod long_line;
+pub mod margins;

@@ -4,6 +4,7 @@ pub mod LineColumns
 pub mod CutLines
 pub mod RowCells
 pub mod MarginTexts
+pub mod RowColumns
 pub mod GutterInks
 pub mod InkCells
 pub mod GutterStrokes

@@ -11,6 +11,7 @@ pub mod Bars
 pub mod Cells
 pub mod Pieces
 pub mod Canvas
+pub mod Margins
 pub mod Print
 pub mod Sent
 pub mod Placing

@@ -2,7 +2,7 @@
 //! nothing: calling it tells the law.
 
 ghost use Rattle.std.specs.Prelude.{◌≡◌, ◌↔◌, ◌⊎◌, ℕ, Bool, true, List, [], Some, None};
-ghost use Rattle.std.specs.Prelude.{◌≤◌, nat_lt, int_lt, length, slice_get, IsTrue, IsFalse};
+ghost use Rattle.std.specs.Prelude.{◌<◌, ◌≤◌, nat_lt, int_lt, length, slice_get, IsTrue, IsFalse};
 ghost use Rattle.std.specs.Prelude.{◌+◌, ◌++◌, map, is_some, option_and_then, option_to_list};
 ghost use Rattle.std.specs.Prelude.{All, AllPairs, Contains, IsPermutation, IsSortedBy};
 ghost use Rattle.std.specs.Cmp.{IsStrictWeakOrder};
@@ -25,14 +25,16 @@ ghost use Rattle.ariadne_picture.specs.Blocks.{has_whole_blocks};
 ghost use Rattle.ariadne_picture.specs.Canvas.{Cell, canvas, group_id, groups, sections, texts_of};
 ghost use Rattle.ariadne_picture.specs.Causes.{has_no_other_strokes};
 ghost use Rattle.ariadne_picture.specs.Columns.{cut_columns, goes_on, layout_of, needed_labels};
-ghost use Rattle.ariadne_picture.specs.Columns.{or_begin, parts_of, place_part, shown};
+ghost use Rattle.ariadne_picture.specs.Columns.{column_of, or_begin, parts_of, place_part, shown};
 ghost use Rattle.ariadne_picture.specs.Columns.{sight_of, widened};
 ghost use Rattle.ariadne_picture.specs.GutterCauses.{has_no_other_gutter_strokes};
 ghost use Rattle.ariadne_picture.specs.Groups.{AreGroupsOf, group_start_line, groups_of, ordered};
 ghost use Rattle.ariadne_picture.specs.Headline.{AreReadInOneWay, CanBeRead, IsReadBy, IsTraced};
 ghost use Rattle.ariadne_picture.specs.LabelColors.{has_label_colors, label_color};
-ghost use Rattle.ariadne_picture.specs.Lists.{best, in_order};
+ghost use Rattle.ariadne_picture.specs.Lists.{best, in_order, total};
 ghost use Rattle.ariadne_picture.specs.LoneLines.{has_lone_underlines};
+ghost use Rattle.ariadne_picture.specs.Margins.{columns_before_text, margin_columns};
+ghost use Rattle.ariadne_picture.specs.Pieces.{Section, Texts, row_pieces};
 ghost use Rattle.ariadne_picture.specs.Placing.{has_ends_of_gutter_traces, has_gutter_bars};
 ghost use Rattle.ariadne_picture.specs.Placing.{has_inline_traces, has_message_rows, is_aligned};
 ghost use Rattle.ariadne_picture.specs.Placing.{Placing, is_placing};
@@ -378,6 +380,34 @@ pub fn cut_lines_fit()
         (cut_columns switches text parts ≤ switches.width)
         ⊎ (parts ≡ widened switches.tab_width text 0
         (or_begin (map place_part (needed_labels labels)))) }
+{}
+
+/// The text of a source row stands behind the columns of its margin and its gutter, and takes those of
+/// the places of its line.
+pub fn texts_stand_behind_margin_and_gutter()
+    ensures { (t : Texts) (digits l : ℕ) (s : Section) → let y = layout_of s.sheet l in
+        t.switches ≡ s.sheet.switches → total (λ p. p.columns) (row_pieces t digits s (source l))
+        ≡ columns_before_text digits s.sheet + column_of s.sheet.switches y (length (shown y)) }
+{}
+
+/// Where a width is asked for, a source row takes no more columns than that and those in front of its
+/// text, or of its line the letters are shown that strokes lead to and no others.
+pub fn source_rows_fit()
+    ensures { (t : Texts) (digits l : ℕ) (s : Section) → let switches = s.sheet.switches in
+        t.switches ≡ switches → 0 < switches.width → let y = layout_of s.sheet l in
+        let labels = option_to_list y.margin ++ y.labels in
+        (total (λ p. p.columns) (row_pieces t digits s (source l))
+        ≤ columns_before_text digits s.sheet + switches.width)
+        ⊎ (parts_of switches y.offset labels (shown y) ≡ widened switches.tab_width (shown y) 0
+        (or_begin (map place_part (needed_labels labels)))) }
+{}
+
+/// How many columns stand in front of the source texts of a picture doesn't depend on the width that
+/// lines are cut to. So a program may ask for that first, and for the width that is left then.
+pub fn margins_have_no_width<S, Id>()
+    ensures { (w : World S Id) (r : ReportFields S) (infos : List LabelInfo) (n : ℕ) →
+        margin_columns w (record r { config = record r.config { width = n } }) infos
+        ≡ margin_columns w r infos }
 {}
 
 /// Where no width is asked for, lines are shown whole.

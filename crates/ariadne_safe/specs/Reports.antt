@@ -1,5 +1,5 @@
 -- Reports whose texts hide nothing, over sources that hide nothing: what each call makes of what it
--- is given, and what has reached a writer.
+-- is given, what has reached a writer, and how much stands in front of a source text.
 use Rattle.std.specs.Prelude.{ℕ, ◌-◌, ◌^◌, ◌≡◌, max, min, nat_eq, List, Option, option_map, slice_get}
 use Rattle.std.specs.Prelude.{unwrap_or, Result, Vec}
 use Rattle.std.specs.declared.alloc.Global.{Global}
@@ -10,7 +10,7 @@ use Rattle.ariadne.specs.LeftOut.{LeftOut}
 use Rattle.ariadne.specs.IndexType.{IndexType}
 use Rattle.ariadne.specs.Report.{LabelFields, ReportFields, World}
 use Rattle.ariadne.specs.declared.write_error.WriteError.{WriteError}
-use Rattle.ariadne.specs.Written.{Written}
+use Rattle.ariadne.specs.Written.{HasMargin, Written}
 use Rattle.ariadne_visible.specs.declared.text.TextKind.TheVariants.{OneRow}
 use Rattle.ariadne_safe.specs.declared.sources.SafeSource.{SafeSource}
 use Rattle.ariadne_safe.specs.declared.sources.NoSource.{NoSource}
@@ -72,3 +72,11 @@ pub record WrittenFor (old : List SafeSource) (r : ReportFields (ℕ × Range �
   pub grown : HaveGrown r.labels old new
   pub safe : IsDrawnSafely (over new) r
   pub written : Written {E = NoSource} says_number (over old) (over new) r before after result
+
+-- so many columns stand in front of the source texts of a report over sources. `new` are the sources over
+-- which its labels were judged, as they are of `WrittenFor`
+pub record HasMarginOver (old : List SafeSource) (r : ReportFields (ℕ × Range ℕ)) (columns : ℕ)
+    : Type 0 where
+  pub new : List SafeSource
+  pub grown : HaveGrown r.labels old new
+  pub margin : HasMargin {E = NoSource} says_number (over old) (over new) r columns

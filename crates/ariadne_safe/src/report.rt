@@ -90,6 +90,7 @@ pub struct SafeBuilder<'a> {
 impl<'a> SafeBuilder<'a> {
     ghost use Rattle.ariadne_safe.specs.Sources.{sources_of};
     ghost use Rattle.ariadne_safe.specs.Reports.{shown_place as place_of, shown_label as label_of};
+    ghost use Rattle.ariadne_safe.specs.Reports.{HasMarginOver};
     ghost use Rattle.ariadne_safe.specs.Building.{kind_in, made_of, sources_under};
     ghost use Rattle.ariadne_safe.specs.Building.{report_of, sources_below};
 
@@ -189,6 +190,33 @@ impl<'a> SafeBuilder<'a> {
         Ok(SafeBuilder { basis, report })
     }
 
+    /// How many columns of a row stand in front of the source text of the report as it is so far, as
+    /// `Report::margin_columns` has it.
+    ///
+    /// On `Err` there was no memory to sort the labels.
+    pub fn margin_columns(&self) -> Result<usize, AllocError>
+        ensures { IfOk result (λ columns.
+            HasMarginOver (sources_under self.now) (made_of self.now) columns) }
+    {
+        let mut cache = self.basis.sources;
+        self.report.margin_columns(&mut cache)
+    }
+
+    /// The report with lines that take so many columns of their text, as `Config::with_width` cuts
+    /// them; 0 is any number.
+    pub fn with_width(self, columns: usize) -> SafeBuilder<'a>
+        ensures report { made_of result ≡ record (made_of self.entry)
+            { config = record (made_of self.entry).config { width = columns } } }
+        ensures sources { sources_under result ≡ sources_under self.entry }
+    {
+        let SafeBuilder { basis, report } = self;
+        let config = report.config().with_width(columns);
+        SafeBuilder {
+            basis,
+            report: report.with_config(config),
+        }
+    }
+
     /// The report, ready to be written.
     pub fn finish(self) -> SafeReport<'a>
         ensures report { report_of result ≡ made_of self.entry }
@@ -211,8 +239,19 @@ pub struct SafeReport<'a> {
 }
 
 impl<'a> SafeReport<'a> {
-    ghost use Rattle.ariadne_safe.specs.Reports.{WrittenFor};
+    ghost use Rattle.ariadne_safe.specs.Reports.{HasMarginOver, WrittenFor};
     ghost use Rattle.ariadne_safe.specs.Building.{report_of, sources_below};
+
+    /// How many columns of a row stand in front of the source text, as `Report::margin_columns` has it.
+    ///
+    /// On `Err` there was no memory to sort the labels.
+    pub fn margin_columns(&self) -> Result<usize, AllocError>
+        ensures { IfOk result (λ columns.
+            HasMarginOver (sources_below self.now) (report_of self.now) columns) }
+    {
+        let mut cache = self.sources;
+        self.report.margin_columns(&mut cache)
+    }
 
     /// Draws the report over its sources and sends the picture to `out`, as `Report::write` does.
     ///

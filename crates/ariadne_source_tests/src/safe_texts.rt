@@ -74,14 +74,16 @@ fn described(builder: SafeBuilder<'_>) -> Result<SafeBuilder<'_>, AllocError> {
         .with_note("n\rm")
 }
 
-/// The report over the source.
+/// The report over the source, whose first line just fits: ` 1 | é␛[8m�` has 5 columns in front of 6.
 fn report<'s>(
     alloc: Global,
     sources: &'s SafeSources,
     kind: SafeKind<'s>,
 ) -> Result<SafeReport<'s>, AllocError> {
     let builder = SafeBuilder::new(alloc, sources, kind, (0, 3..3), config());
-    Ok(described(labelled(alloc, builder)?)?.finish())
+    let builder = labelled(alloc, builder)?;
+    let width = 11 - builder.margin_columns()?.min(11);
+    Ok(described(builder.with_width(width))?.finish())
 }
 
 /// What a report sends, and the labels that it leaves out.
@@ -90,6 +92,7 @@ type Sent = (Vec<u8>, Vec<LeftOut<NoSource>>);
 /// What is sent of a report.
 fn sent(alloc: Global, report: SafeReport<'_>) -> Result<Sent, WriteError> {
     let mut out = Vec::new(alloc);
+    let _columns = report.margin_columns()?;
     let left_out = report.write(&mut out)?;
     Ok((out, left_out))
 }

@@ -8,11 +8,12 @@ use ariadne::laws::{
     gutter_bars_are_whole, gutter_columns_show_their_strokes, gutter_labels_are_read_in_one_way,
     gutter_labels_have_a_first_and_a_last_row, in_order_is_a_stable_sort, inline_labels_are_traced,
     labels_are_drawn_or_listed, labels_end_no_earlier, lines_are_found_in_one_way,
-    lone_lines_are_underlined, messages_have_rows_of_their_own,
+    lone_lines_are_underlined, margins_have_no_width, messages_have_rows_of_their_own,
     no_gutter_stroke_is_without_a_cause, no_stroke_is_without_a_cause, orders_of_a_picture,
     pictures_are_read_in_one_way, pictures_can_be_read_back, rows_are_lines,
     rows_are_the_only_list, rows_keep_the_columns_of_their_line, rows_stand_in_order,
-    strokes_have_the_colors_of_their_labels, the_last_gutter_column_has_no_bar,
+    source_rows_fit, strokes_have_the_colors_of_their_labels, texts_stand_behind_margin_and_gutter,
+    the_last_gutter_column_has_no_bar,
 };
 
 #[test]
@@ -63,4 +64,11 @@ fn every_law_of_what_is_sent_can_be_called() {
     colors_move_nothing::<u8, bool>();
     cells_hold_no_escapes::<u8, bool>();
     bytes_draw_as_characters::<u8, bool>();
+}
+
+#[test]
+fn every_law_of_columns_can_be_called() {
+    texts_stand_behind_margin_and_gutter();
+    source_rows_fit();
+    margins_have_no_width::<u8, bool>();
 }

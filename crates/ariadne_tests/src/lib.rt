@@ -18,6 +18,8 @@ mod labels;
 #[cfg(test)]
 mod laws;
 #[cfg(test)]
+mod margins;
+#[cfg(test)]
 mod readers;
 #[cfg(test)]
 mod readme;

@@ -79,8 +79,18 @@ pub(crate) const CALLS: &[(&str, &[&str])] = &[
             "SafeBuilder::with_label",
             "SafeBuilder::with_help",
             "SafeBuilder::with_note",
+            "SafeBuilder::margin_columns",
+            "SafeReport::margin_columns",
             "SafeReport::write",
             "shown_label", // (with_label calls it)
+        ],
+    ),
+    (
+        "a_refused_request_of_columns_is_an_error",
+        &[
+            "Report::margin_columns",
+            "ReportBuilder::margin_columns",
+            "margin_columns", // (these call it)
         ],
     ),
     (

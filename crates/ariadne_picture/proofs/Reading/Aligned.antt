@@ -1,7 +1,7 @@
 -- The text of a source row and of the rows below it begins at one column, and takes the columns of the line.
-use Rattle.std.proofs.Common.{◌≡◌, ℕ, ◌+◌, Bool, true, ◌&&◌, List, [], ◌∷◌, ◌++◌, map, take, length, refl, sym, ap, ◌∙◌, arith, ◌==◌}
+use Rattle.std.proofs.Common.{◌≡◌, ℕ, ◌+◌, Bool, true, ◌&&◌, List, ◌++◌, map, take, length, sym, ap, ◌∙◌, arith, ◌==◌}
 use Rattle.std.specs.Prelude.{nat_le}
-use Rattle.std.specs.List.{AllByRecursion, list_all}
+use Rattle.std.specs.List.{list_all}
 use Rattle.std.specs.Cmp.Derive.{both_true}
 use Rattle.std.proofs.lemmas.Bool.{eq-eqb, le-leb}
 use Rattle.std.proofs.lemmas.List.{length-append, length-map, map-append, take_at}
@@ -11,7 +11,7 @@ use Rattle.ariadne_picture.specs.Lists.{total}
 use Rattle.ariadne_picture.specs.Ranks.{multi_line_labels}
 use Rattle.ariadne_picture.specs.Rows.{Row, source}
 use Rattle.ariadne_picture.specs.Columns.{layout_of}
-use Rattle.ariadne_picture.specs.Pieces.{Piece, Section, margin_pieces, gutter_pieces}
+use Rattle.ariadne_picture.specs.Pieces.{Piece, Section}
 use Rattle.ariadne_picture.specs.Canvas.{Cell, cell_of}
 use Rattle.ariadne_picture.specs.Placing.Group.{shown_cells}
 use Rattle.ariadne_picture.specs.Placing.Rows.{text_cells, cells_of_places}
@@ -20,42 +20,22 @@ use Rattle.ariadne_picture.proofs.Cells.CanvasRows.{map-map}
 use Rattle.ariadne_picture.proofs.Cells.MarginTexts.{plain_cells, shown-columns}
 use Rattle.ariadne_picture.proofs.Lists.Elements.{list_all-true, pointwise-equal}
 use Rattle.ariadne_picture.proofs.Lists.ListFacts.{all-map, all-weaker}
-use Rattle.ariadne_picture.proofs.Lists.Occurrences.{total-append, total-map}
-use Rattle.ariadne_picture.proofs.Cells.RowCells.{front_pieces, area-columns, gutter-columns, length-gutter}
+use Rattle.ariadne_picture.proofs.Lists.Occurrences.{total-map}
+use Rattle.ariadne_picture.proofs.Cells.RowCells.{front_pieces, area-columns}
+use Rattle.ariadne_picture.proofs.Cells.RowColumns.{columns, front-columns}
 use Rattle.ariadne_picture.proofs.Reading.Pictures.{placing_of, rows_of, Picture, read, number, source_row}
 use Rattle.ariadne_picture.proofs.Reading.ShownLine.{IsShownLine, source-row-is, source-is, every-shown-line, every-block-row, arrow-at}
 use Rattle.ariadne_picture.proofs.Reading.TextRows.{IsTextRow, area, area-length, source-text, arrow-text, alternate-text, text-cells, cells-before}
 
--- how many columns a piece takes, and a cell
-abbrev columns : Piece → ℕ
-columns q = q.columns
-
+-- how many columns a cell takes
 abbrev cell_columns : Cell → ℕ
 cell_columns c = c.columns
 
 -- ---- the margin and the gutter
 
--- a sum of ones is their number
-total-ones : (xs : List Piece) → AllByRecursion (λ q. columns q ≡ 1) xs → total columns xs ≡ length xs
-unfolding total
-total-ones [] a = refl
-total-ones (x ∷ xs) a = let one = a.0 in let e = total-ones xs a.1 in omega (arith, one, e)
-
--- a margin has one blank, the number width and a bar, and perhaps a blank
-margin-same : (switches : Switches) (w display_offset : ℕ) (x y : Row)
-    → total columns (margin_pieces switches w display_offset x) ≡ total columns (margin_pieces switches w display_offset y)
-unfolding margin_pieces total
-margin-same switches w display_offset x y = refl
-
--- and a gutter cells of one column, as many in each row
+-- rows have as much in front of their text
 front-same : (w : ℕ) (s : Section) (x y : Row) → total columns (front_pieces w s x) ≡ total columns (front_pieces w s y)
-front-same w s x y =
-    let m = margin_pieces s.sheet.switches w s.display_offset in
-    let size : (x : Row) → total columns (gutter_pieces s.sheet x) ≡ _ =
-    λ x. total-ones (gutter_pieces s.sheet x) (gutter-columns s.sheet x) ∙ length-gutter s.sheet x in
-    total-append columns (m x) (gutter_pieces s.sheet x)
-    ∙ (λ i. margin-same s.sheet.switches w s.display_offset x y i + (size x ∙ sym (size y)) i)
-    ∙ sym (total-append columns (m y) (gutter_pieces s.sheet y))
+front-same w s x y = front-columns w s x ∙ sym (front-columns w s y)
 
 -- ---- the clause
 
