@@ -99,6 +99,125 @@ end-here t text k off = by-size (length text - k)
         cond-false (goes_on t text k) (1 + prefix_len (goes_on t text) (range_with_len (k + 1) n)) 0 off in
         omega (arith, none)
 
+-- ---- letters, by their columns
+
+-- a later place begins at no earlier column
+pub whole-up : (t : ℕ) (text : List ℕ) (a b : ℕ) → a ≤ b → whole_column t text a ≤ whole_column t text b
+whole-up t text a b up = let e : a + (b - a) ≡ b = omega (arith, up) in subst (λ n. whole_column t text a ≤ whole_column t text n) e (from (b - a))
+  where
+    from : (d : ℕ) → whole_column t text a ≤ whole_column t text (a + d)
+    from zero = let z : a + 0 ≡ a = omega arith in let same = ap (whole_column t text) z in omega (arith, same)
+    from (suc d) =
+        let z : a + suc d ≡ a + d + 1 = omega arith in
+        let same = ap (whole_column t text) z in
+        let more = whole_column-more t text (a + d) in
+        omega (arith, same, more, from d)
+
+-- a place of the text that ends where it begins goes on
+goes-flat : (t : ℕ) (text : List ℕ) (k : ℕ) → k < length text → whole_column t text (k + 1) ≡ whole_column t text k → goes_on t text k ≡ true
+unfolding goes_on
+goes-flat t text k below flat =
+    let more = whole_column-more t text k in
+    both-true _ _ (lt-ltb k (length text) below) (eq-eqb (whole_width t text k) 0 (omega (arith, more, flat)))
+
+-- one that ends behind that doesn't
+goes-not : (t : ℕ) (text : List ℕ) (k : ℕ) → whole_column t text k < whole_column t text (k + 1) → goes_on t text k ≡ false
+unfolding goes_on
+goes-not t text k wide =
+    let more = whole_column-more t text k in and_right _ _ (ne_eqb (whole_width t text k) 0 (λ none. omega (arith, more, wide, none)))
+
+-- a place that goes on ends where it begins
+flat-goes : (t : ℕ) (text : List ℕ) (k : ℕ) → goes_on t text k ≡ true → whole_column t text (k + 1) ≡ whole_column t text k
+unfolding goes_on
+flat-goes t text k on =
+    let none : whole_width t text k ≡ 0 = eqb-true (whole_width t text k) 0 (and_parts (nat_lt k (length text)) (whole_width t text k == 0) on).1 in
+    let more = whole_column-more t text k in
+    omega (arith, none, more)
+
+-- a letter begins at place a, where the places from there to k end at one column, and the one before it at another
+start-found : (t : ℕ) (text : List ℕ) (a k : ℕ) → a ≤ k → k < length text → whole_column t text (a + 1) ≡ whole_column t text (k + 1)
+    → (0 < a → whole_column t text a < whole_column t text (a + 1)) → a ≡ letter_start t text k
+start-found t text a k up below flat first =
+    let e : a + (k - a) ≡ k = omega (arith, up) in
+    own ∙ back (k - a) (omega (arith, e, below)) (ap (λ n. whole_column t text (n + 1)) e ∙ sym flat) ∙ ap (letter_start t text) e
+  where
+    own : a ≡ letter_start t text a
+    own = elim (cases_lt 0 a) [
+      | inl some ↦ start-here t text a (goes-not t text a (first some))
+      | inr none ↦ start-first t text a (omega (arith, none))
+    ]
+
+    back : (d : ℕ) → a + d < length text → whole_column t text (a + d + 1) ≡ whole_column t text (a + 1) → letter_start t text a ≡ letter_start t text (a + d)
+    back zero within ends = let z : a + 0 ≡ a = omega arith in ap (letter_start t text) (sym z)
+    back (suc d) within ends =
+        let z : a + suc d ≡ a + d + 1 = omega arith in
+        let y : a + d + 1 - 1 ≡ a + d = omega arith in
+        let low = whole-up t text (a + 1) (a + d + 1) (omega arith) in
+        let high = whole-up t text (a + d + 1) (a + d + 1 + 1) (omega arith) in
+        let last = ap (λ n. whole_column t text (n + 1)) (sym z) ∙ ends in
+        let on = goes-flat t text (a + d + 1) (omega (arith, within)) (omega (arith, low, high, last)) in
+        back d (omega (arith, within)) (omega (arith, low, high, last)) ∙ ap (letter_start t text) (sym y) ∙ start-back t text (a + d + 1) (omega arith) on
+        ∙ ap (letter_start t text) (sym z)
+
+-- it begins at the first place that ends behind the column before the one that a place of it begins at
+pub start-searched : (t : ℕ) (text : List ℕ) (a k before : ℕ) → goes_on t text k ≡ true → whole_column t text k ≡ before + 1 → a ≤ k
+    → ((j : ℕ) → j < a → whole_column t text (j + 1) ≤ before) → (a < k → before < whole_column t text (a + 1)) → a ≡ letter_start t text k
+start-searched t text a k before on is up front there =
+    let flat = flat-goes t text k on in
+    let same : whole_column t text (a + 1) ≡ whole_column t text (k + 1) = elim (cases_lt a k) [
+      | inl less ↦ let low = there less in let high = whole-up t text (a + 1) k (omega (arith, less)) in omega (arith, flat, is, low, high)
+      | inr last ↦ let e : a ≡ k = omega (arith, up, last) in ap (λ n. whole_column t text (n + 1)) e
+    ] in
+    start-found t text a k up (goes-within t text k on) same (λ some.
+    let e : a - 1 + 1 ≡ a = omega (arith, some) in
+    let own = ap (whole_column t text) e in
+    let less = front (a - 1) (omega (arith, some)) in
+    omega (arith, own, less, same, flat, is))
+
+-- at the first place, if a place of it begins at the first column
+pub start-columnless : (t : ℕ) (text : List ℕ) (k : ℕ) → goes_on t text k ≡ true → whole_column t text k ≡ 0 → 0 ≡ letter_start t text k
+start-columnless t text k on is =
+    let flat = flat-goes t text k on in
+    let up = whole-up t text (0 + 1) (k + 1) (omega arith) in
+    start-found t text 0 k (omega arith) (goes-within t text k on) (omega (arith, flat, is, up)) (λ some. absurd (omega (arith, some)))
+
+-- the letter ends at the first place that ends behind the column that a place before it begins at
+pub end-searched : (t : ℕ) (text : List ℕ) (k b : ℕ) → k ≤ b → b ≤ length text
+    → ((j : ℕ) → k ≤ j → j < b → whole_column t text (j + 1) ≤ whole_column t text k)
+    → (b < length text → whole_column t text k < whole_column t text (b + 1)) → b ≡ letter_end t text k
+end-searched t text k b up within front there =
+    let e : k + (b - k) ≡ b = omega (arith, up) in
+    own ∙ ap (letter_end t text) (sym e) ∙ on (b - k) (omega (arith, e))
+  where
+    flat : (j : ℕ) → k ≤ j → j ≤ b → whole_column t text j ≡ whole_column t text k
+    flat j low high = elim (cases_lt k j) [
+      | inl more ↦
+          let e : j - 1 + 1 ≡ j = omega (arith, more) in
+          let same = ap (whole_column t text) e in
+          let most = front (j - 1) (omega (arith, more)) (omega (arith, more, high)) in
+          let least = whole-up t text k j low in
+          omega (arith, same, most, least)
+      | inr here ↦ let e : j ≡ k = omega (arith, low, here) in ap (whole_column t text) e
+    ]
+
+    own : b ≡ letter_end t text b
+    own = elim (cases_lt b (length text)) [
+      | inl below ↦
+          let wide = there below in
+          let begins = flat b up (omega arith) in
+          end-here t text b (goes-not t text b (omega (arith, wide, begins)))
+      | inr past ↦ end-here t text b (sym (goes-on-past t text (length text) b refl past))
+    ]
+
+    on : (d : ℕ) → k + d ≤ b → letter_end t text (k + d) ≡ letter_end t text k
+    on zero high = let z : k + 0 ≡ k = omega arith in ap (letter_end t text) z
+    on (suc d) high =
+        let z : k + suc d ≡ k + d + 1 = omega arith in
+        let here = flat (k + d) (omega arith) (omega (arith, high)) in
+        let next = flat (k + d + 1) (omega arith) (omega (arith, high)) in
+        let goes = goes-flat t text (k + d) (omega (arith, high, within)) (omega (arith, here, next)) in
+        ap (letter_end t text) z ∙ end-on t text (k + d) goes ∙ on d (omega (arith, high))
+
 -- ---- lists of parts
 
 -- one part more is widened

@@ -39,6 +39,8 @@ impl WholeColumns {
     ///
     /// On `Err` there was no memory for them, or none holds so many columns. What is held is then of
     /// no line.
+    #[cold]
+    #[inline(never)]
     pub fn fill(&mut self, switches: &Switches, layout: &LineLayout<'_>) -> Result<(), AllocError>
         requires tabs { 1 ≤ switches.now.tab_width }
         ensures { OnOk result (AreWholeColumns switches.now.tab_width (shown layout.now) self.new) }

@@ -14,7 +14,7 @@ ghost use Rattle.ariadne_cells.specs.Cuts.{mark_behind, needed, parts_of_labels,
 ghost use Rattle.ariadne_cells.specs.Tables.{AreWholeColumns};
 ghost use Rattle.ariadne_picture.specs.Columns.{context, cut_columns, fits_with, goes_on};
 ghost use Rattle.ariadne_picture.specs.Columns.{letter_end, letter_start, needed_parts, or_begin, shown};
-ghost use Rattle.ariadne_picture.specs.Columns.{sights_of, whole_width, widened, widened_part};
+ghost use Rattle.ariadne_picture.specs.Columns.{sights_of, whole_column, whole_width, widened, widened_part};
 
 use crate::columns::{WholeColumns, mark_columns};
 use crate::layout::LineLayout;
@@ -73,6 +73,8 @@ impl Cuts {
 
     /// Finds the parts that have to be shown: what the labels span, if that fits, or else the places
     /// that their strokes lead to.
+    #[cold]
+    #[inline(never)]
     fn find_needed(
         &mut self,
         switches: &Switches,
@@ -98,6 +100,8 @@ impl Cuts {
 
     /// How many places are shown on either side of the parts: the most with which, and with each
     /// lesser number, the line fits; none if it doesn't fit at all.
+    #[cold]
+    #[inline(never)]
     fn context(&mut self, switches: &Switches, len: usize) -> Result<usize, AllocError>
         requires order { IsNonDecreasingBy (λ p. p.from) self.old.needed.items }
         requires places { All HasPlace self.old.needed.items }
@@ -258,6 +262,8 @@ fn label_part(label: &LineLabel, offset: usize, spans: bool) -> Result<Part, All
 }
 
 /// Lists parts with `count` more places on either side, those that meet as one.
+#[cold]
+#[inline(never)]
 fn widen(
     list: &mut Vec<Part>,
     columns: &WholeColumns,
@@ -340,16 +346,18 @@ fn place_width(columns: &WholeColumns, place: usize) -> usize
     columns.width(place, place + 1)
 }
 
-/// Where the letter begins that a place is of.
+/// Where the letter begins that a place is of. The places of a letter end at one column.
 fn letter_start(columns: &WholeColumns, len: usize, place: usize) -> usize
     ensures { (t : ℕ) (text : List ℕ) → AreWholeColumns t text columns.now → length text ≡ len →
         result ≡ letter_start t text place }
 {
-    let mut start = place;
-    while start > 0 && goes_on(columns, len, start) {
-        start -= 1;
+    if !goes_on(columns, len, place) {
+        return place;
     }
-    start
+    match columns.column(place).checked_sub(1) {
+        Some(before) => first_behind(columns, 0, place, before),
+        None => 0,
+    }
 }
 
 /// The first place from `place` on that goes on with no letter.
@@ -357,11 +365,33 @@ fn letter_end(columns: &WholeColumns, len: usize, place: usize) -> usize
     ensures { (t : ℕ) (text : List ℕ) → AreWholeColumns t text columns.now → length text ≡ len →
         result ≡ letter_end t text place }
 {
-    let mut end = place;
-    while goes_on(columns, len, end) {
-        end += 1;
+    if !goes_on(columns, len, place) {
+        return place;
     }
-    end
+    first_behind(columns, place, len, columns.column(place))
+}
+
+/// The first place from `from` on and before `to` that ends behind a column, or `to` if none does.
+fn first_behind(columns: &WholeColumns, from: usize, to: usize, column: usize) -> usize
+    requires order { from ≤ to }
+    ensures from { from ≤ result }
+    ensures to { result ≤ to }
+    ensures before { (t : ℕ) (text : List ℕ) → AreWholeColumns t text columns.now → to ≤ length text →
+        (k : ℕ) → from ≤ k → k < result → whole_column t text (k + 1) ≤ column }
+    ensures there { (t : ℕ) (text : List ℕ) → AreWholeColumns t text columns.now → to ≤ length text →
+        result < to → column < whole_column t text (result + 1) }
+{
+    let mut first = from;
+    let mut behind = to;
+    while first < behind {
+        let middle = first + (behind - first) / 2;
+        if columns.column(middle + 1) > column {
+            behind = middle;
+        } else {
+            first = middle + 1;
+        }
+    }
+    first
 }
 
 // ---- how many columns they take

@@ -96,6 +96,8 @@ impl LineColumns {
     }
 
     /// Finds those of a line that is cut.
+    #[cold]
+    #[inline(never)]
     fn fill_cut(
         &mut self,
         switches: &Switches,
@@ -178,6 +180,8 @@ fn push_behind(list: &mut Vec<usize>, column: usize, len: usize) -> Result<(), A
 }
 
 /// The column of the first of some knots at a place or behind it, or 0 if there is none.
+#[cold]
+#[inline(never)]
 fn knot_column(knots: &[Knot], place: usize) -> usize
     requires { AreRising knots.now }
     ensures { result ≡ knot_column 0 knots.now place }

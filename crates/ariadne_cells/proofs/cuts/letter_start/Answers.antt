@@ -1,20 +1,29 @@
-use Rattle.std.proofs.Common.{◌∙◌, sym, arith}
-use Rattle.ariadne_cells.proofs.CutParts.{start-back, start-first, start-here}
+use Rattle.std.proofs.Common.{◌≡◌, ◌≤◌, ◌+◌, ◌∙◌, length, sym, arith, rules}
+use Rattle.ariadne_cells.proofs.CutParts.{goes-within, start-columnless, start-here, start-searched}
 use Rattle.ariadne_cells.proofs.cuts.letter_start.Goals as goal
 
--- a place that goes on is of the letter of the place before it
-pub loop-start-preserved : goal.loop-start-preserved
-loop-start-preserved c = λ t text held size.
-    start-back t text c.loop-start.start (omega (arith, c.loop-start-test.true)) (sym (c.goes_on.ensures.goes_on t text held size) ∙ c.if-goes_on.true)
-    ∙ c.loop-start.invariant t text held size
+-- a place that doesn't go on begins its letter
+pub returns-then-not-goes_on : goal.returns-then-not-goes_on
+returns-then-not-goes_on c = λ t text held size. start-here t text c.args.place (sym (c.goes_on.ensures.goes_on t text held size) ∙ c.if-not-goes_on.true)
 
--- another begins it
-pub returns-else-goes_on : goal.returns-else-goes_on
-returns-else-goes_on c = λ t text held size.
-    start-here t text c.loop-start.start (sym (c.goes_on.ensures.goes_on t text held size) ∙ c.if-goes_on.false)
-    ∙ c.loop-start.invariant t text held size
+-- the letter of another begins at the first place that ends where it does
+pub returns-in-Some : goal.returns-in-Some
+returns-in-Some c = λ t text held size.
+    let k = c.args.place in
+    let on = sym (c.goes_on.ensures.goes_on t text held size) ∙ c.if-not-goes_on.false in
+    let below = goes-within t text k on in
+    let is = c.column.ensures ∙ held k (omega (arith, below)) in
+    let before : c.in-Some.before + 1 ≡ c.column.result = search rules in
+    let within : k ≤ length text = omega (arith, below) in
+    start-searched t text c.first_behind.result k c.in-Some.before on (omega (arith, is, before)) c.first_behind.ensures.to
+    (λ j less. c.first_behind.ensures.before t text held within j (omega arith) less) (c.first_behind.ensures.there t text held within)
 
--- so does the first
-pub returns-after-loop-start : goal.returns-after-loop-start
-returns-after-loop-start c = λ t text held size.
-    start-first t text c.loop-start.start (omega (arith, c.loop-start-test.false)) ∙ c.loop-start.invariant t text held size
+-- or at the first of all
+pub returns-in-None : goal.returns-in-None
+returns-in-None c = λ t text held size.
+    let k = c.args.place in
+    let on = sym (c.goes_on.ensures.goes_on t text held size) ∙ c.if-not-goes_on.false in
+    let below = goes-within t text k on in
+    let is = c.column.ensures ∙ held k (omega (arith, below)) in
+    let none : c.column.result ≡ 0 = search rules in
+    start-columnless t text k on (omega (arith, is, none))
