@@ -39,7 +39,7 @@ said_if (Err e) style kind span config text sources r0 built report o p begun lo
 
 -- of one about a diagnostic
 pub head_drawn_if : {T E : Type 0} (r : Result T E) (style : Style) (told : Diagnostic) (sources : List SafeSource)
-    (report : ReportFields (ℕ × Range ℕ)) (o p : Option (List ℕ)) → IsAbout style told (first_line told) report → IsBare report
+    (report : ReportFields (ℕ × Range ℕ)) (o p : Option (List ℕ)) → IsAbout style 0 told (first_line told) report → IsBare report
     → OnOk r (IsPicture sources report o p) → OnOk r (IsHeadDrawn style told o p)
 head_drawn_if (Ok x) style told sources report o p about bare picture =
     record { sources = sources; report = report; about = about; bare = bare; picture = picture }

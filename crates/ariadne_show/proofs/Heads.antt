@@ -1,5 +1,5 @@
 -- Reports about diagnostics.
-use Rattle.std.proofs.Common.{◌≡◌, ◌∙◌, ap, refl, sym}
+use Rattle.std.proofs.Common.{◌≡◌, ◌∙◌, [], ap, refl, subst, sym}
 use Rattle.std.specs.Prelude.{ℕ, max, List, ◌++◌, Option, Some, None, option_map, String, string_bytes}
 use Rattle.std.specs.declared.alloc.Global.{Global}
 use Rattle.std.specs.declared.ops.Range.{Range}
@@ -13,8 +13,15 @@ use Rattle.ariadne_show.specs.Drawn.{coded, config_of, kind_of, IsAbout, IsBare,
 use Rattle.ariadne_show.specs.Asides.{helps_of, notes_of, with_helps, with_notes}
 use Rattle.ariadne_show.specs.Found.{Files, Found}
 use Rattle.ariadne_show.specs.Labels.{AreOrdered, header_of, labels_of, shown_header, with_labels}
+use Rattle.ariadne_show.specs.Widths.{IsTextWidth, without_rows}
 use Rattle.ariadne_safe.specs.Reports.{shown_place}
 use Rattle.ariadne_safe.specs.declared.sources.SafeSource.{SafeSource}
+
+-- a report with lines of so many columns
+abbrev pub wide : ℕ → ReportFields (ℕ × Range ℕ) → ReportFields (ℕ × Range ℕ)
+wide width report = record report { config = record report.config { width = width } }
+
+-- ---- its head
 
 coded-config : (code : Option (String Global)) (r : ReportFields (ℕ × Range ℕ)) → (coded code r).config ≡ r.config
 coded-config None r = refl
@@ -37,7 +44,7 @@ coded-code (Some code) r none = refl
 pub about : (style : Style) (told : Diagnostic) (kind : Kind) (span : ℕ × Range ℕ) (config : ConfigFields)
     (r0 r s : ReportFields (ℕ × Range ℕ)) (text : List ℕ) → r0 ≡ record (new_report kind span) { config = config }
     → config ≡ config_of style → kind ≡ kind_of told → r ≡ record r0 { message = Some (visible_bytes OneRow text) }
-    → s ≡ coded told.code r → IsAbout style told text s
+    → s ≡ coded told.code r → IsAbout style 0 told text s
 about style told kind span config r0 r s text begun looks is made same = rw same (record {
   config = coded-config told.code r ∙ ap (λ (x : ReportFields (ℕ × Range ℕ)). x.config) made
       ∙ ap (λ (x : ReportFields (ℕ × Range ℕ)). x.config) begun ∙ looks;
@@ -65,32 +72,59 @@ pub new_bare : (kind : Kind) (span : ℕ × Range ℕ) (config : ConfigFields) (
     → r ≡ record (new_report kind span) { config = config } → IsBare r
 new_bare kind span config r is = rw is (record { labels = refl; notes = refl; helps = refl })
 
--- one with labels, notes and helps
-about_more : (style : Style) (told : Diagnostic) (text : List ℕ) (r : ReportFields (ℕ × Range ℕ))
-    (labels : List (LabelFields (ℕ × Range ℕ))) (notes helps : List (List ℕ)) → IsAbout style told text r
-    → IsAbout style told text (with_helps helps (with_notes notes (with_labels labels r)))
-about_more style told text r labels notes helps about = record {
-  config = about.config;
+-- one with labels
+about_labels : (style : Style) (told : Diagnostic) (text : List ℕ) (r : ReportFields (ℕ × Range ℕ))
+    (labels : List (LabelFields (ℕ × Range ℕ))) → IsAbout style 0 told text r → IsAbout style 0 told text (with_labels labels r)
+about_labels style told text r labels about =
+    record { config = about.config; kind = about.kind; code = about.code; message = about.message }
+
+-- one with a width, notes and helps
+about_more : (style : Style) (told : Diagnostic) (text : List ℕ) (r : ReportFields (ℕ × Range ℕ)) (width : ℕ) (notes helps : List (List ℕ))
+    → IsAbout style 0 told text r
+    → IsAbout style width told text (with_helps helps (with_notes notes (wide width r)))
+about_more style told text r width notes helps about = record {
+  config = ap (λ (c : ConfigFields). record c { width = width }) about.config;
   kind = about.kind;
   code = about.code;
   message = about.message;
 }
 
+-- without these it is as it was
+rows_without : (r : ReportFields (ℕ × Range ℕ)) (width : ℕ) (notes helps : List (List ℕ)) → r.notes ≡ [] → r.helps ≡ [] → r.config.width ≡ 0
+    → r ≡ without_rows (with_helps helps (with_notes notes (wide width r)))
+rows_without r width notes helps none nor whole = λ i. record r {
+  notes = none i;
+  helps = nor i;
+  config = record r.config { width = whole i };
+}
+
 pub report_about : (style : Style) (files : Files) (told : Diagnostic) (main : Found) (ordered : List Found)
-    (r s : ReportFields (ℕ × Range ℕ)) (under sources : List SafeSource) → IsAbout style told (string_bytes told.message) r → IsBare r
-    → r.span ≡ shown_header r.config.index_type under main → AreOrdered files main.number told.places.items ordered
-    → s ≡ with_helps (helps_of style.width told) (with_notes (notes_of style.width files told)
-    (with_labels (labels_of r.config.index_type under told.severity style.is_compact ordered) r))
+    (r m s : ReportFields (ℕ × Range ℕ)) (width : ℕ) (under sources : List SafeSource) → IsAbout style 0 told (string_bytes told.message) r
+    → IsBare r → r.span ≡ shown_header r.config.index_type under main → AreOrdered files main.number told.places.items ordered
+    → m ≡ with_labels (labels_of r.config.index_type under told.severity style.is_compact ordered) r
+    → IsTextWidth style.width under m width
+    → s ≡ with_helps (helps_of width told) (with_notes (notes_of width files told) (wide width m))
     → sources ≡ under → IsReportOf style files told main sources s
-report_about style files told main ordered r s under sources about bare span places is same = rw (is, same) (record {
-  about = about_more style told (string_bytes told.message) r (labels_of r.config.index_type under told.severity style.is_compact ordered) (notes_of style.width files told) (helps_of style.width told) about;
-  span = span;
-  ordered = ordered;
-  places = places;
-  labels = ap (λ l. l ++ labels_of r.config.index_type under told.severity style.is_compact ordered) bare.labels;
-  notes = ap (λ l. l ++ notes_of style.width files told) bare.notes;
-  helps = ap (λ l. l ++ helps_of style.width told) bare.helps;
-})
+report_about style files told main ordered r m s width under sources about bare span places marked fits is same =
+    rw (is, same, marked) (record {
+      width = width;
+      is_width =
+          subst (λ (q : ReportFields (ℕ × Range ℕ)). IsTextWidth style.width under q width)
+          (marked
+          ∙ rows_without (with_labels labels r) width (notes_of width files told) (helps_of width told) bare.notes bare.helps
+          (ap (λ (c : ConfigFields). c.width) about.config)) fits;
+      about = about_more style told (string_bytes told.message) (with_labels labels r) width (notes_of width files told) (helps_of width told)
+          (about_labels style told (string_bytes told.message) r labels about);
+      span = span;
+      ordered = ordered;
+      places = places;
+      labels = ap (λ l. l ++ labels) bare.labels;
+      notes = ap (λ l. l ++ notes_of width files told) bare.notes;
+      helps = ap (λ l. l ++ helps_of width told) bare.helps;
+    })
+  where
+    labels : List (LabelFields (ℕ × Range ℕ))
+    labels = labels_of r.config.index_type under told.severity style.is_compact ordered
 
 -- a header that ends at the end of a place
 abbrev header_to : Found → ℕ → ℕ × Range ℕ

@@ -26,6 +26,7 @@ use Rattle.ariadne_show.specs.Asides.{helps_of, notes_of}
 use Rattle.ariadne_show.specs.Found.{Files, Found}
 use Rattle.ariadne_show.specs.Labels.{severity_color, AreOrdered, labels_of, main_in, shown_header}
 use Rattle.ariadne_show.specs.Said.{first_line, lines_of}
+use Rattle.ariadne_show.specs.Widths.{IsTextWidth, without_rows}
 
 -- ---- what a report is about
 
@@ -51,8 +52,8 @@ kind_for (Some own) severity =
 abbrev pub kind_of : Diagnostic → Kind
 kind_of told = kind_for told.own_kind told.severity
 
--- the default configuration, but for the colours, the strokes, the size, the context lines and the width
--- that are asked for, and with underlines also where no label of a line has a message
+-- the default configuration, but for the colours, the strokes, the size and the context lines that are
+-- asked for, and with underlines also where no label of a line has a message
 abbrev pub config_of : Style → ConfigFields
 config_of style = record default_config {
   color = style.is_colored;
@@ -60,14 +61,13 @@ config_of style = record default_config {
   compact = style.is_compact;
   lone_underlines = true;
   context_lines = style.context_lines;
-  width = style.width;
 }
 
--- a report has the configuration that is asked for, the kind and the code of a diagnostic, and a text as
--- its message, as they can be shown
-pub record IsAbout (style : Style) (told : Diagnostic) (text : List ℕ)
+-- a report has the configuration that is asked for, with lines of so many columns, the kind and the code
+-- of a diagnostic, and a text as its message, as they can be shown
+pub record IsAbout (style : Style) (width : ℕ) (told : Diagnostic) (text : List ℕ)
     (report : ReportFields (ℕ × Range ℕ)) : Type 0 where
-  pub config : report.config ≡ config_of style
+  pub config : report.config ≡ record (config_of style) { width = width }
   pub kind : report.kind ≡ kind_of told
   pub code : report.code
       ≡ option_map (λ code. filled_code (visible_bytes OneRow (string_bytes code))) told.code
@@ -85,17 +85,20 @@ pub record IsBare (report : ReportFields (ℕ × Range ℕ)) : Type 0 where
   pub notes : report.notes ≡ []
   pub helps : report.helps ≡ []
 
--- a report has the head, the labels, the notes and the helps of a diagnostic whose own place was found
+-- a report has the head, the labels, the notes and the helps of a diagnostic whose own place was found.
+-- Its lines, notes and helps take the columns that its margin leaves of a row
 pub record IsReportOf (style : Style) (files : Files) (told : Diagnostic) (main : Found)
     (sources : List SafeSource) (report : ReportFields (ℕ × Range ℕ)) : Type 0 where
-  pub about : IsAbout style told (string_bytes told.message) report
+  pub width : ℕ
+  pub is_width : IsTextWidth style.width sources (without_rows report) width
+  pub about : IsAbout style width told (string_bytes told.message) report
   pub span : report.span ≡ shown_header report.config.index_type sources main
   pub ordered : List Found
   pub places : AreOrdered files main.number told.places.items ordered
   pub labels : report.labels
       ≡ labels_of report.config.index_type sources told.severity style.is_compact ordered
-  pub notes : report.notes ≡ notes_of style.width files told
-  pub helps : report.helps ≡ helps_of style.width told
+  pub notes : report.notes ≡ notes_of width files told
+  pub helps : report.helps ≡ helps_of width told
 
 -- ---- pictures
 
@@ -128,7 +131,7 @@ pub record IsHeadDrawn (style : Style) (told : Diagnostic) (before after : Optio
     : Type 0 where
   pub sources : List SafeSource
   pub report : ReportFields (ℕ × Range ℕ)
-  pub about : IsAbout style told (first_line told) report
+  pub about : IsAbout style 0 told (first_line told) report
   pub bare : IsBare report
   pub picture : IsPicture sources report before after
 

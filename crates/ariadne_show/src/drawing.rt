@@ -18,6 +18,7 @@ ghost use Rattle.ariadne_show.specs.Labels.{is_underlined as underlines_show};
 ghost use Rattle.ariadne_show.specs.Labels.{with_labels as more_labels};
 ghost use Rattle.ariadne_show.specs.Read.{sources_in};
 ghost use Rattle.ariadne_show.specs.Said.{first_line, lines_of};
+ghost use Rattle.ariadne_show.specs.Widths.{IsTextWidth};
 
 use crate::asides::{spot_text, with_asides};
 use crate::fault::Fault;
@@ -214,7 +215,23 @@ fn report_of<'s>(
         style.is_compact,
         places.as_slice(),
     )?;
-    Ok(with_asides(alloc, builder, shelf, told, style.width)?.finish())
+    let width = text_width(&builder, style.width)?;
+    Ok(with_asides(alloc, builder.with_width(width), shelf, told, width)?.finish())
+}
+
+/// How many columns the text of a line may take where a row of this report may take so many: those that
+/// its margin leaves, but at least one. 0 is any number of both.
+fn text_width(builder: &SafeBuilder<'_>, columns: usize) -> Result<usize, AllocError>
+    ensures { IfOk result (λ width.
+        IsTextWidth columns (sources_under builder.now) (made_of builder.now) width) }
+{
+    match columns {
+        0 => Ok(0),
+        _ => {
+            let margin = builder.margin_columns()?;
+            Ok(columns.saturating_sub(margin).max(1))
+        }
+    }
 }
 
 /// The report with the code of a diagnostic, if it has one.
@@ -339,7 +356,7 @@ fn color_of(severity: Severity) -> Color
     }
 }
 
-/// The configuration of pictures.
+/// The configuration of pictures, whose lines are whole.
 fn config_of(style: Style) -> Config
     ensures { result ≡ config_fields style }
 {
@@ -354,5 +371,4 @@ fn config_of(style: Style) -> Config
         .with_char_set(char_set)
         .with_lone_underlines(true)
         .with_context_lines(style.context_lines)
-        .with_width(style.width)
 }

@@ -3,16 +3,13 @@
 ghost use Rattle.std.specs.Prelude.{◌≡◌, option_map, string_bytes, IfOk, Some, None};
 ghost use Rattle.ariadne_show.specs.Asked.{IsCountIn};
 ghost use Rattle.ariadne_show.specs.Colors.{are_colored, asked, holds, is_set};
-ghost use Rattle.ariadne_show.specs.Widths.{text_width, IsTextWidth};
+ghost use Rattle.ariadne_show.specs.Widths.{IsRowWidth};
 
 use crate::options::{Colors, Width};
 use std::alloc::AllocError;
 use std::env;
 use std::env::VarError;
 use std::rt::Env;
-
-/// How many columns of a row are left for numbers and bars.
-const BESIDE_TEXT: usize = 12;
 
 /// The variables that are read: what each holds, where it is set.
 #[derive(Default, Drop)]
@@ -58,18 +55,17 @@ impl Environment {
         }
     }
 
-    /// How many columns the text of a line may take, by `--width`, `COLUMNS`, and whether the output is a
+    /// How many columns a row of a picture may take, by `--width`, `COLUMNS`, and whether the output is a
     /// terminal; 0 is any number.
     ///
-    /// Of the columns of a row some are left for numbers and bars. Without a terminal, or where `COLUMNS`
-    /// is no number, `--width auto` is any number.
+    /// Without a terminal, or where `COLUMNS` is no number, `--width auto` is any number.
     pub fn width(&self, width: Width, is_terminal: bool) -> usize
-        ensures { IsTextWidth width self.now is_terminal result }
+        ensures { IsRowWidth width self.now is_terminal result }
     {
         match width {
             Width::Full => 0,
-            Width::Columns(columns) => text_width(columns),
-            Width::Auto if is_terminal => text_width(number_in(&self.columns)),
+            Width::Columns(columns) => columns,
+            Width::Auto if is_terminal => number_in(&self.columns),
             Width::Auto => 0,
         }
     }
@@ -88,16 +84,6 @@ impl Environment {
         } else {
             None
         }
-    }
-}
-
-/// How many columns the text of a line may take in a row of so many; 0 is any number of both.
-fn text_width(columns: usize) -> usize
-    ensures { result ≡ text_width columns }
-{
-    match columns {
-        0 => 0,
-        _ => columns.saturating_sub(BESIDE_TEXT).max(1),
     }
 }
 

@@ -59,7 +59,7 @@ pub struct Style {
     pub is_compact: bool,
     /// `--context`: how many lines are shown above and below each line with a label.
     pub context_lines: usize,
-    /// How many columns the text of a line may take. 0 is any number.
+    /// How many columns the rows of a picture may take. 0 is any number.
     pub width: usize,
 }
 
@@ -68,7 +68,7 @@ pub struct Style {
 pub struct Options<'a> {
     /// How lines are read.
     pub reading: Reading,
-    /// How diagnostics are drawn. Whether there are colours is not decided yet, nor how wide lines are.
+    /// How diagnostics are drawn. Whether there are colours is not decided yet, nor how wide rows are.
     pub style: Style,
     /// When there are colours.
     pub colors: Colors,

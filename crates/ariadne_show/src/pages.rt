@@ -43,8 +43,8 @@ What is written:
   --severity KIND  error, warning or note: what is less severe is counted, and not drawn
   --max N          draws N diagnostics at most, and tells how many more there are
   --context N      shows N lines above and below those of a picture; none, where nothing is said
-  --width N        cuts lines so that a row takes some N columns, or auto, or full; auto is as many
-                   as COLUMNS says at a terminal, and full shows lines whole
+  --width N        cuts lines so that a row takes at most N columns, or auto, or full; auto is as
+                   many as COLUMNS says at a terminal, and full shows lines whole
   --raw            lines go through as they are, with what a terminal obeys
   --color WHEN     auto, always or never; auto is as the environment asks, and else at a terminal
   --ascii          strokes are ASCII, and not box drawing characters

@@ -4,6 +4,7 @@ use Rattle.ariadne.specs.Kinds.{kind_of as kind_of_fields}
 use Rattle.ariadne.specs.Report.{ReportFields}
 use Rattle.ariadne_safe.specs.Building.{kind_in, made_of, report_of as report_in, sources_under}
 use Rattle.ariadne_safe.specs.Sources.{sources_of}
+use Rattle.ariadne_safe.specs.declared.sources.SafeSource.{SafeSource}
 use Rattle.ariadne_show.specs.Drawn.{IsAbout, IsBare}
 use Rattle.ariadne_told.specs.declared.diagnostic.Place.{Place}
 use Rattle.ariadne_show.specs.declared.found.FoundPlace.{FoundPlace}
@@ -11,15 +12,16 @@ use Rattle.ariadne_show.specs.Asides.{helps_of, notes_of, with_helps, with_notes
 use Rattle.ariadne_show.specs.Found.{files_of, found_of}
 use Rattle.ariadne_show.specs.Labels.{labels_of, shown_header, with_labels, AreOrdered}
 use Rattle.ariadne_show.specs.Read.{sources_in}
-use Rattle.ariadne_show.proofs.Heads.{about, begun_bare, begun_span, header_ends, new_bare, report_about}
+use Rattle.ariadne_show.specs.Widths.{IsTextWidth}
+use Rattle.ariadne_show.proofs.Heads.{about, begun_bare, begun_span, header_ends, new_bare, report_about, wide}
 use Rattle.ariadne_show.proofs.drawing.report_of.Goals as goal
 
 -- the head, which stays while labels, notes and helps are added
 pub returns : goal.returns
 returns c =
     let told = c.args.titled.now.told.now in
-    let head : IsAbout c.args.style told (string_bytes told.message) (made_of c.in_ok-builder.builder) =
-    subst (λ (text : List ℕ). IsAbout c.args.style told text (made_of c.in_ok-builder.builder)) c.as_str.ensures.value
+    let head : IsAbout c.args.style 0 told (string_bytes told.message) (made_of c.in_ok-builder.builder) =
+    subst (λ (text : List ℕ). IsAbout c.args.style 0 told text (made_of c.in_ok-builder.builder)) c.as_str.ensures.value
     (about c.args.style told (kind_of_fields (kind_in c.kind-kind.result)) _ _ (made_of c.new-builder.result)
     (made_of c.in_ok-with_message.field-0) (made_of c.in_ok-builder.builder) c.as_str.result.now c.new-builder.ensures.report
     c.config_of.ensures c.kind-kind.ensures c.in_ok-with_message.ensures.report c.in_ok-builder.ensures.report) in
@@ -38,10 +40,13 @@ returns c =
     c.in_ok-builder-2.ensures.report
     ∙ ap (λ (places : List FoundPlace). with_labels (labels_of built.config.index_type under told.severity c.args.style.is_compact (map found_of places)) built)
     c.as_slice-2.ensures.value in
-    let whole : report ≡ with_helps (helps_of c.args.style.width told) (with_notes (notes_of c.args.style.width files told)
-    (with_labels (labels_of built.config.index_type under told.severity c.args.style.is_compact ordered) built)) =
+    let width = c.in_ok-width.width in
+    let whole : report ≡ with_helps (helps_of width told) (with_notes (notes_of width files told) (wide width (made_of c.in_ok-builder-2.builder))) =
     c.finish.ensures.report ∙ c.in_ok-with_asides.ensures.report
-    ∙ ap (λ (r : ReportFields (ℕ × Range ℕ)). with_helps (helps_of c.args.style.width told) (with_notes (notes_of c.args.style.width files told) r)) labelled in
+    ∙ ap (λ (r : ReportFields (ℕ × Range ℕ)). with_helps (helps_of width told) (with_notes (notes_of width files told) r)) c.with_width.ensures.report in
+    let fits : IsTextWidth c.args.style.width under (made_of c.in_ok-builder-2.builder) width =
+    subst (λ (sources : List SafeSource). IsTextWidth c.args.style.width sources (made_of c.in_ok-builder-2.builder) width)
+    c.in_ok-builder-2.ensures.sources c.in_ok-width.ensures in
     let span : built.span ≡ shown_header built.config.index_type under main =
     begun_span told main _ _ _ _ (made_of c.new-builder.result) (made_of c.in_ok-with_message.field-0) built
     (sources_of c.sources.result.now) under (header_ends main c.max.result (search rules)) c.new-builder.ensures.report c.in_ok-with_message.ensures.report
@@ -50,7 +55,7 @@ returns c =
     let begun : under ≡ sources_in c.args.shelf.now =
     c.in_ok-builder.ensures.sources ∙ c.in_ok-with_message.ensures.sources ∙ c.new-builder.ensures.sources
     ∙ c.sources.ensures in record {
-      report = report_about c.args.style files told main ordered built report under (sources_in c.args.shelf.now) head bare span placed whole
-          (sym begun);
-      sources = c.finish.ensures.sources ∙ c.in_ok-with_asides.ensures.sources ∙ c.in_ok-builder-2.ensures.sources ∙ begun;
+      report = report_about c.args.style files told main ordered built (made_of c.in_ok-builder-2.builder) report width under
+          (sources_in c.args.shelf.now) head bare span placed labelled fits whole (sym begun);
+      sources = c.finish.ensures.sources ∙ c.in_ok-with_asides.ensures.sources ∙ c.with_width.ensures.sources ∙ c.in_ok-builder-2.ensures.sources ∙ begun;
     }
