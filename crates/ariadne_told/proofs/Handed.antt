@@ -1,12 +1,13 @@
 -- What is told of a value that cargo may have handed on.
-use Rattle.std.proofs.Common.{◌≡◌, ◌∙◌, ◌<◌, ap, refl, sym, subst, Bool, true, false, ◌&&◌, ◌||◌, cond, Vec, vec_len}
+use Rattle.std.proofs.Common.{◌≡◌, ◌∙◌, ap, refl, sym, subst, Bool, true, false, ◌&&◌, ◌||◌, cond, Vec}
 use Rattle.std.specs.Prelude.{Option, Some, None, IsSomeAnd, IfSome, is_some, codes}
 use Rattle.std.specs.declared.alloc.Global.{Global}
 use Rattle.std.proofs.lemmas.Bool.{false≢true}
 use Rattle.std.proofs.lemmas.Option.{none-some}
 use Rattle.serde_json.specs.Data.{Data}
 use Rattle.ariadne_told.specs.Sent.{WasSent}
-use Rattle.ariadne_told.specs.Told.{drops_value, handed_in, is_report, rustc_in, tells_gcc, tells_value, text_at}
+use Rattle.ariadne_told.specs.Members.{text_at}
+use Rattle.ariadne_told.specs.Told.{drops_value, handed_in, is_report, rustc_in, tells_gcc, tells_value, AreTold}
 use Rattle.ariadne_told.specs.Told.{IsHeldIfAny, IsToldOfValue, told_before, told_now, told_nothing, told_others}
 use Rattle.ariadne_told.specs.declared.diagnostic.Diagnostic.{Diagnostic}
 use Rattle.ariadne_told.specs.declared.sent.Sent.{Sent}
@@ -47,11 +48,11 @@ module _ (format : Format) (d : Data) (first last : Sent) where
 
   -- diagnostics
   pub now : (all : Option (Vec Diagnostic Global)) (some : Vec Diagnostic Global) → all ≡ Some some
-      → is_some all ≡ tells_value format d → IfSome all (λ list. 0 < vec_len list) → IsHeldIfAny (handed_in format d) first last
+      → is_some all ≡ tells_value format d → IfSome all (λ list. AreTold d list.items) → IsHeldIfAny (handed_in format d) first last
       → IsToldOfValue format d first last (Diagnostics some)
   now all some is told filled held =
       told_now some (sym told ∙ ap is_some is)
-      (subst (λ (o : Option (Vec Diagnostic Global)). IfSome o (λ list. 0 < vec_len list)) is filled) held
+      (subst (λ (o : Option (Vec Diagnostic Global)). IfSome o (λ list. AreTold d list.items)) is filled) held
 
   -- none
   pub others : (all : Option (Vec Diagnostic Global)) → all ≡ None → is_some all ≡ tells_value format d

@@ -1,17 +1,24 @@
 -- Lists of values, and their items.
 use Rattle.std.proofs.Common.{◌≡◌, ap, refl, arith}
-use Rattle.std.specs.Prelude.{◌<◌, Bool, false, ◌&&◌, List, [], ◌∷◌, length}
+use Rattle.std.proofs.lemmas.Bool.{ne_eqb}
+use Rattle.std.specs.Prelude.{◌<◌, ◌==◌, Bool, false, ◌&&◌, List, [], ◌∷◌, length}
 use Rattle.std.specs.List.{list_all}
 use Rattle.serde_json.specs.Data.{Data}
 use Rattle.serde_json.specs.View.{items_view, view}
 use Rattle.serde_json.specs.declared.value.Value.{Value}
-use Rattle.ariadne_told.specs.Told.{all_items, is_gcc, is_gcc_list}
+use Rattle.ariadne_told.specs.Members.{all_items, has_none}
+use Rattle.ariadne_told.specs.Told.{is_gcc, is_gcc_list}
 
 -- items pass where their values do
 pub all_view : (test : Data → Bool) (values : List Value)
     → all_items test (items_view values) ≡ list_all (λ v. test (view v)) values
 all_view test [] = refl
 all_view test (v ∷ values) = ap (λ b. test (view v) && b) (all_view test values)
+
+-- there are no items where there are no values
+pub none_view : (values : List Value) → (length values == 0) ≡ has_none (items_view values)
+none_view [] = refl
+none_view (v ∷ values) = ne_eqb (length (v ∷ values)) 0 (λ some. omega (arith, some))
 
 -- no value is no list of gcc's
 pub gcc_none : (values : List Value) → length values ≡ 0 → is_gcc_list (items_view values) ≡ false

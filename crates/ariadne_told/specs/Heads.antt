@@ -198,7 +198,9 @@ unnamed_kind_in file start said =
         name = None;
         code = None;
         is_from_zero = false;
+        has_characters = false;
         is_note = false;
+        goes_on = false;
       },
       said,
     )
@@ -214,11 +216,19 @@ abbrev pub message_kept : List ℕ → Kind → List ℕ → List ℕ
 message_kept file kind words =
     if keeps_blanks file kind && nat_lt 0 (length (past_blanks words)) then words else past_blanks words
 
--- the kind of what is said of a place, and the message behind it
+-- a known word alone stands in the place of the kind, or nothing does
+abbrev pub is_plain : Kind → Bool
+is_plain kind = not (is_some kind.name) && not (is_some kind.code)
+
+-- words behind such a kind that begin with two blanks go on with the diagnostic in front
+abbrev pub going_on : Kind → List ℕ → Kind
+going_on kind words = record kind { goes_on = is_plain kind && begins_with (codes "  ") words }
+
+-- the kind of what is said of a place, and the words behind it
 unfoldable pub kind_of_said : List ℕ → Spot → List ℕ → Option (Kind × List ℕ)
 kind_of_said file start said =
     option_or
-    (option_map (λ found. (found.0, message_kept file found.0 found.1)) (named_kind_in file said))
+    (option_map (λ found. (going_on found.0 found.1, found.1)) (named_kind_in file said))
     (unnamed_kind_in file start said)
 
 -- a code in the place of a kind is the code, and else the one at the end of the message
@@ -227,6 +237,14 @@ kind_with_code kind words = record kind { code = option_or kind.code (code_behin
 
 abbrev pub message_with : Kind → List ℕ → List ℕ
 message_with kind words = if is_some kind.code then words else message_in words
+
+-- the message of the words behind a kind
+abbrev pub message_of : List ℕ → Kind → List ℕ → List ℕ
+message_of file kind words = message_kept file kind (message_with kind words)
+
+-- it may be empty behind a known word alone, as in clang's `error: ` of a pragma that says nothing
+abbrev pub is_told : Kind → List ℕ → Bool
+is_told kind message = nat_lt 0 (length message) || is_plain kind
 
 -- ---- heads
 
@@ -238,18 +256,18 @@ from_one spot = record spot { column = option_map (λ column. min (column + 1) (
 abbrev pub start_by : Kind → Spot → Spot
 start_by kind start = if kind.is_from_zero then from_one start else start
 
--- a message of a kind at a place: it is not empty, and the file's name is not empty and begins with no
--- blank
+-- a message of a kind at a place: it is not empty but behind a known word, and the file's name is not empty and
+-- begins with no blank
 unfoldable pub head_of : List ℕ → Spot × Option Spot → List ℕ → Kind × List ℕ → Option Head
 head_of file place ranges said =
-    if nat_lt 0 (length (message_with said.0 said.1)) && is_flush file
+    if is_told said.0 (message_of file said.0 said.1) && is_flush file
     then Some (record {
       file = file;
       start = start_by said.0 place.0;
       end = place.1;
       ranges = ranges;
       kind = kind_with_code said.0 said.1;
-      message = message_with said.0 said.1;
+      message = message_of file said.0 said.1;
     })
     else None
 

@@ -12,7 +12,7 @@ use Rattle.std.specs.List.{list_all, list_any, prefix_len}
 use Rattle.std.specs.Option.{option_or, unwrap_or}
 use Rattle.std.specs.Path.{rsplit_once}
 use Rattle.std.specs.Str.{trim_end}
-use Rattle.ariadne_told.specs.Pieces.{behind, in_front_of, split_once}
+use Rattle.ariadne_told.specs.Pieces.{begins_with, behind, in_front_of, split_once}
 use Rattle.ariadne_told.specs.Severities.{is_named, is_own_name, severity_of}
 use Rattle.ariadne_told.specs.declared.diagnostic.Severity.{Severity}
 use Rattle.ariadne_told.specs.declared.diagnostic.Severity.TheVariants.{Error, Warning, Note}
@@ -25,8 +25,12 @@ pub record Kind : Type 0 where
   pub code : Option (List ℕ)
   -- the columns of its line count from 0, as pylint's do
   pub is_from_zero : Bool
+  -- the columns of its line count characters, as pylint's do for what looks at characters
+  pub has_characters : Bool
   -- its word is `note`: it may be about the diagnostic in front
   pub is_note : Bool
+  -- its message begins with two blanks: it goes on with the diagnostic in front, as g++'s do
+  pub goes_on : Bool
 
 -- ---- codes
 
@@ -41,6 +45,17 @@ is_code text =
 abbrev pub is_of_pylint : List ℕ → Bool
 is_of_pylint code = length code == 5 && prefix_len is_ascii_uppercase code == 1
 
+-- codes of pylint's whose columns are those of Python, which count characters from 1: that of what Python can't
+-- read, E0001, and those of characters that are hidden, E2510 to E2515
+abbrev pub counts_from_one : List ℕ → Bool
+counts_from_one code = begins_with (codes "E0001") code || begins_with (codes "E251") code
+
+-- codes of pylint's that look at characters of a line: blanks at its end, comments, and escapes in strings
+abbrev pub is_of_characters : List ℕ → Bool
+is_of_characters code =
+    begins_with (codes "C0303") code || begins_with (codes "W0511") code || begins_with (codes "W1401") code
+    || begins_with (codes "W1402") code
+
 -- the severity that the first letter of a code tells: that of errors and fatal ones, that of
 -- conventions, refactorings and informations, or else that of warnings
 unfoldable pub severity_by_letter : List ℕ → Severity
@@ -49,16 +64,18 @@ severity_by_letter (c ∷ code) =
     if c == 69 || c == 70 then Error else
     (if c == 67 || c == 73 || c == 82 then Note else Warning)
 
--- the kind that a code alone tells
+-- the kind that a code alone tells; pylint's columns count bytes from 0, but for those of some codes
 unfoldable pub kind_by_code : Bool → List ℕ → Option Kind
-kind_by_code is_from_zero code =
+kind_by_code is_of_pylint code =
     if is_code code
     then Some (record {
       severity = severity_by_letter code;
       name = None;
       code = Some code;
-      is_from_zero = is_from_zero;
+      is_from_zero = is_of_pylint && not (counts_from_one code);
+      has_characters = is_of_pylint && (counts_from_one code || is_of_characters code);
       is_note = false;
+      goes_on = false;
     })
     else None
 
@@ -73,7 +90,9 @@ kind_by_name name code =
       name = if is_own_name name then Some name else None;
       code = code;
       is_from_zero = false;
+      has_characters = false;
       is_note = is_named (codes "note") name;
+      goes_on = false;
     })
     (severity_of name)
 
@@ -168,7 +187,9 @@ kind_by_word word =
       name = Some word;
       code = None;
       is_from_zero = false;
+      has_characters = false;
       is_note = false;
+      goes_on = false;
     })
     else None
 

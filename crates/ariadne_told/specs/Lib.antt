@@ -1,10 +1,12 @@
 pub mod Arrows
 pub mod ArrowsTold
+pub mod FixRows
 pub mod Fixes
 pub mod Fronts
 pub mod FrontsTold
 pub mod Heads
 pub mod Kinds
+pub mod Members
 pub mod Noted
 pub mod Pieces
 pub mod Places

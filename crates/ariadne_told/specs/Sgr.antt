@@ -1,11 +1,12 @@
 -- A line without the sequences that colour it: the escape, `[`, digits, `;` and `:`, and `m`; or `K` at the
 -- end, as gcc writes it, which clears the rest of a row. What sets terminals back goes with them: the shift in
 -- behind an `m`, and the escape with `(B`; so do the begin and the end of a link. The bell is 7, the shift in
--- 15, the escape 27, `K` 75 and `m` 109.
-use Rattle.std.specs.Prelude.{ℕ, ◌==◌, Bool, ◌||◌, List, [], ◌∷◌, ◌++◌, codes, drop, Option, option_and_then}
+-- 15, the escape 27, `K` 75, `\` 92 and `m` 109.
+use Rattle.std.specs.Prelude.{ℕ, ◌==◌, Bool, ◌||◌, if◌then◌else◌, List, [], ◌∷◌, ◌++◌, codes, drop}
+use Rattle.std.specs.Prelude.{Option, Some, None, option_and_then}
 use Rattle.std.specs.Prelude.{option_map}
 use Rattle.std.specs.Char.{is_ascii_digit}
-use Rattle.std.specs.List.{flat_map, prefix_len, slice_split}
+use Rattle.std.specs.List.{flat_map, list_any, prefix_len, slice_split}
 use Rattle.std.specs.Option.{option_or, unwrap_or}
 use Rattle.ariadne_told.specs.Pieces.{behind, behind_text, split_once}
 
@@ -28,14 +29,25 @@ behind_end text = option_or (option_map past_shift (behind 109 text)) (behind 75
 unfoldable pub behind_color : List ℕ → Option (List ℕ)
 behind_color text = option_and_then (λ rest. behind_end (past_parameters rest)) (behind 91 text)
 
--- what stands behind where a link begins or ends: `]8;`, what it leads to, and a bell
-unfoldable pub behind_link : List ℕ → Option (List ℕ)
-behind_link text =
-    option_and_then (λ rest. option_map (λ parts. parts.1) (split_once 7 rest)) (behind_text (codes "]8;") text)
+-- a text without a blank, as an address is, ends at the next escape, and nothing stands behind it
+abbrev pub past_address : List ℕ → Option (List ℕ)
+past_address text = if list_any (λ c. c == 32) text then None else Some []
 
--- what stands behind a sequence that doesn't colour: `(B` sets terminals like xterm back
+-- what stands behind the bell that ends a link, or behind an address, which the next escape and a `\` end
+abbrev pub past_link : List ℕ → Option (List ℕ)
+past_link text = option_or (option_map (λ parts. parts.1) (split_once 7 text)) (past_address text)
+
+-- what stands behind where a link begins or ends: `]8;`, and what it leads to
+unfoldable pub behind_link : List ℕ → Option (List ℕ)
+behind_link text = option_and_then past_link (behind_text (codes "]8;") text)
+
+-- what stands behind `(B`, which sets terminals like xterm back, or behind the `\` that ends a link
+unfoldable pub behind_mark : List ℕ → Option (List ℕ)
+behind_mark text = option_or (behind_text (codes "(B") text) (behind 92 text)
+
+-- what stands behind a sequence that doesn't colour
 unfoldable pub behind_other : List ℕ → Option (List ℕ)
-behind_other text = option_or (behind_link text) (behind_text (codes "(B") text)
+behind_other text = option_or (behind_link text) (behind_mark text)
 
 -- what stands behind a sequence, if one stands behind an escape
 unfoldable pub behind_sequence : List ℕ → Option (List ℕ)

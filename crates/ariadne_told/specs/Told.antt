@@ -5,18 +5,19 @@ use Rattle.std.specs.Prelude.{ℕ, ◌≡◌, ◌<◌, ◌==◌, Bool, true, fal
 use Rattle.std.specs.Prelude.{if◌then◌else◌}
 use Rattle.std.specs.Prelude.{List, [], ◌∷◌, codes, map, slice_index}
 use Rattle.std.specs.Prelude.{Option, Some, None, is_some, option_and_then, option_map}
-use Rattle.std.specs.Prelude.{slice_get, Vec, vec_len, string_bytes}
+use Rattle.std.specs.Prelude.{length, slice_get, Vec, string_bytes}
 use Rattle.std.specs.List.{ends_with, filter, find}
 use Rattle.std.specs.Option.{option_or, unwrap_or}
 use Rattle.std.specs.declared.alloc.Global.{Global}
 use Rattle.std.specs.Str.{bytes_eq}
 use Rattle.serde_json.specs.Data.{Data, Items, no_items, item}
-use Rattle.serde_json.specs.Find.{get, as_array, as_number, as_str, as_u64}
+use Rattle.serde_json.specs.Find.{get, as_array}
 use Rattle.ariadne_json.specs.Reading.{value_in as value_of}
 use Rattle.ariadne_color.specs.declared.color.Color.{Color}
 use Rattle.ariadne_columns.specs.declared.unit.Unit.{Unit}
 use Rattle.ariadne_columns.specs.declared.unit.Unit.TheVariants.{Char}
 use Rattle.ariadne_told.specs.Heads.{head_of_line, is_among, ranges_in, Head}
+use Rattle.ariadne_told.specs.Members.{all_items, items_in, list_at, number_of, text_at, IsOfReport, IsOfRustc}
 use Rattle.ariadne_told.specs.Places.{place_of, seen, Seen}
 use Rattle.ariadne_told.specs.Sent.{IsHeldNow, WasSent}
 use Rattle.ariadne_told.specs.Severities.{severity_of}
@@ -32,26 +33,6 @@ use Rattle.ariadne_told.specs.declared.telling.Reading.{Reading}
 use Rattle.ariadne_told.specs.declared.telling.Format.TheVariants.{Auto, Rustc, Gcc, Lines, Report}
 use Rattle.ariadne_told.specs.declared.telling.Answer.{Answer}
 use Rattle.ariadne_told.specs.declared.telling.Answer.TheVariants.{Nothing, Dropped, Diagnostics, Head as Header, Note}
-
--- ---- members
-
--- a member that is a text
-abbrev pub text_at : List ℕ → Data → Option (List ℕ)
-text_at name d = option_and_then as_str (get name d)
-
--- a member that is a list
-abbrev pub list_at : List ℕ → Data → Option Items
-list_at name d = option_and_then as_array (get name d)
-
--- its items
-abbrev pub items_in : Option Items → Items
-items_in None = no_items
-items_in (Some items) = items
-
--- each of them passes
-abbrev pub all_items : (Data → Bool) → Items → Bool
-all_items test no_items = true
-all_items test (item d items) = test d && all_items test items
 
 -- ---- rustc
 
@@ -116,10 +97,6 @@ abbrev pub tells_gcc : Data → Bool
 tells_gcc d = tells_gcc_in (as_array d)
 
 -- ---- reports
-
--- a whole number that is not negative
-abbrev pub number_of : Data → Option ℕ
-number_of d = option_and_then as_u64 (as_number d)
 
 -- a list begins with one
 abbrev pub begins_with_number : Items → Bool
@@ -254,32 +231,45 @@ pub record IsOfHead (unit : Unit) (head : Head) (told : Diagnostic) : Type 0 whe
   pub helps : told.helps.items ≡ []
   pub is_counted : told.is_sum ≡ false
 
--- a note about the diagnostic in front is named so, and has no code of its own
+-- a note about the diagnostic in front is named so, and has no code of its own; or its message goes on with
+-- that of the diagnostic
 abbrev pub is_note : Head → Bool
-is_note head = head.kind.is_note && not (is_some head.kind.code)
+is_note head = head.kind.goes_on || head.kind.is_note && not (is_some head.kind.code)
 
 -- the columns of lines about a file of Rust's count characters: rustc alone reads it
 abbrev pub is_of_rust : List ℕ → Bool
 is_of_rust file = ends_with (λ a b. a == b) file (codes ".rs")
 
-abbrev pub unit_in : List ℕ → Unit → Unit
-unit_in file unit = if is_of_rust file then Char else unit
+-- and so do those of lines whose kind tells that
+abbrev pub unit_in : Head → Unit → Unit
+unit_in head unit = if is_of_rust head.file || head.kind.has_characters then Char else unit
 
 -- of a head one diagnostic is told, as a note or by itself, and nothing where there is none
 abbrev pub IsToldOfHead : Unit → Option Head → Answer → Type 0
 IsToldOfHead unit None told = told ≡ Nothing
 IsToldOfHead unit (Some head) told =
-    (one : Diagnostic) × (told ≡ (if is_note head then Note one else Header one)) × IsOfHead (unit_in head.file unit) head one
+    (one : Diagnostic) × (told ≡ (if is_note head then Note one else Header one)) × IsOfHead (unit_in head unit) head one
 
 -- what is told of a value that cargo may have handed on: a message is held from now on
 abbrev pub IsHeldIfAny : Option Data → Sent → Sent → Type 0
 IsHeldIfAny None first last = last ≡ first
 IsHeldIfAny (Some message) first last = IsHeldNow first last message
 
+-- one diagnostic stands alone in a list, and is this
+abbrev pub IsAlone : (Diagnostic → Type 0) → List Diagnostic → Type 0
+IsAlone is all = (one : Diagnostic) × (all ≡ one ∷ []) × is one
+
+-- diagnostics that a value tells: that of rustc's which it is or hands on, one at least where it is a list of
+-- gcc's, or that of a report
+pub data AreTold (d : Data) (all : List Diagnostic) : Type 0 where
+  of_rustc : (message : Data) → rustc_in d ≡ Some message → IsAlone (IsOfRustc message) all → AreTold d all
+  of_gcc : tells_gcc d ≡ true → 0 < length all → AreTold d all
+  of_report : is_report d ≡ true → IsAlone (IsOfReport d) all → AreTold d all
+
 -- of a value, where these messages were handed on before: diagnostics, one at least, where it tells some;
 -- nothing that is for the reader, where cargo has handed it on before, or writes it for other programs
 pub data IsToldOfValue (format : Format) (d : Data) (first last : Sent) : Answer → Type 0 where
-  told_now : (all : Vec Diagnostic Global) → tells_value format d ≡ true → 0 < vec_len all
+  told_now : (all : Vec Diagnostic Global) → tells_value format d ≡ true → AreTold d all.items
       → IsHeldIfAny (handed_in format d) first last → IsToldOfValue format d first last (Diagnostics all)
   told_before : (message : Data) → handed_in format d ≡ Some message → WasSent first message
       → last ≡ first → IsToldOfValue format d first last Dropped

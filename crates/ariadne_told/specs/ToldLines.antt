@@ -13,7 +13,9 @@ kind_told told = record {
   name = option_map (λ name. name.now) told.name;
   code = option_map (λ code. code.now) told.code;
   is_from_zero = told.is_from_zero;
+  has_characters = told.has_characters;
   is_note = told.is_note;
+  goes_on = told.goes_on;
 }
 
 -- the head that its pieces are

@@ -1,14 +1,18 @@
 //! Diagnostics of `gcc -fdiagnostics-format=json`: one line of text with a list of them.
 
-ghost use Rattle.std.specs.Prelude.{◌≡◌, ◌<◌, is_some, length, true, vec_len, IfOk, IfSome, OnOk};
+ghost use Rattle.std.specs.Prelude.{◌≡◌, ◌<◌, is_some, length, option_map, true, vec_len, IfOk, IfSome, OnOk};
 ghost use Rattle.std.specs.List.{list_all};
 ghost use Rattle.serde_json.specs.View.{items_view, view};
 ghost use Rattle.ariadne_told.specs.Told.{is_gcc, is_gcc_list, tells_gcc};
+ghost use Rattle.ariadne_told.specs.Members.{gcc_end, gcc_place, gcc_spot, gcc_spot_at, is_gcc_more, is_gcc_note};
+ghost use Rattle.ariadne_told.specs.Members.{IsOfGcc};
+ghost use Rattle.ariadne_told.specs.Places.{seen};
 
-use crate::diagnostic::{Diagnostic, End, Look, Place, Severity, Spot};
+use crate::diagnostic::{Diagnostic, End, Place, Severity, Spot};
 use crate::fixes::{Covered, change_text, line_text};
 use crate::heads::place;
-use crate::json::{copied_text, items, number, text};
+use crate::json::{copied_text, has_words, items, number, severity as severity_of, text, words};
+use crate::pieces::begins_with;
 use ariadne_columns::Unit;
 use serde_json::Value;
 use std::alloc::{AllocError, Global};
@@ -77,14 +81,15 @@ fn push_children(alloc: Global, all: &mut Vec<Diagnostic>, value: &Value) -> Res
     Ok(())
 }
 
-/// Adds a note to the diagnostic before it; what is no note, or has none before it, is a diagnostic
-/// more.
+/// Adds a note to the diagnostic before it, and so one that goes on with that; what is neither, or has none
+/// before it, is a diagnostic more.
 fn push_told(alloc: Global, all: &mut Vec<Diagnostic>, value: &Value) -> Result<(), AllocError>
     ensures { OnOk result (0 < vec_len all.new) }
 {
-    let is_note = text(value, "kind") == Some("note");
     match all.last_mut() {
-        Some(told) if is_note => push_note(alloc, told, value),
+        Some(told) if is_note(value) || goes_on(value, told.severity) => {
+            push_note(alloc, told, value)
+        }
         _ => {
             all.push(told_by_item(alloc, value)?)?;
             Ok(())
@@ -92,21 +97,46 @@ fn push_told(alloc: Global, all: &mut Vec<Diagnostic>, value: &Value) -> Result<
     }
 }
 
+/// Whether a value is a note.
+fn is_note(value: &Value) -> bool
+    ensures { result ≡ is_gcc_note (view value.now) }
+{
+    has_words(value, "kind", "note")
+}
+
+/// Whether a value goes on with the diagnostic before it, which has this severity: it has the same, and its
+/// message begins with two blanks, as that of g++ where members are initialized in another order.
+fn goes_on(value: &Value, severity: Severity) -> bool
+    ensures { result ≡ is_gcc_more severity (view value.now) }
+{
+    severity_of(value, "kind") == severity && begins_with(words(value, "message"), "  ")
+}
+
 /// The diagnostic of one value.
-fn told_by_item(alloc: Global, value: &Value) -> Result<Diagnostic, AllocError> {
-    let severity = text(value, "kind").and_then(Severity::of);
-    let message = text(value, "message").unwrap_or("");
-    let mut told = Diagnostic::new(alloc, severity.unwrap_or(Severity::Error), message)?;
+fn told_by_item(alloc: Global, value: &Value) -> Result<Diagnostic, AllocError>
+    ensures { IfOk result (λ told. IsOfGcc (view value.now) told) }
+{
+    let mut told = Diagnostic::new(alloc, severity_of(value, "kind"), words(value, "message"))?;
     told.code = copied_text(alloc, value, "option")?;
-    for (number, location) in items(value, "locations").iter().enumerate() {
+    push_locations(alloc, &mut told.places, items(value, "locations"))?;
+    push_events(alloc, &mut told.places, &mut told.notes, value)?;
+    push_fixes(alloc, &mut told.helps, value)?;
+    Ok(told)
+}
+
+/// Adds the places of a diagnostic's locations: it is about the first.
+fn push_locations(
+    alloc: Global,
+    places: &mut Vec<Place>,
+    locations: &[Value],
+) -> Result<(), AllocError> {
+    for (number, location) in locations.iter().enumerate() {
         if number == 0 || says_something(location) {
-            let said = text(location, "label").unwrap_or("");
-            push_place(alloc, &mut told, location, said, number == 0)?;
+            let said = words(location, "label");
+            push_place(alloc, places, location, said, number == 0)?;
         }
     }
-    push_events(alloc, &mut told, value)?;
-    push_fixes(alloc, &mut told, value)?;
-    Ok(told)
+    Ok(())
 }
 
 /// Whether a location says something: it has a label, or a column. gcc gives the end of a file none.
@@ -119,38 +149,55 @@ fn says_something(location: &Value) -> bool {
 }
 
 /// Adds the places of the events that lead to a diagnostic of the analyzer, in their order.
-fn push_events(alloc: Global, told: &mut Diagnostic, value: &Value) -> Result<(), AllocError> {
+fn push_events(
+    alloc: Global,
+    places: &mut Vec<Place>,
+    notes: &mut Vec<String>,
+    value: &Value,
+) -> Result<(), AllocError> {
     for (number, event) in items(value, "path").iter().enumerate() {
-        push_event(alloc, told, event, number.saturating_add(1))?;
+        push_event(alloc, places, notes, event, number.saturating_add(1))?;
     }
     Ok(())
 }
 
-/// Adds the place of an event with this number, from 1. It says the number too, as in gcc's text.
+/// Adds the place of an event with this number, from 1. It says the number too, as in gcc's text. One without a
+/// place is a note.
 fn push_event(
     alloc: Global,
-    told: &mut Diagnostic,
+    places: &mut Vec<Place>,
+    notes: &mut Vec<String>,
     event: &Value,
     number: usize,
 ) -> Result<(), AllocError> {
+    let description = words(event, "description");
+    let said = format!(in alloc; "({number}) {description}")?;
+    match event_place(alloc, event)? {
+        Some(mut place) => {
+            place.text = said;
+            places.push(place)?;
+        }
+        None => notes.push(said)?,
+    }
+    Ok(())
+}
+
+/// Where an event is, if it says so.
+fn event_place(alloc: Global, event: &Value) -> Result<Option<Place>, AllocError> {
     let Some(location) = event.get("location") else {
-        return Ok(());
+        return Ok(None);
     };
-    let Some(at) = spot(location) else {
-        return Ok(());
+    let (Some(at), Some(file)) = (spot(location), text(location, "file")) else {
+        return Ok(None);
     };
-    let file = text(location, "file").unwrap_or("");
-    let description = text(event, "description").unwrap_or("");
     let mut place = place(alloc, file, at, End::OfWord, Unit::Byte)?;
     place.is_past_mark = true;
-    place.text = format!(in alloc; "({number}) {description}")?;
-    told.places.push(place)?;
-    Ok(())
+    Ok(Some(place))
 }
 
 /// Adds a note: as the label of its first place, if that is elsewhere and has none of its own.
 fn push_note(alloc: Global, told: &mut Diagnostic, value: &Value) -> Result<(), AllocError> {
-    let message = text(value, "message").unwrap_or("");
+    let message = words(value, "message").trim_start();
     let locations = items(value, "locations");
     let is_label = locations
         .first()
@@ -161,7 +208,7 @@ fn push_note(alloc: Global, told: &mut Diagnostic, value: &Value) -> Result<(), 
         told.notes.push(String::from_str(alloc, message)?)?;
         push_noted_places(alloc, told, locations, "")?;
     }
-    push_fixes(alloc, told, value)
+    push_fixes(alloc, &mut told.helps, value)
 }
 
 /// Adds those places of a note that say something, or are elsewhere than where the diagnostic points.
@@ -176,7 +223,7 @@ fn push_noted_places(
         let own_text = if number == 0 { first_text } else { "" };
         let said = text(location, "label").unwrap_or(own_text);
         if !said.is_empty() || is_elsewhere(told, location) {
-            push_place(alloc, told, location, said, false)?;
+            push_place(alloc, &mut told.places, location, said, false)?;
         }
     }
     Ok(())
@@ -194,7 +241,9 @@ fn is_elsewhere(told: &Diagnostic, location: &Value) -> bool {
 }
 
 /// A spot, whose column counts bytes.
-fn spot(value: &Value) -> Option<Spot> {
+fn spot(value: &Value) -> Option<Spot>
+    ensures { result ≡ gcc_spot (view value.now) }
+{
     let column = match number(value, "byte-column") {
         Some(column) => Some(column),
         None => number(value, "column"),
@@ -205,11 +254,19 @@ fn spot(value: &Value) -> Option<Spot> {
     })
 }
 
+/// A spot that is a member of a location.
+fn spot_of(location: &Value, name: &str) -> Option<Spot>
+    ensures { result ≡ gcc_spot_at name.now (view location.now) }
+{
+    spot(location.get(name)?)
+}
+
 /// Where a location ends: behind the character at its finish. gcc leaves that out where it is the caret;
 /// where it leaves the start out too, the location is one character, and the word there is meant.
-fn end_of(location: &Value, caret: Spot) -> End {
-    let finish = location.get("finish").and_then(spot);
-    match (finish, location.get("start")) {
+fn end_of(location: &Value, caret: Spot) -> End
+    ensures { result ≡ gcc_end caret (view location.now) }
+{
+    match (spot_of(location, "finish"), location.get("start")) {
         (Some(finish), _) => End::Behind(finish),
         (None, Some(_)) => End::Behind(caret),
         (None, None) => End::OfWord,
@@ -219,38 +276,48 @@ fn end_of(location: &Value, caret: Spot) -> End {
 /// Adds the place of a location, and what is said of it.
 fn push_place(
     alloc: Global,
-    told: &mut Diagnostic,
+    places: &mut Vec<Place>,
     location: &Value,
     said: &str,
     is_primary: bool,
 ) -> Result<(), AllocError> {
-    let Some(caret) = location.get("caret") else {
-        return Ok(());
-    };
-    let Some(point) = spot(caret) else {
-        return Ok(());
-    };
-    told.places.push(Place {
-        file: String::from_str(alloc, text(caret, "file").unwrap_or(""))?,
-        caret: point,
-        start: location.get("start").and_then(spot).unwrap_or(point),
-        end: end_of(location, point),
-        unit: Unit::Byte,
-        is_past_mark: true,
-        text: String::from_str(alloc, said)?,
-        is_primary,
-        look: Look::default(),
-        marks: None,
-    })?;
+    if let Some(place) = location_place(alloc, location, said, is_primary)? {
+        places.push(place)?;
+    }
     Ok(())
 }
 
+/// The place of a location, and what is said of it. One without a caret or its line has none.
+fn location_place(
+    alloc: Global,
+    location: &Value,
+    said: &str,
+    is_primary: bool,
+) -> Result<Option<Place>, AllocError>
+    ensures { IfOk result (λ place. option_map seen place ≡ gcc_place said.now is_primary (view location.now)) }
+{
+    let Some(caret) = location.get("caret") else {
+        return Ok(None);
+    };
+    let Some(point) = spot(caret) else {
+        return Ok(None);
+    };
+    let start = spot_of(location, "start").unwrap_or(point);
+    let end = end_of(location, point);
+    let mut place = place(alloc, words(caret, "file"), start, end, Unit::Byte)?;
+    place.caret = point;
+    place.is_past_mark = true;
+    place.text = String::from_str(alloc, said)?;
+    place.is_primary = is_primary;
+    Ok(Some(place))
+}
+
 /// Adds a help for each of what is to be put in.
-fn push_fixes(alloc: Global, told: &mut Diagnostic, value: &Value) -> Result<(), AllocError> {
+fn push_fixes(alloc: Global, helps: &mut Vec<String>, value: &Value) -> Result<(), AllocError> {
     for fix in items(value, "fixits") {
         let at = fix.get("start").and_then(spot);
         if let (Some(at), Some(put_in)) = (at, text(fix, "string")) {
-            told.helps.push(put_text(alloc, fix, at, put_in)?)?;
+            helps.push(put_text(alloc, fix, at, put_in)?)?;
         }
     }
     Ok(())

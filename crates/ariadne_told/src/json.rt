@@ -1,9 +1,11 @@
 //! What is read of JSON: members by their names.
 
-ghost use Rattle.std.specs.Prelude.{◌≡◌, is_some, option_map};
+ghost use Rattle.std.specs.Prelude.{◌≡◌, is_some, option_map, string_bytes, IfOk};
 ghost use Rattle.serde_json.specs.View.{items_view, view};
-ghost use Rattle.ariadne_told.specs.Told.{items_in, list_at, text_at};
+ghost use Rattle.ariadne_told.specs.Members.{has_words as has_words_at, is_true_at, number_at, severity_at, words_at};
+ghost use Rattle.ariadne_told.specs.Members.{items_in, list_at, number_of, text_at};
 
+use crate::diagnostic::Severity;
 use serde_json::Value;
 use std::alloc::{AllocError, Global};
 
@@ -14,12 +16,40 @@ pub(crate) fn text<'v>(value: &'v Value, name: &str) -> Option<&'v str>
     value.get(name)?.as_str()
 }
 
+/// A member that is a text; an empty one where it is none.
+pub(crate) fn words<'v>(value: &'v Value, name: &str) -> &'v str
+    ensures { result.now ≡ words_at name.now (view value.now) }
+{
+    text(value, name).unwrap_or("")
+}
+
+/// Whether a member is this text.
+pub(crate) fn has_words(value: &Value, name: &str, words: &str) -> bool
+    ensures { result ≡ has_words_at name.now words.now (view value.now) }
+{
+    match text(value, name) {
+        Some(found) => found == words,
+        None => false,
+    }
+}
+
+/// The severity that a member names; that of errors where it names none.
+pub(crate) fn severity(value: &Value, name: &str) -> Severity
+    ensures { result ≡ severity_at name.now (view value.now) }
+{
+    text(value, name)
+        .and_then(Severity::of)
+        .unwrap_or(Severity::Error)
+}
+
 /// A copy of a member that is a text, if it is one.
 pub(crate) fn copied_text(
     alloc: Global,
     value: &Value,
     name: &str,
-) -> Result<Option<String>, AllocError> {
+) -> Result<Option<String>, AllocError>
+    ensures { IfOk result (λ copy. option_map string_bytes copy ≡ text_at name.now (view value.now)) }
+{
     match text(value, name) {
         Some(found) => Ok(Some(String::from_str(alloc, found)?)),
         None => Ok(None),
@@ -27,14 +57,25 @@ pub(crate) fn copied_text(
 }
 
 /// A member that is a number of this machine.
-pub(crate) fn number(value: &Value, name: &str) -> Option<usize> {
-    usize::try_from(value.get(name)?.as_u64()?).ok()
+pub(crate) fn number(value: &Value, name: &str) -> Option<usize>
+    ensures { result ≡ number_at name.now (view value.now) }
+{
+    usize_of(value.get(name)?)
+}
+
+/// A number of this machine.
+pub(crate) fn usize_of(value: &Value) -> Option<usize>
+    ensures { result ≡ number_of (view value.now) }
+{
+    usize::try_from(value.as_u64()?).ok()
 }
 
 /// Whether a member is `true`.
-pub(crate) fn is_true(value: &Value, name: &str) -> bool {
+pub(crate) fn is_true(value: &Value, name: &str) -> bool
+    ensures { result ≡ is_true_at name.now (view value.now) }
+{
     match value.get(name) {
-        Some(member) => member.as_bool() == Some(true),
+        Some(member) => member.as_bool().unwrap_or(false),
         None => false,
     }
 }

@@ -11,7 +11,7 @@ ghost use Rattle.ariadne_told.specs.ToldLines.{kind_told};
 
 use crate::diagnostic::Severity;
 use crate::names::{is_named, is_own_name};
-use crate::pieces::{behind, in_front_of, split_at_last, split_once};
+use crate::pieces::{begins_with, behind, in_front_of, split_at_last, split_once};
 
 /// What the place of a kind tells, in pieces of the line.
 #[derive(Clone, Copy)]
@@ -24,8 +24,12 @@ pub(crate) struct ToldKind<'a> {
     pub code: Option<&'a str>,
     /// Whether the columns of its line count from 0, as pylint's do.
     pub is_from_zero: bool,
+    /// Whether the columns of its line count characters, as pylint's do for what looks at characters.
+    pub has_characters: bool,
     /// Whether its word is `note`: it may be about the diagnostic in front.
     pub is_note: bool,
+    /// Whether its message begins with two blanks: it goes on with the diagnostic in front, as g++'s do.
+    pub goes_on: bool,
 }
 
 /// What is sure to be a kind, and the message behind it.
@@ -137,7 +141,9 @@ fn kind_by_name<'a>(name: &'a str, code: Option<&'a str>) -> Option<ToldKind<'a>
         name: if is_own_name(name) { Some(name) } else { None },
         code,
         is_from_zero: false,
+        has_characters: false,
         is_note: is_named(name, "note"),
+        goes_on: false,
     })
 }
 
@@ -191,21 +197,42 @@ fn code_behind_blank(text: &str) -> Option<(&str, &str)>
     }
 }
 
-/// The kind that a code alone tells, if a text is one.
+/// The kind that a code alone tells, if a text is one. Those of pylint's tell what its columns count.
 #[tactic(auto, unfolding(crate::specs::Kinds::kind_by_code))]
-fn kind_by_code(code: &str, is_from_zero: bool) -> Option<ToldKind<'_>>
-    ensures { option_map kind_told result ≡ kinds.kind_by_code is_from_zero code.now }
+fn kind_by_code(code: &str, is_of_pylint: bool) -> Option<ToldKind<'_>>
+    ensures { option_map kind_told result ≡ kinds.kind_by_code is_of_pylint code.now }
 {
     if !is_code(code) {
         return None;
     }
+    let is_from_one = counts_from_one(code);
     Some(ToldKind {
         severity: severity_by_letter(code),
         name: None,
         code: Some(code),
-        is_from_zero,
+        is_from_zero: is_of_pylint && !is_from_one,
+        has_characters: is_of_pylint && (is_from_one || is_of_characters(code)),
         is_note: false,
+        goes_on: false,
     })
+}
+
+/// Whether pylint's columns of a code are those of Python, which count characters from 1.
+fn counts_from_one(code: &str) -> bool
+    ensures { result ≡ kinds.counts_from_one code.now }
+{
+    begins_with(code, "E0001") || begins_with(code, "E251")
+}
+
+/// Whether a code of pylint's looks at characters of a line: blanks at its end, comments, and escapes in
+/// strings.
+fn is_of_characters(code: &str) -> bool
+    ensures { result ≡ kinds.is_of_characters code.now }
+{
+    begins_with(code, "C0303")
+        || begins_with(code, "W0511")
+        || begins_with(code, "W1401")
+        || begins_with(code, "W1402")
 }
 
 /// Whether a text is capital letters and three digits or more.
@@ -283,7 +310,9 @@ fn kind_by_word(word: &str) -> Option<ToldKind<'_>>
         name: Some(word),
         code: None,
         is_from_zero: false,
+        has_characters: false,
         is_note: false,
+        goes_on: false,
     })
 }
 

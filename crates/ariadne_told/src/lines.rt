@@ -36,11 +36,12 @@ pub(crate) struct ToldLine<'a> {
 }
 
 impl ToldLine<'_> {
-    /// Whether it is a note about the diagnostic in front: it is named so, and has no code of its own.
+    /// Whether it is a note about the diagnostic in front: it is named so, and has no code of its own; or its
+    /// message goes on with that of the diagnostic.
     pub(crate) fn is_note(&self) -> bool
         ensures { result ≡ is_note_head (head_told self.now) }
     {
-        self.kind.is_note && self.kind.code.is_none()
+        self.kind.goes_on || self.kind.is_note && self.kind.code.is_none()
     }
 }
 
@@ -48,7 +49,7 @@ impl ToldLine<'_> {
 ///
 /// The name of the file is not empty, and begins with no blank. Where no kind is named, there is a
 /// column, and the name has a dot and no blank. One blank stands in front of what is said, which is
-/// not empty.
+/// not empty but behind a known word.
 #[tactic(auto, unfolding(crate::specs::Heads::head_of_line))]
 pub(crate) fn line_told(line: &str) -> Option<ToldLine<'_>>
     ensures { option_map head_told result ≡ heads.head_of_line line.now }
@@ -141,8 +142,9 @@ fn told_said<'a>(
     ensures { option_map head_told result ≡ heads.head_with file.now (start, end) ranges.now said.now }
 {
     let (kind, words) = kind_of(file, start, said)?;
-    let (kind, message) = with_code(kind, words);
-    if message.is_empty() || !is_flush(file) {
+    let (coded, behind) = with_code(kind, words);
+    let message = message_kept(file, &kind, behind);
+    if !is_told(&kind, message) || !is_flush(file) {
         return None;
     }
     Some(ToldLine {
@@ -150,12 +152,26 @@ fn told_said<'a>(
         start: start_by(&kind, start),
         end,
         ranges,
-        kind,
+        kind: coded,
         message,
     })
 }
 
-/// The kind of what is said of a place, and the message behind it. Where none is named, there has to be
+/// Whether a message is told: it is not empty, or stands behind a known word.
+fn is_told(kind: &ToldKind<'_>, message: &str) -> bool
+    ensures { result ≡ heads.is_told (kind_told kind.now) message.now }
+{
+    !message.is_empty() || is_plain(kind)
+}
+
+/// Whether a known word alone stands in the place of a kind, or nothing does.
+fn is_plain(kind: &ToldKind<'_>) -> bool
+    ensures { result ≡ heads.is_plain (kind_told kind.now) }
+{
+    kind.name.is_none() && kind.code.is_none()
+}
+
+/// The kind of what is said of a place, and the words behind it. Where none is named, there has to be
 /// a column, and the file has to be sure.
 #[tactic(auto, unfolding(crate::specs::Heads::kind_of_said))]
 fn kind_of<'a>(file: &str, start: Spot, said: &'a str) -> Option<(ToldKind<'a>, &'a str)>
@@ -163,11 +179,18 @@ fn kind_of<'a>(file: &str, start: Spot, said: &'a str) -> Option<(ToldKind<'a>, 
         ≡ heads.kind_of_said file.now start said.now }
 {
     match named_kind(file, said) {
-        Some((kind, words)) => {
-            let message = message_kept(file, &kind, words);
-            Some((kind, message))
-        }
+        Some((kind, words)) => Some((going_on(kind, words), words)),
         None => unnamed_kind(file, start, said),
+    }
+}
+
+/// A kind, which goes on with the diagnostic in front where the words behind it begin with two blanks.
+fn going_on<'a>(kind: ToldKind<'a>, words: &str) -> ToldKind<'a>
+    ensures { kind_told result ≡ heads.going_on (kind_told kind.entry) words.now }
+{
+    ToldKind {
+        goes_on: is_plain(&kind) && begins_with(words, "  "),
+        ..kind
     }
 }
 
@@ -239,7 +262,9 @@ fn unnamed_kind<'a>(file: &str, start: Spot, said: &'a str) -> Option<(ToldKind<
         name: None,
         code: None,
         is_from_zero: false,
+        has_characters: false,
         is_note: false,
+        goes_on: false,
     };
     Some((kind, said))
 }

@@ -1,14 +1,16 @@
 //! The program's own form: a report in one line of JSON.
 
-ghost use Rattle.std.specs.Prelude.{◌≡◌, is_some};
+ghost use Rattle.std.specs.Prelude.{◌≡◌, is_some, IfOk};
 ghost use Rattle.std.specs.List.{list_all};
 ghost use Rattle.serde_json.specs.View.{items_view, view};
-ghost use Rattle.ariadne_told.specs.Told.{all_items, begins_with_number, items_in, list_at, number_of};
+ghost use Rattle.ariadne_told.specs.Members.{IsOfReport};
+ghost use Rattle.ariadne_told.specs.Members.{all_items, items_in, list_at};
+ghost use Rattle.ariadne_told.specs.Told.{begins_with_number};
 ghost use Rattle.ariadne_told.specs.Told.{is_label as is_of_label, is_report as is_of_report};
 
 use crate::colors::color;
 use crate::diagnostic::{Diagnostic, End, Look, OwnKind, Place, Severity, Spot};
-use crate::json::{copied_text, has_list, is_true, items, text};
+use crate::json::{copied_text, has_list, is_true, items, severity, text, usize_of, words};
 use ariadne_columns::Unit;
 use serde_json::Value;
 use std::alloc::{AllocError, Global};
@@ -57,13 +59,6 @@ fn spot(value: &Value, name: &str) -> Option<Spot>
     })
 }
 
-/// A number of this machine.
-fn usize_of(value: &Value) -> Option<usize>
-    ensures { result ≡ number_of (view value.now) }
-{
-    usize::try_from(value.as_u64()?).ok()
-}
-
 /// What the report says that its columns count: characters, where it says nothing.
 fn unit_of(value: &Value) -> Unit {
     match text(value, "columns") {
@@ -74,13 +69,18 @@ fn unit_of(value: &Value) -> Unit {
 }
 
 /// The diagnostic of a value that is a report.
-pub(crate) fn told_by_report(alloc: Global, value: &Value) -> Result<Diagnostic, AllocError> {
-    let severity = text(value, "kind").and_then(Severity::of);
-    let message = text(value, "message").unwrap_or("");
-    let mut told = Diagnostic::new(alloc, severity.unwrap_or(Severity::Error), message)?;
+pub(crate) fn told_by_report(alloc: Global, value: &Value) -> Result<Diagnostic, AllocError>
+    ensures { IfOk result (λ told. IsOfReport (view value.now) told) }
+{
+    let mut told = Diagnostic::new(alloc, severity(value, "kind"), words(value, "message"))?;
     told.own_kind = own_kind(alloc, value)?;
     told.code = copied_text(alloc, value, "code")?;
-    push_labels(alloc, &mut told, items(value, "labels"), unit_of(value))?;
+    push_labels(
+        alloc,
+        &mut told.places,
+        items(value, "labels"),
+        unit_of(value),
+    )?;
     push_texts(alloc, &mut told.notes, items(value, "notes"))?;
     push_texts(alloc, &mut told.helps, items(value, "helps"))?;
     Ok(told)
@@ -100,14 +100,14 @@ fn own_kind(alloc: Global, value: &Value) -> Result<Option<OwnKind>, AllocError>
 /// Adds the places of labels. Where none is primary, the first one is.
 fn push_labels(
     alloc: Global,
-    told: &mut Diagnostic,
+    places: &mut Vec<Place>,
     labels: &[Value],
     unit: Unit,
 ) -> Result<(), AllocError> {
     let has_primary = labels.iter().any(|label| is_true(label, "primary"));
     for (number, label) in labels.iter().enumerate() {
         let is_primary = is_true(label, "primary") || (number == 0 && !has_primary);
-        push_label(alloc, told, label, unit, is_primary)?;
+        push_label(alloc, places, label, unit, is_primary)?;
     }
     Ok(())
 }
@@ -115,7 +115,7 @@ fn push_labels(
 /// Adds the place of a label.
 fn push_label(
     alloc: Global,
-    told: &mut Diagnostic,
+    places: &mut Vec<Place>,
     label: &Value,
     unit: Unit,
     is_primary: bool,
@@ -127,14 +127,14 @@ fn push_label(
         Some(end) => End::Before(end),
         None => End::OfWord,
     };
-    told.places.push(Place {
-        file: String::from_str(alloc, text(label, "file").unwrap_or(""))?,
+    places.push(Place {
+        file: String::from_str(alloc, words(label, "file"))?,
         caret: start,
         start,
         end,
         unit,
         is_past_mark: false,
-        text: String::from_str(alloc, text(label, "text").unwrap_or(""))?,
+        text: String::from_str(alloc, words(label, "text"))?,
         is_primary,
         look: look_of(label),
         marks: None,

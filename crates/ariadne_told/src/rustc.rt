@@ -1,12 +1,19 @@
 //! Diagnostics of `rustc --error-format=json`, and of `cargo --message-format=json`.
 
-ghost use Rattle.std.specs.Prelude.{◌≡◌, is_some, option_map};
-ghost use Rattle.serde_json.specs.View.{view};
+ghost use Rattle.std.specs.Prelude.{◌≡◌, is_some, option_map, string_bytes, IfOk};
+ghost use Rattle.serde_json.specs.View.{items_view, view};
+ghost use Rattle.ariadne_told.specs.Members.{has_none, is_rustc_sum, is_sum_by as sums_up, rustc_code, rustc_end};
+ghost use Rattle.ariadne_told.specs.Members.{rustc_place, spot_at, IsOfRustc};
+ghost use Rattle.ariadne_told.specs.Places.{seen};
 ghost use Rattle.ariadne_told.specs.Told.{is_rustc as is_of_rustc, rustc_in};
 
-use crate::diagnostic::{Diagnostic, End, Look, Place, QuotedLine, Severity, Spot};
-use crate::json::{copied_text, has_list, is_true, items, number, text};
+use crate::diagnostic::{Diagnostic, End, Place, QuotedLine, Spot};
+use crate::heads::place;
+use crate::json::{
+    copied_text, has_list, has_words, is_true, items, number, severity, text, words,
+};
 use crate::noted::{named_place, push_row};
+use crate::pieces::{begins_with, closes_with};
 use crate::spots::is_among;
 use crate::suggested::{end_of, quoted_text, start_of, suggestion};
 use ariadne_columns::Unit;
@@ -40,15 +47,65 @@ fn is_rustc(value: &Value) -> bool
     text(value, "message").is_some() && text(value, "level").is_some() && has_list(value, "spans")
 }
 
-/// The diagnostic of a value that is one.
-pub(crate) fn told_by_rustc(alloc: Global, value: &Value) -> Result<Diagnostic, AllocError> {
-    let message = text(value, "message").unwrap_or("");
-    let severity = text(value, "level").and_then(Severity::of);
-    let mut told = Diagnostic::new(alloc, severity.unwrap_or(Severity::Error), message)?;
-    told.is_sum = is_sum(value, message);
-    if let Some(code) = value.get("code") {
-        told.code = copied_text(alloc, code, "code")?;
+/// What rustc says of its places, and beside its message.
+#[derive(Drop)]
+struct Beside {
+    /// The places.
+    places: Vec<Place>,
+    /// The lines of files that it quotes.
+    quoted: Vec<QuotedLine>,
+    /// Its notes.
+    notes: Vec<String>,
+    /// Its helps.
+    helps: Vec<String>,
+}
+
+/// The diagnostic of a value that is one, about a package of which this is the manifest.
+pub(crate) fn told_by_rustc(
+    alloc: Global,
+    value: &Value,
+    manifest: Option<String>,
+) -> Result<Diagnostic, AllocError>
+    ensures { IfOk result (λ told. IsOfRustc (view value.now) told) }
+{
+    let Beside {
+        places,
+        quoted,
+        notes,
+        helps,
+    } = said_beside(alloc, value)?;
+    Ok(Diagnostic {
+        severity: severity(value, "level"),
+        own_kind: None,
+        code: code(alloc, value)?,
+        message: String::from_str(alloc, words(value, "message"))?,
+        places,
+        notes,
+        helps,
+        quoted,
+        manifest,
+        is_sum: is_sum(value),
+    })
+}
+
+/// The code of a diagnostic, which stands in an object of its own.
+fn code(alloc: Global, value: &Value) -> Result<Option<String>, AllocError>
+    ensures { IfOk result (λ code. option_map string_bytes code ≡ rustc_code (view value.now)) }
+{
+    match value.get("code") {
+        Some(code) => copied_text(alloc, code, "code"),
+        None => Ok(None),
     }
+}
+
+/// What rustc says beside the message of a diagnostic.
+fn said_beside(alloc: Global, value: &Value) -> Result<Beside, AllocError> {
+    let mut told = Beside {
+        places: Vec::new(alloc),
+        quoted: Vec::new(alloc),
+        notes: Vec::new(alloc),
+        helps: Vec::new(alloc),
+    };
     push_spans(alloc, &mut told, items(value, "spans"))?;
     for child in items(value, "children") {
         push_child(alloc, &mut told, child)?;
@@ -57,21 +114,46 @@ pub(crate) fn told_by_rustc(alloc: Global, value: &Value) -> Result<Diagnostic, 
 }
 
 /// Adds the places of spans, and those of the macro calls that made them.
-fn push_spans(alloc: Global, told: &mut Diagnostic, spans: &[Value]) -> Result<(), AllocError> {
-    for span in spans {
-        let own_text = text(span, "label").unwrap_or("");
+fn push_spans(alloc: Global, told: &mut Beside, spans: &[Value]) -> Result<(), AllocError> {
+    for span in spans.iter().filter(|span| !is_dummy(span)) {
+        let own_text = words(span, "label");
         push_place(alloc, told, span, own_text, is_true(span, "is_primary"))?;
         push_macro_call(alloc, told, span)?;
     }
     Ok(())
 }
 
+/// Whether a span stands for no place: that of a message about a whole crate, which rustc's text leaves out. It
+/// covers nothing at the start of the first file, quotes nothing and says nothing.
+fn is_dummy(span: &Value) -> bool {
+    number(span, "byte_start") == Some(0)
+        && number(span, "byte_end") == Some(0)
+        && items(span, "text").is_empty()
+        && text(span, "label").is_none()
+}
+
 /// Whether a diagnostic has no place, and sums up others or says where to read more.
-fn is_sum(value: &Value, message: &str) -> bool {
-    items(value, "spans").is_empty()
-        && (text(value, "level") == Some("failure-note")
-            || message.starts_with("aborting due to ")
-            || message.ends_with(" emitted"))
+fn is_sum(value: &Value) -> bool
+    ensures { result ≡ is_rustc_sum (view value.now) }
+{
+    has_no_items(items(value, "spans")) && is_sum_by(value)
+}
+
+/// Whether a list of values is empty.
+#[tactic(auto, using(crate::proofs::Values::none_view))]
+fn has_no_items(values: &[Value]) -> bool
+    ensures { result ≡ has_none (items_view values.now) }
+{
+    values.is_empty()
+}
+
+/// Whether a diagnostic says where to read more, or sums up others.
+fn is_sum_by(value: &Value) -> bool
+    ensures { result ≡ sums_up (view value.now) }
+{
+    has_words(value, "level", "failure-note")
+        || begins_with(words(value, "message"), "aborting due to ")
+        || closes_with(words(value, "message"), " emitted")
 }
 
 /// Whether a span lies in a file of the user's: in none that a macro made, and none of std, which is
@@ -101,50 +183,70 @@ fn own_span(span: &Value) -> &Value {
 }
 
 /// One end of a span.
-fn spot(span: &Value, line: &str, column: &str) -> Option<Spot> {
+fn spot(span: &Value, line: &str, column: &str) -> Option<Spot>
+    ensures { result ≡ spot_at line.now column.now (view span.now) }
+{
     Some(Spot {
         line: number(span, line)?,
         column: number(span, column),
     })
 }
 
+/// Where a span ends.
+fn end(span: &Value) -> End
+    ensures { result ≡ rustc_end (view span.now) }
+{
+    match spot(span, "line_end", "column_end") {
+        Some(end) => End::Before(end),
+        None => End::OfWord,
+    }
+}
+
 /// Adds the place of a span, and what is said of it.
 fn push_place(
     alloc: Global,
-    told: &mut Diagnostic,
+    told: &mut Beside,
     span: &Value,
     said: &str,
     is_primary: bool,
 ) -> Result<(), AllocError> {
     let own = own_span(span);
-    let Some(start) = spot(own, "line_start", "column_start") else {
+    let Some(place) = span_place(alloc, own, said, is_primary)? else {
         return Ok(());
     };
-    let end = match spot(own, "line_end", "column_end") {
-        Some(end) => End::Before(end),
-        None => End::OfWord,
-    };
-    let file = text(own, "file_name").unwrap_or("");
     push_quoted(
         alloc,
         &mut told.quoted,
-        file,
-        start.line,
+        place.file.as_str(),
+        place.start.line,
         items(own, "text"),
     )?;
-    told.places.push(Place {
-        file: String::from_str(alloc, file)?,
-        caret: start,
-        start,
-        end,
-        unit: Unit::Char,
-        is_past_mark: false,
-        text: String::from_str(alloc, said)?,
-        is_primary,
-        look: Look::default(),
-        marks: None,
-    })?;
+    told.places.push(place)?;
     Ok(())
+}
+
+/// The place of a span, and what is said of it. A span without a line has none.
+fn span_place(
+    alloc: Global,
+    span: &Value,
+    said: &str,
+    is_primary: bool,
+) -> Result<Option<Place>, AllocError>
+    ensures { IfOk result (λ place. option_map seen place ≡ rustc_place said.now is_primary (view span.now)) }
+{
+    let Some(start) = spot(span, "line_start", "column_start") else {
+        return Ok(None);
+    };
+    let mut place = place(
+        alloc,
+        words(span, "file_name"),
+        start,
+        end(span),
+        Unit::Char,
+    )?;
+    place.text = String::from_str(alloc, said)?;
+    place.is_primary = is_primary;
+    Ok(Some(place))
 }
 
 /// Adds the lines that a span quotes of its file, of which this is the first.
@@ -167,7 +269,7 @@ fn push_quoted(
 
 /// Adds the place of the outermost macro call that a span of the user's was made by, where it isn't a part of
 /// that.
-fn push_macro_call(alloc: Global, told: &mut Diagnostic, span: &Value) -> Result<(), AllocError> {
+fn push_macro_call(alloc: Global, told: &mut Beside, span: &Value) -> Result<(), AllocError> {
     let own = own_span(span);
     match macro_call(own) {
         Some(call) if is_own(own) && is_own(call) && !is_part(own, call) => {
@@ -209,8 +311,8 @@ fn is_by_macro(span: &Value) -> bool {
 
 /// Adds a note or a help: with what it puts in, or as labels where its places can be shown, and else as a
 /// text.
-fn push_child(alloc: Global, told: &mut Diagnostic, child: &Value) -> Result<(), AllocError> {
-    let message = text(child, "message").unwrap_or("");
+fn push_child(alloc: Global, told: &mut Beside, child: &Value) -> Result<(), AllocError> {
+    let message = words(child, "message");
     let spans = items(child, "spans");
     if let Some(put_in) = suggestion(alloc, spans)? {
         told.helps.push(format!(in alloc; "{message}: {put_in}")?)?;
@@ -221,7 +323,7 @@ fn push_child(alloc: Global, told: &mut Diagnostic, child: &Value) -> Result<(),
     if !spans.is_empty() && said.is_empty() {
         return Ok(());
     }
-    if text(child, "level") == Some("help") {
+    if has_words(child, "level", "help") {
         told.helps.push(said)?;
     } else {
         told.notes.push(said)?;
@@ -233,7 +335,7 @@ fn push_child(alloc: Global, told: &mut Diagnostic, child: &Value) -> Result<(),
 /// themselves.
 fn push_noted_places(
     alloc: Global,
-    told: &mut Diagnostic,
+    told: &mut Beside,
     spans: &[Value],
     message: &str,
 ) -> Result<(), AllocError> {
@@ -257,7 +359,7 @@ fn noted_text(alloc: Global, spans: &[Value], message: &str) -> Result<String, A
         message
     };
     let mut text = String::from_str(alloc, said)?;
-    for span in spans.iter().filter(|span| !is_shown(own_span(span))) {
+    for span in spans.iter().filter(|span| is_elsewhere(span)) {
         push_named_place(alloc, &mut text, span)?;
     }
     Ok(text)
@@ -270,7 +372,12 @@ fn says_note(span: &Value) -> bool {
 
 /// Whether a place can be shown: it lies in a file of the user's, or rustc quotes it.
 fn is_shown(span: &Value) -> bool {
-    is_own(span) || !items(span, "text").is_empty()
+    !is_dummy(span) && (is_own(span) || !items(span, "text").is_empty())
+}
+
+/// Whether a span stands for a place that can't be shown.
+fn is_elsewhere(span: &Value) -> bool {
+    !is_dummy(span) && !is_shown(own_span(span))
 }
 
 /// Has a text go on with where a span is, and what is said of it.
@@ -278,7 +385,7 @@ fn push_named_place(alloc: Global, said: &mut String, span: &Value) -> Result<()
     let Some(start) = spot(span, "line_start", "column_start") else {
         return Ok(());
     };
-    let file = text(span, "file_name").unwrap_or("");
-    let label = text(span, "label").unwrap_or("");
+    let file = words(span, "file_name");
+    let label = words(span, "label");
     push_row(said, named_place(alloc, file, start, label)?.as_str())
 }

@@ -10,7 +10,7 @@ use std::alloc::{AllocError, Global};
 /// The escape, with which sequences begin.
 const ESCAPE: char = '\x1b';
 
-/// The bell, with which links end.
+/// The bell, with which links may end.
 const BELL: char = '\x07';
 
 /// Whether a line has an escape. One that has none is the same without its sequences.
@@ -22,7 +22,8 @@ pub fn has_escape(line: &str) -> bool
 }
 
 /// A line without its sequences: the escape, `[`, digits, `;` and `:`, and `m` or `K`; a shift in behind the
-/// `m`; the escape and `(B`; and where links begin and end. Other escapes stay.
+/// `m`; the escape and `(B`; and where links begin and end, up to a bell or to the escape and `\`. Other escapes
+/// stay.
 /// On `Err` there was no memory for it.
 #[tactic(auto, unfolding(crate::specs::Sgr::bare_line))]
 pub fn without_sgr(alloc: Global, line: &str) -> Result<String, AllocError>
@@ -84,17 +85,48 @@ fn behind_other(text: &str) -> Option<&str>
 {
     match behind_link(text) {
         Some(rest) => Some(rest),
-        None => behind_text(text, "(B"),
+        None => behind_mark(text),
     }
 }
 
-/// What stands behind where a link begins or ends: `]8;`, what it leads to, and a bell.
+/// What stands behind `(B`, or behind the `\` that ends a link.
+#[tactic(auto, unfolding(crate::specs::Sgr::behind_mark))]
+fn behind_mark(text: &str) -> Option<&str>
+    ensures { option_map (λ rest. rest.now) result ≡ sgr.behind_mark text.now }
+{
+    match behind_text(text, "(B") {
+        Some(rest) => Some(rest),
+        None => behind(text, '\\'),
+    }
+}
+
+/// What stands behind where a link begins or ends: `]8;`, and what it leads to.
 #[tactic(auto, unfolding(crate::specs::Sgr::behind_link))]
 fn behind_link(text: &str) -> Option<&str>
     ensures { option_map (λ rest. rest.now) result ≡ sgr.behind_link text.now }
 {
-    let (_, rest) = split_once(behind_text(text, "]8;")?, BELL)?;
-    Some(rest)
+    past_link(behind_text(text, "]8;")?)
+}
+
+/// What stands behind the bell that ends a link, or behind an address, which the next escape and a `\` end.
+fn past_link(text: &str) -> Option<&str>
+    ensures { option_map (λ rest. rest.now) result ≡ sgr.past_link text.now }
+{
+    match split_once(text, BELL) {
+        Some((_, rest)) => Some(rest),
+        None => past_address(text),
+    }
+}
+
+/// What stands behind an address, which has no blank, and ends at the next escape: nothing.
+fn past_address(text: &str) -> Option<&str>
+    ensures { option_map (λ rest. rest.now) result ≡ sgr.past_address text.now }
+{
+    if text.as_bytes().contains(&b' ') {
+        None
+    } else {
+        Some("")
+    }
 }
 
 /// What stands behind a sequence that colours.

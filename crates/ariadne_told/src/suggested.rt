@@ -1,7 +1,9 @@
 //! What rustc's JSON suggests: spans that say what is to be put where.
 
 ghost use Rattle.std.specs.Prelude.{◌≡◌};
+ghost use Rattle.serde_json.specs.View.{view};
 ghost use Rattle.ariadne_told.specs.Fixes.{joint_words};
+ghost use Rattle.ariadne_told.specs.Members.{span_end, span_start};
 
 use crate::diagnostic::Spot;
 use crate::fixes::{Covered, change_text, line_text};
@@ -48,8 +50,10 @@ fn part_text(alloc: Global, span: &Value, put_in: &str) -> Result<String, AllocE
     }
 }
 
-/// Where a span begins.
-pub(crate) fn start_of(span: &Value) -> Spot {
+/// Where a span begins. One without a line begins at line 0, which no file has.
+pub(crate) fn start_of(span: &Value) -> Spot
+    ensures { result ≡ span_start (view span.now) }
+{
     Spot {
         line: number(span, "line_start").unwrap_or(0),
         column: number(span, "column_start"),
@@ -57,7 +61,9 @@ pub(crate) fn start_of(span: &Value) -> Spot {
 }
 
 /// Where a span ends.
-pub(crate) fn end_of(span: &Value) -> Spot {
+pub(crate) fn end_of(span: &Value) -> Spot
+    ensures { result ≡ span_end (view span.now) }
+{
     Spot {
         line: number(span, "line_end").unwrap_or(0),
         column: number(span, "column_end"),

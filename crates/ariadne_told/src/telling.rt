@@ -1,16 +1,17 @@
 //! Which lines tell something, and what.
 
-ghost use Rattle.std.specs.Prelude.{◌≡◌, ◌<◌, ◌≤◌, [], ◌∷◌, true, false, if◌then◌else◌, None};
-ghost use Rattle.std.specs.Prelude.{is_some, option_map, vec_len, IfOk, IfSome, IsSomeAnd};
+ghost use Rattle.std.specs.Prelude.{◌≡◌, ◌≤◌, [], ◌∷◌, true, false, if◌then◌else◌, None};
+ghost use Rattle.std.specs.Prelude.{is_some, option_map, IfOk, IfSome, IsSomeAnd};
 ghost use Rattle.serde_json.specs.Data.{depth as nesting};
 ghost use Rattle.serde_json.specs.Read.{max_depth};
 ghost use Rattle.serde_json.specs.View.{view};
 ghost use Rattle.ariadne_told.specs.Told.{begins_as_json as is_begun_as_json, tells_value};
 ghost use Rattle.ariadne_told.specs.Told.{handed_in, reads_rustc as is_rustc_read, reads_text};
-ghost use Rattle.ariadne_told.specs.Told.{is_of_rust as is_rust_file, unit_in as unit_of_file, value_in};
-ghost use Rattle.ariadne_told.specs.Told.{IsHeldIfAny, IsTold, IsToldOfHead, IsToldOfValue};
+ghost use Rattle.ariadne_told.specs.Told.{is_of_rust as is_rust_file, unit_in as unit_of_head, value_in};
+ghost use Rattle.ariadne_told.specs.Told.{AreTold, IsHeldIfAny, IsTold, IsToldOfHead, IsToldOfValue};
 ghost use Rattle.ariadne_told.specs.Sent.{WasSent};
 ghost use Rattle.ariadne_told.specs.Heads.{head_of_line};
+ghost use Rattle.ariadne_told.specs.ToldLines.{head_told};
 ghost use Rattle.ariadne_told.specs.declared.telling.Format.TheVariants.{Auto, Rustc, Gcc, Report};
 
 use crate::cargo::{handed_on, is_of_cargo};
@@ -18,7 +19,7 @@ use crate::diagnostic::Diagnostic;
 use crate::gcc::{gcc_messages, told_by_gcc};
 use crate::heads::told_by_line;
 use crate::json::copied_text;
-use crate::lines::line_told;
+use crate::lines::{ToldLine, line_told};
 use crate::report::{is_report, told_by_report};
 use crate::rustc::{rustc_message, told_by_rustc};
 use crate::sent::Sent;
@@ -132,7 +133,7 @@ fn line_in(alloc: Global, unit: Unit, line: &str) -> Result<Answer, AllocError>
     let Some(it) = line_told(line) else {
         return Ok(Answer::Nothing);
     };
-    let told = told_by_line(alloc, &it, unit_in(it.file, unit))?;
+    let told = told_by_line(alloc, &it, unit_in(&it, unit))?;
     Ok(if it.is_note() {
         Answer::Note(told)
     } else {
@@ -140,12 +141,16 @@ fn line_in(alloc: Global, unit: Unit, line: &str) -> Result<Answer, AllocError>
     })
 }
 
-/// What the columns of a line count that is about a file, where those of others count this: those of rustc,
-/// which alone reads Rust, count characters.
-fn unit_in(file: &str, unit: Unit) -> Unit
-    ensures { result ≡ unit_of_file file.now unit }
+/// What the columns of a line count, where those of others count this: those of rustc, which alone reads Rust,
+/// count characters, and so do those of some codes.
+fn unit_in(it: &ToldLine<'_>, unit: Unit) -> Unit
+    ensures { result ≡ unit_of_head (head_told it.now) unit }
 {
-    if is_of_rust(file) { Unit::Char } else { unit }
+    if is_of_rust(it.file) || it.kind.has_characters {
+        Unit::Char
+    } else {
+        unit
+    }
 }
 
 /// Whether a file is one of Rust's.
@@ -220,7 +225,7 @@ fn diagnostics_in(
     value: &Value,
 ) -> Result<Option<Vec<Diagnostic>>, AllocError>
     ensures told { IfOk result (λ told. is_some told ≡ tells_value format (view value.now)) }
-    ensures some { IfOk result (λ told. IfSome told (λ all. 0 < vec_len all)) }
+    ensures all { IfOk result (λ told. IfSome told (λ all. AreTold (view value.now) all.items)) }
 {
     match format {
         Format::Auto => any_in(alloc, value),
@@ -234,7 +239,7 @@ fn diagnostics_in(
 /// What a value of any form tells.
 fn any_in(alloc: Global, value: &Value) -> Result<Option<Vec<Diagnostic>>, AllocError>
     ensures told { IfOk result (λ told. is_some told ≡ tells_value Auto (view value.now)) }
-    ensures some { IfOk result (λ told. IfSome told (λ all. 0 < vec_len all)) }
+    ensures all { IfOk result (λ told. IfSome told (λ all. AreTold (view value.now) all.items)) }
 {
     if let Some(all) = rustc_in(alloc, value)? {
         return Ok(Some(all));
@@ -248,20 +253,20 @@ fn any_in(alloc: Global, value: &Value) -> Result<Option<Vec<Diagnostic>>, Alloc
 /// What a value tells as rustc and cargo write it.
 fn rustc_in(alloc: Global, value: &Value) -> Result<Option<Vec<Diagnostic>>, AllocError>
     ensures told { IfOk result (λ told. is_some told ≡ tells_value Rustc (view value.now)) }
-    ensures some { IfOk result (λ told. IfSome told (λ all. 0 < vec_len all)) }
+    ensures all { IfOk result (λ told. IfSome told (λ all. AreTold (view value.now) all.items)) }
 {
     let Some(message) = rustc_message(value) else {
         return Ok(None);
     };
-    let mut told = told_by_rustc(alloc, message)?;
-    told.manifest = copied_text(alloc, value, "manifest_path")?;
+    let manifest = copied_text(alloc, value, "manifest_path")?;
+    let told = told_by_rustc(alloc, message, manifest)?;
     Ok(Some(one(alloc, told)?))
 }
 
 /// What a value tells as gcc writes it.
 fn gcc_in(alloc: Global, value: &Value) -> Result<Option<Vec<Diagnostic>>, AllocError>
     ensures told { IfOk result (λ told. is_some told ≡ tells_value Gcc (view value.now)) }
-    ensures some { IfOk result (λ told. IfSome told (λ all. 0 < vec_len all)) }
+    ensures all { IfOk result (λ told. IfSome told (λ all. AreTold (view value.now) all.items)) }
 {
     match gcc_messages(value) {
         Some(messages) => Ok(Some(told_by_gcc(alloc, messages)?)),
@@ -272,7 +277,7 @@ fn gcc_in(alloc: Global, value: &Value) -> Result<Option<Vec<Diagnostic>>, Alloc
 /// What a value tells in the program's own form.
 fn report_in(alloc: Global, value: &Value) -> Result<Option<Vec<Diagnostic>>, AllocError>
     ensures told { IfOk result (λ told. is_some told ≡ tells_value Report (view value.now)) }
-    ensures some { IfOk result (λ told. IfSome told (λ all. 0 < vec_len all)) }
+    ensures all { IfOk result (λ told. IfSome told (λ all. AreTold (view value.now) all.items)) }
 {
     if !is_report(value) {
         return Ok(None);

@@ -14,7 +14,7 @@ returns-then-branch c =
 pub returns-in-Some : goal.returns-in-Some
 returns-in-Some c =
     now c.args.format (view c.args.value.now) c.args.sent.now c.is_again.new.sent c.in_ok-all.field-0 c.in-Some.all c.in-Some.is
-    c.in_ok-all.ensures.told c.in_ok-all.ensures.some (c.in_ok-is_again.ensures.new c.if-branch.false)
+    c.in_ok-all.ensures.told c.in_ok-all.ensures.all (c.in_ok-is_again.ensures.new c.if-branch.false)
 
 -- none, of cargo's own
 pub returns-in-None : goal.returns-in-None
