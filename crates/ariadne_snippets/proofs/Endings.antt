@@ -1,6 +1,7 @@
 -- Ends of texts, and texts that stand in others.
 use Rattle.std.proofs.Common.{◌≡◌, ◌∙◌, ap, sym, refl, ℕ, ◌+◌, ◌-◌, Bool, true, false, eqb, cond, List, [], ◌∷◌, ◌++◌, drop, take, length, append_assoc, Option, Some, None, option_map, subst}
 use Rattle.std.specs.Prelude.{option_and_then, unwrap_or}
+use Rattle.std.proofs.Math.Seq.{drop-length}
 use Rattle.std.proofs.lemmas.List.{append-nil, drop-drop, take-append-drop}
 use Rattle.std.specs.Str.{IsTrimEnd}
 use Rattle.ariadne_snippets.specs.Ends.{IsEnd}
@@ -10,6 +11,10 @@ use Rattle.ariadne_snippets.specs.Pieces.{behind, digits_in, number_in, past_bla
 -- a text is its own end
 pub end_of_all : (text : List ℕ) → IsEnd text text
 end_of_all text = record { count = 0; is_rest = refl }
+
+-- and nothing is one
+pub end_of_nothing : (text : List ℕ) → IsEnd [] text
+end_of_nothing text = record { count = length text; is_rest = sym (drop-length text) }
 
 -- the end of an end is one
 pub end_of_end : (text middle line : List ℕ) → IsEnd text middle → IsEnd middle line → IsEnd text line

@@ -31,6 +31,13 @@ next_same line source before middle after e next =
     let P : Option Quoted → Type 0 = λ x. QuotesNext line source before x in
     subst P (sym e) next
 
+-- and where it was as it was before
+pub next_from : (line : List ℕ) (source : Option (List ℕ)) (before middle after : Option Quoted) → middle ≡ before
+    → QuotesNext line source middle after → QuotesNext line source before after
+next_from line source before middle after e next =
+    let P : Option Quoted → Type 0 = λ x. QuotesNext line source x after in
+    subst P e next
+
 -- an equal quote is one of the same line
 pub quote_same : (quote other : Quote) (text line : List ℕ) → quote ≡ other → IsQuoteOf other text line
     → IsQuoteOf quote text line

@@ -1,5 +1,5 @@
 -- What lines of output tell.
-use Rattle.std.proofs.Common.{◌≡◌, refl, List, ℕ, Option, Some, Result, Ok, Err, IfOk, IsSomeAnd, sym, subst}
+use Rattle.std.proofs.Common.{◌≡◌, refl, List, ℕ, Option, None, Some, Result, Ok, Err, IfOk, IfSome, IsSomeAnd, sym, subst}
 use Rattle.ariadne_snippets.specs.Ends.{IsEnd}
 use Rattle.ariadne_snippets.specs.Snippets.{in_row, EndsBy, HasEnded, RowTells, TellsOf}
 use Rattle.ariadne_snippets.specs.declared.quoted.Quoted.{Quoted}
@@ -56,6 +56,11 @@ not_ended snippet (Elsewhere place) is = tt
 pub ok_weaker : {X E : Type 0} (P Q : X → Type 0) (r : Result X E) → ((x : X) → P x → Q x) → IfOk r P → IfOk r Q
 ok_weaker P Q (Ok x) h is = h x is
 ok_weaker P Q (Err e) h is = tt
+
+-- what may be there says more
+pub some_weaker : {X : Type 0} (P Q : X → Type 0) (o : Option X) → ((x : X) → P x → Q x) → IfSome o P → IfSome o Q
+some_weaker P Q None h is = tt
+some_weaker P Q (Some x) h is = h x is
 
 -- what is said of what is there
 pub some_and : (P : Quoted → Type 0) (o : Option Quoted) (q : Quoted) → o ≡ Some q → P q → IsSomeAnd o P

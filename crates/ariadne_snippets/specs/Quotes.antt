@@ -1,7 +1,7 @@
 -- How a line of a file stands in a quote of it. A quote has the characters of its line, in their order. A
 -- tab may stand in it as blanks, and what can't be seen as a sign. White space at its ends may differ.
 -- Characters stand as their numbers: 9 is a tab, 13 a carriage return, 32 a blank, 43 `+`, 46 a dot, 60
--- `<`, 62 `>`, 85 `U`, 92 `\`, 120 `x`, 123 and 125 braces, 65279 a byte order mark.
+-- `<`, 62 `>`, 63 `?`, 85 `U`, 92 `\`, 120 `x`, 123 and 125 braces, 65279 a byte order mark.
 use Rattle.std.specs.Prelude.{ℕ, ◌+◌, ◌-◌, ◌≡◌, ◌≤◌, ◌==◌, nat_le, min, max, if◌then◌else◌, Bool, true, false, ◌&&◌, ◌||◌}
 use Rattle.std.specs.Prelude.{List, [], ◌∷◌, ◌++◌, drop, length, map, take, slice_get, slice_range}
 use Rattle.std.specs.Prelude.{Option, Some, None, option_map}
@@ -34,9 +34,9 @@ tab_width line quote = near_white_length quote - near_white_length line
 abbrev pub is_seen : ℕ → Bool
 is_seen c = is_ascii_graphic c || c == 32
 
--- the picture of a control, and that of what is no character
+-- the picture of a control, that of what is no character, and `?` for what an encoding doesn't have
 abbrev pub is_sign : ℕ → Bool
-is_sign c = c == 65533 || (nat_le 9216 c && nat_le c 9254)
+is_sign c = c == 65533 || (c == 63 || (nat_le 9216 c && nat_le c 9254))
 
 -- a character of a code, as U+000C
 abbrev pub is_code : ℕ → Bool

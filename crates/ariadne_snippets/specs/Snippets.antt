@@ -4,7 +4,7 @@ use Rattle.std.specs.Prelude.{Bool, false, ◌&&◌, ◌||◌, if◌then◌else�
 use Rattle.std.specs.Prelude.{ℕ, ◌+◌, ◌-◌, ◌^◌, ◌≡◌, ◌≢◌, true, ◌<◌, ◌≤◌, min, List, ◌∷◌, ◌++◌, [], All, chars, length, map}
 use Rattle.std.specs.Prelude.{Option, Some, None, IsSomeAnd, is_some, option_and_then, option_map}
 use Rattle.std.specs.List.{range_with_len, AllZip}
-use Rattle.std.specs.Str.{trim, trim_end}
+use Rattle.std.specs.Str.{trim}
 use Rattle.ariadne_columns.specs.declared.unit.Unit.{Unit as ColumnUnit}
 use Rattle.ariadne_columns.specs.declared.unit.Unit.TheVariants.{Char}
 use Rattle.ariadne_snippets.specs.Ends.{IsEnd}
@@ -13,7 +13,7 @@ use Rattle.ariadne_snippets.specs.Marks.{char_in, mark_runs, place_in, runs_from
 use Rattle.ariadne_snippets.specs.Pieces.{GoesOn, IsIn}
 use Rattle.ariadne_snippets.specs.Rows.{column_behind, run_with}
 use Rattle.std.specs.Option.{option_or}
-use Rattle.ariadne_snippets.specs.Words.{added_in, words_in, noted, helped, advised, placed, placed_elsewhere, inserted, changed}
+use Rattle.ariadne_snippets.specs.Words.{added_in, unfiled_in, words_in, noted, helped, advised, placed, placed_elsewhere, inserted, changed}
 use Rattle.ariadne_snippets.specs.Words.{LineWords}
 use Rattle.ariadne_snippets.specs.declared.snippet.Advice.{Advice}
 use Rattle.ariadne_snippets.specs.declared.snippet.Advice.TheVariants.{Puts, Changes, Replaces}
@@ -248,9 +248,9 @@ pub record IsPutInto (number : ℕ) (text : List ℕ) (fixes : List Fix) : Type 
 -- and what a line of output does. Where a help puts in more than one line, each counts those above it
 pub data AreFixesOf (quoted : Option Quoted) (line : List ℕ) (fixes : List Fix) : Type 0 where
   line_added : (number : ℕ) (text : List ℕ) → added_in line ≡ Some text
-      → map change_told fixes ≡ change_of_line number PutLine text ∷ [] → AreFixesOf quoted line fixes
+      → map change_told fixes ≡ change_of_line number PutLine (trim text) ∷ [] → AreFixesOf quoted line fixes
   line_inserted : (number above : ℕ) (text : List ℕ) → TellsLine line number text
-      → map change_told fixes ≡ change_of_line (number - above) PutLine (trim_end text) ∷ []
+      → map change_told fixes ≡ change_of_line (number - above) PutLine (trim text) ∷ []
       → AreFixesOf quoted line fixes
   line_changed_below : (number above : ℕ) (text : List ℕ) → words_in line ≡ Some (changed number text)
       → map change_told fixes ≡ change_of_line (number - above) Become (trim text) ∷ []
@@ -268,9 +268,11 @@ pub data AreFixesOf (quoted : Option Quoted) (line : List ℕ) (fixes : List Fix
 
 -- ---- what lines say
 
--- a line says a note: in its words, or as a detail below a place, without the blanks in front of all details
+-- a line says a note: in its words, of a text that stands in no file, or as a detail below a place, without the
+-- blanks in front of all details
 pub data IsNote (line text : List ℕ) : Type 0 where
   note_in_words : words_in line ≡ Some (noted text) → IsNote line text
+  of_unfiled : unfiled_in line ≡ Some text → IsNote line text
   detail : GoesOn line text → IsNote line text
 
 pub data IsHelp (line text : List ℕ) : Type 0 where

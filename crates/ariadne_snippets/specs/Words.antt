@@ -1,7 +1,7 @@
--- Lines of snippets that have words of their own.
+-- Lines of snippets that have words of their own. Characters stand as their numbers: 58 is a colon.
 use Rattle.std.specs.Prelude.{ℕ, if◌then◌else◌, List, codes, Option, Some, option_map, option_and_then}
 use Rattle.std.specs.Option.{option_or}
-use Rattle.ariadne_snippets.specs.Pieces.{begins_with, behind_text, number_in, past_blanks}
+use Rattle.ariadne_snippets.specs.Pieces.{begins_with, behind, behind_text, number_in, past_blanks}
 use Rattle.ariadne_snippets.specs.declared.forms.Words.{Words}
 use Rattle.ariadne_snippets.specs.declared.forms.Words.TheVariants.{Note, Help, Advice, At, Elsewhere, Inserted, Changed, Gone, Gap}
 
@@ -55,6 +55,22 @@ abbrev pub note_in : List ℕ → Option (List ℕ)
 note_in line =
     option_or (option_or (behind_text (codes "note: ") line) (behind_text (codes "cc1: note: ") line))
     (behind_text (codes "cc1plus: note: ") line)
+
+-- what stands behind the name of a text that stands in no file
+abbrev pub behind_unfiled : List ℕ → Option (List ℕ)
+behind_unfiled line =
+    option_or (option_or (option_or (behind_text (codes "<scratch space>:") line)
+    (behind_text (codes "<inline asm>:") line))
+    (behind_text (codes "<command line>:") line))
+    (behind_text (codes "<built-in>:") line)
+
+-- a note about such a text, with its line and column: `<scratch space>:2:1: note: ..`
+abbrev pub unfiled_in : List ℕ → Option (List ℕ)
+unfiled_in line =
+    option_and_then (λ at_line. option_and_then
+    (λ rest. option_and_then (λ at_column. behind_text (codes ": note: ") at_column.1) (number_in rest))
+    (behind 58 at_line.1))
+    (option_and_then (λ rest. number_in rest) (behind_unfiled line))
 
 -- the words of a line, if it has some
 abbrev pub words_in : List ℕ → Option LineWords

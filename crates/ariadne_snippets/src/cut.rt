@@ -1,5 +1,5 @@
-//! Quotes of a part of a line, with dots where it was cut. A part has the characters of its line as they
-//! are.
+//! Quotes of a part of a line, with dots where it was cut. gcc writes none where it cuts the front off, to fit a
+//! terminal. A part has the characters of its line as they are.
 
 ghost use Rattle.std.specs.Prelude.{◌≡◌, ◌+◌, ◌^◌, ◌<◌, ◌≤◌, ◌==◌, drop, length, true, IfOk, IfSome};
 ghost use Rattle.std.specs.List.{starts_with};
@@ -88,9 +88,8 @@ fn place_of(line: &[char], part: &[char], is_front_cut: bool, is_end_cut: bool) 
         starts_with (λ a b. a == b) (drop place line.now) part.now ≡ true) }
 {
     let place = match (is_front_cut, is_end_cut) {
-        (false, false) => return None,
         (false, true) => blank_length(line),
-        (true, false) => inked_length(line).checked_sub(part.len())?,
+        (false, false) | (true, false) => inked_length(line).checked_sub(part.len())?,
         (true, true) => only_place(line, part)?,
     };
     if line.get(place..)?.starts_with(part) {

@@ -1,9 +1,10 @@
 //! Lines of snippets that stand behind no bar.
 
 ghost use Rattle.std.specs.Prelude.{◌≡◌, option_map};
-ghost use Rattle.ariadne_snippets.specs.Words.{added_in, changed_in, indented_in, note_in, words_in, words_told};
+ghost use Rattle.ariadne_snippets.specs.Words.{added_in, behind_unfiled, changed_in, indented_in, note_in};
+ghost use Rattle.ariadne_snippets.specs.Words.{unfiled_in, words_in, words_told};
 
-use crate::pieces::{begins_with, behind_text, number, past_blanks};
+use crate::pieces::{begins_with, behind, behind_text, number, past_blanks};
 
 /// A line of rustc's form that has words of its own.
 #[derive(Clone, Copy, Debug, PartialEq, Eq)]
@@ -54,6 +55,26 @@ pub(crate) fn note_of(line: &str) -> Option<&str>
     behind_text(line, "note: ")
         .or(behind_text(line, "cc1: note: "))
         .or(behind_text(line, "cc1plus: note: "))
+}
+
+/// What a note says of a text that stands in no file, as clang's `<scratch space>:2:1: note: ..`: what macros have
+/// put together, assembler in a string, or what the command line defines.
+pub(crate) fn unfiled_note(line: &str) -> Option<&str>
+    ensures { option_map (λ text. text.now) result ≡ unfiled_in line.now }
+{
+    let (_, rest) = number(behind_unfiled_name(line)?)?;
+    let (_, rest) = number(behind(rest, ':')?)?;
+    behind_text(rest, ": note: ")
+}
+
+/// What stands behind the name of a text that stands in no file.
+fn behind_unfiled_name(line: &str) -> Option<&str>
+    ensures { option_map (λ rest. rest.now) result ≡ behind_unfiled line.now }
+{
+    behind_text(line, "<scratch space>:")
+        .or(behind_text(line, "<inline asm>:"))
+        .or(behind_text(line, "<command line>:"))
+        .or(behind_text(line, "<built-in>:"))
 }
 
 /// The words of a line that is indented.

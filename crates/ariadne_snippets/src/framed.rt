@@ -360,7 +360,7 @@ impl Snippet {
     {
         let line = number.saturating_sub(self.advice.above());
         self.advice = self.advice.with_line();
-        let fixes = one_fix(self.alloc, line, FixKind::PutLine, text.trim_end())?;
+        let fixes = one_fix(self.alloc, line, FixKind::PutLine, text.trim())?;
         Ok(Taken::Fixes(fixes))
     }
 

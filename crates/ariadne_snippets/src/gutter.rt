@@ -35,7 +35,7 @@ pub(crate) fn gutter_of(line: &str) -> Option<Gutter<'_>>
 }
 
 /// A text without this character of ASCII in front of it, if it begins with that.
-fn without(text: &str, mark: char) -> &str
+pub(crate) fn without(text: &str, mark: char) -> &str
     requires { mark < 128 }
     ensures { result.now ≡ text_without mark text.now }
 {

@@ -31,7 +31,8 @@ impl Snippet {
         ensures ends { IfOk result (λ taken. EndsBy self.new taken) }
     {
         if let Some(text) = added_line(line) {
-            let fixes = one_fix(self.alloc, self.next_number(), FixKind::PutLine, text)?;
+            let number = self.next_number();
+            let fixes = one_fix(self.alloc, number, FixKind::PutLine, text.trim())?;
             return Ok(Taken::Fixes(fixes));
         }
         match gutter_of(line) {

@@ -1,14 +1,15 @@
 //! Snippets without a gutter, as clang, javac, mypy and cppcheck write them.
 
 ghost use Rattle.std.specs.Prelude.{◌≡◌, IfOk, IfSome, List, Option, Some, ℕ};
-ghost use Rattle.ariadne_snippets.specs.Pieces.{GoesOn};
-ghost use Rattle.ariadne_snippets.specs.Snippets.{EndsBy, IsSameLine, QuotesNext, TellsOf};
+ghost use Rattle.ariadne_snippets.specs.Pieces.{GoesOn, IsIn};
+ghost use Rattle.ariadne_snippets.specs.Snippets.{AreMarksIn, EndsBy, IsSameLine, QuotesNext, TellsOf};
 
+use crate::gutter::without;
 use crate::pieces::{behind_indent, behind_text};
 use crate::quoted::Quoted;
 use crate::rows::{has_caret, is_bars, is_blank, is_marks, pieces};
 use crate::snippet::{Snippet, Stage};
-use crate::taken::Taken;
+use crate::taken::{Mark, Taken};
 use ariadne_columns::Unit;
 use ariadne_columns::unit::columns_of;
 use std::alloc::{AllocError, Global};
@@ -107,15 +108,52 @@ fn plain_row<'a>(
     if quoted.is_marked() {
         return row_below(alloc, caret, quoted, line);
     }
-    let row = line.strip_suffix("...").unwrap_or(line);
+    match first_marks(alloc, caret, quoted, line)? {
+        Some(marks) => Ok(Taken::Ranges(marks)),
+        None => Ok(Taken::NotOfSnippet),
+    }
+}
+
+/// The marks of the first row below a plain quote: nothing, if it has something else. Where clang names ranges in
+/// heads, it writes a blank in front of the quote and of the marks, which a tab of the quote takes up.
+pub(crate) fn first_marks<'a>(
+    alloc: Global,
+    caret: Option<usize>,
+    quoted: &mut Quoted,
+    line: &'a str,
+) -> Result<Option<Vec<Mark<'a>>>, AllocError>
+    ensures line { IsSameLine quoted.old quoted.new }
+    ensures marks { IfOk result (λ marks. IfSome marks (λ marks.
+        (part : List ℕ) × IsIn part line.now × AreMarksIn quoted.new part marks.items)) }
+{
+    let row = before_dots(line);
     if !is_marks(row) || !has_caret(row) {
-        return Ok(Taken::NotOfSnippet);
+        return Ok(None);
     }
     quoted.unit = plain_unit(caret, quoted, row);
     quoted.moved = columns_short(caret, quoted, row);
-    match quoted.take_marks(alloc, row)? {
-        Some(marks) => Ok(Taken::Ranges(marks)),
-        None => Ok(Taken::NotOfSnippet),
+    if is_one_over(caret, quoted, row) {
+        quoted.take_marks(alloc, without(row, ' '))
+    } else {
+        quoted.take_marks(alloc, row)
+    }
+}
+
+/// A row without the dots that it ends in where the line above it was cut.
+fn before_dots(line: &str) -> &str
+    ensures { IsIn result.now line.now }
+{
+    match line.strip_suffix("...") {
+        Some(row) => row,
+        None => line,
+    }
+}
+
+/// Whether marks stand one column further right than they are meant, whose `^` is that of the head's character.
+fn is_one_over(caret: Option<usize>, quoted: &Quoted, row: &str) -> bool {
+    match caret {
+        Some(caret) => quoted.is_one_before(row, caret),
+        None => false,
     }
 }
 
@@ -168,7 +206,7 @@ fn row_below<'a>(
 fn take_puts<'a>(alloc: Global, quoted: &Quoted, line: &'a str) -> Result<Taken<'a>, AllocError>
     ensures { IfOk result (λ taken. TellsOf (Some quoted.now) line.now taken) }
 {
-    let pieces = pieces(alloc, quoted.unit, quoted.moved, line)?;
+    let pieces = pieces(alloc, quoted.unit, quoted.put_start(), line)?;
     if quoted.may_have_fixes(line, pieces.as_slice()) {
         Ok(Taken::Fixes(quoted.fixes_of(alloc, pieces.as_slice())?))
     } else {

@@ -330,11 +330,12 @@ fn sign_length(quote: &[char]) -> usize
     }
 }
 
-/// Whether a character stands for others: the picture of a control, or of what is no character.
+/// Whether a character stands for others: the picture of a control, of what is no character, or `?` for one that
+/// the encoding of the output doesn't have.
 fn is_sign(c: char) -> bool
     ensures { result ≡ is_signs c }
 {
-    c == '\u{fffd}' || ('\u{2400}' <= c && c <= '\u{2426}')
+    c == '\u{fffd}' || (c == '?' || ('\u{2400}' <= c && c <= '\u{2426}'))
 }
 
 /// How long a sign as `\x{6F22}` is, if one goes on so behind its first character.

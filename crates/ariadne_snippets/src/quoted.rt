@@ -13,8 +13,8 @@ ghost use Rattle.ariadne_snippets.specs.Snippets.{point_behind as point_past};
 use crate::pieces::{begins_with, behind, number};
 use crate::quote::{LAST_COLUMN, Quote};
 use crate::rows::{
-    Part, Piece, ROW_LENGTH, bar_column, bars_below, parts_of, pieces_at, row_bytes, run_at,
-    text_behind_bars,
+    Part, Piece, ROW_LENGTH, bar_column, bars_below, parts_of, pieces, pieces_at, row_bytes,
+    run_at, text_behind_bars,
 };
 use crate::run::Run;
 use crate::runs::{caret_column, runs_in};
@@ -81,6 +81,26 @@ impl Quoted {
             }
             _ => 0,
         }
+    }
+
+    /// Whether the `^` of a row stands one column behind a character of the line.
+    pub(crate) fn is_one_before(&self, row: &str, character: usize) -> bool {
+        match row_bytes(row) {
+            Some(row) => {
+                let column = caret_column(self.unit, row);
+                column > 0
+                    && column.saturating_sub(1) == self.quote.column_of(self.unit, character)
+                    && self.quote.char_at(self.unit, column) != character
+            }
+            None => false,
+        }
+    }
+
+    /// The column in which a row of what is to be put there begins: behind the blank that clang writes in front of
+    /// a line and its marks alone, where it names ranges in heads.
+    pub(crate) fn put_start(&self) -> usize {
+        let is_behind_blank = self.quote.column_of(self.unit, 0) == 1;
+        self.moved.saturating_add(usize::from(is_behind_blank))
     }
 
     /// The point of the line in a column.
@@ -242,16 +262,48 @@ impl Quoted {
         ensures labels { IfOk result (λ labels. IfSome labels (λ labels.
             All (IsLabelIn self.new.runs.items (inner_at self.new) row.now) labels.items)) }
     {
-        let Some(pieces) = pieces_at(alloc, self.unit, row, self.bars.as_slice())? else {
+        let Some(pieces) = self.texts_below(alloc, row)? else {
             return Ok(None);
         };
         let mut labels = Vec::new(alloc);
         let mut bars = Vec::new(alloc);
+        let mut place = 0usize;
         for piece in pieces.as_slice() {
-            self.push_piece(&mut labels, &mut bars, piece)?;
+            let below = self.below_bar(place, piece);
+            self.push_piece(&mut labels, &mut bars, &below)?;
+            place = place.saturating_add(1);
         }
         self.bars = bars;
         Ok(Some(labels))
+    }
+
+    /// The texts of a row, one below each bar, if it has no other. As many that tell events as there are bars may
+    /// stand elsewhere: in colours gcc moves those behind the first to the left.
+    fn texts_below<'a>(
+        &self,
+        alloc: Global,
+        row: &'a str,
+    ) -> Result<Option<Vec<Piece<'a>>>, AllocError>
+        ensures { IfOk result (λ pieces. IfSome pieces (λ pieces. ArePiecesIn row.now pieces.items)) }
+    {
+        let texts = pieces(alloc, self.unit, 0, row)?;
+        if texts.len() == self.bars.len() && are_events(texts.as_slice()) {
+            return Ok(Some(texts));
+        }
+        pieces_at(alloc, self.unit, row, self.bars.as_slice())
+    }
+
+    /// A text in the column of the bar with a number, from 0.
+    fn below_bar<'a>(&self, place: usize, piece: &Piece<'a>) -> Piece<'a>
+        ensures { result.text.now ≡ piece.now.text.now }
+    {
+        match self.bars.get(place) {
+            Some(column) => Piece {
+                column: *column,
+                text: piece.text,
+            },
+            None => *piece,
+        }
     }
 
     /// Where the mark begins above the last bar of a row, if that ends in one and a mark stands there.
@@ -442,6 +494,14 @@ fn is_inside(run: &Run, column: usize) -> bool
         None => false,
     };
     run.start < column && (run.is_dashed || has_caret)
+}
+
+/// Whether all texts tell events, or are bars, and there is one.
+fn are_events(texts: &[Piece<'_>]) -> bool {
+    !texts.is_empty()
+        && texts
+            .iter()
+            .all(|piece| piece.text == "|" || tells_event(piece.text))
 }
 
 /// Whether a text tells an event: it begins with its number in brackets, `(4) freed here`.

@@ -1,18 +1,19 @@
 //! The snippet of a place, line by line: how it begins.
 
-ghost use Rattle.std.specs.Prelude.{◌≡◌, [], ◌∷◌, chars, is_some, map, option_map, true, IfOk, List, Option, Some, ℕ};
+ghost use Rattle.std.specs.Prelude.{◌≡◌, [], ◌∷◌, chars, false, is_some, map, option_map, true, IfOk, List, Option, Some, ℕ};
 ghost use Rattle.ariadne_snippets.specs.Ends.{IsEnd};
 ghost use Rattle.ariadne_snippets.specs.Snippets.{above, change_of_line, change_told, number_changed, number_named};
 ghost use Rattle.ariadne_snippets.specs.Snippets.{number_quoted};
 ghost use Rattle.ariadne_snippets.specs.Words.{words_in};
 ghost use Rattle.ariadne_snippets.specs.Snippets.{EndsBy, HasEnded, IsTaken, IsUnread, QuotesNext, ShowsWhole, TellsOf};
 
-use crate::forms::{Words, added_line, note_of, words_of};
+use crate::forms::{Words, added_line, note_of, unfiled_note, words_of};
 use crate::gutter::{Gutter, gutter_of};
-use crate::plain::unit_below;
+use crate::pieces::behind_indent;
+use crate::plain::{first_marks, unit_below};
 use crate::quote::Quote;
 use crate::quoted::Quoted;
-use crate::rows::is_blank;
+use crate::rows::{is_blank, is_marks};
 use crate::strokes::Stroke;
 use crate::taken::{Fix, FixKind, Point, Taken};
 use ariadne_columns::Unit;
@@ -44,6 +45,10 @@ pub(crate) enum Stage {
     Advised,
     /// Notes that name no place alone.
     Placeless,
+    /// The quote of a text that stands in no file.
+    Unfiled,
+    /// Marks below what is quoted of no line of a file.
+    Marked,
     /// None.
     Ended,
 }
@@ -174,8 +179,33 @@ impl Snippet {
             → ShowsWhole line.now (option_map (λ source. source.now) source.entry)
             → IfOk result (λ taken. IsTaken taken) }
     {
-        if self.stage == Stage::Ended {
-            return Ok(Taken::NotOfSnippet);
+        match self.stage {
+            Stage::Ended => Ok(Taken::NotOfSnippet),
+            Stage::Unfiled => Ok(self.take_unfiled(line)),
+            Stage::Marked => Ok(self.take_marks_alone(line)),
+            _ => self.take_next(line, source),
+        }
+    }
+
+    /// Takes the next line of output, where it may be a note that names no place in a file.
+    fn take_next<'a>(
+        &mut self,
+        line: &'a str,
+        source: Option<&[char]>,
+    ) -> Result<Taken<'a>, AllocError>
+        ensures quotes { IfOk result (λ taken. QuotesNext line.now
+            (option_map (λ source. source.now) source.entry) self.old.quoted self.new.quoted) }
+        ensures tells { IfOk result (λ taken. TellsOf self.new.quoted line.now taken) }
+        ensures ends { IfOk result (λ taken. EndsBy self.new taken) }
+        ensures whole { (number : ℕ) (caret : Option ℕ) → IsUnread number caret self.old
+            → ShowsWhole line.now (option_map (λ source. source.now) source.entry)
+            → IfOk result (λ taken. IsTaken taken) }
+    {
+        if let Some(text) = unfiled_note(line)
+            && self.may_be_noted()
+        {
+            self.stage = Stage::Unfiled;
+            return Ok(Taken::Note(text));
         }
         match note_of(line) {
             Some(text) if self.may_be_noted() => {
@@ -184,6 +214,35 @@ impl Snippet {
             }
             _ if self.stage == Stage::Placeless => Ok(self.take_none()),
             _ => self.take_line(line, source),
+        }
+    }
+
+    /// Takes what is quoted of a text that stands in no file: the note goes on with it.
+    fn take_unfiled<'a>(&mut self, line: &'a str) -> Taken<'a>
+        ensures quoted { self.new.quoted ≡ self.old.quoted }
+        ensures tells { TellsOf self.new.quoted line.now result }
+        ensures ends { EndsBy self.new result }
+    {
+        match behind_indent(line, line.len()) {
+            Some(text) if !is_head(line) => {
+                self.stage = Stage::Marked;
+                Taken::More(text)
+            }
+            _ => self.take_none(),
+        }
+    }
+
+    /// Takes marks below what is quoted of no line of a file, which say nothing.
+    fn take_marks_alone<'a>(&mut self, line: &'a str) -> Taken<'a>
+        ensures quoted { self.new.quoted ≡ self.old.quoted }
+        ensures tells { TellsOf self.new.quoted line.now result }
+        ensures ends { EndsBy self.new result }
+    {
+        if is_marks(line) {
+            self.stage = Stage::Placeless;
+            Taken::Nothing
+        } else {
+            self.take_none()
         }
     }
 
@@ -233,7 +292,7 @@ impl Snippet {
         ensures ends { IfOk result (λ taken. EndsBy self.new taken) }
     {
         if let Some(text) = added_line(line) {
-            let fixes = one_fix(self.alloc, self.line, FixKind::PutLine, text)?;
+            let fixes = one_fix(self.alloc, self.line, FixKind::PutLine, text.trim())?;
             return Ok(Taken::Fixes(fixes));
         }
         match gutter_of(line) {
@@ -245,7 +304,7 @@ impl Snippet {
     /// Takes the first line, which has a gutter.
     fn take_first_gutter<'a>(
         &mut self,
-        line: &str,
+        line: &'a str,
         gutter: &Gutter<'_>,
         source: Option<&[char]>,
     ) -> Result<Taken<'a>, AllocError>
@@ -255,7 +314,7 @@ impl Snippet {
             → IfOk result (λ taken. IsTaken taken) }
         ensures quotes { IfOk result (λ taken. QuotesNext line.now
             (option_map (λ source. source.now) source.entry) self.old.quoted self.new.quoted) }
-        ensures tells { (line : List ℕ) → IfOk result (λ taken. TellsOf self.new.quoted line taken) }
+        ensures tells { IfOk result (λ taken. TellsOf self.new.quoted line.now taken) }
         ensures ends { IfOk result (λ taken. EndsBy self.new taken) }
     {
         match gutter.number {
@@ -314,18 +373,67 @@ impl Snippet {
     /// Takes the first line as it stands in the file.
     fn take_first_plain<'a>(
         &mut self,
-        line: &str,
+        line: &'a str,
         source: Option<&[char]>,
     ) -> Result<Taken<'a>, AllocError>
         ensures whole { option_map (λ source. source.now) source.entry ≡ Some (chars line.now)
             → IfOk result (λ taken. IsTaken taken) }
         ensures quotes { IfOk result (λ taken. QuotesNext line.now
             (option_map (λ source. source.now) source.entry) self.old.quoted self.new.quoted) }
-        ensures tells { (line : List ℕ) → IfOk result (λ taken. TellsOf self.new.quoted line taken) }
+        ensures tells { IfOk result (λ taken. TellsOf self.new.quoted line.now taken) }
         ensures ends { IfOk result (λ taken. EndsBy self.new taken) }
     {
         self.form = Form::Plain;
-        self.take_quote(self.line, line, unit_below(line, source), source)
+        if self.quotes(self.line, line, unit_below(line, source), source)? {
+            return Ok(Taken::Nothing);
+        }
+        self.take_unquoted(line, source)
+    }
+
+    /// Takes the first line as one below a line that isn't quoted: marks where that has nothing, as clang writes
+    /// them, or cppcheck's empty row where the head names no line.
+    fn take_unquoted<'a>(
+        &mut self,
+        line: &'a str,
+        source: Option<&[char]>,
+    ) -> Result<Taken<'a>, AllocError>
+        ensures quotes { IfOk result (λ taken. QuotesNext line.now
+            (option_map (λ source. source.now) source.entry) self.old.quoted self.new.quoted) }
+        ensures tells { IfOk result (λ taken. TellsOf self.new.quoted line.now taken) }
+        ensures ends { IfOk result (λ taken. EndsBy self.new taken) }
+    {
+        match source {
+            Some(empty) => self.take_marks_below(line, empty),
+            None if self.line == 0 && is_blank(line) => {
+                self.stage = Stage::Marked;
+                Ok(Taken::Nothing)
+            }
+            None => Ok(self.take_none()),
+        }
+    }
+
+    /// Takes the first line as marks below a line of the file that has nothing.
+    fn take_marks_below<'a>(
+        &mut self,
+        line: &'a str,
+        empty: &[char],
+    ) -> Result<Taken<'a>, AllocError>
+        ensures quotes { IfOk result (λ taken. QuotesNext line.now (Some empty.now)
+            self.old.quoted self.new.quoted) }
+        ensures tells { IfOk result (λ taken. TellsOf self.new.quoted line.now taken) }
+        ensures ends { IfOk result (λ taken. EndsBy self.new taken) }
+    {
+        let Some(quote) = Quote::new(self.alloc, "", 0, empty)? else {
+            return Ok(self.take_none());
+        };
+        let mut quoted = Quoted::new(self.alloc, self.line, quote, Unit::Display);
+        match first_marks(self.alloc, self.caret, &mut quoted, line)? {
+            Some(marks) => {
+                self.quoted = Some(quoted);
+                Ok(Taken::Ranges(marks))
+            }
+            None => Ok(self.take_none()),
+        }
     }
 
     /// Takes a text as a quote. The columns of the rows below it count this.
@@ -362,6 +470,8 @@ impl Snippet {
             → IfOk result (λ is_quote. is_quote ≡ true) }
         ensures quotes { IfOk result (λ is_quote. QuotesNext text.now
             (option_map (λ source. source.now) source.entry) self.old.quoted self.new.quoted) }
+        ensures none { IfOk result (λ is_quote. is_quote ≡ false
+            → self.new.quoted ≡ self.old.quoted) }
     {
         let Some(line) = source else {
             return Ok(false);
@@ -392,6 +502,11 @@ impl Snippet {
         self.stage = Stage::Ended;
         Taken::Nothing
     }
+}
+
+/// Whether a line may be the head of a diagnostic: it names a kind.
+fn is_head(line: &str) -> bool {
+    line.contains(": error: ") || line.contains(": warning: ") || line.contains(": note: ")
 }
 
 /// The number of a line of the file that the gutter of a line of output names.

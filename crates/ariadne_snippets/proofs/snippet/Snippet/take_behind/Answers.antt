@@ -1,12 +1,16 @@
-use Rattle.std.proofs.Common.{sym}
-use Rattle.ariadne_snippets.specs.Snippets.{line_added}
+use Rattle.std.proofs.Common.{◌∙◌, ap, sym, [], ◌∷◌}
+use Rattle.ariadne_snippets.specs.Snippets.{change_of_line, line_added}
+use Rattle.ariadne_snippets.specs.declared.taken.FixKind.TheVariants.{PutLine}
 use Rattle.ariadne_snippets.proofs.Nexts.{quoted_further}
 use Rattle.ariadne_snippets.proofs.Telling.{ok_weaker}
 use Rattle.ariadne_snippets.proofs.snippet.Snippet.take_behind.Goals as goal
 
 -- a line is to be put between others
 pub returns-in-Some-clause-tells : goal.returns-in-Some-clause-tells
-returns-in-Some-clause-tells c = line_added c.next_number.result c.in-Some.text.now (sym c.in-Some.ensures) c.in_ok-fixes.ensures
+returns-in-Some-clause-tells c =
+    let number = c.next_number-number.result in
+    line_added number c.in-Some.text.now (sym c.in-Some.ensures)
+    (c.in_ok-fixes.ensures ∙ ap (λ t. change_of_line number PutLine t ∷ []) c.trim.ensures.trim)
 
 -- a number stands in front of a quote
 pub returns-in-Some-number-clause-quotes : goal.returns-in-Some-number-clause-quotes

@@ -1,4 +1,4 @@
-use Rattle.ariadne_snippets.proofs.snippet.Snippet.take.Goals as goal
+use Rattle.ariadne_snippets.proofs.snippet.Snippet.take_next.Goals as goal
 
 -- a line that is none of the snippet tells nothing
 pub returns-in_default-clause-tells : goal.returns-in_default-clause-tells
