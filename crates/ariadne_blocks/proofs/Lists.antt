@@ -2,6 +2,7 @@
 use Rattle.std.proofs.Common.{◌≡◌, ◌∙◌, ℕ, suc, zero, ◌+◌, ◌<◌, ◌≤◌, List, [], ◌∷◌, ◌++◌, length, get_or, set, take, drop, refl, ap, sym, arith, append-nil, append_assoc}
 use Rattle.std.specs.Prelude.{Bool, true, false, cond, ◌||◌, map, slice_get, Option, None, Some, option_map}
 use Rattle.std.specs.List.{find, fold, list_any}
+use Rattle.std.proofs.lemmas.Option.{slice_get-map}
 use Rattle.std.proofs.lemmas.List.{get_or_default, drop-set-lt, drop_all, drop_more, map-append, take_all, take_more, take_more_set}
 
 -- an element of what is read of a list
@@ -27,6 +28,11 @@ pub first_mapped : {A B : Type 0} (f : A → B) (xs : List A)
     → slice_get (map f xs) 0 ≡ option_map f (slice_get xs 0)
 first_mapped f [] = refl
 first_mapped f (x ∷ xs) = refl
+
+-- the one at a place
+pub place_mapped : {A B : Type 0} (f : A → B) (xs : List A) (i : ℕ)
+    → slice_get (map f xs) i ≡ option_map f (slice_get xs i)
+place_mapped f xs i = slice_get-map f xs i
 
 -- one more behind them
 pub pushed : {A B : Type 0} (f : A → B) (xs all : List A) (x : A) → all ≡ xs ++ x ∷ []

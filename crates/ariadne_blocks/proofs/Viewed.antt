@@ -5,7 +5,7 @@ use Rattle.std.specs.Option.{option_copied}
 use Rattle.std.specs.Borrow.{Bor}
 use Rattle.ariadne_told.specs.Places.{seen}
 use Rattle.ariadne_told.specs.declared.diagnostic.Place.{Place}
-use Rattle.ariadne_blocks.specs.Blocks.{first_file, first_line, of_file, of_snippet, IsRow, View}
+use Rattle.ariadne_blocks.specs.Blocks.{first_file, first_line, of_file, of_no_place, of_snippet, IsRow, View}
 use Rattle.ariadne_blocks.specs.Files.{file_at, line_at, File}
 use Rattle.ariadne_blocks.specs.Telling.{Telling}
 use Rattle.ariadne_blocks.specs.declared.block.Block.{Block}
@@ -46,6 +46,7 @@ row_with_events file line before after has_events (of_snippet text row) =
       };
     })
 row_with_events file line before after has_events (of_file told view) = of_file told view
+row_with_events file line before after has_events (of_no_place told view) = of_no_place told view
 
 -- the file of the first of places
 pub first_path : (ps : List Place) (first : Option (Bor Place)) (path : List ℕ) → option_copied first ≡ slice_get ps 0

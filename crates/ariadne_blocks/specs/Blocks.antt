@@ -6,6 +6,8 @@ use Rattle.std.specs.Prelude.{ℕ, ◌≡◌, ◌==◌, Bool, true, false, not, 
 use Rattle.std.specs.Prelude.{List, [], ◌∷◌, ◌++◌, chars, codes, fold, length, map, reverse, slice_get}
 use Rattle.std.specs.Prelude.{Option, None, Some, is_some, option_map, string_bytes}
 use Rattle.std.specs.Str.{bytes_eq}
+use Rattle.ariadne_columns.specs.declared.unit.Unit.{Unit as ColumnUnit}
+use Rattle.ariadne_columns.specs.declared.unit.Unit.TheVariants.{Byte}
 use Rattle.ariadne_snippets.specs.Snippets.{number_quoted, HasEnded, IsUnread, QuotesNext, TellsOf}
 use Rattle.ariadne_snippets.specs.declared.snippet.Snippet.{Snippet}
 use Rattle.ariadne_snippets.specs.declared.taken.Fix.{Fix}
@@ -18,9 +20,9 @@ use Rattle.ariadne_told.specs.Places.{seen, Seen}
 use Rattle.ariadne_told.specs.declared.diagnostic.Diagnostic.{Diagnostic}
 use Rattle.ariadne_told.specs.declared.diagnostic.Place.{Place}
 use Rattle.ariadne_blocks.specs.Colors.{IsBare}
-use Rattle.ariadne_blocks.specs.Events.{event_in, frame, in_file, quoting}
+use Rattle.ariadne_blocks.specs.Events.{event_in, frame, in_file, quoting, telling as telling_event}
 use Rattle.ariadne_blocks.specs.Files.{File, file_at, line_at, quotes_escape, source_in}
-use Rattle.ariadne_blocks.specs.Fixes.{fix_help}
+use Rattle.ariadne_blocks.specs.Fixes.{change_unit, fix_help}
 use Rattle.ariadne_blocks.specs.Marks.{Marking, with_begun, with_labels, with_marks}
 use Rattle.ariadne_blocks.specs.Messages.{had_no_room, is_of_python, with_lines}
 use Rattle.ariadne_blocks.specs.Notes.{are_lines_of, is_line_of, note_places}
@@ -148,6 +150,7 @@ noted note view = record view {
   at = length view.told.places;
   marked = [];
   width = None;
+  aside = aside.Note;
 }
 
 -- a note has no place of its own: it names no column, in the line that a diagnostic begins in, or all the lines
@@ -250,11 +253,41 @@ with_change_by aside.Change change view = record view {
   told = with_more_of aside.Change (codes ",\n") change view.told;
 }
 
+-- the columns of changes count what those of the diagnostic's own place do, or bytes
+abbrev pub unit_of_changes : Option Seen → ColumnUnit
+unit_of_changes None = Byte
+unit_of_changes (Some place) = change_unit place.unit
+
 abbrev pub with_fix : Option File → View → Fix → View
-with_fix file view fix = with_change_by view.aside (fix_help file fix) view
+with_fix file view fix =
+    with_change_by view.aside (fix_help file (unit_of_changes (slice_get view.told.places 0)) fix) view
+
+abbrev pub with_changes : Option File → List Fix → View → View
+with_changes file fixes view = fold (with_fix file) view fixes
+
+-- what is to be changed below a note is told behind what the note says, which is why: a help begins so, unless one
+-- has begun
+abbrev pub with_why : List ℕ → View → View
+with_why why view = if length why == 0 then view else with_text aside.Help why view
+
+abbrev pub with_reason_at : Option Seen → View → View
+with_reason_at None view = view
+with_reason_at (Some place) view = with_why place.text view
+
+abbrev pub with_reason_of_note : View → View
+with_reason_of_note view =
+    if view.at == 0 then view else with_reason_at (slice_get view.told.places view.at) view
+
+abbrev pub with_reason_by : Aside → View → View
+with_reason_by aside.Note view = with_reason_of_note view
+with_reason_by aside.Help view = view
+with_reason_by aside.Change view = view
+
+abbrev pub with_reason : View → View
+with_reason view = with_reason_by view.aside view
 
 abbrev pub with_fixes : Option File → List Fix → View → View
-with_fixes file fixes view = fold (with_fix file) view fixes
+with_fixes file fixes view = with_changes file fixes (with_reason view)
 
 -- what marks and the texts below them tell
 abbrev pub with_marking : Marking → View → View
@@ -334,13 +367,16 @@ pub record IsRowOf (file : Option File) (text : List ℕ) (before after : Block)
 abbrev pub file_place : List ℕ → Seen
 file_place path = place_of_arrow (path, record { line = 1; column = None }, true)
 
--- so was a line; or it names the file of the next rows of events
+-- so was a line; or it names the file of the next rows of events, or tells an event that is at no place, which is a
+-- note
 pub data IsRow (file : Option File) (line : Line) (before after : Block) : Type 0 where
   of_snippet : {text : List ℕ} → IsTextOf file line before.rows.snippet text
       → IsRowOf file text before after → IsRow file line before after
   of_file : {path : List ℕ} → event_in line.text.now ≡ Some (in_file path)
       → view_of after ≡ record (view_of before) { named = Some (file_place path) }
       → IsRow file line before after
+  of_no_place : {event : List ℕ} → event_in line.text.now ≡ Some (telling_event event)
+      → view_of after ≡ with_text aside.Note event (view_of before) → IsRow file line before after
 
 -- its snippet has ended: no line is a row of it any more
 abbrev pub HasNoMoreRows : Block → Type 0

@@ -1,25 +1,27 @@
 -- The rows of gcc's analyzer that tell how something comes about, event by event. Characters stand as their numbers:
--- 32 is a blank, 45 `-`, 124 the bar.
+-- 32 is a blank, 40 and 41 brackets, 45 `-`, 124 the bar.
 use Rattle.std.specs.Prelude.{ℕ, ◌==◌, Bool, false, ◌&&◌, ◌||◌, if◌then◌else◌, List, codes, length}
 use Rattle.std.specs.Prelude.{Option, None, Some, option_and_then}
 use Rattle.std.specs.Char.{is_ascii_digit}
 use Rattle.std.specs.List.{ends_with, list_all, starts_with}
 use Rattle.std.specs.Path.{rsplit_once}
 use Rattle.std.specs.Str.{trim, trim_start}
-use Rattle.ariadne_told.specs.Pieces.{behind, in_front_of}
+use Rattle.ariadne_told.specs.Pieces.{behind, in_front_of, split_once}
 use Rattle.ariadne_blocks.specs.declared.events.EventRow.{EventRow}
-use Rattle.ariadne_blocks.specs.declared.events.EventRow.TheVariants.{File, Frame, Quoting}
+use Rattle.ariadne_blocks.specs.declared.events.EventRow.TheVariants.{File, Frame, Quoting, Telling}
 
--- what such a row is: it tells nothing, or names the file of the next rows, or a row of a snippet stands behind a
--- bar
+-- what such a row is: it tells nothing, or names the file of the next rows, or tells an event that is at no place, or
+-- a row of a snippet stands behind a bar
 pub data Event : Type 0 where
   frame : Event
   in_file : List ℕ → Event
+  telling : List ℕ → Event
   quoting : List ℕ → Event
 
 abbrev pub event_told : EventRow → Event
 event_told Frame = frame
 event_told (File file) = in_file file.now
+event_told (Telling event) = telling event.now
 event_told (Quoting row) = quoting row.now
 
 -- a text begins with words, or ends with them
@@ -61,14 +63,45 @@ file_of_place (Some parts) = file_of_line parts.1 (rsplit_once 58 parts.0)
 unfoldable pub file_in : List ℕ → Option (List ℕ)
 file_in text = file_of_place (option_and_then (rsplit_once 58) (in_front_of 58 text))
 
--- what stands behind a bar; a bar alone tells nothing
-abbrev pub event_by : List ℕ → Option (List ℕ) → Event
-event_by row None = quoting row
-event_by row (Some file) = in_file file
+-- a row names gcc's program in place of a file: `cc1:`, `cc1plus:`
+abbrev pub is_of_program : List ℕ → Bool
+is_of_program row = begins_in (codes "cc1") row && ends_in (codes ":") row
+
+-- an event, `(6): ..`: a number in brackets, and what happens
+abbrev pub is_closed_by : Option (List ℕ × List ℕ) → Bool
+is_closed_by None = false
+is_closed_by (Some parts) = are_numbers parts.0
+
+abbrev pub begins_closed : List ℕ → Bool
+begins_closed text = is_closed_by (split_once 41 text)
+
+abbrev pub is_numbered_by : Option (List ℕ) → Bool
+is_numbered_by None = false
+is_numbered_by (Some rest) = begins_closed rest
+
+abbrev pub is_numbered : List ℕ → Bool
+is_numbered text = is_numbered_by (behind 40 text)
+
+-- the event that a row tells behind a blank
+abbrev pub told_by : Option (List ℕ) → Option (List ℕ)
+told_by None = None
+told_by (Some event) = if is_numbered event then Some event else None
+
+abbrev pub told_in : List ℕ → Option (List ℕ)
+told_in row = told_by (behind 32 row)
+
+-- what stands behind a bar; a bar alone tells nothing, and so does the program's name
+abbrev pub event_by : List ℕ → Option (List ℕ) → Option (List ℕ) → Event
+event_by row None None = quoting row
+event_by row None (Some event) = telling event
+event_by row (Some file) told = in_file file
+
+abbrev pub event_of_row : List ℕ → Event
+event_of_row row = event_by row (file_in row) (told_in row)
 
 abbrev pub event_behind : Option (List ℕ) → Option Event
 event_behind None = None
-event_behind (Some row) = Some (if length (trim row) == 0 then frame else event_by row (file_in row))
+event_behind (Some row) = Some (if length (trim row) == 0 || is_of_program row then frame else event_of_row row)
 
 -- what a line is that stands behind blanks
 unfoldable pub event_in : List ℕ → Option Event

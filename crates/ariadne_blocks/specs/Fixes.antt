@@ -1,6 +1,7 @@
 -- What a help says of what is to be changed.
 use Rattle.std.specs.Prelude.{ℕ, List, ◌++◌, Option, codes, decimal}
-use Rattle.ariadne_columns.specs.declared.unit.Unit.TheVariants.{Byte}
+use Rattle.ariadne_columns.specs.declared.unit.Unit.{Unit}
+use Rattle.ariadne_columns.specs.declared.unit.Unit.TheVariants.{Byte, Char, Display}
 use Rattle.ariadne_snippets.specs.declared.taken.Fix.{Fix}
 use Rattle.ariadne_snippets.specs.declared.taken.FixKind.{FixKind}
 use Rattle.ariadne_snippets.specs.declared.taken.FixKind.TheVariants.{Put, PutLine, Become, Remove}
@@ -19,6 +20,12 @@ fix_text Remove line column text =
 abbrev pub fix_words : Fix → ℕ → List ℕ
 fix_words fix column = fix_text fix.kind fix.at.line column fix.text.now
 
--- at the column in bytes
-abbrev pub fix_help : Option File → Fix → List ℕ
-fix_help file fix = fix_words fix (column_in file Byte fix.at)
+-- what columns of changes count where those of a head count this
+abbrev pub change_unit : Unit → Unit
+change_unit Char = Char
+change_unit Byte = Byte
+change_unit Display = Byte
+
+-- at the column by what it counts
+abbrev pub fix_help : Option File → Unit → Fix → List ℕ
+fix_help file unit fix = fix_words fix (column_in file unit fix.at)

@@ -1,7 +1,7 @@
 //! A diagnostic of lines of text, as far as its lines were read: its head, the rows of its tool's snippet,
 //! and its notes with theirs.
 
-ghost use Rattle.std.specs.Prelude.{◌≡◌, map, option_map, reverse, string_bytes, false, true};
+ghost use Rattle.std.specs.Prelude.{◌≡◌, map, option_map, reverse, slice_get, string_bytes, false, true};
 ghost use Rattle.std.specs.Prelude.{IfOk, IfSome, OnOk, Some};
 ghost use Rattle.ariadne_told.specs.Arrows.{arrow_in};
 ghost use Rattle.ariadne_told.specs.ArrowsTold.{place_of_arrow};
@@ -11,15 +11,17 @@ ghost use Rattle.ariadne_blocks.specs.Blocks.{told_of, view_of, HasNoMoreRows, I
 ghost use Rattle.ariadne_blocks.specs.Blocks.{IsPlacedBy, IsQuotedBy, IsRow, IsRowOf, IsSameBlock};
 ghost use Rattle.ariadne_blocks.specs.Events.{event_in, event_told};
 ghost use Rattle.ariadne_blocks.specs.Files.{file_of};
+ghost use Rattle.ariadne_blocks.specs.declared.block.Aside.TheVariants as aside;
 
 use crate::colors::without_gcc_colors;
 use crate::events::{EventRow, event_row, is_events_head};
 use crate::file::QuotedFile;
-use crate::fixes::fix_text;
+use crate::fixes::{change_unit, fix_text};
 use crate::line::Line;
 use crate::message::{MessageLine, had_no_room, is_of_python, settle_message, width_of};
 use crate::places::{are_lines_of, is_line_of, push_note};
 use crate::rows::Rows;
+use ariadne_columns::Unit;
 use ariadne_snippets::{Fix, Snippet, Taken};
 use ariadne_told::{Arrow, Diagnostic, Place, Spot, arrow_of, named_place};
 use std::alloc::{AllocError, Global};
@@ -57,7 +59,7 @@ pub struct Block {
 pub(crate) enum Aside {
     /// A note.
     Note,
-    /// A help.
+    /// A help, or a note that says why what follows is to be changed.
     Help,
     /// A help that has said what is to be changed.
     Change,
@@ -103,6 +105,7 @@ impl Block {
         if self.is_beside(&note) {
             return self.add_text(alloc, Aside::Note, note.message.as_str());
         }
+        self.aside = Aside::Note;
         let at = self.told.places.len();
         self.rows = Rows::new(alloc, note.places.first(), at, caret)?;
         push_note(&mut self.told.places, note.message, note.places)
@@ -222,6 +225,7 @@ impl Block {
         match self.event_row(line.text) {
             Some(EventRow::Frame) => self.take_frame(alloc, file, line.text),
             Some(EventRow::File(path)) => self.take_file(alloc, path),
+            Some(EventRow::Telling(event)) => self.take_event(alloc, event),
             Some(EventRow::Quoting(row)) => self.take_text(alloc, file, row),
             None => self.take_other(alloc, file, line),
         }
@@ -279,6 +283,21 @@ impl Block {
             is_further: true,
         };
         self.named = Some(arrow.place(alloc)?);
+        Ok(true)
+    }
+
+    /// Takes in an event that is at no place as a note, unless the rows have ended, and returns whether they haven't.
+    fn take_event(&mut self, alloc: Global, event: &str) -> Result<bool, AllocError>
+        ensures told { IfOk result (λ is_row. is_row ≡ true → view_of self.new
+            ≡ blocks.with_text aside.Note event.now (view_of self.old)) }
+        ensures none { IfOk result (λ is_row. is_row ≡ false → self.new ≡ self.old) }
+        ensures ends { IfOk result (λ is_row. is_row ≡ false → HasNoMoreRows self.new) }
+        ensures over { HasNoMoreRows self.old → IfOk result (λ is_row. is_row ≡ false) }
+    {
+        if self.rows.snippet.has_ended() {
+            return Ok(false);
+        }
+        self.add_text(alloc, Aside::Note, event)?;
         Ok(true)
     }
 
@@ -419,10 +438,91 @@ impl Block {
             ≡ blocks.with_fixes (option_map file_of file.entry) fixes.now (view_of self.old)) }
         ensures rows { OnOk result (self.new.rows ≡ self.old.rows) }
     {
+        self.add_reason(alloc)?;
+        self.add_changes(alloc, file, fixes)
+    }
+
+    /// Has a help begin with what the note says below which a change is told, unless a help says why already.
+    fn add_reason(&mut self, alloc: Global) -> Result<(), AllocError>
+        ensures view { OnOk result (view_of self.new ≡ blocks.with_reason (view_of self.old)) }
+        ensures rows { OnOk result (self.new.rows ≡ self.old.rows) }
+    {
+        match self.aside {
+            Aside::Note => self.add_reason_of_note(alloc),
+            Aside::Help | Aside::Change => Ok(()),
+        }
+    }
+
+    /// Has a help begin with what the note says of which the rows are, if they are of one.
+    #[tactic(auto, using(crate::proofs::Lists::place_mapped))]
+    fn add_reason_of_note(&mut self, alloc: Global) -> Result<(), AllocError>
+        ensures view { OnOk result (view_of self.new ≡ blocks.with_reason_of_note (view_of self.old)) }
+        ensures rows { OnOk result (self.new.rows ≡ self.old.rows) }
+    {
+        if self.rows.at == 0 {
+            return Ok(());
+        }
+        match self.told.places.get(self.rows.at) {
+            Some(place) => {
+                let why = place.text.clone()?;
+                self.add_why(alloc, why.as_str())
+            }
+            None => Ok(()),
+        }
+    }
+
+    /// Has a help begin with a text, if that is not empty.
+    fn add_why(&mut self, alloc: Global, why: &str) -> Result<(), AllocError>
+        ensures view { OnOk result (view_of self.new ≡ blocks.with_why why.now (view_of self.old)) }
+        ensures rows { OnOk result (self.new.rows ≡ self.old.rows) }
+    {
+        if why.is_empty() {
+            return Ok(());
+        }
+        self.add_text(alloc, Aside::Help, why)
+    }
+
+    /// Takes in changes, each of which is told.
+    fn add_changes(
+        &mut self,
+        alloc: Global,
+        file: Option<QuotedFile<'_>>,
+        fixes: &[Fix<'_>],
+    ) -> Result<(), AllocError>
+        ensures view { OnOk result (view_of self.new
+            ≡ blocks.with_changes (option_map file_of file.entry) fixes.now (view_of self.old)) }
+        ensures rows { OnOk result (self.new.rows ≡ self.old.rows) }
+    {
         for fix in fixes {
-            self.add_change(fix_text(alloc, file, fix)?)?;
+            self.add_fix(alloc, file, fix)?;
         }
         Ok(())
+    }
+
+    /// Takes in a change.
+    fn add_fix(
+        &mut self,
+        alloc: Global,
+        file: Option<QuotedFile<'_>>,
+        fix: &Fix<'_>,
+    ) -> Result<(), AllocError>
+        ensures view { OnOk result (view_of self.new
+            ≡ blocks.with_fix (option_map file_of file.entry) (view_of self.old) fix.now) }
+        ensures rows { OnOk result (self.new.rows ≡ self.old.rows) }
+    {
+        let unit = self.unit_of_changes();
+        let change = fix_text(alloc, file, unit, fix)?;
+        self.add_change(change)
+    }
+
+    /// What the columns of changes count.
+    fn unit_of_changes(&self) -> Unit
+        ensures { result ≡ blocks.unit_of_changes (slice_get (view_of self.now).told.places 0) }
+    {
+        match self.told.places.first() {
+            Some(place) => change_unit(place.unit),
+            None => Unit::Byte,
+        }
     }
 
     /// Takes in what one change is: a help, or what the last help goes on with.

@@ -9,11 +9,14 @@
 //!            |
 //!            |g.h:7:2:                     the file of the next rows, where it is another
 //!     <------+                             where that returns
+//!     |cc1:
+//!     | (6): ...to here                    an event that is at no place
 //! ```
 
 ghost use Rattle.std.specs.Prelude.{◌≡◌, option_map};
 ghost use Rattle.std.specs.Path.{rsplit_once};
 ghost use Rattle.ariadne_told.specs.Pieces as pieces;
+ghost use Rattle.ariadne_told.specs.Pieces.{split_once};
 ghost use Rattle.ariadne_blocks.specs.Events as events;
 
 /// What a row of events is.
@@ -23,6 +26,8 @@ pub(crate) enum EventRow<'a> {
     Frame,
     /// The file of the next rows, `FILE:LINE:COLUMN:` behind a bar.
     File(&'a str),
+    /// An event that is at no place, `(6): ..` behind a bar.
+    Telling(&'a str),
     /// A row of a snippet, which stands behind a bar.
     Quoting(&'a str),
 }
@@ -37,14 +42,82 @@ pub(crate) fn event_row(line: &str) -> Option<EventRow<'_>>
         return Some(EventRow::Frame);
     }
     let row = behind_bar(text)?;
-    Some(if row.trim().is_empty() {
+    Some(if row.trim().is_empty() || is_of_program(row) {
         EventRow::Frame
     } else {
-        match named_file(row) {
-            Some(file) => EventRow::File(file),
-            None => EventRow::Quoting(row),
-        }
+        row_behind_bar(row)
     })
+}
+
+/// What stands behind a bar, if it is more than blanks.
+fn row_behind_bar(row: &str) -> EventRow<'_>
+    ensures { events.event_told result ≡ events.event_of_row row.now }
+{
+    match (named_file(row), told_event(row)) {
+        (Some(file), _) => EventRow::File(file),
+        (None, Some(event)) => EventRow::Telling(event),
+        (None, None) => EventRow::Quoting(row),
+    }
+}
+
+/// Whether a row names gcc's program in place of a file, `cc1:` or `cc1plus:`.
+fn is_of_program(row: &str) -> bool
+    ensures { result ≡ events.is_of_program row.now }
+{
+    begins_with(row, "cc1") && closes_with(row, ":")
+}
+
+/// An event that a row tells of no place, `(6): ..` behind a blank.
+fn told_event(row: &str) -> Option<&str>
+    ensures { option_map (λ event. event.now) result ≡ events.told_in row.now }
+{
+    let event = behind_blank(row)?;
+    if is_numbered(event) {
+        Some(event)
+    } else {
+        None
+    }
+}
+
+/// Whether a text begins with a number in brackets.
+fn is_numbered(text: &str) -> bool
+    ensures { result ≡ events.is_numbered text.now }
+{
+    match behind_bracket(text) {
+        Some(rest) => begins_with_closed_number(rest),
+        None => false,
+    }
+}
+
+/// Whether a text begins with a number and the bracket that closes.
+fn begins_with_closed_number(text: &str) -> bool
+    ensures { result ≡ events.begins_closed text.now }
+{
+    match at_closed_bracket(text) {
+        Some((number, _)) => are_numbers(number),
+        None => false,
+    }
+}
+
+/// What stands behind the blank that a text begins with.
+fn behind_blank(text: &str) -> Option<&str>
+    ensures { option_map (λ rest. rest.now) result ≡ pieces.behind 32 text.now }
+{
+    text.strip_prefix(' ')
+}
+
+/// What stands behind the bracket that a text begins with.
+fn behind_bracket(text: &str) -> Option<&str>
+    ensures { option_map (λ rest. rest.now) result ≡ pieces.behind 40 text.now }
+{
+    text.strip_prefix('(')
+}
+
+/// What stands in front of the first bracket of a text that closes, and behind it.
+fn at_closed_bracket(text: &str) -> Option<(&str, &str)>
+    ensures { option_map (λ parts. (parts.0.now, parts.1.now)) result ≡ split_once 41 text.now }
+{
+    text.split_once(')')
 }
 
 /// The file of `FILE:LINE:COLUMN:`, if a text is that.

@@ -2,23 +2,34 @@
 
 ghost use Rattle.std.specs.Prelude.{◌≡◌, option_map, string_bytes, IfOk};
 ghost use Rattle.ariadne_blocks.specs.Files.{file_of};
-ghost use Rattle.ariadne_blocks.specs.Fixes.{fix_help, fix_words as words_of_fix};
+ghost use Rattle.ariadne_blocks.specs.Fixes.{change_unit as unit_of_change, fix_help, fix_words as words_of_fix};
 
 use crate::file::{QuotedFile, column_in};
 use ariadne_columns::Unit;
 use ariadne_snippets::{Fix, FixKind};
 use std::alloc::{AllocError, Global};
 
-/// What a help says of a change: at its column in bytes.
+/// What a help says of a change: at its column by what it counts.
 pub(crate) fn fix_text(
     alloc: Global,
     file: Option<QuotedFile<'_>>,
+    unit: Unit,
     fix: &Fix<'_>,
 ) -> Result<String, AllocError>
     ensures { IfOk result (λ text.
-        string_bytes text ≡ fix_help (option_map file_of file.entry) fix.now) }
+        string_bytes text ≡ fix_help (option_map file_of file.entry) unit fix.now) }
 {
-    fix_words(alloc, fix, column_in(file, Unit::Byte, fix.at))
+    fix_words(alloc, fix, column_in(file, unit, fix.at))
+}
+
+/// What columns of changes count where those of a head count this: characters, as rustc's, and else bytes.
+pub(crate) fn change_unit(unit: Unit) -> Unit
+    ensures { result ≡ unit_of_change unit }
+{
+    match unit {
+        Unit::Char => Unit::Char,
+        Unit::Byte | Unit::Display => Unit::Byte,
+    }
 }
 
 /// What a help says of a change at a column of its line.

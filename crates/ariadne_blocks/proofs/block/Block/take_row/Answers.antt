@@ -1,9 +1,10 @@
 use Rattle.std.proofs.Common.{◌≡◌, Some, true}
 use Rattle.std.specs.Prelude.{option_map}
 use Rattle.std.proofs.lemmas.Result.{IfOk-weaker}
-use Rattle.ariadne_blocks.specs.Blocks.{file_place, of_event, of_file, of_frame, of_snippet, view_of, IsRow, IsRowOf}
-use Rattle.ariadne_blocks.specs.Events.{event_in, frame, in_file, quoting}
+use Rattle.ariadne_blocks.specs.Blocks.{file_place, of_event, of_file, of_frame, of_no_place, of_snippet, view_of, with_text, IsRow, IsRowOf}
+use Rattle.ariadne_blocks.specs.Events.{event_in, frame, in_file, quoting, telling}
 use Rattle.ariadne_blocks.specs.Files.{file_of}
+use Rattle.ariadne_blocks.specs.declared.block.Aside.TheVariants as aside
 use Rattle.ariadne_blocks.proofs.block.Block.take_row.Goals as goal
 
 -- a row of events tells nothing
@@ -28,6 +29,17 @@ returns-in-Some-File-clause-row c =
     (λ is_row. is_row ≡ true → IsRow (option_map file_of c.args.file) c.args.line c.args.self.now c.take_file.new.self)
     (λ is_row named yes. of_file told (named yes))
     c.take_file.ensures.file
+
+-- or tells an event that is at no place
+pub returns-in-Some-Telling-clause-row : goal.returns-in-Some-Telling-clause-row
+returns-in-Some-Telling-clause-row c =
+    let event = c.in-Some-Telling.event.now in
+    let told : event_in c.args.line.text.now ≡ Some (telling event) = rw c.in-Some-Telling.field-0-is at c.in-Some-Telling.ensures in
+    IfOk-weaker c.take_event.result
+    (λ is_row. is_row ≡ true → view_of c.take_event.new.self ≡ with_text aside.Note event (view_of c.args.self.now))
+    (λ is_row. is_row ≡ true → IsRow (option_map file_of c.args.file) c.args.line c.args.self.now c.take_event.new.self)
+    (λ is_row noted yes. of_no_place told (noted yes))
+    c.take_event.ensures.told
 
 -- or stands behind a bar
 pub returns-in-Some-Quoting-clause-row : goal.returns-in-Some-Quoting-clause-row
