@@ -18,6 +18,8 @@ from marks import SGR, Diagnostic, Line, message_and_code
 from seen import Picture, Span, shown_column, shown_in
 
 SUM = re.compile(r"(\d+) (error|warning|note)s?(?:, |$)")
+# What rustc says of others at the end.
+SUMS = re.compile(r"aborting due to |.* emitted$")
 MUST, MAY = ("pass",), ("scope", "sum", "blank")
 # The words that a header may have for a kind, beside its own.
 LIKE = {
@@ -78,6 +80,11 @@ def is_header(row, told):
     return any(more.startswith(row.removeprefix(header)) for header in headers)
 
 
+def is_sum(told):
+    """Whether a diagnostic without a place sums up others, or says where to read more."""
+    return not told.path and (told.kind == "failure-note" or SUMS.match(told.message))
+
+
 def parts_of(told):
     """A diagnostic with its notes and what leads to them."""
     yield told
@@ -106,7 +113,8 @@ def wanted_rows(said, items):
             yield Wanted(item, (), True)
         else:
             yield Wanted(item, tuple(headers_of(item)), True)
-            asides = [line.strip() for note in item.notes for line in note.message.split("\n")]
+            notes = sorted(item.notes, key=lambda note: note.kind == "help")
+            asides = [line.strip() for note in notes for line in note.message.split("\n")]
             yield from (Wanted(item, (f"Note: {it}", f"Help: {it}", f"      {it}"), False) for it in asides)
 
 
@@ -359,7 +367,7 @@ class Judge:
 
     def sum_faults(self, row):
         """What is wrong with the last row: how many there were of each kind."""
-        told = [item for item in self.items if isinstance(item, Diagnostic) and item.path]
+        told = [item for item in self.items if isinstance(item, Diagnostic) and not is_sum(item)]
         counts = {kind: int(number) for number, kind in SUM.findall(row)}
         errors = sum(item.kind in ERRORS for item in told)
         if all(item.kind for item in told) and counts.get("error", 0) != errors:

@@ -26,7 +26,8 @@ from pathlib import Path
 from typing import NamedTuple
 
 COUNT = re.compile(r"\d+ (?:warning|error)s?\b")
-SGR = re.compile(r"\x1b\[[0-9;]*[mK]")
+# Colours, and where links begin and end.
+SGR = re.compile(r"\x1b\[[0-9;]*[mK]|\x1b\]8;[^\x07\x1b]*(?:\x07|\x1b\\)")
 MARK = "\ufeff"
 
 
@@ -160,9 +161,11 @@ CUT = re.compile(r"((?:  )?\.\.\.|)(.*?)(?:\.\.\.)?$")
 
 def left_out_of(shown, row):
     """How many columns in front a row lacks that shows a line: none, or those for which clang writes
-    `  ...`, and mypy `...`. None where the row shows another line."""
+    `  ...`, and mypy `...`, and gcc nothing. None where the row shows another line."""
     if shown.rstrip() == row.rstrip():
         return 0
+    if len(row) > 40 and shown.rstrip().endswith(row.rstrip()):
+        return sum(map(columns_of, shown.rstrip().removesuffix(row.rstrip())))
     dots, middle = CUT.match(row).groups()
     if len(middle) in (0, len(row)) or middle not in shown or not (dots or shown.startswith(middle)):
         return None
@@ -275,7 +278,8 @@ class Reader:
             again = self.place and self.place[0] == place and told.column
             told.pieces = [self.place[1]._replace(label=None)] if again else [Piece(*place)]
         self.place = place, told.pieces[0]
-        if told.kind == "note" and not told.code and self.current and self.is_about(told):
+        is_note = told.kind == "note" and not told.code or told.message.startswith(GOES_ON)
+        if is_note and self.current and self.is_about(told):
             self.current.notes.append(told)
             self.current.last = self.at
         else:
@@ -315,7 +319,11 @@ INCLUDED = re.compile(r"(?P<message>In file included from) (?P<path>[^:]+):(?P<l
 FROM = re.compile(r" +(?P<message>from) (?P<path>[^:]+):(?P<line>\d+)(?::(?P<column>\d+))?[,:]$")
 REQUIRED = re.compile(r"(?P<path>[^\s:][^:]*):(?P<line>\d+):(?P<column>\d+):   (?P<message>(?:required|in) .*)$")
 MARKS = re.compile(r"[ ~^]*[~^][ ~^]*$")
+# How g++ begins a message that goes on with that of the head in front.
+GOES_ON = "  "
 PLACELESS = re.compile(r"(?:cc1: |cc1plus: )?note: (?P<words>.*)$")
+# A note of clang's about a text that stands in no file, which it quotes, with marks.
+UNFILED = re.compile(r"<(?:scratch space|inline asm|command line|built-in)>:\d+:\d+: note: (?P<words>.*)$")
 
 
 def message_and_code(words):
@@ -327,7 +335,7 @@ def message_and_code(words):
 class Compiler(Reader):
     """What gcc, clang, clang-tidy and cppcheck have in common: heads, fronts and lines of other roles."""
 
-    FRONTS = (INCLUDED, FROM, REQUIRED)
+    FRONTS, GOES_ON = (INCLUDED, FROM, REQUIRED), None
     SCOPE = re.compile(r"[^\s:][^:]*: (?:In|At) .*:$")
     SUM = re.compile(r"\d+ (?:warning|error)s?(?: and \d+ errors?)? generated\.$")
 
@@ -337,6 +345,8 @@ class Compiler(Reader):
             return self.take_placeless()
         message, code = message_and_code(match["words"])
         told = self.begin(match["kind"], code, message, name, match["line"], match["column"])
+        if self.GOES_ON and self.GOES_ON.match(match["words"]):
+            told.kind, told.code, told.message = "note", None, message.strip()
         self.take_ranges(told, match["ranges"])
         while self.is_detail(told):
             told.details.append(self.row().strip())
@@ -346,12 +356,16 @@ class Compiler(Reader):
 
     def take_placeless(self):
         """Takes a note of the diagnostic in front that names no place."""
-        match = PLACELESS.match(self.row())
-        if not match or not self.current or self.current.last != self.at:
+        match, unfiled = PLACELESS.match(self.row()), UNFILED.match(self.row())
+        if not (match or unfiled) or not self.current or self.current.last != self.at:
             return False
         self.at += 1
-        self.current.notes.append(Diagnostic(self.at, self.at, "note", None, match["words"]))
-        self.current.last = self.at
+        note = Diagnostic(self.at, self.at, "note", None, (match or unfiled)["words"])
+        if unfiled:
+            note.details = [self.row().strip()]
+            self.at += 2
+        note.last = self.current.last = self.at
+        self.current.notes.append(note)
         return True
 
     def is_detail(self, _):
@@ -392,8 +406,11 @@ class Gcc(Compiler):
     BAR = re.compile(r" *\|(.*)$")
     RETURN = re.compile(r" *<-+\+$")
     IN_FILE = re.compile(r"(?P<path>\S[^:]*):\d+:\d+:$")
-    # A second event at a mark has no bar of its own.
+    # A second event at a mark has no bar of its own, and one at no place is told behind a bar alone.
     EVENT = re.compile(r"\(\d+\) ")
+    EVENT_ALONE = re.compile(r" (\(\d+\): .*)$")
+    # g++ goes on with what a head says in further heads of its kind and code.
+    GOES_ON = re.compile(r"  \S.* \[-Wreorder\]$")
     has_events = False
 
     def column(self, told, column):
@@ -408,6 +425,8 @@ class Gcc(Compiler):
         while (row := self.snippet_row()) is not None:
             self.at += 1
             match, file = self.GUTTER.match(row), self.IN_FILE.match(row)
+            if event := self.EVENT_ALONE.match(row):
+                told.notes.append(Diagnostic(self.at, self.at, "note", None, event[1]))
             text = match[2].removeprefix(" ") if match else ""
             if file:
                 path = self.files.name(file["path"])
@@ -453,6 +472,8 @@ class Gcc(Compiler):
         """Takes a row below marks: bars, labels that stand below bars, or what is to be put there. The bars
         that go on come back."""
         words = {run.start(): run[0] for run in re.finditer(r"\|(?= |$)|\S+(?: \S+)*", text)}
+        if bars and len(words) == len(bars) and all(word == "|" or self.EVENT.match(word) for word in words.values()):
+            words = dict(zip(sorted(bars), words.values()))
         going_on = {column for column, word in words.items() if word == "|"}
         if not going_on and not set(words) <= bars and not all(map(self.EVENT.match, words.values())):
             told.puts += [word for word in words.values() if word.strip("-")]
@@ -482,6 +503,10 @@ class Clang(Compiler):
         return quote if quote and MARKS.match(marks) else None
 
     def take_snippet(self, told):
+        """clang doesn't quote a line that has nothing, but marks it."""
+        if not self.files.line(told.path, told.line) and self.row() and MARKS.match(self.row()):
+            self.at += 1
+            return
         quote = self.quote(told)
         if not quote:
             return
@@ -495,8 +520,22 @@ class Clang(Compiler):
 
     def is_known(self):
         """Whether the next row is one that can stand behind marks."""
-        patterns = (HEAD, PLACELESS, self.SUM, *self.FRONTS, re.compile(r"===|Found compiler error|$"))
+        patterns = (HEAD, PLACELESS, UNFILED, self.SUM, *self.FRONTS, re.compile(r"===|Found compiler error|$"))
         return any(pattern.match(self.row()) for pattern in patterns)
+
+
+class ClangRanges(Clang):
+    """clang's text with ranges in its heads: a blank stands in front of the quoted line, before its tabs are made
+    blanks, and of the marks."""
+
+    def quote(self, told):
+        line, marks = self.files.line(told.path, told.line), self.rows[self.at + 1 : self.at + 2]
+        shown = "".join(shown for shown, _ in cells_of(f" {line}", is_never_escaped, columns_by_clang))
+        if not marks or not MARKS.match(marks[0]) or shown.rstrip() != self.row():
+            return None
+        quote = Quote(line, line.expandtabs(), columns_by_clang)
+        quote.left_out = -1
+        return quote
 
 
 class Cppcheck(Compiler):
@@ -562,7 +601,8 @@ class Javac(Reader):
         if not name:
             return False
         told = self.begin(match["kind"], match["code"], match["words"], name, match["line"], None)
-        if self.row().rstrip() != self.files.line(told.path, told.line).rstrip():
+        line = self.files.line(told.path, told.line).rstrip()
+        if self.row().rstrip() not in (line, line.encode("ascii", "replace").decode()):
             raise ValueError(f"line {self.at + 1} of the text quotes no line")
         told.column = self.rows[self.at + 1].index("^") + 1
         self.at += 2
@@ -647,18 +687,24 @@ class Mypy(Reader):
 
 
 class Pylint(Reader):
-    """pylint's text. Its columns count from 0: bytes, and characters in what looks at lines or tokens."""
+    """pylint's text. Its columns count bytes from 0, and characters in what looks at lines or tokens; where those are
+    Python's own, and where hidden characters stand, they count from 1."""
 
     HEAD = re.compile(r"(?P<path>[^\s:]+):(?P<line>\d+):(?P<column>\d+): (?P<code>[A-Z]\d{4}): (?P<words>.*)$")
-    COUNT_CHARACTERS = ("C0303", "E0001", "W0511")
+    COUNT_CHARACTERS, FROM_ONE = ("C0303", "W0511", "W1401", "W1402"), ("E0001", "E2515")
 
     def take_head(self):
         match, name = self.match(self.HEAD)
         if not name:
             return False
         told = self.begin(None, match["code"], match["words"], name, match["line"], None)
-        column = int(match["column"]) + 1
-        told.column = column if told.code in self.COUNT_CHARACTERS else self.column(told, column)
+        column = int(match["column"])
+        if told.code in self.FROM_ONE:
+            told.column = column
+        elif told.code in self.COUNT_CHARACTERS:
+            told.column = column + 1
+        else:
+            told.column = self.column(told, column + 1)
         return self.keep(told)
 
 
@@ -710,7 +756,7 @@ class GccJson(Json):
     def items_of_value(self, value):
         items = []
         for item in (it for whole in value for it in (whole, *whole["children"])):
-            if item["kind"] == "note" and items:
+            if items and (item["kind"] == "note" or item["message"].startswith(GOES_ON)):
                 items[-1].notes.append(self.told(item))
             else:
                 items.append(self.told(item))
@@ -777,11 +823,17 @@ class RustcJson(Json):
         spans = sorted(message["spans"], key=lambda span: not span["is_primary"])
         puts = [span["suggested_replacement"] for span in spans if span["suggested_replacement"] is not None]
         told.puts = [line.strip() for put in puts for line in put.split("\n") if line.strip()]
-        told.pieces = [] if puts else [piece for span in spans for piece in self.pieces(span)]
+        placed = [span for span in spans if not self.is_of_crate(span)]
+        told.pieces = [] if puts else [piece for span in placed for piece in self.pieces(span)]
         told.notes = [self.told(child) for child in message["children"]]
         if told.pieces:
             told.path, told.line, told.column = told.pieces[0][:3]
         return told
+
+    @staticmethod
+    def is_of_crate(span):
+        """Whether a span stands for a whole crate: rustc's text names no place for it."""
+        return span["byte_start"] == span["byte_end"] == 0 and not span["text"] and not span["label"]
 
     def pieces(self, span):
         """The pieces of a span: where it is, or else the first of the macro calls around it that is in one of the
@@ -850,6 +902,7 @@ FORMS = {
     "gcc": Gcc,
     "make": Make,
     "clang": Clang,
+    "clang ranges": ClangRanges,
     "cppcheck": Cppcheck,
     "shellcheck": Shellcheck,
     "rustc short": RustcShort,

@@ -44,8 +44,18 @@ CPPCHECK = ("cppcheck", "--enable=all")
 CPPCHECK_FILES = ("corpus/c/09*.c", "corpus/c/11*.c", "corpus/c/19*.c", "corpus/c/20*.c", "corpus/cpp/[01][156]*.cpp")
 GONE = "cp {} {out}/gone.c; gcc -Wall -fsyntax-only {out}/gone.c; rm {out}/gone.c"
 EVENTS = ("gcc", "-fanalyzer", "-fdiagnostics-format=json", "-c", "-o", "{out}/x.o", "{}")
-PATHS, PATH_FILES = ("gcc", "-fanalyzer", "-c", "-o", "{out}/x.o", "{}"), ("corpus/events/*.c", "corpus/paths/*.c")
+PATHS, PATH_FILES = ("gcc", "-fanalyzer", "-c", "-o", "{out}/x.o", "{}"), ("corpus/events/*.c", "corpus/paths/0[12]*.c")
+ROWS, COLOR = ("corpus/paths/03*.c",), "-fdiagnostics-color=always"
+IN_ASCII = ("sh", "-c", "LC_ALL=C javac -encoding UTF-8 -Xlint -d {out} {}")
+UNFILED = ("clang", "-Wall", "-DDEFINED=x y", "-c", "-o", "{out}/x.o", "{}")
+NARROW = ("-fsyntax-only", "-fmessage-length=120", "{}")
 OVERLAPPING = "-checks=-*,readability-braces-*,readability-else-*,readability-implicit-*,readability-simplify-*"
+UNUSED = (
+    "rustc --crate-type=lib --crate-name=fruit --emit=metadata -o {out}/libfruit.rmeta {}; rustc --crate-type=lib "
+    "--emit=metadata -o {out}/x.rmeta -W unused_crate_dependencies --extern fruit={out}/libfruit.rmeta "
+    "--error-format=json {}"
+)
+LINKED = ("-Wall", "-fsyntax-only", "-fdiagnostics-urls=always", "{}")
 DISPLAY, CHARS = ("--columns=display",), ("--columns=chars",)
 TEXTS = {
     "gcc_carets": Text("gcc", (*GCC, "{}"), C, DISPLAY),
@@ -86,6 +96,16 @@ TEXTS = {
     "clang_tidy_overlaps": Text("clang", ("clang-tidy", OVERLAPPING, "{}", "--"), ("corpus/overlaps/*.cpp",)),
     "gcc_paths": Text("gcc", PATHS, PATH_FILES, DISPLAY),
     "gcc_paths_apart": Text("gcc", (*PATHS, "-fdiagnostics-path-format=separate-events"), PATH_FILES, DISPLAY),
+    "gcc_paths_color": Text("gcc", (*PATHS, COLOR), ROWS, DISPLAY),
+    "gcc_narrow": Text("gcc", ("gcc", *NARROW), ("corpus/narrow/*.c",), DISPLAY),
+    "clang_narrow": Text("clang", ("clang", *NARROW), ("corpus/narrow/*.c",)),
+    "gcc_unplaced": Text("gcc", PATHS, ("corpus/unplaced/*.c",), DISPLAY),
+    "gxx_reorder": Text("gcc", (*GXX, "{}"), ("corpus/reorder/*.cpp",), DISPLAY),
+    "clang_unfiled": Text("clang", UNFILED, ("corpus/unfiled/*.c",)),
+    "clang_asides": Text("clang", (*CLANG, "-Wimplicit-fallthrough", "{}"), ("corpus/asides/*.c",)),
+    "clang_spaced": Text("clang ranges", (*CLANG, RANGES[0], "{}"), ("corpus/spaced/*.c",)),
+    "clang_ends": Text("clang", (*CLANG, "{}"), ("corpus/ends/*.c",)),
+    "javac_ascii": Text("javac", IN_ASCII, ("corpus/java/*.java",)),
     "gxx_unmet": Text("gcc", (*GXX, "{}"), ("corpus/unmet/*.cpp",), DISPLAY),
     "gxx_repeats": Text("gcc", (*GXX, "{}"), ("corpus/repeats/*.cpp",), DISPLAY),
     "gcc_events": Text("gcc json", EVENTS, ("corpus/events/*.c",)),
@@ -93,6 +113,14 @@ TEXTS = {
     "javac_sums": Text("javac", ("javac", "-Xlint", "-d", "{out}", "{}"), ("corpus/sums/*.java",)),
     "mypy_imports": Text("mypy", (*MYPY, "--pretty", "{}"), ("corpus/imports/*.py",)),
     "mypy_lines": Text("mypy", (*MYPY, "--show-error-end", "{}"), ("corpus/lines/*.py",)),
+    "gxx_order": Text("gcc", (*GXX, "{}"), ("corpus/order/*.cpp",), DISPLAY),
+    "gxx_order_json": Text("gcc json", (*GXX, "-fdiagnostics-format=json", "{}"), ("corpus/order/*.cpp",)),
+    "clang_empty": Text("clang", (*CLANG, "{}"), ("corpus/empty/*.c",)),
+    "gcc_empty": Text("gcc", (*GCC, "{}"), ("corpus/empty/*.c",), DISPLAY),
+    "gcc_links": Text("gcc", ("env", "GCC_URLS=st", "gcc", *LINKED), ("corpus/c/1[15]*.c",), DISPLAY),
+    "gcc_links_bell": Text("gcc", ("env", "GCC_URLS=bel", "gcc", *LINKED), ("corpus/c/1[15]*.c",), DISPLAY),
+    "pylint_characters": Text("pylint", ("pylint", "{}"), ("corpus/tokens/*.py",)),
+    "rustc_crates": Text("rustc json", ("sh", "-c", UNUSED), ("corpus/crates/*.rs",)),
     "gone": Text("gcc", ("sh", "-c", GONE), ("corpus/c/1[178]*.c",)),
     "log": Text("none", ()),
     "make": Text("make", ("make", "--keep-going"), folder="corpus/make", words=DISPLAY),

@@ -386,6 +386,117 @@ fn events_at_one_mark(rt: HostRuntime) {
     );
 }
 
+/// In colours gcc moves an event behind another in its row to the left.
+#[test]
+fn events_that_were_moved(rt: HostRuntime) {
+    assert_learned(
+        &rt,
+        &["    free(b); free(a);"],
+        1,
+        None,
+        &[
+            ("    1 |     free(b); free(a);", ""),
+            ("      |     ~~~~~~~  ~~~~~~~", " 1:4..11 1:13..20"),
+            ("      |     |        |", ""),
+            ("      |     (1) x  (2) y", " 0=(1) x 1=(2) y"),
+        ],
+    );
+}
+
+/// clang notes what stands in no file, and quotes it: the note goes on with that.
+#[test]
+fn notes_about_text_in_no_file(rt: HostRuntime) {
+    assert_learned(
+        &rt,
+        &["\tNAME(foo);"],
+        1,
+        Some(1),
+        &[
+            ("        NAME(foo);", ""),
+            ("        ^", " 1:1..2^"),
+            (
+                "<scratch space>:2:1: note: expanded from here",
+                "note expanded from here",
+            ),
+            ("        foo_t", "more foo_t"),
+            ("        ^~~~~", ""),
+            (
+                "<inline asm>:1:2: note: instantiated into assembly here",
+                "note instantiated into assembly here",
+            ),
+            ("a.c:1:2: error: m", "no"),
+        ],
+    );
+    assert_learned(
+        &rt,
+        &["x"],
+        1,
+        Some(0),
+        &[("<scratch space>:2:1: note: expanded from here", "no")],
+    );
+}
+
+/// clang doesn't quote a line that has nothing, and cppcheck quotes nothing where its head names no line.
+#[test]
+fn marks_below_nothing(rt: HostRuntime) {
+    assert_learned(&rt, &["a", ""], 2, Some(0), &[("^", " 2:0..1^")]);
+    assert_learned(&rt, &["a", ""], 1, Some(0), &[("^", "no")]);
+    assert_learned(&rt, &["a"], 0, None, &[("", ""), ("^", ""), ("^", "no")]);
+    assert_learned(&rt, &["a"], 0, None, &[("", ""), ("a", "no")]);
+}
+
+/// Where clang names ranges in its heads, a blank stands in front of the quote and of the marks.
+#[test]
+fn marks_behind_a_blank_of_clang(rt: HostRuntime) {
+    assert_learned(
+        &rt,
+        &["\tx = a + 1"],
+        1,
+        Some(7),
+        &[
+            ("        x = a + 1", ""),
+            ("             ~ ^ ~", " 1:5..6 1:7..8^ 1:9..10"),
+            ("                 ;", " put 1:10 ;"),
+        ],
+    );
+    assert_learned(
+        &rt,
+        &["x = a + 1"],
+        1,
+        Some(9),
+        &[
+            (" x = a + 1", ""),
+            ("          ^", " 1:9..10^"),
+            ("         ;", " put 1:9 ;"),
+        ],
+    );
+}
+
+/// Where an encoding doesn't have a character, `?` stands for it; gcc cuts the front of a line off without dots.
+#[test]
+fn quotes_that_lack_something(rt: HostRuntime) {
+    assert_learned(
+        &rt,
+        &["int x = \"é漢\" + u;"],
+        1,
+        None,
+        &[
+            ("int x = \"??\" + u;", ""),
+            ("               ^", " 1:15..16^"),
+        ],
+    );
+    assert_learned(
+        &rt,
+        &["int first_name = 1, second_name = 2;"],
+        1,
+        Some(20),
+        &[
+            ("    1 | ame = 1, second_name = 2;", ""),
+            ("      |          ^~~~~~~~~~~", " 1:20..31^"),
+        ],
+    );
+}
+
 /// clang gives one of these wide characters two columns, and the other one.
 #[test]
 fn wide_characters_of_clang(rt: HostRuntime) {

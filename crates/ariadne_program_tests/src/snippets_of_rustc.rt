@@ -283,7 +283,7 @@ fn lines_that_helps_of_rustc_put_in(rt: HostRuntime) {
             ),
             ("  |", ""),
             ("1 + use a::B;", " line 1:0 use a::B;"),
-            ("2 +     // it is here ", " line 1:0     // it is here"),
+            ("2 +     // it is here ", " line 1:0 // it is here"),
             ("3 | struct Fruit;", ""),
             ("  |", ""),
             ("1 + use d::B;", " line 1:0 use d::B;"),

@@ -25,7 +25,7 @@ const LINES: &[(&str, &str)] = &[
         "p.py 20 Note () ()     def area(self) -> float",
     ),
     ("p.py:20: error:   m", "p.py 20 Error () () m"),
-    ("p.py:20: note:   ", ""),
+    ("p.py:20: note:   ", "p.py 20 Note () () "),
     (
         "a.c:3:9:{3:5-3:8}{3:9-3:12}: error: m",
         "a.c 3:9 before 3:12 Error () () m",
@@ -89,10 +89,10 @@ const LINES: &[(&str, &str)] = &[
     ),
     ("a.py:1: [E501] m", "a.py 1 Error () (E501) m"),
     ("a.c:3:4: X11 is gone", "a.c 3:4 Error () () X11 is gone"),
-    // pylint, whose columns count from 0
+    // pylint, whose columns count from 0, and characters where its messages are about tokens
     (
         "a.py:3:0: C0303: Trailing whitespace (trailing-whitespace)",
-        "a.py 3:1 Note () (C0303) Trailing whitespace (trailing-whitespace)",
+        "a.py 3:1 in characters Note () (C0303) Trailing whitespace (trailing-whitespace)",
     ),
     (
         "a.py:2:29: E0602: Undefined variable 'x' [E]",

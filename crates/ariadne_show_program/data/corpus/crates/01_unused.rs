@@ -1,0 +1,2 @@
+//! A crate that is asked for and not used.
+pub fn pear() {}

@@ -1,0 +1,6 @@
+// Messages that say nothing.
+#pragma message ""
+#pragma GCC warning ""
+	/* ä */
+#pragma GCC error ""
+int shown;

@@ -1,0 +1,4 @@
+void g(void)
+{
+    __asm__("nosuch %rax, %rbx\n\tbad2 x");
+}
