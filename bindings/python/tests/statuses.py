@@ -6,8 +6,8 @@ where M > 0.
 import ctypes
 import resource
 
-import sewarqo
 from sewarqo import BadLabel, BadReport, BadSource, Color, Config, Label, Report, Source
+from sewarqo._library import CLabel, COptional, CReport, CSource, CText, library
 
 LARGEST = 2**64 - 1
 LONE = "a\ud800"
@@ -65,8 +65,8 @@ STATUSES = [
     (18, 0, lambda it: set_field(it.sources[0], "text", NO_TEXT)),
     (19, 1, lambda it: set_field(it.sources[1], "line_offset", LARGEST)),
 ]
-NO_TEXT = sewarqo._Text(b"a\xff", 2)
-NO_OPTIONAL = sewarqo._Optional(NO_TEXT, 1)
+NO_TEXT = CText(b"a\xff", 2)
+NO_OPTIONAL = COptional(NO_TEXT, 1)
 CONFIGS = [
     Config(tab_width=0), Config(tab_width=-1), Config(attach="nowhere"), Config(context_lines=-1),
     Config(context_lines=LARGEST + 1), Config(width=-1), Config(width=LARGEST + 1),
@@ -77,15 +77,15 @@ class Call:
     """What a call is handed that draws two labels over two sources."""
 
     def __init__(self):
-        self.labels = (sewarqo._Label * 2)()
-        self.sources = (sewarqo._Source * 2)()
-        self.texts = (sewarqo._Text * 2)()
-        self.report = sewarqo._Report()
+        self.labels = (CLabel * 2)()
+        self.sources = (CSource * 2)()
+        self.texts = (CText * 2)()
+        self.report = CReport()
         self.room = 4096
         for it in self.labels:
             it.end = 2
         for it in self.sources:
-            it.text = sewarqo._Text(b"abc", 3)
+            it.text = CText(b"abc", 3)
         self.report.labels, self.report.labels_len = self.labels, 2
         self.report.helps, self.report.helps_len = self.texts, 2
 
@@ -93,7 +93,7 @@ class Call:
         """The status, the length, the number, and whether the buffer is as it was."""
         out = ctypes.create_string_buffer(b"#" * self.room, self.room)
         length, count = ctypes.c_size_t(77), ctypes.c_size_t(77)
-        status = sewarqo._library().sewarqo_draw(
+        status = library().sewarqo_draw(
             ctypes.byref(self.report), self.sources, 2, out, self.room, ctypes.byref(length), None, 0,
             ctypes.byref(count))
         return status, length.value, count.value, out.raw == b"#" * self.room
@@ -193,8 +193,8 @@ def numbers_of_colors():
     for color in colors:
         if "\x1b[" not in Report("hint", kind_color=color).render("x"):
             yield f"colour {color}"
-    if ctypes.sizeof(sewarqo._Report) != 160:
-        yield f"a report of {ctypes.sizeof(sewarqo._Report)} bytes"
+    if ctypes.sizeof(CReport) != 160:
+        yield f"a report of {ctypes.sizeof(CReport)} bytes"
 
 
 faults = list(unlike())

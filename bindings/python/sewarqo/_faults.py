@@ -1,0 +1,47 @@
+"""The exceptions that tell why there is no picture."""
+
+from typing import TYPE_CHECKING, Any, Hashable, Tuple
+
+if TYPE_CHECKING:
+    from ._parts import Label
+
+
+class Refused(ValueError):
+    """There is no picture, since something that was handed in is faulty. Nothing was drawn."""
+
+
+class BadReport(Refused):
+    """A setting or a text of the report is faulty: `why`. `part` names it: "message", "notes", .."""
+
+    def __init__(self, why: str, part: str) -> None:
+        super().__init__(why)
+        self.why = why
+        self.part = part
+
+    def __reduce__(self) -> Tuple[Any, ...]:
+        return type(self), (self.why, self.part), self.__dict__
+
+
+class BadLabel(Refused):
+    """A label is faulty: `why`. `label` is it, and `number` its number in the report, from 0."""
+
+    def __init__(self, why: str, number: int, label: "Label") -> None:
+        super().__init__(f"label {number}: {why}")
+        self.why = why
+        self.number = number
+        self.label = label
+
+    def __reduce__(self) -> Tuple[Any, ...]:
+        return type(self), (self.why, self.number, self.label), self.__dict__
+
+
+class BadSource(Refused):
+    """A source is faulty: `why`. `source` is what it was handed in under."""
+
+    def __init__(self, why: str, source: Hashable) -> None:
+        super().__init__(f"source {source!r}: {why}")
+        self.why = why
+        self.source = source
+
+    def __reduce__(self) -> Tuple[Any, ...]:
+        return type(self), (self.why, self.source), self.__dict__
