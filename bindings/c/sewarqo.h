@@ -18,8 +18,22 @@
 #include <stdint.h>
 #include <string.h>
 
+/* The version of this header, and of the release that it came with. */
+#define SEWARQO_VERSION_MAJOR 0
+#define SEWARQO_VERSION_MINOR 6
+#define SEWARQO_VERSION_PATCH 0
+#define SEWARQO_VERSION "0.6.0"
+/* The same as one number, for #if: 600 is 0.6.0. */
+#define SEWARQO_VERSION_NUMBER \
+    (SEWARQO_VERSION_MAJOR * 10000 + SEWARQO_VERSION_MINOR * 100 + SEWARQO_VERSION_PATCH)
+
 #ifdef __cplusplus
+#define SEWARQO_CAST_(type, value) (static_cast<type>(value))
+#define SEWARQO_NULL_ nullptr
 extern "C" {
+#else
+#define SEWARQO_CAST_(type, value) ((type)(value))
+#define SEWARQO_NULL_ NULL
 #endif
 
 /* A text in UTF-8. It has no zero at its end, and may have some within. */
@@ -55,9 +69,10 @@ enum {
     SEWARQO_BRIGHT_YELLOW = 13, SEWARQO_BRIGHT_BLUE = 14, SEWARQO_BRIGHT_MAGENTA = 15,
     SEWARQO_BRIGHT_CYAN = 16, SEWARQO_BRIGHT_WHITE = 17
 };
-#define SEWARQO_FIXED(number) (256u + (uint8_t)(number))
+#define SEWARQO_BYTE_(number) SEWARQO_CAST_(uint32_t, SEWARQO_CAST_(uint8_t, number))
+#define SEWARQO_FIXED(number) (256u + SEWARQO_BYTE_(number))
 #define SEWARQO_RGB(red, green, blue) \
-    (1u << 24 | (uint32_t)(uint8_t)(red) << 16 | (uint32_t)(uint8_t)(green) << 8 | (uint8_t)(blue))
+    (1u << 24 | SEWARQO_BYTE_(red) << 16 | SEWARQO_BYTE_(green) << 8 | SEWARQO_BYTE_(blue))
 
 /* A label: a piece of a source, and what is said of it. */
 typedef struct {
@@ -165,8 +180,9 @@ uint32_t sewarqo_draw(const sewarqo_report *report, const sewarqo_source *source
 
 /* The text of a string that ends in a zero; a null pointer is the empty text. */
 static inline sewarqo_text sewarqo_str(const char *string) {
+    const void *bytes = string ? string : "";
     sewarqo_text text;
-    text.bytes = (const uint8_t *)(string ? string : "");
+    text.bytes = SEWARQO_CAST_(const uint8_t *, bytes);
     text.len = string ? strlen(string) : 0;
     return text;
 }
@@ -175,8 +191,92 @@ static inline sewarqo_text sewarqo_str(const char *string) {
 static inline sewarqo_optional sewarqo_some(const char *string) {
     sewarqo_optional optional;
     optional.text = sewarqo_str(string);
-    optional.is_given = string != 0;
+    optional.is_given = string ? 1 : 0;
     return optional;
+}
+
+/* Where the line of an offset in bytes ends: at its line feed, or at the end of the text. */
+static inline size_t sewarqo_line_end_(sewarqo_text text, size_t at) {
+    const void *found = at < text.len ? memchr(text.bytes + at, '\n', text.len - at) : SEWARQO_NULL_;
+    return found ? SEWARQO_CAST_(size_t, SEWARQO_CAST_(const uint8_t *, found) - text.bytes) : text.len;
+}
+
+/* How many offsets there are from one in bytes to another: bytes or, without SEWARQO_BYTE_OFFSETS, the first
+   bytes of characters. */
+static inline size_t sewarqo_between_(sewarqo_text text, size_t from, size_t to, uint32_t flags) {
+    size_t at, count = 0;
+    if (flags & SEWARQO_BYTE_OFFSETS)
+        return to - from;
+    for (at = from; at < to; at++)
+        count += (text.bytes[at] & 0xc0) != 0x80;
+    return count;
+}
+
+/* The offset of a column of a line, both from 1, for a report with these flags. Columns count what offsets do:
+   characters, or bytes under SEWARQO_BYTE_OFFSETS.
+
+   Lines end at line feeds alone, as compilers count them. A column past its line is the line's end, in front
+   of its LF or CR LF, and column 0 is column 1. Where the text has no such line it is SIZE_MAX, and a label
+   there is left out. The text is read from its beginning. */
+static inline size_t sewarqo_offset(sewarqo_text text, size_t line, size_t column, uint32_t flags) {
+    size_t begin = 0, end, before, width;
+    if (line == 0)
+        return SIZE_MAX;
+    for (; line > 1; line--) {
+        begin = sewarqo_line_end_(text, begin) + 1;
+        if (begin > text.len)
+            return SIZE_MAX;
+    }
+    end = sewarqo_line_end_(text, begin);
+    if (begin < end && end < text.len && text.bytes[end - 1] == '\r')
+        end--;
+    before = column > 1 ? column - 1 : 0;
+    width = sewarqo_between_(text, begin, end, flags);
+    return sewarqo_between_(text, 0, begin, flags) + (before < width ? before : width);
+}
+
+/* Of what `*count` is the number after a status: "label", "help", "note" or "source", and "" after one that
+   tells of no such thing. */
+static inline const char *sewarqo_status_part(uint32_t status) {
+    switch (status) {
+    case SEWARQO_LABEL_SOURCE:
+    case SEWARQO_LABEL_BACKWARDS:
+    case SEWARQO_LABEL_COLOR:
+    case SEWARQO_LABEL_MESSAGE: return "label";
+    case SEWARQO_BAD_HELP: return "help";
+    case SEWARQO_BAD_NOTE: return "note";
+    case SEWARQO_SOURCE_NAME:
+    case SEWARQO_SOURCE_TEXT:
+    case SEWARQO_SOURCE_LINES: return "source";
+    default: return "";
+    }
+}
+
+/* What a status says, of the report or of that part: "it ends before it starts". */
+static inline const char *sewarqo_status_text(uint32_t status) {
+    switch (status) {
+    case SEWARQO_DRAWN: return "the picture has all labels";
+    case SEWARQO_LEFT_OUT: return "the picture has not all labels";
+    case SEWARQO_TOO_SHORT: return "the picture takes more room";
+    case SEWARQO_NO_MEMORY: return "there was no memory";
+    case SEWARQO_BAD_KIND: return "the kind is none";
+    case SEWARQO_BAD_KIND_COLOR: return "the colour of the kind is none";
+    case SEWARQO_BAD_KIND_NAME: return "the name of the kind is not UTF-8";
+    case SEWARQO_BAD_FLAGS: return "the library knows no such flag";
+    case SEWARQO_BAD_ATTACH: return "labels have no such place to attach to";
+    case SEWARQO_BAD_CODE: return "the code is not UTF-8";
+    case SEWARQO_BAD_MESSAGE: return "the message is not UTF-8";
+    case SEWARQO_LABEL_SOURCE: return "its source was not given";
+    case SEWARQO_LABEL_BACKWARDS: return "it ends before it starts";
+    case SEWARQO_LABEL_COLOR: return "its colour is none";
+    case SEWARQO_LABEL_MESSAGE: return "its message is not UTF-8";
+    case SEWARQO_BAD_HELP:
+    case SEWARQO_BAD_NOTE: return "it is not UTF-8";
+    case SEWARQO_SOURCE_NAME: return "its name is not UTF-8";
+    case SEWARQO_SOURCE_TEXT: return "its text is not UTF-8";
+    case SEWARQO_SOURCE_LINES: return "its line_offset and the number of its lines exceed the largest number";
+    default: return "there is no such status";
+    }
 }
 
 #ifdef __cplusplus

@@ -23,10 +23,11 @@ static inline uint32_t sewarqo_draw_grown(const sewarqo_report *report, const se
                                           sewarqo_left_out *left, size_t left_len, size_t *count) {
     size_t needed = 4095; /* enough for most pictures */
     uint32_t status;
+    void *room;
     do {
         if (picture->room <= needed) {
-            char *bytes = (char *)realloc(picture->bytes, needed + 1);
-            if (bytes == NULL) {
+            char *bytes = SEWARQO_CAST_(char *, realloc(picture->bytes, needed + 1));
+            if (bytes == SEWARQO_NULL_) {
                 picture->len = 0;
                 *count = 0;
                 if (picture->room > 0)
@@ -36,7 +37,8 @@ static inline uint32_t sewarqo_draw_grown(const sewarqo_report *report, const se
             picture->bytes = bytes;
             picture->room = needed + 1;
         }
-        status = sewarqo_draw(report, sources, sources_len, (uint8_t *)picture->bytes, picture->room - 1,
+        room = picture->bytes;
+        status = sewarqo_draw(report, sources, sources_len, SEWARQO_CAST_(uint8_t *, room), picture->room - 1,
                               &picture->len, left, left_len, count);
         needed = picture->len;
     } while (status == SEWARQO_TOO_SHORT);
@@ -49,7 +51,7 @@ static inline uint32_t sewarqo_draw_grown(const sewarqo_report *report, const se
 /* Frees the picture's memory, and leaves it empty. */
 static inline void sewarqo_picture_free(sewarqo_picture *picture) {
     free(picture->bytes);
-    picture->bytes = NULL;
+    picture->bytes = SEWARQO_NULL_;
     picture->len = 0;
     picture->room = 0;
 }

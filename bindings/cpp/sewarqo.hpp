@@ -18,6 +18,7 @@
 #include <cstdlib>
 #include <new>
 #include <optional>
+#include <ostream>
 #include <stdexcept>
 #include <string>
 #include <string_view>
@@ -32,9 +33,9 @@ class Color {
 public:
     constexpr Color() = default;
     constexpr explicit Color(std::uint32_t number) : number_(number) {}
-    static constexpr Color fixed(std::uint8_t number) { return Color(SEWARQO_FIXED(number)); }
+    static constexpr Color fixed(std::uint8_t number) { return Color(256u + number); }
     static constexpr Color rgb(std::uint8_t red, std::uint8_t green, std::uint8_t blue) {
-        return Color(SEWARQO_RGB(red, green, blue));
+        return Color(1u << 24 | std::uint32_t{red} << 16 | std::uint32_t{green} << 8 | blue);
     }
     constexpr std::uint32_t number() const { return number_; }
 
@@ -112,26 +113,43 @@ struct Config {
     std::size_t width = 0; // in columns: of the text of a line, which is cut where it is longer. 0 is any
 };
 
-// A picture, and the labels that are left out of it.
+// A picture, and the labels that are left out of it. A stream gets its text.
 struct Picture {
     std::string text;
     std::vector<sewarqo_left_out> left_out;
 };
 
+inline std::ostream &operator<<(std::ostream &out, const Picture &picture) { return out << picture.text; }
+
 // Why there is no picture: a status of sewarqo.h, and the number of the label, the text or the source at
-// fault.
+// fault. A stream gets it in words.
 struct Refusal {
     std::uint32_t status;
     std::size_t number;
+    // In words: "label 2: it ends before it starts".
+    std::string text() const {
+        const std::string part = sewarqo_status_part(status);
+        return (part.empty() ? part : part + ' ' + std::to_string(number) + ": ") + sewarqo_status_text(status);
+    }
 };
 
-// The exception of a refusal that is not for want of memory.
+inline std::ostream &operator<<(std::ostream &out, const Refusal &refusal) { return out << refusal.text(); }
+
+// The offset of a column of a line, both from 1, in characters or in bytes, which columns count too. Lines end
+// at line feeds alone. A column past its line is the line's end, in front of its LF or CR LF. Where the text has
+// no such line it is SIZE_MAX, and a label there is left out. The text is read from its beginning.
+inline std::size_t offset(std::string_view text, std::size_t line, std::size_t column,
+                          bool byte_offsets = false) {
+    const void *bytes = text.data();
+    return sewarqo_offset({static_cast<const std::uint8_t *>(bytes), text.size()}, line, column,
+                          byte_offsets ? SEWARQO_BYTE_OFFSETS : 0);
+}
+
+// The exception of a refusal that is not for want of memory. Its `what` has the refusal in words, behind
+// "sewarqo: ".
 class Error : public std::runtime_error {
 public:
-    explicit Error(Refusal refusal)
-        : std::runtime_error("sewarqo: status " + std::to_string(refusal.status) + " at number "
-                             + std::to_string(refusal.number)),
-          refusal_(refusal) {}
+    explicit Error(Refusal refusal) : std::runtime_error("sewarqo: " + refusal.text()), refusal_(refusal) {}
     Refusal refusal() const noexcept { return refusal_; }
 
 private:
