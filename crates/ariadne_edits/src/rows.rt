@@ -1,0 +1,232 @@
+//! The lines of a source and of the edited text, side by side.
+
+ghost use Rattle.std.specs.Prelude.{◌+◌, ◌<◌, ◌≤◌, ◌^◌, IfOk, IfSome, IsSome, IsTrue, OnOk, length};
+ghost use Rattle.std.specs.Prelude.{chars};
+ghost use Rattle.ariadne_base.specs.Listing.{listed_lines};
+ghost use Rattle.ariadne_edits.specs.Rows.{AreMarked, IsKept, IsLastOf, Tell, TellFirst};
+
+use crate::line::{are_twins, is_terminated, text_of};
+use ariadne_base::Source;
+use std::alloc::{AllocError, Global};
+
+/// How the white space of a line is shown.
+#[derive(Clone, Copy, Debug, PartialEq, Eq)]
+pub enum Blanks {
+    /// As blanks.
+    Plain,
+    /// By signs, since nothing else tells the line from the one that it stands for.
+    Marked,
+}
+
+/// A line of the source, of the edited text, or of both. Lines count from 0.
+#[derive(Clone, Copy, Debug, PartialEq, Eq)]
+pub enum Row {
+    /// This line of the source stands unchanged as that of the edited text.
+    Kept(usize, usize),
+    /// The same, but for the terminator: the last line of one text has none, and in the other further
+    /// lines follow.
+    KeptLast(usize, usize),
+    /// This line of the source is gone.
+    Removed(usize, Blanks),
+    /// This line of the edited text is new.
+    Added(usize, Blanks),
+}
+
+/// The lines that change between two that are kept.
+#[derive(Clone, Copy, Debug)]
+struct Run {
+    /// The first line of the source, and one past the last.
+    old_from: usize,
+    old_to: usize,
+    /// The same of the edited text.
+    new_from: usize,
+    new_to: usize,
+}
+
+/// The rows that tell how the lines of `old` become those of `new`. Of the pairs of lines that may be
+/// kept, those are that are the same and lie behind the last.
+///
+/// On `Err` there was no memory for them.
+pub(crate) fn rows(
+    alloc: Global,
+    old: &Source<&str>,
+    new: &Source<&str>,
+    pairs: &[(usize, usize)],
+) -> Result<Vec<Row>, AllocError>
+    ensures { IfOk result (λ rows. Tell (listed_lines old.now) (listed_lines new.now) rows.items) }
+{
+    let mut rows = Vec::new(alloc);
+    let mut told = (0, 0);
+    for pair in pairs {
+        told = push_pair(alloc, &mut rows, old, new, told, *pair)?;
+    }
+    let run = Run {
+        old_from: told.0,
+        old_to: old.lines().len(),
+        new_from: told.1,
+        new_to: new.lines().len(),
+    };
+    push_run(alloc, &mut rows, old, new, run)?;
+    Ok(rows)
+}
+
+/// Appends the rows up to a pair of lines, if it is kept, behind those of the first lines of both. Gives
+/// how many lines are told then.
+fn push_pair(
+    alloc: Global,
+    rows: &mut Vec<Row>,
+    old: &Source<&str>,
+    new: &Source<&str>,
+    told: (usize, usize),
+    pair: (usize, usize),
+) -> Result<(usize, usize), AllocError>
+    requires there { told.0 ≤ length (listed_lines old.now) }
+    requires new_there { told.1 ≤ length (listed_lines new.now) }
+    ensures there { IfOk result (λ next. next.0 ≤ length (listed_lines old.now)) }
+    ensures new_there { IfOk result (λ next. next.1 ≤ length (listed_lines new.now)) }
+    ensures told { let TellTo = TellFirst (listed_lines old.now) (listed_lines new.now) in
+        IfOk result (λ next. TellTo told.0 told.1 rows.old.items
+        → TellTo next.0 next.1 rows.new.items) }
+{
+    let (old_from, new_from) = told;
+    let (old_to, new_to) = pair;
+    if old_to < old_from || new_to < new_from {
+        return Ok(told);
+    }
+    match kept(old, old_to, new, new_to) {
+        None => Ok(told),
+        Some(row) => {
+            let run = Run {
+                old_from,
+                old_to,
+                new_from,
+                new_to,
+            };
+            push_run(alloc, rows, old, new, run)?;
+            rows.push(row)?;
+            Ok((old_to + 1, new_to + 1))
+        }
+    }
+}
+
+/// The row of a line of the source that is kept as one of the edited text, if it is the same.
+fn kept(old: &Source<&str>, i: usize, new: &Source<&str>, j: usize) -> Option<Row>
+    ensures kept { IfSome result (IsKept (listed_lines old.now) (listed_lines new.now) i j) }
+    ensures fits { IsSome result → (i + 1 < 2 ^ 64) × (j + 1 < 2 ^ 64) }
+{
+    if old.lines().len() <= i || new.lines().len() <= j {
+        None
+    } else if text_of(old, i) == text_of(new, j) {
+        Some(Row::Kept(i, j))
+    } else if is_last_of(old, i, new, j) || is_last_of(new, j, old, i) {
+        Some(Row::KeptLast(i, j))
+    } else {
+        None
+    }
+}
+
+/// Whether line `i` is the last of a text, and stands without a terminator as line `j` of another,
+/// where a terminator and further lines follow.
+fn is_last_of(bare: &Source<&str>, i: usize, whole: &Source<&str>, j: usize) -> bool
+    requires there { i < length (listed_lines bare.now) }
+    requires other { j < length (listed_lines whole.now) }
+    ensures { IsTrue result → IsLastOf (listed_lines bare.now) (listed_lines whole.now) i j }
+{
+    let bare_len = bare.lines().len();
+    let whole_len = whole.lines().len();
+    i + 1 == bare_len && j + 1 < whole_len && is_terminated(text_of(bare, i), text_of(whole, j))
+}
+
+/// Appends the rows of lines that change: first those of the source, then those of the edited text.
+fn push_run(
+    alloc: Global,
+    rows: &mut Vec<Row>,
+    old: &Source<&str>,
+    new: &Source<&str>,
+    run: Run,
+) -> Result<(), AllocError>
+    requires old_rise { run.old_from ≤ run.old_to }
+    requires new_rise { run.new_from ≤ run.new_to }
+    requires old_there { run.old_to ≤ length (listed_lines old.now) }
+    requires new_there { run.new_to ≤ length (listed_lines new.now) }
+    ensures { let TellTo = TellFirst (listed_lines old.now) (listed_lines new.now) in
+        OnOk result (TellTo run.old_from run.new_from rows.old.items
+        → TellTo run.old_to run.new_to rows.new.items) }
+{
+    push_removed(alloc, rows, old, new, run)?;
+    push_added(alloc, rows, old, new, run)
+}
+
+/// Appends that the lines of the source are gone.
+fn push_removed(
+    alloc: Global,
+    rows: &mut Vec<Row>,
+    old: &Source<&str>,
+    new: &Source<&str>,
+    run: Run,
+) -> Result<(), AllocError>
+    requires rise { run.old_from ≤ run.old_to }
+    requires there { run.new_to ≤ length (listed_lines new.now) }
+    ensures { let TellTo = TellFirst (listed_lines old.now) (listed_lines new.now) in
+        OnOk result (TellTo run.old_from run.new_from rows.old.items
+        → TellTo run.old_to run.new_from rows.new.items) }
+{
+    for i in run.old_from..run.old_to {
+        let twin = twin_of(i - run.old_from, run.new_from, run.new_to);
+        let blanks = blanks_of(alloc, text_of(old, i), new, twin)?;
+        rows.push(Row::Removed(i, blanks))?;
+    }
+    Ok(())
+}
+
+/// Appends that the lines of the edited text are new.
+fn push_added(
+    alloc: Global,
+    rows: &mut Vec<Row>,
+    old: &Source<&str>,
+    new: &Source<&str>,
+    run: Run,
+) -> Result<(), AllocError>
+    requires rise { run.new_from ≤ run.new_to }
+    requires there { run.old_to ≤ length (listed_lines old.now) }
+    ensures { let TellTo = TellFirst (listed_lines old.now) (listed_lines new.now) in
+        OnOk result (TellTo run.old_to run.new_from rows.old.items
+        → TellTo run.old_to run.new_to rows.new.items) }
+{
+    for j in run.new_from..run.new_to {
+        let twin = twin_of(j - run.new_from, run.old_from, run.old_to);
+        let blanks = blanks_of(alloc, text_of(new, j), old, twin)?;
+        rows.push(Row::Added(j, blanks))?;
+    }
+    Ok(())
+}
+
+/// The line of the other text that stands at the same place of a run, if there are so many.
+fn twin_of(place: usize, from: usize, to: usize) -> Option<usize>
+    ensures { IfSome result (λ number. number < to) }
+{
+    let number = from.checked_add(place)?;
+    if number < to { Some(number) } else { None }
+}
+
+/// How the white space of a line is shown that stands for one of another text, if it does.
+fn blanks_of(
+    alloc: Global,
+    line: &str,
+    other: &Source<&str>,
+    twin: Option<usize>,
+) -> Result<Blanks, AllocError>
+    requires { IfSome twin (λ number. number < length (listed_lines other.now)) }
+    ensures { IfOk result (λ blanks. AreMarked blanks (chars line.now) (listed_lines other.now)) }
+{
+    match twin {
+        Some(number) => {
+            if are_twins(alloc, line, text_of(other, number))? {
+                Ok(Blanks::Marked)
+            } else {
+                Ok(Blanks::Plain)
+            }
+        }
+        None => Ok(Blanks::Plain),
+    }
+}

@@ -1,0 +1,186 @@
+//! Suggestions: which lines change before and after, and which edits are refused.
+
+ghost use Rattle.std.specs.Prelude.{◌<◌};
+
+use ariadne::{IndexType, Source};
+use ariadne_edits::{BadEdit, Edit, EditError, edited, suggestion};
+use ariadne_fakes::{refuse, was_refused};
+use std::process::Abort;
+
+/// More than one suggestion takes.
+const MOST_REQUESTS: usize = 1000;
+
+/// An edit of a piece from a start to before an end.
+type Piece = (usize, usize, &'static str);
+
+/// A program.
+const RUST: &str =
+    "fn main() {\n    let names = vec![1];\n    let first = take(names);\n    print(names);\n}\n";
+
+/// Sources, each with edits and what the help says.
+const SHOWN: &[(&str, &[Piece], &str)] = &[
+    (
+        RUST,
+        &[(58, 58, "&")],
+        "3 -     let first = take(names);\n3 +     let first = take(&names);",
+    ),
+    // whole lines put in, in front of a line and behind the characters of one
+    (RUST, &[(0, 0, "use std::mem;\n")], "1 + use std::mem;"),
+    (RUST, &[(36, 36, "\n    let n = 1;")], "3 +     let n = 1;"),
+    // a line removed, and a name replaced below it
+    (
+        RUST,
+        &[(76, 81, "first"), (37, 66, "")],
+        "3 -     let first = take(names);\n4 -     print(names);\n3 +     print(first);",
+    ),
+    // an edit that repeats what stands there is trimmed
+    ("a\nb\nc\n", &[(0, 6, "a\nB\nc\n")], "2 - b\n2 + B"),
+    // numbers and runs
+    (
+        "1\n2\n3\n4\n5\n6\n7\n8\n9\n10\n",
+        &[(16, 17, "IX\nIXb"), (0, 1, "one")],
+        " 1 - 1\n 1 + one\n...\n 9 - 9\n 9 + IX\n10 + IXb",
+    ),
+    // two insertions at one place, and one in front of a replacement
+    ("ab\n", &[(1, 1, "1"), (1, 1, "2")], "1 - ab\n1 + a12b"),
+    ("ab\n", &[(1, 2, "X"), (1, 1, "2")], "1 - ab\n1 + a2X"),
+    // the last line has no terminator
+    ("a\nb", &[(3, 3, "\nc")], "3 + c"),
+    ("a\nb", &[(1, 3, "")], "2 - b"),
+    ("a\nb", &[(3, 3, "\n")], "2 - b\n2 + b\u{240a}"),
+    // what ends a line, tabs, and what is hidden
+    (
+        "a\r\nb\r\n",
+        &[(1, 2, "")],
+        "1 - a\u{240d}\u{240a}\n1 + a\u{240a}",
+    ),
+    (
+        "a\rb\rc",
+        &[(2, 2, "\n")],
+        "1 - a\u{240d}\n1 + a\u{240d}\u{240a}",
+    ),
+    ("\tx\u{2028}", &[(1, 2, "y\tz")], "1 -     x\n1 +     y   z"),
+    ("a\n", &[(0, 1, "\u{1b}[31m")], "1 - a\n1 + \u{241b}[31m"),
+    (
+        "x = 1  \n",
+        &[(5, 7, "")],
+        "1 - x\u{b7}=\u{b7}1\u{b7}\u{b7}\u{240a}\n1 + x\u{b7}=\u{b7}1\u{240a}",
+    ),
+    // no line changes, or none is left
+    ("a\nb\n", &[(0, 1, "a")], ""),
+    ("a\n", &[(0, 2, "")], "1 - a\n1 + "),
+];
+
+/// The edits of pieces.
+fn edits_of(rt: &(impl Abort + AllocGlobal), pieces: &[Piece]) -> Vec<Edit> {
+    let mut edits = Vec::new(rt.alloc());
+    for (start, end, text) in pieces {
+        let text = String::from_str(rt.alloc(), *text).expect(rt, "memory");
+        edits
+            .push(Edit {
+                span: *start..*end,
+                text,
+            })
+            .expect(rt, "memory");
+    }
+    edits
+}
+
+/// What a help says of edits, or an empty text where they are refused.
+fn help_of(rt: &(impl Abort + AllocGlobal), text: &str, pieces: &[Piece]) -> String {
+    let source = Source::from(rt.alloc(), text).expect(rt, "memory");
+    let edits = edits_of(rt, pieces);
+    match suggestion(rt.alloc(), &source, IndexType::Char, 4, edits.as_slice()) {
+        Ok(help) => help,
+        Err(_) => String::new(rt.alloc()),
+    }
+}
+
+#[test]
+fn lines_are_shown_before_and_after(rt: HostRuntime) {
+    for (text, pieces, want) in SHOWN {
+        assert_eq!(rt; help_of(&rt, *text, *pieces).as_str(), *want, "{text:?}");
+    }
+}
+
+#[test]
+fn numbers_have_the_display_offset(rt: HostRuntime) {
+    let source = Source::from(rt.alloc(), "a\nb\n").expect(&rt, "memory");
+    assert!(rt; source.lines().len() < 9);
+    let source = source.with_display_line_offset(8);
+    let edits = edits_of(&rt, &[(0, 1, "A"), (2, 3, "B")]);
+    let help = suggestion(rt.alloc(), &source, IndexType::Byte, 4, edits.as_slice());
+    let want = " 9 - a\n10 - b\n 9 + A\n10 + B";
+    assert_eq!(rt; help.ok().map(|it| it.as_str() == want), Some(true));
+}
+
+/// Texts and edits that are refused, by what their offsets count, and why.
+const REFUSED: &[(&str, IndexType, &[Piece], BadEdit)] = &[
+    (
+        "abc",
+        IndexType::Char,
+        &[(0, 9, ""), (2, 1, "")],
+        BadEdit::Reversed(1),
+    ),
+    (
+        "abc",
+        IndexType::Char,
+        &[(1, 9, ""), (0, 2, "")],
+        BadEdit::Overlaps(0),
+    ),
+    (
+        "é",
+        IndexType::Char,
+        &[(0, 1, ""), (1, 2, "")],
+        BadEdit::PastSource(1),
+    ),
+    (
+        "é",
+        IndexType::Byte,
+        &[(0, 2, ""), (2, 3, "")],
+        BadEdit::PastSource(1),
+    ),
+    (
+        "é",
+        IndexType::Byte,
+        &[(1, 2, "")],
+        BadEdit::CutsCharacter(0),
+    ),
+];
+
+#[test]
+fn faulty_edits_are_told_by_number(rt: HostRuntime) {
+    for (text, counts, pieces, want) in REFUSED {
+        let edits = edits_of(&rt, *pieces);
+        let found = match edited(rt.alloc(), *text, *counts, edits.as_slice()) {
+            Err(EditError::Refused(bad)) => Some(bad),
+            _ => None,
+        };
+        assert_eq!(rt; found, Some(*want), "{text:?}");
+    }
+}
+
+/// Asserts that a suggestion tells whether its nth request for memory was refused. Returns whether
+/// it was made.
+fn is_made_without(rt: &(impl Abort + AllocGlobal), nth: usize) -> bool
+    requires { nth < 100000 }
+{
+    let source = Source::from(rt.alloc(), "a\nb\n").expect(rt, "memory");
+    let edits = edits_of(rt, &[(2, 3, "B"), (0, 1, " a")]);
+    refuse(rt.alloc(), nth);
+    let help = suggestion(rt.alloc(), &source, IndexType::Char, 4, edits.as_slice());
+    let is_refused = was_refused(rt.alloc());
+    let is_memory = matches!(help, Err(EditError::Memory(_)));
+    assert_eq!(rt; (nth, is_memory), (nth, is_refused));
+    !is_refused
+}
+
+#[test]
+fn a_refused_request_of_a_suggestion_is_its_error(rt: HostRuntime) {
+    for nth in 1..MOST_REQUESTS {
+        if is_made_without(&rt, nth) {
+            return;
+        }
+    }
+    panic!(rt; "every request was refused")
+}
