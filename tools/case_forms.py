@@ -105,6 +105,7 @@ CASE = {
     "cache": CACHE,
     "labels": TABLES,
     "helps": TEXTS,
+    "edits": TABLES,
     "notes": TEXTS,
     "painted": list_of(is_color, "of colours"),
     "settings": TABLE,
@@ -131,6 +132,7 @@ SETTINGS = {
     "char_set": words("Unicode", "Ascii"),
     "index_type": words("Char", "Byte"),
 }
+EDIT = {"at": TEXT, "text": TEXT}
 SOURCE = {"id": TEXT, "text": TEXT, "line_offset": COUNT}
 LABEL = {"at": WHERE, "id": TEXT, "message": TEXT, "color": COLOR, "order": NUMBER, "priority": NUMBER}
 # Members that don't stand together: one, another, and what the first is beside that.
@@ -180,6 +182,9 @@ def check_tables(case):
     for label in case.get("labels", []):
         check(label, LABEL)
         check_has(label, "at")
+    for edit in case.get("edits", []):
+        check(edit, EDIT)
+        check_has(edit, "at")
     check(case.get("settings", {}), SETTINGS)
 
 

@@ -134,6 +134,7 @@ def members_told(name, report):
         **sources_of(report),
         labels=[label_of(label) for label in report["labels"]],
         helps=report.get("helps"),
+        edits=report.get("edits"),
         notes=report.get("notes"),
         settings=report["config"],
         takes=report.get("takes"),

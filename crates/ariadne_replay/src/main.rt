@@ -21,6 +21,7 @@ mod running;
 mod safely;
 mod sending;
 mod stored;
+mod suggesting;
 mod telling;
 
 use running::replay;

@@ -1,10 +1,11 @@
 //! The report and the sources of a case, made with the public calls.
 
-ghost use Rattle.std.specs.Prelude.{◌+◌, ◌<◌, ◌^◌};
+ghost use Rattle.std.specs.Prelude.{◌+◌, ◌<◌, ◌≤◌, ◌^◌};
 
 use crate::colors::color_of;
 use crate::members::{color, count, list, number, switch, text, text_of, word};
 use crate::offsets::Placed;
+use crate::suggesting::add_suggestion;
 use ariadne::{
     CharSet, Config, Fmt, IndexType, Label, LabelAttach, Report, ReportBuilder, ReportKind, Source,
     Span,
@@ -39,6 +40,15 @@ static CHAR_SETS: [(&str, CharSet); 2] = [("Unicode", CharSet::Unicode), ("Ascii
 
 /// What the offsets of a case count.
 static INDEX_TYPES: [(&str, IndexType); 2] = [("Byte", IndexType::Byte), ("Char", IndexType::Char)];
+
+/// How many columns stand from one tab stop to the next.
+pub fn tab_width_of(case: &Value) -> usize
+    ensures { 1 ≤ result }
+{
+    let told = case.get("settings").unwrap_or(case);
+    let tab_width = count(told, "tab_width").unwrap_or(4) as usize;
+    tab_width.max(1)
+}
 
 /// The settings of a case that are switches or numbers. They are plain where it tells nothing else, and
 /// otherwise the default ones.
@@ -184,6 +194,7 @@ fn add_parts<S: Placed>(
 ) -> Result<(), AllocError> {
     set_message(builder, case)?;
     add_helps(builder, list(case, "helps"))?;
+    add_suggestion(alloc, builder, case)?;
     add_notes(builder, list(case, "notes"))?;
     add_labels(alloc, builder, case)?;
     add_painted(alloc, builder, case)

@@ -1,0 +1,203 @@
+"""A model of `ariadne_edits`: which edits are refused, and the help that shows those which are made."""
+
+from dataclasses import dataclass
+from itertools import accumulate, groupby
+
+from attacks import is_hidden, sign
+from report_model import WHITE_SPACE, Source, columns_of
+
+# What stands for white space that has no sign of its own, where white space is shown by signs.
+BLANK, OTHER_BLANK = "\u00b7", "\u2423"
+SEPARATORS = "\n\r\x0b\x0c\x85\u2028\u2029"
+LAST_NUMBER = 2**64 - 1
+
+
+@dataclass(frozen=True)
+class Edit:
+    """What stands in place of a piece of a text. Offsets count characters or bytes."""
+
+    start: int
+    end: int
+    text: str
+
+
+@dataclass(frozen=True)
+class Row:
+    """A line that is removed (`-`) or added (`+`), and whether its white space is shown by signs."""
+
+    sign: str
+    number: int
+    line: str
+    is_marked: bool
+
+
+def in_order(edits):
+    """The edits with their numbers, by their spans."""
+    return sorted(enumerate(edits), key=lambda it: (it[1].start, it[1].end, it[0]))
+
+
+def refusal(text, is_bytes, edits):
+    """Why edits are refused, as the library's error is printed, or None."""
+    size = len(text.encode() if is_bytes else text)
+    whole = {0, *accumulate(len(it.encode()) for it in text)}
+    ordered = in_order(edits)
+    ends = [0, *(it.end for _, it in ordered)]
+    reasons = (
+        ("Reversed", [number for number, it in ordered if it.end < it.start]),
+        ("Overlaps", [number for (number, it), end in zip(ordered, ends) if it.start < end]),
+        ("PastSource", [number for number, it in ordered if it.end > size]),
+        ("CutsCharacter", [number for number, it in ordered if is_bytes and not {it.start, it.end} <= whole]),
+    )
+    return next((f"{reason}({numbers[0]})" for reason, numbers in reasons if numbers), None)
+
+
+def in_bytes(text, is_bytes, edits):
+    """Edits that are made, in order, each as its bytes."""
+    places = range(LAST_NUMBER) if is_bytes else [0, *accumulate(len(it.encode()) for it in text)]
+    return [(places[it.start], places[it.end], it.text.encode()) for _, it in in_order(edits)]
+
+
+def edited(old, changes):
+    """The bytes that changes make of others."""
+    out, at = b"", 0
+    for start, end, new in changes:
+        out, at = out + old[at:start] + new, end
+    return out + old[at:]
+
+
+def common(one, other):
+    """How many bytes two texts have in common in front."""
+    return next((at for at, (a, b) in enumerate(zip(one, other)) if a != b), min(len(one), len(other)))
+
+
+def trimmed(old, change):
+    """A change without what it has in common with what it replaces."""
+    start, end, new = change
+    front = common(old[start:end], new)
+    back = common(old[start + front : end][::-1], new[front:][::-1])
+    return start + front, end - back, new[front : len(new) - back]
+
+
+def stays(old, changes):
+    """The pieces that changes leave: where each begins and ends, and where it begins in the edited text."""
+    start = to = 0
+    for change in changes:
+        end, behind, new = trimmed(old, change)
+        yield start, end, to
+        start, to = behind, to + end - start + len(new)
+    yield start, len(old), to
+
+
+def begins_of(lines):
+    """The byte at which each line begins, and the end."""
+    return [0, *accumulate(len(line.encode()) for line in lines)]
+
+
+def is_same(olds, i, news, j):
+    """Whether a line is kept as another: it is the same, or the last one lacks its terminator alone."""
+    last = i + 1 == len(olds) and j + 1 < len(news) and news[j].startswith(olds[i])
+    first = j + 1 == len(news) and i + 1 < len(olds) and olds[i].startswith(news[j])
+    rest = news[j][len(olds[i]) :] if last else olds[i][len(news[j]) :] if first else "x"
+    return olds[i] == news[j] or all(it in SEPARATORS for it in rest)
+
+
+def kept(olds, news, pieces):
+    """The pairs of lines that are kept, of those that begin at the same byte of a piece that stays."""
+    begins = {begin: j for j, begin in enumerate(begins_of(news)[:-1])}
+    i = j = 0
+    for line, begin in enumerate(begins_of(olds)[:-1]):
+        for start, end, to in pieces:
+            at = begins.get(to + begin - start) if start <= begin <= end else None
+            if at is not None and line >= i and at >= j and is_same(olds, line, news, at):
+                yield line, at
+                i, j = line + 1, at + 1
+
+
+def seen(line):
+    """What is seen of a line: its characters but for white space."""
+    return [it for it in line if it not in WHITE_SPACE]
+
+
+def run_of(olds, i, news, j):
+    """The rows of lines that change, which are numbered from these on."""
+    twins = [seen(old) == seen(new) for old, new in zip(olds, news)] + [False] * max(len(olds), len(news))
+    yield from (Row("-", i + at, line, twins[at]) for at, line in enumerate(olds))
+    yield from (Row("+", j + at, line, twins[at]) for at, line in enumerate(news))
+
+
+def rows_of(olds, news, pieces):
+    """Each row that is drawn, and None where lines are kept."""
+    i = j = 0
+    for before, after in [*kept(olds, news, pieces), (len(olds), len(news))]:
+        yield from run_of(olds[i:before], i, news[j:after], j)
+        yield None
+        i, j = before + 1, after + 1
+
+
+def spread(line, tab_width):
+    """A line without what ends it, with blanks for its tabs, and signs for what is hidden."""
+    shown, column = "", 0
+    for it in line:
+        if it == "\t":
+            blanks = tab_width - column % tab_width
+            shown, column = shown + " " * blanks, column + blanks
+        elif it not in SEPARATORS:
+            it = sign(it) if is_hidden(it) else it
+            shown, column = shown + it, column + columns_of(it)
+    return shown
+
+
+def mark(it):
+    """What stands for a character where white space is shown by signs."""
+    if is_hidden(it):
+        return sign(it)
+    return BLANK if it == " " else OTHER_BLANK if it in WHITE_SPACE else it
+
+
+def drawn(rows, offset, tab_width):
+    """The text of rows. Where lines are kept between two of them, `...` stands for these."""
+    numbers = [min(offset + row.number + 1, LAST_NUMBER) for row in rows if row]
+    width = max(map(len, map(str, numbers)), default=1)
+    lines = []
+    for is_drawn, group in groupby(rows, bool):
+        if not is_drawn:
+            lines.append("...".rjust(width))
+        for row in group if is_drawn else ():
+            number = str(min(offset + row.number + 1, LAST_NUMBER)).rjust(width)
+            body = "".join(map(mark, row.line)) if row.is_marked else spread(row.line, tab_width)
+            lines.append(f"{number} {row.sign} {body}")
+    first = 1 if rows and rows[0] is None else 0
+    return "\n".join(lines[first:-1])
+
+
+def untouched(olds, changes):
+    """The numbers of the lines that no change meets, nor their borders."""
+    begins = begins_of(olds)
+    pieces = list(zip(begins, begins[1:]))
+    return {
+        line
+        for line, (begin, end) in enumerate(pieces)
+        if all(behind < begin or end < start for start, behind, _ in changes)
+    }
+
+
+def help_of(source, is_bytes, tab_width, edits):
+    """The help that shows edits of a source, or why they are refused.
+
+    The rows are right by themselves, however they were found: the source's lines without the removed ones
+    and with the added ones are those of the edited text, and no line that is untouched is removed.
+    """
+    text = source["text"]
+    refused = refusal(text, is_bytes, edits)
+    if refused:
+        return refused
+    old, changes = text.encode(), in_bytes(text, is_bytes, edits)
+    after = edited(old, changes).decode()
+    olds, news = Source(source).lines, Source({"text": after, "offset": 0}).lines
+    rows = list(rows_of(olds, news, list(stays(old, changes))))
+    removed = {row.number for row in rows if row and row.sign == "-"}
+    added = {row.number for row in rows if row and row.sign == "+"}
+    left = [line.rstrip(SEPARATORS) for at, line in enumerate(olds) if at not in removed]
+    assert left == [line.rstrip(SEPARATORS) for at, line in enumerate(news) if at not in added]
+    assert not removed & untouched(olds, [trimmed(old, it) for it in changes])
+    return drawn(rows, source["offset"], tab_width)
