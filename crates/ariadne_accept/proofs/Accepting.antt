@@ -63,20 +63,16 @@ within_test n start end h k = grind (arith, nat_tests)
 
 -- a label from start to end, where offsets count as the index type says, and the source is so long in them
 module _ {S : Type 0} (config : ConfigFields) (source : Listing) (k : ℕ) (label : LabelFields S) (start end : ℕ) (index : IndexType) (size first last : ℕ)
-    (counts : index ≡ config.index_type) (sized : size ≡ text_len index (chars source.text)) (starts : first ≡ start) (ends : last ≡ end) where
+    (counts : index ≡ config.index_type) (sized : size ≡ text_len config.index_type (chars source.text)) (starts : first ≡ start) (ends : last ≡ end) where
   -- the source in characters
   abbrev text : List ℕ
   text = chars source.text
 
-  -- the size that the verdict compares with
-  size_is : size ≡ text_len config.index_type text
-  size_is = sized ∙ ap (λ i. text_len i text) counts
-
   -- an end is past the source
   pub verdict_past : (size < first) ⊎ (1 < last - size) → PastSource ≡ verdict config source k label start end
   unfolding verdict
-  verdict_past (inl h) = let e = size_is in let test = past_test (text_len config.index_type text) start end (inl (omega arith)) in rw test refl
-  verdict_past (inr h) = let e = size_is in let test = past_test (text_len config.index_type text) start end (inr (omega arith)) in rw test refl
+  verdict_past (inl h) = let e = sized in let test = past_test (text_len config.index_type text) start end (inl (omega arith)) in rw test refl
+  verdict_past (inr h) = let e = sized in let test = past_test (text_len config.index_type text) start end (inr (omega arith)) in rw test refl
 
   module _ (low : first ≤ size) (high : last - size ≤ 1) where
     -- none is, so both ends in characters decide
@@ -84,7 +80,7 @@ module _ {S : Type 0} (config : ConfigFields) (source : Listing) (k : ℕ) (labe
         (offset_in_chars index text (min last size)) ≡ verdict config source k label start end
     unfolding verdict
     verdict_inside =
-        let e = size_is in
+        let e = sized in
         let test = within_test (text_len config.index_type text) start end (omega arith) (omega arith) in
         rw (test, ← starts, ← ends, ← e, ← counts) refl
 
@@ -119,7 +115,8 @@ module _ {S : Type 0} (config : ConfigFields) (source : Listing) (k : ℕ) (labe
         -- then they are in order, and behind characters of the source
         pub ends_in_order : start ≤ end → (n ≤ m) × (m ≤ length text)
         ends_in_order forward =
-            offset-order index text first stop n m (omega arith) (omega arith) (sym some) (sym also)
+            let e : size ≡ text_len index text = sized ∙ ap (λ i. text_len i text) (sym counts) in
+            offset-order index text first stop n m (omega (arith, e)) (omega (arith, e)) (sym some) (sym also)
 
 -- ---- results of calls
 

@@ -173,10 +173,11 @@ fn judge_alike<S: Span, C: Cache<S::SourceId>>(
         judged.new.left_out.items judged.new.infos.items) }
 {
     let id = report.labels[first].span().source();
+    let size = text_len(report.config.index_type(), source);
     let mut known = Known::START;
     let mut position = first;
     loop {
-        judge_held::<S, C>(report, source, &mut known, judged, position)?;
+        judge_held::<S, C>(report, source, size, &mut known, judged, position)?;
         position += 1;
         if position == report.labels.len() || *report.labels[position].span().source() != *id {
             return Ok(position);
@@ -186,16 +187,18 @@ fn judge_alike<S: Span, C: Cache<S::SourceId>>(
 
 /// Judges the label at `position` of a report over its source, which is held.
 ///
-/// `known` is a place of that source, and is one afterwards. On `Err` there was no memory for the
-/// label.
+/// `size` is the length of that source in what offsets count. `known` is a place of it, and is one
+/// afterwards. On `Err` there was no memory for the label.
 fn judge_held<S: Span, C: Cache<S::SourceId>>(
     report: &Content<'_, S>,
     source: &Source<C::Storage>,
+    size: usize,
     known: &mut Known,
     judged: &mut Judged<C::Error>,
     position: usize,
 ) -> Result<(), AllocError>
     requires position { position < length report.now.labels }
+    requires size { size ≡ counted_len report.now.config.index_type (chars source.now.text) }
     requires known { IsKnown source.now.text known.old }
     ensures known { IsKnown source.now.text known.new }
     ensures judged { (start_names names : S.SourceId → Option (List ℕ))
@@ -214,6 +217,7 @@ fn judge_held<S: Span, C: Cache<S::SourceId>>(
     match judge(
         report.config,
         source,
+        size,
         known,
         position,
         &report.labels[position],
@@ -225,25 +229,26 @@ fn judge_held<S: Span, C: Cache<S::SourceId>>(
     Ok(())
 }
 
-/// Judges the label at `position` of a report, whose source is held.
+/// Judges the label at `position` of a report, whose source is held and has this size.
 ///
 /// The offset one past the end of the source is taken as its end, since a parser that runs out of
 /// input points there. Characters are counted on from `known`, which is then where the label ends.
 fn judge<S: Span, I: SourceText>(
     config: Config,
     source: &Source<I>,
+    size: usize,
     known: &mut Known,
     position: usize,
     label: &Label<S>,
 ) -> Verdict
-    requires { IsKnown source.now.text known.old }
+    requires size { size ≡ counted_len config.index_type (chars source.now.text) }
+    requires known { IsKnown source.now.text known.old }
     ensures known { IsKnown source.now.text known.new }
     ensures forward { S.start_of label.now.span ≤ S.end_of label.now.span }
     ensures verdict { result ≡ verdict config source.now position label.now
         (S.start_of label.now.span) (S.end_of label.now.span) }
 {
     let index_type = config.index_type();
-    let size = text_len(index_type, source);
     let start = label.span().start();
     let end = label.span().end();
     if start > size || end.saturating_sub(size) > 1 {

@@ -1,7 +1,9 @@
 -- Labels of equal ids have one source.
 use Rattle.std.proofs.Common.{◌≡◌, ◌∙◌, ◌+◌, ◌<◌, ap, arith, get_or, length, subst, sym, Some}
+use Rattle.std.specs.Prelude.{chars}
 use Rattle.std.proofs.lemmas.Option.{slice_get-get_or}
 use Rattle.ariadne_base.specs.Cache.{held}
+use Rattle.ariadne_picture.specs.Accept.{text_len}
 use Rattle.ariadne_picture.specs.Report.{LabelFields, ReportFields}
 use Rattle.ariadne_accept.proofs.Judging.{source_alike, was_equal}
 use Rattle.ariadne_accept.proofs.KnownPlaces.{start_known}
@@ -15,6 +17,12 @@ loop-position-init g c = record {
   known = start_known c.args.source.now.text;
   so_far = λ start_names names start_contents contents early at_first. (at_first, λ s. s);
 }
+
+-- its source has the size that was found
+pub judge_held-requires-clause-size : goal.judge_held-requires-clause-size
+judge_held-requires-clause-size g c =
+    c.text_len-size.ensures
+    ∙ ap (λ t. text_len t (chars c.args.source.now.text)) (c.index_type.ensures ∙ ap (λ (r : ReportFields g.row.S.Denot). r.config.index_type) c.report.view_is)
 
 -- one label more is judged, and the next one has an equal id
 pub loop-position-preserved : goal.loop-position-preserved

@@ -1,8 +1,15 @@
 -- The label joins those that are drawn, or those that are left out.
 use Rattle.std.proofs.Common.{◌≡◌, ◌∙◌, ap, sym}
+use Rattle.std.specs.Prelude.{chars}
+use Rattle.ariadne_picture.specs.Accept.{text_len}
 use Rattle.ariadne_picture.specs.Report.{ReportFields}
 use Rattle.ariadne_accept.proofs.Judging.{so_far_accepted, so_far_past, so_far_cuts}
 use Rattle.ariadne_accept.proofs.accept.judge_held.Goals as goal
+
+-- its source has this size
+pub judge-requires-clause-size : goal.judge-requires-clause-size
+judge-requires-clause-size g c =
+    c.requires.size ∙ ap (λ (r : ReportFields g.row.S.Denot). text_len r.config.index_type (chars c.args.source.now.text)) (sym c.report.view_is)
 
 -- it is accepted
 pub returns-in_ok-push-in-Accepted-clause-judged : goal.returns-in_ok-push-in-Accepted-clause-judged
