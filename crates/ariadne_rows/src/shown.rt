@@ -71,6 +71,8 @@ fn push_characters(
 }
 
 /// Writes what is seen of a cut line, in the colours that there are.
+#[cold]
+#[inline(never)]
 fn push_cut_characters(
     pen: &mut Pen<'_>,
     layout: &LineLayout<'_>,
@@ -252,6 +254,7 @@ fn paint_of(position: Option<usize>) -> Paint
 
 /// Writes the shown character at `place`, a tab as blanks and other white space as one. Columns are
 /// counted where there is a tab. On `Err` there was no memory for it, or none holds so many columns.
+#[inline(always)]
 fn push_char(
     pen: &mut Pen<'_>,
     counted: &mut Counted<'_>,
