@@ -335,7 +335,7 @@ def message_and_code(words):
 class Compiler(Reader):
     """What gcc, clang, clang-tidy and cppcheck have in common: heads, fronts and lines of other roles."""
 
-    FRONTS, GOES_ON = (INCLUDED, FROM, REQUIRED), None
+    FRONTS = (INCLUDED, FROM, REQUIRED)
     SCOPE = re.compile(r"[^\s:][^:]*: (?:In|At) .*:$")
     SUM = re.compile(r"\d+ (?:warning|error)s?(?: and \d+ errors?)? generated\.$")
 
@@ -345,8 +345,6 @@ class Compiler(Reader):
             return self.take_placeless()
         message, code = message_and_code(match["words"])
         told = self.begin(match["kind"], code, message, name, match["line"], match["column"])
-        if self.GOES_ON and self.GOES_ON.match(match["words"]):
-            told.kind, told.code, told.message = "note", None, message.strip()
         self.take_ranges(told, match["ranges"])
         while self.is_detail(told):
             told.details.append(self.row().strip())
@@ -409,8 +407,6 @@ class Gcc(Compiler):
     # A second event at a mark has no bar of its own, and one at no place is told behind a bar alone.
     EVENT = re.compile(r"\(\d+\) ")
     EVENT_ALONE = re.compile(r" (\(\d+\): .*)$")
-    # g++ goes on with what a head says in further heads of its kind and code.
-    GOES_ON = re.compile(r"  \S.* \[-Wreorder\]$")
     has_events = False
 
     def column(self, told, column):

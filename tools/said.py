@@ -100,7 +100,6 @@ TEXTS = {
     "gcc_narrow": Text("gcc", ("gcc", *NARROW), ("corpus/narrow/*.c",), DISPLAY),
     "clang_narrow": Text("clang", ("clang", *NARROW), ("corpus/narrow/*.c",)),
     "gcc_unplaced": Text("gcc", PATHS, ("corpus/unplaced/*.c",), DISPLAY),
-    "gxx_reorder": Text("gcc", (*GXX, "{}"), ("corpus/reorder/*.cpp",), DISPLAY),
     "clang_unfiled": Text("clang", UNFILED, ("corpus/unfiled/*.c",)),
     "clang_asides": Text("clang", (*CLANG, "-Wimplicit-fallthrough", "{}"), ("corpus/asides/*.c",)),
     "clang_spaced": Text("clang ranges", (*CLANG, RANGES[0], "{}"), ("corpus/spaced/*.c",)),
