@@ -598,14 +598,24 @@ class Javac(Reader):
             return False
         told = self.begin(match["kind"], match["code"], match["words"], name, match["line"], None)
         line = self.files.line(told.path, told.line).rstrip()
-        if self.row().rstrip() not in (line, line.encode("ascii", "replace").decode()):
-            raise ValueError(f"line {self.at + 1} of the text quotes no line")
-        told.column = self.rows[self.at + 1].index("^") + 1
+        told.column = self.character(line, self.row().rstrip(), self.rows[self.at + 1].index("^")) + 1
         self.at += 2
         while self.row().startswith("  "):
             told.details.append(self.row().strip())
             self.at += 1
         return self.keep(told)
+
+    def character(self, line, row, column):
+        """The number of the character in a column of the row that quotes a line, both from 0: javac counts units of
+        UTF-16, and writes `?` for a character that it can't write. Of a file that it reads as ASCII it has `?` for
+        each byte that is none."""
+        units = [(it, len(it.encode("utf-16-le")) // 2) for it in line]
+        as_bytes = [(it if it.isascii() else "?" * len(it.encode()), len(it.encode())) for it in line]
+        if row in (line, line.encode("ascii", "replace").decode()):
+            return character_at(units, column)
+        if row == "".join(shown for shown, _ in as_bytes):
+            return character_at(as_bytes, column)
+        raise ValueError(f"line {self.at + 1} of the text quotes no line")
 
 
 class Mypy(Reader):

@@ -46,7 +46,9 @@ GONE = "cp {} {out}/gone.c; gcc -Wall -fsyntax-only {out}/gone.c; rm {out}/gone.
 EVENTS = ("gcc", "-fanalyzer", "-fdiagnostics-format=json", "-c", "-o", "{out}/x.o", "{}")
 PATHS, PATH_FILES = ("gcc", "-fanalyzer", "-c", "-o", "{out}/x.o", "{}"), ("corpus/events/*.c", "corpus/paths/0[12]*.c")
 ROWS, COLOR = ("corpus/paths/03*.c",), "-fdiagnostics-color=always"
+IN_UTF8 = ("javac", "-encoding", "UTF-8", "-Xlint", "-d", "{out}", "{}")
 IN_ASCII = ("sh", "-c", "LC_ALL=C javac -encoding UTF-8 -Xlint -d {out} {}")
+FROM_ASCII = ("sh", "-c", "LC_ALL=C javac -Xlint -d {out} {}")
 UNFILED = ("clang", "-Wall", "-DDEFINED=x y", "-c", "-o", "{out}/x.o", "{}")
 NARROW = ("-fsyntax-only", "-fmessage-length=120", "{}")
 OVERLAPPING = "-checks=-*,readability-braces-*,readability-else-*,readability-implicit-*,readability-simplify-*"
@@ -105,6 +107,9 @@ TEXTS = {
     "clang_spaced": Text("clang ranges", (*CLANG, RANGES[0], "{}"), ("corpus/spaced/*.c",)),
     "clang_ends": Text("clang", (*CLANG, "{}"), ("corpus/ends/*.c",)),
     "javac_ascii": Text("javac", IN_ASCII, ("corpus/java/*.java",)),
+    "javac_units": Text("javac", IN_UTF8, ("corpus/units/*.java",)),
+    "javac_units_ascii": Text("javac", IN_ASCII, ("corpus/units/*.java",)),
+    "javac_bytes": Text("javac", FROM_ASCII, ("corpus/bytes/*.java",)),
     "gxx_unmet": Text("gcc", (*GXX, "{}"), ("corpus/unmet/*.cpp",), DISPLAY),
     "gxx_repeats": Text("gcc", (*GXX, "{}"), ("corpus/repeats/*.cpp",), DISPLAY),
     "gcc_events": Text("gcc json", EVENTS, ("corpus/events/*.c",)),

@@ -497,6 +497,44 @@ fn quotes_that_lack_something(rt: HostRuntime) {
     );
 }
 
+/// javac's caret counts units of UTF-16, in tabs as they are, whether the quote has its letters or `?` for each; or
+/// bytes, where a file was read as ASCII, which has `?` for each then.
+#[test]
+fn units_of_javac(rt: HostRuntime) {
+    let java = [
+        "\tint c = /* 🍐 漢 é */\tdelta;",
+        "int b = /* 🍐🍎 */ cedar;",
+        "// größe: 🍐 漢",
+    ];
+    let cases = [
+        (1, java[0], "\t                    \t^", " 1:21..22^"),
+        (
+            1,
+            "\tint c = /* ? ? ? */\tdelta;",
+            "\t                    \t^",
+            " 1:21..22^",
+        ),
+        (2, java[1], "                   ^", " 2:17..18^"),
+        (
+            2,
+            "int b = /* ?? */ cedar;",
+            "                   ^",
+            " 2:17..18^",
+        ),
+        (3, java[2], "            ^", " 3:11..12^"),
+        (3, "// gr????e: ???? ???", "        ^", " 3:6..7^"),
+        (
+            3,
+            "// gr????e: ???? ???",
+            "                 ^",
+            " 3:12..13^",
+        ),
+    ];
+    for (line, quote, marks, want) in cases {
+        assert_learned(&rt, &java, line, None, &[(quote, ""), (marks, want)]);
+    }
+}
+
 /// clang gives one of these wide characters two columns, and the other one.
 #[test]
 fn wide_characters_of_clang(rt: HostRuntime) {

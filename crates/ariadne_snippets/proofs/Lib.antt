@@ -2,6 +2,7 @@ pub mod Beginning
 pub mod Begun
 pub mod Covering
 pub mod Endings
+pub mod InUnits
 pub mod Joining
 pub mod Leading
 pub mod Nexts

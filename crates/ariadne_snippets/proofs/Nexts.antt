@@ -2,9 +2,11 @@
 use Rattle.std.proofs.Common.{◌≡◌, ◌+◌, sym, refl, subst, List, ℕ, length, Option, None}
 use Rattle.std.specs.List.{range_with_len}
 use Rattle.ariadne_snippets.specs.Ends.{IsEnd}
-use Rattle.ariadne_snippets.specs.Snippets.{IsQuoteOf, QuotesNext, as_shown, by_characters, kept, dropped, same_line, newly_quoted}
+use Rattle.ariadne_snippets.specs.Snippets.{IsQuoteOf, QuotesNext, as_shown, by_characters, by_units, kept, dropped, same_line, newly_quoted}
 use Rattle.ariadne_snippets.specs.declared.quote.Quote.{Quote}
 use Rattle.ariadne_snippets.specs.declared.quoted.Quoted.{Quoted}
+use Rattle.ariadne_snippets.specs.Units.{in_units, unit_begins}
+use Rattle.ariadne_snippets.specs.declared.units.Units.TheVariants.{Utf16}
 use Rattle.ariadne_snippets.proofs.Endings.{end_of_end}
 
 -- it stays
@@ -49,3 +51,11 @@ pub quote_by_characters : (shown quote : Quote) (text line : List ℕ) → IsQuo
 quote_by_characters shown quote text line (as_shown e quotes) chars begins =
     by_characters shown.begins.items quotes chars begins
 quote_by_characters shown quote text line (by_characters at quotes e f) chars begins = by_characters at quotes chars begins
+quote_by_characters shown quote text line (by_units at quotes e f) chars begins = by_characters at quotes chars begins
+
+-- and so it is in units of UTF-16
+pub quote_by_units : (shown quote : Quote) (text line : List ℕ) → IsQuoteOf shown text line
+    → quote.chars.items ≡ in_units Utf16 line → quote.begins.items ≡ unit_begins Utf16 0 line → IsQuoteOf quote text line
+quote_by_units shown quote text line (as_shown e quotes) chars begins = by_units shown.begins.items quotes chars begins
+quote_by_units shown quote text line (by_characters at quotes e f) chars begins = by_units at quotes chars begins
+quote_by_units shown quote text line (by_units at quotes e f) chars begins = by_units at quotes chars begins

@@ -6,4 +6,5 @@ pub mod Puts
 pub mod Quotes
 pub mod Rows
 pub mod Snippets
+pub mod Units
 pub mod Words

@@ -9,6 +9,8 @@ use Rattle.std.specs.Char.{is_ascii_graphic, is_ascii_hexdigit}
 use Rattle.std.specs.List.{list_all, prefix_len, range_with_len, starts_with}
 use Rattle.ariadne_columns.specs.declared.unit.Unit.TheVariants.{Display}
 use Rattle.ariadne_snippets.specs.Rows.{column_past}
+use Rattle.ariadne_snippets.specs.Units.{in_units, unit_begins}
+use Rattle.ariadne_snippets.specs.declared.units.Units.TheVariants.{Bytes}
 
 -- ---- white space
 
@@ -154,7 +156,18 @@ pub record IsPart (line quote begins : List ℕ) : Type 0 where
   pub stands : StandsIn line quote place start
   pub begin : begins ≡ part_begins (length line) start place
 
--- a text quotes a line, or a part of it, maybe behind strokes
+-- a text begins with another, and has nothing but white space behind it
+abbrev pub goes_on_white : List ℕ → List ℕ → Bool
+goes_on_white text front =
+    starts_with (λ a b. a == b) text front && list_all is_white (drop (length front) text)
+
+-- a quote has a line in its bytes
+pub record IsInBytes (line quote begins : List ℕ) : Type 0 where
+  pub begin : begins ≡ unit_begins Bytes 0 line
+  pub in_quote : goes_on_white quote (in_units Bytes line) ≡ true
+
+-- a text quotes a line, maybe behind strokes or in its bytes, or a part of it
 pub data Quotes (text line begins : List ℕ) : Type 0 where
   whole : (strokes : ℕ) → begins_in line text strokes ≡ Some begins → Quotes text line begins
+  in_bytes : IsInBytes line text begins → Quotes text line begins
   part : IsPart line text begins → Quotes text line begins

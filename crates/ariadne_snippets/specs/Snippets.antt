@@ -18,6 +18,8 @@ use Rattle.ariadne_snippets.specs.Words.{LineWords}
 use Rattle.ariadne_snippets.specs.declared.snippet.Advice.{Advice}
 use Rattle.ariadne_snippets.specs.declared.snippet.Advice.TheVariants.{Puts, Changes, Replaces}
 use Rattle.ariadne_snippets.specs.Quotes.{Quotes}
+use Rattle.ariadne_snippets.specs.Units.{in_units, unit_begins}
+use Rattle.ariadne_snippets.specs.declared.units.Units.TheVariants.{Utf16}
 use Rattle.ariadne_snippets.specs.declared.put.Insertion.{Insertion}
 use Rattle.ariadne_snippets.specs.declared.quote.Quote.{Quote}
 use Rattle.ariadne_snippets.specs.declared.quoted.Quoted.{Quoted}
@@ -39,11 +41,13 @@ use Rattle.ariadne_snippets.specs.declared.taken.Taken.TheVariants.{NotOfSnippet
 
 -- ---- quotes
 
--- a quote is that of a line in a text: as the text shows it, or character by character
+-- a quote is that of a line in a text: as the text shows it, character by character, or in units of UTF-16
 pub data IsQuoteOf (quote : Quote) (text line : List ℕ) : Type 0 where
   as_shown : quote.chars.items ≡ text → Quotes text line quote.begins.items → IsQuoteOf quote text line
   by_characters : (begins : List ℕ) → Quotes text line begins → quote.chars.items ≡ line
       → quote.begins.items ≡ range_with_len 0 (length line + 1) → IsQuoteOf quote text line
+  by_units : (begins : List ℕ) → Quotes text line begins → quote.chars.items ≡ in_units Utf16 line
+      → quote.begins.items ≡ unit_begins Utf16 0 line → IsQuoteOf quote text line
 
 -- the same line is quoted
 pub record IsSameLine (before after : Quoted) : Type 0 where

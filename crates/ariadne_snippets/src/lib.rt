@@ -25,6 +25,7 @@ mod runs;
 pub mod snippet;
 mod strokes;
 pub mod taken;
+mod units;
 
 pub use snippet::Snippet;
 pub use taken::{Fix, FixKind, Label, Mark, Point, Taken};

@@ -159,7 +159,7 @@ fn is_one_over(caret: Option<usize>, quoted: &Quoted, row: &str) -> bool {
 
 /// What the columns of plain marks count: what leads to the head's character. Those of clang count columns of
 /// a terminal, or characters where it gives a wide one a single column; those of cppcheck and mypy count
-/// bytes, and those of javac, whose head names no column, characters.
+/// bytes, and those of javac, whose head names no column, characters of a quote in units of UTF-16.
 fn plain_unit(caret: Option<usize>, quoted: &Quoted, row: &str) -> Unit {
     match caret {
         _ if quoted.unit == Unit::Byte => Unit::Byte,

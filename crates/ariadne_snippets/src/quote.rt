@@ -1,7 +1,7 @@
 //! How a line of a file stands in a quote of it.
 //!
 //! A quote has the characters of its line. A tab may stand in it as blanks, a character that can't be
-//! seen as a sign. White space at the ends may differ.
+//! seen as a sign, one that was read as bytes as a sign for each of them. White space at the ends may differ.
 
 ghost use Rattle.std.specs.Prelude.{◌≡◌, ◌+◌, ◌-◌, ◌<◌, ◌≤◌, ◌^◌, chars, drop, length, take};
 ghost use Rattle.std.specs.Prelude.{is_some, option_map, slice_get, true, IfOk, IfSome, List, ℕ};
@@ -24,6 +24,7 @@ ghost use Rattle.ariadne_snippets.specs.Quotes.{IsBegun};
 ghost use Rattle.ariadne_snippets.specs.Rows.{column_past};
 
 use crate::cut::cut_begins;
+use crate::units::{Units, byte_begins, in_units};
 use ariadne_columns::Unit;
 use ariadne_columns::unit::columns_of;
 use std::alloc::{AllocError, Global};
@@ -67,6 +68,9 @@ impl Quote {
         if let Some(begins) = begins_of(alloc, line, chars.as_slice(), strokes)? {
             return Ok(Some(Quote { chars, begins }));
         }
+        if let Some(begins) = byte_begins(alloc, line, chars.as_slice())? {
+            return Ok(Some(Quote { chars, begins }));
+        }
         match cut_begins(alloc, line, chars.as_slice())? {
             Some(begins) => Ok(Some(Quote { chars, begins })),
             None => Ok(None),
@@ -80,6 +84,15 @@ impl Quote {
     {
         let itself = Quote::of_line(alloc, line)?;
         Ok(itself)
+    }
+
+    /// The line that it quotes in units of UTF-16, as the quote of itself.
+    pub(crate) fn by_units(self, alloc: Global, line: &[char]) -> Result<Quote, AllocError>
+        ensures { IfOk result (λ quote. (text : List ℕ) → IsQuoteOf self text line.now
+            → IsQuoteOf quote text line.now) }
+    {
+        let units = in_units(alloc, Units::Utf16, line)?;
+        Ok(units)
     }
 
     /// A line as the quote of itself.
@@ -111,6 +124,14 @@ impl Quote {
         match self.begins.get(character) {
             Some(begin) => column_behind(unit, first_of(self.chars.as_slice(), *begin)),
             None => 0,
+        }
+    }
+
+    /// Whether it has one character for each of a line that it quotes.
+    pub(crate) fn is_one_by_one(&self, line: &[char]) -> bool {
+        match self.begins.last() {
+            Some(end) => *end == line.len(),
+            None => false,
         }
     }
 
@@ -219,14 +240,14 @@ fn push_begins(
 }
 
 /// What is left of a text behind this many characters.
-fn rest_of(text: &[char], count: usize) -> &[char]
+pub(crate) fn rest_of(text: &[char], count: usize) -> &[char]
     ensures { result.now ≡ drop count text.now }
 {
     &text[count.min(text.len())..]
 }
 
 /// Whether all characters are white space.
-fn is_all_white(text: &[char]) -> bool
+pub(crate) fn is_all_white(text: &[char]) -> bool
     ensures { result ≡ list_all is_white_space text.now }
 {
     text.iter().all(|c| is_white(*c))

@@ -5,7 +5,8 @@ ghost use Rattle.ariadne_snippets.specs.Ends.{IsEnd};
 ghost use Rattle.ariadne_snippets.specs.Snippets.{above, change_of_line, change_told, number_changed, number_named};
 ghost use Rattle.ariadne_snippets.specs.Snippets.{number_quoted};
 ghost use Rattle.ariadne_snippets.specs.Words.{words_in};
-ghost use Rattle.ariadne_snippets.specs.Snippets.{EndsBy, HasEnded, IsTaken, IsUnread, QuotesNext, ShowsWhole, TellsOf};
+ghost use Rattle.ariadne_snippets.specs.Snippets.{EndsBy, HasEnded, IsQuoteOf, IsTaken, IsUnread, QuotesNext};
+ghost use Rattle.ariadne_snippets.specs.Snippets.{ShowsWhole, TellsOf};
 
 use crate::forms::{Words, added_line, note_of, unfiled_note, words_of};
 use crate::gutter::{Gutter, gutter_of};
@@ -479,8 +480,23 @@ impl Snippet {
         let Some(quote) = Quote::new(self.alloc, text, 0, line)? else {
             return Ok(false);
         };
+        let quote = self.counted(quote, unit, line)?;
         self.quoted = Some(Quoted::new(self.alloc, number, quote, unit));
         Ok(true)
+    }
+
+    /// A quote of a line by what columns below it count: units of UTF-16, where the rows are plain and the head names
+    /// no column, as javac's, and the quote has one character for each of the line.
+    fn counted(&self, quote: Quote, unit: Unit, line: &[char]) -> Result<Quote, AllocError>
+        ensures { IfOk result (λ counted. (text : List ℕ) → IsQuoteOf quote text line.now
+            → IsQuoteOf counted text line.now) }
+    {
+        let is_plain = self.form == Form::Plain && self.caret.is_none();
+        if is_plain && unit != Unit::Byte && quote.is_one_by_one(line) {
+            quote.by_units(self.alloc, line)
+        } else {
+            Ok(quote)
+        }
     }
 
     /// Takes no line any more.

@@ -10,4 +10,4 @@ returns-clause-quotes c =
     let quote : IsQuoteOf c.in-Some-2.quote (chars c.args.text.now) c.in-Some.line.now = rw c.in-Some-2.is at (c.in_ok-quote.ensures).quote in
     newly_quoted c.new-2.result c.args.text.now c.in-Some.line.now refl (end_of_all c.args.text.now)
     (ap (λ (o : Option (Bor (List ℕ))). option_map (λ (s : Bor (List ℕ)). s.now) o) c.in-Some.is)
-    (quote_same c.new-2.result.quote c.in-Some-2.quote _ _ c.new-2.ensures.quote quote)
+    (quote_same c.new-2.result.quote c.in_ok-quote-2.quote _ _ c.new-2.ensures.quote (c.in_ok-quote-2.ensures (chars c.args.text.now) quote))

@@ -1,0 +1,4 @@
+// größe: 🍐 漢
+class Letters {
+	int a = /* é */ apple;
+}
