@@ -231,12 +231,20 @@ class PictureJudge:
             labelled = [piece for piece in part.pieces if piece.label]
             yield from (f"no label {it.label!r}" for it in labelled if not self.stands_at(it.label, [it]))
             yield from (f"{put!r} is not named" for put in part.puts if put not in said)
+            if part is not self.told and part.puts and not self.is_reasoned(part):
+                yield f"{part.puts!r} don't stand behind {part.message!r}"
             if part is not self.told and not self.is_said(part):
                 yield f"no label {part.message!r} at {part.path}:{part.line}"
         known = [line for part in self.parts for line in [*part.message.split("\n"), *part.details]]
         for note in self.picture.notes:
             if not any(signs(line.strip()) in note for line in known if line.strip()):
                 yield f"another note: {note!r}"
+
+    def is_reasoned(self, part):
+        """Whether what a note says is to be put somewhere stands behind what the note says. Each may have a row."""
+        reason = signs(part.message.strip().split("\n")[0])
+        behind = [text.partition(reason)[2] for text in self.picture.texts()]
+        return any(put in text for put in part.puts for text in behind)
 
     def is_said(self, part):
         """Whether a note is said at its place; or below, where it has none, or one that is said of already, or

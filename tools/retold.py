@@ -26,6 +26,11 @@ def labels_of(told):
             yield label_of(piece, piece.label or own, part is told)
 
 
+def reason_of(part, told):
+    """What stands in front of what is to be put: what a note says."""
+    return "" if part is told else f"{part.message.strip()}: "
+
+
 def report_of(told):
     """A diagnostic as a line in the program's own form."""
     kind = (told.kind or "error").lower()
@@ -37,7 +42,7 @@ def report_of(told):
         "columns": "chars",
         "labels": list(labels_of(told)),
         "notes": told.details + [it.message for it in parts[1:] if not it.path or any(at.label for at in it.pieces)],
-        "helps": [f"put {put}" for part in parts for put in part.puts],
+        "helps": [f"{reason_of(part, told)}put {put}" for part in parts for put in part.puts],
     }
     return json.dumps({name: value for name, value in report.items() if value is not None})
 
@@ -112,6 +117,12 @@ def drop_put(told, _):
         del told.puts[0]
 
 
+def take_put(told, _):
+    """Tells what notes say is to be put as what the diagnostic does."""
+    for note in told.notes:
+        told.puts, note.puts = told.puts + note.puts, []
+
+
 def drop_detail(told, _):
     told.details = told.details[:-1]
 
@@ -127,8 +138,8 @@ def hand_note_on(told, following):
 
 
 CHANGES = (
-    move_column, cut_range, change_message, change_kind, drop_code, drop_note, drop_front, drop_put, drop_detail,
-    drop_label, hand_note_on,
+    move_column, cut_range, change_message, change_kind, drop_code, drop_note, drop_front, drop_put, take_put,
+    drop_detail, drop_label, hand_note_on,
 )  # fmt: skip
 
 

@@ -6,6 +6,8 @@ use Rattle.std.specs.List.{list_all}
 use Rattle.serde_json.specs.Data.{Data}
 use Rattle.serde_json.specs.View.{items_view, view}
 use Rattle.serde_json.specs.declared.value.Value.{Value}
+use Rattle.std.specs.List.{cons_option, filter_map}
+use Rattle.ariadne_told.specs.GccFixes.{change_of, changes_of}
 use Rattle.ariadne_told.specs.Members.{all_items, has_none}
 use Rattle.ariadne_told.specs.Told.{is_gcc, is_gcc_list}
 
@@ -30,3 +32,8 @@ pub gcc_some : (values : List Value) → 0 < length values
     → is_gcc_list (items_view values) ≡ list_all (λ v. is_gcc (view v)) values
 gcc_some [] some = absurd (omega arith)
 gcc_some (v ∷ values) some = ap (λ b. is_gcc (view v) && b) (all_view is_gcc values)
+
+-- what fixes change grows by what the next one does
+pub changes_past : (fixes : List Value) → changes_of (items_view fixes) ≡ filter_map (λ v. change_of (view v)) fixes
+changes_past [] = refl
+changes_past (v ∷ fixes) = ap (λ changes. cons_option (change_of (view v)) changes) (changes_past fixes)

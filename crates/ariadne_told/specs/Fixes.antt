@@ -1,5 +1,6 @@
 -- What a help says that changes a file: what is put in, and what stands there before.
-use Rattle.std.specs.Prelude.{ℕ, ◌==◌, if◌then◌else◌, List, [], ◌++◌, length, codes, decimal}
+use Rattle.std.specs.Prelude.{ℕ, ◌==◌, if◌then◌else◌, List, [], ◌∷◌, ◌++◌, length, map, codes, decimal}
+use Rattle.std.specs.List.{concat}
 use Rattle.std.specs.Prelude.{Option, Some, None, unwrap_or}
 use Rattle.ariadne_told.specs.Told.{is_same_spot}
 use Rattle.ariadne_told.specs.declared.diagnostic.Spot.{Spot}
@@ -44,3 +45,19 @@ line_words line text =
 abbrev pub joint_words : Option Spot → Spot → List ℕ
 joint_words None start = []
 joint_words (Some first) start = if is_same_spot first start then codes ",\nor " else codes ", "
+
+-- a further change stands in a row of its own
+abbrev pub further_words : List ℕ → List ℕ
+further_words change = codes ",\n" ++ change
+
+-- a help says why, and what is to be changed
+abbrev pub reasoned_words : List ℕ → List ℕ → List (List ℕ) → List ℕ
+reasoned_words why first others = why ++ codes ": " ++ first ++ concat (map further_words others)
+
+-- changes of one reason are one help. Without a reason each is a help
+abbrev pub as_one_help : List ℕ → List (List ℕ) → List (List ℕ)
+as_one_help why [] = []
+as_one_help why (first ∷ others) = reasoned_words why first others ∷ []
+
+abbrev pub reasoned : List ℕ → List (List ℕ) → List (List ℕ)
+reasoned why changes = if length why == 0 then changes else as_one_help why changes

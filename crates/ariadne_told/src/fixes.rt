@@ -1,8 +1,8 @@
 //! What helps say that change a file.
 
-ghost use Rattle.std.specs.Prelude.{◌≡◌, string_bytes, IfOk};
-ghost use Rattle.ariadne_told.specs.Fixes.{change_words, fix_words, line_words, place_words, put_words};
-ghost use Rattle.ariadne_told.specs.Fixes.{there_words};
+ghost use Rattle.std.specs.Prelude.{◌≡◌, ◌++◌, map, string_bytes, IfOk, OnOk};
+ghost use Rattle.ariadne_told.specs.Fixes.{change_words, further_words, fix_words, line_words, place_words};
+ghost use Rattle.ariadne_told.specs.Fixes.{put_words, reasoned, reasoned_words, there_words};
 
 use crate::diagnostic::Spot;
 use std::alloc::{AllocError, Global};
@@ -90,4 +90,53 @@ fn place_text(alloc: Global, at: Spot) -> Result<String, AllocError>
     let line = at.line;
     let column = at.column.unwrap_or(1);
     format!(in alloc; "{line}:{column}")
+}
+
+/// Adds what is to be changed to helps: one that says why, and what in a row each; where it doesn't say why, each
+/// change is a help.
+pub(crate) fn push_reasoned(
+    alloc: Global,
+    helps: &mut Vec<String>,
+    why: &str,
+    mut changes: Vec<String>,
+) -> Result<(), AllocError>
+    ensures { OnOk result (map string_bytes helps.new.items
+        ≡ map string_bytes helps.old.items ++ reasoned why.now (map string_bytes changes.items)) }
+{
+    if why.is_empty() {
+        return helps.append(&mut changes);
+    }
+    match changes.split_first() {
+        Some((first, others)) => {
+            let help = reasoned_text(alloc, why, first.as_str(), others)?;
+            helps.push(help)?;
+            Ok(())
+        }
+        None => Ok(()),
+    }
+}
+
+/// What a help says that says why, and the changes, each in a row.
+fn reasoned_text(
+    alloc: Global,
+    why: &str,
+    first: &str,
+    others: &[String],
+) -> Result<String, AllocError>
+    ensures { IfOk result (λ help.
+        string_bytes help ≡ reasoned_words why.now first.now (map string_bytes others.now)) }
+{
+    let mut help = format!(in alloc; "{why}: {first}")?;
+    for change in others {
+        push_further(&mut help, change.as_str())?;
+    }
+    Ok(help)
+}
+
+/// Has a help go on with a further change, in a row of its own.
+fn push_further(help: &mut String, change: &str) -> Result<(), AllocError>
+    ensures { OnOk result (string_bytes help.new ≡ string_bytes help.old ++ further_words change.now) }
+{
+    help.push_str(",\n")?;
+    help.push_str(change)
 }

@@ -1,18 +1,20 @@
 //! Diagnostics of `gcc -fdiagnostics-format=json`: one line of text with a list of them.
 
-ghost use Rattle.std.specs.Prelude.{◌≡◌, ◌<◌, is_some, length, option_map, true, vec_len, IfOk, IfSome, OnOk};
+ghost use Rattle.std.specs.Prelude.{◌≡◌, ◌++◌, ◌<◌, is_some, length, map, option_map, string_bytes, true};
+ghost use Rattle.std.specs.Prelude.{vec_len, IfOk, IfSome, OnOk};
 ghost use Rattle.std.specs.List.{list_all};
 ghost use Rattle.serde_json.specs.View.{items_view, view};
+ghost use Rattle.ariadne_told.specs.GccFixes as fixes;
 ghost use Rattle.ariadne_told.specs.Told.{is_gcc, is_gcc_list, tells_gcc};
 ghost use Rattle.ariadne_told.specs.Members.{gcc_end, gcc_place, gcc_spot, gcc_spot_at, is_gcc_more, is_gcc_note};
 ghost use Rattle.ariadne_told.specs.Members.{IsOfGcc};
 ghost use Rattle.ariadne_told.specs.Places.{seen};
 
 use crate::diagnostic::{Diagnostic, End, Place, Severity, Spot};
-use crate::fixes::{Covered, change_text, line_text};
-use crate::heads::place;
+use crate::fixes::{Covered, change_text, line_text, push_reasoned};
+use crate::heads::{is_same, place};
 use crate::json::{copied_text, has_words, items, number, severity as severity_of, text, words};
-use crate::pieces::begins_with;
+use crate::pieces::{begins_with, in_front_of};
 use ariadne_columns::Unit;
 use serde_json::Value;
 use std::alloc::{AllocError, Global};
@@ -114,13 +116,15 @@ fn goes_on(value: &Value, severity: Severity) -> bool
 
 /// The diagnostic of one value.
 fn told_by_item(alloc: Global, value: &Value) -> Result<Diagnostic, AllocError>
-    ensures { IfOk result (λ told. IsOfGcc (view value.now) told) }
+    ensures told { IfOk result (λ told. IsOfGcc (view value.now) told) }
+    ensures helps { IfOk result (λ told.
+        map string_bytes told.helps.items ≡ fixes.gcc_changes (view value.now)) }
 {
     let mut told = Diagnostic::new(alloc, severity_of(value, "kind"), words(value, "message"))?;
     told.code = copied_text(alloc, value, "option")?;
     push_locations(alloc, &mut told.places, items(value, "locations"))?;
     push_events(alloc, &mut told.places, &mut told.notes, value)?;
-    push_fixes(alloc, &mut told.helps, value)?;
+    told.helps = changes_in(alloc, items(value, "fixits"))?;
     Ok(told)
 }
 
@@ -195,43 +199,59 @@ fn event_place(alloc: Global, event: &Value) -> Result<Option<Place>, AllocError
     Ok(Some(place))
 }
 
-/// Adds a note: as the label of its first place, if that is elsewhere and has none of its own.
-fn push_note(alloc: Global, told: &mut Diagnostic, value: &Value) -> Result<(), AllocError> {
+/// Adds a note: as the label of its first place, if that is elsewhere and has none of its own. What it says is to
+/// be changed is a help, which says why, as the note does.
+fn push_note(alloc: Global, told: &mut Diagnostic, value: &Value) -> Result<(), AllocError>
+    ensures { OnOk result (map string_bytes told.new.helps.items
+        ≡ map string_bytes told.old.helps.items ++ fixes.gcc_note_helps (view value.now)) }
+{
     let message = words(value, "message").trim_start();
-    let locations = items(value, "locations");
-    let is_label = locations
-        .first()
-        .is_some_and(|it| is_elsewhere(told, it) && text(it, "label").is_none());
-    if is_label {
-        push_noted_places(alloc, told, locations, message)?;
-    } else {
-        told.notes.push(String::from_str(alloc, message)?)?;
-        push_noted_places(alloc, told, locations, "")?;
-    }
-    push_fixes(alloc, &mut told.helps, value)
+    push_noted(alloc, told, items(value, "locations"), message)?;
+    let changes = changes_in(alloc, items(value, "fixits"))?;
+    push_reasoned(alloc, &mut told.helps, message, changes)
 }
 
-/// Adds those places of a note that say something, or are elsewhere than where the diagnostic points.
-/// The first says this, if it has no label.
-fn push_noted_places(
+/// Adds what a note says, and its places.
+fn push_noted(
     alloc: Global,
     told: &mut Diagnostic,
+    locations: &[Value],
+    message: &str,
+) -> Result<(), AllocError>
+    ensures { OnOk result (told.new.helps ≡ told.old.helps) }
+{
+    let is_label = locations.first().is_some_and(|it| {
+        is_elsewhere(told.places.as_slice(), it) && text(it, "label").is_none()
+    });
+    if is_label {
+        push_noted_places(alloc, &mut told.places, locations, message)
+    } else {
+        told.notes.push(String::from_str(alloc, message)?)?;
+        push_noted_places(alloc, &mut told.places, locations, "")
+    }
+}
+
+/// Adds those places of a note that say something, or are elsewhere than where the diagnostic points, which the
+/// first of its places is. The first says this, if it has no label.
+fn push_noted_places(
+    alloc: Global,
+    places: &mut Vec<Place>,
     locations: &[Value],
     first_text: &str,
 ) -> Result<(), AllocError> {
     for (number, location) in locations.iter().enumerate() {
         let own_text = if number == 0 { first_text } else { "" };
         let said = text(location, "label").unwrap_or(own_text);
-        if !said.is_empty() || is_elsewhere(told, location) {
-            push_place(alloc, &mut told.places, location, said, false)?;
+        if !said.is_empty() || is_elsewhere(places.as_slice(), location) {
+            push_place(alloc, places, location, said, false)?;
         }
     }
     Ok(())
 }
 
-/// Whether a location is elsewhere than where the diagnostic points.
-fn is_elsewhere(told: &Diagnostic, location: &Value) -> bool {
-    match (told.places.first(), location.get("caret")) {
+/// Whether a location is elsewhere than where the diagnostic with these places points.
+fn is_elsewhere(places: &[Place], location: &Value) -> bool {
+    match (places.first(), location.get("caret")) {
         (_, None) => false,
         (None, Some(_)) => true,
         (Some(first), Some(caret)) => {
@@ -312,22 +332,62 @@ fn location_place(
     Ok(Some(place))
 }
 
-/// Adds a help for each of what is to be put in.
-fn push_fixes(alloc: Global, helps: &mut Vec<String>, value: &Value) -> Result<(), AllocError> {
-    for fix in items(value, "fixits") {
-        let at = fix.get("start").and_then(spot);
-        if let (Some(at), Some(put_in)) = (at, text(fix, "string")) {
-            helps.push(put_text(alloc, fix, at, put_in)?)?;
+/// What these fixes change, of those that say where, and what to put there.
+#[tactic(auto, using(crate::proofs::Values::changes_past))]
+fn changes_in(alloc: Global, all: &[Value]) -> Result<Vec<String>, AllocError>
+    ensures { IfOk result (λ changes.
+        map string_bytes changes.items ≡ fixes.changes_of (items_view all.now)) }
+{
+    let mut changes = Vec::new(alloc);
+    for fix in all {
+        if let Some(change) = change_of(alloc, fix)? {
+            changes.push(change)?;
         }
     }
-    Ok(())
+    Ok(changes)
 }
 
-/// What a help says that puts a text in: a line, where the text ends its line and takes the place of nothing.
-fn put_text(alloc: Global, fix: &Value, at: Spot, put_in: &str) -> Result<String, AllocError> {
-    let is_line = at.column == Some(1) && fix.get("next").and_then(spot) == Some(at);
-    match put_in.strip_suffix('\n') {
-        Some(line) if is_line => line_text(alloc, at.line, line),
-        _ => change_text(alloc, at, &Covered::Unnamed, put_in),
+/// What a fix changes, if it says where, and what to put there.
+fn change_of(alloc: Global, fix: &Value) -> Result<Option<String>, AllocError>
+    ensures { IfOk result (λ change. option_map string_bytes change ≡ fixes.change_of (view fix.now)) }
+{
+    let Some(at) = spot_of(fix, "start") else {
+        return Ok(None);
+    };
+    let Some(put_in) = text(fix, "string") else {
+        return Ok(None);
+    };
+    Ok(Some(put_text(alloc, fix, at, put_in)?))
+}
+
+/// What a help says that puts a text in: a line, where the text is one.
+fn put_text(alloc: Global, fix: &Value, at: Spot, put_in: &str) -> Result<String, AllocError>
+    ensures { IfOk result (λ text.
+        string_bytes text ≡ fixes.put_words (view fix.now) at put_in.now) }
+{
+    match line_put_in(fix, at, put_in) {
+        Some(line) => line_text(alloc, at.line, line),
+        None => change_text(alloc, at, &Covered::Unnamed, put_in),
+    }
+}
+
+/// The line that a fix puts in, if its text ends its line, and it takes the place of nothing.
+fn line_put_in<'t>(fix: &Value, at: Spot, put_in: &'t str) -> Option<&'t str>
+    ensures { option_map (λ line. line.now) result ≡ fixes.line_in (view fix.now) at put_in.now }
+{
+    if is_in_front(fix, at) {
+        in_front_of(put_in, '\n')
+    } else {
+        None
+    }
+}
+
+/// Whether a fix takes the place of nothing, in front of a line.
+fn is_in_front(fix: &Value, at: Spot) -> bool
+    ensures { result ≡ fixes.is_in_front (view fix.now) at }
+{
+    match spot_of(fix, "next") {
+        Some(next) => is_same(at, next) && at.column.unwrap_or(0) == 1,
+        None => false,
     }
 }
