@@ -1,7 +1,9 @@
+pub mod Characters
 pub mod Depths
 pub mod Handed
 pub mod Outcomes
 pub mod Ranges
 pub mod Splits
+pub mod Suggests
 pub mod Texts
 pub mod Values

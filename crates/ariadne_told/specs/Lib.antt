@@ -14,6 +14,7 @@ pub mod Places
 pub mod Sent
 pub mod Severities
 pub mod Sgr
+pub mod Suggested
 pub mod Tallies
 pub mod Told
 pub mod ToldLines

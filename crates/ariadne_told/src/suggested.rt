@@ -1,14 +1,19 @@
 //! What rustc's JSON suggests: spans that say what is to be put where.
 
-ghost use Rattle.std.specs.Prelude.{◌≡◌};
-ghost use Rattle.serde_json.specs.View.{view};
+ghost use Rattle.std.specs.Prelude.{◌≡◌, ◌++◌, [], length, string_bytes, take, IfOk, IfSome, List, None, OnOk, ℕ};
+ghost use Rattle.std.specs.Str.{trim_end};
+ghost use Rattle.serde_json.specs.View.{items_view, view};
 ghost use Rattle.ariadne_told.specs.Fixes.{joint_words};
 ghost use Rattle.ariadne_told.specs.Members.{span_end, span_start};
+ghost use Rattle.ariadne_told.specs.Suggested as suggested;
+ghost use Rattle.ariadne_told.specs.Suggested.{behind_chars, chars_before, front_chars, from_span, quoted_line};
+ghost use Rattle.ariadne_told.specs.Suggested.{AddsPart, IsCovered, SayParts, SaysPart};
 
 use crate::diagnostic::Spot;
 use crate::fixes::{Covered, change_text, line_text};
 use crate::heads::is_same;
-use crate::json::{items, number, text};
+use crate::json::{items, number, text, words};
+use crate::pieces::{in_front_of_text, split_once};
 use serde_json::Value;
 use std::alloc::{AllocError, Global};
 
@@ -16,18 +21,47 @@ use std::alloc::{AllocError, Global};
 ///
 /// rustc lists the parts of all suggestions of a help one behind the other. A part that begins where the
 /// first one does begins another suggestion.
-pub(crate) fn suggestion(alloc: Global, spans: &[Value]) -> Result<Option<String>, AllocError> {
+pub(crate) fn suggestion(alloc: Global, spans: &[Value]) -> Result<Option<String>, AllocError>
+    ensures said { IfOk result (λ said. IfSome said (λ text.
+        SayParts None (items_view spans.now) (string_bytes text))) }
+    ensures none { IfOk result (λ said. said ≡ None → SayParts None (items_view spans.now) []) }
+{
     let mut said = String::new(alloc);
     let mut first = None;
     for span in spans {
-        if let Some(put_in) = text(span, "suggested_replacement") {
-            let start = start_of(span);
-            said.push_str(joint(first, start))?;
-            said.push_str(part_text(alloc, span, put_in)?.as_str())?;
-            first = first.or(Some(start));
-        }
+        push_part(alloc, &mut said, &mut first, span)?;
     }
-    Ok(if said.is_empty() { None } else { Some(said) })
+    Ok(unless_empty(said))
+}
+
+/// A text, if it is not empty.
+fn unless_empty(text: String) -> Option<String>
+    ensures some { IfSome result (λ it. it ≡ text) }
+    ensures none { result ≡ None → string_bytes text ≡ [] }
+{
+    if text.is_empty() { None } else { Some(text) }
+}
+
+/// Has what is said go on with what a span says, if that puts in a text. The first such span began here, if there was
+/// one.
+fn push_part(
+    alloc: Global,
+    said: &mut String,
+    first: &mut Option<Spot>,
+    span: &Value,
+) -> Result<(), AllocError>
+    ensures { OnOk result ((more : List ℕ) × AddsPart (view span.now) first.old first.new more
+        × (string_bytes said.new ≡ string_bytes said.old ++ more)) }
+{
+    let Some(put_in) = text(span, "suggested_replacement") else {
+        return Ok(());
+    };
+    let start = start_of(span);
+    let part = part_text(alloc, span, put_in)?;
+    said.push_str(joint(*first, start))?;
+    said.push_str(part.as_str())?;
+    *first = first.or(Some(start));
+    Ok(())
 }
 
 /// What stands in front of a part that begins here, where the first part of all is known.
@@ -42,7 +76,9 @@ fn joint(first: Option<Spot>, start: Spot) -> &'static str
 }
 
 /// What one part says.
-fn part_text(alloc: Global, span: &Value, put_in: &str) -> Result<String, AllocError> {
+fn part_text(alloc: Global, span: &Value, put_in: &str) -> Result<String, AllocError>
+    ensures { IfOk result (λ text. SaysPart (view span.now) put_in.now (string_bytes text)) }
+{
     let start = start_of(span);
     match line_put_in(span, put_in) {
         Some(line) => line_text(alloc, start.line, line),
@@ -72,7 +108,9 @@ pub(crate) fn end_of(span: &Value) -> Spot
 
 /// The line that a span puts in, if it does: the text ends its line, nothing but blanks stands in front of
 /// it, and it takes the place of nothing.
-fn line_put_in<'t>(span: &Value, put_in: &'t str) -> Option<&'t str> {
+fn line_put_in<'t>(span: &Value, put_in: &'t str) -> Option<&'t str>
+    ensures { IfSome result (λ line. line.now ≡ trim_end put_in.now) }
+{
     if put_in.ends_with('\n') && start_of(span) == end_of(span) && is_first(span) {
         Some(put_in.trim_end())
     } else {
@@ -89,7 +127,9 @@ fn is_first(span: &Value) -> bool {
 }
 
 /// A text without the line feeds at its end, but for one of these alone.
-fn without_line_feeds(put_in: &str) -> &str {
+fn without_line_feeds(put_in: &str) -> &str
+    ensures { result.now ≡ take (length result.now) put_in.now }
+{
     match put_in.trim_end_matches('\n') {
         "" => put_in,
         rest => rest,
@@ -97,7 +137,9 @@ fn without_line_feeds(put_in: &str) -> &str {
 }
 
 /// What a span covers, as far as rustc quotes it.
-fn covered(span: &Value) -> Covered<'_> {
+fn covered(span: &Value) -> Covered<'_>
+    ensures { IsCovered (view span.now) result }
+{
     let Some((first, others)) = items(span, "text").split_first() else {
         return Covered::Unnamed;
     };
@@ -111,40 +153,65 @@ fn covered(span: &Value) -> Covered<'_> {
 }
 
 /// The part of a quoted line that its span covers.
-fn highlighted(line: &Value) -> &str {
-    let end = number(line, "highlight_end").unwrap_or(0);
-    let behind = behind_characters(quoted_text(line), end.saturating_sub(1));
-    from_start(line).strip_suffix(behind).unwrap_or("")
+fn highlighted(line: &Value) -> &str
+    ensures { result.now ≡ suggested.highlighted (view line.now) }
+{
+    let end = number(line, "highlight_end").unwrap_or(0).saturating_sub(1);
+    front_characters(from_start(line), end.saturating_sub(before(line)))
 }
 
 /// The part of a quoted line in front of what its span covers.
-fn in_front(line: &Value) -> &str {
-    quoted_text(line)
-        .strip_suffix(from_start(line))
-        .unwrap_or("")
+fn in_front(line: &Value) -> &str
+    ensures { result.now ≡ front_chars (chars_before (view line.now)) (quoted_line (view line.now)) }
+{
+    front_characters(quoted_text(line), before(line))
 }
 
 /// A quoted line from where its span begins.
-fn from_start(line: &Value) -> &str {
-    let start = number(line, "highlight_start").unwrap_or(1);
-    behind_characters(quoted_text(line), start.saturating_sub(1))
+fn from_start(line: &Value) -> &str
+    ensures { result.now ≡ from_span (view line.now) }
+{
+    behind_characters(quoted_text(line), before(line))
+}
+
+/// How many characters of a quoted line stand in front of its span.
+fn before(line: &Value) -> usize
+    ensures { result ≡ chars_before (view line.now) }
+{
+    number(line, "highlight_start")
+        .unwrap_or(1)
+        .saturating_sub(1)
 }
 
 /// A line that rustc quotes, without what ends it.
-pub(crate) fn quoted_text(line: &Value) -> &str {
-    let text = text(line, "text").unwrap_or("");
-    match text.split_once('\n') {
+pub(crate) fn quoted_text(line: &Value) -> &str
+    ensures { result.now ≡ quoted_line (view line.now) }
+{
+    let text = words(line, "text");
+    match split_once(text, '\n') {
         Some((first, _)) => first,
         None => text,
     }
 }
 
+/// The first characters of a text.
+fn front_characters(text: &str, count: usize) -> &str
+    ensures { result.now ≡ front_chars count text.now }
+{
+    match in_front_of_text(text, behind_characters(text, count)) {
+        Some(front) => front,
+        None => text,
+    }
+}
+
 /// What stands behind so many characters of a text.
-fn behind_characters(text: &str, count: usize) -> &str {
+fn behind_characters(text: &str, count: usize) -> &str
+    ensures { result.now ≡ behind_chars count text.now }
+{
     let mut rest = text.chars();
-    for _ in 0..count {
+    for turn in 0..count {
         if rest.next().is_none() {
-            break;
+            return "";
         }
     }
     rest.as_str()
