@@ -2,6 +2,7 @@
 
 ghost use Rattle.std.specs.Prelude.{◌≤◌};
 
+use crate::comparing::assert_same;
 use ariadne::{Cache, Label, Report, Source, SourceMap, Span, UnknownSource, sources};
 use ariadne_asserts::asserts::{
     Piece, Why, assert_left_out, assert_picture_over, assert_trimmed, assert_unknown, labelled,
@@ -248,5 +249,5 @@ fn a_pair_has_no_source_of_another_id(rt: HostRuntime) {
     let report = report_at(&rt, "a", &[("b", 0, 1, "m")]);
     let said = "Failed to fetch source 'b'";
     let picture = picture_without(&rt, &report, &mut ("a", source(&rt)), 0, said);
-    assert_eq!(rt; picture.as_str(), "Error: \n")
+    assert_same(&rt, &picture.as_str(), &"Error: \n")
 }

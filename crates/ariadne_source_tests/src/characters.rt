@@ -1,5 +1,6 @@
 //! Characters that are counted, and found, in texts of many bytes.
 
+use crate::comparing::assert_same;
 use ariadne_base::blocks::count::count_chars;
 use ariadne_base::blocks::place::byte_of_char;
 
@@ -20,11 +21,16 @@ const PLACES: &[(usize, usize)] = &[
 
 #[test]
 fn characters_are_counted_and_found(rt: HostRuntime) {
-    assert_eq!(rt;
-        (count_chars(""), count_chars("é漢"), count_chars(MIXED)),
-        (0, 2, 66)
+    assert_same(
+        &rt,
+        &(count_chars(""), count_chars("é漢"), count_chars(MIXED)),
+        &(0, 2, 66),
     );
     for (number, place) in PLACES {
-        assert_eq!(rt; (*number, byte_of_char(MIXED, *number)), (*number, *place));
+        assert_same(
+            &rt,
+            &(*number, byte_of_char(MIXED, *number)),
+            &(*number, *place),
+        );
     }
 }

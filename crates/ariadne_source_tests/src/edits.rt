@@ -2,6 +2,7 @@
 
 ghost use Rattle.std.specs.Prelude.{◌<◌};
 
+use crate::comparing::{assert_same, assert_same_of};
 use ariadne::{IndexType, Source};
 use ariadne_edits::{BadEdit, Edit, EditError, edited, suggestion};
 use ariadne_fakes::{refuse, was_refused};
@@ -99,7 +100,7 @@ fn help_of(rt: &(impl Abort + AllocGlobal), text: &str, pieces: &[Piece]) -> Str
 #[test]
 fn lines_are_shown_before_and_after(rt: HostRuntime) {
     for (text, pieces, want) in SHOWN {
-        assert_eq!(rt; help_of(&rt, *text, *pieces).as_str(), *want, "{text:?}");
+        assert_same_of(&rt, *text, &help_of(&rt, *text, *pieces).as_str(), want);
     }
 }
 
@@ -111,7 +112,7 @@ fn numbers_have_the_display_offset(rt: HostRuntime) {
     let edits = edits_of(&rt, &[(0, 1, "A"), (2, 3, "B")]);
     let help = suggestion(rt.alloc(), &source, IndexType::Byte, 4, edits.as_slice());
     let want = " 9 - a\n10 - b\n 9 + A\n10 + B";
-    assert_eq!(rt; help.ok().map(|it| it.as_str() == want), Some(true));
+    assert_same(&rt, &help.ok().map(|it| it.as_str() == want), &Some(true));
 }
 
 /// Texts and edits that are refused, by what their offsets count, and why.
@@ -156,7 +157,7 @@ fn faulty_edits_are_told_by_number(rt: HostRuntime) {
             Err(EditError::Refused(bad)) => Some(bad),
             _ => None,
         };
-        assert_eq!(rt; found, Some(*want), "{text:?}");
+        assert_same_of(&rt, *text, &found, &Some(*want));
     }
 }
 
@@ -171,7 +172,7 @@ fn is_made_without(rt: &(impl Abort + AllocGlobal), nth: usize) -> bool
     let help = suggestion(rt.alloc(), &source, IndexType::Char, 4, edits.as_slice());
     let is_refused = was_refused(rt.alloc());
     let is_memory = matches!(help, Err(EditError::Memory(_)));
-    assert_eq!(rt; (nth, is_memory), (nth, is_refused));
+    assert_same(rt, &(nth, is_memory), &(nth, is_refused));
     !is_refused
 }
 

@@ -1,6 +1,7 @@
 //! Reports over functions that give the texts of their sources: how often each is called.
 
 use crate::caches::{SECOND, TWO, assert_over, assert_two, report_at, source, two_labels};
+use crate::comparing::{assert_same, assert_same_of};
 use ariadne::{Cache, FnCache, LeftOut, Source};
 use ariadne_asserts::asserts::{Why, assert_shown, written};
 use std::cell::Cell;
@@ -116,7 +117,7 @@ fn assert_round(
 ) {
     assert_shown(rt, picture, round.rows, round.is_whole).expect(rt, name);
     let left_out = format!(in rt.alloc(); "{left_out:?}").expect(rt, "memory");
-    assert_eq!(rt; left_out.as_str(), round.left_out, "of {name}");
+    assert_same_of(rt, name, &left_out.as_str(), &round.left_out);
 }
 
 /// Asserts what comes of a function.
@@ -134,9 +135,9 @@ fn assert_called(rt: &(impl Abort + AllocGlobal), faulty: &'static Faulty) {
     for round in faulty.rounds {
         let (picture, left_out) = written(rt, &report, &mut cache).expect(rt, "a picture");
         assert_round(rt, name, round, picture.as_str(), &left_out);
-        assert_eq!(rt; counted.calls.get(), round.calls, "of {name}");
+        assert_same_of(rt, name, &counted.calls.get(), &round.calls);
     }
-    assert_eq!(rt; cache.get(&"x").is_some(), faulty.is_held, "of {name}");
+    assert_same_of(rt, name, &cache.get(&"x").is_some(), &faulty.is_held);
 }
 
 #[test]
@@ -174,9 +175,9 @@ fn the_sources_of_labels_are_fetched_and_that_of_the_report_is_not(rt: HostRunti
     );
     let report = report_at(&rt, "r", &[("z", 0, 1, "l"), ("x", 0, 1, "m")]);
     assert_over(&rt, &report, &mut cache, &[(0, Why::Unfetched)], ONE);
-    assert_eq!(rt; calls.get(), 2);
+    assert_same(&rt, &calls.get(), &2);
     let held = (holds(&cache, "x"), holds(&cache, "z"), holds(&cache, "r"));
-    assert_eq!(rt; held, (true, false, false))
+    assert_same(&rt, &held, &(true, false, false))
 }
 
 /// Fails for every id.

@@ -2,6 +2,7 @@
 //! memory is refused.
 
 use crate::caches::{map_of, owned, source};
+use crate::comparing::{assert_same, assert_same_of, assert_text, assert_text_of};
 use ariadne::{Cache, FetchError, FileCache, FileError, FnCache, Source, SourceTable};
 use ariadne_fakes::Folder;
 use std::alloc::AllocError;
@@ -26,6 +27,14 @@ fn fetches<Id: Eq, C: Cache<Id>>(cache: &mut C, id: &Id, text: &str) -> bool
     C::ensure(cache, id).is_ok() && holds(cache, id, text)
 }
 
+/// Asserts that a fetch returns a source of this text.
+fn assert_fetched<Id: Eq, C: Cache<Id>>(rt: &impl Abort, cache: &mut C, id: &Id, text: &str)
+    requires { C.can_fetch cache.old }
+    ensures { C.can_fetch cache.new }
+{
+    assert!(rt; fetches(cache, id, text))
+}
+
 /// The error of its own that a cache returns for an id.
 fn error_of<Id: Eq, C: Cache<Id>>(rt: &impl Abort, cache: &mut C, id: &Id) -> C::Error
     requires { C.can_fetch cache.old }
@@ -37,16 +46,11 @@ fn error_of<Id: Eq, C: Cache<Id>>(rt: &impl Abort, cache: &mut C, id: &Id) -> C:
     error
 }
 
-/// Asserts that what is told was made, and is this.
-fn assert_text(rt: &impl Abort, told: Result<String, AllocError>, want: &str) {
-    assert_eq!(rt; told.expect(rt, "memory").as_str(), want)
-}
-
 /// Asserts that a cache has a source of this text that has no name.
 fn assert_unnamed<C: Cache<()>>(rt: &impl Abort, cache: &mut C, text: &str)
     requires { C.can_fetch cache.old }
 {
-    assert!(rt; fetches(cache, &(), text));
+    assert_fetched(rt, cache, &(), text);
     assert!(rt; cache.display(&()).is_none())
 }
 
@@ -59,14 +63,18 @@ fn a_source_is_a_cache_without_names(rt: HostRuntime) {
 
 #[test]
 fn an_error_names_the_id_that_a_cache_lacks(rt: HostRuntime) {
-    assert_eq!(rt; error_of(&rt, &mut ("a", source(&rt)), &"b").name(), "b")
+    assert_same(
+        &rt,
+        &error_of(&rt, &mut ("a", source(&rt)), &"b").name(),
+        &"b",
+    )
 }
 
 #[test]
 fn a_map_shows_the_name_of_an_id_that_it_lacks(rt: HostRuntime) {
     let mut map = map_of(&rt, "a", "x");
     assert!(rt; !fetches(&mut map, &"z", "x"));
-    assert_eq!(rt; map.display(&"z"), Some("z"))
+    assert_same(&rt, &map.display(&"z"), &Some("z"))
 }
 
 /// Asserts that a text which is added to a table has this number, and is had by it.
@@ -77,8 +85,8 @@ fn assert_added(
     number: usize,
 ) {
     let added = table.add("a.txt", text).expect(rt, "memory");
-    assert_eq!(rt; added, number);
-    assert!(rt; fetches(table, &number, text))
+    assert_same(rt, &added, &number);
+    assert_fetched(rt, table, &number, text)
 }
 
 #[test]
@@ -87,9 +95,9 @@ fn a_table_has_its_sources_by_number(rt: HostRuntime) {
     assert_added(&rt, &mut table, "x", 0);
     assert_added(&rt, &mut table, "y", 1);
     let names = (table.display(&1), table.display(&2));
-    assert_eq!(rt; names, (Some("a.txt"), None));
+    assert_same(&rt, &names, &(Some("a.txt"), None));
     let error = error_of(&rt, &mut table, &2);
-    assert_eq!(rt; error.number, 2);
+    assert_same(&rt, &error.number, &2);
     assert_text(&rt, error.to_string(rt.alloc()), "Failed to fetch source 2")
 }
 
@@ -114,25 +122,25 @@ fn assert_holds(rt: &impl Abort, told: Result<String, AllocError>, part: &str) {
 #[test]
 fn sources_that_are_given_replace_those_that_are_held(rt: HostRuntime) {
     let mut cache: FnCache<&'static str, _, &'static str> = FnCache::new(rt.alloc(), got);
-    assert!(rt; fetches(&mut cache, &"a", "got"));
-    assert!(rt; fetches(&mut cache, &"b", "got"));
+    assert_fetched(&rt, &mut cache, &"a", "got");
+    assert_fetched(&rt, &mut cache, &"b", "got");
     let mut cache = cache.with_sources(given(&rt)).expect(&rt, "memory");
     assert_holds(&rt, format!(in rt.alloc(); "{cache:?}"), "given");
-    assert!(rt; fetches(&mut cache, &"a", "given"));
-    assert!(rt; fetches(&mut cache, &"b", "got"))
+    assert_fetched(&rt, &mut cache, &"a", "given");
+    assert_fetched(&rt, &mut cache, &"b", "got")
 }
 
 /// Asserts that the file at a path is read once, whether the path is a `String` or not.
 fn assert_read_once(rt: &(impl Abort + AllocGlobal + Files), path: &str) {
     let owned = owned(rt, path);
     let mut cache = FileCache::new(rt, rt.alloc());
-    assert!(rt; fetches(&mut cache, &path, "\u{feff}a\r\n"));
-    assert_eq!(rt; cache.display(&path), Some(path));
+    assert_fetched(rt, &mut cache, &path, "\u{feff}a\r\n");
+    assert_same(rt, &cache.display(&path), &Some(path));
 
     // What is held stays, under the same path as a `String` too.
     fs::write(rt, path, "cd").expect(rt, "a file");
-    assert!(rt; fetches(&mut cache, &owned, "\u{feff}a\r\n"));
-    assert_eq!(rt; cache.display(&owned), Some(path))
+    assert_fetched(rt, &mut cache, &owned, "\u{feff}a\r\n");
+    assert_same(rt, &cache.display(&owned), &Some(path))
 }
 
 #[test]
@@ -149,8 +157,8 @@ fn a_file_is_read_once_under_either_kind_of_path(rt: HostRuntime) {
 fn assert_read_first(rt: &(impl Abort + AllocGlobal + Files), path: &str) {
     let owned = owned(rt, path);
     let mut cache = FileCache::new(rt, rt.alloc());
-    assert!(rt; fetches(&mut cache, &owned, "cd"));
-    assert!(rt; fetches(&mut cache, &path, "cd"))
+    assert_fetched(rt, &mut cache, &owned, "cd");
+    assert_fetched(rt, &mut cache, &path, "cd")
 }
 
 #[test]
@@ -169,9 +177,8 @@ fn assert_no_text<R: Files + Drop>(
     words: &str,
 ) {
     let error = error_of(rt, cache, &path);
-    let told = error.to_string(rt.alloc()).expect(rt, "memory");
-    let is_held = cache.get(&path).is_some();
-    assert_eq!(rt; (path, told.as_str(), is_held), (path, words, false))
+    assert_text_of(rt, path, error.to_string(rt.alloc()), words);
+    assert_same_of(rt, path, &cache.get(&path).is_some(), &false)
 }
 
 #[test]
@@ -206,7 +213,7 @@ fn assert_read_again(rt: &(impl Abort + AllocGlobal + Files), path: &str) {
     let mut cache = FileCache::new(rt, rt.alloc());
     assert_no_text(rt, &mut cache, path, "file isn't UTF-8");
     fs::write(rt, path, "ab").expect(rt, "a file");
-    assert!(rt; fetches(&mut cache, &path, "ab"))
+    assert_fetched(rt, &mut cache, &path, "ab")
 }
 
 #[test]

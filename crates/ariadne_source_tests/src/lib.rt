@@ -7,6 +7,8 @@ mod caches;
 #[cfg(test)]
 mod characters;
 #[cfg(test)]
+mod comparing;
+#[cfg(test)]
 mod edits;
 #[cfg(test)]
 mod files;

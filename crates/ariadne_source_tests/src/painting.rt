@@ -3,6 +3,7 @@
 ghost use Rattle.std.specs.Prelude.{◌≡◌, ◌++◌, IfOk, decimal, encode_utf8, string_bytes};
 ghost use Rattle.ariadne_color.specs.Colors.{background, foreground, painted_in};
 
+use crate::comparing::{assert_same, assert_text};
 use ariadne::{Color, ColorGenerator, Fmt};
 use ariadne_color::color::{numbers_rise_evenly, push_painted, push_painted_char};
 use std::alloc::{AllocError, Global};
@@ -102,11 +103,6 @@ const COLORS: &[(Color, &str, &str)] = &[
     (Color::BrightCyan, "96", "106"),
     (Color::BrightWhite, "97", "107"),
 ];
-
-/// Asserts that a text was made, and is this.
-fn assert_text(rt: &impl Abort, text: Result<String, AllocError>, want: &str) {
-    assert_eq!(rt; text.expect(rt, "memory").as_str(), want)
-}
 
 /// A letter between an escape with these parameters and the closing one.
 fn escaped(alloc: Global, parameters: &str) -> Result<String, AllocError> {
@@ -224,22 +220,27 @@ fn colors_of_a_generator(rt: HostRuntime) {
     let mut usual = ColorGenerator::new();
     let mut default = ColorGenerator::default();
     for number in [201, 155, 187] {
-        assert_eq!(rt; usual.next(), Color::Fixed(number));
-        assert_eq!(rt; default.next(), Color::Fixed(number));
+        assert_same(&rt, &usual.next(), &Color::Fixed(number));
+        assert_same(&rt, &default.next(), &Color::Fixed(number));
     }
-    assert_eq!(rt; usual_after_one().next(), Color::Fixed(155));
-    assert_eq!(rt; usual_after_two().next(), Color::Fixed(187));
-    assert_eq!(rt; usual_after_three().next(), default.next());
+    assert_same(&rt, &usual_after_one().next(), &Color::Fixed(155));
+    assert_same(&rt, &usual_after_two().next(), &Color::Fixed(187));
+    assert_same(&rt, &usual_after_three().next(), &default.next());
+    numbers_rise_evenly();
+}
 
-    // Full brightness is always white.
+#[test]
+fn full_brightness_is_always_white(rt: HostRuntime) {
     let mut bright = ColorGenerator::from_state([0, 0, 0], 2000);
     for turn in 0..20 {
-        assert_eq!(rt; bright.next(), Color::Fixed(231), "at turn {turn}");
+        let color = bright.next();
+        assert!(rt; color == Color::Fixed(231), "{color:?} at turn {turn}");
     }
+}
 
-    // Numbers begin again at 65536.
+#[test]
+fn numbers_of_a_generator_begin_again_at_65536(rt: HostRuntime) {
     let mut greatest = ColorGenerator::from_state([65535, 65535, 65535], 0);
-    assert_eq!(rt; greatest.next(), Color::Fixed(109));
-    assert_eq!(rt; greatest_after_one().next(), greatest.next());
-    numbers_rise_evenly();
+    assert_same(&rt, &greatest.next(), &Color::Fixed(109));
+    assert_same(&rt, &greatest_after_one().next(), &greatest.next())
 }

@@ -3,6 +3,7 @@
 
 ghost use Rattle.std.specs.Prelude.{◌<◌};
 
+use crate::comparing::assert_same;
 use crate::safe_example::tell;
 use ariadne::{CharSet, Color, Config, IndexType, Label, LeftOut, Reason, ReportKind, WriteError};
 use ariadne_asserts::asserts::{Why, assert_left_out};
@@ -120,7 +121,7 @@ fn hint(rt: &impl Abort) -> SafeKind<'static> {
 
 /// Asserts that what was sent is this.
 fn assert_text(rt: &impl Abort, sent: &[u8], want: &str) {
-    assert_eq!(rt; std::str::from_utf8(sent), Ok(want))
+    assert_same(rt, &std::str::from_utf8(sent), &Ok(want))
 }
 
 #[test]
@@ -148,13 +149,13 @@ fn two_sources(alloc: Global) -> Result<(SafeSources, usize), AllocError> {
 /// Asserts that a source has this name, if it has one, and this text.
 fn assert_source(rt: &impl Abort, source: Option<&SafeSource>, name: Option<&str>, text: &str) {
     let source = source.expect(rt, "a source");
-    assert_eq!(rt; (source.name(), source.source().text()), (name, text))
+    assert_same(rt, &(source.name(), source.source().text()), &(name, text))
 }
 
 #[test]
 fn a_source_is_had_by_its_number(rt: HostRuntime) {
     let (sources, number) = two_sources(rt.alloc()).expect(&rt, "memory");
-    assert_eq!(rt; (number, sources.len()), (1, 2));
+    assert_same(&rt, &(number, sources.len()), &(1, 2));
     let text = "é␛[8m\u{fffd}\r\nnext␋();\n";
     assert_source(&rt, sources.get(0), Some("g\u{fffd}.txt"), text);
     assert_source(&rt, sources.get(1), None, "a\tb");
@@ -185,7 +186,7 @@ fn shown(source: &SafeSource, offset: usize) -> (usize, usize) {
 fn an_offset_in_bytes_is_found_in_the_shown_text(rt: HostRuntime) {
     let source = SafeSource::new(rt.alloc(), TEXT, LineEnds::LineFeeds).expect(&rt, "memory");
     for (given, want) in OFFSETS {
-        assert_eq!(rt; shown(&source, *given), (*want, *given));
+        assert_same(&rt, &shown(&source, *given), &(*want, *given));
     }
 }
 
@@ -211,7 +212,7 @@ fn a_label_of_a_number_without_source_is_left_out(rt: HostRuntime) {
     assert_without_source(&rt, SafeKind::warning(), "Warning: m\n");
     assert_without_source(&rt, SafeKind::advice(), "Advice: m\n");
     let text = format!(in rt.alloc(); "{}", NoSource { number: 7 }).expect(&rt, "memory");
-    assert_eq!(rt; text.as_str(), "no source has the number 7")
+    assert_same(&rt, &text.as_str(), &"no source has the number 7")
 }
 
 #[test]
@@ -230,7 +231,7 @@ fn is_sent_without(rt: &(impl Abort + AllocGlobal), nth: usize) -> bool
     refuse(rt.alloc(), nth);
     let drawn = drawn(rt.alloc(), kind);
     let is_refused = was_refused(rt.alloc());
-    assert_eq!(rt; (nth, drawn.is_err()), (nth, is_refused));
+    assert_same(rt, &(nth, drawn.is_err()), &(nth, is_refused));
     if let Ok((out, _left_out)) = drawn {
         assert_text(rt, out.as_slice(), PICTURE);
     }

@@ -1,5 +1,6 @@
 //! The lines of texts, look-ups in them, and spans.
 
+use crate::comparing::assert_same;
 use ariadne::{Line, Place, Source, SourceLines, SourceText, Span};
 use std::hash::{DefaultHasher, Hash, Hasher};
 use std::ops::Range;
@@ -27,7 +28,7 @@ fn assert_line<I: SourceText>(
 ) -> usize {
     let line = line.expect(rt, "a line");
     let len = want.chars().count();
-    assert_eq!(rt; told_in(source, line), (offset, len, Some(want)));
+    assert_same(rt, &told_in(source, line), &(offset, len, Some(want)));
     offset.saturating_add(len)
 }
 
@@ -37,12 +38,12 @@ fn assert_lines_of<I: SourceText>(rt: &impl Abort, source: &Source<I>, lines: &[
     let mut found = source.lines();
     for (number, want) in lines.iter().enumerate() {
         let line = found.next();
-        assert_eq!(rt; source.line(number), line);
+        assert_same(rt, &source.line(number), &line);
         offset = assert_line(rt, source, line, offset, *want);
     }
     let told = (source.lines().len(), source.len());
-    assert_eq!(rt; told, (lines.len(), offset));
-    assert_eq!(rt; source.line(lines.len()), None)
+    assert_same(rt, &told, &(lines.len(), offset));
+    assert_same(rt, &source.line(lines.len()), &None)
 }
 
 /// The text of these lines.
@@ -108,8 +109,8 @@ fn assert_ended(rt: &(impl Abort + AllocGlobal), fill: &str, separator: &str) {
         Some(width),
         Some(63),
     );
-    assert_eq!(rt; (separator, fill, lens), (separator, fill, want));
-    assert_eq!(rt; source.lines().len(), 4)
+    assert_same(rt, &(separator, fill, lens), &(separator, fill, want));
+    assert_same(rt, &source.lines().len(), &4)
 }
 
 /// What ends a line.
@@ -137,17 +138,25 @@ fn told_of_line(line: Line) -> (usize, usize, bool, Range<usize>) {
 /// Asserts how many lines are still to come.
 fn assert_rest(rt: &impl Abort, lines: &SourceLines<'_>, count: usize) {
     let told = (lines.len(), lines.size_hint());
-    assert_eq!(rt; told, (count, (count, Some(count))))
+    assert_same(rt, &told, &(count, (count, Some(count))))
 }
 
 #[test]
 fn a_line_tells_where_it_is_and_how_long(rt: HostRuntime) {
     let source = source(&rt, "\u{e9}b\r\nc");
-    assert_eq!(rt; (source.len(), source.is_empty()), (5, false));
+    assert_same(&rt, &(source.len(), source.is_empty()), &(5, false));
     let mut lines = source.lines();
     assert_rest(&rt, &lines, 2);
-    assert_eq!(rt; lines.next().map(told_of_line), Some((0, 4, false, 0..4)));
-    assert_eq!(rt; lines.next().map(told_of_line), Some((4, 1, false, 4..5)));
+    assert_same(
+        &rt,
+        &lines.next().map(told_of_line),
+        &Some((0, 4, false, 0..4)),
+    );
+    assert_same(
+        &rt,
+        &lines.next().map(told_of_line),
+        &Some((4, 1, false, 4..5)),
+    );
     assert_rest(&rt, &lines, 0)
 }
 
@@ -173,12 +182,12 @@ const OFFSETS: &[(usize, usize, usize)] = &[
 #[test]
 fn an_offset_lies_in_the_last_line_that_begins_before_it(rt: HostRuntime) {
     let source = source(&rt, "\n\r\n\nEmpty Lines");
-    assert_eq!(rt; source.len(), 15);
+    assert_same(&rt, &source.len(), &15);
     for (offset, number, column) in OFFSETS {
         let want = spot_in(&source, *number, *column);
-        assert_eq!(rt; source.get_offset_line(*offset), want);
+        assert_same(&rt, &source.get_offset_line(*offset), &want);
     }
-    assert_eq!(rt; source.get_offset_line(16), None)
+    assert_same(&rt, &source.get_offset_line(16), &None)
 }
 
 /// The starts and the ends of spans, each with the numbers of its lines, the last exclusive.
@@ -194,7 +203,7 @@ const RANGES: &[(usize, usize, Range<usize>)] = &[
 fn a_span_lies_in_the_lines_of_its_characters(rt: HostRuntime) {
     let source = source(&rt, "\n\r\n\nEmpty Lines");
     for (start, end, lines) in RANGES {
-        assert_eq!(rt; source.get_line_range(&(*start..*end)), *lines);
+        assert_same(&rt, &source.get_line_range(&(*start..*end)), lines);
     }
 }
 
@@ -204,22 +213,22 @@ const BYTES: &[(usize, usize, usize)] = &[(0, 0, 0), (1, 0, 1), (2, 0, 2), (3, 1
 #[test]
 fn bytes_are_not_taken_for_characters(rt: HostRuntime) {
     let source = source(&rt, "\u{e9}\nb");
-    assert_eq!(rt; source.len(), 3);
+    assert_same(&rt, &source.len(), &3);
     assert!(rt; source.chars().eq("\u{e9}\nb".chars()));
     for (offset, number, column) in BYTES {
         let want = spot_in(&source, *number, *column);
-        assert_eq!(rt; source.get_byte_line(*offset), want);
+        assert_same(&rt, &source.get_byte_line(*offset), &want);
     }
     let past = (source.get_byte_line(5), source.get_offset_line(4));
-    assert_eq!(rt; past, (None, None));
-    assert_eq!(rt; source.get_offset_line(2), spot_in(&source, 1, 0))
+    assert_same(&rt, &past, &(None, None));
+    assert_same(&rt, &source.get_offset_line(2), &spot_in(&source, 1, 0))
 }
 
 #[test]
 fn a_line_has_no_text_where_its_bytes_are_none_of_the_source(rt: HostRuntime) {
     let line = source(&rt, "abcde").line(0).expect(&rt, "a line");
-    assert_eq!(rt; source(&rt, "ab").get_line_text(line), None);
-    assert_eq!(rt; source(&rt, "abcd\u{e9}").get_line_text(line), None)
+    assert_same(&rt, &source(&rt, "ab").get_line_text(line), &None);
+    assert_same(&rt, &source(&rt, "abcd\u{e9}").get_line_text(line), &None)
 }
 
 /// The hash of a source.
@@ -243,9 +252,13 @@ fn moved(rt: &(impl Abort + AllocGlobal)) -> Source<String> {
 fn a_copy_equals_its_source_in_text_and_offset(rt: HostRuntime) {
     let source = moved(&rt);
     let copy = source.clone().expect(&rt, "memory");
-    assert_eq!(rt; (copy.text(), copy.display_line_offset()), ("a\nb", 98));
+    assert_same(
+        &rt,
+        &(copy.text(), copy.display_line_offset()),
+        &("a\nb", 98),
+    );
     assert!(rt; copy == source);
-    assert_eq!(rt; hash_of(&copy), hash_of(&source));
+    assert_same(&rt, &hash_of(&copy), &hash_of(&source));
     assert!(rt; copy.lines().len() <= usize::MAX);
     assert!(rt; copy.with_display_line_offset(0) != source)
 }
@@ -272,7 +285,7 @@ fn a_text_may_be_shared(rt: HostRuntime) {
     let source = source(&rt, text);
     assert_lines_of(&rt, &source, FOUR);
     let copy = source.clone().expect(&rt, "memory");
-    assert_eq!(rt; copy.text(), source.text())
+    assert_same(&rt, &copy.text(), &source.text())
 }
 
 #[test]
@@ -299,7 +312,7 @@ fn half_open_ranges_end_before_their_end(rt: HostRuntime) {
     for (start, end, len) in HALF_OPEN {
         let want = (*start, *end, *len, *len == 0);
         let told = (told_of(&(*start..*end)), told_of(&("a", *start..*end)));
-        assert_eq!(rt; told, (want, want));
+        assert_same(&rt, &told, &(want, want));
     }
 }
 
@@ -316,7 +329,7 @@ fn inclusive_ranges_end_one_past_their_last_offset(rt: HostRuntime) {
     for (start, last, end, len) in INCLUSIVE {
         let want = (*start, *end, *len, *len == 0);
         let told = (told_of(&(*start..=*last)), told_of(&(7u8, *start..=*last)));
-        assert_eq!(rt; told, (want, want));
+        assert_same(&rt, &told, &(want, want));
     }
 }
 
@@ -324,11 +337,12 @@ fn inclusive_ranges_end_one_past_their_last_offset(rt: HostRuntime) {
 fn a_place_never_runs_backwards(rt: HostRuntime) {
     assert!(rt; Place::new(3, 2).is_none());
     let place = Place::new(2, 5).expect(&rt, "a place");
-    assert_eq!(rt; told_of(&place), (2, 5, 3, false));
-    assert_eq!(rt; told_of(&("a", Place::at(3))), (3, 3, 0, true));
-    assert_eq!(rt;
-        (Place::at(5).to(Place::at(2)), place.to(Place::at(3))),
-        (place, place)
+    assert_same(&rt, &told_of(&place), &(2, 5, 3, false));
+    assert_same(&rt, &told_of(&("a", Place::at(3))), &(3, 3, 0, true));
+    assert_same(
+        &rt,
+        &(Place::at(5).to(Place::at(2)), place.to(Place::at(3))),
+        &(place, place),
     )
 }
 
@@ -337,14 +351,22 @@ const HELD: &[(usize, bool)] = &[(1, false), (2, true), (4, true), (5, false)];
 
 #[test]
 fn a_span_has_a_source_and_holds_its_start_and_not_its_end(rt: HostRuntime) {
-    assert_eq!(rt; (*("a", 2..5).source(), *(7u8, 2..=4).source()), ("a", 7));
-    assert_eq!(rt; *Span::source(&(2..5)), ());
+    assert_same(
+        &rt,
+        &(*("a", 2..5).source(), *(7u8, 2..=4).source()),
+        &("a", 7),
+    );
+    assert_same(&rt, &*Span::source(&(2..5)), &());
     for (offset, is_held) in HELD {
         let held = (
             Span::contains(&(2..5), *offset),
             ("a", 2..=4).contains(*offset),
             Span::contains(&(5..2), *offset),
         );
-        assert_eq!(rt; (*offset, held), (*offset, (*is_held, *is_held, false)));
+        assert_same(
+            &rt,
+            &(*offset, held),
+            &(*offset, (*is_held, *is_held, false)),
+        );
     }
 }

@@ -2,6 +2,7 @@
 
 ghost use Rattle.std.specs.Prelude.{◌<◌};
 
+use crate::comparing::{assert_same, assert_text};
 use ariadne_fakes::{refuse, was_refused};
 use ariadne_visible::{TextKind, is_seen, visible};
 use std::alloc::AllocError;
@@ -34,15 +35,10 @@ const SHOWN: &[(&str, TextKind, &str)] = &[
     ),
 ];
 
-/// Asserts that what is shown of a text was made, and is this.
-fn assert_shown(rt: &impl Abort, shown: Result<String, AllocError>, want: &str) {
-    assert_eq!(rt; shown.expect(rt, "memory").as_str(), want)
-}
-
 #[test]
 fn hidden_characters_have_signs(rt: HostRuntime) {
     for (text, kind, want) in SHOWN {
-        assert_shown(&rt, visible(rt.alloc(), *text, *kind), *want);
+        assert_text(&rt, visible(rt.alloc(), *text, *kind), *want);
     }
     assert!(rt; is_seen("\u{26a0}\u{fe0f}\u{fe0e}\u{2801}\u{1161}\u{1342f}"));
     assert!(rt; is_seen("é漢"));
@@ -57,9 +53,9 @@ fn is_shown_without(rt: &(impl Abort + AllocGlobal), nth: usize) -> bool
     refuse(rt.alloc(), nth);
     let shown = visible(rt.alloc(), "a\u{1b}b", TextKind::OneRow);
     let is_refused = was_refused(rt.alloc());
-    assert_eq!(rt; (nth, shown.is_err()), (nth, is_refused));
+    assert_same(rt, &(nth, shown.is_err()), &(nth, is_refused));
     if let Ok(shown) = shown {
-        assert_eq!(rt; shown.as_str(), "a␛b");
+        assert_same(rt, &shown.as_str(), &"a␛b");
     }
     !is_refused
 }
