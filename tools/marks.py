@@ -322,6 +322,9 @@ MARKS = re.compile(r"[ ~^]*[~^][ ~^]*$")
 # How g++ begins a message that goes on with that of the head in front.
 GOES_ON = "  "
 PLACELESS = re.compile(r"(?:cc1: |cc1plus: )?note: (?P<words>.*)$")
+# A row of -fdiagnostics-parseable-fixits, the escapes in its text, and what their letters mean.
+FIX_ROW = re.compile(r'fix-it:"(?P<path>[^"]*)":\{[\d:-]+\}:"(?P<words>.*)"$')
+ESCAPE, LETTERS = re.compile(rb"\\(?:([0-7]{3})|(.))"), {b"n": b"\n", b"t": b"\t"}
 # A note of clang's about a text that stands in no file, which it quotes, with marks.
 UNFILED = re.compile(r"<(?:scratch space|inline asm|command line|built-in)>:\d+:\d+: note: (?P<words>.*)$")
 
@@ -330,6 +333,11 @@ def message_and_code(words):
     """A message, and the code in brackets behind it."""
     match = CODE.match(words)
     return (match[1], match[2]) if match else (words, None)
+
+
+def meant(escape):
+    """The bytes that an escape in a row of a fix stands for."""
+    return bytes([int(escape[1], 8)]) if escape[1] else LETTERS.get(escape[2], escape[2])
 
 
 class Compiler(Reader):
@@ -350,7 +358,15 @@ class Compiler(Reader):
             told.details.append(self.row().strip())
             self.at += 1
         self.take_snippet(told)
+        self.take_fix_rows(told)
         return self.keep(told)
+
+    def take_fix_rows(self, told):
+        """Takes the rows that tell programs what is to be put where. A snippet may have shown it."""
+        while (match := FIX_ROW.match(self.row())) and self.files.name(match["path"]) == told.path:
+            put = ESCAPE.sub(meant, match["words"].encode()).decode().strip()
+            told.puts += [put] if put and put not in told.puts else []
+            self.at += 1
 
     def take_placeless(self):
         """Takes a note of the diagnostic in front that names no place."""
@@ -516,7 +532,7 @@ class Clang(Compiler):
 
     def is_known(self):
         """Whether the next row is one that can stand behind marks."""
-        patterns = (HEAD, PLACELESS, UNFILED, self.SUM, *self.FRONTS, re.compile(r"===|Found compiler error|$"))
+        patterns = (HEAD, PLACELESS, UNFILED, FIX_ROW, self.SUM, *self.FRONTS, re.compile(r"===|Found compiler error|$"))
         return any(pattern.match(self.row()) for pattern in patterns)
 
 
@@ -557,7 +573,10 @@ class Shellcheck(Compiler):
 
 
 class RustcShort(Shellcheck):
-    """rustc's lines of `--error-format=short`, which quote nothing. Columns count characters."""
+    """rustc's lines of `--error-format=short`, which quote nothing. Columns count characters. Further rows of a
+    message stand as far to the right as its first; so may the words by which cargo tells what it has done."""
+
+    STATUS = re.compile(r" {7}(?:Fresh|Dirty|Fixed) ")
 
     HEAD = re.compile(
         r"(?P<path>[^\s:][^:]*):(?P<line>\d+):(?P<column>\d+): (?P<kind>error|warning)(?:\[(?P<code>\w+)\])?: (?P<words>.*)$"
@@ -568,6 +587,10 @@ class RustcShort(Shellcheck):
         if not name:
             return False
         told = self.begin(match["kind"], match["code"], match["words"], name, match["line"], match["column"])
+        in_front = " " * (match.start("words") - match.start("kind"))
+        while self.row().startswith(in_front) and not self.STATUS.match(self.row()):
+            told.message += f"\n{self.row().removeprefix(in_front)}"
+            self.at += 1
         return self.keep(told)
 
 

@@ -58,6 +58,11 @@ UNUSED = (
     "--error-format=json {}"
 )
 LINKED = ("-Wall", "-fsyntax-only", "-fdiagnostics-urls=always", "{}")
+CARGO_SHORT = (
+    "cargo check --offline --message-format=short --color=always --target-dir={out}; "
+    "cargo check -v --offline --message-format=short --color=always --target-dir={out}"
+)
+FIX_ROWS = ("-fsyntax-only", "-Wall", "-fdiagnostics-parseable-fixits", "{}")
 DISPLAY, CHARS = ("--columns=display",), ("--columns=chars",)
 TEXTS = {
     "gcc_carets": Text("gcc", (*GCC, "{}"), C, DISPLAY),
@@ -125,6 +130,13 @@ TEXTS = {
     "gcc_links_bell": Text("gcc", ("env", "GCC_URLS=bel", "gcc", *LINKED), ("corpus/c/1[15]*.c",), DISPLAY),
     "pylint_characters": Text("pylint", ("pylint", "{}"), ("corpus/tokens/*.py",)),
     "rustc_crates": Text("rustc json", ("sh", "-c", UNUSED), ("corpus/crates/*.rs",)),
+    "rustc_rows": Text("rustc short", (*RUST, "--error-format=short", "{}"), ("corpus/rows/*.rs",)),
+    "cargo_short": Text("rustc short", ("sh", "-c", CARGO_SHORT), folder="corpus/rows"),
+    "gcc_fixits": Text("gcc", ("gcc", *FIX_ROWS), ("corpus/fixits/*.c",), DISPLAY),
+    "gcc_fixits_alone": Text("gcc", ("gcc", "-fno-diagnostics-show-caret", *FIX_ROWS), ("corpus/fixits/*.c",), DISPLAY),
+    "gxx_fixits": Text("gcc", ("g++", "-Wold-style-cast", "-pedantic", *FIX_ROWS), ("corpus/fixits/*.cpp",), DISPLAY),
+    "clang_fixits": Text("clang", ("clang", *FIX_ROWS), ("corpus/fixits/*.c",)),
+    "clangxx_fixits": Text("clang", ("clang++", "-Wextra-semi", *FIX_ROWS), ("corpus/fixits/*.cpp",)),
     "gone": Text("gcc", ("sh", "-c", GONE), ("corpus/c/1[178]*.c",)),
     "log": Text("none", ()),
     "make": Text("make", ("make", "--keep-going"), folder="corpus/make", words=DISPLAY),

@@ -1,9 +1,11 @@
-pub mod Lists
-pub mod Words
 pub mod Bared
-pub mod Joined
-pub mod Settled
-pub mod Said
-pub mod Viewed
+pub mod Changed
+pub mod Escapes
 pub mod Gone
+pub mod Joined
+pub mod Lists
 pub mod Once
+pub mod Said
+pub mod Settled
+pub mod Viewed
+pub mod Words

@@ -5,8 +5,9 @@ use Rattle.std.specs.Option.{option_copied}
 use Rattle.std.specs.Borrow.{Bor}
 use Rattle.ariadne_told.specs.Places.{seen}
 use Rattle.ariadne_told.specs.declared.diagnostic.Place.{Place}
-use Rattle.ariadne_blocks.specs.Blocks.{first_file, first_line, of_file, of_no_place, of_snippet, IsRow, View}
+use Rattle.ariadne_blocks.specs.Blocks.{first_file, first_line, for_programs, of_file, of_message, of_no_place, of_snippet, IsRow, View}
 use Rattle.ariadne_blocks.specs.Files.{file_at, line_at, File}
+use Rattle.ariadne_blocks.specs.GoingOn.{behind_head}
 use Rattle.ariadne_blocks.specs.Telling.{Telling}
 use Rattle.ariadne_blocks.specs.declared.block.Block.{Block}
 use Rattle.ariadne_blocks.specs.declared.line.Line.{Line}
@@ -14,20 +15,19 @@ use Rattle.ariadne_blocks.proofs.Lists.{first_mapped}
 
 -- views are the same whose parts are
 pub same_view : (v w : View) → v.told ≡ w.told → v.path ≡ w.path → v.at ≡ w.at → v.marked ≡ w.marked
-    → v.behind ≡ w.behind → v.width ≡ w.width → v.aside ≡ w.aside → v.named ≡ w.named
-    → v.caret ≡ w.caret → v ≡ w
-same_view v w told path at marked behind width aside named caret =
+    → v.behind ≡ w.behind → v.goes_on ≡ w.goes_on → v.aside ≡ w.aside → v.named ≡ w.named
+    → v.caret ≡ w.caret → v.changes ≡ w.changes → v ≡ w
+same_view v w told path at marked behind goes_on aside named caret changes =
     ap (λ (t : Telling). record v { told = t }) told
     ∙ ap (λ t. record v { told = w.told; path = t }) path
     ∙ ap (λ t. record v { told = w.told; path = w.path; at = t }) at
     ∙ ap (λ t. record v { told = w.told; path = w.path; at = w.at; marked = t }) marked
     ∙ ap (λ t. record v { told = w.told; path = w.path; at = w.at; marked = w.marked; behind = t }) behind
-    ∙ ap
-    (λ t. record v { told = w.told; path = w.path; at = w.at; marked = w.marked; behind = w.behind; width = t })
-    width
-    ∙ ap (λ t. record w { aside = t; named = v.named; caret = v.caret }) aside
-    ∙ ap (λ t. record w { named = t; caret = v.caret }) named
-    ∙ ap (λ t. record w { caret = t }) caret
+    ∙ ap (λ t. record w { goes_on = t; aside = v.aside; named = v.named; caret = v.caret; changes = v.changes }) goes_on
+    ∙ ap (λ t. record w { aside = t; named = v.named; caret = v.caret; changes = v.changes }) aside
+    ∙ ap (λ t. record w { named = t; caret = v.caret; changes = v.changes }) named
+    ∙ ap (λ t. record w { caret = t; changes = v.changes }) caret
+    ∙ ap (λ t. record w { changes = t }) changes
 
 -- a row is one, whatever is known of events behind it
 pub row_with_events : (file : Option File) (line : Line) (before after : Block) (has_events : Bool)
@@ -47,6 +47,8 @@ row_with_events file line before after has_events (of_snippet text row) =
     })
 row_with_events file line before after has_events (of_file told view) = of_file told view
 row_with_events file line before after has_events (of_no_place told view) = of_no_place told view
+row_with_events file line before after has_events (of_message row view) = of_message row view
+row_with_events file line before after has_events (for_programs row view) = for_programs row view
 
 -- the file of the first of places
 pub first_path : (ps : List Place) (first : Option (Bor Place)) (path : List ℕ) → option_copied first ≡ slice_get ps 0
@@ -63,3 +65,8 @@ some_copied (Some x) = refl
 pub first_line_is : (ps : List Place) (first : Option (Bor Place)) → option_copied first ≡ slice_get ps 0
     → line_at (option_map seen (option_copied first)) ≡ first_line (map seen ps)
 first_line_is ps first is = ap line_at (ap (option_map seen) is ∙ sym (first_mapped seen ps))
+
+-- how the message of a head about the first of places goes on
+pub first_goes_on : (head : List ℕ) (ps : List Place) (first : Option (Bor Place)) → option_copied first ≡ slice_get ps 0
+    → behind_head head (option_map seen (option_copied first)) ≡ behind_head head (slice_get (map seen ps) 0)
+first_goes_on head ps first is = ap (behind_head head) (ap (option_map seen) is ∙ sym (first_mapped seen ps))

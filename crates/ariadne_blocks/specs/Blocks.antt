@@ -11,10 +11,12 @@ use Rattle.ariadne_columns.specs.declared.unit.Unit.TheVariants.{Byte}
 use Rattle.ariadne_snippets.specs.Snippets.{number_quoted, HasEnded, IsUnread, QuotesNext, TellsOf}
 use Rattle.ariadne_snippets.specs.declared.snippet.Snippet.{Snippet}
 use Rattle.ariadne_snippets.specs.declared.taken.Fix.{Fix}
+use Rattle.ariadne_snippets.specs.declared.taken.FixKind.{FixKind}
 use Rattle.ariadne_snippets.specs.declared.taken.Taken.{Taken}
 use Rattle.ariadne_snippets.specs.declared.taken.Taken.TheVariants.{NotOfSnippet, Nothing, Ranges, Labels, Begun, Fixes, Note, Help, More, At, Elsewhere}
 use Rattle.ariadne_told.specs.Arrows.{arrow_in}
 use Rattle.ariadne_told.specs.ArrowsTold.{place_of_arrow}
+use Rattle.ariadne_told.specs.FixRows.{fix_row_in, FixRow}
 use Rattle.ariadne_told.specs.Noted.{place_row}
 use Rattle.ariadne_told.specs.Places.{seen, Seen}
 use Rattle.ariadne_told.specs.declared.diagnostic.Diagnostic.{Diagnostic}
@@ -22,14 +24,19 @@ use Rattle.ariadne_told.specs.declared.diagnostic.Place.{Place}
 use Rattle.ariadne_blocks.specs.Colors.{IsBare}
 use Rattle.ariadne_blocks.specs.Events.{event_in, frame, in_file, quoting, telling as telling_event}
 use Rattle.ariadne_blocks.specs.Files.{File, file_at, line_at, quotes_escape, source_in}
-use Rattle.ariadne_blocks.specs.Fixes.{change_unit, fix_help}
+use Rattle.ariadne_blocks.specs.FixRows.{column_of, is_path_of, is_told_in, kind_of, told_change, unescaped}
+use Rattle.ariadne_blocks.specs.Fixes.{change_unit, fix_help, fix_text}
+use Rattle.ariadne_blocks.specs.GoingOn.{behind_head, may_go_on_in, row_in}
 use Rattle.ariadne_blocks.specs.Marks.{Marking, with_begun, with_labels, with_marks}
-use Rattle.ariadne_blocks.specs.Messages.{had_no_room, is_of_python, with_lines}
+use Rattle.ariadne_blocks.specs.Messages.{is_of_python, with_lines}
 use Rattle.ariadne_blocks.specs.Notes.{are_lines_of, is_line_of, note_places}
 use Rattle.ariadne_blocks.specs.Telling.{Telling, telling}
 use Rattle.ariadne_blocks.specs.declared.block.Aside.{Aside}
 use Rattle.ariadne_blocks.specs.declared.block.Aside.TheVariants as aside
 use Rattle.ariadne_blocks.specs.declared.block.Block.{Block}
+use Rattle.ariadne_blocks.specs.declared.fix_rows.ToldChange.{ToldChange}
+use Rattle.ariadne_blocks.specs.declared.goes_on.GoesOn.{GoesOn}
+use Rattle.ariadne_blocks.specs.declared.goes_on.GoesOn.TheVariants.{Cut, Nowhere}
 use Rattle.ariadne_blocks.specs.declared.line.Line.{Line}
 use Rattle.ariadne_blocks.specs.declared.message.MessageLine.{MessageLine}
 
@@ -72,15 +79,16 @@ pub record View : Type 0 where
   pub path : List ℕ
   pub at : ℕ
   pub marked : List ℕ
-  -- the lines that are held behind it, and how many characters the line had that was read last, if another
-  -- may go on with the message
+  -- the lines that are held behind it, and how its message may go on
   pub behind : List Held
-  pub width : Option ℕ
+  pub goes_on : GoesOn
   -- which text was read last, and the place that a row named
   pub aside : Aside
   pub named : Option Seen
   -- the character of its line, from 0, that its head points at, if that names a column
   pub caret : Option ℕ
+  -- what rows below the head or the note that was read last said how to change
+  pub changes : List ToldChange
 
 abbrev pub view_of : Block → View
 view_of block = record {
@@ -89,10 +97,11 @@ view_of block = record {
   at = block.rows.at;
   marked = block.rows.marked.items;
   behind = map held_of block.more.items;
-  width = block.width;
+  goes_on = block.goes_on;
   aside = block.aside;
   named = option_map seen block.named;
   caret = block.caret;
+  changes = block.changes.items;
 }
 
 -- ---- texts beside the message
@@ -125,10 +134,11 @@ begun told head caret = record {
   at = 0;
   marked = [];
   behind = [];
-  width = Some (length (chars head));
+  goes_on = behind_head head (slice_get told.places 0);
   aside = aside.Note;
   named = None;
   caret = caret;
+  changes = [];
 }
 
 pub record IsBegun (told : Diagnostic) (head : List ℕ) (caret : Option ℕ) (block : Block) : Type 0 where
@@ -149,8 +159,9 @@ noted note view = record view {
   path = first_file note.places;
   at = length view.told.places;
   marked = [];
-  width = None;
+  goes_on = Nowhere;
   aside = aside.Note;
+  changes = [];
 }
 
 -- a note has no place of its own: it names no column, in the line that a diagnostic begins in, or all the lines
@@ -171,7 +182,7 @@ pub data IsNoted (note : Diagnostic) (caret : Option ℕ) (before after : Block)
       → IsUnread (first_line (telling note).places) caret after.rows.snippet
       → view_of after ≡ noted (telling note) (view_of before) → IsNoted note caret before after
   as_text : is_beside (told_of before) note ≡ true → after.rows ≡ before.rows
-      → view_of after ≡ with_text aside.Note (telling note).message (record (view_of before) { width = None })
+      → view_of after ≡ with_text aside.Note (telling note).message (record (view_of before) { goes_on = Nowhere })
       → IsNoted note caret before after
 
 -- with a place that a line in front of it told
@@ -193,19 +204,14 @@ is_about told note =
 -- ---- lines that go on with the message
 
 -- a text may go on with it: its first word had no room in the line that was read last, of a tool of Python's
-abbrev pub may_go_on_at : List ℕ → Option ℕ → Option Seen → Bool
-may_go_on_at text None place = false
-may_go_on_at text (Some width) None = false
-may_go_on_at text (Some width) (Some place) = is_of_python place.file && had_no_room width text
-
 abbrev pub may_go_on : List ℕ → View → Bool
-may_go_on text view = may_go_on_at text view.width (slice_get view.told.places 0)
+may_go_on text view = may_go_on_in view.goes_on text
 
 -- such a line stands last behind the block
 abbrev pub with_more : List ℕ → List ℕ → View → View
 with_more bytes text view = record view {
   behind = view.behind ++ record { bytes = bytes; text = text } ∷ [];
-  width = Some (length (chars text));
+  goes_on = Cut (length (chars text));
 }
 
 -- a line was held so
@@ -223,7 +229,7 @@ abbrev pub with_message : View → View
 with_message view = record view {
   told = with_lines (map text_of view.behind) view.told;
   behind = [];
-  width = None;
+  goes_on = Nowhere;
 }
 
 -- the last of texts goes on with another, behind what stands between both
@@ -260,7 +266,8 @@ unit_of_changes (Some place) = change_unit place.unit
 
 abbrev pub with_fix : Option File → View → Fix → View
 with_fix file view fix =
-    with_change_by view.aside (fix_help file (unit_of_changes (slice_get view.told.places 0)) fix) view
+    with_change_by view.aside (fix_help file (unit_of_changes (slice_get view.told.places 0)) fix)
+    (record view { changes = view.changes ++ told_change fix ∷ [] })
 
 abbrev pub with_changes : Option File → List Fix → View → View
 with_changes file fixes view = fold (with_fix file) view fixes
@@ -288,6 +295,33 @@ with_reason view = with_reason_by view.aside view
 
 abbrev pub with_fixes : Option File → List Fix → View → View
 with_fixes file fixes view = with_changes file fixes (with_reason view)
+
+-- so is what a row for programs changes, unless a row above told it
+abbrev pub fix_row_help : FixRow → FixKind × List ℕ → List ℕ
+fix_row_help row change = fix_text change.0 row.start.line (column_of row) change.1
+
+abbrev pub with_help : List ℕ → View → View
+with_help help view = with_change_by view.aside help view
+
+abbrev pub with_fix_row : FixRow → View → View
+with_fix_row row view =
+    let change = kind_of row (unescaped row.text) in
+    if is_told_in view.changes row.start.line change.0 change.1 then view
+    else with_help (fix_row_help row change) (with_reason view)
+
+-- a row for programs tells a change in the file that the rows quote
+abbrev pub fix_row_by : List ℕ → Option FixRow → Option FixRow
+fix_row_by path None = None
+fix_row_by path (Some row) = if is_path_of path (unescaped row.file) then Some row else None
+
+abbrev pub fix_row_of : List ℕ → View → Option FixRow
+fix_row_of text view = fix_row_by view.path (fix_row_in text)
+
+-- a further row of the message
+abbrev pub with_message_row : List ℕ → View → View
+with_message_row row view = record view {
+  told = record view.told { message = view.told.message ++ codes "\n" ++ row };
+}
 
 -- what marks and the texts below them tell
 abbrev pub with_marking : Marking → View → View
@@ -368,7 +402,7 @@ abbrev pub file_place : List ℕ → Seen
 file_place path = place_of_arrow (path, record { line = 1; column = None }, true)
 
 -- so was a line; or it names the file of the next rows of events, or tells an event that is at no place, which is a
--- note
+-- note; or it is a further row of the message, or one for programs
 pub data IsRow (file : Option File) (line : Line) (before after : Block) : Type 0 where
   of_snippet : {text : List ℕ} → IsTextOf file line before.rows.snippet text
       → IsRowOf file text before after → IsRow file line before after
@@ -377,6 +411,10 @@ pub data IsRow (file : Option File) (line : Line) (before after : Block) : Type 
       → IsRow file line before after
   of_no_place : {event : List ℕ} → event_in line.text.now ≡ Some (telling_event event)
       → view_of after ≡ with_text aside.Note event (view_of before) → IsRow file line before after
+  of_message : {row : List ℕ} → row_in (view_of before).goes_on line.text.now ≡ Some row
+      → view_of after ≡ with_message_row row (view_of before) → IsRow file line before after
+  for_programs : {row : FixRow} → fix_row_of line.text.now (view_of before) ≡ Some row
+      → view_of after ≡ with_fix_row row (view_of before) → IsRow file line before after
 
 -- its snippet has ended: no line is a row of it any more
 abbrev pub HasNoMoreRows : Block → Type 0

@@ -3,7 +3,9 @@ pub mod Colors
 pub mod Drawn
 pub mod Events
 pub mod Files
+pub mod FixRows
 pub mod Fixes
+pub mod GoingOn
 pub mod Marks
 pub mod Messages
 pub mod Notes

@@ -100,7 +100,7 @@ fn begins_with_closed_number(text: &str) -> bool
 }
 
 /// What stands behind the blank that a text begins with.
-fn behind_blank(text: &str) -> Option<&str>
+pub(crate) fn behind_blank(text: &str) -> Option<&str>
     ensures { option_map (λ rest. rest.now) result ≡ pieces.behind 32 text.now }
 {
     text.strip_prefix(' ')
@@ -190,14 +190,14 @@ fn is_return(text: &str) -> bool
 }
 
 /// Whether a text begins with words.
-fn begins_with(text: &str, words: &str) -> bool
+pub(crate) fn begins_with(text: &str, words: &str) -> bool
     ensures { result ≡ events.begins_in words.now text.now }
 {
     text.starts_with(words)
 }
 
 /// Whether a text ends with words.
-fn closes_with(text: &str, words: &str) -> bool
+pub(crate) fn closes_with(text: &str, words: &str) -> bool
     ensures { result ≡ events.ends_in words.now text.now }
 {
     text.ends_with(words)

@@ -33,7 +33,7 @@ pub(crate) fn change_unit(unit: Unit) -> Unit
 }
 
 /// What a help says of a change at a column of its line.
-fn fix_words(alloc: Global, fix: &Fix<'_>, column: usize) -> Result<String, AllocError>
+pub(crate) fn fix_words(alloc: Global, fix: &Fix<'_>, column: usize) -> Result<String, AllocError>
     ensures { IfOk result (λ text. string_bytes text ≡ words_of_fix fix.now column) }
 {
     let line = fix.at.line;

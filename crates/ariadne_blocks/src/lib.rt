@@ -2,17 +2,23 @@
 //! and its notes with theirs.
 #![tactic(auto)]
 
+mod asides;
 pub mod block;
+mod changes;
 mod colors;
 pub mod drawn;
 mod events;
 pub mod file;
+mod fix_rows;
 mod fixes;
+mod goes_on;
 pub mod line;
 pub mod message;
+mod message_lines;
 mod places;
 pub mod repeats;
 mod rows;
+mod taking;
 
 pub use block::Block;
 pub use drawn::{Drawn, settle_marks};

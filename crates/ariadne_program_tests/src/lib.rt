@@ -19,6 +19,8 @@ mod show;
 #[cfg(test)]
 mod show_refused;
 #[cfg(test)]
+mod show_rows;
+#[cfg(test)]
 mod snippets;
 #[cfg(test)]
 mod snippets_of_rustc;

@@ -26,5 +26,5 @@ returns c =
     (ap (λ (ps : List Seen). record (telling old.told) { places = ps }) added)
     (first_path note.places.items c.first.result _ first c.in_ok-self.ensures.path)
     (c.in_ok-self.ensures.at ∙ c.len-at.ensures ∙ old.told.places.ok.0 ∙ sym (length-map old.told.places.items seen))
-    c.in_ok-self.ensures.marked refl refl refl refl refl))
+    c.in_ok-self.ensures.marked refl refl refl refl refl c.clear.ensures.items))
     c.push_note.ensures

@@ -1,7 +1,8 @@
-use Rattle.std.proofs.Common.{◌∙◌, ◌++◌, ◌∷◌, [], ap, refl, subst, sym, ℕ, Some}
+use Rattle.std.proofs.Common.{◌∙◌, ◌++◌, ◌∷◌, [], ap, refl, subst, sym, ℕ}
 use Rattle.std.specs.Prelude.{map}
 use Rattle.ariadne_snippets.specs.Snippets.{IsUnread}
 use Rattle.ariadne_blocks.specs.Blocks.{bytes_of, held_of, lines_behind, view_of, with_more, Held}
+use Rattle.ariadne_blocks.specs.declared.goes_on.GoesOn.TheVariants.{Cut}
 use Rattle.ariadne_blocks.proofs.Lists.{pushed}
 use Rattle.ariadne_blocks.proofs.Viewed.{same_view}
 use Rattle.ariadne_blocks.proofs.block.Block.take_more.Goals as goal
@@ -19,5 +20,5 @@ returns-clause-held c = λ yes.
       view = same_view _ (with_more c.args.line.bytes.now c.args.line.text.now (view_of old)) refl refl refl refl
           (pushed held_of old.more.items c.push.new.self.items c.in_ok-more.more c.in_ok-push.ensures.items
           ∙ ap (λ h. map held_of old.more.items ++ h ∷ []) c.in_ok-more.ensures)
-          (ap (λ n. Some n) c.width_of.ensures) refl refl refl;
+          (ap (λ n. Cut n) c.width_of.ensures) refl refl refl refl;
     }

@@ -1,6 +1,6 @@
 use Rattle.std.proofs.Common.{◌∙◌, ◌++◌, ap}
 use Rattle.ariadne_blocks.proofs.Gone.{gone}
-use Rattle.ariadne_blocks.proofs.block.go_on.Goals as goal
+use Rattle.ariadne_blocks.proofs.asides.go_on.Goals as goal
 
 -- the last one does
 pub returns-in_ok-push : goal.returns-in_ok-push

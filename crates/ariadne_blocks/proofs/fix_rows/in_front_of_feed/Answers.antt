@@ -1,0 +1,10 @@
+use Rattle.std.proofs.Common.{lit<}
+use Rattle.std.proofs.lemmas.Str.Pattern.{strip_suffix_char}
+use Rattle.ariadne_told.proofs.Texts.{in_front_is}
+use Rattle.ariadne_blocks.proofs.fix_rows.in_front_of_feed.Goals as goal
+
+-- as std strips it
+pub returns : goal.returns
+returns c =
+    in_front_is 10 c.args.text.now c.strip_suffix.result
+    (strip_suffix_char 10 c.args.text.now c.strip_suffix.result c.strip_suffix.ensures.cases (lit< tt))
