@@ -66,37 +66,60 @@ fn nested(alloc: Global, times: u16, is_colored: bool) -> Result<Job, AllocError
     let lines = 50 * u32::from(times);
     let mut job = Job::new(alloc, "nested", narrow(alloc, lines)?);
     for line in 0..lines {
-        let start = 50 * line as usize;
-        for (word, (from, to)) in WORDS.iter().enumerate() {
-            let message = format!(in alloc; "inline {line} {word}")?;
-            job.marks.push(said(start + *from, start + *to, message))?;
-        }
+        add_words(&mut job, alloc, line)?;
         let first = lines - 1 - line;
         if first < 20 * u32::from(times) {
-            let message = format!(in alloc; "nested {first}")?;
-            job.marks
-                .push(said(50 * first as usize + 4, start + 48, message))?;
+            add_outer(&mut job, alloc, first, line)?;
         }
     }
     job.is_colored = is_colored;
     Ok(job)
 }
 
+/// Adds the four labels in a line.
+fn add_words(job: &mut Job, alloc: Global, line: u32) -> Result<(), AllocError> {
+    let start = 50 * line as usize;
+    for (word, (from, to)) in WORDS.iter().enumerate() {
+        let message = format!(in alloc; "inline {line} {word}")?;
+        job.marks.push(said(start + *from, start + *to, message))?;
+    }
+    Ok(())
+}
+
+/// Adds a label from one line to another.
+fn add_outer(job: &mut Job, alloc: Global, first: u32, last: u32) -> Result<(), AllocError> {
+    let message = format!(in alloc; "nested {first}")?;
+    let mark = said(50 * first as usize + 4, 50 * last as usize + 48, message);
+    job.marks.push(mark)?;
+    Ok(())
+}
+
 /// Three labels far apart in a large text.
 fn large(alloc: Global, in_bytes: bool) -> Result<Job, AllocError> {
-    let (text, len) = if in_bytes {
-        (wide(alloc, LARGE)?, 65)
+    let mut job = Job::new(alloc, "large", large_text(alloc, in_bytes)?);
+    add_far(&mut job, alloc, in_bytes)?;
+    job.in_bytes = in_bytes;
+    Ok(job)
+}
+
+/// A large text, whose lines have 65 bytes each or 50.
+fn large_text(alloc: Global, in_bytes: bool) -> Result<String, AllocError> {
+    if in_bytes {
+        wide(alloc, LARGE)
     } else {
-        (narrow(alloc, LARGE)?, 50)
-    };
-    let mut job = Job::new(alloc, "large", text);
+        narrow(alloc, LARGE)
+    }
+}
+
+/// Adds a label near the end of each of the far lines.
+fn add_far(job: &mut Job, alloc: Global, in_bytes: bool) -> Result<(), AllocError> {
+    let len = if in_bytes { 65 } else { 50 };
     for line in FAR_LINES {
         let end = len * (*line + 1);
         let message = format!(in alloc; "line {line}")?;
         job.marks.push(said(end - 7, end - 2, message))?;
     }
-    job.in_bytes = in_bytes;
-    Ok(job)
+    Ok(())
 }
 
 /// Labels over several lines, of which each lies inside the next.

@@ -17,8 +17,8 @@ mod order;
 mod pictures;
 mod texts;
 
-use ariadne::Source;
-use ariadne_safe::{LineEnds, SafeSource, SafeSources};
+use ariadne::{Cache, Report, Source, Span};
+use ariadne_safe::{LineEnds, SafeReport, SafeSource, SafeSources};
 use job::Job;
 use order::{Kind, Named, Order, Shape, Workload};
 use std::alloc::{AllocError, Global};
@@ -64,13 +64,38 @@ fn measure_index(
     })
 }
 
+/// Measures the writing of a report over a cache.
+fn measure_draw<S: Span, C: Cache<S::SourceId>>(
+    rt: &(impl AllocGlobal + Clock),
+    report: &Report<'_, S>,
+    cache: &mut C,
+    rounds: u32,
+) -> io::Result<Outcome>
+    requires { C.can_fetch cache.old }
+{
+    let mut out = Vec::new(rt.alloc());
+    let start = Instant::now(rt)?;
+    pictures::draw(report, cache, rounds, &mut out)?;
+    let nanoseconds = start.elapsed(rt)?.as_nanos();
+    Ok(outcome_of(&out, nanoseconds))
+}
+
 /// Measures the writing of a report over one source.
 fn measure_job(rt: &(impl AllocGlobal + Clock), job: Job, rounds: u32) -> io::Result<Outcome> {
     let report = pictures::report_of(rt.alloc(), &job)?;
     let mut source = Source::from(rt.alloc(), job.text)?;
+    measure_draw(rt, &report, &mut source, rounds)
+}
+
+/// Measures the writing of a safe report.
+fn measure_draw_safely(
+    rt: &(impl AllocGlobal + Clock),
+    report: &SafeReport<'_>,
+    rounds: u32,
+) -> io::Result<Outcome> {
     let mut out = Vec::new(rt.alloc());
     let start = Instant::now(rt)?;
-    pictures::draw(&report, &mut source, rounds, &mut out)?;
+    pictures::draw_safely(report, rounds, &mut out)?;
     let nanoseconds = start.elapsed(rt)?.as_nanos();
     Ok(outcome_of(&out, nanoseconds))
 }
@@ -80,11 +105,7 @@ fn measure_safe(rt: &(impl AllocGlobal + Clock), job: Job, rounds: u32) -> io::R
     let mut sources = SafeSources::new(rt.alloc());
     sources.add(SafeSource::new(rt.alloc(), job.text.as_str(), LineEnds::All)?)?;
     let report = pictures::safe_report_of(rt.alloc(), &job, &sources)?;
-    let mut out = Vec::new(rt.alloc());
-    let start = Instant::now(rt)?;
-    pictures::draw_safely(&report, rounds, &mut out)?;
-    let nanoseconds = start.elapsed(rt)?.as_nanos();
-    Ok(outcome_of(&out, nanoseconds))
+    measure_draw_safely(rt, &report, rounds)
 }
 
 /// Measures the writing of a report with so many labels over sources that have names.
@@ -96,11 +117,7 @@ fn measure_named(
 ) -> io::Result<Outcome> {
     let report = named::report(rt.alloc(), named, labels)?;
     let mut cache = named::texts(rt.alloc(), named, labels)?;
-    let mut out = Vec::new(rt.alloc());
-    let start = Instant::now(rt)?;
-    pictures::draw(&report, &mut cache, rounds, &mut out)?;
-    let nanoseconds = start.elapsed(rt)?.as_nanos();
-    Ok(outcome_of(&out, nanoseconds))
+    measure_draw(rt, &report, &mut cache, rounds)
 }
 
 /// What the writing of this picture returned.
@@ -182,16 +199,26 @@ fn print_and_check(rt: &HostRuntime, names: &[String]) -> io::Result<bool> {
     check(rt, names)
 }
 
-fn main(rt: HostRuntime) -> io::Result<ExitCode> {
+/// The words behind the program's name.
+fn words_of(rt: &HostRuntime) -> io::Result<Vec<String>> {
     let mut words = Vec::new(rt.alloc());
-    for word in env::args(&rt)?.skip(1) {
+    for word in env::args(rt)?.skip(1) {
         words.push(word)?;
     }
-    let is_taken = match words.split_first() {
-        Some((first, names)) if first.as_str() == "--check" => print_and_check(&rt, names)?,
-        _ => run_words(&rt, &words)?,
-    };
-    if is_taken {
+    Ok(words)
+}
+
+/// Does what words order, and returns whether they order something.
+fn is_taken(rt: &HostRuntime, words: &[String]) -> io::Result<bool> {
+    match words.split_first() {
+        Some((first, names)) if first.as_str() == "--check" => print_and_check(rt, names),
+        _ => run_words(rt, words),
+    }
+}
+
+fn main(rt: HostRuntime) -> io::Result<ExitCode> {
+    let words = words_of(&rt)?;
+    if is_taken(&rt, &words)? {
         return Ok(ExitCode::SUCCESS);
     }
     eprintln!(rt;

@@ -49,14 +49,18 @@ fn add_line(job: &mut Job, alloc: Global, line: u8, count: u16) -> Result<(), Al
 
 /// Lines with labels side by side, of which the first of each has a message.
 fn silent_lines(alloc: Global, count: u16) -> Result<Job, AllocError> {
-    let mut line = words(alloc, u32::from(count) + 1)?;
-    line.push('\n')?;
-    let text = line.as_str().repeat(alloc, usize::from(SILENT_LINES))?;
-    let mut job = Job::new(alloc, "silentlines", text);
+    let mut job = Job::new(alloc, "silentlines", equal_lines(alloc, count)?);
     for number in 0..SILENT_LINES {
         add_line(&mut job, alloc, number, count)?;
     }
     Ok(job)
+}
+
+/// Their text: equal lines with one word more than that.
+fn equal_lines(alloc: Global, count: u16) -> Result<String, AllocError> {
+    let mut line = words(alloc, u32::from(count) + 1)?;
+    line.push('\n')?;
+    line.as_str().repeat(alloc, usize::from(SILENT_LINES))
 }
 
 /// One such line.
@@ -87,11 +91,16 @@ fn long_messages(alloc: Global, count: u16) -> Result<Job, AllocError> {
     let mut job = Job::new(alloc, "longmsg", narrow(alloc, u32::from(count))?);
     for number in 0..count {
         let start = 50 * usize::from(number);
-        let piece = format!(in alloc; "{number:08} ")?;
-        let message = piece.as_str().repeat(alloc, 1000)?;
+        let message = long_message(alloc, number)?;
         job.marks.push(said(start + 14, start + 19, message))?;
     }
     Ok(job)
+}
+
+/// The message of a number.
+fn long_message(alloc: Global, number: u16) -> Result<String, AllocError> {
+    let piece = format!(in alloc; "{number:08} ")?;
+    piece.as_str().repeat(alloc, 1000)
 }
 
 /// An empty label at each place of a line.

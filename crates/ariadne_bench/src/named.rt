@@ -7,8 +7,8 @@ use ariadne::{Label, Report, ReportKind, SourceMap, sources};
 use std::alloc::{AllocError, Global};
 use std::ops::Range;
 
-/// The place and the message of a report whose sources have names.
-type NamedReport = Report<'static, (String, Range<usize>)>;
+/// A place in a source that has a name.
+type Place = (String, Range<usize>);
 
 /// The name of a label's source.
 fn name_of(alloc: Global, named: Named, number: u16) -> Result<String, AllocError> {
@@ -45,16 +45,25 @@ fn count_of(named: Named, labels: u16) -> u16 {
     }
 }
 
+/// The label of a number.
+fn label_of(alloc: Global, named: Named, number: u16) -> Result<Label<Place>, AllocError> {
+    let message = message_of(alloc, named, number)?;
+    let label = Label::new((name_of(alloc, named, number)?, 14..19));
+    label.with_message(alloc, message.as_str())
+}
+
 /// A report with so many labels. Its own span is that of the first one.
-pub fn report(alloc: Global, named: Named, labels: u16) -> Result<NamedReport, AllocError> {
+pub fn report(
+    alloc: Global,
+    named: Named,
+    labels: u16,
+) -> Result<Report<'static, Place>, AllocError> {
     let span = (name_of(alloc, named, 0)?, 14..19);
     let mut report = Report::build(alloc, ReportKind::Error, span)
         .with_config(plain())
         .with_message(title_of(named))?;
     for number in 0..labels {
-        let message = message_of(alloc, named, number)?;
-        let label = Label::new((name_of(alloc, named, number)?, 14..19));
-        report.add_label(label.with_message(alloc, message.as_str())?)?;
+        report.add_label(label_of(alloc, named, number)?)?;
     }
     Ok(report.finish())
 }
@@ -67,9 +76,14 @@ pub fn texts(
 ) -> Result<SourceMap<String, String>, AllocError> {
     let mut texts = Vec::new(alloc);
     for number in 0..count_of(named, labels) {
-        let mut text = String::new(alloc);
-        push_line(&mut text, u32::from(number))?;
-        texts.push((name_of(alloc, named, number)?, text))?;
+        texts.push((name_of(alloc, named, number)?, line(alloc, number)?))?;
     }
     sources(alloc, texts)
+}
+
+/// The line of a number.
+fn line(alloc: Global, number: u16) -> Result<String, AllocError> {
+    let mut text = String::new(alloc);
+    push_line(&mut text, u32::from(number))?;
+    Ok(text)
 }
