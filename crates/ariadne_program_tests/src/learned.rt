@@ -3,6 +3,7 @@
 //! What a mark covers is told as `LINE:START..END`, with a `^` where it has one; the numbers were counted
 //! by hand.
 
+use crate::comparing::assert_text_of;
 use ariadne_snippets::{Fix, FixKind, Label, Mark, Point, Snippet, Taken};
 use std::alloc::{AllocError, Global};
 use std::process::Abort;
@@ -116,7 +117,7 @@ pub fn assert_learned(
 ) {
     let mut snippet = Snippet::new(rt.alloc(), line, caret);
     for (line, want) in lines {
-        let text = learned(rt.alloc(), &mut snippet, file, line).expect(rt, "memory");
-        assert_eq!(rt; text.as_str(), *want, "of `{line}`");
+        let text = learned(rt.alloc(), &mut snippet, file, *line);
+        assert_text_of(rt, *line, text, *want);
     }
 }

@@ -2,6 +2,7 @@
 
 ghost use Rattle.std.specs.Prelude.{◌<◌};
 
+use crate::comparing::assert_same_of;
 use crate::outcome::Outcome;
 use ariadne_brackets::{Offence, Status, first_offence, lint, texts_have_one_first_offence};
 use ariadne_fakes::{Folder, Taker, refuse, texts};
@@ -112,7 +113,7 @@ const TEXTS: &[(&str, Option<Offence>)] = &[
 /// Asserts that this is the first offence of a text.
 fn assert_first(rt: &(impl AllocGlobal + Abort), text: &str, want: Option<Offence>) {
     let found = first_offence(rt.alloc(), text).expect(rt, "memory");
-    assert_eq!(rt; found, want, "of {text:?}")
+    assert_same_of(rt, text, &found, &want)
 }
 
 #[test]

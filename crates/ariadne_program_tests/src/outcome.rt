@@ -14,25 +14,27 @@ pub struct Outcome<S> {
     pub faults: Vec<u8>,
 }
 
+/// Asserts that what was found where the nth request was refused is what is wanted.
+fn assert_same_at<T: Debug + PartialEq>(rt: &impl Abort, nth: usize, found: &T, wanted: &T) {
+    assert_eq!(rt; *found, *wanted, "at request {nth}")
+}
+
 impl<S: Copy + Debug + PartialEq> Outcome<S> {
     /// Asserts what the run returned.
     pub fn assert_status(&self, rt: &impl Abort, status: S) {
-        let nth = self.nth;
-        assert_eq!(rt; self.status, status, "at request {nth}")
+        assert_same_at(rt, self.nth, &self.status, &status)
     }
 
     /// Asserts what the run returned, and what it told of faults.
     pub fn assert_told(&self, rt: &impl Abort, status: S, faults: &[u8]) {
         self.assert_status(rt, status);
-        let nth = self.nth;
-        assert_eq!(rt; self.faults.as_slice(), faults, "at request {nth}")
+        assert_same_at(rt, self.nth, &self.faults.as_slice(), &faults)
     }
 
     /// Asserts what the run returned, and what its writers took.
     pub fn assert_is(&self, rt: &impl Abort, status: S, out: &[u8], faults: &[u8]) {
         self.assert_told(rt, status, faults);
-        let nth = self.nth;
-        assert_eq!(rt; self.out.as_slice(), out, "at request {nth}")
+        assert_same_at(rt, self.nth, &self.out.as_slice(), &out)
     }
 }
 

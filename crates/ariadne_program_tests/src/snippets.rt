@@ -1,6 +1,7 @@
 //! Lines of snippets as gcc, clang and others write them, and beside each what is to be learned of it.
 
 use crate::learned::assert_learned;
+use std::process::Abort;
 
 /// A file of C.
 const C: &[&str] = &[
@@ -269,64 +270,84 @@ fn details_of_javac(rt: HostRuntime) {
         ],
     );
 }
+/// Asserts what marks below the quote of a line cover.
+fn assert_marked(
+    rt: &(impl AllocGlobal + Abort),
+    file: &[&str],
+    line: usize,
+    caret: Option<usize>,
+    quote: &str,
+    marks: (&str, &str),
+) {
+    assert_learned(rt, file, line, caret, &[(quote, ""), marks])
+}
+
+/// A file of Python, and its quote.
+const PYTHON: &[&str] = &["漢字: int = \"größe\"; zwei: str = 3 + \"漢字\" + maybe(4, k=2)"];
+
+const PYTHON_QUOTE: &str = "    漢字: int = \"größe\"; zwei: str = 3 + \"漢字\" + maybe(4, k=2)";
+
+/// Where a head's caret is, if it tells that, marks, and what they cover.
+const MARKS_IN_BYTES: &[(Option<usize>, &str, &str)] = &[
+    (None, "                  ^~~~~~~~~", " 1:10..17^"),
+    (Some(10), "                  ^~~~~~~~~", " 1:10..17^"),
+    (
+        None,
+        "                                             ^~~~~~~~",
+        " 1:35..39^",
+    ),
+    (
+        Some(48),
+        "                                                           ^",
+        " 1:48..49^",
+    ),
+];
 
 /// mypy counts bytes, and a row is no longer than the line has characters: a head says then where it is.
 #[test]
 fn bytes_in_marks_of_mypy(rt: HostRuntime) {
-    let python = ["漢字: int = \"größe\"; zwei: str = 3 + \"漢字\" + maybe(4, k=2)"];
-    let quote = "    漢字: int = \"größe\"; zwei: str = 3 + \"漢字\" + maybe(4, k=2)";
-    let cases = [
-        (None, "                  ^~~~~~~~~", " 1:10..17^"),
-        (Some(10), "                  ^~~~~~~~~", " 1:10..17^"),
-        (
-            None,
-            "                                             ^~~~~~~~",
-            " 1:35..39^",
-        ),
-        (
-            Some(48),
-            "                                                           ^",
-            " 1:48..49^",
-        ),
-    ];
-    for (caret, marks, want) in cases {
-        assert_learned(&rt, &python, 1, caret, &[(quote, ""), (marks, want)]);
+    for &(caret, marks, want) in MARKS_IN_BYTES {
+        assert_marked(&rt, PYTHON, 1, caret, PYTHON_QUOTE, (marks, want));
     }
 }
+
+/// Lines, each with its quote, its marks, and what these cover.
+const MARKS_IN_WHITE_SPACE: &[(&str, &str, &str, &str)] = &[
+    (
+        "    import notamodule",
+        "        import notamodule",
+        "    ^",
+        " 1:0..1^",
+    ),
+    (
+        "\t\timport not_there",
+        "                    import not_there",
+        "    ^~~~~~~~",
+        " 1:0..1^",
+    ),
+    (
+        "\t  import not_there",
+        "              import not_there",
+        "            ^",
+        " 1:1..2^",
+    ),
+];
 
 /// mypy's column of an import that isn't found is the first of the line, in the white space in front of it: blanks, or
 /// tabs that it shows as 8 blanks each.
 #[test]
 fn marks_in_white_space_of_mypy(rt: HostRuntime) {
-    let cases = [
-        (
-            "    import notamodule",
-            "        import notamodule",
-            "    ^",
-            " 1:0..1^",
-        ),
-        (
-            "\t\timport not_there",
-            "                    import not_there",
-            "    ^~~~~~~~",
-            " 1:0..1^",
-        ),
-        (
-            "\t  import not_there",
-            "              import not_there",
-            "            ^",
-            " 1:1..2^",
-        ),
-    ];
-    for (line, quote, marks, want) in cases {
-        assert_learned(&rt, &[line], 1, None, &[(quote, ""), (marks, want)]);
+    for &(line, quote, marks, want) in MARKS_IN_WHITE_SPACE {
+        assert_marked(&rt, &[line], 1, None, quote, (marks, want));
     }
 }
+
+/// A note of clang-tidy's.
+const OVERLAPS: &str = "note: this fix will not be applied because it overlaps with another fix";
 
 /// A note of clang-tidy and g++ may name no place: it stands behind marks, or behind what is to be put there.
 #[test]
 fn notes_without_a_place(rt: HostRuntime) {
-    let overlaps = "note: this fix will not be applied because it overlaps with another fix";
     assert_learned(
         &rt,
         &["    if (n > 3)"],
@@ -337,7 +358,7 @@ fn notes_without_a_place(rt: HostRuntime) {
             ("              ^", " 1:14..15^"),
             ("               {", " put 1:14 {"),
             (
-                overlaps,
+                OVERLAPS,
                 "note this fix will not be applied because it overlaps with another fix",
             ),
             ("               {", "no"),
@@ -361,7 +382,7 @@ fn notes_without_a_place(rt: HostRuntime) {
         &["    show(1);"],
         1,
         Some(8),
-        &[("    show(1);", ""), (overlaps, "no")],
+        &[("    show(1);", ""), (OVERLAPS, "no")],
     );
 }
 
@@ -497,77 +518,90 @@ fn quotes_that_lack_something(rt: HostRuntime) {
     );
 }
 
+const TABBED_JAVA: &str = "\tint c = /* 🍐 漢 é */\tdelta;";
+
+const PAIRED_JAVA: &str = "int b = /* 🍐🍎 */ cedar;";
+
+const LATIN_JAVA: &str = "// größe: 🍐 漢";
+
+/// A file of Java.
+const JAVA: &[&str] = &[TABBED_JAVA, PAIRED_JAVA, LATIN_JAVA];
+
+/// Lines of the file, how they are quoted, carets below that, and what these mean.
+const UNITS: &[(usize, &str, &str, &str)] = &[
+    (1, TABBED_JAVA, "\t                    \t^", " 1:21..22^"),
+    (
+        1,
+        "\tint c = /* ? ? ? */\tdelta;",
+        "\t                    \t^",
+        " 1:21..22^",
+    ),
+    (2, PAIRED_JAVA, "                   ^", " 2:17..18^"),
+    (
+        2,
+        "int b = /* ?? */ cedar;",
+        "                   ^",
+        " 2:17..18^",
+    ),
+    (3, LATIN_JAVA, "            ^", " 3:11..12^"),
+    (3, "// gr????e: ???? ???", "        ^", " 3:6..7^"),
+    (
+        3,
+        "// gr????e: ???? ???",
+        "                 ^",
+        " 3:12..13^",
+    ),
+];
+
 /// javac's caret counts units of UTF-16, in tabs as they are, whether the quote has its letters or `?` for each; or
 /// bytes, where a file was read as ASCII, which has `?` for each then.
 #[test]
 fn units_of_javac(rt: HostRuntime) {
-    let java = [
-        "\tint c = /* 🍐 漢 é */\tdelta;",
-        "int b = /* 🍐🍎 */ cedar;",
-        "// größe: 🍐 漢",
-    ];
-    let cases = [
-        (1, java[0], "\t                    \t^", " 1:21..22^"),
-        (
-            1,
-            "\tint c = /* ? ? ? */\tdelta;",
-            "\t                    \t^",
-            " 1:21..22^",
-        ),
-        (2, java[1], "                   ^", " 2:17..18^"),
-        (
-            2,
-            "int b = /* ?? */ cedar;",
-            "                   ^",
-            " 2:17..18^",
-        ),
-        (3, java[2], "            ^", " 3:11..12^"),
-        (3, "// gr????e: ???? ???", "        ^", " 3:6..7^"),
-        (
-            3,
-            "// gr????e: ???? ???",
-            "                 ^",
-            " 3:12..13^",
-        ),
-    ];
-    for (line, quote, marks, want) in cases {
-        assert_learned(&rt, &java, line, None, &[(quote, ""), (marks, want)]);
+    for (line, quote, marks, want) in UNITS {
+        assert_marked(&rt, JAVA, *line, None, *quote, (*marks, *want));
     }
 }
+
+const FIRST_CPP: &str = "auto e = \"😀\" + \"😀\"; /* 😀 */ int q = qq;";
+
+const SECOND_CPP: &str = "auto e = \"漢😀\" + nope; /* 😀 */ int q = qq;";
+
+/// A file of C++.
+const CPP: &[&str] = &[FIRST_CPP, SECOND_CPP];
+
+/// Lines of the file and carets in them, each with its marks, and what these cover.
+const WIDE_MARKS: &[(usize, usize, &str, &str)] = &[
+    (1, 13, "         ~~~ ^ ~~~", " 1:9..12 1:13..14^ 1:15..18"),
+    (1, 36, "                                    ^", " 1:36..37^"),
+    (2, 16, "                 ^", " 2:16..17^"),
+    (
+        2,
+        38,
+        "                                       ^",
+        " 2:38..39^",
+    ),
+];
 
 /// clang gives one of these wide characters two columns, and the other one.
 #[test]
 fn wide_characters_of_clang(rt: HostRuntime) {
-    let cpp = [
-        "auto e = \"😀\" + \"😀\"; /* 😀 */ int q = qq;",
-        "auto e = \"漢😀\" + nope; /* 😀 */ int q = qq;",
-    ];
-    let cases = [
-        (1, 13, "         ~~~ ^ ~~~", " 1:9..12 1:13..14^ 1:15..18"),
-        (1, 36, "                                    ^", " 1:36..37^"),
-        (2, 16, "                 ^", " 2:16..17^"),
-        (
-            2,
-            38,
-            "                                       ^",
-            " 2:38..39^",
-        ),
-    ];
-    for (line, caret, marks, want) in cases {
-        let quote = cpp[line - 1];
-        assert_learned(&rt, &cpp, line, Some(caret), &[(quote, ""), (marks, want)]);
+    for &(line, caret, marks, want) in WIDE_MARKS {
+        let quote = if line == 1 { FIRST_CPP } else { SECOND_CPP };
+        assert_marked(&rt, CPP, line, Some(caret), quote, (marks, want));
     }
 }
 
+/// Lines, each with a row that shows it whole.
+const WHOLE_ROWS: &[(&str, &str)] = &[
+    ("", ""),
+    ("\u{feff}\tx\t漢", "\u{feff}\tx\t漢"),
+    ("| a", "7 | | a"),
+    (" \r", "7 |  \r"),
+];
+
 #[test]
 fn lines_that_a_first_row_shows_whole(rt: HostRuntime) {
-    let cases = [
-        ("", ""),
-        ("\u{feff}\tx\t漢", "\u{feff}\tx\t漢"),
-        ("| a", "7 | | a"),
-        (" \r", "7 |  \r"),
-    ];
-    for (line, row) in cases {
+    for &(line, row) in WHOLE_ROWS {
         assert_learned(&rt, &["", "", "", "", "", "", line], 7, None, &[(row, "")]);
     }
 }

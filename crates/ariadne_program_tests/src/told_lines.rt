@@ -1,5 +1,6 @@
 //! Lines that tell a diagnostic, as the pages of their tools show them, and what is told of each.
 
+use crate::comparing::assert_text_of;
 use ariadne_told::{Answer, Diagnostic, End, Format, Place, Reading, Sent, Spot, Unit, told};
 use std::alloc::{AllocError, Global};
 
@@ -233,7 +234,6 @@ fn line_text(alloc: Global, line: &str) -> Result<String, AllocError> {
 #[test]
 fn lines_of_tools(rt: HostRuntime) {
     for (line, want) in LINES {
-        let text = line_text(rt.alloc(), line).expect(&rt, "memory");
-        assert_eq!(rt; text.as_str(), *want, "of {line}");
+        assert_text_of(&rt, *line, line_text(rt.alloc(), *line), *want);
     }
 }

@@ -1,6 +1,7 @@
 //! Lines beside the heads of diagnostics, as gcc, clang, rustc and javac write them, and what is read of
 //! each.
 
+use crate::comparing::{assert_same_of, assert_text_of};
 use ariadne_told::{
     Spot, arrow_of, bare_head_of, front_of, has_escape, is_scope_line, is_tally, without_sgr,
 };
@@ -46,117 +47,125 @@ fn bare_text(alloc: Global, line: &str) -> Result<String, AllocError> {
     }
 }
 
+/// Lines, each with what it tells in front of a diagnostic.
+const FRONTS: &[(&str, &str)] = &[
+    ("In file included from b.h:1,", "b.h 1 included here"),
+    ("                 from t.c:1:", "t.c 1 included here"),
+    (
+        "In file included from ./b.h:1:10:",
+        "./b.h 1:10 included here",
+    ),
+    (
+        "    inlined from 'main' at t.c:7:3:",
+        "t.c 7:3 inlined from 'main'",
+    ),
+    (
+        "t.cc:3:22:   required from here",
+        "t.cc 3:22 required from here",
+    ),
+    (
+        "t.cc:5:21:   in 'constexpr' expansion of 'sq(0)'",
+        "t.cc 5:21 in 'constexpr' expansion of 'sq(0)'",
+    ),
+    ("t.cc: In instantiation of 'T g(T) [with T = int]':", ""),
+    ("t.c:3:4:   return x;", ""),
+    ("from here on: nothing", ""),
+];
+
 #[test]
 fn fronts(rt: HostRuntime) {
-    let lines = [
-        ("In file included from b.h:1,", "b.h 1 included here"),
-        ("                 from t.c:1:", "t.c 1 included here"),
-        (
-            "In file included from ./b.h:1:10:",
-            "./b.h 1:10 included here",
-        ),
-        (
-            "    inlined from 'main' at t.c:7:3:",
-            "t.c 7:3 inlined from 'main'",
-        ),
-        (
-            "t.cc:3:22:   required from here",
-            "t.cc 3:22 required from here",
-        ),
-        (
-            "t.cc:5:21:   in 'constexpr' expansion of 'sq(0)'",
-            "t.cc 5:21 in 'constexpr' expansion of 'sq(0)'",
-        ),
-        ("t.cc: In instantiation of 'T g(T) [with T = int]':", ""),
-        ("t.c:3:4:   return x;", ""),
-        ("from here on: nothing", ""),
-    ];
-    for (line, want) in lines {
-        let text = front_text(rt.alloc(), line).expect(&rt, "memory");
-        assert_eq!(rt; text.as_str(), want, "of {line}");
+    for (line, want) in FRONTS {
+        assert_text_of(&rt, *line, front_text(rt.alloc(), *line), *want);
     }
 }
+
+/// Lines, each with whether it names a scope and no place.
+const SCOPES: &[(&str, bool)] = &[
+    ("t.cc: In instantiation of 'T g(T) [with T = int]':", true),
+    ("a.h: In function 'bar':", true),
+    ("In function 'memset',", true),
+    ("a.c: At top level:", true),
+    ("In total: 3 errors", false),
+    ("a.c:3:4: error: m", false),
+];
 
 #[test]
 fn lines_that_name_no_place(rt: HostRuntime) {
-    let lines = [
-        ("t.cc: In instantiation of 'T g(T) [with T = int]':", true),
-        ("a.h: In function 'bar':", true),
-        ("In function 'memset',", true),
-        ("a.c: At top level:", true),
-        ("In total: 3 errors", false),
-        ("a.c:3:4: error: m", false),
-    ];
-    for (line, want) in lines {
-        assert_eq!(rt; is_scope_line(line), want, "of {line}");
+    for (line, want) in SCOPES {
+        assert_same_of(&rt, *line, &is_scope_line(*line), want);
     }
 }
+
+/// Lines, each with what its arrow points at.
+const ARROWS: &[(&str, &str)] = &[
+    (" --> src/main.rs:2:5", "src/main.rs 2:5 own"),
+    ("    ::: src/a.rs:1:8", "src/a.rs 1:8 further"),
+    ("--> a.sol:3:5:", "a.sol 3:5 own"),
+    ("  |", ""),
+];
+
+/// Lines, each with what its kind alone tells.
+const HEADS: &[(&str, &str)] = &[
+    (
+        "error[E0425]: cannot find value `x` in this scope",
+        "Error () (E0425) cannot find value `x` in this scope",
+    ),
+    (
+        "warning: unused variable: `x`",
+        "Warning () () unused variable: `x`",
+    ),
+    (
+        "F401 [*] `os` imported but unused",
+        "Error () (F401) [*] `os` imported but unused",
+    ),
+    ("apple: m", ""),
+    ("error:", ""),
+];
 
 #[test]
 fn arrows_and_kinds_of_rustc(rt: HostRuntime) {
-    let arrows = [
-        (" --> src/main.rs:2:5", "src/main.rs 2:5 own"),
-        ("    ::: src/a.rs:1:8", "src/a.rs 1:8 further"),
-        ("--> a.sol:3:5:", "a.sol 3:5 own"),
-        ("  |", ""),
-    ];
-    for (line, want) in arrows {
-        let text = arrow_text(rt.alloc(), line).expect(&rt, "memory");
-        assert_eq!(rt; text.as_str(), want, "of {line}");
+    for (line, want) in ARROWS {
+        assert_text_of(&rt, *line, arrow_text(rt.alloc(), *line), *want);
     }
-    let heads = [
-        (
-            "error[E0425]: cannot find value `x` in this scope",
-            "Error () (E0425) cannot find value `x` in this scope",
-        ),
-        (
-            "warning: unused variable: `x`",
-            "Warning () () unused variable: `x`",
-        ),
-        (
-            "F401 [*] `os` imported but unused",
-            "Error () (F401) [*] `os` imported but unused",
-        ),
-        ("apple: m", ""),
-        ("error:", ""),
-    ];
-    for (line, want) in heads {
-        let text = bare_text(rt.alloc(), line).expect(&rt, "memory");
-        assert_eq!(rt; text.as_str(), want, "of {line}");
+    for (line, want) in HEADS {
+        assert_text_of(&rt, *line, bare_text(rt.alloc(), *line), *want);
     }
 }
+
+/// Lines, each with whether it counts what a tool told.
+const COUNTS: &[(&str, bool)] = &[
+    ("2 warnings and 1 error generated.", true),
+    ("1 warning generated.", true),
+    ("1 error", true),
+    ("100 warnings", true),
+    ("1 warning emitted", false),
+    ("Found 1 error in 1 file (checked 1 source file)", false),
+    ("1 error and 2", false),
+    ("error", false),
+];
 
 #[test]
 fn counts_of_tools(rt: HostRuntime) {
-    let lines = [
-        ("2 warnings and 1 error generated.", true),
-        ("1 warning generated.", true),
-        ("1 error", true),
-        ("100 warnings", true),
-        ("1 warning emitted", false),
-        ("Found 1 error in 1 file (checked 1 source file)", false),
-        ("1 error and 2", false),
-        ("error", false),
-    ];
-    for (line, want) in lines {
-        assert_eq!(rt; is_tally(line), want, "of {line}");
+    for (line, want) in COUNTS {
+        assert_same_of(&rt, *line, &is_tally(*line), want);
     }
 }
 
+/// Lines, each without its colours.
+const COLOURED: &[(&str, &str)] = &[
+    (
+        "\x1b[01m\x1b[Ka.c:6:10:\x1b[m\x1b[K \x1b[01;31m\x1b[Kerror: \x1b[m\x1b[Km",
+        "a.c:6:10: error: m",
+    ),
+    ("\x1b[0m2 errors generated.", "2 errors generated."),
+    ("a\x1b[38:2::1:2:3mb\x1b[2Jc\x1b", "ab\x1b[2Jc\x1b"),
+    ("plain", "plain"),
+];
+
 #[test]
 fn colours_are_taken_out(rt: HostRuntime) {
-    let lines = [
-        (
-            "\x1b[01m\x1b[Ka.c:6:10:\x1b[m\x1b[K \x1b[01;31m\x1b[Kerror: \x1b[m\x1b[Km",
-            "a.c:6:10: error: m",
-        ),
-        ("\x1b[0m2 errors generated.", "2 errors generated."),
-        ("a\x1b[38:2::1:2:3mb\x1b[2Jc\x1b", "ab\x1b[2Jc\x1b"),
-        ("plain", "plain"),
-    ];
-    for (line, want) in lines {
-        let bare = without_sgr(rt.alloc(), line).expect(&rt, "memory");
-        assert_eq!(rt; bare.as_str(), want, "of {line:?}");
-        assert_eq!(rt; has_escape(line), line != "plain");
+    for (line, want) in COLOURED {
+        assert_text_of(&rt, *line, without_sgr(rt.alloc(), *line), *want);
+        assert_same_of(&rt, *line, &has_escape(*line), &(*line != "plain"));
     }
 }
