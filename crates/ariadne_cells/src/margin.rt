@@ -84,10 +84,13 @@ pub(crate) fn push_line_margin(
 {
     let color = page.color_of(Paint::Margin);
     let switches = page.switches();
+    let mut buffer = itoa::Buffer::new();
+    let digits = buffer.format(number);
     out.push(' ')?;
     push_opening(out, color)?;
-    push_spaces(out, page.number_width().saturating_sub(decimal_len(number)))?;
-    write!(out, "{number} ")?;
+    push_spaces(out, page.number_width().saturating_sub(digits.len()))?;
+    out.push_str(digits)?;
+    out.push(' ')?;
     out.push(Glyph::Vbar.to_char(switches.char_set))?;
     push_closing(out, color)?;
     push_margin_end(out, switches)

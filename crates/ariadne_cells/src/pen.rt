@@ -105,7 +105,8 @@ impl<'a> Pen<'a> {
     pub fn push_number(&mut self, number: usize) -> Result<(), AllocError>
         ensures { OnOk result (Adds self.old self.new (decimal number)) }
     {
-        write!(self.text, "{number}")
+        let mut digits = itoa::Buffer::new();
+        self.text.push_str(digits.format(number))
     }
 
     /// Ends a row.
