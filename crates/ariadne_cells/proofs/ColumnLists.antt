@@ -7,7 +7,7 @@ use Rattle.std.proofs.lemmas.List.FromFn.{get_or-map-range_with_len, length-map-
 use Rattle.std.proofs.lemmas.Option.{unwrap_or-slice_get}
 use Rattle.ariadne_base.specs.Locations.{upto}
 use Rattle.ariadne_picture.specs.declared.switches.Switches.{Switches}
-use Rattle.ariadne_picture.specs.Columns.{Layout, shown, shown_columns, whole_column, whole_width, sight_of, columns_of, width, column_of}
+use Rattle.ariadne_picture.specs.Columns.{Layout, shown, shown_columns, whole_column, whole_width, sight_of, columns_of, column_of}
 use Rattle.ariadne_picture.proofs.Lists.Joined.{range_more}
 use Rattle.ariadne_cells.specs.Tables.{AreColumns, AreWholeColumns, column_in}
 use Rattle.ariadne_cells.proofs.PlaceColumns.{width-shown, column_of-more, column_of-behind, column_of-plain, column_of-whole, whole_column-more, whole_column-plain}

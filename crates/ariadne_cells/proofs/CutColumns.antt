@@ -1,23 +1,23 @@
 -- The columns of a cut line, as they are held part by part, are those of its places.
-use Rattle.std.proofs.Common.{◌≡◌, ◌∙◌, ℕ, zero, suc, ◌+◌, ◌-◌, ◌<◌, ◌≤◌, min, List, [], ◌∷◌, ◌++◌, length, get_or, slice_get, map, take, Option, Some, Result, Ok, Err, OnOk, refl, sym, ap, subst, arith, inl, inr}
-use Rattle.std.specs.Prelude.{unwrap_or}
-use Rattle.std.proofs.lemmas.Bool.{cases_lt}
+use Rattle.std.proofs.Common.{◌≡◌, ◌∙◌, ℕ, zero, suc, ◌+◌, ◌-◌, ◌<◌, ◌≤◌, min, List, [], ◌∷◌, ◌++◌, length, get_or, map, take, Result, Ok, Err, OnOk, true, false, refl, sym, ap, subst, arith, inl, inr}
+use Rattle.std.specs.Prelude.{◌==◌}
+use Rattle.std.specs.Result.{is_err}
+use Rattle.std.proofs.lemmas.Bool.{cases_lt, ne_eqb, true≢false}
 use Rattle.std.proofs.lemmas.List.{take_all}
 use Rattle.std.proofs.lemmas.List.FromFn.{get_or-map-range_with_len}
 use Rattle.std.proofs.lemmas.Option.{unwrap_or-slice_get}
 use Rattle.ariadne_base.specs.Locations.{upto}
 use Rattle.ariadne_picture.specs.declared.sight.Part.{Part}
-use Rattle.ariadne_picture.specs.declared.sight.Sight.{Sight}
 use Rattle.ariadne_picture.specs.declared.sight.Sight.TheVariants.{Seen}
 use Rattle.ariadne_picture.specs.declared.switches.CharSet.{CharSet}
 use Rattle.ariadne_picture.specs.declared.switches.Switches.{Switches}
-use Rattle.ariadne_picture.specs.Columns.{Layout, column_of, columns_of, shown, sight_in, sight_of, whole_width, width}
+use Rattle.ariadne_picture.specs.Columns.{Layout, column_of, columns_of, shown, sight_in, sight_of, whole_width}
 use Rattle.ariadne_cells.specs.declared.line_columns.Knot.{Knot}
 use Rattle.ariadne_cells.specs.Cuts.{AreApart, cut_column, end_of, mark_before, mark_behind, sights_in}
-use Rattle.ariadne_cells.specs.Knots.{AreRising, HoldColumns, held_columns, knot_column}
+use Rattle.ariadne_cells.specs.Knots.{AreRising, HoldColumns, HoldsOne, held_columns, knot_column}
 use Rattle.ariadne_cells.specs.Tables.{AreColumns, AreWholeColumns, column_in}
 use Rattle.ariadne_cells.proofs.CutParts.{whole-width-held}
-use Rattle.ariadne_cells.proofs.Knots.{hold-alike, hold-last, hold-none}
+use Rattle.ariadne_cells.proofs.Knots.{hold-alike, hold-none}
 use Rattle.ariadne_cells.proofs.PartColumns.{before-flat, before-step, behind-step, cut-first, cut-more, seen-step}
 use Rattle.ariadne_cells.proofs.PartSights.{end-low, end-more, part-from}
 use Rattle.ariadne_cells.proofs.PlaceColumns.{column_of-first, column_of-more, width-behind, width-shown}
@@ -140,7 +140,30 @@ pub line-found : {E : Type 0} (r : Result (Unit {0}) E) (s : Switches) (y : Layo
 line-found (Ok u) s y columns knots len n size some held = line-columns s y columns knots len n size some held
 line-found (Err e) s y columns knots len n size some held = tt
 
+-- knots that rise where all went well, where all did
+pub rising-found : {E : Type 0} (r : Result (Unit {0}) E) (knots : List Knot) → is_err r ≡ false → OnOk r (AreRising knots) → AreRising knots
+rising-found (Ok u) knots well rising = rising
+rising-found (Err e) knots well rising = absurd (true≢false well)
+
 -- a list alone is held as it is
 pub list-held : (columns : List ℕ) (knots : List Knot) (n : ℕ) → knots ≡ [] → held_columns columns knots n ≡ columns
 unfolding held_columns
 list-held columns knots n none = ap (λ ks. held_columns columns ks n) none
+
+-- so is one beside which no knots are held
+pub listed-held : (columns : List ℕ) (knots : List Knot) (n m : ℕ) → HoldsOne columns knots → m ≡ length columns → (m == 0) ≡ false
+    → held_columns columns knots n ≡ columns
+listed-held columns knots n m one size some = elim (cases_lt 0 (length columns)) [
+  | inl more ↦ list-held columns knots n (one more)
+  | inr none ↦ let z : m ≡ 0 = omega (arith, size, none) in absurd (true≢false (sym (ap (λ j. j == 0) z) ∙ some))
+]
+
+-- where nothing is held each place is its own column
+pub even-held : (columns : List ℕ) (knots : List Knot) (n m j k : ℕ) → m ≡ length columns → (m == 0) ≡ true → j ≡ length knots → (j == 0) ≡ true
+    → column_in (held_columns columns knots n) k ≡ k
+unfolding held_columns column_in
+even-held [] [] n m j k size none count empty = refl
+even-held (x ∷ columns) knots n m j k size none count empty =
+    absurd (true≢false (sym none ∙ ap (λ i. i == 0) size ∙ ne_eqb (suc (length columns)) 0 (λ e. omega (arith, e))))
+even-held [] (q ∷ knots) n m j k size none count empty =
+    absurd (true≢false (sym empty ∙ ap (λ i. i == 0) count ∙ ne_eqb (suc (length knots)) 0 (λ e. omega (arith, e))))

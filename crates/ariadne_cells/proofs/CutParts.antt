@@ -1,27 +1,21 @@
 -- The parts of a line that is cut: where letters begin and end, which places are passed over, and how many columns the others take.
-use Rattle.std.proofs.Common.{◌≡◌, ℕ, zero, suc, ◌+◌, ◌-◌, ◌<◌, ◌≤◌, ◌⊎◌, Bool, true, false, List, [], ◌∷◌, ◌++◌, map, filter, take, length, get_or, Option, Some, None, refl}
-use Rattle.std.proofs.Common.{sym, ap, ◌∙◌, subst, arith, inl, inr, replicate, append-nil, append_assoc}
-use Rattle.std.specs.Prelude.{⊤, not, ◌&&◌, ◌||◌, ◌==◌, nat_le, nat_lt, if◌then◌else◌}
-use Rattle.std.specs.List.{list_all, list_any, prefix_len, range_with_len}
-use Rattle.std.proofs.lemmas.Bool.{cases_Bool, cases_lt, cond_both, cond-true, cond-false, le-leb, lt-leb, lt-ltb, le-ltb, leb-true, leb-false, ltb-true, ltb-false, eq-eqb, ne_eqb, eqb-true, and_from, and_left, and_right, and_parts, or_from, or_parts, true≢false, false_from_ne_true}
-use Rattle.std.proofs.lemmas.List.FromFn.{map-range_with_len_more, length-map-range_with_len}
+use Rattle.std.proofs.Common.{◌≡◌, ℕ, zero, suc, ◌+◌, ◌-◌, ◌<◌, ◌≤◌, ◌⊎◌, Bool, true, false, List, [], ◌∷◌, ◌++◌, map, filter, take, length, get_or, refl}
+use Rattle.std.proofs.Common.{sym, ap, ◌∙◌, subst, arith, inl, inr, append_assoc}
+use Rattle.std.specs.Prelude.{not, ◌&&◌, ◌||◌, ◌==◌, nat_lt}
+use Rattle.std.specs.List.{list_any, prefix_len, range_with_len}
+use Rattle.std.proofs.lemmas.Bool.{cases_Bool, cases_lt, cond_both, cond-true, cond-false, lt-ltb, le-ltb, ltb-true, eq-eqb, ne_eqb, eqb-true, and_left, and_right, and_parts, or_parts, true≢false}
 use Rattle.ariadne_base.specs.Locations.{upto}
 use Rattle.std.proofs.lemmas.List.{map-append, take_more}
 use Rattle.std.proofs.lemmas.List.Elements.{filter-append}
 use Rattle.ariadne_picture.specs.declared.label_info.LineLabel.{LineLabel}
 use Rattle.ariadne_picture.specs.declared.sight.Part.{Part}
-use Rattle.ariadne_picture.specs.declared.sight.Sight.{Sight}
-use Rattle.ariadne_picture.specs.declared.sight.Sight.TheVariants.{Seen, Marked, Unseen}
-use Rattle.ariadne_picture.specs.declared.switches.CharSet.{CharSet}
 use Rattle.ariadne_picture.specs.declared.switches.Switches.{Switches}
-use Rattle.ariadne_picture.specs.Lists.{total}
-use Rattle.ariadne_picture.specs.Columns.{whole_column, whole_width, goes_on, letter_start, letter_end, is_in, sight_in, columns_of, cut_columns, fits_with}
-use Rattle.ariadne_picture.specs.Columns.{widened, widened_part, context, needed_labels, needed_parts, parts_of, is_too_wide, sights_of}
+use Rattle.ariadne_picture.specs.Columns.{whole_column, whole_width, goes_on, letter_start, letter_end, fits_with}
+use Rattle.ariadne_picture.specs.Columns.{widened, widened_part, context, needed_labels, needed_parts, is_too_wide, sights_of}
 use Rattle.ariadne_cells.specs.Cuts.{label_part, needed, parts_of_labels, sights_in}
 use Rattle.ariadne_picture.proofs.Lists.Elements.{both-true}
-use Rattle.ariadne_picture.proofs.Cells.LineColumns.{total-upto_more}
 use Rattle.ariadne_cells.specs.Tables.{AreWholeColumns, column_in}
-use Rattle.ariadne_cells.proofs.PlaceColumns.{total-upto_grows, whole_column-more}
+use Rattle.ariadne_cells.proofs.PlaceColumns.{whole_column-more}
 
 -- ---- columns
 

@@ -1,15 +1,15 @@
 -- Parts that meet are joined, and parts are put in order: the same is seen of a line.
 use Rattle.std.proofs.Common.{◌≡◌, ◌∙◌, ℕ, zero, suc, ◌+◌, ◌-◌, ◌<◌, ◌≤◌, max, min, Bool, true, false, List, [], ◌∷◌, ◌++◌, length, get_or, slice_get, map, take, drop, set}
-use Rattle.std.proofs.Common.{Option, Some, None, Result, Ok, Err, OnOk, refl, sym, ap, arith, inl, inr, subst}
+use Rattle.std.proofs.Common.{Some, Result, Ok, Err, OnOk, refl, sym, ap, arith, inl, inr, subst}
 use Rattle.std.specs.Prelude.{not, ◌&&◌, ◌||◌, nat_le, nat_lt, if◌then◌else◌}
 use Rattle.std.specs.List.{All, list_all, list_any, prefix_len}
 use Rattle.std.specs.List.Sorted.{IsNonDecreasingBy, IsPermutation}
-use Rattle.std.proofs.lemmas.Bool.{cases_lt, cases_Bool, cond_both, cond-true, le-leb, lt-leb, lt-ltb, le-ltb, and_from, and_left, and_right, true≢false}
+use Rattle.std.proofs.lemmas.Bool.{cases_lt, cond_both, cond-true, le-leb, lt-leb, lt-ltb, le-ltb, and_from, and_left, and_right, true≢false}
 use Rattle.std.proofs.lemmas.List.Elements.{All-from_get_or, All-get_or, All-map}
 use Rattle.std.proofs.lemmas.List.{length-append, set_split, take_all, take_more}
 use Rattle.std.proofs.lemmas.List.Folds.{list_any-append}
 use Rattle.std.proofs.lemmas.List.Sorted.{All-permutation, list_any-IsPermutation, IsPermutation-map, length_permutation}
-use Rattle.std.proofs.lemmas.Option.{slice_get_within, get_or_from_slice_get, slice_get-get_or, none-some}
+use Rattle.std.proofs.lemmas.Option.{slice_get_within, get_or_from_slice_get, none-some}
 use Rattle.ariadne_base.specs.Locations.{upto}
 use Rattle.ariadne_picture.specs.declared.label_info.LineLabel.{LineLabel}
 use Rattle.ariadne_picture.specs.declared.sight.Part.{Part}

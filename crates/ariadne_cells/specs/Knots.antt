@@ -1,6 +1,6 @@
 -- The columns of a line that is cut, as they are held: those of the places of which anything is seen,
 -- in their order. A place between two of them takes no columns, so it begins where the next one does.
-use Rattle.std.specs.Prelude.{⊤, ℕ, ◌≡◌, ◌<◌, ◌≤◌, nat_le, if◌then◌else◌, List, [], ◌∷◌, map}
+use Rattle.std.specs.Prelude.{⊤, ℕ, ◌≡◌, ◌<◌, ◌≤◌, nat_le, if◌then◌else◌, List, [], ◌∷◌, length, map}
 use Rattle.std.specs.List.{AllByRecursion}
 use Rattle.ariadne_base.specs.Locations.{upto}
 use Rattle.ariadne_cells.specs.declared.line_columns.Knot.{Knot}
@@ -14,6 +14,10 @@ AreRising (q ∷ knots) = AllByRecursion (λ r. q.place < r.place) knots × AreR
 unfoldable pub knot_column : ℕ → List Knot → ℕ → ℕ
 knot_column column [] k = column
 knot_column column (q ∷ knots) k = if nat_le k q.place then q.column else knot_column column knots k
+
+-- a line has a list of its columns, or these, or neither
+abbrev pub HoldsOne : List ℕ → List Knot → Type 0
+HoldsOne columns knots = 0 < length columns → knots ≡ []
 
 -- the columns of the first places of a line: these, or those of n places of a cut line
 unfoldable pub held_columns : List ℕ → List Knot → ℕ → List ℕ

@@ -8,6 +8,7 @@
 ghost use Rattle.std.specs.Prelude.{◌≡◌, ◌≤◌, ◌<◌, ◌+◌, ◌-◌, ◌++◌, ◌&&◌, ◌||◌, ◌^◌, ℕ, List, [], ◌∷◌, OnOk, IfOk};
 ghost use Rattle.std.specs.Prelude.{IfSome, None, Some, length, map, min, nat_le, nat_lt, option_to_list, true};
 ghost use Rattle.std.specs.List.{All};
+ghost use Rattle.std.specs.Str.{drop_trailing_whitespace};
 ghost use Rattle.std.specs.List.Sorted.{IsNonDecreasingBy, IsPermutation};
 ghost use Rattle.ariadne_cells.specs.Cuts.{AreApart, AreSeenAlike, BeginBy, HasPlace, end_of, label_part, mark_before};
 ghost use Rattle.ariadne_cells.specs.Cuts.{mark_behind, needed, parts_of_labels, sights_in};
@@ -18,6 +19,7 @@ ghost use Rattle.ariadne_picture.specs.Columns.{sights_of, whole_column, whole_w
 
 use crate::columns::{WholeColumns, mark_columns};
 use crate::layout::LineLayout;
+use crate::line_text::LineText;
 use ariadne_picture::label_info::LineLabel;
 use ariadne_picture::sight::Part;
 use ariadne_picture::switches::{CharSet, Switches};
@@ -27,7 +29,7 @@ use std::alloc::{AllocError, Global};
 #[derive(Drop)]
 pub struct Cuts {
     /// The parts of it that are shown, in their order, or none where it is shown whole.
-    pub parts: Vec<Part>,
+    parts: Vec<Part>,
     /// The column that each place begins at where the line is shown whole.
     columns: WholeColumns,
     /// The parts that have to be shown, in the order that they begin in.
@@ -36,9 +38,7 @@ pub struct Cuts {
 
 impl Cuts {
     /// Nothing is found yet.
-    pub fn new(alloc: Global) -> Cuts
-        ensures { result.parts.items ≡ [] }
-    {
+    pub fn new(alloc: Global) -> Cuts {
         Cuts {
             parts: Vec::new(alloc),
             columns: WholeColumns::new(alloc),
@@ -46,11 +46,57 @@ impl Cuts {
         }
     }
 
-    /// Finds the parts of a line that are shown.
+    /// The parts of a line that are shown, or none where it is shown whole: no width is asked for,
+    /// or it takes no more columns. `offset` counts the characters of the source before the line.
     ///
-    /// On `Err` there was no memory for it, or none holds as many columns as the line would take if
-    /// it were shown whole. What is held is then of no line.
-    pub fn find(&mut self, switches: &Switches, layout: &LineLayout<'_>) -> Result<(), AllocError>
+    /// On `Err` there was no memory for them, or none holds as many columns as the line would take
+    /// if it were shown whole.
+    pub fn parts_of(
+        &mut self,
+        switches: &Switches,
+        margin: Option<LineLabel>,
+        labels: &[LineLabel],
+        offset: usize,
+        text: &LineText<'_>,
+    ) -> Result<&[Part], AllocError>
+        requires tabs { 1 ≤ switches.now.tab_width }
+        ensures apart { IfOk result (λ parts. AreApart parts.now) }
+        ensures sights { let shown = drop_trailing_whitespace text.now in
+            IfOk result (λ parts. sights_in parts.now (length shown)
+            ≡ sights_of switches.now offset (option_to_list margin ++ labels.now) shown) }
+    {
+        if switches.width == 0 {
+            return Ok(&[]);
+        }
+        self.cut_parts(switches, margin, labels, offset, text)
+    }
+
+    /// The parts of a line that are shown, as `parts_of` gives them, where a width is asked for.
+    #[cold]
+    #[inline(never)]
+    fn cut_parts(
+        &mut self,
+        switches: &Switches,
+        margin: Option<LineLabel>,
+        labels: &[LineLabel],
+        offset: usize,
+        text: &LineText<'_>,
+    ) -> Result<&[Part], AllocError>
+        requires asked { 0 < switches.now.width }
+        requires tabs { 1 ≤ switches.now.tab_width }
+        ensures apart { IfOk result (λ parts. AreApart parts.now) }
+        ensures sights { let shown = drop_trailing_whitespace text.now in
+            IfOk result (λ parts. sights_in parts.now (length shown)
+            ≡ sights_of switches.now offset (option_to_list margin ++ labels.now) shown) }
+    {
+        let whole = LineLayout::new(margin, labels, offset, text, &[]);
+        self.find(switches, &whole)?;
+        Ok(&self.parts)
+    }
+
+    /// Finds the parts of a line that are shown.
+    fn find(&mut self, switches: &Switches, layout: &LineLayout<'_>) -> Result<(), AllocError>
+        requires asked { 0 < switches.now.width }
         requires tabs { 1 ≤ switches.now.tab_width }
         ensures apart { OnOk result (AreApart self.new.parts.items) }
         ensures sights { let y = layout.now in
@@ -58,9 +104,6 @@ impl Cuts {
             ≡ sights_of switches.now y.offset (option_to_list y.margin ++ y.labels) (shown y)) }
     {
         self.parts.clear();
-        if switches.width == 0 {
-            return Ok(());
-        }
         let len = layout.shown_len();
         self.columns.fill(switches, layout)?;
         if self.columns.column(len) <= switches.width {

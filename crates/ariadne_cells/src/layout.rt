@@ -1,22 +1,20 @@
 //! What is drawn at one line of a source: its labels, and its characters.
 
-ghost use Rattle.std.specs.Prelude.{◌≡◌, ℕ, ◌≤◌, ◌<◌, ◌^◌, ◌↔◌, IfSome, IsFalse, IsTrue, chars, length, map, nat_lt, not};
-ghost use Rattle.std.specs.Prelude.{slice_index, true, [], ◌++◌, option_to_list};
-ghost use Rattle.std.specs.Str.{drop_trailing_whitespace, trim_end};
+ghost use Rattle.std.specs.Prelude.{◌≡◌, ◌≤◌, ◌<◌, ◌^◌, ◌↔◌, IsFalse, IsTrue, chars, length, map, nat_lt, not};
+ghost use Rattle.std.specs.Prelude.{[], ◌++◌, option_to_list};
+ghost use Rattle.std.specs.Str.{drop_trailing_whitespace};
 ghost use Rattle.std.specs.List.{AllByRecursion, list_any};
 ghost use Rattle.ariadne_cells.specs.Cuts.{AreApart, sights_in};
-ghost use Rattle.ariadne_cells.specs.Ends.{shown_bytes};
 ghost use Rattle.ariadne_picture.specs.Columns.{arrow_len, places_to_end, shown};
 ghost use Rattle.ariadne_picture.specs.Groups.{greatest};
 ghost use Rattle.ariadne_picture.specs.Ranks.{is_inline, is_margin};
 ghost use Rattle.ariadne_picture.specs.Rows.{are_lone};
 
-use ariadne_base::blocks::count::count_chars;
+use crate::line_text::LineText;
 use ariadne_picture::label_info::LineLabel;
 use ariadne_picture::sight::Part;
 use ariadne_picture::switches::Switches;
 use std::marker::Model;
-use std::simd::prelude::*;
 
 /// The labels of a line and its characters.
 #[derive(Drop)]
@@ -24,23 +22,13 @@ pub struct LineLayout<'a> {
     margin: Option<LineLabel>,
     labels: &'a [LineLabel],
     offset: usize,
-    /// The whole line, with its terminator.
-    text: &'a str,
-    /// The number of its characters.
-    len: usize,
-    /// The line without the white space at the end.
-    shown: &'a str,
-    /// The number of its characters.
-    shown_len: usize,
-    /// Whether all of them are printable ASCII.
-    is_plain: bool,
+    text: &'a LineText<'a>,
     /// The parts of it that are shown, in their order, or none where it is shown whole.
     parts: &'a [Part],
 }
 
 impl<'a> Model for LineLayout<'a> {
-    ghost use Rattle.std.specs.Prelude.{◌≡◌, ◌≤◌, ◌↔◌, IsTrue, chars, length};
-    ghost use Rattle.std.specs.List.{AllByRecursion};
+    ghost use Rattle.std.specs.Prelude.{length};
     ghost use Rattle.std.specs.Str.{drop_trailing_whitespace};
     ghost use Rattle.ariadne_cells.specs.Cuts.{AreApart, sights_in};
     ghost use Rattle.ariadne_picture.specs.Columns.{Layout};
@@ -51,70 +39,39 @@ impl<'a> Model for LineLayout<'a> {
       margin = a.margin;
       labels = a.labels.now;
       offset = a.offset;
-      text = chars a.text.now;
-      sights = sights_in a.parts.now (length (drop_trailing_whitespace (chars a.text.now)));
+      text = a.text.now;
+      sights = sights_in a.parts.now (length (drop_trailing_whitespace a.text.now));
     } };
 
-    ghost invariant = { λ a. (a.len ≡ length (chars a.text.now))
-        × (chars a.shown.now ≡ drop_trailing_whitespace (chars a.text.now))
-        × (a.shown_len ≡ length (chars a.shown.now))
-        × AreApart a.parts.now
-        × (IsTrue a.is_plain ↔ AllByRecursion (λ c. (32 ≤ c) × (c ≤ 126)) (chars a.shown.now)) };
+    ghost invariant = { λ a. AreApart a.parts.now };
 }
 
 impl<'a> LineLayout<'a> {
-    /// The layout of a line with these labels.
-    ///
-    /// `offset` counts the characters of the source before the line; `text` is the whole line with
-    /// its terminator, and `len` the number of its characters. `known` is how many of its bytes are
-    /// shown, where that was found before.
+    /// The layout of a line with these labels, of which these parts are shown, or the whole where
+    /// there are none. `offset` counts the characters of the source before the line.
     pub fn new(
         margin: Option<LineLabel>,
         labels: &'a [LineLabel],
         offset: usize,
-        len: usize,
-        text: &'a str,
-        known: Option<usize>,
+        text: &'a LineText<'a>,
+        parts: &'a [Part],
     ) -> LineLayout<'a>
-        requires len { len ≡ length (chars text.now) }
-        requires known { IfSome known (λ n. n ≡ shown_bytes (chars text.now)) }
+        requires apart { AreApart parts.now }
         ensures { result ≡ record {
           margin = margin;
           labels = labels.now;
           offset = offset;
-          text = chars text.now;
-          sights = [];
+          text = text.now;
+          sights = sights_in parts.now (length (drop_trailing_whitespace text.now));
         } }
     {
-        let shown = shown_part(text, known);
-        let shown_len = if text.len() == len {
-            shown.len()
-        } else {
-            count_chars(shown)
-        };
-        let is_plain = is_printable(shown);
         LineLayout {
             margin,
             labels,
             offset,
             text,
-            len,
-            shown,
-            shown_len,
-            is_plain,
-            parts: &[],
+            parts,
         }
-    }
-
-    /// Shows these parts of it, or the whole line where there are none.
-    #[tactic(auto, unfolding(ariadne_picture::specs::Columns::shown))]
-    pub fn cut(&mut self, parts: &'a [Part])
-        requires apart { AreApart parts.now }
-        ensures { self.new ≡ record self.old {
-          sights = sights_in parts.now (length (shown self.old));
-        } }
-    {
-        self.parts = parts;
     }
 
     /// The label whose arrow leaves the gutter beside the source row.
@@ -143,7 +100,7 @@ impl<'a> LineLayout<'a> {
     pub fn shown(&self) -> &'a str
         ensures { chars result.now ≡ shown self.now }
     {
-        self.shown
+        self.text.shown()
     }
 
     /// How many characters are shown.
@@ -151,7 +108,7 @@ impl<'a> LineLayout<'a> {
     pub fn shown_len(&self) -> usize
         ensures { result ≡ length (shown self.now) }
     {
-        self.shown_len
+        self.text.shown_len()
     }
 
     /// Whether each shown character is printable ASCII, and so takes one column.
@@ -159,7 +116,7 @@ impl<'a> LineLayout<'a> {
     pub fn is_plain(&self) -> bool
         ensures { IsTrue result ↔ AllByRecursion (λ c. (32 ≤ c) × (c ≤ 126)) (shown self.now) }
     {
-        self.is_plain
+        self.text.is_plain()
     }
 
     /// The parts of the shown characters that are seen, in their order, or none where all are. A
@@ -176,7 +133,7 @@ impl<'a> LineLayout<'a> {
     pub fn is_cut(&self) -> bool
         ensures { IsFalse result ↔ (self.now.sights ≡ []) }
     {
-        !self.parts.is_empty() && self.shown_len > 0
+        !self.parts.is_empty() && self.shown_len() > 0
     }
 
     /// Whether each place takes one column: all of them are seen, and none is a tab or a wide
@@ -192,7 +149,7 @@ impl<'a> LineLayout<'a> {
     pub fn len(&self) -> usize
         ensures { result ≡ length self.now.text }
     {
-        self.len
+        self.text.len()
     }
 
     /// Whether a label of the line is its margin label.
@@ -251,7 +208,7 @@ impl<'a> LineLayout<'a> {
         ensures { result ≡ arrow_len switches.now self.now }
     {
         let len = if self.has_long_label() {
-            self.len
+            self.len()
         } else {
             self.greatest_end()
         };
@@ -275,69 +232,4 @@ impl<'a> LineLayout<'a> {
         }
         greatest
     }
-}
-
-/// A line without the white space at its end. `known` is how many bytes that leaves, where it was
-/// found before.
-fn shown_part(line: &str, known: Option<usize>) -> &str
-    requires known { IfSome known (λ n. n ≡ shown_bytes (chars line.now)) }
-    ensures { result.now ≡ trim_end line.now }
-{
-    match known {
-        Some(end) => &line[..end],
-        None => without_end(line),
-    }
-}
-
-/// A line without the white space at its end. A line feed and a carriage return are cut first, and
-/// blanks before them in blocks, since many of them may stand behind a line.
-fn without_end(line: &str) -> &str
-    ensures { result.now ≡ trim_end line.now }
-{
-    let whole = unterminated(line);
-    let front = &whole[..blocks_start(whole.as_bytes())];
-    front.trim_end()
-}
-
-/// A line without the line feed at its end and a carriage return before that.
-fn unterminated(line: &str) -> &str
-    ensures { drop_trailing_whitespace (chars result.now)
-        ≡ drop_trailing_whitespace (chars line.now) }
-{
-    let line = line.strip_suffix('\n').unwrap_or(line);
-    line.strip_suffix('\r').unwrap_or(line)
-}
-
-/// Where the blocks of 64 blanks at the end of a text begin, or its end where it has none.
-fn blocks_start(bytes: &[u8]) -> usize
-    ensures within { result ≤ length bytes.now }
-    ensures blank { (k : ℕ) → result ≤ k → k < length bytes.now → slice_index bytes.now k ≡ 32 }
-{
-    let mut start = bytes.len();
-    while start >= 64 && is_blank(&bytes[start - 64..start]) {
-        start -= 64;
-    }
-    start
-}
-
-/// Whether each byte of a block of 64 is a blank.
-#[inline(always)]
-fn is_blank(block: &[u8]) -> bool
-    requires { length block.now ≡ 64 }
-    ensures { result ≡ true → (k : ℕ) → k < 64 → slice_index block.now k ≡ 32 }
-{
-    u8x64::from_slice(block)
-        .simd_ne(u8x64::splat(b' '))
-        .to_bitmask()
-        == 0
-}
-
-/// Whether each character of a text is printable ASCII. All bytes are read, so that many of them
-/// are tested at once.
-fn is_printable(text: &str) -> bool
-    ensures { IsTrue result ↔ AllByRecursion (λ c. (32 ≤ c) × (c ≤ 126)) (chars text.now) }
-{
-    text.as_bytes()
-        .iter()
-        .fold(true, |all, byte| all & matches!(byte, 0x20..=0x7e))
 }

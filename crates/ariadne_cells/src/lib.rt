@@ -8,6 +8,7 @@ pub mod columns;
 pub mod cuts;
 pub mod layout;
 pub mod line_columns;
+pub mod line_text;
 pub mod margin;
 mod opening;
 pub mod order;

@@ -43,13 +43,13 @@ pub struct LineColumns {
 
 impl Model for LineColumns {
     ghost use Rattle.std.specs.Prelude.{ℕ, List};
-    ghost use Rattle.ariadne_cells.specs.Knots.{AreRising, held_columns};
+    ghost use Rattle.ariadne_cells.specs.Knots.{AreRising, HoldsOne, held_columns};
 
     ghost Value = { List ℕ };
 
     ghost view = { λ a. held_columns a.list.items a.knots.items a.len };
 
-    ghost invariant = { λ a. AreRising a.knots.items };
+    ghost invariant = { λ a. AreRising a.knots.items × HoldsOne a.list.items a.knots.items };
 }
 
 impl LineColumns {
@@ -109,6 +109,7 @@ impl LineColumns {
         requires short { len < 2 ^ 60 }
         ensures { OnOk result (AreColumns switches.now layout.now len self.new) }
     {
+        self.list.clear();
         self.knots.clear();
         self.whole.fill(switches, layout)?;
         self.len = len + 1;
@@ -125,7 +126,7 @@ impl LineColumns {
         ensures { result ≡ column_in self.now place }
     {
         if self.knots.is_empty() {
-            self.list.get(place).copied().unwrap_or(place)
+            listed_column(&self.list, place)
         } else if place < self.len {
             knot_column(&self.knots, place)
         } else {
@@ -137,8 +138,31 @@ impl LineColumns {
     pub fn width(&self, from: usize, to: usize) -> usize
         ensures { result ≡ column_in self.now to - column_in self.now from }
     {
+        if !self.list.is_empty() {
+            return listed_column(&self.list, to).saturating_sub(listed_column(&self.list, from));
+        }
+        if self.knots.is_empty() {
+            return to.saturating_sub(from);
+        }
+        self.cut_width(from, to)
+    }
+
+    /// How many columns the places from `from` to before `to` of a cut line have.
+    #[cold]
+    #[inline(never)]
+    fn cut_width(&self, from: usize, to: usize) -> usize
+        ensures { result ≡ column_in self.now to - column_in self.now from }
+    {
         self.column(to).saturating_sub(self.column(from))
     }
+}
+
+/// The column that a place begins at, where these are listed; where none is it is the place itself.
+#[tactic(auto, unfolding(crate::specs::Tables::column_in))]
+fn listed_column(list: &[usize], place: usize) -> usize
+    ensures { result ≡ column_in list.now place }
+{
+    list.get(place).copied().unwrap_or(place)
 }
 
 /// Appends the columns of the first `len` places of a line that is shown whole, and of the place

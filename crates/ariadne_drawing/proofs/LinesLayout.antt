@@ -4,7 +4,7 @@ use Rattle.std.proofs.Common.{refl, sym, ap, subst, arith, Some, None}
 use Rattle.std.specs.Prelude.{Option, option_to_list, IfSome, if◌then◌else◌, chars, encode_utf8_all, flat_map, slice_range}
 use Rattle.std.specs.List.{AllByRecursion, list_any}
 use Rattle.std.specs.Option.{IsSome, IsSomeAnd}
-use Rattle.std.specs.Str.{IsUtf8}
+use Rattle.std.specs.Str.{IsUtf8, drop_trailing_whitespace}
 use Rattle.std.proofs.Math.Utf8.{scalars}
 use Rattle.std.proofs.lemmas.Bool.{and_parts, cond_both}
 use Rattle.std.proofs.lemmas.List.Sums.{get_or-le-sum_by}
@@ -16,8 +16,9 @@ use Rattle.ariadne_base.proofs.LineLaws.{lines_joined, lines_length}
 use Rattle.ariadne_picture.specs.declared.label_info.LabelInfo.{LabelInfo}
 use Rattle.ariadne_picture.specs.declared.label_info.LineLabel.{LineLabel}
 use Rattle.ariadne_picture.specs.declared.label_info.Side.TheVariants.{Inline}
+use Rattle.ariadne_picture.specs.declared.sight.Sight.{Sight}
 use Rattle.ariadne_picture.specs.declared.switches.Switches.{Switches}
-use Rattle.ariadne_picture.specs.Columns.{Layout, arrow_len, layout_of, places_to_end, shown, sights_of}
+use Rattle.ariadne_picture.specs.Columns.{Layout, arrow_len, layout_of, places_to_end, sights_of}
 use Rattle.ariadne_picture.specs.Groups.{greatest}
 use Rattle.ariadne_picture.specs.Lists.{total}
 use Rattle.ariadne_picture.specs.Ranks.{Sheet, ends_at, gutter_labels, inline_labels, is_before, is_inline, is_margin, is_on_one_line, is_start}
@@ -78,15 +79,14 @@ pub labels-there : (s : Sheet) (l from to : ℕ) → slice_range (events_of s) f
 labels-there s l from to e = ap (labels_of s) e ∙ labels-at s l
 
 -- the layout of a line, by its parts
-pub layout-is : (s : Sheet) (l : ℕ) (y z : Layout) (margin : Option LineLabel) (labels : List LineLabel) (offset : ℕ) (text : List ℕ)
-    → y ≡ record { margin = margin; labels = labels; offset = offset; text = text; sights = [] } → margin ≡ margin_label s l
+pub layout-is : (s : Sheet) (l : ℕ) (y : Layout) (margin : Option LineLabel) (labels : List LineLabel) (offset : ℕ) (text : List ℕ) (sights : List Sight)
+    → y ≡ record { margin = margin; labels = labels; offset = offset; text = text; sights = sights } → margin ≡ margin_label s l
     → labels ≡ line_labels s l → offset ≡ line_offset length s.lines l → text ≡ line_text s.lines l
-    → z ≡ record y { sights = sights_of s.switches y.offset (option_to_list y.margin ++ y.labels) (shown y) } → z ≡ layout_of s l
-unfolding layout_of shown
-layout-is s l y z margin labels offset text e m n o t cut =
-    let whole : y ≡ record { margin = margin_label s l; labels = line_labels s l; offset = line_offset length s.lines l; text = line_text s.lines l; sights = [] } =
-    e ∙ (λ i. record { margin = m i; labels = n i; offset = o i; text = t i; sights = [] }) in
-    cut ∙ ap (λ (y : Layout). record y { sights = sights_of s.switches y.offset (option_to_list y.margin ++ y.labels) (shown y) }) whole
+    → sights ≡ sights_of s.switches offset (option_to_list margin ++ labels) (drop_trailing_whitespace text) → y ≡ layout_of s l
+unfolding layout_of
+layout-is s l y margin labels offset text sights e m n o t cut =
+    let seen = cut ∙ (λ i. sights_of s.switches (o i) (option_to_list (m i) ++ n i) (drop_trailing_whitespace (t i))) in
+    e ∙ (λ i. record { margin = m i; labels = n i; offset = o i; text = t i; sights = seen i })
 
 -- what holds of each label of a group holds of the labels of a line
 pub line-label-infos : (P : LabelInfo → Type 0) (s : Sheet) (l : ℕ) → AllByRecursion P s.labels → AllByRecursion (λ x. P x.info) (line_labels s l)

@@ -167,7 +167,7 @@ pub(crate) const CALLS: &[(&str, &[&str])] = &[
     ),
     (
         "a_refused_line_that_is_cut_sends_nothing",
-        &["WholeColumns::fill", "Cuts::find"],
+        &["WholeColumns::fill", "Cuts::parts_of"],
     ),
     (
         "a_refused_request_is_told_and_no_line_is_cut",

@@ -1,4 +1,4 @@
-use Rattle.std.proofs.Common.{◌∙◌, sym, arith, rules}
+use Rattle.std.proofs.Common.{◌∙◌, rules}
 use Rattle.ariadne_cells.proofs.PartColumns.{behind-after, behind-before, behind-no}
 use Rattle.ariadne_cells.proofs.cuts.mark_behind.Goals as goal
 

@@ -1,6 +1,5 @@
-use Rattle.std.proofs.Common.{◌∙◌, ◌≡◌, Some, slice_get, length, ◌-◌, ◌++◌, ◌∷◌, [], ap, arith, refl, rules}
+use Rattle.std.proofs.Common.{◌∙◌, ◌≡◌, length, ◌-◌, ◌++◌, ◌∷◌, [], ap, arith, refl, rules}
 use Rattle.std.proofs.lemmas.Option.{slice_get_read}
-use Rattle.ariadne_picture.specs.declared.sight.Part.{Part}
 use Rattle.ariadne_cells.proofs.JoinedParts.{first-apart, joined-alike, joined-apart, joined-last, kept, pushed-alike, pushed-apart, pushed-order}
 use Rattle.ariadne_cells.proofs.cuts.push_joined.Goals as goal
 use Rattle.ariadne_cells.proofs.cuts.push_joined.Goals.{In_ok-push, in-Some+else-part-last, in_default}

@@ -1,4 +1,4 @@
-use Rattle.std.proofs.Common.{◌∙◌, [], ◌∷◌, ◌++◌, arith, ap, sym, append-nil}
+use Rattle.std.proofs.Common.{◌∙◌, ◌++◌, arith, ap, sym, append-nil}
 use Rattle.std.proofs.lemmas.List.{take_all}
 use Rattle.ariadne_cells.specs.Cuts.{parts_of_labels}
 use Rattle.ariadne_cells.proofs.CutParts.{labels-pushed}

@@ -1,4 +1,4 @@
-use Rattle.std.proofs.Common.{◌∙◌, [], ◌∷◌, ◌++◌, arith}
+use Rattle.std.proofs.Common.{arith}
 use Rattle.ariadne_cells.proofs.JoinedParts.{widened-alike, widened-none, widened-step}
 use Rattle.ariadne_cells.proofs.cuts.widen.Goals as goal
 

@@ -1,4 +1,4 @@
-use Rattle.std.proofs.Common.{◌≡◌, ◌+◌, arith, rules}
+use Rattle.std.proofs.Common.{◌≡◌, ◌+◌, rules}
 use Rattle.ariadne_cells.proofs.CutParts.{widened-is}
 use Rattle.ariadne_cells.proofs.cuts.widened_part.Goals as goal
 

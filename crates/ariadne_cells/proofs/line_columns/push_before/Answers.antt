@@ -1,4 +1,4 @@
-use Rattle.std.proofs.Common.{◌∙◌, min, sym}
+use Rattle.std.proofs.Common.{◌∙◌, sym}
 use Rattle.ariadne_cells.proofs.Knots.{hold-mark, hold-unmarked}
 use Rattle.ariadne_cells.proofs.line_columns.push_before.Goals as goal
 

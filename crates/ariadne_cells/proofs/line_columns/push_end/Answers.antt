@@ -1,4 +1,4 @@
-use Rattle.std.proofs.Common.{◌∙◌, arith, rules, sym}
+use Rattle.std.proofs.Common.{rules}
 use Rattle.ariadne_cells.proofs.Knots.{hold-behind, hold-end}
 use Rattle.ariadne_cells.proofs.PartColumns.{behind-after, behind-no}
 use Rattle.ariadne_cells.proofs.line_columns.push_end.Goals as goal

@@ -1,4 +1,4 @@
-use Rattle.std.proofs.Common.{◌≡◌, ◌+◌, ◌∙◌, ap, arith, sym, subst}
+use Rattle.std.proofs.Common.{◌≡◌, arith, subst}
 use Rattle.ariadne_cells.specs.Knots.{HoldColumns}
 use Rattle.ariadne_cells.proofs.Knots.{hold-step}
 use Rattle.ariadne_cells.proofs.line_columns.push_even.Goals as goal

@@ -1,4 +1,4 @@
-use Rattle.std.proofs.Common.{◌≡◌, ◌≤◌, arith, rules}
+use Rattle.std.proofs.Common.{arith}
 use Rattle.ariadne_cells.proofs.CutColumns.{end-held, none-held, part-held, part-order}
 use Rattle.ariadne_cells.proofs.line_columns.push_parts.Goals as goal
 

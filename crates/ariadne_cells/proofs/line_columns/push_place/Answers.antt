@@ -1,5 +1,4 @@
-use Rattle.std.proofs.Common.{◌≡◌, ◌+◌, ◌++◌, ◌∷◌, [], rules}
-use Rattle.ariadne_cells.specs.declared.line_columns.Knot.{Knot}
+use Rattle.std.proofs.Common.{◌≡◌, ◌+◌, rules}
 use Rattle.ariadne_cells.proofs.Knots.{hold-place}
 use Rattle.ariadne_cells.proofs.line_columns.push_place.Goals as goal
 

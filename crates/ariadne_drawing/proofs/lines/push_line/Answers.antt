@@ -3,17 +3,17 @@ use Rattle.std.proofs.Common.{◌≡◌, ◌∙◌, ◌+◌, ◌<◌, ◌^◌, �
 use Rattle.std.specs.Prelude.{IfSome, chars, option_to_list}
 use Rattle.std.specs.List.{enumerate_from}
 use Rattle.std.specs.Option.{IsSome}
-use Rattle.std.specs.Str.{IsUtf8}
+use Rattle.std.specs.Str.{IsUtf8, drop_trailing_whitespace}
 use Rattle.ariadne_base.specs.Listing.{listed_lines}
 use Rattle.ariadne_base.specs.Locations.{line_offset, line_text}
 use Rattle.ariadne_base.specs.Table.{LineExtent, line_extent}
 use Rattle.ariadne_base.proofs.LocationLemmas.{offset_is}
-use Rattle.ariadne_cells.specs.Cuts.{AreApart, sights_in}
+use Rattle.ariadne_cells.specs.Cuts.{sights_in}
 use Rattle.ariadne_cells.specs.Ends.{shown_bytes}
 use Rattle.ariadne_cells.specs.Pages.{DrawsRow, DrawsRows, PageFields}
 use Rattle.ariadne_cells.specs.Tables.{ArePaints, tab_columns}
 use Rattle.ariadne_picture.specs.Canvas.{texts_of}
-use Rattle.ariadne_picture.specs.Columns.{Layout, layout_of, shown, sights_of}
+use Rattle.ariadne_picture.specs.Columns.{Layout, layout_of, sights_of}
 use Rattle.ariadne_picture.specs.Groups.{printed_number}
 use Rattle.ariadne_picture.specs.Lists.{joined}
 use Rattle.ariadne_picture.specs.Pieces.{Section, row_pieces}
@@ -35,7 +35,7 @@ use Rattle.ariadne_drawing.proofs.LinesRows.{line-shown, row-page}
 use Rattle.ariadne_drawing.proofs.LinesWalk.{names-append, some-group}
 use Rattle.ariadne_drawing.proofs.lines.push_line.Given.{Over}
 use Rattle.ariadne_drawing.proofs.lines.push_line.Goals as goal
-use Rattle.ariadne_drawing.proofs.lines.push_line.Goals.{After-len, After-cut, In_ok-push_source_row, In_ok-start_margin}
+use Rattle.ariadne_drawing.proofs.lines.push_line.Goals.{After-len, After-new-layout, In_ok-push_source_row, In_ok-start_margin}
 
 -- ---- the line that is read
 
@@ -45,8 +45,8 @@ unwrap-extent-requires g c =
     subst (λ o. IsSome o) (sym (c.line.ensures ∙ line-there (listed_lines c.args.source.now) c.args.line c.requires.within)) refl
 
 -- so is its text
-pub unwrap-text-requires : goal.unwrap-text-requires
-unwrap-text-requires g c =
+pub unwrap-whole-requires : goal.unwrap-whole-requires
+unwrap-whole-requires g c =
     let ls = listed_lines c.args.source.now in
     let l = c.args.line in
     some-and c.get_line_text.result _
@@ -64,68 +64,70 @@ is-utf8 : (g : Over) (c : After-len g) → IsUtf8 c.args.source.now.text
 is-utf8 g c = subst IsUtf8 c.text-text.ensures c.text-text.utf8
 
 -- the characters are those of the line
-chars-are : (g : Over) (c : After-len g) → chars c.unwrap-text.result.now ≡ line_text (listed_lines c.args.source.now) c.args.line
+chars-are : (g : Over) (c : After-len g) → chars c.unwrap-whole.result.now ≡ line_text (listed_lines c.args.source.now) c.args.line
 chars-are g c =
     let l = c.args.line in
-    line-chars c.args.source.now.text l c.unwrap-text.result.now (is-utf8 g c)
-    (of-some c.get_line_text.result _ c.unwrap-text.result
-    (c.get_line_text.ensures.own l c.requires.within (extent-is g c)) c.unwrap-text.ensures)
+    line-chars c.args.source.now.text l c.unwrap-whole.result.now (is-utf8 g c)
+    (of-some c.get_line_text.result _ c.unwrap-whole.result
+    (c.get_line_text.ensures.own l c.requires.within (extent-is g c)) c.unwrap-whole.ensures)
 
 -- their number is its length
-pub new-layout-requires : goal.new-layout-requires
-new-layout-requires g c = record {
+pub new-text-requires : goal.new-text-requires
+new-text-requires g c = record {
   len =
       let ls = listed_lines c.args.source.now in
       let l = c.args.line in
-      let b = (goal.at.new-layout-requires g c).After-len in
+      let b = (goal.at.new-text-requires g c).After-len in
       c.len.ensures ∙ ap (λ (e : LineExtent). e.len) (extent-is g b) ∙ len-is ls l ∙ ap length (sym (chars-are g b));
   known =
-      let b = (goal.at.new-layout-requires g c).After-len in
-      subst (λ (text : List ℕ). IfSome c.known_bytes-known.result (λ n. n ≡ shown_bytes text)) (sym (chars-are g b))
-      (c.known_bytes-known.ensures (listed_lines c.args.source.now) c.requires.known);
+      let b = (goal.at.new-text-requires g c).After-len in
+      subst (λ (text : List ℕ). IfSome c.known_bytes.result (λ n. n ≡ shown_bytes text)) (sym (chars-are g b))
+      (c.known_bytes.ensures (listed_lines c.args.source.now) c.requires.known);
 }
 
 -- ---- its layout
 
 -- its parts stand apart
-pub cut-requires : goal.cut-requires
-cut-requires g c = record { apart = subst AreApart (sym c.deref-2.ensures.value) c.in_ok-find.ensures.apart }
+pub new-layout-requires : goal.new-layout-requires
+new-layout-requires g c = record { apart = c.in_ok-parts.ensures.apart }
 
 -- it begins where the line does
-cut-extent : (g : Over) (c : After-cut g) → c.unwrap-extent.result ≡ line_extent (listed_lines c.args.source.now) c.args.line
+cut-extent : (g : Over) (c : After-new-layout g) → c.unwrap-extent.result ≡ line_extent (listed_lines c.args.source.now) c.args.line
 cut-extent g c =
     line-read c.line.result (listed_lines c.args.source.now) c.args.line c.unwrap-extent.result c.line.ensures c.unwrap-extent.ensures
     c.requires.within
 
 -- it has the line's characters
-cut-chars : (g : Over) (c : After-cut g) → chars c.unwrap-text.result.now ≡ line_text (listed_lines c.args.source.now) c.args.line
+cut-chars : (g : Over) (c : After-new-layout g) → chars c.unwrap-whole.result.now ≡ line_text (listed_lines c.args.source.now) c.args.line
 cut-chars g c =
     let l = c.args.line in
-    line-chars c.args.source.now.text l c.unwrap-text.result.now (subst IsUtf8 c.text-text.ensures c.text-text.utf8)
-    (of-some c.get_line_text.result _ c.unwrap-text.result
-    (c.get_line_text.ensures.own l c.requires.within (cut-extent g c)) c.unwrap-text.ensures)
+    line-chars c.args.source.now.text l c.unwrap-whole.result.now (subst IsUtf8 c.text-text.ensures c.text-text.utf8)
+    (of-some c.get_line_text.result _ c.unwrap-whole.result
+    (c.get_line_text.ensures.own l c.requires.within (cut-extent g c)) c.unwrap-whole.ensures)
 
 -- it is that of the line
-layout-there : (g : Over) (c : After-cut g) (s : Sheet) → s.labels ≡ c.args.lists.now.sheet.labels → s.lines ≡ listed_lines c.args.source.now
-    → s.switches ≡ c.args.pen.now.page.switches → c.cut.new.self ≡ layout_of s c.args.line
+layout-there : (g : Over) (c : After-new-layout g) (s : Sheet) → s.labels ≡ c.args.lists.now.sheet.labels → s.lines ≡ listed_lines c.args.source.now
+    → s.switches ≡ c.args.pen.now.page.switches → c.new-layout.result ≡ layout_of s c.args.line
 layout-there g c s own lines same =
     let l = c.args.line in
     let here = labels-there s l c.args.from c.args.to (c.requires.there s own) in
-    let y = c.new-layout.result in
+    let margin = c.in_ok-margin.margin in
+    let offset = c.offset-offset.result in
+    let labels = c.deref-2.result.now in
+    let text = c.new-text.result in
     let switches : c.switches.result.now ≡ s.switches = c.switches.ensures.switches ∙ ap (λ (p : PageFields). p.switches) c.page.ensures ∙ sym same in
-    layout-is s l y c.cut.new.self c.in_ok-margin.margin c.deref.result.now c.offset.result (chars c.unwrap-text.result.now) c.new-layout.ensures
-    (c.in_ok-margin.ensures.margin s l own here) (c.deref.ensures.value ∙ c.in_ok-margin.ensures.labels s l own here)
-    (c.offset.ensures ∙ ap (λ (e : LineExtent). e.offset) (cut-extent g c) ∙ offset_is (listed_lines c.args.source.now) l
+    let listed : c.deref.result.now ≡ labels = c.deref.ensures.value ∙ sym c.deref-2.ensures.value in
+    layout-is s l c.new-layout.result margin labels offset text
+    (sights_in c.in_ok-parts.parts.now (length (drop_trailing_whitespace text))) c.new-layout.ensures
+    (c.in_ok-margin.ensures.margin s l own here) (c.deref-2.ensures.value ∙ c.in_ok-margin.ensures.labels s l own here)
+    (c.offset-offset.ensures ∙ ap (λ (e : LineExtent). e.offset) (cut-extent g c) ∙ offset_is (listed_lines c.args.source.now) l
     ∙ ap (λ ls. line_offset length ls l) (sym lines))
-    (cut-chars g c ∙ ap (λ ls. line_text ls l) (sym lines))
-    (c.cut.ensures
-    ∙ (λ i. record y {
-      sights = (ap (λ ps. sights_in ps (length (shown y))) c.deref-2.ensures.value ∙ c.in_ok-find.ensures.sights
-          ∙ ap (λ (w : Switches). sights_of w y.offset (option_to_list y.margin ++ y.labels) (shown y)) switches) i;
-    }))
+    (c.new-text.ensures ∙ cut-chars g c ∙ ap (λ ls. line_text ls l) (sym lines))
+    (c.in_ok-parts.ensures.sights
+    ∙ (λ i. sights_of (switches i) offset (option_to_list margin ++ listed i) (drop_trailing_whitespace text)))
 
 -- a sheet of the group
-abbrev own_sheet : (g : Over) → After-cut g → Sheet
+abbrev own_sheet : (g : Over) → After-new-layout g → Sheet
 own_sheet g c = record {
   switches = c.args.pen.now.page.switches;
   lines = listed_lines c.args.source.now;
@@ -135,7 +137,7 @@ own_sheet g c = record {
 -- so it is for some sheet, and only labels that touch the line hold a character of it
 pub find_paints-requires-clause-there : goal.find_paints-requires-clause-there
 find_paints-requires-clause-there g c =
-    let b = (goal.at.find_paints-requires-clause-there g c).After-cut in
+    let b = (goal.at.find_paints-requires-clause-there g c).After-new-layout in
     let s = own_sheet g b in
     record { sheet = s; same_labels = refl; touch = holders-touch s c.args.line c.requires.over; layout = layout-there g b s refl refl refl }
 
@@ -144,7 +146,7 @@ find_paints-requires-clause-there g c =
 -- the margin label has a column
 pub start_margin-requires : goal.start_margin-requires
 start_margin-requires g c =
-    let s = own_sheet g (goal.at.start_margin-requires g c).After-cut in
+    let s = own_sheet g (goal.at.start_margin-requires g c).After-new-layout in
     record {
       column =
           margin-column s c.args.line c.args.lists.now.gutter c.in_ok-margin.margin
@@ -155,7 +157,7 @@ start_margin-requires g c =
 -- the source row is that of the line
 source-drawn : (g : Over) (c : In_ok-push_source_row g) (s : Section)
     → IsDrawnGroup (texts_of c.args.report.now) s c.args.pen.now.page.switches c.args.source.now c.args.lists.now.sheet.labels
-    → c.cut.new.self ≡ layout_of s.sheet c.args.line
+    → c.new-layout.result ≡ layout_of s.sheet c.args.line
     → DrawsRow c.args.pen.now c.push_source_row.new.pen
     (row_pieces (texts_of c.args.report.now) c.args.pen.now.page.number_width s (source c.args.line))
 unfolding printed_number
@@ -171,13 +173,13 @@ source-drawn g c s h layout =
     c.in_ok-push_source_row.ensures.drawn t s l (drawn-page t s page listing labels h) layout
     (ap (λ o. l + 1 + o) (c.display_line_offset-display_offset.ensures.offset ∙ sym h.display_offset))
     (beside-source s.sheet l c.args.lists.now.gutter rise (c.requires.beside s.sheet own same))
-    (λ on. subst (λ ps. ArePaints (multi_line_labels s.sheet) c.cut.new.self ps) (sym c.deref-3.ensures.value)
+    (λ on. subst (λ ps. ArePaints (multi_line_labels s.sheet) c.new-layout.result ps) (sym c.deref-3.ensures.value)
     (c.in_ok-find_paints.ensures.paints s.sheet own on))
 
 -- the layout is that of a group that is drawn
-group-layout : (g : Over) (c : After-cut g) (s : Section)
+group-layout : (g : Over) (c : After-new-layout g) (s : Section)
     → IsDrawnGroup (texts_of c.args.report.now) s c.args.pen.now.page.switches c.args.source.now c.args.lists.now.sheet.labels
-    → c.cut.new.self ≡ layout_of s.sheet c.args.line
+    → c.new-layout.result ≡ layout_of s.sheet c.args.line
 group-layout g c s h =
     let t = texts_of c.args.report.now in
     let page = c.args.pen.now.page in
@@ -188,7 +190,7 @@ group-layout g c s h =
 -- the page stays
 source-page : (g : Over) (c : In_ok-push_source_row g)
     → ((s : Section) → IsDrawnGroup (texts_of c.args.report.now) s c.args.pen.now.page.switches c.args.source.now c.args.lists.now.sheet.labels
-    → c.cut.new.self ≡ layout_of s.sheet c.args.line) → c.push_source_row.new.pen.page ≡ c.args.pen.now.page
+    → c.new-layout.result ≡ layout_of s.sheet c.args.line) → c.push_source_row.new.pen.page ≡ c.args.pen.now.page
 source-page g c layout =
     let t = texts_of c.args.report.now in
     let page = c.args.pen.now.page in
@@ -203,34 +205,34 @@ pub push_rows_below-requires-clause-page : goal.push_rows_below-requires-clause-
 push_rows_below-requires-clause-page g c =
     c.in_ok-start_margin.ensures.page ∙ c.requires.page
     ∙ sym (source-page g (goal.at.push_rows_below-requires-clause-page g c).In_ok-push_source_row
-    (group-layout g (goal.at.push_rows_below-requires-clause-page g c).After-cut))
+    (group-layout g (goal.at.push_rows_below-requires-clause-page g c).After-new-layout))
 
 -- the columns of the tabs fit
 pub push_rows_below-requires-clause-columns_fit : goal.push_rows_below-requires-clause-columns_fit
 push_rows_below-requires-clause-columns_fit g c =
     let page = source-page g (goal.at.push_rows_below-requires-clause-columns_fit g c).In_ok-push_source_row
-    (group-layout g (goal.at.push_rows_below-requires-clause-columns_fit g c).After-cut) in
-    subst (λ (p : PageFields). tab_columns p.switches c.cut.new.self < 2 ^ 63) (sym page) c.in_ok-push_source_row.ensures.tabs
+    (group-layout g (goal.at.push_rows_below-requires-clause-columns_fit g c).After-new-layout) in
+    subst (λ (p : PageFields). tab_columns p.switches c.new-layout.result < 2 ^ 63) (sym page) c.in_ok-push_source_row.ensures.tabs
 
 -- the places of the rows fit
 pub push_rows_below-requires-clause-places_fit : goal.push_rows_below-requires-clause-places_fit
 push_rows_below-requires-clause-places_fit g c =
-    let b = (goal.at.push_rows_below-requires-clause-places_fit g c).After-cut in
+    let b = (goal.at.push_rows_below-requires-clause-places_fit g c).After-new-layout in
     let d = (goal.at.push_rows_below-requires-clause-places_fit g c).After-len in
     let s = own_sheet g b in
     let size = c.text-text.type_inv.1 in
     let same = ap length c.text-text.ensures in
     let text = c.args.source.now.text in
     let small : length text < 2 ^ 63 = omega arith in
-    places-fit c.push_source_row.new.pen.page.switches s c.args.line c.cut.new.self text (is-utf8 g d) small refl c.requires.over
+    places-fit c.push_source_row.new.pen.page.switches s c.args.line c.new-layout.result text (is-utf8 g d) small refl c.requires.over
     c.requires.within
     (layout-there g b s refl refl refl)
 
 -- the line is as they begin
 at-line : (g : Over) (c : In_ok-start_margin g) → c.push_source_row.new.pen.page ≡ c.args.pen.now.page → (s : Section)
     → IsDrawnGroup (texts_of c.args.report.now) s c.args.pen.now.page.switches c.args.source.now c.args.lists.now.sheet.labels
-    → c.cut.new.self ≡ layout_of s.sheet c.args.line
-    → IsAtLine (texts_of c.args.report.now) s c.push_source_row.new.pen.page c.args.line c.cut.new.self c.start_margin.new.gutter
+    → c.new-layout.result ≡ layout_of s.sheet c.args.line
+    → IsAtLine (texts_of c.args.report.now) s c.push_source_row.new.pen.page c.args.line c.new-layout.result c.start_margin.new.gutter
 at-line g c kept s h layout =
     let t = texts_of c.args.report.now in
     let l = c.args.line in
@@ -254,7 +256,7 @@ pub push_rows_below-requires-clause-there : goal.push_rows_below-requires-clause
 push_rows_below-requires-clause-there g c =
     let some = some-group (texts_of c.args.report.now) c.args.pen.now.page.switches c.args.source.now c.args.lists.now.sheet.labels c.requires.texts
     in
-    let layout = group-layout g (goal.at.push_rows_below-requires-clause-there g c).After-cut in
+    let layout = group-layout g (goal.at.push_rows_below-requires-clause-there g c).After-new-layout in
     let kept = source-page g (goal.at.push_rows_below-requires-clause-there g c).In_ok-push_source_row layout in
     record {
       group = some.0;
@@ -269,7 +271,7 @@ pub returns-clause-known : goal.returns-clause-known
 returns-clause-known g c =
     let ls = listed_lines c.args.source.now in
     let b = (goal.at.returns-clause-known g c).After-len in
-    let text = ap (λ (y : Layout). y.text) c.cut.ensures ∙ ap (λ (y : Layout). y.text) c.new-layout.ensures ∙ chars-are g b in
+    let text = ap (λ (y : Layout). y.text) c.new-layout.ensures ∙ c.new-text.ensures ∙ chars-are g b in
     on_ok_weaker c.push_rows_below.result (λ page. c.remember.ensures ls text c.requires.known) c.push_rows_below.ensures.page
 
 -- below the rows the bars are those beside it
@@ -281,11 +283,11 @@ returns-clause-beside g c = λ s own same.
     let listing = c.args.source.now in
     let labels = c.args.lists.now.sheet.labels in
     let some = some-group t page.switches listing labels c.requires.texts in
-    let layout = group-layout g (goal.at.returns-clause-beside g c).After-cut in
+    let layout = group-layout g (goal.at.returns-clause-beside g c).After-new-layout in
     let kept = source-page g (goal.at.returns-clause-beside g c).In_ok-push_source_row layout in
     let at = at-line g (goal.at.returns-clause-beside g c).In_ok-start_margin kept some.0 some.1 (layout some.0 some.1) in
-    let n : length c.cut.new.self.labels ≡ length (line_labels some.0.sheet l) = ap length
-    (layout-labels some.0.sheet l c.cut.new.self at.layout) in
+    let n : length c.new-layout.result.labels ≡ length (line_labels some.0.sheet l) = ap length
+    (layout-labels some.0.sheet l c.new-layout.result at.layout) in
     on_ok_weaker c.push_rows_below.result
     (λ below. beside-same s some.0.sheet (l + 1) c.push_rows_below.new.gutter (own ∙ sym (drawn-labels t some.0 page listing labels some.1))
     (same ∙ sym (drawn-switches t some.0 page listing labels some.1))
@@ -302,8 +304,8 @@ returns-clause-drawn g c = λ s h shown.
     let labels = c.args.lists.now.sheet.labels in
     let mid = c.push_source_row.new.pen in
     let new = c.push_rows_below.new.pen in
-    let y = c.cut.new.self in
-    let layout = group-layout g (goal.at.returns-clause-drawn g c).After-cut in
+    let y = c.new-layout.result in
+    let layout = group-layout g (goal.at.returns-clause-drawn g c).After-new-layout in
     let r = (goal.at.returns-clause-drawn g c).In_ok-push_source_row in
     let kept = source-page g r layout in
     let at = at-line g (goal.at.returns-clause-drawn g c).In_ok-start_margin kept s h (layout s h) in

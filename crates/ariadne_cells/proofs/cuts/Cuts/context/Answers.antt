@@ -1,7 +1,6 @@
-use Rattle.std.proofs.Common.{◌≡◌, ◌<◌, ◌≤◌, ◌-◌, ◌+◌, ◌∙◌, ℕ, List, length, true, refl, sym, ap, subst, arith, inl, inr}
+use Rattle.std.proofs.Common.{◌∙◌, refl, sym, ap, subst, arith, inl, inr}
 use Rattle.ariadne_cells.specs.Tables.{AreWholeColumns}
-use Rattle.std.proofs.lemmas.Bool.{cases_order}
-use Rattle.ariadne_picture.specs.Columns.{context, fits_with}
+use Rattle.ariadne_picture.specs.Columns.{fits_with}
 use Rattle.ariadne_cells.specs.declared.cuts.Cuts.{Cuts}
 use Rattle.ariadne_cells.proofs.CutParts.{context-is, fits-more}
 use Rattle.ariadne_cells.proofs.cuts.Cuts.context.Goals as goal

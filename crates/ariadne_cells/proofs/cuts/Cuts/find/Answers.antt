@@ -1,31 +1,19 @@
-use Rattle.std.proofs.Common.{◌≡◌, ◌<◌, ◌≤◌, ◌∙◌, ◌++◌, ℕ, List, length, option_to_list, sym, ap, subst, arith}
+use Rattle.std.proofs.Common.{◌≡◌, ◌∙◌, ◌++◌, length, option_to_list, sym, ap, subst, arith}
 use Rattle.std.specs.List.Sorted.{IsPermutation}
-use Rattle.ariadne_picture.specs.declared.label_info.LineLabel.{LineLabel}
-use Rattle.ariadne_picture.specs.declared.sight.Part.{Part}
 use Rattle.ariadne_picture.specs.Columns.{context, needed_parts, shown, whole_column}
 use Rattle.ariadne_cells.specs.declared.cuts.Cuts.{Cuts}
 use Rattle.ariadne_cells.specs.Tables.{AreWholeColumns, column_in}
-use Rattle.ariadne_cells.proofs.CutParts.{not-wide, too-wide, unasked, whole-listed}
+use Rattle.ariadne_cells.proofs.CutParts.{not-wide, too-wide, whole-listed}
 use Rattle.ariadne_cells.proofs.JoinedParts.{cut-found, needed-more, none-apart}
 use Rattle.ariadne_cells.proofs.cuts.Cuts.find.Goals as goal
 use Rattle.ariadne_cells.proofs.cuts.Cuts.find.Goals.{After-column, After-widen}
-
--- where no width is asked for nothing is cut
-pub returns-then-switches-eq0-clause-apart : goal.returns-then-switches-eq0-clause-apart
-returns-then-switches-eq0-clause-apart c = none-apart c.clear.new.self.items c.clear.ensures.items
-
-pub returns-then-switches-eq0-clause-sights : goal.returns-then-switches-eq0-clause-sights
-returns-then-switches-eq0-clause-sights c =
-    let y = c.args.layout.now in
-    let s = c.args.switches.now in
-    whole-listed s y.offset (option_to_list y.margin ++ y.labels) (shown y) c.clear.new.self.items (unasked s (shown y) c.if-switches-eq0.true) c.clear.ensures.items
 
 -- the columns of the whole line
 column : (c : After-column) → c.column.result ≡ whole_column c.args.switches.now.tab_width (shown c.args.layout.now) (length (shown c.args.layout.now))
 column c =
     c.column.ensures ∙ ap (column_in c.fill.new.self) c.shown_len-len.ensures ∙ c.in_ok-fill.ensures {u = tt} (length (shown c.args.layout.now)) (omega arith)
 
--- nor where it has no more than are asked for
+-- nothing is cut where it has no more than are asked for
 pub returns-then-column-switches-clause-apart : goal.returns-then-column-switches-clause-apart
 returns-then-column-switches-clause-apart c = none-apart c.clear.new.self.items c.clear.ensures.items
 
@@ -65,6 +53,6 @@ returns-clause-sights c =
     subst (AreWholeColumns s.tab_width text) (sym c.in_ok-find_needed.ensures.columns) (c.in_ok-fill.ensures {u = tt}) in
     let more = c.in_ok-context.ensures.context text counted size ∙ ap (context s text) (sym e) in
     cut-found c.widen.result s y.offset labels text c.deref.result.now c.widen.new.list.items c.in_ok-context.context
-    (too-wide s text c.column.result (omega (arith, c.if-switches-eq0.false)) c.if-column-switches.false (column (goal.at.returns-clause-sights c).After-column))
+    (too-wide s text c.column.result c.requires.asked c.if-column-switches.false (column (goal.at.returns-clause-sights c).After-column))
     same more (c.widen.ensures.alike s.tab_width text (held b) size)
     (c.widen.ensures.some (needed-more s y.offset labels text c.deref.result.now same))

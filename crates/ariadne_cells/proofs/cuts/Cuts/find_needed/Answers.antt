@@ -1,4 +1,4 @@
-use Rattle.std.proofs.Common.{◌≡◌, ◌∙◌, ◌++◌, sym, ap, option_to_list}
+use Rattle.std.proofs.Common.{◌++◌, ap, option_to_list}
 use Rattle.std.proofs.lemmas.Result.{on_ok_weaker}
 use Rattle.ariadne_picture.specs.Columns.{shown}
 use Rattle.ariadne_cells.specs.declared.cuts.Cuts.{Cuts}

@@ -1,4 +1,4 @@
-use Rattle.std.proofs.Common.{◌≡◌, ◌∙◌, subst, sym}
+use Rattle.std.proofs.Common.{subst, sym}
 use Rattle.ariadne_cells.specs.Cuts.{AreApart}
 use Rattle.ariadne_cells.proofs.JoinedParts.{fits-told}
 use Rattle.ariadne_cells.proofs.cuts.Cuts.fits_with.Goals as goal

@@ -1,6 +1,5 @@
-use Rattle.std.proofs.Common.{◌∙◌, refl, rules, subst, sym}
+use Rattle.std.proofs.Common.{◌∙◌, subst, sym}
 use Rattle.std.proofs.lemmas.Result.{on_ok_weaker}
-use Rattle.ariadne_cells.specs.Knots.{held_columns}
 use Rattle.ariadne_cells.specs.Tables.{AreColumns}
 use Rattle.ariadne_cells.proofs.ColumnLists.{columns-plain}
 use Rattle.ariadne_cells.proofs.CutColumns.{list-held}
@@ -9,16 +8,16 @@ use Rattle.ariadne_cells.proofs.line_columns.LineColumns.fill.Goals as goal
 
 -- no knots are held
 pub invariant_of-self : goal.invariant_of-self
-invariant_of-self c = rising-none c.clear-2.new.self.items c.clear-2.ensures.items
+invariant_of-self c = (rising-none c.clear-2.new.self.items c.clear-2.ensures.items, λ some. c.clear-2.ensures.items)
 
 pub invariant_of-self-then-len-ge-TOO_MANY : goal.invariant_of-self-then-len-ge-TOO_MANY
-invariant_of-self-then-len-ge-TOO_MANY c = rising-none c.clear-2.new.self.items c.clear-2.ensures.items
+invariant_of-self-then-len-ge-TOO_MANY c = (rising-none c.clear-2.new.self.items c.clear-2.ensures.items, λ some. c.clear-2.ensures.items)
 
 pub invariant_of-self-then-is_cut : goal.invariant_of-self-then-is_cut
-invariant_of-self-then-is_cut c = rising-none c.clear-2.new.self.items c.clear-2.ensures.items
+invariant_of-self-then-is_cut c = (rising-none c.clear-2.new.self.items c.clear-2.ensures.items, λ some. c.clear-2.ensures.items)
 
 pub invariant_of-self-else-is_cut : goal.invariant_of-self-else-is_cut
-invariant_of-self-else-is_cut c = rising-none c.clear-2.new.self.items c.clear-2.ensures.items
+invariant_of-self-else-is_cut c = (rising-none c.clear-2.new.self.items c.clear-2.ensures.items, λ some. c.clear-2.ensures.items)
 
 -- on a plain line each place is its column
 pub returns-then-is_even : goal.returns-then-is_even

@@ -1,5 +1,5 @@
 use Rattle.std.proofs.Common.{◌≡◌, ℕ, ◌<◌, ◌≤◌, length, get_or}
-use Rattle.ariadne_cells.proofs.layout.blocks_start.Given as goal
+use Rattle.ariadne_cells.proofs.line_text.blocks_start.Given as goal
 
 -- what stands behind are blanks
 abbrev pub invariant-loop-start : goal.invariant-loop-start

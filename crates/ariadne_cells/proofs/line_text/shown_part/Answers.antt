@@ -4,7 +4,7 @@ use Rattle.std.specs.Prelude.{IfSome}
 use Rattle.std.specs.Str.{chars}
 use Rattle.ariadne_cells.specs.Ends.{shown_bytes}
 use Rattle.ariadne_cells.proofs.Layouts.{shown_boundary, trim_cut}
-use Rattle.ariadne_cells.proofs.layout.shown_part.Goals as goal
+use Rattle.ariadne_cells.proofs.line_text.shown_part.Goals as goal
 
 -- a character begins there
 pub range-requires-clause-end_boundary : goal.range-requires-clause-end_boundary

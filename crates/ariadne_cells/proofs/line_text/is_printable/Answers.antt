@@ -2,7 +2,7 @@ use Rattle.std.proofs.Common.{◌≡◌, ◌&&◌, nat_le, true, fold, ◌∙◌
 use Rattle.std.proofs.lemmas.Iterator.{YieldsList-from_slice}
 use Rattle.std.proofs.lemmas.Iterator.Consumers.{fold_from_yields_List}
 use Rattle.ariadne_cells.proofs.Layouts.{printable-chars, chars-printable}
-use Rattle.ariadne_cells.proofs.layout.is_printable.Goals as goal
+use Rattle.ariadne_cells.proofs.line_text.is_printable.Goals as goal
 
 -- each byte was tested
 pub returns : goal.returns

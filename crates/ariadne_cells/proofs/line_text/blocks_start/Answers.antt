@@ -1,6 +1,6 @@
 use Rattle.std.proofs.Common.{◌-◌, arith}
 use Rattle.ariadne_cells.proofs.Layouts.{blanks_before}
-use Rattle.ariadne_cells.proofs.layout.blocks_start.Goals as goal
+use Rattle.ariadne_cells.proofs.line_text.blocks_start.Goals as goal
 
 -- one block more is of blanks
 pub loop-start-preserved : goal.loop-start-preserved

@@ -1,7 +1,7 @@
 use Rattle.std.proofs.Common.{◌≡◌, ℕ, ◌-◌, ◌<◌, ◌≤◌, List, length, get_or, take, ◌∙◌, ap, subst, arith}
 use Rattle.std.specs.Str.{chars, drop_trailing_whitespace}
 use Rattle.ariadne_cells.proofs.Layouts.{blanks_behind, trim_same_end}
-use Rattle.ariadne_cells.proofs.layout.without_end.Goals as goal
+use Rattle.ariadne_cells.proofs.line_text.without_end.Goals as goal
 
 -- what is cut before it is trimmed is white space
 pub returns : goal.returns

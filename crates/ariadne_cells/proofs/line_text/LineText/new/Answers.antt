@@ -1,13 +1,11 @@
-use Rattle.std.proofs.Common.{◌≡◌, length, ◌∙◌, sym, ap, refl}
+use Rattle.std.proofs.Common.{◌≡◌, length, ◌∙◌, sym, ap}
 use Rattle.std.specs.Str.{chars, drop_trailing_whitespace}
-use Rattle.ariadne_cells.specs.Cuts.{AreFrom, sights_in}
 use Rattle.ariadne_cells.proofs.Layouts.{chars-trim_end, length-trim_end}
-use Rattle.ariadne_cells.proofs.layout.LineLayout.new.Goals as goal
-use Rattle.ariadne_cells.proofs.layout.LineLayout.new.Goals.{then-text-len, else-text-len}
+use Rattle.ariadne_cells.proofs.line_text.LineText.new.Goals as goal
+use Rattle.ariadne_cells.proofs.line_text.LineText.new.Goals.{then-text-len, else-text-len}
 
 -- the shown text is the trimmed one, and its characters are counted where they are not its bytes
 pub invariant_of-result : goal.invariant_of-result
-unfolding AreFrom
 invariant_of-result c =
     let text = c.args.text.now in
     let shown = c.shown_part-shown.result.now in
@@ -20,9 +18,4 @@ invariant_of-result c =
           w.shown_len-is ∙ ap length trim ∙ ascii ∙ sym (ap (λ t. length (chars t)) trim)
       | else-text-len w ↦ w.shown_len-is ∙ w.count_chars-shown_len.ensures
     ] in
-    (c.requires.len, trimmed, counted, tt, c.is_printable-is_plain.ensures)
-
--- it is shown whole
-pub returns : goal.returns
-unfolding sights_in
-returns c = refl
+    (c.requires.len, trimmed, counted, c.is_printable-is_plain.ensures)

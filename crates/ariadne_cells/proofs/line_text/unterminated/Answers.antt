@@ -1,7 +1,7 @@
 use Rattle.std.proofs.Common.{refl, ◌∙◌, lit<}
 use Rattle.std.proofs.lemmas.Str.Pattern.{strip_suffix_char}
 use Rattle.ariadne_cells.proofs.Layouts.{end_cut}
-use Rattle.ariadne_cells.proofs.layout.unterminated.Goals as goal
+use Rattle.ariadne_cells.proofs.line_text.unterminated.Goals as goal
 
 -- each of the two is white space at the end
 pub returns : goal.returns

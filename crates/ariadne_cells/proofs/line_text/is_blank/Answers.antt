@@ -1,7 +1,7 @@
 use Rattle.std.proofs.Common.{sym, ◌∙◌}
 use Rattle.std.proofs.lemmas.Bool.{eqb-true}
 use Rattle.ariadne_cells.proofs.Layouts.{blanks_from_mask, other_mask}
-use Rattle.ariadne_cells.proofs.layout.is_blank.Goals as goal
+use Rattle.ariadne_cells.proofs.line_text.is_blank.Goals as goal
 
 -- the block has no mark of another byte
 pub returns : goal.returns
