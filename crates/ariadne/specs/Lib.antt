@@ -58,6 +58,8 @@ pub use Rattle.ariadne_picture.specs.Causes
 pub use Rattle.ariadne_picture.specs.GutterCauses
 pub use Rattle.ariadne_picture.specs.LabelColors
 pub use Rattle.ariadne_picture.specs.LoneLines
+pub use Rattle.ariadne_picture.specs.OtherRows
+pub use Rattle.ariadne_picture.specs.TextColors
 pub use Rattle.ariadne_picture.specs.Readings
 pub use Rattle.ariadne_picture.specs.ReadBack
 pub use Rattle.ariadne_picture.specs.Variants

@@ -24,6 +24,8 @@ pub mod LabelTraces
 pub mod OtherStrokes
 pub mod ColoredStrokes
 pub mod LoneMarks
+pub mod TextColors
+pub mod OtherRows
 pub mod ColoredLabels
 pub mod DrawnReports
 pub mod EveryReport

@@ -12,4 +12,5 @@ pub mod ToldWithin
 pub mod ToldOver
 pub mod AllTold
 pub mod EveryPicture
+pub mod HeadersTold
 pub mod ReportsRead

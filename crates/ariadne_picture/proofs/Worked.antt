@@ -23,6 +23,8 @@ mod WrongPlacings
 mod StrayStrokes
 mod StrayGutterStrokes
 mod WrongColors
+mod WrongTextColors
+mod WrongOtherRows
 mod WrongLonePictures
 mod TwoReadings
 mod OddReports

@@ -48,8 +48,7 @@ code_text (Some code) = codes "[" ++ code ++ codes "] "
 
 -- the first row of a picture
 unfoldable pub header_pieces : Texts → List Piece
-header_pieces t =
-    painted_text Kind t.kind_text ∷ plain_text (codes " " ++ unwrap_or t.message []) ∷ []
+header_pieces t = painted_text Kind t.kind_text ∷ plain_text (codes " " ++ unwrap_or t.message []) ∷ []
 
 -- ---- colours
 
@@ -120,8 +119,7 @@ module _ {S Id : Type 0} (w : World S Id) (r : ReportFields S) where
   -- the source of a group
   unfoldable pub group_source : List LabelInfo → Listing
   group_source group =
-      unwrap_or (option_and_then w.source_of (group_id group))
-      (record { text = []; display_offset = 0 })
+      unwrap_or (option_and_then w.source_of (group_id group)) (record { text = []; display_offset = 0 })
 
   -- the offset that a group header names: the report's own start, if it is in this source, else
   -- that of the group's first label

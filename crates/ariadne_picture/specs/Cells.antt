@@ -105,8 +105,7 @@ alternate_place switches y r k =
 -- place k of the arrow row of rank r, whose line label is x
 unfoldable pub arrow_place : Switches → Layout → ℕ → Option LineLabel → ℕ → Ink
 arrow_place switches y r None k = blanks
-arrow_place switches y r (Some x) k =
-    arrow_ink switches r x (spot_of y.margin x k) (vertical_at y r k)
+arrow_place switches y r (Some x) k = arrow_ink switches r x (spot_of y.margin x k) (vertical_at y r k)
 
 -- ---- the gutter
 

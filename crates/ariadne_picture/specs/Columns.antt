@@ -216,5 +216,4 @@ places_to_end y x = x.info.end - y.offset
 unfoldable pub arrow_len : Switches → Layout → ℕ
 arrow_len switches y =
     (if list_any (λ x. not (is_inline x.side)) y.labels then length y.text
-    else greatest (map (places_to_end y) y.labels))
-    + (if switches.compact then 1 else 2)
+    else greatest (map (places_to_end y) y.labels)) + (if switches.compact then 1 else 2)

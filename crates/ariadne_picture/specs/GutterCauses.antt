@@ -57,8 +57,7 @@ module _ (canvas : List (List Cell)) (sections : List Section) (p : Placing) whe
     -- so do both cells of column j of row n; a compact picture has one
     unfoldable pub is_gutter_column_caused : ℕ → ℕ → Bool
     is_gutter_column_caused n j =
-        has_gutter_cause n j true (gutter_cell canvas s n j)
-        && (s.sheet.switches.compact
+        has_gutter_cause n j true (gutter_cell canvas s n j) && (s.sheet.switches.compact
         || has_gutter_cause n j false (cell_at canvas n (column_cell s j + 1)))
 
   -- the clause on other strokes in the gutter

@@ -2,17 +2,20 @@
 -- the accepted labels. On it each accepted message has one row of its own, and strokes lead from it
 -- to the label's attach character or gutter column, in the columns where the source row shows them.
 -- In the text below a line and in the gutter no stroke stands elsewhere, and strokes have the colours
--- of their labels. Where that is asked for, lines whose labels have no message are underlined.
--- All of this is read in one way, but that the messages of twins may change places. And it can be read
--- back: the rows, with the sources and the switches alone, tell where each message's strokes lead to.
+-- of their labels, as characters and underlines have. Where that is asked for, lines whose labels have no
+-- message are underlined. Other rows show what is theirs, and no stroke in their text. What strokes lead to
+-- is read in one way, but that the messages of twins may change places. And it can be read back: the rows,
+-- with the sources and the switches alone, tell where each message's strokes lead to, and what headers say.
 -- A cell takes the columns of its text, and the rows are the lines that are sent. Colours move nothing,
 -- and offsets in bytes draw as the same offsets in characters.
 use Rattle.std.specs.Prelude.{ℕ, ◌≡◌, Bool, true, List, Option}
 use Rattle.ariadne_color.specs.declared.color.Color.{Color}
+use Rattle.ariadne_picture.specs.declared.cell.Paint.{Paint}
+use Rattle.ariadne_picture.specs.declared.cell.Paint.TheVariants.{Label}
 use Rattle.ariadne_picture.specs.declared.label_info.LabelInfo.{LabelInfo}
 use Rattle.ariadne_picture.specs.Report.{ReportFields, World}
-use Rattle.ariadne_picture.specs.Pieces.{Section}
-use Rattle.ariadne_picture.specs.Canvas.{Cell, canvas, sections, texts_of}
+use Rattle.ariadne_picture.specs.Pieces.{Section, Texts}
+use Rattle.ariadne_picture.specs.Canvas.{Cell, canvas, color_of, palette_of, sections, texts_of}
 use Rattle.ariadne_picture.specs.Print.{printed}
 use Rattle.ariadne_picture.specs.Sent.{HaveColumnsOfTexts, HaveNoLineFeeds, RowsAreLines}
 use Rattle.ariadne_picture.specs.Placing.{Placing, is_placing, has_message_rows, has_inline_traces}
@@ -20,8 +23,10 @@ use Rattle.ariadne_picture.specs.Placing.{has_ends_of_gutter_traces, has_gutter_
 use Rattle.ariadne_picture.specs.Blocks.{has_whole_blocks}
 use Rattle.ariadne_picture.specs.Causes.{has_no_other_strokes}
 use Rattle.ariadne_picture.specs.GutterCauses.{has_no_other_gutter_strokes}
-use Rattle.ariadne_picture.specs.LabelColors.{label_color, has_label_colors}
+use Rattle.ariadne_picture.specs.LabelColors.{has_label_colors}
 use Rattle.ariadne_picture.specs.LoneLines.{has_lone_underlines}
+use Rattle.ariadne_picture.specs.OtherRows.{has_other_rows}
+use Rattle.ariadne_picture.specs.TextColors.{has_text_colors}
 use Rattle.ariadne_picture.specs.ReadBack.{HaveShortNumbers, HaveWholeLines, IsReadBack, IsReadBackByGutters}
 use Rattle.ariadne_picture.specs.Readings.{AgreeOnStrokes}
 use Rattle.ariadne_picture.specs.Variants.{HaveNoEscapes, ColorsMoveNothing}
@@ -45,15 +50,20 @@ pub record IsReadBy (rows : List (List Cell)) (groups : List Section) (message_o
   pub and_no_stroke_stands_elsewhere : has_no_other_strokes rows groups placing ≡ true
   pub nor_in_the_gutter : has_no_other_gutter_strokes rows groups placing ≡ true
 
--- they can be read: there are such row numbers, under which the strokes of each label, which has
--- colour color_at k where its position is k, have its colour, and so do the underlines of lines whose
--- labels have no message
-pub record IsTraced (rows : List (List Cell)) (groups : List Section) (message_of : ℕ → List ℕ)
-    (color_at : ℕ → Option Color) : Type 0 where
+-- they can be read: there are such row numbers, under which the strokes of each label have its colour, where
+-- a paint asks for colour color_of_paint, and so do the underlines of lines whose labels have no message,
+-- other underlines and characters. The rows that no line has show what is theirs: the header, names and
+-- places, helps and notes, and no stroke in the text
+pub record IsTraced (rows : List (List Cell)) (groups : List Section) (t : Texts)
+    (color_of_paint : Paint → Option Color) : Type 0 where
   pub placing : Placing
-  pub reads : IsReadBy rows groups message_of placing
-  pub strokes_have_the_colors_of_their_labels : has_label_colors rows groups placing color_at ≡ true
-  pub lines_without_messages_are_underlined : has_lone_underlines rows groups placing color_at ≡ true
+  pub reads : IsReadBy rows groups t.message_of placing
+  pub strokes_have_the_colors_of_their_labels :
+      has_label_colors rows groups placing (λ k. color_of_paint (Label k)) ≡ true
+  pub lines_without_messages_are_underlined :
+      has_lone_underlines rows groups placing (λ k. color_of_paint (Label k)) ≡ true
+  pub characters_and_underlines_have_theirs : has_text_colors rows groups placing color_of_paint ≡ true
+  pub other_rows_show_what_is_theirs : has_other_rows rows groups placing t ≡ true
 
 -- they are read in one way: row numbers that they are read by agree on source rows, on heads and on
 -- messages
@@ -67,7 +77,7 @@ pub record Headline {S Id : Type 0} (w : World S Id) (r : ReportFields S) (infos
     (bytes : List ℕ) : Type 0 where
   pub they_are_exactly_the_printed_canvas : bytes ≡ printed (canvas w r infos)
   pub each_message_is_traced : IsTraced (canvas w r infos) (sections w r infos)
-      (texts_of r).message_of (label_color r)
+      (texts_of r) (color_of (palette_of r))
   pub in_one_way : AreReadInOneWay (canvas w r infos) (sections w r infos) (texts_of r).message_of
   pub and_can_be_read_back : HaveShortNumbers w → HaveWholeLines w r infos → IsReadBack w r infos
   pub by_their_gutters_also_where_lines_are_cut : HaveShortNumbers w → IsReadBackByGutters w r infos

@@ -88,8 +88,7 @@ module _ (canvas : List (List Cell)) (sections : List Section) (p : Placing)
     is_inline_colored a =
         let l = a.start_line in
         let n = p.message_row a.position in
-        is_vertical_colored l a a.attach n
-        && all_place_cells s l a.attach (p.places g l) (has_color a n)
+        is_vertical_colored l a a.attach n && all_place_cells s l a.attach (p.places g l) (has_color a n)
 
     -- ---- gutter label i, which is a
 
@@ -121,8 +120,7 @@ module _ (canvas : List (List Cell)) (sections : List Section) (p : Placing)
     -- all of this
     unfoldable pub is_gutter_label_colored : ℕ → LabelInfo → Bool
     is_gutter_label_colored i a =
-        is_end_colored i a && is_start_colored i a
-        && list_all (is_pointer_colored i a) (shown_lines s)
+        is_end_colored i a && is_start_colored i a && list_all (is_pointer_colored i a) (shown_lines s)
         && list_all (is_bar_colored s i a) (gutter_rows canvas sections p g s)
 
   -- the clause on colours

@@ -20,6 +20,8 @@ pub mod Causes
 pub mod GutterCauses
 pub mod LabelColors
 pub mod LoneLines
+pub mod OtherRows
+pub mod TextColors
 pub mod Readings
 pub mod ReadBack
 pub mod Variants

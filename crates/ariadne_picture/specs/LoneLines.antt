@@ -45,5 +45,4 @@ module _ (canvas : List (List Cell)) (sections : List Section) (p : Placing)
 
   -- the clause, over all shown lines
   unfoldable pub has_lone_underlines : Bool
-  has_lone_underlines =
-      all_numbered (λ g s. list_all (is_lone_marked g s) (shown_lines s)) sections
+  has_lone_underlines = all_numbered (λ g s. list_all (is_lone_marked g s) (shown_lines s)) sections

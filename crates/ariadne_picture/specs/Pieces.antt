@@ -190,15 +190,18 @@ location_text ls display_offset (Some o) =
     decimal (printed_number display_offset (line_at length ls o)) ++ codes ":"
     ++ decimal (column_at length ls o + 1)
 
+-- what it says in its box: what its source is called, and a place in it
+abbrev pub place_text : Section → List ℕ
+place_text s =
+    codes " " ++ s.name ++ codes ":" ++ location_text s.sheet.lines s.display_offset s.header_offset ++ codes " "
+
 -- the first row of a group: where its source is pointed at
 unfoldable pub group_header_pieces : Section → ℕ → List Piece
 group_header_pieces s digits =
     let set = s.sheet.switches.char_set in
     plain_text (spaces (digits + 2)) ∷ stroke set (if s.is_first then Ltop else Lcross) Margin
     ∷ stroke set Hbar Margin ∷ stroke set Lbox Margin
-    ∷ plain_text (codes " " ++ s.name ++ codes ":"
-    ++ location_text s.sheet.lines s.display_offset s.header_offset ++ codes " ")
-    ∷ stroke set Rbox Margin ∷ []
+    ∷ plain_text (place_text s) ∷ stroke set Rbox Margin ∷ []
 
 -- the row below a group header, and between two groups
 unfoldable pub spacer_pieces : CharSet → ℕ → List Piece

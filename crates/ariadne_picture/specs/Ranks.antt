@@ -65,8 +65,7 @@ is_on_one_line a = a.start_line == a.end_line
 -- the multi-line labels, by falling length
 unfoldable pub multi_line_labels : Sheet → List LabelInfo
 multi_line_labels h =
-    in_order (λ a b. nat_lt (span_len b) (span_len a))
-    (filter (λ a. not (is_on_one_line a)) h.labels)
+    in_order (λ a b. nat_lt (span_len b) (span_len a)) (filter (λ a. not (is_on_one_line a)) h.labels)
 
 -- gutter label i owns gutter column i
 unfoldable pub gutter_labels : Sheet → List LabelInfo

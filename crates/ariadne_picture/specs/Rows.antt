@@ -114,7 +114,6 @@ asides compact a texts = joined (aside_rows compact a) (enumerate_from 0 texts)
 unfoldable pub rows : Sheet → Bool → List (List ℕ) → List (List ℕ) → List Row
 rows h is_last helps notes =
     let compact = h.switches.compact in
-    group_header ∷ (if compact then [] else spacer ∷ [])
-    ++ joined (line_rows h) (group_lines h)
+    group_header ∷ (if compact then [] else spacer ∷ []) ++ joined (line_rows h) (group_lines h)
     ++ (if is_last then asides compact help helps ++ asides compact note notes else [])
     ++ (if compact then [] else tail ∷ [])

@@ -79,8 +79,7 @@ is_at_margin h l i = is_of_gutter_label (margin_label h l) i
 
 -- the rank that its start, or its end, has among the line labels of line l
 unfoldable pub rank_at : Sheet → (Side → Bool) → ℕ → ℕ → ℕ
-rank_at h is_side l i =
-    position_or_len (λ x. is_side x.side && (x.gutter_column == i)) (line_labels h l)
+rank_at h is_side l i = position_or_len (λ x. is_side x.side && (x.gutter_column == i)) (line_labels h l)
 
 -- the row of its head
 unfoldable pub first_row : Sheet → ℕ → LabelInfo → Row

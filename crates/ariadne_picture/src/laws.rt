@@ -22,7 +22,8 @@ ghost use Rattle.ariadne_picture.specs.Bars.{EndsNoEarlier, IsLineLabel, IsMargi
 ghost use Rattle.ariadne_picture.specs.Bars.{IsGutterLabel, IsOfLine};
 ghost use Rattle.ariadne_picture.specs.Bars.{IsInside, IsOutside, Shows};
 ghost use Rattle.ariadne_picture.specs.Blocks.{has_whole_blocks};
-ghost use Rattle.ariadne_picture.specs.Canvas.{Cell, canvas, group_id, groups, sections, texts_of};
+ghost use Rattle.ariadne_picture.specs.Canvas.{Cell, canvas, color_of, group_id, groups, palette_of};
+ghost use Rattle.ariadne_picture.specs.Canvas.{sections, texts_of};
 ghost use Rattle.ariadne_picture.specs.Causes.{has_no_other_strokes};
 ghost use Rattle.ariadne_picture.specs.Columns.{cut_columns, goes_on, layout_of, needed_labels};
 ghost use Rattle.ariadne_picture.specs.Columns.{column_of, or_begin, parts_of, place_part, shown};
@@ -311,13 +312,14 @@ pub fn lone_lines_are_underlined<S, Id>()
 /// Every picture can be read, under one choice of row numbers for all of this. Its rows belong
 /// together. Each accepted message has a row of its own, and strokes lead from it to its label, in
 /// the columns where the source row shows them and in the label's colour. No stroke stands elsewhere.
-/// Where that is asked for, lines whose labels have no message are underlined. The premises hold of
-/// the labels that are drawn, wherever sources are looked up by their ids, and each label's start is
-/// at most its end.
+/// Where that is asked for, lines whose labels have no message are underlined. Characters and
+/// underlines have the colours of their labels too. The rows that no line has show what is theirs.
+/// The premises hold of the labels that are drawn, wherever sources are looked up by their ids, and
+/// each label's start is at most its end.
 pub fn every_picture_can_be_read<S, Id>()
     ensures { (w : World S Id) (r : ReportFields S) (infos : List LabelInfo)
         → AreAccepted w r infos → HaveOneSource w → AreForward w r
-        → IsTraced (canvas w r infos) (sections w r infos) (texts_of r).message_of (label_color r) }
+        → IsTraced (canvas w r infos) (sections w r infos) (texts_of r) (color_of (palette_of r)) }
 {}
 
 /// The source row of each line is found in one way: row numbers under which the rows of a picture

@@ -23,6 +23,8 @@
 //! | `Causes` | that no stroke in the text is none of a label's |
 //! | `LabelColors` | that strokes have the colours of their labels |
 //! | `LoneLines` | that lines whose labels have no message are underlined |
+//! | `TextColors` | that characters and underlines have the colours of their labels |
+//! | `OtherRows` | what the rows show that no line has |
 //! | `Readings` | what row numbers that a picture is read by agree on |
 //! | `Variants` | what moves nothing: colours, and what offsets count |
 //! | `Headline` | what a success of `write` means |

@@ -70,6 +70,17 @@ module _ (s : Sheet) where
         rw (no-bar-beside m no_bar e)
         (rw (ne_eqb i last (λ z. omega arith), ne_eqb m.gutter_column i (λ z. omega arith), lt-ltb m.gutter_column i more) refl)
 
+    -- from its column on it is level behind the first cell
+    pub level-beside : (m : LineLabel) → bar_at s (source l) i ≡ false → margin_label s l ≡ Some m → i < last → m.gutter_column ≤ i
+        → (column_ink s (source l) i).rest ≡ Hbar
+    unfolding margin_ink
+    level-beside m no_bar e less from =
+        rw (no-bar-beside m no_bar e) (elim (cases_lt m.gutter_column i) [
+          | inl more ↦
+              rw (ne_eqb i last (λ z. omega arith), ne_eqb m.gutter_column i (λ z. omega arith), lt-ltb m.gutter_column i more) refl
+          | inr least ↦ rw (ne_eqb i last (λ z. omega arith), eq-eqb m.gutter_column i (omega arith)) refl
+        ])
+
     -- so without bar and without margin label of its own a column is free
     pub free-beside : (m : Option LineLabel) → margin_label s l ≡ m → bar_at s (source l) i ≡ false → i < last
         → ((x : LineLabel) → m ≡ Some x → x.gutter_column ≡ i → ⊥) → IsFree (column_ink s (source l) i)

@@ -79,7 +79,7 @@ module _ (v : Picture) where
         both_true (both_true (eq-eqb _ _ before) first) (le-leb _ _ (omega (arith, size, long)))
 
     -- a source row takes the columns of the characters of its line
-    source-aligned : map cell_columns (text_cells (rows_of v) s (source_row v g l)) ≡ map columns (shown_cells s l)
+    source-aligned : map cell_columns (text_cells (rows_of v) s (source_row v g l)) ≡ map columns (shown_cells s.sheet l)
     unfolding shown_cells
     source-aligned =
         ap (λ n. map cell_columns (text_cells (rows_of v) s n)) (source-is v h)

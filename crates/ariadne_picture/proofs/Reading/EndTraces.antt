@@ -1,5 +1,5 @@
 -- The ends of gutter traces: a gutter label's head leads into its column, and its arrow comes out of it to its message.
-use Rattle.std.proofs.Common.{◌≡◌, ◌≢◌, ℕ, ◌+◌, ◌-◌, ◌<◌, ◌≤◌, true, false, not, ◌&&◌, Some, refl, sym, ap, ◌∙◌, arith, ◌==◌, nat_lt, inl, inr}
+use Rattle.std.proofs.Common.{◌≡◌, ◌≢◌, ℕ, ◌+◌, ◌-◌, ◌<◌, ◌≤◌, true, false, not, ◌&&◌, Some, refl, sym, ap, ◌∙◌, subst, arith, ◌==◌, nat_lt, inl, inr}
 use Rattle.std.specs.Cmp.Derive.{both_true}
 use Rattle.std.proofs.lemmas.Bool.{cond-true, cond-false, cases_Bool, eq-eqb, ne_eqb, le-leb, true≢false}
 use Rattle.std.proofs.Math.Bool.{and-false}
@@ -20,7 +20,7 @@ use Rattle.ariadne_picture.specs.Placing.Cells.{is_level}
 use Rattle.std.specs.List.{list_all}
 use Rattle.ariadne_picture.specs.Placing.Group.{set_of, arrow_column, shown_lines}
 use Rattle.ariadne_picture.specs.Placing.Rows.{holds_at_places}
-use Rattle.ariadne_picture.specs.Placing.GutterEnds.{is_level_right_of, is_end_traced, is_start_traced, is_pointed, has_ends_of_gutter_traces}
+use Rattle.ariadne_picture.specs.Placing.GutterEnds.{is_level_right_of, is_end_traced, is_start_traced, leads_on, is_pointed, has_ends_of_gutter_traces}
 use Rattle.ariadne_picture.proofs.Reading.PlaceCells.{label-corner, label-level, label-traced}
 use Rattle.ariadne_picture.proofs.Labels.LabelsAtLine.{IsHere, IsEndHere, gutter-labels-owned, apart, increasing-part}
 use Rattle.ariadne_picture.proofs.Labels.LineLabels.{multi-line, two-lines}
@@ -29,8 +29,8 @@ use Rattle.ariadne_picture.proofs.Lists.ListFacts.{all-at, Increasing}
 use Rattle.ariadne_picture.proofs.Rows.BarCases.{at-margin}
 use Rattle.ariadne_picture.proofs.Rows.RowOrder.{before-irreflexive}
 use Rattle.ariadne_picture.proofs.Rows.RowsThere.{gutter-label-message}
-use Rattle.ariadne_picture.proofs.Reading.GutterCells.{own-glyph, column_shows, gutter-glyph, level-right, few, arrow-few}
-use Rattle.ariadne_picture.proofs.Cells.GutterInks.{bar-beside, leave-beside, cross-beside, head-beside, own-arrow, behind-arrow}
+use Rattle.ariadne_picture.proofs.Reading.GutterCells.{own-glyph, column_shows, gutter-glyph, second-glyph, level-right, few, arrow-few}
+use Rattle.ariadne_picture.proofs.Cells.GutterInks.{bar-beside, leave-beside, cross-beside, level-beside, head-beside, own-arrow, behind-arrow}
 use Rattle.ariadne_picture.proofs.Reading.HeadPlaces.{IsGutterLabelOf, margin-of, margin-line, head-at-margin, head-place}
 use Rattle.ariadne_picture.proofs.Reading.InOrder.{increasing-filter, increasing-in_order}
 use Rattle.ariadne_picture.proofs.Reading.PlaceCounts.{ArePlaced, column-place}
@@ -97,23 +97,6 @@ module _ (v : Picture) {g : ℕ} {s : Section} {i : ℕ} {a : LabelInfo} (o : Is
         let m = margin-of (margin_label s.sheet l) i at in
         own-glyph o (source-text v (source-row-is v h))
         (leave-beside s.sheet l i m.0 no_bar m.1 (few o) m.2 ∙ ap margin_glyph (f m.0 m.1))
-
-    -- its stroke goes on to the arrow head, under bars
-    pointed : read v is_pointed g s i l ≡ true
-    unfolding is_pointed
-    pointed =
-        let m = margin-of (margin_label s.sheet l) i at in
-        let text = source-text v (source-row-is v h) in
-        let own = m.2 in
-        let size = arrow-few o in
-        right-true _ _ (list_all-true _ _ (all-range _ (i + 1) (arrow_column s - (i + 1)) (λ k less.
-        let j : ℕ = i + 1 + k in
-        rw (source-is v h) (elim (cases_Bool (bar_at s.sheet (source l) j)) [
-          | inl bar ↦ right-true _ _ (gutter-glyph v text j (omega (arith, size)) (bar-beside s.sheet l j bar))
-          | inr no_bar ↦
-              left-true _ _ (gutter-glyph v text j (omega (arith, size))
-              (cross-beside s.sheet l j m.0 no_bar m.1 (omega arith) (omega arith)))
-        ]))))
 
   -- ---- the arrow row of its start or end
 
@@ -241,6 +224,48 @@ module _ (v : Picture) {g : ℕ} {s : Section} {i : ℕ} {a : LabelInfo} (o : Is
         cond-false _ _ _ off ∙ rw (column, h.row) (both_true (both_true (both_true (turn-level q out h.gutter_column) front)
         (label-corner v q (ap corner_glyph h.start.side) in_range no_margin)) (label-traced v q no_margin in_range))
   ])
+
+  -- ---- beside a line whose margin label it is, up to the arrow head
+
+  module _ {l : ℕ} (h : IsShownLine v g s l) (at : is_at_margin s.sheet l i ≡ true) where
+    -- no bar of its own stands there
+    beside-no-bar : bar_at s.sheet (source l) i ≡ false
+    beside-no-bar = elim (at-margin s.sheet l i a o.owned at).is [
+      | inl k ↦ subst (λ l. is_at_margin s.sheet l i ≡ true → bar_at s.sheet (source l) i ≡ false) k.1 head-no-bar at
+      | inr k ↦ subst (λ l. is_at_margin s.sheet l i ≡ true → bar_at s.sheet (source l) i ≡ false) k.1 tee-no-bar at
+    ]
+
+    -- from its column on there is a second cell of the horizontal where no bar stands
+    on : (j : ℕ) → i ≤ j → j < arrow_column s → bar_at s.sheet (source l) j ≡ false → read v leads_on s (number v g s (source l)) j ≡ true
+    unfolding leads_on
+    on j more less no_bar =
+        let m = margin-of (margin_label s.sheet l) i at in
+        let own = m.2 in
+        let size = arrow-few o in
+        elim (cases_Bool s.sheet.switches.compact) [
+          | inl tight ↦ left-true _ _ tight
+          | inr loose ↦
+              right-true _ _ (second-glyph v (source-text v (source-row-is v h)) j (omega (arith, size)) loose
+              (level-beside s.sheet l j m.0 no_bar m.1 less (omega (arith, own))))
+        ]
+
+    -- so its stroke goes on to the arrow head, under bars
+    pointed : read v is_pointed g s i l ≡ true
+    unfolding is_pointed
+    pointed =
+        let m = margin-of (margin_label s.sheet l) i at in
+        let text = source-text v (source-row-is v h) in
+        let own = m.2 in
+        let size = arrow-few o in
+        right-true _ _ (both_true (rw (source-is v h) (on i (omega arith) (few o) beside-no-bar))
+        (list_all-true _ _ (all-range _ (i + 1) (arrow_column s - (i + 1)) (λ k less.
+        let j : ℕ = i + 1 + k in
+        rw (source-is v h) (elim (cases_Bool (bar_at s.sheet (source l) j)) [
+          | inl bar ↦ left-true _ _ (gutter-glyph v text j (omega (arith, size)) (bar-beside s.sheet l j bar))
+          | inr no_bar ↦
+              right-true _ _ (both_true (gutter-glyph v text j (omega (arith, size))
+              (cross-beside s.sheet l j m.0 no_bar m.1 (omega arith) (omega arith))) (on j (omega arith) (omega arith) no_bar))
+        ])))))
 
   -- so its end, its head and its strokes beside lines are traced
   ends-traced : ArePlaced v

@@ -1,15 +1,19 @@
 -- The clauses of the tracing promise, for every report over sources of which equal ids name one.
-use Rattle.std.proofs.Common.{◌≡◌, ◌≤◌, true, List}
+use Rattle.std.proofs.Common.{◌≡◌, ◌≤◌, true, List, refl}
 use Rattle.std.specs.List.{AllByRecursion}
 use Rattle.std.proofs.lemmas.List.Elements.{recursion_from_All}
 use Rattle.ariadne_picture.specs.LoneLines.{has_lone_underlines}
 use Rattle.ariadne_picture.proofs.Reading.LoneMarks.{lone-underlines}
+use Rattle.ariadne_picture.specs.OtherRows.{has_other_rows}
+use Rattle.ariadne_picture.proofs.Reading.OtherRows.{other-rows}
+use Rattle.ariadne_picture.specs.TextColors.{has_text_colors}
+use Rattle.ariadne_picture.proofs.Reading.TextColors.{text-colors}
 use Rattle.ariadne_picture.specs.declared.label_info.LabelInfo.{LabelInfo}
 use Rattle.ariadne_picture.specs.Report.{ReportFields, World}
 use Rattle.ariadne_picture.specs.Accept.{AreAccepted}
 use Rattle.ariadne_picture.specs.Bars.{EndsNoEarlier}
 use Rattle.ariadne_picture.specs.Headline.{IsTraced}
-use Rattle.ariadne_picture.specs.Canvas.{canvas, sections, texts_of}
+use Rattle.ariadne_picture.specs.Canvas.{canvas, color_of, palette_of, sections, texts_of}
 use Rattle.ariadne_picture.specs.Placing.InlineTraces.{has_inline_traces}
 use Rattle.ariadne_picture.specs.Placing.GutterEnds.{has_ends_of_gutter_traces}
 use Rattle.ariadne_picture.specs.Placing.GutterBars.{has_gutter_bars}
@@ -70,7 +74,7 @@ module _ {S Id : Type 0} (w : World S Id) (r : ReportFields S) (infos : List Lab
         of-canvas w r infos numbered (λ rows groups p. has_lone_underlines rows groups p (label_color r)) (lone-underlines picture)
 
     -- the tracing promise
-    pub every-traced : IsTraced (canvas w r infos) (sections w r infos) (texts_of r).message_of (label_color r)
+    pub every-traced : IsTraced (canvas w r infos) (sections w r infos) (texts_of r) (color_of (palette_of r))
     every-traced = record {
       placing = row_placing (texts_of r) (sections w r infos);
       reads = record {
@@ -86,4 +90,8 @@ module _ {S Id : Type 0} (w : World S Id) (r : ReportFields S) (infos : List Lab
       };
       strokes_have_the_colors_of_their_labels = every-color;
       lines_without_messages_are_underlined = every-lone;
+      characters_and_underlines_have_theirs =
+          of-canvas w r infos numbered (λ rows groups p. has_text_colors rows groups p (color_of (palette_of r))) (text-colors picture);
+      other_rows_show_what_is_theirs =
+          of-canvas w r infos numbered (λ rows groups p. has_other_rows rows groups p (texts_of r)) (other-rows picture refl);
     }

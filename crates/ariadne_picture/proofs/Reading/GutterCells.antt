@@ -1,5 +1,5 @@
 -- The cells of the gutter of a row: the first one of each column, and all behind the first one of a column.
-use Rattle.std.proofs.Common.{◌≡◌, ℕ, zero, suc, ◌+◌, ◌-◌, ◌*◌, ◌/◌, ◌%◌, ◌<◌, ◌≤◌, Bool, true, refl, sym, ap, ◌∙◌, subst, arith, inl, inr, ◌⊎◌}
+use Rattle.std.proofs.Common.{◌≡◌, ℕ, zero, suc, ◌+◌, ◌-◌, ◌*◌, ◌/◌, ◌%◌, ◌<◌, ◌≤◌, Bool, true, false, refl, sym, ap, ◌∙◌, subst, arith, inl, inr, ◌⊎◌}
 use Rattle.std.proofs.Common.{if◌then◌else◌, List}
 use Rattle.std.proofs.lemmas.Bool.{cases_Bool, cases_lt}
 use Rattle.std.proofs.lemmas.Option.{slice_get_within}
@@ -67,6 +67,16 @@ module _ (v : Picture) {g : ℕ} {s : Section} {x : Row} {text : List Piece} (r 
   pub gutter-glyph : (i : ℕ) {glyph : Glyph} → i < gutter_len s.sheet → (column_ink s.sheet x i).first ≡ glyph
       → column_shows v s (number v g s x) i glyph ≡ true
   gutter-glyph i {glyph} few e = rw (gutter-cell i few) (shows-glyph v s _ _ e)
+
+  -- a second cell shows the other glyph of its ink
+  pub second-glyph : (i : ℕ) {glyph : Glyph} → i < gutter_len s.sheet → s.sheet.switches.compact ≡ false → (column_ink s.sheet x i).rest ≡ glyph
+      → is_glyph (set_of s) glyph (cell_at (rows_of v) (number v g s x) (column_cell s i + 1)) ≡ true
+  unfolding column_size
+  second-glyph i {glyph} few loose e =
+      let two : 1 < column_size s.sheet.switches = rw loose (omega arith) in
+      let q = ink-tail (set_of s) (column_ink s.sheet x i) (column_size s.sheet.switches) 0 two in
+      ap (is_glyph (set_of s) glyph) (front-at v r (column_cell s i + 1) _ (read v column-at v.width s x i 1 _ few q))
+      ∙ shows-glyph v s _ _ e
 
   -- all cells behind the first one of column i are level, where its tail and all inks of later columns are
   pub level-right : (i : ℕ) → (column_ink s.sheet x i).rest ≡ Hbar

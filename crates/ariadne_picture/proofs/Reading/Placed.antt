@@ -52,7 +52,7 @@ module _ (v : Picture) where
   margin-shows {g} {s} {x} r = ap (λ (c : Cell). c.text) (front-at v r 1 _ (margin-cell v.width s x))
 
   -- so the row begins as it should, where that text is this one behind blanks
-  has-margin : {g : ℕ} {s : Section} {x : Row} {text : List Piece} (t : List ℕ) → IsTextRow v g s x text
+  pub has-margin : {g : ℕ} {s : Section} {x : Row} {text : List Piece} (t : List ℕ) → IsTextRow v g s x text
       → unindented (margin_text s.sheet.switches.char_set v.width s.display_offset x) ≡ t → read v has_margin s t (number v g s x) ≡ true
   unfolding has_margin
   has-margin {g} {s} {x} t r same =
@@ -67,7 +67,7 @@ module _ (v : Picture) where
 
   module _ (g : ℕ) (s : Section) (l : ℕ) (h : IsShownLine v g s l) where
     -- a source row shows the number of its line and its characters
-    source-texts : map (λ (c : Cell). c.text) (text_cells (rows_of v) s (number v g s (source l))) ≡ map (λ (q : Piece). q.text) (shown_cells s l)
+    source-texts : map (λ (c : Cell). c.text) (text_cells (rows_of v) s (number v g s (source l))) ≡ map (λ (q : Piece). q.text) (shown_cells s.sheet l)
     unfolding shown_cells
     source-texts =
         ap (map (λ (c : Cell). c.text)) (text-cells v (source-text v (source-row-is v h)))
@@ -82,7 +82,7 @@ module _ (v : Picture) where
     source-shows =
         both_true
         (has-margin _ (source-text v (source-row-is v h)) (source-margin s.sheet.switches.char_set v.width s.display_offset l))
-        (rw source-texts (texts-same (map (λ (q : Piece). q.text) (shown_cells s l))))
+        (rw source-texts (texts-same (map (λ (q : Piece). q.text) (shown_cells s.sheet l))))
 
     -- a row of the block has a bar alone in its margin
     block-shows : (x : Row) {text : List Piece} → IsTextRow v g s x text

@@ -175,7 +175,7 @@ module _ (v : Picture) (sources : List Known) (from : AreSources v sources) (pla
     cells-are : HasWholeLines s → shown_cells (unlabelled switches listing.listing) l ≡ plain_cells switches (layout_of s.sheet l)
     unfolding shown_cells unlabelled layout_of
     cells-are whole =
-        let bare = (unlabelled switches listing.listing).sheet in
+        let bare = unlabelled switches listing.listing in
         let is : is_too_wide switches (drop_trailing_whitespace (line_text bare.lines l)) ≡ false =
         (λ i. is_too_wide (sym same-switches i) (drop_trailing_whitespace (line_text (lines i) l))) ∙ whole l in
         cells-same switches (layout_of bare l) (layout_of s.sheet l) (ap (λ ls. line_text ls l) lines)

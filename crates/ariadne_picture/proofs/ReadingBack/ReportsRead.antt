@@ -14,9 +14,9 @@ use Rattle.ariadne_picture.specs.Groups.{printed_number}
 use Rattle.ariadne_picture.specs.Pieces.{Section, gutter_len}
 use Rattle.ariadne_picture.specs.ReadBack.Rows.{Known}
 use Rattle.ariadne_picture.specs.Canvas.{canvas, group_id, group_source, groups, section_of, sections, texts_of}
-use Rattle.ariadne_picture.specs.ReadBack.Answer.{read_back}
+use Rattle.ariadne_picture.specs.ReadBack.Answer.{read_back, read_headers}
 use Rattle.ariadne_picture.specs.ReadBack.Labels.{labels_told}
-use Rattle.ariadne_picture.specs.ReadBack.Reports.{HaveShortNumbers, HasWholeLines, HaveWholeLines, IsReadBack, IsReadBackByGutters}
+use Rattle.ariadne_picture.specs.ReadBack.Reports.{HaveShortNumbers, HasWholeLines, HaveWholeLines, IsReadBackBy, IsReadBack, IsReadBackByGutters}
 use Rattle.ariadne_picture.specs.ReadBack.Reports.{group_sources, group_sources_and_gutters}
 use Rattle.ariadne_picture.proofs.Lists.ListFacts.{none≢some, all-at}
 use Rattle.ariadne_picture.proofs.Cells.CanvasRows.{canvas-rows}
@@ -25,6 +25,7 @@ use Rattle.ariadne_picture.proofs.Reading.EveryReport.{numbered, all-placed}
 use Rattle.ariadne_picture.proofs.Reading.Pictures.{Picture}
 use Rattle.ariadne_picture.proofs.ReadingBack.LineTexts.{AreSources, ArePrintedApart}
 use Rattle.ariadne_picture.proofs.ReadingBack.EveryPicture.{picture-read}
+use Rattle.ariadne_picture.proofs.ReadingBack.HeadersTold.{headers-read}
 
 -- an element that a numbered one gives
 numbered-from : {X Y : Type 0} (f : ℕ × X → Y) (a : ℕ) (xs : List X) (k : ℕ) (y : Y) → slice_get (map f (enumerate_from a xs)) k ≡ Some y
@@ -93,16 +94,25 @@ module _ {S Id : Type 0} (w : World S Id) (r : ReportFields S) (infos : List Lab
   abbrev picture : Picture
   picture = picture_of w r infos (numbered w r infos accepted forward)
 
-  -- the picture is read back by one who knows these sources of its groups
-  by-sources : (known : List Known) → AreSources picture known
+  -- one who knows these sources of its groups is told its labels
+  labels-read : (known : List Known) → AreSources picture known
       → IsPermutation (read_back (canvas w r infos) known (switches_of r.config)) (labels_told (texts_of r).message_of (sections w r infos))
   unfolding texts_of
-  by-sources known are =
+  labels-read known are =
       subst (λ rows. IsPermutation (read_back rows known (switches_of r.config)) (labels_told (texts_of r).message_of (sections w r infos)))
       (sym (canvas-rows w r infos))
       (picture-read picture known are (all-placed w r infos accepted forward law) (λ g s e.
       let h = shown w r infos g s e in
       short-apart s (group_source w r h.group) h.lines h.offset (sources-short w r short h.group)))
+
+  -- and what its headers say
+  by-sources : (known : List Known) → AreSources picture known → IsReadBackBy w r infos known
+  unfolding texts_of
+  by-sources known are = record {
+    labels = labels-read known are;
+    headers =
+        ap (λ rows. read_headers rows known (switches_of r.config)) (canvas-rows w r infos) ∙ headers-read picture known refl;
+  }
 
   -- their sources alone, where no line is cut
   abbrev untold : List LabelInfo → Known

@@ -79,18 +79,18 @@ source-named (source l) h = (l, refl)
 source-named x h = absurd (true≢false (sym h))
 
 module _ (v : Picture) (sources : List Known) where
-  abbrev heading : ℕ → Bool
+  abbrev pub heading : ℕ → Bool
   heading = is_heading (rows_of v) sources v.texts.switches
 
   abbrev shows : ℕ → Bool
   shows = shows_line (rows_of v) sources v.texts.switches
 
   -- its first row is its header
-  header-row : (g : ℕ) (s : Section) → slice_get v.sections g ≡ Some s → RowAt v g s 0 group_header
+  pub header-row : (g : ℕ) (s : Section) → slice_get v.sections g ≡ Some s → RowAt v g s 0 group_header
   unfolding row_list rows
   header-row g s e = record { group = e; name = refl }
 
-  header-at : (g : ℕ) (s : Section) → slice_get v.sections g ≡ Some s → heading (start_of v g) ≡ true
+  pub header-at : (g : ℕ) (s : Section) → slice_get v.sections g ≡ Some s → heading (start_of v g) ≡ true
   header-at g s e =
       let is = header-row g s e in
       let n = number-at v is in
@@ -103,14 +103,14 @@ module _ (v : Picture) (sources : List Known) where
       let same = same-place v is (header-row g s is.group) in absurd (omega (arith, same))
   later-row x is some = refl
 
-  later-at : (g : ℕ) (s : Section) (n : ℕ) → slice_get v.sections g ≡ Some s → start_of v g < n → n < start_of v (suc g) → heading n ≡ false
+  pub later-at : (g : ℕ) (s : Section) (n : ℕ) → slice_get v.sections g ≡ Some s → start_of v g < n → n < start_of v (suc g) → heading n ≡ false
   later-at g s n e low high =
       let row = row-there v g n s e (omega arith) high in
       let at = number-at v row.2 in
       let is = row.3 in
       ap heading (sym is) ∙ heading-kind v sources row.2 ∙ later-row row.1 row.2 (omega (arith, at, is))
 
-  from-one : (g : ℕ) → 1 ≤ start_of v g
+  pub from-one : (g : ℕ) → 1 ≤ start_of v g
   unfolding start_row
   from-one g = omega arith
 

@@ -9,9 +9,9 @@ use Rattle.ariadne_picture.specs.Pieces.{Section, gutter_len}
 use Rattle.ariadne_picture.specs.ReadBack.Rows.{last_before, Known, unlabelled, begins_with_digit, margin_of, is_heading, shows_line, is_below_lines}
 use Rattle.ariadne_picture.specs.ReadBack.Rows.{group_of, source_of, line_row, has_line, has_number, line_of, text_begin_by, text_begin, has_strokes, is_arrow_row}
 use Rattle.ariadne_picture.specs.ReadBack.Answer.{Told, first_showing, gutter_turn, has_message, message_of_row, text_of_row, attach_of_row}
-use Rattle.ariadne_picture.specs.ReadBack.Answer.{start_of_head, head_of, told_with, told_by, read_back}
-use Rattle.ariadne_picture.specs.ReadBack.Labels.{told_within, gutter_end, told_over, group_told, labels_told}
-use Rattle.ariadne_picture.proofs.Worked.Sample.{Span, Entry, utf8, texts, one, nameless, silent_label, label_in, label, ascii_config}
+use Rattle.ariadne_picture.specs.ReadBack.Answer.{start_of_head, head_of, told_with, told_by, read_back, read_headers}
+use Rattle.ariadne_picture.specs.ReadBack.Labels.{told_within, gutter_end, told_over, group_told, labels_told, headers_told}
+use Rattle.ariadne_picture.proofs.Worked.Sample.{Span, Entry, utf8, texts, one, named, nameless, silent_label, label_in, label, ascii_config}
 use Rattle.ariadne_picture.proofs.Worked.Sample.{compact_config, unicode_config, report, configured}
 use Rattle.ariadne_picture.proofs.Worked.Readings.{cells_of, parts_of, nested, apart, wide}
 use Rattle.ariadne_picture.proofs.Worked.Changes.{Rows, as_drawn, shows, judged}
@@ -60,7 +60,7 @@ labels_tell entries r = labels_told (texts_of r).message_of (parts_of entries r)
 unfoldable read : Unit {0}
 unfolding judged nested apart wide last_before begins_with_digit untold with_gutters unlabelled margin_of is_heading shows_line is_below_lines group_of source_of line_row
     has_line has_number line_of text_begin_by text_begin has_strokes is_arrow_row first_showing gutter_turn has_message message_of_row text_of_row attach_of_row
-    start_of_head head_of told_with told_by read_back told_within gutter_end told_over group_told labels_told told told_from source rows_tell rows_tell_by_gutters labels_tell
+    start_of_head head_of told_with told_by read_back read_headers headers_told told_within gutter_end told_over group_told labels_told told told_from source rows_tell rows_tell_by_gutters labels_tell
 read = tt
 
 -- a cut line: the column is that of the text as it is shown
@@ -202,7 +202,39 @@ a_group_without_a_shown_line_tells_nothing : rows_tell (source "ab\ncd" ∷ []) 
 unfolding read silent
 a_group_without_a_shown_line_tells_nothing = refl
 
+-- ---- headers
+
+-- what those of a report say, changed or as they are drawn
+unfoldable headers_tell : List Entry → ReportFields Span → (Rows → Rows) → List (List ℕ)
+headers_tell entries r change = read_headers (change (cells_of entries r)) (map untold (source "aa" ∷ source "b" ∷ [])) (switches_of r.config)
+
+unfoldable headed : ReportFields Span
+headed = record (report (label_in "f.rs" 1 2 "x" ∷ label_in "g.rs" 0 1 "y" ∷ [])) { code = Some (utf8 "E"); message = Some (utf8 "m") }
+
+unfoldable two_names : List Entry
+two_names = named "f.rs" "aa" ∷ named "g.rs" "b" ∷ []
+
+headers_are_read_back : headers_tell two_names headed as_drawn ≡ texts ("[E] Error:" ∷ " m" ∷ " f.rs:1:2 " ∷ " g.rs:1:1 " ∷ [])
+unfolding read headers_tell headed two_names
+headers_are_read_back = refl
+
+its_headers_are_the_same : headers_told (texts_of headed) (parts_of two_names headed) ≡ texts ("[E] Error:" ∷ " m" ∷ " f.rs:1:2 " ∷ " g.rs:1:1 " ∷ [])
+unfolding read headed two_names
+its_headers_are_the_same = refl
+
 -- ---- changed by hand
+
+another_kind : headers_tell two_names headed (shows 0 0 "[E] Advice:") ≡ texts ("[E] Advice:" ∷ " m" ∷ " f.rs:1:2 " ∷ " g.rs:1:1 " ∷ [])
+unfolding read headers_tell headed two_names
+another_kind = refl
+
+another_message_of_the_report : headers_tell two_names headed (shows 0 1 " n") ≡ texts ("[E] Error:" ∷ " n" ∷ " f.rs:1:2 " ∷ " g.rs:1:1 " ∷ [])
+unfolding read headers_tell headed two_names
+another_message_of_the_report = refl
+
+another_name_of_the_last_source : headers_tell two_names headed (shows 7 4 " h.rs:1:1 ") ≡ texts ("[E] Error:" ∷ " m" ∷ " f.rs:1:2 " ∷ " h.rs:1:1 " ∷ [])
+unfolding read headers_tell headed two_names
+another_name_of_the_last_source = refl
 
 a_corner_one_place_on : rows_tell (source "apple == orange;" ∷ []) (one "apple == orange;") (fruit ascii_config)
     (λ rows. shows 7 15 " " (shows 7 16 "`" rows)) ≡ told 0 0 2 "apple" ∷ told 0 0 13 "orange" ∷ []

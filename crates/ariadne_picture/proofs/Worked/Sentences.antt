@@ -5,20 +5,24 @@ use Rattle.std.specs.Cmp.Derive.{both_true}
 use Rattle.std.specs.Prelude.{Some, [], ◌∷◌, slice_get, Contains, IsPermutation}
 use Rattle.std.specs.List.{AllByRecursion}
 use Rattle.ariadne_color.specs.declared.color.Color.{Color}
+use Rattle.ariadne_picture.specs.declared.cell.Paint.{Paint}
+use Rattle.ariadne_picture.specs.declared.cell.Paint.TheVariants.{Label}
 use Rattle.ariadne_picture.specs.declared.label_info.LabelInfo.{LabelInfo}
 use Rattle.ariadne_picture.specs.declared.verdict.Verdict.TheVariants.{Accepted}
 use Rattle.ariadne_picture.specs.Report.{ReportFields, World, switches_of}
 use Rattle.ariadne_picture.specs.Pieces.{Section, Texts}
-use Rattle.ariadne_picture.specs.Canvas.{Cell, canvas, sections, texts_of}
+use Rattle.ariadne_picture.specs.Canvas.{Cell, canvas, color_of, palette_of, sections, texts_of}
 use Rattle.ariadne_picture.specs.Print.{printed, erased, unescaped}
 use Rattle.ariadne_picture.specs.Sent.{HaveColumnsOfTexts, HaveNoLineFeeds, RowsAreLines, row_text}
 use Rattle.ariadne_picture.specs.Ranks.{gutter_labels, is_on_one_line}
 use Rattle.ariadne_picture.specs.Placing.Group.{messages_of, shown_lines}
 use Rattle.ariadne_picture.specs.Placing.Rows.{Placing}
-use Rattle.ariadne_picture.specs.LabelColors.{label_color, has_label_colors}
+use Rattle.ariadne_picture.specs.LabelColors.{has_label_colors}
 use Rattle.ariadne_picture.specs.LoneLines.{has_lone_underlines}
+use Rattle.ariadne_picture.specs.OtherRows.{has_other_rows}
+use Rattle.ariadne_picture.specs.TextColors.{has_text_colors}
 use Rattle.ariadne_picture.specs.ReadBack.{HaveShortNumbers, HaveWholeLines, IsReadBack, IsReadBackByGutters, group_sources}
-use Rattle.ariadne_picture.specs.ReadBack.{group_sources_and_gutters, labels_told, read_back}
+use Rattle.ariadne_picture.specs.ReadBack.{group_sources_and_gutters, headers_told, labels_told, read_back, read_headers}
 use Rattle.ariadne_picture.specs.Readings.{AgreeOnEnds, HasSameRow, AreTwins, attach_column}
 use Rattle.ariadne_picture.specs.Variants.{HaveNoEscapes, ColorsMoveNothing, BytesDrawAsCharacters, colorless, char_world, char_report, verdict_at}
 use Rattle.ariadne_picture.specs.Headline.{IsReadBy, IsTraced, AreReadInOneWay, Headline}
@@ -42,7 +46,7 @@ all_clauses rows groups t p h =
 all_sentences : {S Id : Type 0} (w : World S Id) (r : ReportFields S) (labels : List LabelInfo) (bytes : List ℕ)
     → Headline w r labels bytes
     → (bytes ≡ printed (canvas w r labels))
-    × IsTraced (canvas w r labels) (sections w r labels) (texts_of r).message_of (label_color r)
+    × IsTraced (canvas w r labels) (sections w r labels) (texts_of r) (color_of (palette_of r))
     × AreReadInOneWay (canvas w r labels) (sections w r labels) (texts_of r).message_of
     × (HaveShortNumbers w → HaveWholeLines w r labels → IsReadBack w r labels)
     × (HaveShortNumbers w → IsReadBackByGutters w r labels)
@@ -67,14 +71,16 @@ without_colors : let labels = infos sources colored in
     × (unescaped (printed (canvas (world sources) colored labels)) ≡ printed (canvas (world sources) (colorless colored) labels))
 without_colors h = (h.cells, h.bytes no_text_has_an_escape)
 
--- what its rows tell, with its sources and switches alone, is what its labels are
+-- what its rows tell, with its sources and switches alone, is what its labels are, and what its headers are to say
 told_back : let w = world sources in
     let labels = infos sources colored in
     (HaveShortNumbers w → HaveWholeLines w colored labels → IsReadBack w colored labels)
     → HaveWholeLines w colored labels
     → IsPermutation (read_back (canvas w colored labels) (group_sources w colored labels) (switches_of colored.config))
     (labels_told (texts_of colored).message_of (sections w colored labels))
-told_back h whole = h lines_have_short_numbers whole
+    × (read_headers (canvas w colored labels) (group_sources w colored labels) (switches_of colored.config)
+    ≡ headers_told (texts_of colored) (sections w colored labels))
+told_back h whole = let back = h lines_have_short_numbers whole in (back.labels, back.headers)
 
 -- and so is what they tell one who also knows how many gutter columns its groups have
 told_back_by_gutters : let w = world sources in
@@ -82,7 +88,9 @@ told_back_by_gutters : let w = world sources in
     (HaveShortNumbers w → IsReadBackByGutters w colored labels)
     → IsPermutation (read_back (canvas w colored labels) (group_sources_and_gutters w colored labels) (switches_of colored.config))
     (labels_told (texts_of colored).message_of (sections w colored labels))
-told_back_by_gutters h = h lines_have_short_numbers
+    × (read_headers (canvas w colored labels) (group_sources_and_gutters w colored labels) (switches_of colored.config)
+    ≡ headers_told (texts_of colored) (sections w colored labels))
+told_back_by_gutters h = let back = h lines_have_short_numbers in (back.labels, back.headers)
 
 -- its rows are the lines that are sent
 whole_lines : let labels = infos sources colored in
@@ -99,15 +107,18 @@ in_characters : let w = world (one "éb") in
 in_characters h = (h.labels, h.cells its_own_start_is_a_boundary)
 
 -- a picture that can be read has row numbers that meet every clause, the colours of its labels, and lines of underlines alone
-row_numbers : (rows : List (List Cell)) (groups : List Section) (t : Texts) (color_at : ℕ → Option Color)
-    → IsTraced rows groups t.message_of color_at
-    → (p : Placing) × (is_read rows groups t p ≡ true) × (has_label_colors rows groups p color_at ≡ true)
-    × (has_lone_underlines rows groups p color_at ≡ true)
-row_numbers rows groups t color_at h = (
+row_numbers : (rows : List (List Cell)) (groups : List Section) (t : Texts) (color_of_paint : Paint → Option Color)
+    → IsTraced rows groups t color_of_paint
+    → (p : Placing) × (is_read rows groups t p ≡ true) × (has_label_colors rows groups p (λ k. color_of_paint (Label k)) ≡ true)
+    × (has_lone_underlines rows groups p (λ k. color_of_paint (Label k)) ≡ true) × (has_text_colors rows groups p color_of_paint ≡ true)
+    × (has_other_rows rows groups p t ≡ true)
+row_numbers rows groups t color_of_paint h = (
   h.placing,
   all_clauses rows groups t h.placing h.reads,
   h.strokes_have_the_colors_of_their_labels,
   h.lines_without_messages_are_underlined,
+  h.characters_and_underlines_have_theirs,
+  h.other_rows_show_what_is_theirs,
 )
 
 -- two readings of a picture have one row for each line, for the head of each gutter label, and for each message but those of twins

@@ -30,11 +30,15 @@ crossed_in config = gutter_verdicts_behind (one "aa\nbb\ncc") (configured config
 unfoldable of_falling : (Rows → Rows) → List Bool
 of_falling = gutter_verdicts_behind (one "aa\nbb\ncc\ndd\nee") (report (label 0 8 "up" ∷ label 9 13 "down" ∷ []))
 
+-- a bar stands in the way from the margin to the line beside which the outer label ends
+unfoldable of_barred : (Rows → Rows) → List Bool
+of_barred = gutter_verdicts_behind (one "aa\nbb\ncc\ndd") (report (label 0 8 "far" ∷ label 4 11 "near" ∷ []))
+
 unfoldable crossing : ConfigFields
 crossing = record ascii_config { cross_gap = false }
 
 unfoldable computed : Unit {0}
-unfolding judged nested of_nested nested_in crossed_in of_falling crossing
+unfolding judged nested of_nested nested_in crossed_in of_falling of_barred crossing
 computed = tt
 
 -- ---- finished pictures
@@ -63,6 +67,10 @@ falling_labels : of_falling as_drawn ≡ all_hold
 unfolding computed
 falling_labels = refl
 
+a_bar_before_an_arrow_head : of_barred as_drawn ≡ all_hold
+unfolding computed
+a_bar_before_an_arrow_head = refl
+
 -- ---- strokes that no label has there: the other clauses let them through
 
 a_level_above_a_head : of_nested (shows 4 5 "-") ≡ stray
@@ -89,9 +97,9 @@ a_level_behind_an_arrow_head : of_nested (shows 3 8 "-") ≡ stray
 unfolding computed
 a_level_behind_an_arrow_head = refl
 
-a_letter_in_the_horizontal_to_an_arrow_head : of_nested (shows 3 4 "x") ≡ stray
+a_letter_behind_a_bar_before_an_arrow_head : of_barred (shows 5 6 "x") ≡ stray
 unfolding computed
-a_letter_in_the_horizontal_to_an_arrow_head = refl
+a_letter_behind_a_bar_before_an_arrow_head = refl
 
 a_level_in_front_of_a_head : of_falling (shows 8 3 "-") ≡ stray
 unfolding computed

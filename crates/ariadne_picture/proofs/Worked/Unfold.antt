@@ -31,7 +31,7 @@ use Rattle.ariadne_picture.specs.Placing.Rows.{row_at, cell_at, block_rows, hold
 use Rattle.ariadne_picture.specs.Placing.Together.{unindented, has_margin, is_source_row, is_in_group, is_in_block, all_pairs, is_line_placed, is_gutter_label_placed, is_group_placed, is_placing}
 use Rattle.ariadne_picture.specs.Placing.MessageRows.{is_message_row, are_block_ends, has_message_rows}
 use Rattle.ariadne_picture.specs.Placing.InlineTraces.{is_inline_traced, is_underlined, has_inline_traces}
-use Rattle.ariadne_picture.specs.Placing.GutterEnds.{is_level_right_of, is_end_traced, is_start_traced, is_pointed, has_ends_of_gutter_traces}
+use Rattle.ariadne_picture.specs.Placing.GutterEnds.{is_level_right_of, is_end_traced, is_start_traced, leads_on, is_pointed, has_ends_of_gutter_traces}
 use Rattle.ariadne_picture.specs.Placing.GutterBars.{ends_in, gutter_rows, is_gap_row, is_bar, is_column_traced, is_last_column_free, has_gutter_bars}
 use Rattle.ariadne_picture.specs.Placing.Alignment.{columns_before, is_line_aligned, is_aligned}
 use Rattle.ariadne_picture.specs.Blocks.{block_size, has_whole_blocks}
@@ -61,7 +61,7 @@ unfolding digits is_separator begins_with_line_feed ends_line in_front full_line
     cell_at shown_lines column_cell text_cell place_cell has_cell block_rows holds_at_places is_traced_at is_level_right_of shown_cells
     has_margin is_source_row is_in_group is_in_block all_pairs messages_of is_line_placed is_gutter_label_placed is_group_placed
     is_placing is_message_row are_block_ends has_message_rows is_inline_traced is_underlined has_inline_traces is_end_traced is_start_traced
-    is_pointed has_ends_of_gutter_traces gutter_rows is_gap_row is_bar is_column_traced is_last_column_free has_gutter_bars columns_before
+    leads_on is_pointed has_ends_of_gutter_traces gutter_rows is_gap_row is_bar is_column_traced is_last_column_free has_gutter_bars columns_before
     is_line_aligned is_aligned block_size has_whole_blocks is_upright is_stroke_of inline_trace end_trace start_trace gutter_traces traces_below
     is_underline_of has_cause is_place_caused is_line_caused has_no_other_strokes has_gutter_level has_gutter_arrow is_own_gutter_stroke
     is_gutter_stroke_of has_gutter_cause is_gutter_column_caused has_no_other_gutter_strokes has_color is_covered is_vertical_colored_in is_vertical_colored

@@ -28,7 +28,7 @@ no_trace = false ∷ true ∷ true ∷ false ∷ false ∷ true ∷ true ∷ fal
 abbrev stray : List Bool
 stray = true ∷ false ∷ true ∷ false ∷ true ∷ false ∷ true ∷ false ∷ []
 
--- only the last clause refuses it
+-- of these only the last clause refuses it
 abbrev miscolored : List Bool
 miscolored = true ∷ true ∷ true ∷ false ∷ true ∷ true ∷ true ∷ false ∷ []
 

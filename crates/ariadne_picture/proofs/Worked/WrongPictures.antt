@@ -142,6 +142,18 @@ a_blank_in_the_stroke_to_the_last_arrow_head : of_nested (shows 9 5 " ") ≡ no_
 unfolding computed
 a_blank_in_the_stroke_to_the_last_arrow_head = refl
 
+a_hole_behind_the_head_that_an_arrow_head_leads_to : of_nested (shows 3 4 " ") ≡ no_ends
+unfolding computed
+a_hole_behind_the_head_that_an_arrow_head_leads_to = refl
+
+a_hole_right_before_an_arrow_head : of_nested (shows 3 6 " ") ≡ no_ends
+unfolding computed
+a_hole_right_before_an_arrow_head = refl
+
+a_hole_behind_a_tee : of_nested (shows 9 4 " ") ≡ no_ends
+unfolding computed
+a_hole_behind_a_tee = refl
+
 a_blank_for_an_arrow_head_of_the_second_group : of_apart (shows 11 5 " ") ≡ no_ends
 unfolding computed
 a_blank_for_an_arrow_head_of_the_second_group = refl

@@ -21,7 +21,7 @@ module _ (canvas : List (List Cell)) (sections : List Section) (p : Placing) whe
       let m = p.source_row g l in
       let cells = cells_of_places p g s l in
       pointwise nat_eq (map (λ c. c.columns) (text_cells canvas s m))
-      (map (λ c. c.columns) (shown_cells s l))
+      (map (λ c. c.columns) (shown_cells s.sheet l))
       && list_all (λ n. (columns_before s n == columns_before s m)
       && list_all (λ c. c.columns == 1) (take cells (text_cells canvas s n))
       && nat_le cells (length (text_cells canvas s n))) (block_rows p g l)

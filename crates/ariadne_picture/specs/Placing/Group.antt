@@ -5,10 +5,16 @@ use Rattle.ariadne_picture.specs.declared.switches.CharSet.{CharSet}
 use Rattle.ariadne_picture.specs.declared.label_info.LabelInfo.{LabelInfo}
 use Rattle.ariadne_picture.specs.declared.cell.Paint.TheVariants.{Plain}
 use Rattle.ariadne_picture.specs.Lists.{joined_numbered}
-use Rattle.ariadne_picture.specs.Ranks.{gutter_labels, is_hidden, group_lines}
+use Rattle.ariadne_picture.specs.Ranks.{Sheet, gutter_labels, is_hidden, group_lines}
 use Rattle.ariadne_picture.specs.Rows.{is_lone}
 use Rattle.ariadne_picture.specs.Columns.{layout_of, shown, width, column_of}
 use Rattle.ariadne_picture.specs.Pieces.{Piece, Section, column_size, gutter_len, source_pieces}
+
+-- the cells of line l, without their colours: one for each character that is seen, one for each blank of a
+-- tab, and one for each mark
+unfoldable pub shown_cells : Sheet → ℕ → List Piece
+shown_cells h l =
+    let y = layout_of h l in joined_numbered (source_pieces h.switches Plain y) (shown y)
 
 module _ (s : Section) where
   -- the character set of its strokes
@@ -50,10 +56,3 @@ module _ (s : Section) where
   -- place k below line l has a cell
   unfoldable pub has_cell : ℕ → ℕ → Bool
   has_cell l k = nat_lt 0 (width s.sheet.switches (layout_of s.sheet l) k)
-
-  -- the cells of line l, without their colours: one for each character that is seen, one for each blank
-  -- of a tab, and one for each mark
-  unfoldable pub shown_cells : ℕ → List Piece
-  shown_cells l =
-      let y = layout_of s.sheet l in
-      joined_numbered (source_pieces s.sheet.switches Plain y) (shown y)

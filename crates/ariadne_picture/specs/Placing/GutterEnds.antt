@@ -3,6 +3,7 @@
 use Rattle.std.specs.Prelude.{ℕ, ◌+◌, Bool, not, ◌&&◌, ◌||◌, if◌then◌else◌, List}
 use Rattle.std.specs.List.{list_all}
 use Rattle.ariadne_picture.specs.declared.label_info.LabelInfo.{LabelInfo}
+use Rattle.ariadne_picture.specs.declared.cell.Glyph.{Glyph}
 use Rattle.ariadne_picture.specs.declared.cell.Glyph.TheVariants.{Hbar, Vbar, Rarrow, Ltop, Lbot}
 use Rattle.ariadne_picture.specs.declared.cell.Glyph.TheVariants.{Rbot, Mbot, Lcross}
 use Rattle.ariadne_picture.specs.Lists.{all_numbered}
@@ -21,6 +22,11 @@ module _ (canvas : List (List Cell)) (sections : List Section) (p : Placing) whe
   is_level_right_of s i n =
       list_all (λ c. is_level (set_of s) (cell_at canvas n c))
       (between (column_cell s i + 1) (text_cell s))
+
+  -- behind the first cell of column j row n has a horizontal, if the column has another cell
+  unfoldable pub leads_on : Section → ℕ → ℕ → Bool
+  leads_on s n j =
+      s.sheet.switches.compact || is_glyph (set_of s) Hbar (cell_at canvas n (column_cell s j + 1))
 
   module _ (g : ℕ) (s : Section) (i : ℕ) where
     -- its arrow comes out of column i, to its message. Where it ends as the margin label, a tee and an
@@ -55,17 +61,18 @@ module _ (canvas : List (List Cell)) (sections : List Section) (p : Placing) whe
         && holds a.start_place (a.start_place + 1) (is_glyph set Rbot)
         && is_traced_at canvas p g s l a.start_place n)
 
-    -- beside line l whose margin label it is, its stroke reaches the arrow head, under bars of others
+    -- beside line l whose margin label it is, a horizontal leads from its column to the arrow head: in each
+    -- column between it fills all cells, or the bar of that column's label stands there
     unfoldable pub is_pointed : ℕ → Bool
     is_pointed l =
-        let cell = gutter_cell canvas s (p.source_row g l) in
+        let n = p.source_row g l in
+        let shows = λ (glyph : Glyph) (j : ℕ). is_glyph (set_of s) glyph (gutter_cell canvas s n j) in
         not (is_at_margin s.sheet l i)
-        || list_all (λ j. is_glyph (set_of s) Hbar (cell j) || is_glyph (set_of s) Vbar (cell j))
-        (between (i + 1) (arrow_column s))
+        || (leads_on s n i && list_all (λ j. shows Vbar j || (shows Hbar j && leads_on s n j))
+        (between (i + 1) (arrow_column s)))
 
   -- the clause: both ends of each, and its strokes to arrow heads
   unfoldable pub has_ends_of_gutter_traces : Bool
   has_ends_of_gutter_traces =
-      all_numbered (λ g s. all_numbered (λ i a.
-      is_end_traced g s i a && is_start_traced g s i a
+      all_numbered (λ g s. all_numbered (λ i a. is_end_traced g s i a && is_start_traced g s i a
       && list_all (is_pointed g s i) (shown_lines s)) (gutter_labels s.sheet)) sections

@@ -17,8 +17,7 @@ module _ (canvas : List (List Cell)) (sections : List Section) (p : Placing) whe
       let row = row_at canvas n in
       let blank = slice_index_or row (text_cell s + cells) no_cell in
       let last = slice_index_or row (text_cell s + cells + 1) no_cell in
-      (length row == text_cell s + cells + 2)
-      && is_blank blank && not (is_some blank.color)
+      (length row == text_cell s + cells + 2) && is_blank blank && not (is_some blank.color)
       && is_text last.text message && not (is_some last.color)
 
   module _ (message_of : ℕ → List ℕ) where
@@ -34,5 +33,4 @@ module _ (canvas : List (List Cell)) (sections : List Section) (p : Placing) whe
 
     -- the clause
     unfoldable pub has_message_rows : Bool
-    has_message_rows =
-        all_numbered (λ g s. list_all (are_block_ends g s) (shown_lines s)) sections
+    has_message_rows = all_numbered (λ g s. list_all (are_block_ends g s) (shown_lines s)) sections

@@ -29,8 +29,7 @@ module _ (canvas : List (List Cell)) (sections : List Section) (p : Placing) whe
   -- blank
   unfoldable pub has_margin : Section → List ℕ → ℕ → Bool
   has_margin s text n =
-      is_blank (cell_at canvas n 0)
-      && is_text (unindented (cell_at canvas n 1).text) text
+      is_blank (cell_at canvas n 0) && is_text (unindented (cell_at canvas n 1).text) text
       && (s.sheet.switches.compact || is_blank (cell_at canvas n 2))
 
   -- row n shows line l: its number in the margin, and its characters
@@ -39,7 +38,7 @@ module _ (canvas : List (List Cell)) (sections : List Section) (p : Placing) whe
       let number = decimal (printed_number s.display_offset l) in
       has_margin s (number ++ codes " " ++ glyph_text (set_of s) Vbar) n
       && pointwise is_text (map (λ c. c.text) (text_cells canvas s n))
-      (map (λ c. c.text) (shown_cells s l))
+      (map (λ c. c.text) (shown_cells s.sheet l))
 
   -- row n is one of group g
   unfoldable pub is_in_group : ℕ → ℕ → Bool
@@ -53,8 +52,7 @@ module _ (canvas : List (List Cell)) (sections : List Section) (p : Placing) whe
     -- line l and its block stand within their group, and the margins of its block have no number
     unfoldable pub is_line_placed : ℕ → Bool
     is_line_placed l =
-        is_in_group g (p.source_row g l)
-        && is_source_row s l (p.source_row g l)
+        is_in_group g (p.source_row g l) && is_source_row s l (p.source_row g l)
         && list_all (λ n. is_in_group g n && has_margin s (glyph_text (set_of s) Vbar) n)
         (block_rows p g l)
 
@@ -67,8 +65,7 @@ module _ (canvas : List (List Cell)) (sections : List Section) (p : Placing) whe
     -- the lines stand in their order, and each message below the line where its label ends
     unfoldable pub is_group_placed : Bool
     is_group_placed =
-        nat_le (p.start g) (p.start (g + 1))
-        && all_pairs nat_lt (map (p.source_row g) (shown_lines s))
+        nat_le (p.start g) (p.start (g + 1)) && all_pairs nat_lt (map (p.source_row g) (shown_lines s))
         && list_all is_line_placed (shown_lines s)
         && list_all (λ a. is_in_block g a.end_line (p.message_row a.position)) (messages_of s)
         && all_numbered is_gutter_label_placed (gutter_labels s.sheet)
@@ -76,8 +73,6 @@ module _ (canvas : List (List Cell)) (sections : List Section) (p : Placing) whe
   -- the groups follow one another and are all rows but the header, and two messages have two rows
   unfoldable pub is_placing : Bool
   is_placing =
-      (p.start 0 == 1)
-      && (p.start (length sections) == length canvas)
-      && all_numbered is_group_placed sections
-      && all_pairs (λ n m. not (n == m))
+      (p.start 0 == 1) && (p.start (length sections) == length canvas)
+      && all_numbered is_group_placed sections && all_pairs (λ n m. not (n == m))
       (joined (λ s. map (λ a. p.message_row a.position) (messages_of s)) sections)

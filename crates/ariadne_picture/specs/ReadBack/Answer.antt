@@ -1,6 +1,6 @@
 -- What the message rows of a finished picture tell. No label is asked. Rows, cells, lines, columns and
 -- groups count from 0.
-use Rattle.std.specs.Prelude.{ℕ, ◌-◌, Bool, not, ◌&&◌, ◌||◌, ◌==◌, if◌then◌else◌, List, length, map}
+use Rattle.std.specs.Prelude.{ℕ, ◌-◌, Bool, not, ◌&&◌, ◌||◌, ◌==◌, if◌then◌else◌, List, ◌∷◌, length, map}
 use Rattle.std.specs.Prelude.{filter, find, take, drop, Option, Some, None, is_some}
 use Rattle.std.specs.List.{prefix_len}
 use Rattle.ariadne_picture.specs.declared.switches.CharSet.{CharSet}
@@ -10,7 +10,7 @@ use Rattle.ariadne_picture.specs.declared.cell.Glyph.TheVariants.{Ltop, Lbot, Rb
 use Rattle.ariadne_picture.specs.Canvas.{Cell}
 use Rattle.ariadne_picture.specs.Placing.Cells.{is_glyph, is_level}
 use Rattle.ariadne_picture.specs.Placing.Rows.{between, row_at, cell_at}
-use Rattle.ariadne_picture.specs.ReadBack.Rows.{Known, last_before, group_of, line_row, line_of, text_begin}
+use Rattle.ariadne_picture.specs.ReadBack.Rows.{Known, last_before, is_heading, group_of, line_row, line_of, text_begin}
 use Rattle.ariadne_picture.specs.ReadBack.Rows.{is_arrow_row}
 
 -- where strokes end: at a line, and at the column of its text where they turn, if they do
@@ -69,27 +69,31 @@ module _ (rows : List (List Cell)) (sources : List Known) (switches : Switches) 
   unfoldable pub head_of : ℕ → ℕ → ℕ
   head_of n c = last_before (λ m. is_glyph switches.char_set Ltop (cell_at rows m c)) n
 
-  -- what row n tells, with a corner in the gutter, or without
+  -- what row n tells where strokes start so and end at this column
+  abbrev pub told : ℕ → Option End → Option ℕ → Told
+  told n start column = record {
+    group = group_of rows sources switches n;
+    start = start;
+    end = record { line = line_of rows sources switches n; column = column };
+    message = message_of_row n;
+  }
+
+  -- with a corner in the gutter, or without
   unfoldable pub told_with : ℕ → Option ℕ → Told
-  told_with n None = record {
-    group = group_of rows sources switches n;
-    start = None;
-    end = record { line = line_of rows sources switches n; column = Some (attach_of_row n) };
-    message = message_of_row n;
-  }
-  told_with n (Some c) = record {
-    group = group_of rows sources switches n;
-    start = Some (start_of_head (head_of n c));
-    end = record {
-      line = line_of rows sources switches n;
-      column = first_showing switches.char_set Mbot (text_of_row 2 n);
-    };
-    message = message_of_row n;
-  }
+  told_with n None = told n None (Some (attach_of_row n))
+  told_with n (Some c) =
+      told n (Some (start_of_head (head_of n c))) (first_showing switches.char_set Mbot (text_of_row 2 n))
 
   -- what row n tells, if it is the row of a message
   unfoldable pub told_by : ℕ → Told
   told_by n = told_with n (gutter_turn Lbot n)
+
+  -- what its headers say, from top to bottom: the first row the code and the kind, and the message, and those
+  -- of the groups in their boxes what their sources are called and a place
+  unfoldable pub read_headers : List (List ℕ)
+  read_headers =
+      (cell_at rows 0 0).text ∷ (cell_at rows 0 1).text
+      ∷ map (λ n. (cell_at rows n 4).text) (filter (is_heading rows sources switches) (between 1 (length rows)))
 
   -- what the picture tells below its header, from top to bottom
   unfoldable pub read_back : List Told

@@ -1,12 +1,12 @@
 -- What the labels of a picture are, in the words of what its rows tell: of each label that has a message
 -- its group, where it is attached or starts and ends, and that message.
-use Rattle.std.specs.Prelude.{ℕ, not, ◌||◌, if◌then◌else◌, List, ◌++◌, map, filter, Some, None}
+use Rattle.std.specs.Prelude.{ℕ, not, ◌||◌, if◌then◌else◌, List, [], ◌∷◌, ◌++◌, map, filter, Some, None, codes, unwrap_or}
 use Rattle.ariadne_picture.specs.declared.label_info.LabelInfo.{LabelInfo}
 use Rattle.ariadne_picture.specs.Lists.{joined_numbered, mapped_numbered}
 use Rattle.ariadne_picture.specs.Ranks.{gutter_labels, is_on_one_line}
 use Rattle.ariadne_picture.specs.Columns.{layout_of, column_of}
 use Rattle.ariadne_picture.specs.Strokes.{is_at_margin}
-use Rattle.ariadne_picture.specs.Pieces.{Section}
+use Rattle.ariadne_picture.specs.Pieces.{Section, Texts, place_text}
 use Rattle.ariadne_picture.specs.Placing.Group.{messages_of, has_cell}
 use Rattle.ariadne_picture.specs.Readings.{attach_column}
 use Rattle.ariadne_picture.specs.ReadBack.Answer.{End, Told}
@@ -43,6 +43,10 @@ module _ (message_of : ℕ → List ℕ) (g : ℕ) (s : Section) where
   unfoldable pub group_told : List Told
   group_told =
       map told_within (filter is_on_one_line (messages_of s)) ++ mapped_numbered told_over (gutter_labels s.sheet)
+
+-- what the headers are to say
+unfoldable pub headers_told : Texts → List Section → List (List ℕ)
+headers_told t groups = t.kind_text ∷ (codes " " ++ unwrap_or t.message []) ∷ map place_text groups
 
 -- the labels of all groups
 unfoldable pub labels_told : (ℕ → List ℕ) → List Section → List Told

@@ -6,13 +6,12 @@ use Rattle.ariadne_base.specs.Locations.{line_text}
 use Rattle.ariadne_base.specs.Listing.{Listing, listed_lines}
 use Rattle.ariadne_picture.specs.declared.label_info.LabelInfo.{LabelInfo}
 use Rattle.ariadne_picture.specs.Report.{ReportFields, World, switches_of}
-use Rattle.ariadne_picture.specs.Ranks.{Sheet}
 use Rattle.ariadne_picture.specs.Columns.{is_too_wide}
 use Rattle.ariadne_picture.specs.Pieces.{Section, gutter_len}
 use Rattle.ariadne_picture.specs.ReadBack.Rows.{Known}
-use Rattle.ariadne_picture.specs.Canvas.{canvas, group_source, groups, sections, texts_of}
-use Rattle.ariadne_picture.specs.ReadBack.Answer.{read_back}
-use Rattle.ariadne_picture.specs.ReadBack.Labels.{labels_told}
+use Rattle.ariadne_picture.specs.Canvas.{canvas, group_source, groups, sections, sheet_of, texts_of}
+use Rattle.ariadne_picture.specs.ReadBack.Answer.{read_back, read_headers}
+use Rattle.ariadne_picture.specs.ReadBack.Labels.{headers_told, labels_told}
 
 -- the numbers of all lines are below 2 ^ 64, as those of a `Source` are, so that no two are printed
 -- alike
@@ -31,24 +30,26 @@ module _ {S Id : Type 0} (w : World S Id) (r : ReportFields S) where
   abbrev pub HaveWholeLines : List LabelInfo → Type 0
   HaveWholeLines infos = AllByRecursion HasWholeLines (sections w r infos)
 
-  -- the sources of the groups of these labels, from top to bottom, and no more
+  -- the sources of the groups of these labels, from top to bottom, with what is told of their gutters
+  abbrev known : (List LabelInfo → Option ℕ) → List LabelInfo → List Known
+  known gutter infos =
+      map (λ group. record { listing = group_source w r group; gutter = gutter group }) (groups w r infos)
+
+  -- that is nothing
   unfoldable pub group_sources : List LabelInfo → List Known
-  group_sources infos =
-      map (λ group. record { listing = group_source w r group; gutter = None }) (groups w r infos)
+  group_sources infos = known (λ group. None) infos
 
-  -- these sources, each with the number of its group's gutter columns
+  -- or how many columns each has
   unfoldable pub group_sources_and_gutters : List LabelInfo → List Known
-  group_sources_and_gutters infos =
-      map (λ group.
-      let source = group_source w r group in
-      let sheet : Sheet = record { switches = switches_of r.config; lines = listed_lines source; labels = group } in
-      record { listing = source; gutter = Some (gutter_len sheet) }) (groups w r infos)
+  group_sources_and_gutters infos = known (λ group. Some (gutter_len (sheet_of w r group))) infos
 
-  -- what their picture tells one who knows this of its groups is what they are, in another order
-  abbrev IsReadBackBy : List LabelInfo → List Known → Type 0
-  IsReadBackBy infos known =
-      IsPermutation (read_back (canvas w r infos) known (switches_of r.config))
-      (labels_told (texts_of r).message_of (sections w r infos))
+  -- what their picture tells one who knows this of its groups is what they are, in another order, and what
+  -- the headers are to say
+  pub record IsReadBackBy (infos : List LabelInfo) (known : List Known) : Type 0 where
+    pub labels : IsPermutation (read_back (canvas w r infos) known (switches_of r.config))
+        (labels_told (texts_of r).message_of (sections w r infos))
+    pub headers : read_headers (canvas w r infos) known (switches_of r.config)
+        ≡ headers_told (texts_of r) (sections w r infos)
 
   -- so it is for one who knows their sources
   abbrev pub IsReadBack : List LabelInfo → Type 0

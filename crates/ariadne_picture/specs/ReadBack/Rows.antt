@@ -1,6 +1,6 @@
 -- What the rows of a finished picture are, as a reader finds it: by their margins, and by the lines of the
 -- sources. No label is asked. Rows, cells, lines and groups count from 0.
-use Rattle.std.specs.Prelude.{ℕ, zero, suc, ◌+◌, ◌*◌, ◌-◌, ◌%◌, Bool, true, false, not, ◌&&◌, ◌||◌, ◌==◌, nat_le}
+use Rattle.std.specs.Prelude.{ℕ, zero, suc, ◌+◌, ◌*◌, ◌-◌, ◌%◌, Bool, false, not, ◌&&◌, ◌||◌, ◌==◌, nat_le}
 use Rattle.std.specs.Prelude.{nat_lt, if◌then◌else◌, List, [], ◌∷◌, ◌++◌, length, filter, find, Option, Some, None, unwrap_or}
 use Rattle.std.specs.Prelude.{slice_index_or, codes, decimal}
 use Rattle.std.specs.List.{list_any}
@@ -11,7 +11,8 @@ use Rattle.ariadne_picture.specs.declared.cell.Glyph.{Glyph}
 use Rattle.ariadne_picture.specs.declared.cell.Glyph.TheVariants.{Blank, Hbar, Vbar, Xbar, Uarrow}
 use Rattle.ariadne_picture.specs.declared.cell.Glyph.TheVariants.{Lbot, Rbot, Mbot, Lbox}
 use Rattle.ariadne_picture.specs.Groups.{printed_number}
-use Rattle.ariadne_picture.specs.Pieces.{Section, column_size, glyph_text}
+use Rattle.ariadne_picture.specs.Ranks.{Sheet}
+use Rattle.ariadne_picture.specs.Pieces.{column_size, glyph_text}
 use Rattle.ariadne_picture.specs.Canvas.{Cell}
 use Rattle.ariadne_picture.specs.Placing.Cells.{is_text, is_blank, is_glyph}
 use Rattle.ariadne_picture.specs.Placing.Group.{shown_cells}
@@ -33,16 +34,9 @@ pub record Known : Type 0 where
   pub listing : Listing
   pub gutter : Option ℕ
 
--- the lines of a source, as a group without labels
-unfoldable pub unlabelled : Switches → Listing → Section
-unlabelled switches source = record {
-  sheet = record { switches = switches; lines = listed_lines source; labels = [] };
-  name = [];
-  display_offset = source.display_offset;
-  header_offset = None;
-  is_first = true;
-  is_last = true;
-}
+-- the lines of a source, as those of a group without labels
+unfoldable pub unlabelled : Switches → Listing → Sheet
+unlabelled switches source = record { switches = switches; lines = listed_lines source; labels = [] }
 
 -- what the places of an arrow row show
 abbrev pub arrow_glyphs : List Glyph
