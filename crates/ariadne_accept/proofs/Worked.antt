@@ -88,6 +88,10 @@ a_drawn_label_is_not_past_its_source : Have (whole ∷ []) (left_out_for PastSou
 unfolding computed
 a_drawn_label_is_not_past_its_source h = let e = h.judged.0 in cc
 
+a_label_that_cuts_a_character_is_not_past_its_source : Have (cutting ∷ []) (left_out_for PastSource ∷ []) → ⊥
+unfolding computed
+a_label_that_cuts_a_character_is_not_past_its_source h = let e = h.judged.0 in cc
+
 a_drawn_label_cuts_no_character : Have (whole ∷ []) (left_out_for CutsCharacter ∷ []) → ⊥
 unfolding computed
 a_drawn_label_cuts_no_character h = let e = h.judged.0 in cc
@@ -118,6 +122,10 @@ an_outcome_of_no_label h = h.judged
 an_error_behind_a_drawn_label : Have (whole ∷ whole ∷ []) (drawn_as info ∷ left_out_for (Unfetched 7) ∷ []) → ⊥
 unfolding computed
 an_error_behind_a_drawn_label h = absurd (true≢false ((h.stay_fetched.0 refl).0 refl))
+
+an_error_behind_a_label_past_its_source : Have (past ∷ whole ∷ []) (left_out_for PastSource ∷ left_out_for (Unfetched 7) ∷ []) → ⊥
+unfolding computed
+an_error_behind_a_label_past_its_source h = absurd (true≢false ((h.stay_fetched.0 refl).0 refl))
 
 an_error_behind_a_later_drawn_label : Have (elsewhere ∷ whole ∷ whole ∷ []) (left_out_for (Unfetched 7) ∷ drawn_as (record info { position = 1 }) ∷ left_out_for (Unfetched 7) ∷ []) → ⊥
 unfolding computed

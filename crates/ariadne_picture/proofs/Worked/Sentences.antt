@@ -158,6 +158,22 @@ a_wide_character_in_one_column : HaveColumnsOfTexts ((plain "漢" ∷ []) ∷ []
 unfolding drawn plain
 a_wide_character_in_one_column h = let e = h.0.0 in cc
 
+a_letter_in_two_columns : HaveColumnsOfTexts ((record (plain "a") { columns = 2 } ∷ []) ∷ []) → ⊥
+unfolding drawn plain
+a_letter_in_two_columns h = let e = h.0.0 in cc
+
+a_wide_character_in_the_second_cell : HaveColumnsOfTexts ((plain "a" ∷ plain "漢" ∷ []) ∷ []) → ⊥
+unfolding drawn plain
+a_wide_character_in_the_second_cell h = let e = h.0.1.0 in cc
+
+a_wide_character_in_the_second_row : HaveColumnsOfTexts ((plain "a" ∷ []) ∷ (plain "漢" ∷ []) ∷ []) → ⊥
+unfolding drawn plain
+a_wide_character_in_the_second_row h = let e = h.1.0.0 in cc
+
 a_row_with_a_line_feed : RowsAreLines ((plain "a\nb" ∷ []) ∷ []) → ⊥
 unfolding drawn plain row_text
 a_row_with_a_line_feed h = cc
+
+a_second_row_with_a_line_feed : RowsAreLines ((plain "a" ∷ []) ∷ (plain "a\nb" ∷ []) ∷ []) → ⊥
+unfolding drawn plain row_text
+a_second_row_with_a_line_feed h = cc

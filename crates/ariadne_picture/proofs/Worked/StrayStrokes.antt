@@ -148,6 +148,18 @@ tangled_labels_in_compact_form = refl
 
 -- ---- strokes that no label has there: the other clauses let them through
 
+an_underline_a_place_before_its_label : of_fruit (shows 4 11 "^") ≡ stray
+unfolding computed
+an_underline_a_place_before_its_label = refl
+
+an_underline_a_place_behind_its_label : of_fruit (shows 4 8 "^") ≡ stray
+unfolding computed
+an_underline_a_place_behind_its_label = refl
+
+an_underline_in_the_second_row : of_fruit (shows 5 3 "^") ≡ stray
+unfolding computed
+an_underline_in_the_second_row = refl
+
 a_vertical_under_a_wrong_character : of_fruit (shows 6 8 "|") ≡ stray
 unfolding computed
 a_vertical_under_a_wrong_character = refl

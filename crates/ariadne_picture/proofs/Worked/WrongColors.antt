@@ -75,6 +75,19 @@ of_hanging = color_verdicts (one "aa\nbb") (configured color_config
 unfoldable of_accent : (Rows → Rows) → List Bool
 of_accent = color_verdicts (one "éx") (configured color_config (in_color Red (label 1 2 "a") ∷ in_color Green (label 2 3 "b") ∷ []))
 
+-- row 5 is `--|- x from cell 3 on: the horizontal passes a character of two cells
+unfoldable of_passed : (Rows → Rows) → List Bool
+of_passed = color_verdicts (one "a漢b") (configured color_config (in_color Red (label 0 1 "x") ∷ in_color Green (label 2 3 "y") ∷ []))
+
+-- labels on neighbouring characters
+unfoldable of_neighbours : (Rows → Rows) → List Bool
+of_neighbours = color_verdicts (one "ab") (configured color_config (in_color Red (label 0 1 "x") ∷ in_color Green (label 1 2 "y") ∷ []))
+
+-- three labels over the same lines. Row 10 has the bar of the third one, in cell 7
+unfoldable of_three : (Rows → Rows) → List Bool
+of_three = color_verdicts (one "aaa\nbbb\nccc")
+    (configured color_config (in_color Red (label 0 11 "x") ∷ in_color Green (label 1 10 "y") ∷ in_color Blue (label 2 9 "z") ∷ []))
+
 unfoldable tangled : ConfigFields → (Rows → Rows) → List Bool
 tangled config = color_verdicts (one "ab漢d\nefgh\nijkl\nm") (configured (record config { color = true })
     (in_color Red (label 0 12 "a") ∷ in_color Blue (label 2 7 "b") ∷ in_color Green (label 1 8 "c") ∷ in_color (Fixed 9) (label 5 6 "d")
@@ -82,7 +95,7 @@ tangled config = color_verdicts (one "ab漢d\nefgh\nijkl\nm") (configured (recor
 
 unfoldable computed : Unit {0}
 unfolding judged verdicts_alone color_verdicts has in_color fruit of_fruit of_plain on_one_character of_nested crossed_config of_crossed of_barred of_hanging
-    of_accent tangled
+    of_accent of_passed of_neighbours of_three tangled
 computed = tt
 
 -- ---- finished pictures
@@ -115,6 +128,18 @@ a_place_without_a_cell : of_accent as_drawn ≡ all_hold
 unfolding computed
 a_place_without_a_cell = refl
 
+a_character_that_is_passed : of_passed as_drawn ≡ all_hold
+unfolding computed
+a_character_that_is_passed = refl
+
+neighbours : of_neighbours as_drawn ≡ all_hold
+unfolding computed
+neighbours = refl
+
+three_labels_over_lines : of_three as_drawn ≡ all_hold
+unfolding computed
+three_labels_over_lines = refl
+
 tangled_labels : tangled ascii_config as_drawn ≡ all_hold
 unfolding computed
 tangled_labels = refl
@@ -128,6 +153,14 @@ unfolding computed
 tangled_labels_that_cross = refl
 
 -- ---- a label within one line
+
+the_second_cell_of_a_place : of_passed (has 5 5 (Some Green)) ≡ miscolored
+unfolding computed
+the_second_cell_of_a_place = refl
+
+a_vertical_in_the_color_of_its_neighbour : of_neighbours (has 4 4 (Some Red)) ≡ miscolored
+unfolding computed
+a_vertical_in_the_color_of_its_neighbour = refl
 
 a_corner : of_fruit (has 5 5 (Some Green)) ≡ miscolored
 unfolding computed
@@ -163,6 +196,14 @@ unfolding computed
 a_vertical_of_the_lower_label = refl
 
 -- ---- gutter labels
+
+the_first_place_of_an_end : of_nested (has 8 9 (Some Green)) ≡ miscolored
+unfolding computed
+the_first_place_of_an_end = refl
+
+the_bar_of_a_third_label : of_three (has 10 7 (Some Red)) ≡ miscolored
+unfolding computed
+the_bar_of_a_third_label = refl
 
 a_head : of_nested (has 3 3 (Some Red)) ≡ miscolored
 unfolding computed

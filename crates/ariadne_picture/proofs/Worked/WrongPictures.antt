@@ -2,7 +2,7 @@
 -- Each theorem computes the verdicts of the six clauses on the changed rows, so a clause that looks at
 -- less lets one of them through.
 use Rattle.std.specs.Prelude.{◌≡◌, Bool, true, false, refl, [], ◌∷◌, ◌++◌, List, take, drop}
-use Rattle.ariadne_picture.proofs.Worked.Sample.{one, label, report}
+use Rattle.ariadne_picture.proofs.Worked.Sample.{one, label, report, configured, compact_config, texts}
 use Rattle.ariadne_picture.proofs.Worked.Readings.{nested, apart, wide}
 use Rattle.ariadne_picture.proofs.Worked.Changes.{Rows, as_drawn, on_row, shows, is_blue, takes, plain, verdicts, verdicts_behind, all_hold, not_placed}
 use Rattle.ariadne_picture.proofs.Worked.Changes.{no_message_rows, no_inline_traces, no_ends, no_bars, not_aligned, judged}
@@ -30,8 +30,16 @@ of_fruit = verdicts_behind (one "apple == orange;") (report (label 0 5 "apple" �
 unfoldable of_far : (Rows → Rows) → List Bool
 of_far = verdicts (one "aa\nbb\ncc\ndd\nee") (report (label 0 4 "two lines" ∷ label 13 14 "far" ∷ []))
 
+-- three labels over the same lines. Row 7 has the head of the third one, in cell 7, row 10 its bar, and row 11 its message
+unfoldable of_three : (Rows → Rows) → List Bool
+of_three = verdicts (one "aaa\nbbb\nccc") (report (label 0 11 "x" ∷ label 1 10 "y" ∷ label 2 9 "z" ∷ []))
+
+-- a compact picture whose last row is that of a note
+unfoldable of_noted : (Rows → Rows) → List Bool
+of_noted = verdicts (one "aa\nbb") (record (configured compact_config (label 0 5 "x" ∷ [])) { notes = texts ("n" ∷ []) })
+
 unfoldable computed : Unit {0}
-unfolding judged nested apart wide of_nested of_apart of_wide of_fruit of_far
+unfolding judged nested apart wide of_nested of_apart of_wide of_fruit of_far of_three of_noted
 computed = tt
 
 unchanged_nested_labels_are_read : of_nested as_drawn ≡ all_hold
@@ -45,6 +53,14 @@ unchanged_labels_on_one_line_are_read = refl
 unchanged_far_labels_are_read : of_far as_drawn ≡ all_hold
 unfolding computed
 unchanged_far_labels_are_read = refl
+
+three_labels_are_read : of_three as_drawn ≡ all_hold
+unfolding computed
+three_labels_are_read = refl
+
+a_compact_picture_with_a_note_is_read : of_noted as_drawn ≡ all_hold
+unfolding computed
+a_compact_picture_with_a_note_is_read = refl
 
 -- ---- not placed
 
@@ -102,7 +118,19 @@ a_message_where_its_label_starts : of_nested (on_row 5 (λ row. row ++ plain " "
 unfolding computed
 a_message_where_its_label_starts = refl
 
+a_message_that_is_cut_short : of_fruit (shows 5 21 "appl") ≡ no_message_rows
+unfolding computed
+a_message_that_is_cut_short = refl
+
+a_message_that_goes_on : of_fruit (shows 5 21 "apples") ≡ no_message_rows
+unfolding computed
+a_message_that_goes_on = refl
+
 -- ---- inline traces
+
+a_horizontal_that_ends_a_place_early : of_fruit (shows 5 19 " ") ≡ no_inline_traces
+unfolding computed
+a_horizontal_that_ends_a_place_early = refl
 
 a_corner_without_its_vertical : of_fruit (shows 6 15 " ") ≡ no_inline_traces
 unfolding computed
@@ -125,6 +153,18 @@ unfolding computed
 an_underline_with_a_hole_at_its_end = refl
 
 -- ---- ends of gutter traces
+
+a_horizontal_out_of_the_gutter_that_ends_a_place_early : of_nested (shows 8 13 " ") ≡ no_ends
+unfolding computed
+a_horizontal_out_of_the_gutter_that_ends_a_place_early = refl
+
+a_hole_right_behind_a_corner_in_the_gutter : of_nested (shows 8 6 " ") ≡ no_ends
+unfolding computed
+a_hole_right_behind_a_corner_in_the_gutter = refl
+
+a_head_of_a_third_label_without_its_level : of_three (shows 7 11 " ") ≡ no_ends
+unfolding computed
+a_head_of_a_third_label_without_its_level = refl
 
 a_blank_in_the_horizontal_to_a_message : of_nested (shows 8 9 " ") ≡ no_ends
 unfolding computed
@@ -154,11 +194,27 @@ a_hole_behind_a_tee : of_nested (shows 9 4 " ") ≡ no_ends
 unfolding computed
 a_hole_behind_a_tee = refl
 
+a_letter_in_the_stroke_to_an_arrow_head : of_nested (shows 3 4 "x") ≡ no_ends
+unfolding computed
+a_letter_in_the_stroke_to_an_arrow_head = refl
+
+a_bar_right_before_an_arrow_head : of_nested (shows 3 6 "|") ≡ no_ends
+unfolding computed
+a_bar_right_before_an_arrow_head = refl
+
 a_blank_for_an_arrow_head_of_the_second_group : of_apart (shows 11 5 " ") ≡ no_ends
 unfolding computed
 a_blank_for_an_arrow_head_of_the_second_group = refl
 
 -- ---- gutter bars
+
+a_bar_of_a_third_label_with_a_hole : of_three (shows 10 7 " ") ≡ no_bars
+unfolding computed
+a_bar_of_a_third_label_with_a_hole = refl
+
+a_bar_in_the_last_row_of_a_group : of_noted (shows 5 2 "|") ≡ no_bars
+unfolding computed
+a_bar_in_the_last_row_of_a_group = refl
 
 a_bar_a_row_early : of_nested (shows 4 5 "|") ≡ no_bars
 unfolding computed

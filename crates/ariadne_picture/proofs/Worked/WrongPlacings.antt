@@ -240,3 +240,24 @@ a_place_without_cell_behind_its_row : of_accent 1 (λ rows. on_row 4 (take 4) (o
     ≡ true ∷ true ∷ false ∷ true ∷ true ∷ true ∷ []
 unfolding computed of_accent
 a_place_without_cell_behind_its_row = refl
+
+-- ---- a label that begins beside its line, and has its head in the row below
+
+unfoldable of_headed : (ℕ → ℕ → ℕ) → (Rows → Rows) → List Bool
+of_headed head_row =
+    verdicts_by (record {
+      start = λ g. slice_index_or (1 ∷ 10 ∷ []) g 0;
+      source_row = λ g l. slice_index_or (3 ∷ 6 ∷ []) l 0;
+      block_len = λ g l. 2;
+      places = λ g l. slice_index_or (3 ∷ 4 ∷ []) l 0;
+      message_row = λ k. slice_index_or (5 ∷ 8 ∷ []) k 0;
+      head_row = head_row;
+    }) (one "aa\nbb") (report (label 0 1 "y" ∷ label 0 5 "x" ∷ []))
+
+its_head_stands_beside_its_line : of_headed (λ g i. 3) as_drawn ≡ all_hold
+unfolding computed of_headed
+its_head_stands_beside_its_line = refl
+
+its_head_stands_in_the_row_below : of_headed (λ g i. 4) (λ rows. shows 3 3 " " (shows 4 3 "," (shows 4 4 "-" (shows 4 5 ">" rows)))) ≡ not_placed
+unfolding computed of_headed
+its_head_stands_in_the_row_below = refl
