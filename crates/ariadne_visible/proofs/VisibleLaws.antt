@@ -26,7 +26,7 @@ pub bytes_count : (kind : TextKind) (t bytes : List ℕ) → IsUtf8 bytes → by
 bytes_count kind t bytes u e = ap length (sym (chars_from_encodes (visible_text kind t) bytes u (sym e))) ∙ length_visible kind t
 
 -- what stays before any character stays before a line feed too
-stays_before : (kind : TextKind) (c : ℕ) (b : Bool) → stays kind c false ≡ true → stays kind c b ≡ true
+pub stays_before : (kind : TextKind) (c : ℕ) (b : Bool) → stays kind c false ≡ true → stays kind c b ≡ true
 stays_before OneRow c b h = h
 stays_before Aside c b h = h
 stays_before Lines c b h = h

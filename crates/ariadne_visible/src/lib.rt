@@ -3,6 +3,7 @@
 //! terminal has to read UTF-8.
 #![tactic(auto)]
 
+mod kept;
 pub mod laws;
 pub mod text;
 

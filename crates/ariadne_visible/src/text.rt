@@ -12,6 +12,7 @@ ghost use Rattle.ariadne_visible.specs.Visible.{is_hidden as hides, stays as is_
 ghost use Rattle.ariadne_visible.specs.Visible.{symbol_of as sign, shown_code, visible_bytes};
 ghost use Rattle.ariadne_visible.specs.Visible.{is_shown};
 
+use crate::kept::kept_run;
 use std::alloc::{AllocError, Global};
 
 /// Where a text is shown, which decides what stays in it.
@@ -163,10 +164,16 @@ pub fn visible(alloc: Global, text: &str, kind: TextKind) -> Result<String, Allo
     ensures count { IfOk result (λ shown.
         length (chars (string_bytes shown)) ≡ length (chars text.now)) }
 {
-    let mut shown = String::new(alloc);
-    let mut rest = text.chars();
-    while let Some(c) = rest.next() {
-        shown.push(shown_char(kind, c, rest.as_str()))?;
+    let mut shown = String::with_capacity(alloc, text.len())?;
+    let mut rest = text;
+    while !rest.is_empty() {
+        let kept = kept_run(kind, rest);
+        shown.push_str(&rest[..kept])?;
+        let mut behind = rest[kept..].chars();
+        if let Some(c) = behind.next() {
+            shown.push(shown_char(kind, c, behind.as_str()))?;
+        }
+        rest = behind.as_str();
     }
     Ok(shown)
 }
@@ -175,5 +182,5 @@ pub fn visible(alloc: Global, text: &str, kind: TextKind) -> Result<String, Allo
 pub fn is_seen(text: &str) -> bool
     ensures { result ≡ is_shown OneRow text.now }
 {
-    text.chars().all(|c| !is_hidden(c))
+    kept_run(TextKind::OneRow, text) == text.len()
 }
