@@ -78,13 +78,6 @@ pub(crate) struct GivenReport<'a> {
     pub(crate) width: usize,
 }
 
-impl GivenReport<'_> {
-    /// Bytes that most pictures fit, so that few are drawn twice.
-    fn room(&self) -> usize {
-        4096 + 2048 * self.labels.len
-    }
-}
-
 #[repr(C)]
 #[derive(Clone, Copy)]
 struct ToldLeftOut {
@@ -116,9 +109,13 @@ const DRAWN: u32 = 0;
 const LEFT_OUT: u32 = 1;
 const TOO_SHORT: u32 = 2;
 
-/// The picture of a report over its sources.
-pub(crate) fn draw(report: &GivenReport<'_>, sources: &[GivenSource<'_>]) -> Result<Vec<u8>, Refusal> {
-    let mut out = Vec::with_capacity(report.room());
+/// The picture of a report over its sources. It is drawn twice if it has more bytes than `room`.
+pub(crate) fn draw(
+    report: &GivenReport<'_>,
+    sources: &[GivenSource<'_>],
+    room: usize,
+) -> Result<Vec<u8>, Refusal> {
+    let mut out = Vec::with_capacity(room);
     let mut len = 0;
     loop {
         match draw_into(report, sources, out.spare_capacity_mut(), &mut len) {

@@ -1,17 +1,14 @@
 //! What the library is lent of a source.
 //!
-//! It reads a source from its beginning to its end, to find its lines. So of a long one it is lent only the
-//! lines that a label begins or ends on, those that are shown near them, and the header's. Each line keeps its
-//! number: those in front are counted by the line offset, and for each one between stands an empty one. And
-//! each label keeps its length, since the gutter and the colours go by it: where a label runs over hidden
-//! lines, blanks stand for their characters.
+//! It reads a source from its beginning to its end, to find its lines. So it is lent only the lines that a label
+//! begins or ends on, those that are shown near them, and the header's. Each line keeps its number: those in
+//! front are counted by the line offset, and for each one between stands an empty one. And each label keeps its
+//! length, since the gutter and the colours go by it: where a label runs over hidden lines, blanks stand for
+//! their characters.
 
 use crate::config::{Config, IndexType};
 use crate::source::Source;
-use std::ops::{Range, RangeInclusive};
-
-/// From how many bytes on a source is long.
-const LONG: usize = 1 << 16;
+use std::ops::RangeInclusive;
 
 /// An empty line. (Its end joins no character beside it, as a line feed would join a carriage return.)
 const EMPTY_LINE: &str = "\x0c";
@@ -19,15 +16,27 @@ const EMPTY_LINE: &str = "\x0c";
 /// What stands for a character of a hidden line. (It is one byte, so it counts as one in bytes too.)
 const BLANK: &str = " ";
 
-/// A source, or what is lent of it.
+/// What is lent of a source.
 pub(crate) struct Excerpt {
     pub(crate) text: String,
     pub(crate) line_offset: usize,
-    /// The lines of a long source that are lent, in their order.
+    pub(crate) shape: Shape,
+    /// The lines that are lent, in their order, as far as each run of them stands elsewhere than the last.
     pieces: Vec<Piece>,
 }
 
-/// Where a line begins.
+/// What the size of a picture goes by.
+#[derive(Clone, Copy, Default)]
+pub(crate) struct Shape {
+    /// How many lines are lent.
+    pub(crate) lines: usize,
+    /// The bytes of the longest.
+    pub(crate) longest: usize,
+    /// How many spans run over several lines.
+    pub(crate) over: usize,
+}
+
+/// Where lines begin.
 struct Piece {
     in_source: usize,
     in_excerpt: usize,
@@ -54,37 +63,24 @@ fn ends_of<I: AsRef<str>>(
     in_bytes: bool,
 ) -> Vec<End> {
     let mut ends = Vec::new();
-    for span in spans {
-        let [line, last_line] = span.map(|offset| source.line_number(offset, in_bytes));
+    for [first, last] in spans {
+        let line = source.line_number(first, in_bytes);
+        let last_line = if first == last { line } else { source.line_number(last, in_bytes) };
         ends.push(End { line, last_line });
         if line < last_line {
             ends.push(End { line: last_line, last_line });
         }
     }
-    ends.sort_unstable_by_key(|end| end.line);
+    if !ends.is_sorted_by_key(|end| end.line) {
+        ends.sort_unstable_by_key(|end| end.line);
+    }
     ends
 }
 
 impl Excerpt {
-    /// The whole source, or of a long one what these spans need, each given by the offsets of its first and its
-    /// last character.
+    /// What these spans need, each given by the offsets of its first and its last character: the lines that
+    /// they begin or end on, those near them, and what stands for those between.
     pub(crate) fn new<I: AsRef<str>>(
-        source: &Source<I>,
-        spans: impl Iterator<Item = [usize; 2]>,
-        config: &Config,
-    ) -> Excerpt {
-        if source.text().len() >= LONG {
-            return Excerpt::of_lines(source, spans, config);
-        }
-        Excerpt {
-            text: source.text().to_string(),
-            line_offset: source.display_line_offset(),
-            pieces: Vec::new(),
-        }
-    }
-
-    /// The lines that these spans begin or end on, those near them, and what stands for those between.
-    fn of_lines<I: AsRef<str>>(
         source: &Source<I>,
         spans: impl Iterator<Item = [usize; 2]>,
         config: &Config,
@@ -95,17 +91,22 @@ impl Excerpt {
         let mut excerpt = Excerpt {
             text: String::new(),
             line_offset: source.display_line_offset().saturating_add(first),
+            shape: Shape::default(),
             pieces: Vec::new(),
         };
         let (mut next, mut reached, mut len) = (first, first, 0);
         for end in ends {
             let near = end.lines_near(source, config.context_lines);
             if next < *near.start() {
-                len += excerpt.hide(source, next..*near.start(), end.line <= reached);
+                len += excerpt.hide(source, next..=near.start() - 1, end.line <= reached);
             }
-            for line in next.max(*near.start())..=*near.end() {
-                len += excerpt.lend(len, source.line_with_text(line, in_bytes));
+            let lent = next.max(*near.start())..=*near.end();
+            if !lent.is_empty() {
+                excerpt.shape.lines += lent.end() - lent.start() + 1;
+                excerpt.shape.longest = excerpt.shape.longest.max(source.longest_of(lent.clone()));
+                len += excerpt.lend(len, source.lines_with_text(lent, in_bytes));
             }
+            excerpt.shape.over += usize::from(end.line < end.last_line);
             next = next.max(near.end() + 1);
             reached = reached.max(end.last_line);
         }
@@ -114,18 +115,26 @@ impl Excerpt {
 
     /// Appends what stands for these lines: empty lines, and where a span runs over them blanks for all their
     /// other characters. Returns how many characters that are, each of one byte.
-    fn hide<I: AsRef<str>>(&mut self, source: &Source<I>, lines: Range<usize>, is_within: bool) -> usize {
-        let count = lines.len();
+    fn hide<I: AsRef<str>>(
+        &mut self,
+        source: &Source<I>,
+        lines: RangeInclusive<usize>,
+        is_within: bool,
+    ) -> usize {
+        let count = lines.end() - lines.start() + 1;
         let len = if is_within { source.len_of(lines) } else { count };
         self.text.push_str(&BLANK.repeat(len - count));
         self.text.push_str(&EMPTY_LINE.repeat(count));
         len
     }
 
-    /// Appends a line that starts here, given by its start in the source, its length and its text. Returns its
-    /// length.
+    /// Appends lines that start here, given by their start in the source, their length and their text. Returns
+    /// their length.
     fn lend(&mut self, in_excerpt: usize, (in_source, len, text): (usize, usize, &str)) -> usize {
-        self.pieces.push(Piece { in_source, in_excerpt });
+        let follows = |last: &Piece| in_source - last.in_source == in_excerpt - last.in_excerpt;
+        if !self.pieces.last().is_some_and(follows) {
+            self.pieces.push(Piece { in_source, in_excerpt });
+        }
         self.text.push_str(text);
         len
     }
@@ -141,7 +150,7 @@ impl Excerpt {
 
 #[cfg(test)]
 mod tests {
-    use super::Excerpt;
+    use super::{Excerpt, Shape};
     use crate::{CharSet, Color, Config, IndexType, Label, Report, ReportKind, Source};
     use std::ops::Range;
 
@@ -151,40 +160,25 @@ mod tests {
     const TEXT: &str =
         "ab\r\n\u{e9}c\n\nd\r\re\u{2028}f\x0bg\u{6f22}\u{e9}ggggggggggggh\x0ci\u{85}j\n\r\nk\u{6f22}l\nm";
 
-    /// The picture of two labels, over a text with a line offset. Without a word the first only marks.
-    fn picture(
-        (text, line_offset): (&str, usize),
-        word: Option<&str>,
-        spans: &[Range<usize>; 2],
-        at: usize,
-        config: Config,
-    ) -> String {
+    /// A report of two labels. Without a word the first only marks.
+    fn report(word: Option<&str>, spans: &[Range<usize>; 2], at: usize, config: Config) -> Report<'static> {
         let mut first = Label::new(spans[0].clone()).with_color(Color::Red);
         if let Some(word) = word {
             first = first.with_message(word);
         }
-        let mut out = Vec::new();
         Report::build(ReportKind::Error, at..at)
             .with_config(config)
             .with_label(first)
             .with_label(Label::new(spans[1].clone()).with_message("y").with_color(Color::Blue))
             .finish()
-            .write(Source::from(text).with_display_line_offset(line_offset), &mut out)
-            .unwrap();
-        String::from_utf8(out).unwrap()
     }
 
-    /// Asserts that an excerpt draws as the whole text.
-    fn assert_draws_alike(word: Option<&str>, spans: &[Range<usize>; 2], at: usize, config: Config) {
-        let source = Source::from(TEXT).with_display_line_offset(7);
-        let touched = spans.iter().map(crate::write::touched).chain([[at; 2]]);
-        let excerpt = Excerpt::of_lines(&source, touched, &config);
-        let moved = spans.clone().map(|span| crate::write::placed(&excerpt, &span));
-        assert_eq!(
-            picture((&excerpt.text, excerpt.line_offset), word, &moved, excerpt.place(at), config),
-            picture((TEXT, 7), word, spans, at, config),
-            "{spans:?} at {at}, {config:?}"
-        );
+    /// Asserts that a report is drawn over a text with a line offset as it is where that is lent whole.
+    fn assert_draws_alike(text: &str, report: &Report<'_>) {
+        let whole = Excerpt { text: text.to_string(), line_offset: 7, shape: Shape::default(), pieces: Vec::new() };
+        let mut out = Vec::new();
+        report.write(Source::from(text).with_display_line_offset(7), &mut out).unwrap();
+        assert_eq!(String::from_utf8(out).unwrap(), report.picture_over(whole), "{report:?}");
     }
 
     #[test]
@@ -192,9 +186,9 @@ mod tests {
         let source = Source::from("ab\ncd\u{e9}fg\nij\n");
         for (index, last) in [(IndexType::Char, 9), (IndexType::Byte, 10)] {
             let config = PLAIN.with_index_type(index);
-            let apart = Excerpt::of_lines(&source, [[0, 1], [last, last]].into_iter(), &config);
+            let apart = Excerpt::new(&source, [[0, 1], [last, last]].into_iter(), &config);
             assert_eq!(apart.text, "ab\n\x0cij\n");
-            let over = Excerpt::of_lines(&source, [[0, last]].into_iter(), &config);
+            let over = Excerpt::new(&source, [[0, last]].into_iter(), &config);
             assert_eq!(over.text, "ab\n     \x0cij\n");
         }
     }
@@ -209,10 +203,10 @@ mod tests {
             (usize::MAX, source.text(), source.text()),
         ] {
             let config = PLAIN.with_context_lines(context_lines);
-            assert_eq!(Excerpt::of_lines(&source, [[0, 1]].into_iter(), &config).text, first);
-            assert_eq!(Excerpt::of_lines(&source, [[0, 1], [12, 13]].into_iter(), &config).text, both);
+            assert_eq!(Excerpt::new(&source, [[0, 1]].into_iter(), &config).text, first);
+            assert_eq!(Excerpt::new(&source, [[0, 1], [12, 13]].into_iter(), &config).text, both);
         }
-        let middle = Excerpt::of_lines(&source, [[9, 9]].into_iter(), &PLAIN.with_context_lines(1));
+        let middle = Excerpt::new(&source, [[9, 9]].into_iter(), &PLAIN.with_context_lines(1));
         assert_eq!((middle.text.as_str(), middle.line_offset, middle.place(9)), ("ef\ngh\nij\n", 2, 3));
     }
 
@@ -225,7 +219,8 @@ mod tests {
                     let config = PLAIN.with_index_type(index).with_context_lines(end % 3);
                     for other in [half..half + 2, 0..half, 4..len] {
                         for word in [Some("x"), None] {
-                            assert_draws_alike(word, &[start..end, other.clone()], end / 3, config);
+                            let spans = [start..end, other.clone()];
+                            assert_draws_alike(TEXT, &report(word, &spans, end / 3, config));
                         }
                     }
                 }
@@ -235,11 +230,9 @@ mod tests {
 
     #[test]
     fn lines_behind_change_no_picture() {
-        let text = "aa\nbbbbbbbb\ncc\ndddd\nee\n";
-        let long = text.to_string() + &"z\n".repeat(1 << 15);
+        let text = "aa\nbbbbbbbb\ncc\ndddd\nee\n".to_string() + &"z\n".repeat(1 << 15);
         for (word, spans) in [(Some("x"), [0..4, 11..16]), (None, [0..8, 6..16])] {
-            let [short, long] = [text, &long].map(|it| picture((it, 0), word, &spans, 0, PLAIN));
-            assert_eq!(long, short, "{spans:?}");
+            assert_draws_alike(&text, &report(word, &spans, 0, PLAIN));
         }
     }
 }

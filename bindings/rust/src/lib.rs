@@ -31,6 +31,7 @@
 //! ```
 #![deny(missing_docs, unsafe_op_in_unsafe_fn)]
 
+mod blocks;
 mod cache;
 mod call;
 mod color;

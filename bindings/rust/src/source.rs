@@ -1,10 +1,8 @@
 //! Texts, and their lines.
 
+use crate::blocks;
 use crate::span::Span;
-use std::ops::Range;
-
-/// What ends a line; of CR LF both are one end.
-const SEPARATORS: [char; 7] = ['\r', '\n', '\x0b', '\x0c', '\u{85}', '\u{2028}', '\u{2029}'];
+use std::ops::{Range, RangeInclusive};
 
 /// A line of a source.
 #[derive(Clone, Copy, Debug, Hash, PartialEq, Eq)]
@@ -45,6 +43,11 @@ impl Line {
     fn behind(&self) -> Line {
         Line { offset: self.offset + self.len, len: 0, byte_offset: self.byte_offset + self.byte_len, byte_len: 0 }
     }
+
+    /// The line that starts there and ends at these offsets, in characters and in bytes.
+    fn up_to(self, offset: usize, byte_offset: usize) -> Line {
+        Line { len: offset - self.offset, byte_len: byte_offset - self.byte_offset, ..self }
+    }
 }
 
 /// A text with lines.
@@ -67,20 +70,31 @@ impl<I: AsRef<str>> From<I> for Source<I> {
 fn lines_of(text: &str) -> Vec<Line> {
     let mut lines = Vec::new();
     let mut line = Line { offset: 0, len: 0, byte_offset: 0, byte_len: 0 };
-    let mut characters = text.chars().peekable();
-    while let Some(character) = characters.next() {
-        line.len += 1;
-        line.byte_len += character.len_utf8();
-        let is_within = character == '\r' && characters.peek() == Some(&'\n');
-        if SEPARATORS.contains(&character) && !is_within {
+    let chars = blocks::each_end(text, |place| {
+        let end = end_of(&text.as_bytes()[place.bytes..]);
+        if let Some((bytes, chars)) = end.filter(|_| line.byte_offset <= place.bytes) {
+            line = line.up_to(place.chars + chars, place.bytes + bytes);
             lines.push(line);
             line = line.behind();
         }
-    }
+    });
+    line = line.up_to(chars, text.len());
     if lines.is_empty() || line.len > 0 {
         lines.push(line);
     }
     lines
+}
+
+/// How many bytes and characters the end of a line has that begins here, if one does.
+fn end_of(bytes: &[u8]) -> Option<(usize, usize)> {
+    match bytes {
+        [b'\n' | b'\x0b' | b'\x0c', ..] => Some((1, 1)),
+        [b'\r', b'\n', ..] => Some((2, 2)),
+        [b'\r', ..] => Some((1, 1)),
+        [0xc2, 0x85, ..] => Some((2, 1)),
+        [0xe2, 0x80, 0xa8 | 0xa9, ..] => Some((3, 1)),
+        _ => None,
+    }
 }
 
 impl<I: AsRef<str>> Source<I> {
@@ -141,16 +155,26 @@ impl<I: AsRef<str>> Source<I> {
         self.place(offset, |line| if in_bytes { line.byte_offset } else { line.offset }).1
     }
 
-    /// Where the line of this number starts, how long it is, both in bytes or in characters, and its text.
-    pub(crate) fn line_with_text(&self, number: usize, in_bytes: bool) -> (usize, usize, &str) {
-        let line = self.lines[number];
-        let text = &self.text()[line.byte_span()];
-        if in_bytes { (line.byte_offset, line.byte_len, text) } else { (line.offset, line.len, text) }
+    /// Where the first of these lines starts, and how long they are together, both in bytes or in characters,
+    /// and their text. There is one at least.
+    pub(crate) fn lines_with_text(&self, numbers: RangeInclusive<usize>, in_bytes: bool) -> (usize, usize, &str) {
+        let (first, past) = (self.lines[*numbers.start()], self.lines[*numbers.end()].behind());
+        let text = &self.text()[first.byte_offset..past.byte_offset];
+        if in_bytes {
+            (first.byte_offset, text.len(), text)
+        } else {
+            (first.offset, past.offset - first.offset, text)
+        }
     }
 
-    /// How many characters these lines have together.
-    pub(crate) fn len_of(&self, lines: Range<usize>) -> usize {
-        self.lines[lines].iter().map(Line::len).sum()
+    /// How many characters these lines have together. There is one at least.
+    pub(crate) fn len_of(&self, numbers: RangeInclusive<usize>) -> usize {
+        self.lines[*numbers.end()].behind().offset - self.lines[*numbers.start()].offset
+    }
+
+    /// How many bytes the longest of these lines has.
+    pub(crate) fn longest_of(&self, numbers: RangeInclusive<usize>) -> usize {
+        self.lines[numbers].iter().map(|line| line.byte_len).max().unwrap_or(0)
     }
 
     /// The last line that starts at most at an offset, its number, and how far the offset is behind its start.
@@ -171,5 +195,51 @@ impl<I: AsRef<str>> Source<I> {
     /// The text of a line, with its end.
     pub fn get_line_text(&self, line: Line) -> Option<&'_ str> {
         self.text().get(line.byte_span())
+    }
+}
+
+#[cfg(test)]
+mod tests {
+    use super::{Line, Source};
+
+    /// What ends a line; of CR LF both are one end.
+    const SEPARATORS: [char; 7] = ['\r', '\n', '\x0b', '\x0c', '\u{85}', '\u{2028}', '\u{2029}'];
+
+    /// The lines of a text, character by character.
+    fn lines_one_by_one(text: &str) -> Vec<Line> {
+        let mut lines = Vec::new();
+        let mut line = Line { offset: 0, len: 0, byte_offset: 0, byte_len: 0 };
+        let mut characters = text.chars().peekable();
+        while let Some(character) = characters.next() {
+            line.len += 1;
+            line.byte_len += character.len_utf8();
+            let is_within = character == '\r' && characters.peek() == Some(&'\n');
+            if SEPARATORS.contains(&character) && !is_within {
+                lines.push(line);
+                line = line.behind();
+            }
+        }
+        if lines.is_empty() || line.len > 0 {
+            lines.push(line);
+        }
+        lines
+    }
+
+    #[test]
+    fn lines_are_those_found_one_by_one() {
+        // (Beside the separators: bytes that theirs begin with, and neighbours of them.)
+        let others = ['a', '\t', '\x0e', '\u{84}', '\u{b0}', '\u{e9}', '\u{2026}', '\u{202a}', '\u{6f22}', '\u{1f600}'];
+        let characters: Vec<char> = SEPARATORS.into_iter().chain(others).collect();
+        let mut seed: usize = 1;
+        for len in 0..2000 {
+            let text: String = (0..len % 40)
+                .map(|_| {
+                    seed = seed.wrapping_mul(6364136223846793005).wrapping_add(1442695040888963407);
+                    let place = (seed >> 33) % (3 * characters.len());
+                    characters.get(place).copied().unwrap_or('b')
+                })
+                .collect();
+            assert_eq!(Source::from(text.as_str()).lines, lines_one_by_one(&text), "{text:?}");
+        }
     }
 }

@@ -4,9 +4,10 @@ use crate::cache::Cache;
 use crate::call::{draw, GivenLabel, GivenReport, GivenSource, Lent, OptionalText, Refusal, Text, NO_MEMORY};
 use crate::color::Color;
 use crate::config::{CharSet, Config, IndexType, LabelAttach};
-use crate::excerpt::Excerpt;
+use crate::excerpt::{Excerpt, Shape};
 use crate::label::Label;
 use crate::report::{Report, ReportKind};
+use crate::source::Source;
 use crate::span::Span;
 use std::io::{self, Write};
 use std::ops::Range;
@@ -33,13 +34,13 @@ impl<S: Span> Report<'_, S> {
     }
 
     /// The picture over these sources.
-    fn picture(&self, fetched: &Fetched<'_, S>) -> Result<Vec<u8>, Refusal> {
+    fn picture(&self, fetched: &Fetched) -> Result<Vec<u8>, Refusal> {
         let content = &self.content;
-        let labels: Vec<GivenLabel<'_>> = self.labels.iter().filter_map(|it| fetched.label(it)).collect();
+        let labels = fetched.labels(&self.labels);
         let helps: Vec<Text<'_>> = content.helps.iter().map(|it| Text::from(it.as_str())).collect();
         let notes: Vec<Text<'_>> = content.notes.iter().map(|it| Text::from(it.as_str())).collect();
         let (kind, kind_name, kind_color) = kind_of(content.kind);
-        let (source, start) = fetched.place(&self.span).unwrap_or((usize::MAX, 0));
+        let (source, start) = fetched.place.unwrap_or((usize::MAX, 0));
         let report = GivenReport {
             kind,
             kind_color,
@@ -57,9 +58,29 @@ impl<S: Span> Report<'_, S> {
             context_lines: content.config.context_lines,
             width: content.config.width,
         };
-        draw(&report, &fetched.given())
+        draw(&report, &fetched.given(), self.room(fetched))
+    }
+
+    /// Bytes that most pictures fit. They take memory only as far as the picture is written there.
+    fn room(&self, fetched: &Fetched) -> usize {
+        let Config { char_set, color, .. } = self.content.config;
+        let stroke = if char_set == CharSet::Ascii { 1 } else { 3 };
+        let painted = if color { 4 * stroke } else { stroke };
+        let shapes = fetched.sources.iter().map(|source| source.excerpt.shape);
+        let all = shapes.fold(Shape::default(), |all, it| Shape {
+            lines: all.lines + it.lines,
+            longest: all.longest.max(it.longest),
+            over: all.over + it.over,
+        });
+        let rows = all.lines + 3 * self.labels.len();
+        let columns = 64 + all.longest + 4 * all.over;
+        let strokes = rows.saturating_mul(columns).saturating_mul(painted);
+        strokes.min(MOST_ROOM).max(4096 + 2048 * self.labels.len())
     }
 }
+
+/// The greatest room that strokes are given.
+const MOST_ROOM: usize = 1 << 24;
 
 /// A source that was fetched.
 struct Named {
@@ -78,53 +99,86 @@ impl Named {
     }
 }
 
-/// The sources of labels, each with the first id that it was fetched by.
-struct Fetched<'a, S: Span> {
-    sources: Vec<(&'a S::SourceId, Named)>,
+/// The sources of a report's labels, as far as it needs them, and where its spans are in them.
+#[derive(Default)]
+struct Fetched {
+    sources: Vec<Named>,
+    /// The number of each label's source, and where the label is in it, if it was fetched.
+    labels: Vec<Option<(usize, Range<usize>)>>,
+    /// The same of the place that the header names.
+    place: Option<(usize, usize)>,
 }
 
-impl<'a, S: Span> Fetched<'a, S> {
+impl Fetched {
     /// Fetches the source of each label.
-    fn new<C: Cache<S::SourceId>>(report: &'a Report<'_, S>, mut cache: C) -> Fetched<'a, S> {
-        let mut fetched = Fetched { sources: Vec::new() };
-        for label in &report.labels {
-            let id = label.span.source();
-            if fetched.number(id).is_none() {
-                fetched.sources.extend(named(report, id, &mut cache).map(|source| (id, source)));
+    fn new<S: Span, C: Cache<S::SourceId>>(report: &Report<'_, S>, mut cache: C) -> Fetched {
+        let mut fetched = Fetched { labels: vec![None; report.labels.len()], ..Fetched::default() };
+        for number in 0..report.labels.len() {
+            if fetched.labels[number].is_none() {
+                fetched.fetch(report, number, &mut cache);
             }
         }
         fetched
     }
 
-    /// The number of the source with this id, if it was fetched.
-    fn number(&self, id: &S::SourceId) -> Option<usize> {
-        self.sources.iter().position(|(other, _)| *other == id)
+    /// Fetches the source of a label, which is that of others behind it too. One that can't be had is told on
+    /// standard error.
+    fn fetch<S: Span, C: Cache<S::SourceId>>(&mut self, report: &Report<'_, S>, first: usize, cache: &mut C) {
+        let id = report.labels[first].span.source();
+        let name = cache.display(id).map(|name| name.to_string());
+        match cache.fetch(id) {
+            Ok(source) => {
+                let excerpt = self.place_in(report, first, source);
+                self.sources.push(Named { name, excerpt });
+            }
+            Err(error) => eprintln!("no source '{}': {error:?}", name.as_deref().unwrap_or("<unknown>")),
+        }
     }
 
-    /// The number of a span's source, and where the span starts in what is lent of it.
-    fn place(&self, span: &S) -> Option<(usize, usize)> {
-        let number = self.number(span.source())?;
-        Some((number, self.sources[number].1.excerpt.place(span.start())))
+    /// What is lent of a label's source, in which the spans of the report that are in it get their places.
+    fn place_in<S: Span, I: AsRef<str>>(
+        &mut self,
+        report: &Report<'_, S>,
+        first: usize,
+        source: &Source<I>,
+    ) -> Excerpt {
+        let id = report.labels[first].span.source();
+        let behind = report.labels.iter().enumerate().skip(first);
+        let found = behind.filter(|(it, label)| self.labels[*it].is_none() && label.span.source() == id);
+        let spans: Vec<(usize, &S)> = found.map(|(it, label)| (it, &label.span)).collect();
+        let start = at(&report.span, id);
+        let ends = spans.iter().map(|(_, span)| touched(*span)).chain(start.map(|start| [start; 2]));
+        let excerpt = Excerpt::new(source, ends, &report.content.config);
+        let number = self.sources.len();
+        for (it, span) in spans {
+            self.labels[it] = Some((number, placed(&excerpt, span)));
+        }
+        self.place = start.map(|start| (number, excerpt.place(start))).or(self.place);
+        excerpt
     }
 
-    /// A label, if its source was fetched.
-    fn label(&self, label: &'a Label<S>) -> Option<GivenLabel<'a>> {
-        let source = self.number(label.span.source())?;
-        let Range { start, end } = placed(&self.sources[source].1.excerpt, &label.span);
-        Some(GivenLabel {
-            source,
-            start,
-            end,
-            message: OptionalText::from(label.message.as_deref()),
-            color: label.color.map_or(0, color_number),
-            order: label.order,
-            priority: label.priority,
-        })
+    /// The labels whose sources were fetched, as the library is lent them.
+    fn labels<'a, S: Span>(&self, labels: &'a [Label<S>]) -> Vec<GivenLabel<'a>> {
+        let found = self.labels.iter().zip(labels).filter_map(|(place, label)| Some((place.as_ref()?, label)));
+        found.map(|((source, range), label)| label_at(*source, range, label)).collect()
     }
 
-    /// All of them as the library is lent them.
+    /// All sources as the library is lent them.
     fn given(&self) -> Vec<GivenSource<'_>> {
-        self.sources.iter().map(|(_, source)| source.given()).collect()
+        self.sources.iter().map(Named::given).collect()
+    }
+}
+
+/// A label, in what is lent of its source.
+fn label_at<'a, S>(source: usize, range: &Range<usize>, label: &'a Label<S>) -> GivenLabel<'a> {
+    GivenLabel {
+        source,
+        start: range.start,
+        end: range.end,
+        message: OptionalText::from(label.message.as_deref()),
+        color: label.color.map_or(0, color_number),
+        order: label.order,
+        priority: label.priority,
     }
 }
 
@@ -137,26 +191,6 @@ pub(crate) fn touched<S: Span>(span: &S) -> [usize; 2] {
 pub(crate) fn placed<S: Span>(excerpt: &Excerpt, span: &S) -> Range<usize> {
     let [first, last] = touched(span).map(|offset| excerpt.place(offset));
     first..last.saturating_add(usize::from(span.start() < span.end()))
-}
-
-/// The source of an id, as far as the report needs it. One that can't be had is told on standard error.
-fn named<S: Span, C: Cache<S::SourceId>>(
-    report: &Report<'_, S>,
-    id: &S::SourceId,
-    cache: &mut C,
-) -> Option<Named> {
-    let name = cache.display(id).map(|name| name.to_string());
-    match cache.fetch(id) {
-        Ok(source) => {
-            let labelled = report.labels.iter().map(|label| &label.span).filter(|span| span.source() == id);
-            let spans = labelled.map(touched).chain(at(&report.span, id).map(|start| [start; 2]));
-            Some(Named { name, excerpt: Excerpt::new(source, spans, &report.content.config) })
-        }
-        Err(error) => {
-            eprintln!("no source '{}': {error:?}", name.as_deref().unwrap_or("<unknown>"));
-            None
-        }
-    }
 }
 
 /// Where a span starts, if it is in the source of this id.
@@ -213,5 +247,19 @@ fn error_of(Refusal(status): Refusal) -> io::Error {
     match status {
         NO_MEMORY => io::Error::from(io::ErrorKind::OutOfMemory),
         _ => io::Error::new(io::ErrorKind::InvalidInput, format!("libsewarqo refuses the report: {status}")),
+    }
+}
+
+#[cfg(test)]
+impl Report<'_, Range<usize>> {
+    /// The picture over a source without a name that is lent so, in which offsets are those of the report.
+    pub(crate) fn picture_over(&self, excerpt: Excerpt) -> String {
+        let fetched = Fetched {
+            sources: vec![Named { name: None, excerpt }],
+            labels: self.labels.iter().map(|label| Some((0, label.span.clone()))).collect(),
+            place: Some((0, self.span.start)),
+        };
+        let picture = self.picture(&fetched).unwrap_or_else(|Refusal(status)| panic!("status {status}"));
+        String::from_utf8(picture).unwrap()
     }
 }
