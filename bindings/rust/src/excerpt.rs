@@ -21,8 +21,6 @@ pub(crate) struct Excerpt {
     pub(crate) text: String,
     pub(crate) line_offset: usize,
     pub(crate) shape: Shape,
-    /// The lines that are lent, in their order, as far as each run of them stands elsewhere than the last.
-    pieces: Vec<Piece>,
 }
 
 /// What the size of a picture goes by.
@@ -36,16 +34,16 @@ pub(crate) struct Shape {
     pub(crate) over: usize,
 }
 
-/// Where lines begin.
-struct Piece {
-    in_source: usize,
-    in_excerpt: usize,
-}
+/// The offsets of a span's first and last character, in a source or in what is lent of it.
+pub(crate) type Ends = [usize; 2];
 
 /// A line that a span begins or ends on, and the last line of that span.
 struct End {
     line: usize,
     last_line: usize,
+    /// The number of the span, and which of its ends are on this line.
+    span: usize,
+    sides: RangeInclusive<usize>,
 }
 
 impl End {
@@ -57,19 +55,19 @@ impl End {
 }
 
 /// The lines that these spans begin or end on, in their order. A line is there as often as one does.
-fn ends_of<I: AsRef<str>>(
-    source: &Source<I>,
-    spans: impl Iterator<Item = [usize; 2]>,
-    in_bytes: bool,
-) -> Vec<End> {
-    let mut ends = Vec::new();
-    for [first, last] in spans {
-        let line = source.line_number(first, in_bytes);
-        let last_line = if first == last { line } else { source.line_number(last, in_bytes) };
-        ends.push(End { line, last_line });
-        if line < last_line {
-            ends.push(End { line: last_line, last_line });
+fn ends_of<I: AsRef<str>>(source: &Source<I>, spans: &[Ends], in_bytes: bool) -> Vec<End> {
+    let mut ends = Vec::with_capacity(spans.len());
+    let mut near = 0;
+    for (span, [first, last]) in spans.iter().enumerate() {
+        let line = source.line_number(*first, in_bytes, near);
+        let last_line = source.line_number(*last, in_bytes, line);
+        if line == last_line {
+            ends.push(End { line, last_line, span, sides: 0..=1 });
+        } else {
+            ends.push(End { line, last_line, span, sides: 0..=0 });
+            ends.push(End { line: last_line, last_line, span, sides: 1..=1 });
         }
+        near = line;
     }
     if !ends.is_sorted_by_key(|end| end.line) {
         ends.sort_unstable_by_key(|end| end.line);
@@ -78,37 +76,36 @@ fn ends_of<I: AsRef<str>>(
 }
 
 impl Excerpt {
-    /// What these spans need, each given by the offsets of its first and its last character: the lines that
-    /// they begin or end on, those near them, and what stands for those between.
-    pub(crate) fn new<I: AsRef<str>>(
-        source: &Source<I>,
-        spans: impl Iterator<Item = [usize; 2]>,
-        config: &Config,
-    ) -> Excerpt {
+    /// What these spans need: the lines that they begin or end on, those near them, and what stands for those
+    /// between. The spans become those in what is lent.
+    pub(crate) fn new<I: AsRef<str>>(source: &Source<I>, spans: &mut [Ends], config: &Config) -> Excerpt {
         let in_bytes = config.index_type == IndexType::Byte;
         let ends = ends_of(source, spans, in_bytes);
-        let first = ends.first().map_or(0, |end| end.line.saturating_sub(config.context_lines));
-        let mut excerpt = Excerpt {
-            text: String::new(),
-            line_offset: source.display_line_offset().saturating_add(first),
-            shape: Shape::default(),
-            pieces: Vec::new(),
-        };
-        let (mut next, mut reached, mut len) = (first, first, 0);
+        let mut next = ends.first().map_or(0, |end| end.line.saturating_sub(config.context_lines));
+        let line_offset = source.display_line_offset().saturating_add(next);
+        let mut excerpt = Excerpt { text: String::new(), line_offset, shape: Shape::default() };
+        let (mut reached, mut len) = (next, 0);
+        let mut run = [0; 2]; // where the lines begin that were lent last, in the source and here
         for end in ends {
             let near = end.lines_near(source, config.context_lines);
-            if next < *near.start() {
+            let is_apart = next < *near.start();
+            if is_apart {
                 len += excerpt.hide(source, next..=near.start() - 1, end.line <= reached);
             }
             let lent = next.max(*near.start())..=*near.end();
             if !lent.is_empty() {
-                excerpt.shape.lines += lent.end() - lent.start() + 1;
-                excerpt.shape.longest = excerpt.shape.longest.max(source.longest_of(lent.clone()));
-                len += excerpt.lend(len, source.lines_with_text(lent, in_bytes));
+                let (start, lent_len) = excerpt.lend(source, lent, in_bytes);
+                if is_apart || len == 0 {
+                    run = [start, len];
+                }
+                len += lent_len;
             }
-            excerpt.shape.over += usize::from(end.line < end.last_line);
+            for side in end.sides {
+                spans[end.span][side] = run[1] + (spans[end.span][side] - run[0]);
+            }
             next = next.max(near.end() + 1);
             reached = reached.max(end.last_line);
+            excerpt.shape.over += usize::from(end.line < end.last_line);
         }
         excerpt
     }
@@ -123,28 +120,25 @@ impl Excerpt {
     ) -> usize {
         let count = lines.end() - lines.start() + 1;
         let len = if is_within { source.len_of(lines) } else { count };
-        self.text.push_str(&BLANK.repeat(len - count));
+        if count < len {
+            self.text.push_str(&BLANK.repeat(len - count));
+        }
         self.text.push_str(&EMPTY_LINE.repeat(count));
         len
     }
 
-    /// Appends lines that start here, given by their start in the source, their length and their text. Returns
-    /// their length.
-    fn lend(&mut self, in_excerpt: usize, (in_source, len, text): (usize, usize, &str)) -> usize {
-        let follows = |last: &Piece| in_source - last.in_source == in_excerpt - last.in_excerpt;
-        if !self.pieces.last().is_some_and(follows) {
-            self.pieces.push(Piece { in_source, in_excerpt });
-        }
+    /// Appends these lines. Returns where the first of them starts in the source, and how long they are.
+    fn lend<I: AsRef<str>>(
+        &mut self,
+        source: &Source<I>,
+        lines: RangeInclusive<usize>,
+        in_bytes: bool,
+    ) -> (usize, usize) {
+        self.shape.lines += lines.end() - lines.start() + 1;
+        self.shape.longest = self.shape.longest.max(source.longest_of(lines.clone()));
+        let (start, len, text) = source.lines_with_text(lines, in_bytes);
         self.text.push_str(text);
-        len
-    }
-
-    /// Where an offset into the source, on a line that is lent, is in what is lent.
-    pub(crate) fn place(&self, offset: usize) -> usize {
-        match self.pieces.partition_point(|piece| piece.in_source <= offset) {
-            0 => offset,
-            past => self.pieces[past - 1].in_excerpt + (offset - self.pieces[past - 1].in_source),
-        }
+        (start, len)
     }
 }
 
@@ -175,7 +169,7 @@ mod tests {
 
     /// Asserts that a report is drawn over a text with a line offset as it is where that is lent whole.
     fn assert_draws_alike(text: &str, report: &Report<'_>) {
-        let whole = Excerpt { text: text.to_string(), line_offset: 7, shape: Shape::default(), pieces: Vec::new() };
+        let whole = Excerpt { text: text.to_string(), line_offset: 7, shape: Shape::default() };
         let mut out = Vec::new();
         report.write(Source::from(text).with_display_line_offset(7), &mut out).unwrap();
         assert_eq!(String::from_utf8(out).unwrap(), report.picture_over(whole), "{report:?}");
@@ -186,9 +180,9 @@ mod tests {
         let source = Source::from("ab\ncd\u{e9}fg\nij\n");
         for (index, last) in [(IndexType::Char, 9), (IndexType::Byte, 10)] {
             let config = PLAIN.with_index_type(index);
-            let apart = Excerpt::new(&source, [[0, 1], [last, last]].into_iter(), &config);
+            let apart = Excerpt::new(&source, &mut [[0, 1], [last, last]], &config);
             assert_eq!(apart.text, "ab\n\x0cij\n");
-            let over = Excerpt::new(&source, [[0, last]].into_iter(), &config);
+            let over = Excerpt::new(&source, &mut [[0, last]], &config);
             assert_eq!(over.text, "ab\n     \x0cij\n");
         }
     }
@@ -203,11 +197,12 @@ mod tests {
             (usize::MAX, source.text(), source.text()),
         ] {
             let config = PLAIN.with_context_lines(context_lines);
-            assert_eq!(Excerpt::new(&source, [[0, 1]].into_iter(), &config).text, first);
-            assert_eq!(Excerpt::new(&source, [[0, 1], [12, 13]].into_iter(), &config).text, both);
+            assert_eq!(Excerpt::new(&source, &mut [[0, 1]], &config).text, first);
+            assert_eq!(Excerpt::new(&source, &mut [[0, 1], [12, 13]], &config).text, both);
         }
-        let middle = Excerpt::new(&source, [[9, 9]].into_iter(), &PLAIN.with_context_lines(1));
-        assert_eq!((middle.text.as_str(), middle.line_offset, middle.place(9)), ("ef\ngh\nij\n", 2, 3));
+        let mut spans = [[9, 9]];
+        let middle = Excerpt::new(&source, &mut spans, &PLAIN.with_context_lines(1));
+        assert_eq!((middle.text.as_str(), middle.line_offset, spans), ("ef\ngh\nij\n", 2, [[3, 3]]));
     }
 
     #[test]

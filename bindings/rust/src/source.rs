@@ -39,14 +39,9 @@ impl Line {
         self.byte_offset..self.byte_offset + self.byte_len
     }
 
-    /// The place behind it, as the beginning of a line that has no characters yet.
+    /// The place behind it, as a line that has no characters yet.
     fn behind(&self) -> Line {
         Line { offset: self.offset + self.len, len: 0, byte_offset: self.byte_offset + self.byte_len, byte_len: 0 }
-    }
-
-    /// The line that starts there and ends at these offsets, in characters and in bytes.
-    fn up_to(self, offset: usize, byte_offset: usize) -> Line {
-        Line { len: offset - self.offset, byte_len: byte_offset - self.byte_offset, ..self }
     }
 }
 
@@ -69,18 +64,19 @@ impl<I: AsRef<str>> From<I> for Source<I> {
 /// The lines of a text. An empty text has one.
 fn lines_of(text: &str) -> Vec<Line> {
     let mut lines = Vec::new();
-    let mut line = Line { offset: 0, len: 0, byte_offset: 0, byte_len: 0 };
+    let (mut offset, mut byte_offset) = (0, 0);
     let chars = blocks::each_end(text, |place| {
-        let end = end_of(&text.as_bytes()[place.bytes..]);
-        if let Some((bytes, chars)) = end.filter(|_| line.byte_offset <= place.bytes) {
-            line = line.up_to(place.chars + chars, place.bytes + bytes);
-            lines.push(line);
-            line = line.behind();
+        if place.bytes < byte_offset {
+            return; // (the line feed of a CR LF)
+        }
+        if let Some((bytes, chars)) = end_of(&text.as_bytes()[place.bytes..]) {
+            let (past, past_byte) = (place.chars + chars, place.bytes + bytes);
+            lines.push(Line { offset, len: past - offset, byte_offset, byte_len: past_byte - byte_offset });
+            (offset, byte_offset) = (past, past_byte);
         }
     });
-    line = line.up_to(chars, text.len());
-    if lines.is_empty() || line.len > 0 {
-        lines.push(line);
+    if lines.is_empty() || byte_offset < text.len() {
+        lines.push(Line { offset, len: chars - offset, byte_offset, byte_len: text.len() - byte_offset });
     }
     lines
 }
@@ -151,8 +147,14 @@ impl<I: AsRef<str>> Source<I> {
     }
 
     /// The number of the line that an offset is on, in bytes or in characters. One past the end is on the last.
-    pub(crate) fn line_number(&self, offset: usize, in_bytes: bool) -> usize {
-        self.place(offset, |line| if in_bytes { line.byte_offset } else { line.offset }).1
+    /// It is looked for at the line `near` first.
+    pub(crate) fn line_number(&self, offset: usize, in_bytes: bool, near: usize) -> usize {
+        let start = |line: &Line| if in_bytes { line.byte_offset } else { line.offset };
+        let is_before = |number: usize| self.lines.get(number).is_some_and(|line| start(line) <= offset);
+        if is_before(near) && !is_before(near + 1) {
+            return near;
+        }
+        self.place(offset, start).1
     }
 
     /// Where the first of these lines starts, and how long they are together, both in bytes or in characters,

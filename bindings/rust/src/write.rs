@@ -4,7 +4,7 @@ use crate::cache::Cache;
 use crate::call::{draw, GivenLabel, GivenReport, GivenSource, Lent, OptionalText, Refusal, Text, NO_MEMORY};
 use crate::color::Color;
 use crate::config::{CharSet, Config, IndexType, LabelAttach};
-use crate::excerpt::{Excerpt, Shape};
+use crate::excerpt::{Ends, Excerpt, Shape};
 use crate::label::Label;
 use crate::report::{Report, ReportKind};
 use crate::source::Source;
@@ -34,13 +34,12 @@ impl<S: Span> Report<'_, S> {
     }
 
     /// The picture over these sources.
-    fn picture(&self, fetched: &Fetched) -> Result<Vec<u8>, Refusal> {
+    fn picture(&self, fetched: &Fetched<'_>) -> Result<Vec<u8>, Refusal> {
         let content = &self.content;
-        let labels = fetched.labels(&self.labels);
         let helps: Vec<Text<'_>> = content.helps.iter().map(|it| Text::from(it.as_str())).collect();
         let notes: Vec<Text<'_>> = content.notes.iter().map(|it| Text::from(it.as_str())).collect();
         let (kind, kind_name, kind_color) = kind_of(content.kind);
-        let (source, start) = fetched.place.unwrap_or((usize::MAX, 0));
+        let (source, start) = fetched.place.unwrap_or((NO_SOURCE, 0));
         let report = GivenReport {
             kind,
             kind_color,
@@ -49,7 +48,7 @@ impl<S: Span> Report<'_, S> {
             message: Text::from(content.message.as_deref().unwrap_or("")),
             source,
             start,
-            labels: Lent::from(labels.as_slice()),
+            labels: Lent::from(fetched.labels.as_slice()),
             helps: Lent::from(helps.as_slice()),
             notes: Lent::from(notes.as_slice()),
             flags: flags_of(&content.config),
@@ -62,7 +61,7 @@ impl<S: Span> Report<'_, S> {
     }
 
     /// Bytes that most pictures fit. They take memory only as far as the picture is written there.
-    fn room(&self, fetched: &Fetched) -> usize {
+    fn room(&self, fetched: &Fetched<'_>) -> usize {
         let Config { char_set, color, .. } = self.content.config;
         let stroke = if char_set == CharSet::Ascii { 1 } else { 3 };
         let painted = if color { 4 * stroke } else { stroke };
@@ -100,24 +99,28 @@ impl Named {
 }
 
 /// The sources of a report's labels, as far as it needs them, and where its spans are in them.
-#[derive(Default)]
-struct Fetched {
+struct Fetched<'a> {
     sources: Vec<Named>,
-    /// The number of each label's source, and where the label is in it, if it was fetched.
-    labels: Vec<Option<(usize, Range<usize>)>>,
-    /// The same of the place that the header names.
+    /// All labels. One whose source was not fetched has no source.
+    labels: Vec<GivenLabel<'a>>,
+    /// The number of the source that the header's place is in, and where, if it was fetched.
     place: Option<(usize, usize)>,
 }
 
-impl Fetched {
+/// The number of no source.
+const NO_SOURCE: usize = usize::MAX;
+
+impl<'a> Fetched<'a> {
     /// Fetches the source of each label.
-    fn new<S: Span, C: Cache<S::SourceId>>(report: &Report<'_, S>, mut cache: C) -> Fetched {
-        let mut fetched = Fetched { labels: vec![None; report.labels.len()], ..Fetched::default() };
+    fn new<S: Span, C: Cache<S::SourceId>>(report: &'a Report<'_, S>, mut cache: C) -> Fetched<'a> {
+        let labels = report.labels.iter().map(label_without_source).collect();
+        let mut fetched = Fetched { sources: Vec::new(), labels, place: None };
         for number in 0..report.labels.len() {
-            if fetched.labels[number].is_none() {
+            if fetched.labels[number].source == NO_SOURCE {
                 fetched.fetch(report, number, &mut cache);
             }
         }
+        fetched.labels.retain(|label| label.source != NO_SOURCE);
         fetched
     }
 
@@ -143,24 +146,26 @@ impl Fetched {
         source: &Source<I>,
     ) -> Excerpt {
         let id = report.labels[first].span.source();
-        let behind = report.labels.iter().enumerate().skip(first);
-        let found = behind.filter(|(it, label)| self.labels[*it].is_none() && label.span.source() == id);
-        let spans: Vec<(usize, &S)> = found.map(|(it, label)| (it, &label.span)).collect();
-        let start = at(&report.span, id);
-        let ends = spans.iter().map(|(_, span)| touched(*span)).chain(start.map(|start| [start; 2]));
-        let excerpt = Excerpt::new(source, ends, &report.content.config);
-        let number = self.sources.len();
-        for (it, span) in spans {
-            self.labels[it] = Some((number, placed(&excerpt, span)));
+        let (mut members, mut spans) = (Vec::new(), Vec::new());
+        for (number, label) in report.labels.iter().enumerate().skip(first) {
+            if self.labels[number].source == NO_SOURCE && label.span.source() == id {
+                members.push(number);
+                spans.push(touched(&label.span));
+            }
         }
-        self.place = start.map(|start| (number, excerpt.place(start))).or(self.place);
+        let has_place = report.span.source() == id;
+        spans.extend(has_place.then(|| [report.span.start(); 2]));
+        let excerpt = Excerpt::new(source, &mut spans, &report.content.config);
+        let number = self.sources.len();
+        for (member, [start, last]) in members.into_iter().zip(&spans) {
+            let (label, is_empty) = (&mut self.labels[member], report.labels[member].span.is_empty());
+            (label.source, label.start) = (number, *start);
+            label.end = last.saturating_add(usize::from(!is_empty));
+        }
+        if has_place {
+            self.place = spans.last().map(|[start, _]| (number, *start));
+        }
         excerpt
-    }
-
-    /// The labels whose sources were fetched, as the library is lent them.
-    fn labels<'a, S: Span>(&self, labels: &'a [Label<S>]) -> Vec<GivenLabel<'a>> {
-        let found = self.labels.iter().zip(labels).filter_map(|(place, label)| Some((place.as_ref()?, label)));
-        found.map(|((source, range), label)| label_at(*source, range, label)).collect()
     }
 
     /// All sources as the library is lent them.
@@ -169,12 +174,12 @@ impl Fetched {
     }
 }
 
-/// A label, in what is lent of its source.
-fn label_at<'a, S>(source: usize, range: &Range<usize>, label: &'a Label<S>) -> GivenLabel<'a> {
+/// A label whose source is not fetched yet.
+fn label_without_source<S>(label: &Label<S>) -> GivenLabel<'_> {
     GivenLabel {
-        source,
-        start: range.start,
-        end: range.end,
+        source: NO_SOURCE,
+        start: 0,
+        end: 0,
         message: OptionalText::from(label.message.as_deref()),
         color: label.color.map_or(0, color_number),
         order: label.order,
@@ -183,19 +188,8 @@ fn label_at<'a, S>(source: usize, range: &Range<usize>, label: &'a Label<S>) -> 
 }
 
 /// The offsets of a span's first and last character.
-pub(crate) fn touched<S: Span>(span: &S) -> [usize; 2] {
+fn touched<S: Span>(span: &S) -> Ends {
     [span.start(), span.end().saturating_sub(1).max(span.start())]
-}
-
-/// Where a span is in what is lent of its source.
-pub(crate) fn placed<S: Span>(excerpt: &Excerpt, span: &S) -> Range<usize> {
-    let [first, last] = touched(span).map(|offset| excerpt.place(offset));
-    first..last.saturating_add(usize::from(span.start() < span.end()))
-}
-
-/// Where a span starts, if it is in the source of this id.
-fn at<S: Span>(span: &S, id: &S::SourceId) -> Option<usize> {
-    (span.source() == id).then(|| span.start())
 }
 
 /// A kind by its number, its name and the number of its colour.
@@ -254,9 +248,13 @@ fn error_of(Refusal(status): Refusal) -> io::Error {
 impl Report<'_, Range<usize>> {
     /// The picture over a source without a name that is lent so, in which offsets are those of the report.
     pub(crate) fn picture_over(&self, excerpt: Excerpt) -> String {
+        let placed = self.labels.iter().map(|label| {
+            let Range { start, end } = label.span;
+            GivenLabel { source: 0, start, end, ..label_without_source(label) }
+        });
         let fetched = Fetched {
             sources: vec![Named { name: None, excerpt }],
-            labels: self.labels.iter().map(|label| Some((0, label.span.clone()))).collect(),
+            labels: placed.collect(),
             place: Some((0, self.span.start)),
         };
         let picture = self.picture(&fetched).unwrap_or_else(|Refusal(status)| panic!("status {status}"));
