@@ -4,7 +4,7 @@
 //! begins or ends on, those that are shown near them, and the header's. Each line keeps its number: those in
 //! front are counted by the line offset, and for each one between stands an empty one. And each label keeps its
 //! length, since the gutter and the colours go by it: where a label runs over hidden lines, blanks stand for
-//! their characters.
+//! their characters. Where the lines of all spans are few they are lent as they are.
 
 use crate::config::{Config, IndexType};
 use crate::source::Source;
@@ -12,6 +12,10 @@ use std::ops::RangeInclusive;
 
 /// An empty line. (Its end joins no character beside it, as a line feed would join a carriage return.)
 const EMPTY_LINE: &str = "\x0c";
+
+/// Lines for each span that are lent whole, also where nothing is shown of some. To read them takes less than to
+/// find which these are.
+const FEW_LINES: usize = 2;
 
 /// What stands for a character of a hidden line. (It is one byte, so it counts as one in bytes too.)
 const BLANK: &str = " ";
@@ -30,7 +34,7 @@ pub(crate) struct Shape {
     pub(crate) lines: usize,
     /// The bytes of the longest.
     pub(crate) longest: usize,
-    /// How many spans run over several lines.
+    /// How many spans run over several lines, as far as that is seen.
     pub(crate) over: usize,
 }
 
@@ -76,9 +80,40 @@ fn ends_of<I: AsRef<str>>(source: &Source<I>, spans: &[Ends], in_bytes: bool) ->
 }
 
 impl Excerpt {
-    /// What these spans need: the lines that they begin or end on, those near them, and what stands for those
-    /// between. The spans become those in what is lent.
+    /// What these spans need, of which there is one at least. They become those in what is lent.
     pub(crate) fn new<I: AsRef<str>>(source: &Source<I>, spans: &mut [Ends], config: &Config) -> Excerpt {
+        let (first, last) = spans.iter().fold((usize::MAX, 0), |(first, last), [start, end]| {
+            (first.min(*start), last.max(*end))
+        });
+        let in_bytes = config.index_type == IndexType::Byte;
+        let first = source.line_number(first, in_bytes, 0);
+        let last = source.line_number(last, in_bytes, first);
+        if last - first > FEW_LINES * spans.len() {
+            return Excerpt::of_lines_apart(source, spans, config);
+        }
+        let past = last.saturating_add(config.context_lines).min(source.lines().len() - 1);
+        Excerpt::of_lines(source, first.saturating_sub(config.context_lines)..=past, spans, in_bytes)
+    }
+
+    /// All these lines, in which the spans are.
+    fn of_lines<I: AsRef<str>>(
+        source: &Source<I>,
+        lines: RangeInclusive<usize>,
+        spans: &mut [Ends],
+        in_bytes: bool,
+    ) -> Excerpt {
+        let line_offset = source.display_line_offset().saturating_add(*lines.start());
+        let mut excerpt = Excerpt { text: String::new(), line_offset, shape: Shape::default() };
+        let (start, _) = excerpt.lend(source, lines, in_bytes);
+        for span in spans {
+            *span = span.map(|offset| offset - start);
+            excerpt.shape.over += usize::from(span[1] - span[0] >= excerpt.shape.longest);
+        }
+        excerpt
+    }
+
+    /// The lines that these spans begin or end on, those near them, and what stands for those between.
+    fn of_lines_apart<I: AsRef<str>>(source: &Source<I>, spans: &mut [Ends], config: &Config) -> Excerpt {
         let in_bytes = config.index_type == IndexType::Byte;
         let ends = ends_of(source, spans, in_bytes);
         let mut next = ends.first().map_or(0, |end| end.line.saturating_sub(config.context_lines));
@@ -145,6 +180,7 @@ impl Excerpt {
 #[cfg(test)]
 mod tests {
     use super::{Excerpt, Shape};
+    use crate::write::touched;
     use crate::{CharSet, Color, Config, IndexType, Label, Report, ReportKind, Source};
     use std::ops::Range;
 
@@ -167,12 +203,20 @@ mod tests {
             .finish()
     }
 
-    /// Asserts that a report is drawn over a text with a line offset as it is where that is lent whole.
-    fn assert_draws_alike(text: &str, report: &Report<'_>) {
+    /// Asserts that a report is drawn over a text with a line offset as it is where that is lent whole: as it is
+    /// written, and where lines apart are lent.
+    fn assert_draws_alike(text: &str, word: Option<&str>, spans: &[Range<usize>; 2], at: usize, config: Config) {
+        let source = Source::from(text).with_display_line_offset(7);
         let whole = Excerpt { text: text.to_string(), line_offset: 7, shape: Shape::default() };
+        let want = report(word, spans, at, config).picture_over(whole);
         let mut out = Vec::new();
-        report.write(Source::from(text).with_display_line_offset(7), &mut out).unwrap();
-        assert_eq!(String::from_utf8(out).unwrap(), report.picture_over(whole), "{report:?}");
+        report(word, spans, at, config).write(&source, &mut out).unwrap();
+        assert_eq!(String::from_utf8(out).unwrap(), want, "{spans:?} at {at}, {config:?}");
+        let mut ends = [touched(&spans[0]), touched(&spans[1]), [at; 2]];
+        let apart = Excerpt::of_lines_apart(&source, &mut ends, &config);
+        let moved = [0, 1].map(|it| ends[it][0]..ends[it][1] + usize::from(!spans[it].is_empty()));
+        let got = report(word, &moved, ends[2][0], config).picture_over(apart);
+        assert_eq!(got, want, "{spans:?} at {at}, {config:?}");
     }
 
     #[test]
@@ -180,9 +224,9 @@ mod tests {
         let source = Source::from("ab\ncd\u{e9}fg\nij\n");
         for (index, last) in [(IndexType::Char, 9), (IndexType::Byte, 10)] {
             let config = PLAIN.with_index_type(index);
-            let apart = Excerpt::new(&source, &mut [[0, 1], [last, last]], &config);
+            let apart = Excerpt::of_lines_apart(&source, &mut [[0, 1], [last, last]], &config);
             assert_eq!(apart.text, "ab\n\x0cij\n");
-            let over = Excerpt::new(&source, &mut [[0, last]], &config);
+            let over = Excerpt::of_lines_apart(&source, &mut [[0, last]], &config);
             assert_eq!(over.text, "ab\n     \x0cij\n");
         }
     }
@@ -197,12 +241,22 @@ mod tests {
             (usize::MAX, source.text(), source.text()),
         ] {
             let config = PLAIN.with_context_lines(context_lines);
-            assert_eq!(Excerpt::new(&source, &mut [[0, 1]], &config).text, first);
-            assert_eq!(Excerpt::new(&source, &mut [[0, 1], [12, 13]], &config).text, both);
+            assert_eq!(Excerpt::of_lines_apart(&source, &mut [[0, 1]], &config).text, first);
+            assert_eq!(Excerpt::of_lines_apart(&source, &mut [[0, 1], [12, 13]], &config).text, both);
         }
         let mut spans = [[9, 9]];
-        let middle = Excerpt::new(&source, &mut spans, &PLAIN.with_context_lines(1));
+        let middle = Excerpt::of_lines_apart(&source, &mut spans, &PLAIN.with_context_lines(1));
         assert_eq!((middle.text.as_str(), middle.line_offset, spans), ("ef\ngh\nij\n", 2, [[3, 3]]));
+    }
+
+    #[test]
+    fn lines_that_are_few_are_lent_as_they_are() {
+        let source = Source::from("ab\ncd\nef\ngh\nij\nkl\nmn\n");
+        let mut spans = [[4, 4], [16, 16]];
+        let excerpt = Excerpt::new(&source, &mut spans, &PLAIN);
+        assert_eq!((excerpt.text.as_str(), excerpt.line_offset, spans), ("cd\nef\ngh\nij\nkl\n", 1, [[1, 1], [13, 13]]));
+        let excerpt = Excerpt::new(&source, &mut [[1, 1], [19, 19]], &PLAIN);
+        assert_eq!(excerpt.text, "ab\n\x0c\x0c\x0c\x0c\x0cmn\n");
     }
 
     #[test]
@@ -215,7 +269,7 @@ mod tests {
                     for other in [half..half + 2, 0..half, 4..len] {
                         for word in [Some("x"), None] {
                             let spans = [start..end, other.clone()];
-                            assert_draws_alike(TEXT, &report(word, &spans, end / 3, config));
+                            assert_draws_alike(TEXT, word, &spans, end / 3, config);
                         }
                     }
                 }
@@ -227,7 +281,7 @@ mod tests {
     fn lines_behind_change_no_picture() {
         let text = "aa\nbbbbbbbb\ncc\ndddd\nee\n".to_string() + &"z\n".repeat(1 << 15);
         for (word, spans) in [(Some("x"), [0..4, 11..16]), (None, [0..8, 6..16])] {
-            assert_draws_alike(&text, &report(word, &spans, 0, PLAIN));
+            assert_draws_alike(&text, word, &spans, 0, PLAIN);
         }
     }
 }

@@ -146,24 +146,26 @@ impl<'a> Fetched<'a> {
         source: &Source<I>,
     ) -> Excerpt {
         let id = report.labels[first].span.source();
-        let (mut members, mut spans) = (Vec::new(), Vec::new());
-        for (number, label) in report.labels.iter().enumerate().skip(first) {
-            if self.labels[number].source == NO_SOURCE && label.span.source() == id {
-                members.push(number);
-                spans.push(touched(&label.span));
+        let number = self.sources.len();
+        let mut spans = Vec::new();
+        for (label, given) in self.labels.iter_mut().zip(&report.labels).skip(first) {
+            if label.source == NO_SOURCE && given.span.source() == id {
+                label.source = number;
+                spans.push(touched(&given.span));
             }
         }
+        let count = spans.len();
         let has_place = report.span.source() == id;
         spans.extend(has_place.then(|| [report.span.start(); 2]));
         let excerpt = Excerpt::new(source, &mut spans, &report.content.config);
-        let number = self.sources.len();
-        for (member, [start, last]) in members.into_iter().zip(&spans) {
-            let (label, is_empty) = (&mut self.labels[member], report.labels[member].span.is_empty());
-            (label.source, label.start) = (number, *start);
-            label.end = last.saturating_add(usize::from(!is_empty));
+        let behind = self.labels.iter_mut().zip(&report.labels).skip(first);
+        let members = behind.filter(|(label, _)| label.source == number);
+        for ([start, last], (label, given)) in spans[..count].iter().zip(members) {
+            label.start = *start;
+            label.end = last.saturating_add(usize::from(!given.span.is_empty()));
         }
         if has_place {
-            self.place = spans.last().map(|[start, _]| (number, *start));
+            self.place = Some((number, spans[count][0]));
         }
         excerpt
     }
@@ -188,7 +190,7 @@ fn label_without_source<S>(label: &Label<S>) -> GivenLabel<'_> {
 }
 
 /// The offsets of a span's first and last character.
-fn touched<S: Span>(span: &S) -> Ends {
+pub(crate) fn touched<S: Span>(span: &S) -> Ends {
     [span.start(), span.end().saturating_sub(1).max(span.start())]
 }
 
