@@ -230,8 +230,8 @@ mod tests {
     #[test]
     fn lines_are_those_found_one_by_one() {
         // (Beside the separators: bytes that theirs begin with, and neighbours of them.)
-        let others = ['a', '\t', '\x0e', '\u{84}', '\u{b0}', '\u{e9}', '\u{2026}', '\u{202a}', '\u{6f22}', '\u{1f600}'];
-        let characters: Vec<char> = SEPARATORS.into_iter().chain(others).collect();
+        let others = "a\t\x0e\u{84}\u{b0}\u{e9}\u{2026}\u{202a}\u{6f22}\u{1f600}";
+        let characters: Vec<char> = SEPARATORS.into_iter().chain(others.chars()).collect();
         let mut seed: usize = 1;
         for len in 0..2000 {
             let text: String = (0..len % 40)

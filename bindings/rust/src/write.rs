@@ -148,7 +148,7 @@ impl<'a> Fetched<'a> {
         let id = report.labels[first].span.source();
         let number = self.sources.len();
         let mut spans = Vec::new();
-        for (label, given) in self.labels.iter_mut().zip(&report.labels).skip(first) {
+        for (label, given) in self.labels[first..].iter_mut().zip(&report.labels[first..]) {
             if label.source == NO_SOURCE && given.span.source() == id {
                 label.source = number;
                 spans.push(touched(&given.span));
@@ -158,7 +158,7 @@ impl<'a> Fetched<'a> {
         let has_place = report.span.source() == id;
         spans.extend(has_place.then(|| [report.span.start(); 2]));
         let excerpt = Excerpt::new(source, &mut spans, &report.content.config);
-        let behind = self.labels.iter_mut().zip(&report.labels).skip(first);
+        let behind = self.labels[first..].iter_mut().zip(&report.labels[first..]);
         let members = behind.filter(|(label, _)| label.source == number);
         for ([start, last], (label, given)) in spans[..count].iter().zip(members) {
             label.start = *start;
