@@ -10,7 +10,6 @@ use crate::report::{Report, ReportKind};
 use crate::source::Source;
 use crate::span::Span;
 use std::io::{self, Write};
-use std::ops::Range;
 
 impl<S: Span> Report<'_, S> {
     /// Writes the picture, over the sources of a cache.
@@ -247,12 +246,11 @@ fn error_of(Refusal(status): Refusal) -> io::Error {
 }
 
 #[cfg(test)]
-impl Report<'_, Range<usize>> {
+impl Report<'_> {
     /// The picture over a source without a name that is lent so, in which offsets are those of the report.
     pub(crate) fn picture_over(&self, excerpt: Excerpt) -> String {
         let placed = self.labels.iter().map(|label| {
-            let Range { start, end } = label.span;
-            GivenLabel { source: 0, start, end, ..label_without_source(label) }
+            GivenLabel { source: 0, start: label.span.start, end: label.span.end, ..label_without_source(label) }
         });
         let fetched = Fetched {
             sources: vec![Named { name: None, excerpt }],
