@@ -1,7 +1,7 @@
 //! Calls of the builder, each by the picture that it makes.
 
+use crate::asserts::{Mismatch, assert_picture, plain_error};
 use ariadne::{Label, Report, ReportBuilder};
-use ariadne_asserts::asserts::{Mismatch, assert_picture, plain_error};
 use std::alloc::{AllocError, Global};
 
 /// The picture of two labels added in turn.

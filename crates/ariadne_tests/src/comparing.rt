@@ -9,6 +9,26 @@ pub(crate) fn assert_same<T: Debug + PartialEq>(rt: &impl Abort, found: &T, want
     assert_eq!(rt; *found, *wanted)
 }
 
+/// Asserts that what was found of something of a name is what is wanted.
+pub(crate) fn assert_same_of<T: Debug + PartialEq>(
+    rt: &impl Abort,
+    name: &str,
+    found: &T,
+    wanted: &T,
+) {
+    assert_eq!(rt; *found, *wanted, "of {name:?}")
+}
+
+/// Asserts that the text of something of a name was made, and is this.
+pub(crate) fn assert_text_of(
+    rt: &impl Abort,
+    name: &str,
+    text: Result<String, AllocError>,
+    wanted: &str,
+) {
+    assert_same_of(rt, name, &text.expect(rt, "memory").as_str(), &wanted)
+}
+
 /// Asserts that a text was made, and is this.
 pub(crate) fn assert_text(rt: &impl Abort, text: Result<String, AllocError>, wanted: &str) {
     assert_same(rt, &text.expect(rt, "memory").as_str(), &wanted)

@@ -1,8 +1,8 @@
 //! Configurations: the default one, and which one counts.
 
+use crate::asserts::{Mismatch, assert_bytes, plain};
 use crate::comparing::assert_same;
 use ariadne::{CharSet, Color, Config, IndexType, Label, LabelAttach, Report, ReportKind};
-use ariadne_asserts::asserts::{Mismatch, assert_bytes, plain};
 use std::alloc::{AllocError, Global};
 
 #[test]

@@ -1,9 +1,9 @@
 //! The example of README.md draws the picture of README.md. `tools/check-gallery` compares the page
 //! with this file.
 
+use crate::asserts::assert_trimmed;
 use crate::readme::tell;
 use ariadne::WriteError;
-use ariadne_asserts::asserts::assert_trimmed;
 use std::alloc::Global;
 
 /// The picture of README.md.

@@ -1,9 +1,9 @@
 //! The greatest numbers.
 
-use ariadne::{Config, Label, Report, ReportKind, WriteError};
-use ariadne_asserts::asserts::{
+use crate::asserts::{
     Mismatch, Why, assert_left_out, assert_shown, plain, plain_error, source_of, written,
 };
+use ariadne::{Config, Label, Report, ReportKind, WriteError};
 use std::alloc::{AllocError, Global};
 use std::ops::RangeInclusive;
 use std::process::Abort;

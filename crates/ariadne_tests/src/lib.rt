@@ -1,24 +1,44 @@
-//! Tests of the calls that make a report, of the laws, and of the example of README.md. The greatest
-//! numbers are tried, and what stands where memory is refused, and where a writer or a sink fails.
+//! Tests of the library by its public names alone: of the calls that make a report, of the laws, of
+//! sources, caches, painted, visible and safe texts, and of edits. The examples of README.md and
+//! docs/SAFE.md draw their pictures. The greatest numbers are tried, and what stands where memory is
+//! refused, and where a writer or a sink fails.
 //! Pictures are stored cases of `ariadne_replay`, or reckoned by `tools/try-reckoned`.
 #![tactic(auto)]
 
 #[cfg(test)]
+mod asserts;
+#[cfg(test)]
 mod builders;
+#[cfg(test)]
+mod caches;
+#[cfg(test)]
+mod characters;
 #[cfg(test)]
 mod comparing;
 #[cfg(test)]
 mod configs;
 #[cfg(test)]
+mod edits;
+#[cfg(test)]
 mod example;
 #[cfg(test)]
 mod extremes;
+#[cfg(test)]
+mod files;
+#[cfg(test)]
+mod functions;
+#[cfg(test)]
+mod held_sources;
 #[cfg(test)]
 mod labels;
 #[cfg(test)]
 mod laws;
 #[cfg(test)]
 mod margins;
+#[cfg(test)]
+mod own_caches;
+#[cfg(test)]
+mod painting;
 #[cfg(test)]
 mod readers;
 #[cfg(test)]
@@ -33,5 +53,13 @@ mod refused_lines;
 mod refused_pictures;
 #[cfg(test)]
 mod refused_sources;
+#[cfg(test)]
+mod safe_example;
+#[cfg(test)]
+mod safe_texts;
+#[cfg(test)]
+mod texts;
+#[cfg(test)]
+mod visible_texts;
 #[cfg(test)]
 mod writers;

@@ -1,9 +1,9 @@
 //! How many columns stand in front of the source text: they are counted in the pictures beside them.
 
+use crate::asserts::{Piece, plain, plain_error_at};
 use crate::comparing::assert_same;
 use crate::refused::{MOST_REQUESTS, assert_refused, refuse_at};
 use ariadne::{Config, FnCache, Label, ReportBuilder};
-use ariadne_asserts::asserts::{Piece, plain, plain_error_at};
 use std::alloc::{AllocError, Global};
 use std::process::Abort;
 

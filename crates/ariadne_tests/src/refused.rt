@@ -1,7 +1,7 @@
 //! Labels and builders when memory is refused: each request in turn, until a call meets no refusal.
 
+use crate::asserts::{assert_picture, plain_error};
 use ariadne::{Label, Report, ReportBuilder};
-use ariadne_asserts::asserts::{assert_picture, plain_error};
 use ariadne_fakes::{refuse, was_refused};
 use std::alloc::{AllocError, Global};
 use std::process::Abort;

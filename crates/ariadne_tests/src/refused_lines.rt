@@ -1,10 +1,10 @@
 //! A line of many labels, and one that is cut, when memory is refused: each request in turn, until
 //! the call meets no refusal.
 
+use crate::asserts::{assert_trimmed, plain, plain_error, source_of};
 use crate::refused::{MOST_REQUESTS, assert_refused, refuse_at};
 use crate::refused_pictures::assert_answer;
 use ariadne::{Label, Report, Source};
-use ariadne_asserts::asserts::{assert_trimmed, plain, plain_error, source_of};
 use std::alloc::{AllocError, Global};
 use std::process::Abort;
 

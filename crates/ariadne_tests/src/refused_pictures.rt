@@ -1,5 +1,6 @@
 //! Pictures when memory is refused: each request in turn, until a call meets no refusal.
 
+use crate::asserts::{Mismatch, Piece, Why, assert_left_out, assert_trimmed, plain, written};
 use crate::comparing::assert_same;
 use crate::refused::{MOST_REQUESTS, assert_at, assert_refused, refuse_at};
 use crate::refused_sources::holds;
@@ -7,9 +8,6 @@ use crate::writers::Drain;
 use ariadne::{
     Cache, Color, Config, FnCache, Label, LeftOut, Report, ReportBuilder, ReportKind, Sink,
     WriteError,
-};
-use ariadne_asserts::asserts::{
-    Mismatch, Piece, Why, assert_left_out, assert_trimmed, plain, written,
 };
 use ariadne_fakes::Taker;
 use std::alloc::{AllocError, Global};

@@ -1,8 +1,8 @@
 //! Sources and caches when memory is refused: each request in turn, until a call meets no refusal.
 
+use crate::asserts::source_of;
 use crate::refused::{At, MOST_REQUESTS, assert_at, assert_refused, refuse_at};
 use ariadne::{Cache, FetchError, FileCache, FnCache, Source, SourceTable, SourceText, sources};
-use ariadne_asserts::asserts::source_of;
 use ariadne_fakes::{Folder, texts};
 use std::alloc::{AllocError, Global};
 use std::cell::Cell;

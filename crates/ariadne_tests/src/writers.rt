@@ -2,12 +2,12 @@
 
 ghost use Rattle.std.specs.Prelude.{Some};
 
-use crate::comparing::{assert_same, assert_text};
-use ariadne::{LeftOut, Report, RetryInterrupted, Sink, Source, WriteError};
-use ariadne_asserts::asserts::{
+use crate::asserts::{
     APPLE_LABELS, APPLES, Mismatch, Why, assert_left_out, joined, labelled, plain, plain_error,
     source_of,
 };
+use crate::comparing::{assert_same, assert_text};
+use ariadne::{LeftOut, Report, RetryInterrupted, Sink, Source, WriteError};
 use ariadne_fakes::Taker;
 use std::alloc::AllocError;
 use std::io;

@@ -1,8 +1,8 @@
 //! Reports over files: what is drawn once they change.
 
+use crate::asserts::Why;
 use crate::caches::{assert_over, one_label};
 use ariadne::{FileCache, Report};
-use ariadne_asserts::asserts::Why;
 use ariadne_fakes::Folder;
 use std::fs;
 use std::ops::Range;

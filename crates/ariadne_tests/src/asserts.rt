@@ -8,11 +8,11 @@ use std::alloc::{AllocError, Global};
 use std::ops::Range;
 
 /// A piece of the source of an id.
-pub type Piece = (&'static str, Range<usize>);
+pub(crate) type Piece = (&'static str, Range<usize>);
 
 /// Why a label is left out, without what its cache said.
 #[derive(Clone, Copy, Debug, PartialEq, Eq)]
-pub enum Why {
+pub(crate) enum Why {
     Unfetched,
     PastSource,
     CutsCharacter,
@@ -20,7 +20,7 @@ pub enum Why {
 
 /// What is other than it is to be.
 #[derive(Debug, Drop)]
-pub enum Mismatch {
+pub(crate) enum Mismatch {
     /// The picture, which is this.
     Picture(String),
     /// How many labels are left out: so many.
@@ -42,7 +42,7 @@ impl From<AllocError> for Mismatch {
 }
 
 /// The rows of two labels on a line, blanks at their ends kept.
-pub const APPLES: [&str; 9] = [
+pub(crate) const APPLES: [&str; 9] = [
     "Error: can't compare apples with oranges",
     "   ,-[ <unknown>:1:1 ]",
     "   |",
@@ -55,36 +55,36 @@ pub const APPLES: [&str; 9] = [
 ];
 
 /// The two labels.
-pub const APPLE_LABELS: [(usize, usize, &str); 2] = [
+pub(crate) const APPLE_LABELS: [(usize, usize, &str); 2] = [
     (0, 5, "This is an apple"),
     (9, 15, "This is an orange"),
 ];
 
 /// ASCII strokes, and no colours.
-pub fn plain() -> Config {
+pub(crate) fn plain() -> Config {
     Config::new()
         .with_char_set(CharSet::Ascii)
         .with_color(false)
 }
 
 /// A source of a text.
-pub fn source_of(alloc: Global, text: &str) -> Result<Source<String>, AllocError> {
+pub(crate) fn source_of(alloc: Global, text: &str) -> Result<Source<String>, AllocError> {
     Source::from(alloc, String::from_str(alloc, text)?)
 }
 
 /// An error without a message yet, in ASCII and without colours, at a place.
-pub fn plain_error_at<S: Span>(alloc: Global, span: S) -> ReportBuilder<'static, S> {
+pub(crate) fn plain_error_at<S: Span>(alloc: Global, span: S) -> ReportBuilder<'static, S> {
     Report::build(alloc, ReportKind::Error, span).with_config(plain())
 }
 
 /// Such an error at the first character.
-pub fn plain_error(alloc: Global) -> ReportBuilder<'static> {
+pub(crate) fn plain_error(alloc: Global) -> ReportBuilder<'static> {
     plain_error_at(alloc, 0..0)
 }
 
 /// A report with these labels: the start and the end of each, which is not before it, and what it
 /// says.
-pub fn labelled<'a>(
+pub(crate) fn labelled<'a>(
     rt: &impl AllocGlobal,
     builder: ReportBuilder<'a>,
     labels: &[(usize, usize, &str)],
@@ -98,7 +98,7 @@ pub fn labelled<'a>(
 }
 
 /// The same as `labelled`, of labels in the sources of these ids.
-pub fn labelled_in<'a>(
+pub(crate) fn labelled_in<'a>(
     rt: &impl AllocGlobal,
     builder: ReportBuilder<'a, Piece>,
     labels: &[(&'static str, usize, usize, &str)],
@@ -112,7 +112,7 @@ pub fn labelled_in<'a>(
 }
 
 /// The picture that a report writes over a cache, and the labels that it leaves out.
-pub fn written<S: Span, C: Cache<S::SourceId>>(
+pub(crate) fn written<S: Span, C: Cache<S::SourceId>>(
     rt: &impl AllocGlobal,
     report: &Report<'_, S>,
     cache: &mut C,
@@ -137,7 +137,7 @@ fn text_of(picture: Vec<u8>) -> Result<String, Mismatch> {
 }
 
 /// Rows, each with a line feed behind it.
-pub fn joined(alloc: Global, rows: &[&str]) -> Result<String, AllocError> {
+pub(crate) fn joined(alloc: Global, rows: &[&str]) -> Result<String, AllocError> {
     let mut text = String::new(alloc);
     for row in rows {
         text.push_str(row)?;
@@ -158,7 +158,7 @@ fn trimmed(alloc: Global, picture: &str) -> Result<String, AllocError> {
 
 /// Asserts that a picture has these rows, and each of them whole, or but for the blanks at their
 /// ends.
-pub fn assert_shown(
+pub(crate) fn assert_shown(
     rt: &impl AllocGlobal,
     picture: &str,
     rows: &[&str],
@@ -178,12 +178,16 @@ pub fn assert_shown(
 }
 
 /// Asserts that a picture has these rows, but for the blanks at their ends.
-pub fn assert_trimmed(rt: &impl AllocGlobal, picture: &str, rows: &[&str]) -> Result<(), Mismatch> {
+pub(crate) fn assert_trimmed(
+    rt: &impl AllocGlobal,
+    picture: &str,
+    rows: &[&str],
+) -> Result<(), Mismatch> {
     assert_shown(rt, picture, rows, false)
 }
 
 /// Asserts which labels are left out, and why.
-pub fn assert_left_out<E>(
+pub(crate) fn assert_left_out<E>(
     left_out: &[LeftOut<E>],
     wanted: &[(usize, Why)],
 ) -> Result<(), Mismatch> {
@@ -205,7 +209,7 @@ pub fn assert_left_out<E>(
 
 /// Asserts that all these labels are left out since their sources can't be had, and what is said of
 /// each.
-pub fn assert_unknown(
+pub(crate) fn assert_unknown(
     rt: &impl AllocGlobal,
     left_out: &[LeftOut<UnknownSource>],
     wanted: &[&str],
@@ -227,7 +231,7 @@ pub fn assert_unknown(
 
 /// Asserts that over a text a report leaves no label out, and that its picture has these rows, and
 /// each of them whole.
-pub fn assert_bytes(
+pub(crate) fn assert_bytes(
     rt: &impl AllocGlobal,
     report: &Report<'_>,
     text: &str,
@@ -241,7 +245,7 @@ pub fn assert_bytes(
 
 /// Asserts that over a text a report leaves no label out, and that its picture has these rows, but
 /// for the blanks at their ends.
-pub fn assert_picture(
+pub(crate) fn assert_picture(
     rt: &impl AllocGlobal,
     report: &Report<'_>,
     text: &str,
@@ -253,7 +257,7 @@ pub fn assert_picture(
 
 /// Asserts that over a cache a report leaves out exactly these labels, and that its picture has
 /// these rows, but for the blanks at their ends.
-pub fn assert_picture_over<S: Span, C: Cache<S::SourceId>>(
+pub(crate) fn assert_picture_over<S: Span, C: Cache<S::SourceId>>(
     rt: &impl AllocGlobal,
     report: &Report<'_, S>,
     cache: &mut C,

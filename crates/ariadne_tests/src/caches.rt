@@ -2,12 +2,12 @@
 
 ghost use Rattle.std.specs.Prelude.{◌≤◌};
 
-use crate::comparing::assert_same;
-use ariadne::{Cache, Label, Report, Source, SourceMap, Span, UnknownSource, sources};
-use ariadne_asserts::asserts::{
+use crate::asserts::{
     Piece, Why, assert_left_out, assert_picture_over, assert_trimmed, assert_unknown, labelled,
     labelled_in, plain_error, plain_error_at, written,
 };
+use crate::comparing::assert_same;
+use ariadne::{Cache, Label, Report, Source, SourceMap, Span, UnknownSource, sources};
 use std::process::Abort;
 use std::rc::RcStr;
 

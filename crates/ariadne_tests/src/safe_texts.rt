@@ -3,10 +3,10 @@
 
 ghost use Rattle.std.specs.Prelude.{◌<◌};
 
+use crate::asserts::{Why, assert_left_out};
 use crate::comparing::assert_same;
 use crate::safe_example::tell;
 use ariadne::{CharSet, Color, Config, IndexType, Label, LeftOut, Reason, ReportKind, WriteError};
-use ariadne_asserts::asserts::{Why, assert_left_out};
 use ariadne_fakes::{refuse, was_refused};
 use ariadne_safe::{
     LineEnds, NoSource, SafeBuilder, SafeKind, SafeReport, SafeSource, SafeSources,

@@ -5,9 +5,9 @@ ghost use Rattle.std.specs.Str.{bytes_eq};
 ghost use Rattle.std.specs.Cmp.Lexicographic.{bytes_decides};
 ghost use Rattle.std.proofs.Common.{ap};
 
+use crate::asserts::{Piece, Why};
 use crate::caches::{assert_over, assert_two, map, report_at};
 use ariadne::{Cache, FetchError, Report, Source, SourceMap, UnknownSource, WriteError, sources};
-use ariadne_asserts::asserts::{Piece, Why};
 use std::alloc::{AllocError, Global};
 use std::process::Abort;
 

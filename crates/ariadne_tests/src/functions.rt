@@ -1,9 +1,9 @@
 //! Reports over functions that give the texts of their sources: how often each is called.
 
+use crate::asserts::{Why, assert_shown, written};
 use crate::caches::{SECOND, TWO, assert_over, assert_two, report_at, source, two_labels};
 use crate::comparing::{assert_same, assert_same_of};
 use ariadne::{Cache, FnCache, LeftOut, Source};
-use ariadne_asserts::asserts::{Why, assert_shown, written};
 use std::cell::Cell;
 use std::collections::HashMap;
 use std::process::Abort;
