@@ -18,7 +18,7 @@ import shutil
 from typing import NamedTuple
 
 LINE = re.compile(r"^(# by|# with|file|old|new): ?(.*)$", re.M)
-FUNCTION = re.compile(r"^( *)(?:pub(?:\([a-z ]+\))? )?(?:const )?(?:unsafe )?fn (\w+)")
+FUNCTION = re.compile(r"^( *)(?:pub(?:\([a-z ]+\))? )?(?:final )?(?:const )?(?:unsafe )?fn (\w+)")
 LEFT_OUT = "unreachable!()"  # stands for a body that a copy doesn't have, whatever the function returns
 PARTS = ("src", "specs", "proofs")
 
