@@ -1,12 +1,13 @@
 -- Changes that are not refused fit their text.
-use Rattle.std.proofs.Common.{◌≡◌, ◌∙◌, ap, sym, refl, subst, ℕ, zero, suc, ◌≤◌, Bool, true, false, ◌||◌, cond, List, [], ◌∷◌, ◌++◌, map, length, take, drop, Option, Some, None, arith, ltb}
+use Rattle.std.proofs.Common.{◌≡◌, ◌∙◌, ap, sym, refl, subst, ℕ, zero, suc, ◌+◌, ◌-◌, ◌≤◌, Bool, true, false, ◌||◌, cond, List, [], ◌∷◌, ◌++◌, map, length, take, drop, Option, Some, None, arith, ltb}
 use Rattle.std.specs.Prelude.{encode_utf8, encode_utf8_all, option_map}
 use Rattle.std.specs.Str.{chars, IsUtf8, IsCharBoundary}
 use Rattle.std.proofs.Math.Utf8.{scalars}
 use Rattle.std.proofs.lemmas.Bool.{true≢false}
 use Rattle.std.proofs.lemmas.Bool.Decides.{nat_tests}
 use Rattle.std.proofs.lemmas.List.{take-append-drop, length-append}
-use Rattle.std.proofs.lemmas.Str.{encodes-append, encodes-chars, scalars-chars, IsCharBoundary-at_seam}
+use Rattle.std.proofs.Math.Seq.{drop-append_seam, take-add}
+use Rattle.std.proofs.lemmas.Str.{chars-encodes, encodes-append, encodes-chars, scalars-chars, IsCharBoundary-at_seam}
 use Rattle.ariadne_base.proofs.CutOut.{scalars_behind}
 use Rattle.ariadne_picture.specs.declared.switches.IndexType.{IndexType}
 use Rattle.ariadne_picture.specs.declared.switches.IndexType.TheVariants.{Byte, Char}
@@ -43,12 +44,12 @@ whole_byte text i h e = (h, λ lt high. grind (arith, nat_tests))
 
 -- the first characters of a text end where it may be cut
 module _ (text : List ℕ) (u : IsUtf8 text) where
-  front_parts : (n : ℕ) → text ≡ encode_utf8_all (take n (chars text)) ++ encode_utf8_all (drop n (chars text))
+  pub front_parts : (n : ℕ) → text ≡ encode_utf8_all (take n (chars text)) ++ encode_utf8_all (drop n (chars text))
   front_parts n =
       sym (encodes-chars text u) ∙ ap encode_utf8_all (sym (take-append-drop n (chars text)))
       ∙ encodes-append (take n (chars text)) (drop n (chars text))
 
-  front_whole : (n : ℕ) → IsCharBoundary text (length (encode_utf8_all (take n (chars text))))
+  pub front_whole : (n : ℕ) → IsCharBoundary text (length (encode_utf8_all (take n (chars text))))
   front_whole n =
       IsCharBoundary-at_seam text (encode_utf8_all (take n (chars text))) (encode_utf8_all (drop n (chars text))) (front_parts n) (
         drop n (chars text),
@@ -59,8 +60,36 @@ module _ (text : List ℕ) (u : IsUtf8 text) where
         ),
       )
 
-  front_within : (n : ℕ) → length (encode_utf8_all (take n (chars text))) ≤ length text
+  pub front_within : (n : ℕ) → length (encode_utf8_all (take n (chars text))) ≤ length text
   front_within n = (front_whole n).0
+
+  -- and what is behind them are the characters behind
+  behind_front : (n : ℕ) → chars (drop (length (encode_utf8_all (take n (chars text)))) text) ≡ drop n (chars text)
+  behind_front n =
+      ap chars (ap (drop (length (encode_utf8_all (take n (chars text))))) (front_parts n)
+      ∙ drop-append_seam (encode_utf8_all (take n (chars text))) (encode_utf8_all (drop n (chars text))))
+      ∙ chars-encodes (drop n (chars text))
+      (scalars_behind (take n (chars text)) (drop n (chars text))
+      (subst (λ cs. scalars cs ≡ true) (sym (take-append-drop n (chars text))) (scalars-chars text u)))
+
+  -- so bytes may be counted from there on
+  counted_on : (m n : ℕ) → length (encode_utf8_all (take m (chars text)))
+      + length (encode_utf8_all (take n (chars (drop (length (encode_utf8_all (take m (chars text)))) text))))
+      ≡ length (encode_utf8_all (take (m + n) (chars text)))
+  counted_on m n =
+      rw (
+        behind_front m,
+        take-add m n (chars text),
+        encodes-append (take m (chars text)) (take n (drop m (chars text))),
+        length-append (encode_utf8_all (take m (chars text))) (encode_utf8_all (take n (drop m (chars text)))),
+      ) refl
+
+  pub counted_to : (m n byte count : ℕ) (rest : List ℕ) → m ≤ n → byte ≡ length (encode_utf8_all (take m (chars text)))
+      → rest ≡ drop byte text → count ≡ length (encode_utf8_all (take (n - m) (chars rest)))
+      → byte + count ≡ length (encode_utf8_all (take n (chars text)))
+  counted_to m n byte count rest h b r k =
+      let whole : m + (n - m) ≡ n = omega (arith, h) in
+      rw (k, r, b) (counted_on m (n - m) ∙ ap (λ i. length (encode_utf8_all (take i (chars text)))) whole)
 
 -- more characters are no fewer bytes
 front_up : (cs : List ℕ) (m n : ℕ) → m ≤ n → length (encode_utf8_all (take m cs)) ≤ length (encode_utf8_all (take n cs))
