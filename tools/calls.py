@@ -6,6 +6,7 @@ ESCAPES = {'"': '\\"', "\\": "\\\\", "\n": "\\n", "\t": "\\t", "\r": "\\r", "\x1
 MEMBERS = {
     "name", "kind", "kind_color", "number", "code", "message", "at", "id", "source", "line_offset",
     "sources", "missing", "labels", "helps", "notes", "settings", "worked", "left_out", "picture", "safe",
+    "edits",
 }
 ENUMS = {"label_attach": "LabelAttach", "char_set": "CharSet", "index_type": "IndexType"}
 
@@ -64,6 +65,18 @@ def label_of(case, label):
     return calls
 
 
+def edits_of(case):
+    """The edits of a case."""
+    return ", ".join(f"Edit {{ span: {it['at']}, text: String::from_str(alloc, {literal(it['text'])})? }}" for it in case["edits"])
+
+
+def suggestion_of(case):
+    """The help that shows the edits of a case."""
+    settings = case.get("settings", {})
+    counts, tab_width = settings.get("index_type", "Char"), settings.get("tab_width", 4)
+    return f"suggestion(alloc, &source, IndexType::{counts}, {tab_width}, &[{edits_of(case)}])?"
+
+
 def call_of(case):
     """The call that draws a case, of a name in the gallery: over which cache, and the builder."""
     if case.keys() - MEMBERS:
@@ -75,6 +88,7 @@ def call_of(case):
     calls += [f".with_message({literal(case['message'])})?"] if "message" in case else []
     calls += [f".with_label({label_of(case, label)})?" for label in case.get("labels", [])]
     calls += [f".with_help({literal(it)})?" for it in case.get("helps", [])]
+    calls += [f".with_help({suggestion_of(case)})?"] if "edits" in case else []
     calls += [f".with_note({literal(it)})?" for it in case.get("notes", [])]
     head = f"Report::build(alloc, {kind_of(case)}, {place}).with_config({config})"
     if "safe" in case:
