@@ -1,7 +1,7 @@
-/* Compiler diagnostics, drawn over their sources by one call.
+/* Compiler diagnostics, drawn over their sources by one call, and suggested edits as texts by another.
 
-   The call keeps no state. Any number of threads may call it at once, over memory that none of them
-   writes meanwhile. It may not be called from a signal handler. Each pointer that a struct or the
+   A call keeps no state. Any number of threads may call at once, over memory that none of them
+   writes meanwhile. It may not be called from a signal handler. Each pointer that a struct or a
    call is handed is the caller's before, during and after it: the library keeps none.
 
    Whatever the texts hold, the only escapes of a picture are the library's own, for a terminal that
@@ -10,7 +10,7 @@
    they are, and an escape character in one reaches the terminal.
 
    A pointer may be null where its length is 0. With a length it must point to so many values, and
-   `len` and `count` must point to one. What the call writes overlaps nothing else that it is given. */
+   `len` and `count` must point to one. What a call writes overlaps nothing else that it is given. */
 #ifndef SEWARQO_H
 #define SEWARQO_H
 
@@ -140,7 +140,24 @@ enum {
     SEWARQO_CUTS_CHARACTER = 2 /* in bytes: one of its ends is inside a character */
 };
 
-/* What sewarqo_draw returns. */
+/* An edit of a source: what stands in place of a piece of it. */
+typedef struct {
+    size_t start, end; /* offsets into the source's text from 0, the end exclusive, and equal where something
+                          is put in: in characters, or in bytes under SEWARQO_BYTE_OFFSETS */
+    sewarqo_text text; /* what is put there */
+} sewarqo_edit;
+
+/* Edits of a source that are suggested. Edits have numbers, from 0, and stand in any order; those of one span
+   are made in the order of their numbers. */
+typedef struct {
+    sewarqo_source source; /* its name is not read. Of an excerpt all lines are needed that an edit reaches */
+    const sewarqo_edit *edits;
+    size_t edits_len;
+    uint32_t flags;        /* those of the report: SEWARQO_BYTE_OFFSETS alone changes something */
+    size_t tab_width;      /* in columns; 0 is the usual 4 */
+} sewarqo_suggestion;
+
+/* What sewarqo_draw and sewarqo_suggest return. */
 enum {
     SEWARQO_DRAWN = 0,          /* the picture has all labels */
     SEWARQO_LEFT_OUT = 1,       /* the picture is there, without `*count` of the labels */
@@ -164,7 +181,14 @@ enum {
     SEWARQO_BAD_NOTE = 16,       /* the note `*count` is not UTF-8 */
     SEWARQO_SOURCE_NAME = 17,    /* the name of the source `*count` is not UTF-8 */
     SEWARQO_SOURCE_TEXT = 18,    /* its text is not UTF-8 */
-    SEWARQO_SOURCE_LINES = 19    /* its line_offset and the number of its lines exceed SIZE_MAX */
+    SEWARQO_SOURCE_LINES = 19,   /* its line_offset and the number of its lines exceed SIZE_MAX */
+    /* Of sewarqo_suggest alone, which returns 0, 2, 3, 7, 18 and 19 too: in this order, whichever edit comes first.
+       `*count` is the number of the edit. */
+    SEWARQO_EDIT_TEXT = 20,      /* the text of the edit `*count` is not UTF-8 */
+    SEWARQO_EDIT_BACKWARDS = 21, /* it ends before it starts */
+    SEWARQO_EDIT_OVERLAPS = 22,  /* it starts before the end of the edit in front of it */
+    SEWARQO_EDIT_PAST_SOURCE = 23,    /* it reaches past the source */
+    SEWARQO_EDIT_CUTS_CHARACTER = 24  /* in bytes: one of its ends is inside a character */
 };
 
 /* Draws a report over its sources.
@@ -177,6 +201,22 @@ enum {
 uint32_t sewarqo_draw(const sewarqo_report *report, const sewarqo_source *sources, size_t sources_len,
                       uint8_t *out, size_t out_len, size_t *len,
                       sewarqo_left_out *left, size_t left_len, size_t *count);
+
+/* Tells edits of a source as the text of a help: each line that changes as it was (`-`) and as it will be (`+`),
+ * behind its number, and `...` for lines between that stay. The text is handed in as a help, as it is or behind a
+ * message and a line feed. Edits that change nothing have an empty text.
+ *
+ *      4 - let first = take(names);
+ *      4 + let first = take(&names);
+ *
+ * A sign stands for each character that a terminal obeys or shows nothing of, also under SEWARQO_AS_IS. Where two
+ * lines differ in white space alone, that is shown by signs. Lines are not cut to a report's `width`.
+ *
+ * After SEWARQO_DRAWN the first `*len` bytes of `out` are the text, and those behind it are as they were. After
+ * SEWARQO_TOO_SHORT it takes `*len` bytes. After any other status `*len` is 0. `*count` is 0 but after those of
+ * edits. */
+uint32_t sewarqo_suggest(const sewarqo_suggestion *suggestion, uint8_t *out, size_t out_len, size_t *len,
+                         size_t *count);
 
 /* The text of a string that ends in a zero; a null pointer is the empty text. */
 static inline sewarqo_text sewarqo_str(const char *string) {
@@ -235,8 +275,8 @@ static inline size_t sewarqo_offset(sewarqo_text text, size_t line, size_t colum
     return sewarqo_between_(text, 0, begin, flags) + (before < width ? before : width);
 }
 
-/* Of what `*count` is the number after a status: "label", "help", "note" or "source", and "" after one that
-   tells of no such thing. */
+/* Of what `*count` is the number after a status: "label", "help", "note", "source" or "edit", and "" after one
+   that tells of no such thing. */
 static inline const char *sewarqo_status_part(uint32_t status) {
     switch (status) {
     case SEWARQO_LABEL_SOURCE:
@@ -248,6 +288,11 @@ static inline const char *sewarqo_status_part(uint32_t status) {
     case SEWARQO_SOURCE_NAME:
     case SEWARQO_SOURCE_TEXT:
     case SEWARQO_SOURCE_LINES: return "source";
+    case SEWARQO_EDIT_TEXT:
+    case SEWARQO_EDIT_BACKWARDS:
+    case SEWARQO_EDIT_OVERLAPS:
+    case SEWARQO_EDIT_PAST_SOURCE:
+    case SEWARQO_EDIT_CUTS_CHARACTER: return "edit";
     default: return "";
     }
 }
@@ -267,14 +312,19 @@ static inline const char *sewarqo_status_text(uint32_t status) {
     case SEWARQO_BAD_CODE: return "the code is not UTF-8";
     case SEWARQO_BAD_MESSAGE: return "the message is not UTF-8";
     case SEWARQO_LABEL_SOURCE: return "its source was not given";
-    case SEWARQO_LABEL_BACKWARDS: return "it ends before it starts";
+    case SEWARQO_LABEL_BACKWARDS:
+    case SEWARQO_EDIT_BACKWARDS: return "it ends before it starts";
     case SEWARQO_LABEL_COLOR: return "its colour is none";
     case SEWARQO_LABEL_MESSAGE: return "its message is not UTF-8";
     case SEWARQO_BAD_HELP:
     case SEWARQO_BAD_NOTE: return "it is not UTF-8";
     case SEWARQO_SOURCE_NAME: return "its name is not UTF-8";
-    case SEWARQO_SOURCE_TEXT: return "its text is not UTF-8";
+    case SEWARQO_SOURCE_TEXT:
+    case SEWARQO_EDIT_TEXT: return "its text is not UTF-8";
     case SEWARQO_SOURCE_LINES: return "its line_offset and the number of its lines exceed the largest number";
+    case SEWARQO_EDIT_OVERLAPS: return "it starts before the end of the edit in front of it";
+    case SEWARQO_EDIT_PAST_SOURCE: return "it reaches past the source";
+    case SEWARQO_EDIT_CUTS_CHARACTER: return "one of its ends is inside a character";
     default: return "there is no such status";
     }
 }

@@ -1,4 +1,5 @@
-/* A picture in memory that grows as far as it takes: sewarqo_draw over malloc's heap. */
+/* A picture, or the text of a help, in memory that grows as far as it takes: sewarqo_draw and sewarqo_suggest over
+   malloc's heap. */
 #ifndef SEWARQO_GROW_H
 #define SEWARQO_GROW_H
 
@@ -45,6 +46,41 @@ static inline uint32_t sewarqo_draw_grown(const sewarqo_report *report, const se
     if (status > SEWARQO_LEFT_OUT)
         picture->len = 0;
     picture->bytes[picture->len] = 0;
+    return status;
+}
+
+/* Puts a message, a line feed and what sewarqo_suggest tells into room that grows, as the text of a help: without
+   the line feed where there is no message, or where the edits change nothing. It never returns SEWARQO_TOO_SHORT.
+   After a refusal `help` is empty, and keeps its room. */
+static inline uint32_t sewarqo_suggest_grown(const sewarqo_suggestion *suggestion, const char *message,
+                                             sewarqo_picture *help, size_t *count) {
+    size_t front = message ? strlen(message) : 0, needed = 1023, len = 0; /* enough for most texts */
+    uint32_t status;
+    void *room;
+    front += front > 0;
+    do {
+        if (help->room <= front + needed) {
+            char *bytes = SEWARQO_CAST_(char *, realloc(help->bytes, front + needed + 1));
+            if (bytes == SEWARQO_NULL_) {
+                help->len = 0;
+                *count = 0;
+                if (help->room > 0)
+                    help->bytes[0] = 0;
+                return SEWARQO_NO_MEMORY;
+            }
+            help->bytes = bytes;
+            help->room = front + needed + 1;
+        }
+        room = help->bytes + front;
+        status = sewarqo_suggest(suggestion, SEWARQO_CAST_(uint8_t *, room), help->room - 1 - front, &len, count);
+        needed = len;
+    } while (status == SEWARQO_TOO_SHORT);
+    help->len = status != SEWARQO_DRAWN ? 0 : len > 0 ? front + len : front - (front > 0);
+    if (help->len > 0 && front > 0) {
+        memcpy(help->bytes, message, front - 1);
+        help->bytes[front - 1] = '\n';
+    }
+    help->bytes[help->len] = 0;
     return status;
 }
 

@@ -90,6 +90,14 @@ struct Source {
     std::size_t line_offset = 0;
 };
 
+// An edit of a source: what stands in place of a piece of it. The ends are equal where something is put in.
+struct Edit {
+    Edit(std::size_t from, std::size_t to, std::string_view put_in) : start(from), end(to), text(put_in) {}
+    std::size_t start;
+    std::size_t end;
+    std::string text;
+};
+
 enum class Attach : std::uint32_t {
     middle = SEWARQO_ATTACH_MIDDLE,
     start = SEWARQO_ATTACH_START,
@@ -121,8 +129,8 @@ struct Picture {
 
 inline std::ostream &operator<<(std::ostream &out, const Picture &picture) { return out << picture.text; }
 
-// Why there is no picture: a status of sewarqo.h, and the number of the label, the text or the source at
-// fault. A stream gets it in words.
+// Why there is no picture, or no text of a help: a status of sewarqo.h, and the number of the label, the text, the
+// source or the edit at fault. A stream gets it in words.
 struct Refusal {
     std::uint32_t status;
     std::size_t number;
@@ -200,6 +208,33 @@ public:
     Report &note(std::string_view note) { return notes_.emplace_back(note), *this; }
     // The place that the header names. Without it, that is the start of the first label.
     Report &at(std::size_t source, std::size_t start) { return at_ = std::pair(source, start), *this; }
+
+    // The text of a help that shows edits of a source, or an exception: Error, or std::bad_alloc. Each line that
+    // changes stands in it as it was (`-`) and as it will be (`+`). It is handed in as a help, as it is or behind a
+    // message and a line feed. Of the configuration `byte_offsets` and `tab_width` count.
+    static std::string suggest(const Source &source, const std::vector<Edit> &edits, const Config &config = {}) {
+        return suggestion(source, edits, config).value().text;
+    }
+
+    // The same as the text of a picture, or why there is none. Of exceptions it throws std::bad_alloc alone.
+    static Result suggestion(const Source &source, const std::vector<Edit> &edits, const Config &config = {}) {
+        std::vector<sewarqo_edit> given;
+        for (const Edit &edit : edits)
+            given.push_back({edit.start, edit.end, text_of(edit.text)});
+        const sewarqo_suggestion asked = {{{}, text_of(source.text), source.line_offset}, given.data(), given.size(),
+                                          flags_of(config), config.tab_width};
+        Picture help{std::string(1024, '\0'), {}};
+        std::size_t len = 0, count = 0;
+        std::uint32_t status;
+        while ((status = sewarqo_suggest(&asked, reinterpret_cast<std::uint8_t *>(help.text.data()),
+                                         help.text.size(), &len, &count))
+               == SEWARQO_TOO_SHORT)
+            help.text.resize(len);
+        if (status != SEWARQO_DRAWN)
+            return Refusal{status, count};
+        help.text.resize(len);
+        return help;
+    }
 
     // The picture over these sources, or an exception: Error, or std::bad_alloc.
     std::string render(const std::vector<Source> &sources, const Config &config = {}) const {

@@ -1,4 +1,4 @@
-/* Feeds sewarqo_draw structs of random values, and looks at what it leaves. For libFuzzer it has
+/* Feeds sewarqo_draw and sewarqo_suggest structs of random values, and looks at what they leave. For libFuzzer it has
    LLVMFuzzerTestOneInput; with RANDOM_DRIVER defined it is a program, fuzz SECONDS, that draws the bytes
    itself. A fault stops it: by a sanitizer, or by abort(). */
 #include "sewarqo.h"
@@ -7,14 +7,14 @@
 #include <stdlib.h>
 #include <time.h>
 
-enum { ROOM = 20000, LABELS = 40, TEXTS = 4, SOURCES = 4, LEFT = 8 };
+enum { ROOM = 20000, LABELS = 40, TEXTS = 4, SOURCES = 4, LEFT = 8, EDITS = 4 };
 
 /* The bytes that decide, read from the front. Behind the last one come zeros. */
 static const uint8_t *bytes;
 static size_t bytes_len;
 
 /* How often each status came. */
-static size_t seen[SEWARQO_SOURCE_LINES + 1];
+static size_t seen[SEWARQO_EDIT_CUTS_CHARACTER + 1];
 
 static uint8_t byte(void) {
     if (bytes_len == 0)
@@ -119,10 +119,43 @@ static void try_once(void) {
         require(((const uint8_t *)left)[at] == 0x5a, "the rest of the list");
 }
 
+static void try_suggestion(void) {
+    static uint8_t out[ROOM];
+    sewarqo_edit edits[EDITS];
+    size_t edits_len = byte() % (EDITS + 1);
+    sewarqo_suggestion suggestion = {{optional(9), text(60), number(99)}, edits, edits_len, byte() % 2 ? 0 : 8, number(9)};
+    for (size_t at = 0; at < EDITS; at++) {
+        size_t start = number(60), more = number(9);
+        size_t end = is_rare(30) ? more : more <= SIZE_MAX - start ? start + more : start;
+        edits[at] = (sewarqo_edit){start, end, text(9)};
+    }
+    if (is_rare(30))
+        suggestion.flags = (uint32_t)number(SIZE_MAX);
+    if (suggestion.tab_width > 100)
+        suggestion.tab_width = 100;
+    size_t room = byte() % 4 ? ROOM : number(100), len = 1, count = 1;
+    if (room > ROOM)
+        room = ROOM;
+    memset(out, '#', ROOM);
+    uint32_t status = sewarqo_suggest(&suggestion, out, room, &len, &count);
+    bool is_told = status == SEWARQO_DRAWN, is_of_edit = status >= SEWARQO_EDIT_TEXT;
+    require(is_told || status == SEWARQO_TOO_SHORT || status == SEWARQO_NO_MEMORY || status == SEWARQO_BAD_FLAGS
+            || status == SEWARQO_SOURCE_TEXT || status == SEWARQO_SOURCE_LINES || (is_of_edit && status <= SEWARQO_EDIT_CUTS_CHARACTER), "a status");
+    seen[status]++;
+    require(!is_told || len <= room, "a text in its room");
+    require(status != SEWARQO_TOO_SHORT || len > room, "a text that takes more");
+    require(is_of_edit ? count < edits_len : count == 0, "the number of an edit");
+    for (size_t at = is_told ? len : 0; at < ROOM; at++)
+        require(out[at] == '#', "the rest of the buffer");
+}
+
 int LLVMFuzzerTestOneInput(const uint8_t *data, size_t size) {
     bytes = data;
     bytes_len = size;
-    try_once();
+    if (byte() % 4 == 0)
+        try_suggestion();
+    else
+        try_once();
     return 0;
 }
 
@@ -143,7 +176,7 @@ int main(int argc, char **argv) {
         }
         LLVMFuzzerTestOneInput(data, sizeof data);
     }
-    for (uint32_t status = 0; status <= SEWARQO_SOURCE_LINES; status++)
+    for (uint32_t status = 0; status <= SEWARQO_EDIT_CUTS_CHARACTER; status++)
         printf("status %u: %zu\n", status, seen[status]);
     printf("%zu tries, 0 faults\n", tries);
     return 0;

@@ -1,4 +1,4 @@
-/* Tries what the headers add to the call: versions, offsets of lines and columns, statuses in words, and sinks.
+/* Tries what the headers add to the call: versions, offsets of lines and columns, statuses in words, sinks, and helps in memory that grows.
    What is wanted was written by hand, and the version is the program's word: helpers 0.6.0. The last line is
    'N looked at, M faults', and the status 1 where M > 0. */
 #include "sewarqo_print.h"
@@ -177,6 +177,38 @@ static void files(void) {
     }
 }
 
+/* ---- suggestions in memory that grows */
+
+static void suggestions(void) {
+    static char put_in[3001];
+    sewarqo_edit edit = {4, 4, {NULL, 0}};
+    sewarqo_suggestion suggestion = {{{{NULL, 0}, 0}, {NULL, 0}, 8}, NULL, 1, 0, 0};
+    sewarqo_picture help = {NULL, 0, 0};
+    size_t count = 7;
+    suggestion.source.text = sewarqo_str("let a = b;\n");
+    suggestion.edits = &edit;
+    edit.text = sewarqo_str("mut ");
+    see("a help", sewarqo_suggest_grown(&suggestion, "let it change", &help, &count) == SEWARQO_DRAWN && count == 0);
+    see("its text", strcmp(help.bytes, "let it change\n9 - let a = b;\n9 + let mut a = b;") == 0);
+    see("its length", help.len == strlen(help.bytes));
+    see("without a message", sewarqo_suggest_grown(&suggestion, NULL, &help, &count) == SEWARQO_DRAWN
+        && strcmp(help.bytes, "9 - let a = b;\n9 + let mut a = b;") == 0);
+    memset(put_in, 'x', sizeof put_in - 1);
+    edit.text = sewarqo_str(put_in);
+    see("a long one", sewarqo_suggest_grown(&suggestion, "m", &help, &count) == SEWARQO_DRAWN
+        && help.len == 3031 && strncmp(help.bytes, "m\n9 - let a = b;\n9 + let xxx", 27) == 0);
+    suggestion.edits_len = 0;
+    see("no change", sewarqo_suggest_grown(&suggestion, "m", &help, &count) == SEWARQO_DRAWN
+        && strcmp(help.bytes, "m") == 0 && help.len == 1);
+    see("no change and no message", sewarqo_suggest_grown(&suggestion, "", &help, &count) == SEWARQO_DRAWN
+        && strcmp(help.bytes, "") == 0 && help.len == 0);
+    suggestion.edits_len = 1;
+    edit.end = 12;
+    see("a refusal", sewarqo_suggest_grown(&suggestion, "m", &help, &count) == SEWARQO_EDIT_PAST_SOURCE && count == 0
+        && help.len == 0 && help.bytes[0] == 0);
+    sewarqo_picture_free(&help);
+}
+
 /* ---- statuses */
 
 static const struct {
@@ -204,7 +236,12 @@ static const struct {
     {SEWARQO_SOURCE_NAME, 4, "source 4: its name is not UTF-8"},
     {SEWARQO_SOURCE_TEXT, 4, "source 4: its text is not UTF-8"},
     {SEWARQO_SOURCE_LINES, 4, "source 4: its line_offset and the number of its lines exceed the largest number"},
-    {20, 1, "there is no such status"},
+    {SEWARQO_EDIT_TEXT, 1, "edit 1: its text is not UTF-8"},
+    {SEWARQO_EDIT_BACKWARDS, 0, "edit 0: it ends before it starts"},
+    {SEWARQO_EDIT_OVERLAPS, 2, "edit 2: it starts before the end of the edit in front of it"},
+    {SEWARQO_EDIT_PAST_SOURCE, 3, "edit 3: it reaches past the source"},
+    {SEWARQO_EDIT_CUTS_CHARACTER, 4, "edit 4: one of its ends is inside a character"},
+    {25, 1, "there is no such status"},
     {SEWARQO_NOT_SENT, 1, "the picture was not taken"},
 };
 
@@ -215,7 +252,7 @@ static void statuses(void) {
         uint32_t status = STATUSES[at].status;
         size_t len = sewarqo_explain(status, STATUSES[at].number, text, sizeof text);
         see(STATUSES[at].text, strcmp(text, STATUSES[at].text) == 0 && len == strlen(text));
-        see(STATUSES[at].text, status >= 20 || status == at);
+        see(STATUSES[at].text, status >= 25 || status == at);
     }
     see("no room", sewarqo_explain(SEWARQO_LABEL_COLOR, 1, NULL, 0) == 27);
     see("little room", sewarqo_explain(SEWARQO_LABEL_COLOR, 1, cut, room) == 27 && strcmp(cut, "label 1") == 0);
@@ -226,6 +263,7 @@ int main(int argc, char **argv) {
     offsets();
     sinks();
     files();
+    suggestions();
     statuses();
     printf("%zu looked at, %zu faults\n", looked, faults);
     return faults != 0;

@@ -1,4 +1,4 @@
-/* Has sewarqo_draw return each of its statuses, and looks at what it leaves. The heap is this file's, and
+/* Has sewarqo_draw and sewarqo_suggest return each of their statuses, and looks at what they leave. The heap is this file's, and
    refuses one request after another. The last line is 'N calls, M faults', and the status 1 where M > 0. */
 #include "sewarqo.h"
 #include <stdbool.h>
@@ -303,6 +303,143 @@ static void hidden(void) {
     prepare();
 }
 
+/* ---- suggestions */
+
+static struct {
+    sewarqo_suggestion asked;
+    sewarqo_edit edits[2];
+    size_t room;
+} suggestion;
+
+/* Two edits of a source, of which the second stands in front: a letter behind two bytes is another, and one is put
+   in. */
+static void prepare_suggestion(void) {
+    memset(&suggestion, 0, sizeof suggestion);
+    suggestion.asked.source.text = sewarqo_str("fn f() {\n    g(d\xc3\xa9j);\n}\n");
+    suggestion.asked.source.line_offset = 40;
+    suggestion.asked.edits = suggestion.edits;
+    suggestion.asked.edits_len = 2;
+    suggestion.edits[0] = (sewarqo_edit){17, 18, sewarqo_str("x")};
+    suggestion.edits[1] = (sewarqo_edit){15, 15, sewarqo_str("&")};
+    suggestion.room = ROOM;
+}
+
+/* Makes the call, and looks at its buffer: behind the text, or where there is none, it is as it was, and no memory is
+   kept. */
+static void suggest(const char *what, uint32_t status, size_t number) {
+    calls++;
+    asked = 0;
+    call.len = call.count = 77;
+    memset(call.out, '#', ROOM);
+    call.status = sewarqo_suggest(&suggestion.asked, call.out, suggestion.room, &call.len, &call.count);
+    if (call.status != status)
+        fault(what, "another status");
+    for (size_t at = call.status == SEWARQO_DRAWN ? call.len : 0; at < ROOM; at++)
+        if (call.out[at] != '#') {
+            fault(what, "the buffer has changed");
+            break;
+        }
+    if (status >= SEWARQO_NO_MEMORY && call.len != 0)
+        fault(what, "a length");
+    if (call.count != number)
+        fault(what, "another number");
+    if (held != 0)
+        fault(what, "memory is kept");
+}
+
+/* Makes a call that is refused. */
+static void suggest_none(const char *what, uint32_t status, size_t number) {
+    suggest(what, status, number);
+    prepare_suggestion();
+}
+
+/* Makes a call that tells this text. */
+static void suggest_text(const char *what, const char *text) {
+    suggest(what, SEWARQO_DRAWN, 0);
+    if (call.len != strlen(text) || memcmp(call.out, text, call.len) != 0)
+        fault(what, "another text");
+    prepare_suggestion();
+}
+
+static void suggestions(void) {
+    prepare_suggestion();
+    suggest_text("in characters", "42 -     g(d\xc3\xa9j);\n42 +     g(&d\xc3\xa9x);");
+    suggestion.asked.flags = 511;
+    suggestion.edits[0] = (sewarqo_edit){18, 19, sewarqo_str("x")};
+    suggest_text("in bytes", "42 -     g(d\xc3\xa9j);\n42 +     g(&d\xc3\xa9x);");
+    suggestion.asked.edits_len = 1;
+    suggestion.edits[0] = (sewarqo_edit){16, 18, {NULL, 0}};
+    suggest_text("a removal", "42 -     g(d\xc3\xa9j);\n42 +     g(d);");
+    suggestion.edits[0] = (sewarqo_edit){0, 0, sewarqo_str("a\n")};
+    suggestion.edits[1] = (sewarqo_edit){21, 21, sewarqo_str("b")};
+    suggest_text("lines apart", "41 + a\n...\n43 - }\n44 + b}");
+    suggestion.edits[0] = (sewarqo_edit){9, 13, sewarqo_str("\t\x1b[1m\xe2\x80\xae")};
+    suggestion.asked.edits_len = 1;
+    suggestion.asked.tab_width = 2;
+    suggestion.asked.flags = SEWARQO_AS_IS;
+    suggest_text("hidden characters", "42 -     g(d\xc3\xa9j);\n42 +   \xe2\x90\x9b[1m\xef\xbf\xbdg(d\xc3\xa9j);");
+    suggestion.edits[0] = (sewarqo_edit){9, 10, sewarqo_str("\t")};
+    suggestion.asked.edits_len = 1;
+    suggest_text("white space",
+                 "42 - \xc2\xb7\xc2\xb7\xc2\xb7\xc2\xb7g(d\xc3\xa9j);\xe2\x90\x8a\n"
+                 "42 + \xe2\x90\x89\xc2\xb7\xc2\xb7\xc2\xb7g(d\xc3\xa9j);\xe2\x90\x8a");
+    suggestion.asked.edits = NULL;
+    suggestion.asked.edits_len = 0;
+    suggest_text("no edits", "");
+    suggestion.asked = (sewarqo_suggestion){0};
+    suggest_text("zeros", "");
+    suggestion.asked.source.line_offset = SIZE_MAX - 3;
+    suggestion.asked.edits_len = 1;
+    suggest_text("the greatest line numbers",
+                 "18446744073709551614 -     g(d\xc3\xa9j);\n18446744073709551614 +     g(d\xc3\xa9x);");
+}
+
+static void suggestions_refused(void) {
+    suggestion.asked.flags = 512;
+    suggestion.asked.source.text = BAD;
+    suggest_none("no flag", SEWARQO_BAD_FLAGS, 0);
+    suggestion.asked.source.text = BAD;
+    suggestion.edits[1].text = BAD;
+    suggest_none("the text of a source", SEWARQO_SOURCE_TEXT, 0);
+    suggestion.asked.source.line_offset = SIZE_MAX - 2;
+    suggestion.edits[1].text = BAD;
+    suggest_none("the lines of a source", SEWARQO_SOURCE_LINES, 0);
+    suggestion.edits[0].start = 99;
+    suggestion.edits[1].text = BAD;
+    suggest_none("the text of an edit", SEWARQO_EDIT_TEXT, 1);
+    suggestion.edits[0].start = 99;
+    suggestion.edits[1].end = 99;
+    suggest_none("an edit backwards", SEWARQO_EDIT_BACKWARDS, 0);
+    suggestion.edits[0].end = 99;
+    suggestion.edits[1].end = 18;
+    suggest_none("edits that overlap", SEWARQO_EDIT_OVERLAPS, 0);
+    suggestion.edits[0].end = 24;
+    suggest_none("an edit past the source", SEWARQO_EDIT_PAST_SOURCE, 0);
+    suggestion.asked.flags = SEWARQO_BYTE_OFFSETS;
+    suggestion.edits[1].end = 17;
+    suggest_none("an edit that cuts a character", SEWARQO_EDIT_CUTS_CHARACTER, 1);
+}
+
+static void suggestion_rooms(void) {
+    suggest("a suggestion", SEWARQO_DRAWN, 0);
+    size_t len = call.len, requests = asked;
+    suggestion.room = len;
+    suggest("no byte too many", SEWARQO_DRAWN, 0);
+    for (suggestion.room = 0; suggestion.room < len; suggestion.room += len - 1) {
+        suggest("bytes too few", SEWARQO_TOO_SHORT, 0);
+        if (call.len != len)
+            fault("bytes too few", "another length");
+    }
+    size_t needed = 77, count = 77;
+    if (sewarqo_suggest(&suggestion.asked, NULL, 0, &needed, &count) != SEWARQO_TOO_SHORT || needed != len || count != 0)
+        fault("no buffer", "another answer");
+    suggestion.room = ROOM;
+    for (refused = 0; refused < requests; refused++)
+        suggest("a request for memory", SEWARQO_NO_MEMORY, 0);
+    printf("%zu requests for memory\n", requests);
+    refused = SIZE_MAX;
+}
+
 static void many_labels(void) {
     enum { MANY = 10000 };
     sewarqo_label *labels = malloc(MANY * sizeof *labels);
@@ -326,6 +463,9 @@ int main(void) {
     no_buffers();
     hidden();
     many_labels();
+    suggestions();
+    suggestions_refused();
+    suggestion_rooms();
     printf("%zu calls, %zu faults\n", calls, faults);
     return faults != 0;
 }

@@ -62,6 +62,42 @@ static void offsets() {
     see("no text", written(sewarqo::offset({}, 1, 1)), "0");
 }
 
+static void suggestions() {
+    using sewarqo::Report;
+    const sewarqo::Source source = {"fn f() {\n    g(d\xc3\xa9j);\n}\n", std::nullopt, 40};
+    const std::string one = "42 -     g(d\xc3\xa9j);\n42 +     g(&d\xc3\xa9j);";
+    const std::string two = "42 -     g(d\xc3\xa9j);\n42 +     g(&dxj);";
+    sewarqo::Config bytes;
+    bytes.byte_offsets = true;
+    see("put in", Report::suggest(source, {{15, 15, "&"}}), one);
+    see("put in, in bytes", Report::suggest(source, {{15, 15, "&"}}, bytes), one);
+    see("two edits", Report::suggest(source, {{16, 17, "x"}, {15, 15, "&"}}), two);
+    see("two, in bytes", Report::suggest(source, {{16, 18, "x"}, {15, 15, "&"}}, bytes), two);
+    see("nothing", Report::suggest(source, {}), "");
+    const std::string wide = "1 - a\n1 + " + std::string(2000, 'x');
+    see("a long text", Report::suggest({"a"}, {{0, 1, std::string(2000, 'x')}}), wide);
+    const auto refused = [&](std::vector<sewarqo::Edit> edits) {
+        const sewarqo::Result result = Report::suggestion(source, edits, bytes);
+        return result ? std::string("told") : result.error().text();
+    };
+    see("backwards", refused({{0, 0, ""}, {3, 2, ""}}), "edit 1: it ends before it starts");
+    see("overlapping", refused({{4, 6, ""}, {2, 5, ""}}), "edit 0: it starts before the end of the edit in front of it");
+    see("past the source", refused({{0, 99, ""}}), "edit 0: it reaches past the source");
+    see("a cut character", refused({{17, 18, ""}}), "edit 0: one of its ends is inside a character");
+    see("not UTF-8", refused({{0, 0, "\xff"}}), "edit 0: its text is not UTF-8");
+#ifdef __cpp_exceptions
+    try {
+        Report::suggest(source, {{3, 2, ""}});
+        see("an exception", "none", "");
+    } catch (const sewarqo::Error &error) {
+        see("an exception", error.what(), "sewarqo: edit 0: it ends before it starts");
+    }
+#endif
+    Report report(sewarqo::Kind::error(), "m");
+    report.help("borrow it:\n" + Report::suggest(source, {{15, 15, "&"}}));
+    see("a report with it", report.render({}, plain()), "Error: m\n");
+}
+
 static void colors() {
     see("of the palette", written(sewarqo::Color::fixed(81).number()), "337");
     see("of three", written(sewarqo::Color::rgb(1, 2, 255).number()), "16843519");
@@ -71,6 +107,7 @@ static void colors() {
 int main() {
     streams();
     offsets();
+    suggestions();
     colors();
     std::cout << looked << " looked at, " << faults << " faults\n";
     return faults != 0;

@@ -27,16 +27,18 @@ with Python 3.8 and later, needs nothing else, and may be called from any number
 """
 
 from ._color import Color
-from ._faults import BadLabel, BadReport, BadSource, Refused
-from ._parts import Config, Label, LeftOut, Picture, Source, Sources
+from ._faults import BadEdit, BadLabel, BadReport, BadSource, Refused
+from ._parts import Config, Edit, Label, LeftOut, Picture, Source, Sources
 from ._report import Report
 
 __all__ = [
-    "BadLabel", "BadReport", "BadSource", "Color", "Config", "Label", "LeftOut", "Picture", "Refused",
-    "Report", "Source", "Sources", "__version__",
+    "BadEdit", "BadLabel", "BadReport", "BadSource", "Color", "Config", "Edit", "Label", "LeftOut", "Picture",
+    "Refused", "Report", "Source", "Sources", "__version__",
 ]
 __version__ = "0.6.0"
 
 # (Names are those by which they are imported, in tracebacks and in what is pickled.)
-for _it in BadLabel, BadReport, BadSource, Color, Config, Label, LeftOut, Picture, Refused, Report, Source:
+for _it in (
+    BadEdit, BadLabel, BadReport, BadSource, Color, Config, Edit, Label, LeftOut, Picture, Refused, Report, Source,
+):
     _it.__module__ = __name__

@@ -7,7 +7,7 @@ from typing import TYPE_CHECKING, Any, Dict, Hashable, Iterable, Iterator, List,
 
 from ._faults import BadLabel, BadReport, BadSource
 from ._library import LARGEST, CLabel, CLeftOut, COptional, CReport, CSource, CText, library, size
-from ._parts import Config, Label, LeftOut, Picture, Source, Sources, Text
+from ._parts import Config, Edit, Label, LeftOut, Picture, Source, Sources, Text
 
 if TYPE_CHECKING:
     from ._report import Report
@@ -16,8 +16,8 @@ KINDS = {"error": 0, "warning": 1, "advice": 2}
 _CUSTOM = 3
 _ATTACH = {"middle": 0, "start": 1, "end": 2}
 _REASONS = {1: "past its source", 2: "cuts a character"}
-_BYTE_OFFSETS = 8
-_LEFT_OUT, _TOO_SHORT, _NO_MEMORY = 1, 2, 3
+BYTE_OFFSETS = 8
+_LEFT_OUT, TOO_SHORT, NO_MEMORY = 1, 2, 3
 _REPORT_FAULTS = {
     4: "kind", 5: "kind_color", 6: "kind", 7: "config", 8: "config", 9: "code", 10: "message", 15: "helps",
     16: "notes",
@@ -26,7 +26,7 @@ _LABEL_FAULTS = {
     11: "its source was not given", 12: "it ends before it starts", 13: "its colour is none",
     14: "its message is not UTF-8",
 }
-_SOURCE_FAULTS = {
+SOURCE_FAULTS = {
     17: "its name is not UTF-8", 18: "its text is not UTF-8",
     19: "its line_offset and the number of its lines exceed the largest line number",
 }
@@ -62,7 +62,7 @@ class Call:
         self.given = list(_given(sources))
         self.numbers: Dict[Hashable, int] = {it.key: number for number, it in enumerate(self.given)}
         self.sources = (CSource * len(self.given))(*map(_source, self.given))
-        self.flags = _flags(config) | _BYTE_OFFSETS * _counts_bytes(self.given)
+        self.flags = _flags(config) | BYTE_OFFSETS * _counts_bytes(self.given)
         self.asked = self.report_of(config)
 
     def given_labels(self) -> List[CLabel]:
@@ -82,19 +82,19 @@ class Call:
         source = self.number_of(label.source)
         if source is None:
             raise BadLabel(_LABEL_FAULTS[11], number, label)
-        start, end = _int(label.start, "start"), _int(label.end, "end")
+        start, end = integer(label.start, "start"), integer(label.end, "end")
         if not (0 <= start <= LARGEST and 0 <= end <= LARGEST):
             raise BadLabel(f"{start} to {end} is no piece of a text", number, label)
-        order, priority = _int(label.order, "order"), _int(label.priority, "priority")
+        order, priority = integer(label.order, "order"), integer(label.priority, "priority")
         if not all(-(2**31) <= it < 2**31 for it in (order, priority)):
             raise BadLabel("its order or its priority takes more than 32 bits", number, label)
-        color = 0 if label.color is None else _int(label.color, "color")
+        color = 0 if label.color is None else integer(label.color, "color")
         if label.color is not None and not 0 < color < 2**32:
             raise BadLabel(_LABEL_FAULTS[13], number, label)
         try:
-            message = COptional() if label.message is None else COptional(_text(label.message, "message"), 1)
+            message = COptional() if label.message is None else COptional(c_text(label.message, "message"), 1)
         except UnicodeEncodeError as error:
-            raise BadLabel(_surrogate(error), number, label) from None
+            raise BadLabel(surrogate(error), number, label) from None
         return CLabel(source, start, end, message, color, order, priority)
 
     def number_of(self, key: Hashable) -> Optional[int]:
@@ -112,7 +112,7 @@ class Call:
             source, given = self.report.at
         except (TypeError, ValueError):
             raise wrong("at", self.report.at, "source with an offset") from None
-        start = _int(given, "at")
+        start = integer(given, "at")
         if not 0 <= start <= LARGEST:
             raise BadReport(f"at: {start} is no offset", "at")
         number = self.number_of(source)
@@ -121,8 +121,8 @@ class Call:
     def report_of(self, config: Config) -> CReport:
         report = self.report
         labels = self.given_labels()
-        tab_width, context_lines, width = _sizes(config)
-        kind_color = _int(report.kind_color, "kind_color")
+        tab_width, context_lines, width = sizes(config)
+        kind_color = integer(report.kind_color, "kind_color")
         if not 0 < kind_color < 2**32:
             raise BadReport("the colour of the kind is none", "kind_color")
         kind_name = _part(report.kind, "kind")
@@ -142,7 +142,7 @@ class Call:
         """The picture: the call is made again where the buffer was too short for it."""
         a_label = 2048 if self.config.color else 256  # (so that few are drawn twice)
         answer = self.call(4096 + a_label * len(self.labels))
-        if answer.status == _TOO_SHORT:
+        if answer.status == TOO_SHORT:
             answer = self.call(answer.length)
         if answer.status > _LEFT_OUT:
             raise self.refusal(answer.status, answer.number)
@@ -162,12 +162,12 @@ class Call:
 
     def refusal(self, status: int, number: int) -> Exception:
         """The exception for a status that is a refusal."""
-        if status == _NO_MEMORY:
+        if status == NO_MEMORY:
             return MemoryError("there was no memory for the picture")
         if status in _LABEL_FAULTS:
             return BadLabel(_LABEL_FAULTS[status], number, self.labels[number])
-        if status in _SOURCE_FAULTS:
-            return BadSource(_SOURCE_FAULTS[status], self.given[number].key)
+        if status in SOURCE_FAULTS:
+            return BadSource(SOURCE_FAULTS[status], self.given[number].key)
         part = _REPORT_FAULTS.get(status, "")
         return BadReport(f"{part} is faulty (status {status})", part)
 
@@ -180,7 +180,7 @@ def wrong(what: str, value: object, wanted: str) -> TypeError:
     return TypeError(f"{what}: {value!r} is no {wanted}")
 
 
-def _int(value: int, what: str) -> int:
+def integer(value: int, what: str) -> int:
     """The number. What has `__index__` is one, as those of numpy."""
     try:
         return operator.index(value)
@@ -190,7 +190,7 @@ def _int(value: int, what: str) -> int:
 
 def listed(given: Iterable[Any], what: str) -> List[Any]:
     """What is given, as a list. A text or a label alone is no list of some."""
-    if isinstance(given, (str, bytes, Label)):
+    if isinstance(given, (str, bytes, Label, Edit)):
         raise wrong(what, given, "list")
     try:
         return list(given)
@@ -223,16 +223,22 @@ def _one(key: Hashable, is_shown: bool, given: Any) -> _Given:
     shown = key if name is None and is_shown else name
     if not (shown is None or isinstance(shown, str)):
         shown = str(shown)
-    return _Given(key, shown, text, _int(line_offset, f"source {key!r}: line_offset"))
+    return _Given(key, shown, text, integer(line_offset, f"source {key!r}: line_offset"))
+
+
+def one_source(source: object) -> CSource:
+    """A source alone, which has no name, as the library is handed it."""
+    given = _one(None, False, source)
+    return _source(given._replace(name=None))
 
 
 def _source(given: _Given) -> CSource:
     """The source as the library is handed it."""
     try:
-        name = COptional() if given.name is None else COptional(_text(given.name, "name"), 1)
-        text = _text(given.text, "text")
+        name = COptional() if given.name is None else COptional(c_text(given.name, "name"), 1)
+        text = c_text(given.text, "text")
     except UnicodeEncodeError as error:
-        raise BadSource(_surrogate(error), given.key) from None
+        raise BadSource(surrogate(error), given.key) from None
     if not 0 <= given.line_offset <= LARGEST:
         raise BadSource(f"its line_offset {given.line_offset} is no number of lines", given.key)
     return CSource(name, text, given.line_offset)
@@ -249,17 +255,17 @@ def _counts_bytes(given: Iterable[_Given]) -> bool:
 # ---- settings
 
 
-def _sizes(config: Config) -> Tuple[int, int, int]:
+def sizes(config: Config) -> Tuple[int, int, int]:
     """The settings that are numbers. One that is none is refused, and so is another `attach`."""
     if config.attach not in list(_ATTACH):
         raise BadReport(f"attach: {config.attach!r} is not 'start', 'middle' or 'end'", "config")
-    tab_width = _int(config.tab_width, "tab_width")
+    tab_width = integer(config.tab_width, "tab_width")
     if not 1 <= tab_width <= LARGEST:
         raise BadReport(f"tab_width: {tab_width} is no width", "config")
-    context_lines = _int(config.context_lines, "context_lines")
+    context_lines = integer(config.context_lines, "context_lines")
     if not 0 <= context_lines <= LARGEST:
         raise BadReport(f"context_lines: {context_lines} is no number of lines", "config")
-    width = _int(config.width, "width")
+    width = integer(config.width, "width")
     if not 0 <= width <= LARGEST:
         raise BadReport(f"width: {width} is no number of columns", "config")
     return tab_width, context_lines, width
@@ -285,7 +291,7 @@ def _flags(config: Config) -> int:
 # ---- texts
 
 
-def _text(text: Text, what: str) -> CText:
+def c_text(text: Text, what: str) -> CText:
     """A text; one of type bytes is in UTF-8. A subclass of str is one, whatever its `encode` does."""
     if isinstance(text, str):
         text = str.encode(text)
@@ -297,14 +303,14 @@ def _text(text: Text, what: str) -> CText:
 def _part(text: str, part: str) -> CText:
     """A text of the report."""
     try:
-        return _text(text, part)
+        return c_text(text, part)
     except UnicodeEncodeError as error:
-        raise BadReport(f"{part}: {_surrogate(error)}", part) from None
+        raise BadReport(f"{part}: {surrogate(error)}", part) from None
 
 
 def _parts(texts: Iterable[str], part: str) -> List[CText]:
     return [_part(it, part) for it in listed(texts, part)]
 
 
-def _surrogate(error: UnicodeEncodeError) -> str:
+def surrogate(error: UnicodeEncodeError) -> str:
     return f"there is half a character, a lone surrogate, at {error.start} in {error.object!r}"

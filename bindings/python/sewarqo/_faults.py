@@ -3,11 +3,11 @@
 from typing import TYPE_CHECKING, Any, Hashable, Tuple
 
 if TYPE_CHECKING:
-    from ._parts import Label
+    from ._parts import Edit, Label
 
 
 class Refused(ValueError):
-    """There is no picture, since something that was handed in is faulty. Nothing was drawn."""
+    """There is no picture or text, since something that was handed in is faulty. Nothing was drawn."""
 
 
 class BadReport(Refused):
@@ -45,3 +45,16 @@ class BadSource(Refused):
 
     def __reduce__(self) -> Tuple[Any, ...]:
         return type(self), (self.why, self.source), self.__dict__
+
+
+class BadEdit(Refused):
+    """An edit is faulty: `why`. `edit` is it, and `number` its number in the list, from 0."""
+
+    def __init__(self, why: str, number: int, edit: "Edit") -> None:
+        super().__init__(f"edit {number}: {why}")
+        self.why = why
+        self.number = number
+        self.edit = edit
+
+    def __reduce__(self) -> Tuple[Any, ...]:
+        return type(self), (self.why, self.number, self.edit), self.__dict__

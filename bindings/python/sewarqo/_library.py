@@ -42,6 +42,16 @@ class CReport(ctypes.Structure):
     ]
 
 
+class CEdit(ctypes.Structure):
+    _fields_ = [("start", size), ("end", size), ("text", CText)]
+
+
+class CSuggestion(ctypes.Structure):
+    _fields_ = [
+        ("source", CSource), ("edits", ctypes.POINTER(CEdit)), ("edits_len", size), ("flags", u32), ("tab_width", size),
+    ]
+
+
 class CLeftOut(ctypes.Structure):
     _fields_ = [("label", size), ("reason", u32)]
 
@@ -71,6 +81,10 @@ def library() -> ctypes.CDLL:
         loaded.sewarqo_draw.argtypes = [
             ctypes.POINTER(CReport), ctypes.POINTER(CSource), size, ctypes.c_char_p, size,
             ctypes.POINTER(size), ctypes.POINTER(CLeftOut), size, ctypes.POINTER(size),
+        ]
+        loaded.sewarqo_suggest.restype = u32
+        loaded.sewarqo_suggest.argtypes = [
+            ctypes.POINTER(CSuggestion), ctypes.c_char_p, size, ctypes.POINTER(size), ctypes.POINTER(size),
         ]
         _loaded = loaded
     return _loaded

@@ -37,6 +37,14 @@ class Source(NamedTuple):
     name: Optional[str] = None
 
 
+class Edit(NamedTuple):
+    """An edit of a source: what stands in place of a piece of it. The ends are equal where something is put in."""
+
+    start: int
+    end: int
+    text: Text
+
+
 # A text alone, or texts by their keys, or a list of texts that have no name.
 Sources = Union[Text, Source, Mapping[Any, Union[Text, Source]], Sequence[Union[Text, Source]]]
 

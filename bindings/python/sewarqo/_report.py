@@ -2,12 +2,13 @@
 
 import os
 import sys
-from typing import Any, Hashable, List, Optional, Protocol, Sequence, Tuple
+from typing import Any, Hashable, Iterable, List, Optional, Protocol, Sequence, Tuple, Union
 
 from ._call import KINDS, Call, listed, wrong
 from ._color import Color
 from ._faults import BadReport
-from ._parts import Config, Label, Picture, Sources
+from ._parts import Config, Edit, Label, Picture, Source, Sources, Text
+from ._suggestion import suggested
 
 
 class Writer(Protocol):
@@ -105,6 +106,24 @@ class Report:
         out: Writer = sys.stderr if file is None else file
         out.write(self.render(sources, _for(config, out)))
 
+    @staticmethod
+    def suggest(source: Union[Text, Source], edits: Iterable[Edit], config: Config = Config()) -> str:
+        """The text of a help that shows edits of a source: each line that changes as it was (`-`) and as it will
+        be (`+`), behind its number, and `...` for lines between that stay.
+
+        It is handed in as a help, as it is or behind a message and a line feed. Edits that change nothing have an
+        empty text. A sign stands for each hidden character. Of the configuration `tab_width` alone counts.
+
+        Raises `BadEdit` where one ends before it starts, starts before the end of the one in front of it,
+        reaches past the source, or (in bytes) cuts a character; in this order. `BadReport`, `BadSource`,
+        `TypeError` and `MemoryError` are as for `render`.
+
+        >>> print(Report.suggest("let first = take(names);", [Edit(17, 17, "&")]))
+        1 - let first = take(names);
+        1 + let first = take(&names);
+        """
+        return suggested(source, edits, _checked(config))
+
 
 def _check_kind(kind: str) -> None:
     """Refuses "Error" and the like."""
@@ -115,11 +134,16 @@ def _check_kind(kind: str) -> None:
         raise BadReport(f"kind: {kind!r} is not {known!r}, and one of your own needs a kind_color", "kind")
 
 
-def _for(config: Config, file: object) -> Config:
-    """The configuration for what is written to a file."""
+def _checked(config: Config) -> Config:
+    """The configuration, if it is one."""
     if not isinstance(config, Config):
         raise wrong("config", config, "Config")
-    if config.color is not None:
+    return config
+
+
+def _for(config: Config, file: object) -> Config:
+    """The configuration for what is written to a file."""
+    if _checked(config).color is not None:
         return config
     isatty = getattr(file, "isatty", lambda: False)
     return config._replace(color=not os.environ.get("NO_COLOR") and bool(isatty()))

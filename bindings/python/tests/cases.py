@@ -6,7 +6,7 @@ where M > 0.
 import json
 import sys
 
-from sewarqo import Color, Config, Label, Report, Source
+from sewarqo import Color, Config, Edit, Label, Report, Source
 
 LARGEST = 2**64 - 1
 REASONS = {"past its source": "PastSource", "cuts a character": "CutsCharacter"}
@@ -56,6 +56,12 @@ class Case:
             label.get("id", self.first), start, end, label.get("message"), color_of(label.get("color")),
             label.get("order", 0), label.get("priority", 0))
 
+    def helps(self):
+        """The helps: one that shows the edits, where there are some, stands behind the others."""
+        edits = [Edit(*ends_of(it["at"]), it["text"]) for it in self.case.get("edits", [])]
+        shown = [Report.suggest(self.sources[self.first], edits, self.config())] if edits else []
+        return self.case.get("helps", []) + shown
+
     def report(self):
         case = self.case
         kind = case.get("kind", "Error")
@@ -64,7 +70,7 @@ class Case:
             case.get("message", ""),
             code=case.get("code"),
             labels=[self.label(it) for it in case.get("labels", [])],
-            helps=case.get("helps", []),
+            helps=self.helps(),
             notes=case.get("notes", []),
             at=(case.get("id", self.first), ends_of(case.get("at", "0..0"))[0]),
             kind_color=color_of(case.get("kind_color")) or Color.PRIMARY,

@@ -6,8 +6,8 @@ where M > 0.
 import ctypes
 import resource
 
-from sewarqo import BadLabel, BadReport, BadSource, Color, Config, Label, Report, Source
-from sewarqo._library import CLabel, COptional, CReport, CSource, CText, library
+from sewarqo import BadEdit, BadLabel, BadReport, BadSource, Color, Config, Edit, Label, Report, Source
+from sewarqo._library import CEdit, CLabel, COptional, CReport, CSource, CSuggestion, CText, library
 
 LARGEST = 2**64 - 1
 LONE = "a\ud800"
@@ -65,6 +65,35 @@ STATUSES = [
     (18, 0, lambda it: set_field(it.sources[0], "text", NO_TEXT)),
     (19, 1, lambda it: set_field(it.sources[1], "line_offset", LARGEST)),
 ]
+# Edits of a source that are refused, the exception, and what it names.
+EDITS = [
+    ("abc", [(0, 1, ""), (2, 1, "")], BadEdit, 1),
+    ("abc", [(0, 1, ""), (-1, 2, "")], BadEdit, 1),
+    ("abc", [(0, LARGEST + 1, "")], BadEdit, 0),
+    ("abc", [(1, 3, ""), (0, 2, "")], BadEdit, 0),
+    ("abc", [(1, 3, ""), (0, 4, "")], BadEdit, 0),
+    ("abc", [(0, 4, "")], BadEdit, 0),
+    ("abc", [(0, 1, LONE)], BadEdit, 0),
+    (b"abc", [(0, 1, b"\xff")], BadEdit, 0),
+    ("d\u00e9".encode(), [(0, 1, ""), (2, 3, "")], BadEdit, 1),
+    (LONE, [], BadSource, None),
+    (b"\xff", [], BadSource, None),
+    (Source("abc", -1), [], BadSource, None),
+    (Source("abc", LARGEST), [], BadSource, None),
+]
+# The status of a call that suggests, the number of the edit at fault, and what is changed in a call that tells.
+SUGGESTIONS = [
+    (0, 0, lambda it: None),
+    (2, 0, lambda it: set_field(it, "room", 3)),
+    (7, 0, lambda it: set_field(it.asked, "flags", 512)),
+    (18, 0, lambda it: set_field(it.asked.source, "text", NO_TEXT)),
+    (19, 0, lambda it: set_field(it.asked.source, "line_offset", LARGEST)),
+    (20, 1, lambda it: set_field(it.edits[1], "text", NO_TEXT)),
+    (21, 1, lambda it: set_field(it.edits[1], "start", 3)),
+    (22, 1, lambda it: set_field(it.edits[0], "end", 2)),
+    (23, 1, lambda it: set_field(it.edits[1], "end", 4)),
+    (24, 0, lambda it: set_field(it.asked, "flags", 8)),
+]
 NO_TEXT = CText(b"a\xff", 2)
 NO_OPTIONAL = COptional(NO_TEXT, 1)
 CONFIGS = [
@@ -99,6 +128,23 @@ class Call:
         return status, length.value, count.value, out.raw == b"#" * self.room
 
 
+class Suggestion:
+    """What a call is handed that tells two edits of a source."""
+
+    def __init__(self):
+        self.edits = (CEdit * 2)(CEdit(0, 1, CText(b"x", 1)), CEdit(1, 2, CText(b"yz", 2)))
+        self.asked = CSuggestion(CSource(COptional(), CText("\u00e9bc".encode(), 4), 0), self.edits, 2, 0, 0)
+        self.room = 4096
+
+    def made(self):
+        """The status, the length, the number, and whether the buffer is as it was."""
+        out = ctypes.create_string_buffer(b"#" * self.room, self.room)
+        length, count = ctypes.c_size_t(77), ctypes.c_size_t(77)
+        status = library().sewarqo_suggest(
+            ctypes.byref(self.asked), out, self.room, ctypes.byref(length), ctypes.byref(count))
+        return status, length.value, count.value, out.raw == b"#" * self.room
+
+
 def set_field(struct, name, value):
     setattr(struct, name, value)
 
@@ -115,12 +161,13 @@ def set_notes(call):
 
 def statuses():
     """Where the library returns another status or leaves something else."""
-    for status, number, change in STATUSES:
-        call = Call()
+    made = [(Call, *it) for it in STATUSES] + [(Suggestion, *it) for it in SUGGESTIONS]
+    for kind, status, number, change in made:
+        call = kind()
         change(call)
         got, length, count, is_kept = call.made()
         if (got, count, is_kept) != (status, number, status > 1) or (length > 0) != (status < 3):
-            yield f"status {status}: {got}, length {length}, number {count}, kept: {is_kept}"
+            yield f"{kind.__name__}, status {status}: {got}, length {length}, number {count}, kept: {is_kept}"
 
 
 def short_memory():
@@ -147,6 +194,18 @@ def many_labels():
         yield f"of 10,000 labels {len(drawn.left_out)} are left out"
 
 
+def refused_edits(source, edits):
+    """The exception, and what it names."""
+    edits = [Edit(*it) for it in edits]
+    try:
+        Report.suggest(source, edits)
+    except BadEdit as error:
+        return BadEdit, error.number if error.edit is edits[error.number] else None
+    except BadSource as error:
+        return BadSource, error.source
+    return None
+
+
 def refused(report, sources, config=Config()):
     """The exception, and what it names."""
     try:
@@ -165,6 +224,9 @@ def unlike():
     for report, sources, wanted, named in REFUSALS:
         if refused(report, sources) != (wanted, named):
             yield f"{wanted.__name__} of {named!r}: {refused(report, sources)}"
+    for source, edits, wanted, named in EDITS:
+        if refused_edits(source, edits) != (wanted, named):
+            yield f"{wanted.__name__} of {edits}: {refused_edits(source, edits)}"
     for config in CONFIGS:
         if refused(Report("error"), "x", config) != (BadReport, "config"):
             yield f"{config}: {refused(Report('error'), 'x', config)}"
@@ -193,11 +255,11 @@ def numbers_of_colors():
     for color in colors:
         if "\x1b[" not in Report("hint", kind_color=color).render("x"):
             yield f"colour {color}"
-    if ctypes.sizeof(CReport) != 160:
-        yield f"a report of {ctypes.sizeof(CReport)} bytes"
+    if (ctypes.sizeof(CReport), ctypes.sizeof(CSuggestion)) != (160, 80):
+        yield f"a report of {ctypes.sizeof(CReport)} bytes, a suggestion of {ctypes.sizeof(CSuggestion)}"
 
 
 faults = list(unlike())
 print(*faults, sep="\n", end="\n" * bool(faults))
-print(f"{len(REFUSALS) + len(CONFIGS) + len(STATUSES)} refusals, {len(faults)} faults")
+print(f"{len(REFUSALS) + len(EDITS) + len(CONFIGS) + len(STATUSES) + len(SUGGESTIONS)} refusals, {len(faults)} faults")
 raise SystemExit(bool(faults))

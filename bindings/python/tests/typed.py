@@ -8,7 +8,7 @@ from pathlib import Path
 from typing import Dict, List, Mapping, Tuple
 
 import sewarqo
-from sewarqo import BadLabel, Color, Config, Label, LeftOut, Picture, Report, Source, Sources
+from sewarqo import BadEdit, BadLabel, Color, Config, Edit, Label, LeftOut, Picture, Report, Source, Sources
 
 report = Report("error", "m", code="E1", labels=[Label("a", 0, 1, "x", Color.RED)], helps=("h",), at=("a", 3))
 texts: Dict[str, str] = {"a": "text"}
@@ -25,6 +25,9 @@ picture: Picture = report.draw(texts)
 left_out: List[LeftOut] = picture.left_out
 report.print(texts, file=sys.stdout)
 report.print(texts, Config(ascii=True), file=io.StringIO())
+help_text: str = Report.suggest("text", [Edit(0, 1, "T")])
+help_text = Report.suggest(b"text", (Edit(0, 1, it) for it in (b"T",)), Config(tab_width=8))
+help_text = report.suggest(Source("text", 3), ())
 version: str = sewarqo.__version__
 color: Color = Color.fixed(81)
 
@@ -36,11 +39,21 @@ def drawn_over(given: Sources) -> str:
         return f"{error.number + 1}, {error.label.start}, {error.why.upper()}"
 
 
+def number_of(edits: List[Edit]) -> int:
+    try:
+        return len(Report.suggest("text", edits))
+    except BadEdit as error:
+        return error.number + error.edit.start
+
+
 Report("error", 5)  # type: ignore[arg-type]
 Report("error", helps=[5])  # type: ignore[list-item]
 Label("a", "0", 1)  # type: ignore[arg-type]
 Config(color="never")  # type: ignore[arg-type]
 Color.fixed("81")  # type: ignore[arg-type]
+Edit(0, 1)  # type: ignore[call-arg]
+Report.suggest("text", [5])  # type: ignore[list-item]
+Report.suggest(5, [])  # type: ignore[arg-type]
 report.render(5)  # type: ignore[arg-type]
 report.print(texts, file=5)  # type: ignore[arg-type]
 drawn = report.draw(texts)  # type: ignore[assignment]

@@ -10,7 +10,8 @@ import os
 import pickle
 import sys
 
-from sewarqo import BadLabel, BadReport, BadSource, Color, Config, Label, Report, Source, __version__
+from sewarqo import (
+    BadEdit, BadLabel, BadReport, BadSource, Color, Config, Edit, Label, Report, Source, __version__)
 
 PLAIN = Config(color=False, ascii=True)
 # The same report over a source without a name, and over two.
@@ -112,6 +113,24 @@ def drawn():
     yield "a width", one(None).render("abc", PLAIN._replace(width=Number(9), tab_width=Number(4))), ONE
 
 
+def suggestions():
+    text, told = "fn f() {\n    g(d\u00e9j);\n}\n", "    g(d\u00e9j);"
+    both = [Edit(17, 18, "x"), Edit(15, 15, "&")]
+    wanted = f"2 - {told}\n2 +     g(&d\u00e9x);"
+    yield "put in", Report.suggest(text, [Edit(15, 15, "&")]), f"2 - {told}\n2 +     g(&d\u00e9j);"
+    yield "removed", Report.suggest(text, iter([Edit(16, 18, "")])), f"2 - {told}\n2 +     g(d);"
+    yield "two edits", Report.suggest(text, both), wanted
+    yield "two in bytes", Report.suggest(text.encode(), [Edit(18, 19, b"x"), both[1]]), wanted
+    yield "with an offset", Report.suggest(Source(text, 40, "a.rs"), both), wanted.replace("2 ", "42 ")
+    yield "other numbers", Report.suggest(Loud(text), [Edit(Number(15), Number(15), Loud("&"))]).count("&"), 1
+    yield "hidden", Report.suggest("a", [Edit(1, 1, "\x1b")], PLAIN._replace(safe=False)), "1 - a\n1 + a\u241b"
+    yield "a tab", Report.suggest("a", [Edit(0, 0, "b\t")], PLAIN._replace(tab_width=3)), "1 - a\n1 + b  a"
+    yield "nothing", Report.suggest(text, []), ""
+    yield "a long text", len(Report.suggest("a", [Edit(0, 1, "x" * 5000)])), 5010
+    report = Report("error", "m", helps=["borrow it:\n" + Report.suggest(text, both)])
+    yield "as a help", report.render(text, PLAIN), "Error: m\n"
+
+
 def texts():
     label = Label("a", 0, 1, color=Color.RED)
     told = "Label(source='a', start=0, end=1, message=None, color=Color.RED, order=0, priority=0)"
@@ -150,6 +169,7 @@ def copies():
     label = Label("a", 0, 1)
     for error, told in (
         (BadLabel("why", 3, label), "label 3: why"), (BadReport("why", "code"), "why"),
+        (BadEdit("why", 3, Edit(0, 1, "")), "edit 3: why"),
         (BadSource("why", "a"), "source 'a': why"),
     ):
         error.more = "kept"
@@ -190,6 +210,12 @@ NOT_MADE = [
     (lambda: Report("error", labels=5), TypeError, "labels: 5 is no list"),
     (lambda: Report("Error"), BadReport, "kind: 'Error' is not 'error'"),
     (lambda: Report("WARNING"), BadReport, "kind: 'WARNING' is not 'warning'"),
+    (lambda: Report.suggest("abc", [Edit(0, 1, ""), 5]), TypeError, "edit 1: 5 is no Edit"),
+    (lambda: Report.suggest("abc", [Edit(0, "1", "")]), TypeError, "edit 0: end: '1' is no int"),
+    (lambda: Report.suggest("abc", [Edit(0, 1, None)]), TypeError, "edit 0: text: None is no str"),
+    (lambda: Report.suggest("abc", Edit(0, 1, "")), TypeError, "edits: Edit(start=0"),
+    (lambda: Report.suggest(5, []), TypeError, "source None: 5 is no text"),
+    (lambda: Report.suggest("abc", [], None), TypeError, "config: None is no Config"),
     (lambda: Color.fixed("81"), TypeError, ""),
     (lambda: Color.rgb(1, 2, 256), ValueError, "256 is not from 0 to 255"),
     (lambda: Report("error").render("x", {"color": False}), TypeError, "config: {'color': False} is no Config"),
@@ -251,7 +277,7 @@ def set_no_color(value):
         os.environ["NO_COLOR"] = value
 
 
-looked = [it for seen in (pictures, texts, equal, copies, refusals, printing) for it in seen()]
+looked = [it for seen in (pictures, suggestions, texts, equal, copies, refusals, printing) for it in seen()]
 faults = [f"{what}: {got!r}, and not {wanted!r}" for what, got, wanted in looked if got != wanted]
 print(*faults, sep="\n", end="\n" * bool(faults))
 print(f"{len(looked)} looked at, {len(faults)} faults")

@@ -3,13 +3,15 @@
 //!
 //!     NAME KIND KIND_COLOR CODE MESSAGE ID START FLAGS ATTACH TAB_WIDTH CONTEXT_LINES WIDTH PICTURE
 //!         source ID SHOWN TEXT LINE_OFFSET .. label ID START END MESSAGE COLOR ORDER PRIORITY ..
-//!         help TEXT .. note TEXT ..
+//!         help TEXT .. note TEXT .. edit START END TEXT ..
+//!
+//! A help behind the others shows the edits of a case, which has one source then.
 //!
 //! With a number as its word, so many lines more stand behind each source. The last line is 'N cases, M
 //! differ', and the status 1 where M > 0.
 
 use ariadne::{
-    Cache, CharSet, Color, Config, IndexType, Label, LabelAttach, Report, ReportBuilder, ReportKind, Source,
+    Cache, CharSet, Color, Config, Edit, IndexType, Label, LabelAttach, Report, ReportBuilder, ReportKind, Source,
 };
 use std::collections::HashMap;
 use std::env;
@@ -127,17 +129,25 @@ impl Words<'_> {
         (id, (is_shown, Source::from(text).with_display_line_offset(self.number())))
     }
 
+    fn edit(&mut self) -> Edit {
+        Edit::new(self.number()..self.number(), self.text().expect("a text"))
+    }
+
     /// What stands behind the report's own words.
-    fn rest(&mut self, builder: &mut ReportBuilder<'_, Place>, behind: &str) -> Shown {
-        let mut shown = Shown::default();
+    fn rest(&mut self, builder: &mut ReportBuilder<'_, Place>, config: &Config, behind: &str) -> Shown {
+        let (mut shown, mut edits) = (Shown::default(), Vec::new());
         while let Some(word) = self.0.next() {
             match word {
                 "source" => shown.0.extend([self.source(behind)]),
                 "label" => builder.add_label(self.label()),
                 "help" => builder.add_help(self.text().expect("a help")),
                 "note" => builder.add_note(self.text().expect("a note")),
+                "edit" => edits.push(self.edit()),
                 _ => panic!("the word {word}"),
             }
+        }
+        if let Some((_, source)) = shown.0.values().next().filter(|_| !edits.is_empty()) {
+            builder.add_help(Report::suggest(source, &edits, config).expect("a suggestion"));
         }
         shown
     }
@@ -156,7 +166,8 @@ fn differing(line: &str, behind: &str) -> Option<String> {
     };
     let (code, message, id) = (words.text(), words.text(), words.text().expect("an id"));
     let start = words.number();
-    let mut builder = Report::build(kind, (id, start..start)).with_config(words.config());
+    let config = words.config();
+    let mut builder = Report::build(kind, (id, start..start)).with_config(config);
     let wanted = words.text().expect("a picture");
     if let Some(code) = code {
         builder = builder.with_code(code);
@@ -164,7 +175,7 @@ fn differing(line: &str, behind: &str) -> Option<String> {
     if let Some(message) = message {
         builder.set_message(message);
     }
-    let shown = words.rest(&mut builder, behind);
+    let shown = words.rest(&mut builder, &config, behind);
     let mut picture = Vec::new();
     builder.finish().write(shown, &mut picture).expect("a picture");
     (picture != wanted.into_bytes()).then_some(name)

@@ -79,6 +79,21 @@ pub(crate) struct GivenReport<'a> {
 }
 
 #[repr(C)]
+pub(crate) struct GivenEdit<'a> {
+    pub(crate) start: usize,
+    pub(crate) end: usize,
+    pub(crate) text: Text<'a>,
+}
+
+#[repr(C)]
+pub(crate) struct GivenSuggestion<'a> {
+    pub(crate) source: GivenSource<'a>,
+    pub(crate) edits: Lent<'a, GivenEdit<'a>>,
+    pub(crate) flags: u32,
+    pub(crate) tab_width: usize,
+}
+
+#[repr(C)]
 #[derive(Clone, Copy)]
 struct ToldLeftOut {
     label: usize,
@@ -97,9 +112,17 @@ extern "C" {
         left_len: usize,
         count: *mut usize,
     ) -> u32;
+
+    fn sewarqo_suggest(
+        suggestion: *const GivenSuggestion<'_>,
+        out: *mut u8,
+        out_len: usize,
+        len: *mut usize,
+        count: *mut usize,
+    ) -> u32;
 }
 
-/// Why there is no picture: the status of a refusal.
+/// Why there is no picture or text: the status of a refusal.
 pub(crate) struct Refusal(pub(crate) u32);
 
 /// Want of memory.
@@ -155,4 +178,33 @@ fn draw_into(
             slice::from_mut(&mut count).as_mut_ptr(),
         )
     }
+}
+
+/// The text of a help that shows edits of a source; else the status of a refusal, and the number of the edit.
+pub(crate) fn suggest(suggestion: &GivenSuggestion<'_>) -> Result<Vec<u8>, (Refusal, usize)> {
+    let mut out = Vec::with_capacity(1024);
+    let (mut len, mut count) = (0, 0);
+    loop {
+        match suggest_into(suggestion, out.spare_capacity_mut(), &mut len, &mut count) {
+            DRAWN => {
+                // The call has written the first `len` bytes, which the vector has room for.
+                unsafe { out.set_len(len) };
+                return Ok(out);
+            }
+            TOO_SHORT => out.reserve(len),
+            status => return Err((Refusal(status), count)),
+        }
+    }
+}
+
+/// Writes that text into a buffer, and returns the status. `len` is how many bytes the text has.
+fn suggest_into(
+    suggestion: &GivenSuggestion<'_>,
+    out: &mut [MaybeUninit<u8>],
+    len: &mut usize,
+    count: &mut usize,
+) -> u32 {
+    // As in `draw_into`: the call writes `out`, `len` and `count` alone, reads nothing of `out`, and keeps no
+    // pointer.
+    unsafe { sewarqo_suggest(suggestion, out.as_mut_ptr().cast(), out.len(), len, count) }
 }

@@ -213,7 +213,7 @@ fn color_number(color: Color) -> u32 {
 }
 
 /// The flags of a configuration.
-fn flags_of(config: &Config) -> u32 {
+pub(crate) fn flags_of(config: &Config) -> u32 {
     let flags = [
         !config.color,
         config.char_set == CharSet::Ascii,

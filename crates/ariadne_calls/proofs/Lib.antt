@@ -5,5 +5,6 @@ pub mod Numbers
 pub mod Same
 pub mod Showing
 pub mod Endings
+pub mod Suggestions
 pub mod SafeSources
 pub mod Safely

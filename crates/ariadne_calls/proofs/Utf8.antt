@@ -7,6 +7,18 @@ use Rattle.std.proofs.lemmas.Str.{IsUtf8-nil, IsUtf8-from_is_utf8, is_utf8-from_
 use Rattle.ariadne_calls.specs.declared.ending.Fault.{Fault}
 use Rattle.ariadne_calls.specs.Faults.{text_faults, when}
 
+-- a test that isn't so fails
+fails : (b : Bool) → (b ≡ true → ⊥) → b ≡ false
+fails true h = absurd (h refl)
+fails false h = refl
+
+-- what is no UTF-8 is told so, and the empty text is UTF-8
+pub no_utf8 : (bytes : List ℕ) → (IsUtf8 bytes → ⊥) → is_utf8 bytes ≡ false
+no_utf8 bytes h = fails (is_utf8 bytes) (λ e. h (IsUtf8-from_is_utf8 bytes e))
+
+pub empty_utf8 : (bytes : List ℕ) → length bytes ≡ 0 → is_utf8 bytes ≡ true
+empty_utf8 bytes h = rw (nil_from_length bytes h) (is_utf8-from_IsUtf8 [] IsUtf8-nil)
+
 -- UTF-8 has none
 pub no_fault : (f : Fault) (bytes : List ℕ) → IsUtf8 bytes → text_faults f bytes ≡ []
 no_fault f bytes h = rw (is_utf8-from_IsUtf8 bytes h) refl

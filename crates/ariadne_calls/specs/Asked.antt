@@ -7,6 +7,7 @@ use Rattle.ariadne.specs.Color.TheVariants.{Primary}
 use Rattle.ariadne.specs.LabelAttach.{LabelAttach}
 use Rattle.ariadne.specs.LabelAttach.TheVariants.{Start, Middle, End}
 use Rattle.ariadne.specs.CharSet.TheVariants.{Ascii, Unicode}
+use Rattle.ariadne.specs.IndexType.{IndexType}
 use Rattle.ariadne.specs.IndexType.TheVariants.{Byte, Char}
 use Rattle.ariadne.specs.Report.{ConfigFields, Kind, LabelFields, ReportFields}
 use Rattle.ariadne.specs.Report.{error, warning, advice, custom}
@@ -29,6 +30,14 @@ is_as_it_is r = has r.flags 128
 abbrev pub attach_of : ℕ → LabelAttach
 attach_of attach = if attach == 1 then Start else (if attach == 2 then End else Middle)
 
+-- what offsets count
+abbrev pub index_type_of : ℕ → IndexType
+index_type_of flags = if has flags 8 then Byte else Char
+
+-- how many columns stand from one tab stop to the next
+abbrev pub columns_of_tab : ℕ → ℕ
+columns_of_tab tab_width = if tab_width == 0 then 4 else tab_width
+
 -- the configuration of flags, an attachment, a tab width, a number of context lines and a width
 abbrev pub config_with : ℕ → ℕ → ℕ → ℕ → ℕ → ConfigFields
 config_with flags attach tab_width context_lines width = record {
@@ -39,11 +48,11 @@ config_with flags attach tab_width context_lines width = record {
   lone_underlines = has flags 256;
   multiline_arrows = not (has flags 32);
   color = not (has flags 1);
-  tab_width = if tab_width == 0 then 4 else tab_width;
+  tab_width = columns_of_tab tab_width;
   context_lines = context_lines;
   width = width;
   char_set = if has flags 2 then Ascii else Unicode;
-  index_type = if has flags 8 then Byte else Char;
+  index_type = index_type_of flags;
 }
 
 abbrev pub config_of : GivenReport → ConfigFields

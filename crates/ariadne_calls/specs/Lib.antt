@@ -5,3 +5,4 @@ pub mod Safe
 pub mod Faults
 pub mod Shown
 pub mod Ending
+pub mod Suggesting

@@ -75,6 +75,31 @@ pub struct GivenReport<'a> {
     pub width: usize,
 }
 
+/// An edit of a source: what stands in place of a piece of it.
+#[repr(C)]
+#[derive(Clone, Copy)]
+pub struct GivenEdit<'a> {
+    /// Offsets into the source's text from 0, the end exclusive: in characters, or in bytes where the
+    /// flags say so. They are equal for an insertion.
+    pub start: usize,
+    pub end: usize,
+    /// What is put there.
+    pub text: Text<'a>,
+}
+
+/// Edits of a source that are suggested.
+#[repr(C)]
+#[derive(Clone, Copy)]
+pub struct GivenSuggestion<'a> {
+    /// The source, whose name is not read.
+    pub source: GivenSource<'a>,
+    pub edits: &'a [GivenEdit<'a>],
+    /// Bits as those of a report, of which 8 alone is read: offsets in bytes.
+    pub flags: u32,
+    /// In columns; 0 is the usual 4.
+    pub tab_width: usize,
+}
+
 /// A label that is left out of the picture.
 #[repr(C)]
 #[derive(Clone, Copy)]

@@ -1,5 +1,5 @@
 //! Reports for callers that are not written in Rattle: what they ask for by numbers, and the picture in
-//! their buffers.
+//! their buffers. So too the text of a help that shows edits of a source.
 //!
 //! `bindings/c/sewarqo.h` has the same fields as C reads them, with the unit of each.
 #![tactic(auto)]
@@ -15,8 +15,15 @@ mod safe;
 mod safe_sources;
 mod settings;
 mod sources;
+mod suggesting;
+pub mod suggestion;
 mod texts;
 
 pub use call::draw;
 pub use ending::{Ending, Fault, Refusal};
-pub use given::{GivenLabel, GivenReport, GivenSource, OptionalText, Text, ToldLeftOut};
+pub use given::{
+    GivenEdit, GivenLabel, GivenReport, GivenSource, GivenSuggestion, OptionalText, Text,
+    ToldLeftOut,
+};
+pub use suggesting::suggest;
+pub use suggestion::{Misgiven, Suggested, Unsuggested};

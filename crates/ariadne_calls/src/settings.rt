@@ -2,7 +2,8 @@
 
 ghost use Rattle.std.specs.Prelude.{◌≡◌, ◌≢◌, [], IfOk, OnOk, IfErr};
 ghost use Rattle.ariadne.specs.Kinds as kinds;
-ghost use Rattle.ariadne_calls.specs.Asked.{attach_of, config_of, config_with, custom_of, has, kind_of};
+ghost use Rattle.ariadne_calls.specs.Asked.{attach_of, columns_of_tab, config_of, config_with, custom_of};
+ghost use Rattle.ariadne_calls.specs.Asked.{has, index_type_of, kind_of};
 ghost use Rattle.ariadne_calls.specs.Faults.{IsFirst, custom_faults, kind_faults, settings_faults};
 
 use crate::colors::color_of;
@@ -80,21 +81,34 @@ fn config_with(flags: u32, tab_width: usize) -> Config
     } else {
         CharSet::Unicode
     };
-    let index_type = if has(flags, 8) {
-        IndexType::Byte
-    } else {
-        IndexType::Char
-    };
     Config::new()
         .with_color(!has(flags, 1))
         .with_char_set(char_set)
         .with_compact(has(flags, 4))
-        .with_index_type(index_type)
+        .with_index_type(index_type_of(flags))
         .with_underlines(!has(flags, 16))
         .with_lone_underlines(has(flags, 256))
         .with_multiline_arrows(!has(flags, 32))
         .with_cross_gap(!has(flags, 64))
-        .with_tab_width(if tab_width == 0 { 4 } else { tab_width })
+        .with_tab_width(columns_of_tab(tab_width))
+}
+
+/// What offsets count.
+pub fn index_type_of(flags: u32) -> IndexType
+    ensures { result ≡ index_type_of flags }
+{
+    if has(flags, 8) {
+        IndexType::Byte
+    } else {
+        IndexType::Char
+    }
+}
+
+/// How many columns stand from one tab stop to the next.
+pub fn columns_of_tab(tab_width: usize) -> usize
+    ensures { result ≡ columns_of_tab tab_width }
+{
+    if tab_width == 0 { 4 } else { tab_width }
 }
 
 /// Whether a bit is set.

@@ -1,6 +1,7 @@
 //! The texts that a call is given.
 
-ghost use Rattle.std.specs.Prelude.{◌≡◌, [], IfOk, OnOk, IfErr};
+ghost use Rattle.std.specs.Prelude.{◌≡◌, [], true, false, IfOk, OnOk, IfErr, IfSome, None};
+ghost use Rattle.std.specs.Str.{is_utf8};
 ghost use Rattle.std.specs.Option.{option_copied};
 ghost use Rattle.ariadne_calls.specs.Faults.{IsFirst, optional_faults, text_faults};
 ghost use Rattle.ariadne_calls.specs.Given.{given_text};
@@ -15,12 +16,24 @@ pub fn text<'a>(bytes: &'a [u8], fault: Fault) -> Result<&'a str, Refusal>
     ensures sound { OnOk result (text_faults fault bytes.now ≡ []) }
     ensures err { IfErr result (IsFirst (text_faults fault bytes.now)) }
 {
+    match decoded(bytes) {
+        Some(text) => Ok(text),
+        None => Err(Refusal::Faulty(fault)),
+    }
+}
+
+/// The text of some bytes, if they are UTF-8. If there are none, nothing is looked at.
+pub fn decoded<'a>(bytes: &'a [u8]) -> Option<&'a str>
+    ensures text { IfSome result (λ text. text.now ≡ bytes.now) }
+    ensures some { IfSome result (λ _. is_utf8 bytes.now ≡ true) }
+    ensures none { result ≡ None → is_utf8 bytes.now ≡ false }
+{
     if bytes.is_empty() {
-        return Ok("");
+        return Some("");
     }
     match std::str::from_utf8(bytes) {
-        Ok(text) => Ok(text),
-        Err(_) => Err(Refusal::Faulty(fault)),
+        Ok(text) => Some(text),
+        Err(_) => None,
     }
 }
 

@@ -1,11 +1,12 @@
-//! The call that C makes, and whatever calls C: `ariadne_calls` by numbers.
+//! The calls that C makes, and whatever calls C: `ariadne_calls` by numbers.
 //!
 //! `bindings/c/sewarqo.h` is this crate's surface as C reads it.
 #![tactic(auto)]
 
 ghost use Rattle.ariadne_calls.specs.Ending.{GivesNumber};
+ghost use Rattle.ariadne_calls.specs.Suggesting.{GivesNumber as SuggestsNumber};
 
-use ariadne_calls::{GivenReport, GivenSource, ToldLeftOut, draw};
+use ariadne_calls::{GivenReport, GivenSource, GivenSuggestion, ToldLeftOut, draw, suggest};
 use std::alloc::Global;
 
 /// Draws a report over sources into `out`, and returns a status (`specs/Ending.antt` of `ariadne_calls`).
@@ -31,4 +32,26 @@ pub extern "C" fn sewarqo_draw(
     *len = ending.len();
     *count = ending.count();
     ending.status()
+}
+
+/// Writes the text of a help that shows edits of a source into `out`, and returns a status
+/// (`specs/Suggesting.antt` of `ariadne_calls`).
+///
+/// After 0 the first `len` bytes of `out` are the text. After 2 it takes `len` bytes, and `out` has
+/// less. After 3 there was no memory. After the others the edits or their source are faulty, and
+/// `count` is the number of the edit at fault. After 2 and more, `out` is as it was.
+#[unsafe(no_mangle)]
+pub extern "C" fn sewarqo_suggest(
+    alloc: Global,
+    suggestion: &GivenSuggestion<'_>,
+    out: &mut [u8],
+    len: &mut usize,
+    count: &mut usize,
+) -> u32
+    ensures { SuggestsNumber suggestion.now out.old out.new len.new count.new result }
+{
+    let told = suggest(alloc, suggestion, out);
+    *len = told.len();
+    *count = told.count();
+    told.status()
 }

@@ -1,0 +1,62 @@
+"""Suggestions: the text of a help that shows edits of a source."""
+
+import ctypes
+from typing import Iterable, List, Union
+
+from ._call import BYTE_OFFSETS, NO_MEMORY, SOURCE_FAULTS, TOO_SHORT, c_text, integer, listed, one_source, sizes, surrogate
+from ._faults import BadEdit, BadReport, BadSource
+from ._library import LARGEST, CEdit, CSuggestion, library, size
+from ._parts import Config, Edit, Source, Text
+
+_EDIT_FAULTS = {
+    20: "its text is not UTF-8", 21: "it ends before it starts",
+    22: "it starts before the end of the edit in front of it", 23: "it reaches past the source",
+    24: "one of its ends is inside a character",
+}
+
+
+def suggested(source: Union[Text, Source], edits: Iterable[Edit], config: Config) -> str:
+    """The text of the help. The call is made again where the buffer was too short for it."""
+    listed_edits: List[Edit] = listed(edits, "edits")
+    given = [_edit(number, edit) for number, edit in enumerate(listed_edits)]
+    flags = BYTE_OFFSETS * isinstance(source.text if isinstance(source, Source) else source, bytes)
+    tab_width, _, _ = sizes(config)
+    asked = CSuggestion(one_source(source), (CEdit * len(given))(*given), len(given), flags, tab_width)
+    length, count = size(), size()
+    room = 1024
+    while True:
+        out = ctypes.create_string_buffer(room)
+        status = library().sewarqo_suggest(
+            ctypes.byref(asked), out, room, ctypes.byref(length), ctypes.byref(count))
+        if status != TOO_SHORT:
+            break
+        room = length.value
+    if status:
+        raise _refusal(status, count.value, listed_edits)
+    return out.raw[:length.value].decode()
+
+
+def _edit(number: int, edit: Edit) -> CEdit:
+    """The edit with this number as the library is handed it."""
+    try:
+        if not isinstance(edit, Edit):
+            raise TypeError(f"{edit!r} is no Edit")
+        start, end = integer(edit.start, "start"), integer(edit.end, "end")
+        if not (0 <= start <= LARGEST and 0 <= end <= LARGEST):
+            raise BadEdit(f"{start} to {end} is no piece of a text", number, edit)
+        return CEdit(start, end, c_text(edit.text, "text"))
+    except UnicodeEncodeError as error:
+        raise BadEdit(surrogate(error), number, edit) from None
+    except TypeError as error:
+        raise TypeError(f"edit {number}: {error}") from None
+
+
+def _refusal(status: int, number: int, edits: List[Edit]) -> Exception:
+    """The exception for a status that is a refusal."""
+    if status == NO_MEMORY:
+        return MemoryError("there was no memory for the suggestion")
+    if status in SOURCE_FAULTS:
+        return BadSource(SOURCE_FAULTS[status], None)
+    if status in _EDIT_FAULTS:
+        return BadEdit(_EDIT_FAULTS[status], number, edits[number])
+    return BadReport(f"the suggestion is faulty (status {status})", "config")
