@@ -16,6 +16,9 @@ import shutil
 import sys
 from pathlib import Path
 
+sys.dont_write_bytecode = True
+from helping import tell_help
+
 ROOT = Path(__file__).resolve().parent.parent
 TACTIC = "#![tactic(auto)]\n"
 TESTS, PROGRAMS = "gathered_tests", "gathered_programs"
@@ -127,4 +130,5 @@ def arm_of(crate, status):
 
 
 if __name__ == "__main__":
+    tell_help(__doc__)
     gather_programs(Path(sys.argv[1]), sys.argv[2:])

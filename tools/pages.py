@@ -14,6 +14,9 @@ import sys
 from pathlib import Path
 from typing import NamedTuple
 
+sys.dont_write_bytecode = True
+from helping import tell_help
+
 ROOT = Path(__file__).resolve().parent.parent
 README = ROOT / "README.md"
 GALLERY = ROOT / "docs/GALLERY.md"
@@ -136,4 +139,5 @@ def main(words):
 
 
 if __name__ == "__main__":
+    tell_help(__doc__)
     sys.exit(main(sys.argv[1:]))

@@ -11,6 +11,9 @@ from contextlib import suppress
 from pathlib import Path
 from typing import NamedTuple
 
+sys.dont_write_bytecode = True
+from helping import tell_help
+
 GRACE = 10  # seconds that a process has to end in
 PAUSE = 0.02  # seconds between two looks at those that are left
 
@@ -77,4 +80,5 @@ def send(signal_number, processes):
 
 
 if __name__ == "__main__":
+    tell_help(__doc__)
     end_sessions([int(sys.argv[1])])
