@@ -1,0 +1,5 @@
+weigh() {
+    wiegh "$1"
+}
+weigh one
+echo $((1 / 0))

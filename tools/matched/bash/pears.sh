@@ -1,0 +1,4 @@
+weigh() {
+    if [ "$1" = pear ]; then
+        echo one
+}

@@ -1,0 +1,7 @@
+%token PEAR
+%token PEAR
+%%
+weigh: PEAR { $$ = $3; }
+	| PEAR apple
+     | /* é */ PEAR light
+     ;

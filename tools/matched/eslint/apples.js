@@ -1,0 +1,1 @@
+const weigh = (apple) => apple.weight);

@@ -1,0 +1,4 @@
+import os
+def weigh(pear):
+    unused = 1
+    """é"""; return pears

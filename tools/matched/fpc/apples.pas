@@ -1,0 +1,9 @@
+program apples;
+procedure weigh;
+var
+  unused: integer;
+begin
+end;
+begin
+  weigh
+end.

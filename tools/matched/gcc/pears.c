@@ -1,0 +1,14 @@
+#include <stdio.h>
+
+static int weigh(int pears)
+{
+	/* é */ int unused;
+    printf("%s\n", pears);
+    return pear;
+}
+
+int main(void)
+{
+    weigh("one");
+    return 0
+}

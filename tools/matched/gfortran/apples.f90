@@ -1,0 +1,6 @@
+subroutine weigh(apple)
+  implicit none
+  integer, intent(in) :: apple
+	integer :: unused
+  print *, apple
+end subroutine

@@ -1,0 +1,3 @@
+module Figs where
+
+{- é -} light = = 1

@@ -1,0 +1,4 @@
+module pears
+
+go 1.19
+pear v1

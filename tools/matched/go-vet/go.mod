@@ -1,0 +1,3 @@
+module pears
+
+go 1.19

@@ -1,0 +1,5 @@
+import java.util.List;
+
+class Apples {
+    List<Integer> apples = List.of("one");
+}

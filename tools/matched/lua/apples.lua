@@ -1,0 +1,5 @@
+local function weigh(apple)
+  return apple.weight.grams
+end
+
+print(weigh({}))

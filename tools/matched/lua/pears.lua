@@ -1,0 +1,3 @@
+local function weigh(pear)
+  return pear.weight +
+end

@@ -1,0 +1,2 @@
+apples:
+    echo weighing

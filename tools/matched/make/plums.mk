@@ -1,0 +1,2 @@
+$(warning soft plums)
+$(error no plums)

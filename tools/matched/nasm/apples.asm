@@ -1,0 +1,3 @@
+weigh:
+    movv eax, ebx
+    mov eax,,1

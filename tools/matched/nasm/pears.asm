@@ -1,0 +1,4 @@
+section .text
+weigh:
+    mov al, 300
+    jmp nowhere

@@ -1,0 +1,3 @@
+function weigh(apple) {
+    return "é" + apple);
+}

@@ -1,0 +1,5 @@
+function weigh(pear) {
+    return "é" + pear.weight.grams;
+}
+
+weigh({});

@@ -1,0 +1,3 @@
+let weigh pear =
+  let unused = 1 in
+  (* é *) pear + "one"

@@ -1,0 +1,3 @@
+let weigh pear =
+  pear +
+  ) 

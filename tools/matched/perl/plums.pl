@@ -1,0 +1,2 @@
+my $plum = (1 + ;
+print "one" $plum;

@@ -1,0 +1,4 @@
+<?php
+function weigh(string $pear): int {
+    return $pear + 1
+}

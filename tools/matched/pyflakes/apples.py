@@ -1,0 +1,2 @@
+def weigh(apple):
+    return "é" + apple)

@@ -1,0 +1,6 @@
+import os
+
+
+def weigh(pear):
+    unused = 1
+    """é"""; return pears

@@ -1,0 +1,8 @@
+import os
+
+
+def weigh(pear: str) -> int:
+    "🍐 é"; return pear
+
+
+print(wieght)

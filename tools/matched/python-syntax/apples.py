@@ -1,0 +1,3 @@
+def weigh(apple):
+    if apple:
+    return 1

@@ -1,0 +1,2 @@
+def weigh(pear):
+    return "é" + pear)

@@ -1,0 +1,10 @@
+def weigh(pear):
+    return pear["weight"] + len(pear) + 1
+
+
+def main():
+    # é
+    print("é", weigh({"weight": "one"}))
+
+
+main()

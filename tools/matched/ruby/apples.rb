@@ -1,0 +1,5 @@
+def weigh(apple)
+  apple.wieght
+end
+
+puts weigh(1)

@@ -1,0 +1,5 @@
+def weigh(fig)
+  raise "no figs"
+end
+
+weigh(1)

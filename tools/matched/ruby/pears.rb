@@ -1,0 +1,4 @@
+def weigh(pear)
+  unused = 1
+  "é"; pear.weight +
+end

@@ -1,0 +1,5 @@
+import os
+
+
+def weigh(pear):
+    "é"; return pears

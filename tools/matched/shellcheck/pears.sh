@@ -1,0 +1,7 @@
+#!/bin/sh
+weigh() {
+	echo "é" $1
+    local pears=`ls`
+}
+weigh $wieght
+if [ $a == 1 ]; then :; fi
