@@ -1,0 +1,3 @@
+-module(apples).
+weigh(Apple) ->
+    Apple + .
