@@ -4,7 +4,7 @@ static int weigh(int pears)
 {
 	/* é */ int unused;
     printf("%s\n", pears);
-    return pear;
+	/* é */ return pear;
 }
 
 int main(void)

@@ -1,3 +1,3 @@
 module Figs where
 
-{- é -} light = = 1
+{- é -} light	= = 1

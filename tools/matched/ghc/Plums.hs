@@ -1,6 +1,7 @@
 module Plums where
 
 weigh :: Maybe Int -> Int
-weigh plum = case plum of
-    Just x ->
-        x
+weigh plum =
+	case plum of
+		Just x ->
+			x

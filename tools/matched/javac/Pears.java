@@ -2,7 +2,7 @@ import java.util.List;
 
 class Pears {
     int weigh(String pear) {
-        /* é */ return pear;
+        /* 🍐 é */ return pear;
     }
 
 	List raw = null;

@@ -1,4 +1,4 @@
 fun weigh(pear: String): Int {
     val unused = 1
-    return pear
+    /* 🍐 é */ return pear
 }

@@ -1,6 +1,6 @@
 fun weigh(pear: String): Int {
     val unused = 1
-    return pear
+    /* 🍐 é */ return pear
 }
 
 fun main() {

@@ -11,4 +11,4 @@ class Basket(object):
 
 
 reveal_type(weigh("a"))
-wide: int = weigh("aaaaaaaaaaaaaaaaaaaaaa", "bbbbbbbbbbbbbbbbbbbbbbbbb", "cccccccccccccccccccccccccc", "ddddddddd")
+"é"; wide: int = weigh([1111111111, 2222222222, 3333333333, 4444444444, 5555555555, 6666666666])

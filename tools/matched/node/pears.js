@@ -1,5 +1,5 @@
 function weigh(pear) {
-    return "é" + pear.weight.grams;
+    return "🍐é" + pear.weight.grams;
 }
 
 weigh({});

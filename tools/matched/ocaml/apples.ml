@@ -1,5 +1,5 @@
 let weigh pear =
   let unused = 1 in
-  match pear with
+  (* é *) match pear with
   | Some x ->
     x

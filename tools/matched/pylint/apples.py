@@ -1,2 +1,2 @@
 """Apples."""
-APPLE = "é" + 1)
+APPLE = "éé" + 1)

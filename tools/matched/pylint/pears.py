@@ -9,7 +9,7 @@ def weigh(pear):
     "é"; return pears
 
 
-# TODO: apples
+LIGHT = "é"  # TODO: apples
 def light(one, two, three, four, five, six):
     """Tells the light ones."""
     return one, two, three, four, five, six

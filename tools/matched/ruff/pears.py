@@ -1,5 +1,5 @@
 import os
 
 
-def weigh(pear):
+def weigh(pear=[]):
     "é"; return pears

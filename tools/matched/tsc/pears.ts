@@ -1,4 +1,4 @@
-interface Pear { weight: number; }
+/* 🍐 */ interface Pear { weight: number; }
 const heavy: Pear = { weight: "one" };
 /* 🍐 é */ const light: Pear = {};
 function weigh(pear: Pear): number {

@@ -1,0 +1,7 @@
+%token PEAR
+%%
+weigh: PEAR
+  PEAR
+	| /* é */ PEAR
+	/* é */ PEAR
+;
