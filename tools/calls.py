@@ -74,7 +74,7 @@ def suggestion_of(case):
     """The help that shows the edits of a case."""
     settings = case.get("settings", {})
     counts, tab_width = settings.get("index_type", "Char"), settings.get("tab_width", 4)
-    return f"suggestion(alloc, &source, IndexType::{counts}, {tab_width}, &[{edits_of(case)}])?"
+    return f"suggestion(alloc, &source, IndexType::{counts}, {tab_width}, &[{edits_of(case)}])?.as_str()"
 
 
 def call_of(case):
