@@ -1,4 +1,4 @@
-// Compiler diagnostics, drawn over their sources. C++17, over sewarqo.h and libsewarqo.
+// Compiler diagnostics, drawn over their sources. C++17, over sewarqo.h, sewarqo_excerpt.h and libsewarqo.
 //
 //     sewarqo::Report report(sewarqo::Kind::error(), "can't compare apples with oranges");
 //     report.label({0, 0, 5, "This is an apple"}).label({0, 9, 15, "This is an orange"});
@@ -12,7 +12,7 @@
 #ifndef SEWARQO_HPP
 #define SEWARQO_HPP
 
-#include "sewarqo.h"
+#include "sewarqo_excerpt.h"
 #include <cstddef>
 #include <cstdint>
 #include <cstdlib>
@@ -119,6 +119,7 @@ struct Config {
     bool lone_underlines = false; // underlines also where no label of a line has a message
     std::size_t context_lines = 0; // lines that are shown above and below each line with a label
     std::size_t width = 0; // in columns: of the text of a line, which is cut where it is longer. 0 is any
+    bool excerpts = false; // of sources only the lines that the picture needs are handed over, and checked
 };
 
 // A picture, and the labels that are left out of it. A stream gets its text.
@@ -252,7 +253,9 @@ public:
             labels.push_back({label.source, label.start, label.end, optional_of(label.message),
                               label.color.number(), label.order, label.priority});
         const std::vector<sewarqo_text> helps = texts_of(helps_), notes = texts_of(notes_);
-        const sewarqo_report report = report_of(config, labels, helps, notes);
+        sewarqo_report report = report_of(config, labels, helps, notes);
+        if (config.excerpts)
+            report = sewarqo_excerpt(&report, given.data(), given.size(), labels.data());
         return drawn(report, given, labels.size());
     }
 

@@ -98,6 +98,23 @@ static void suggestions() {
     see("a report with it", report.render({}, plain()), "Error: m\n");
 }
 
+static void excerpts() {
+    sewarqo::Config cut = plain();
+    cut.excerpts = true;
+    // (The label is on the b of line 4, behind ends of lines of each kind.)
+    sewarqo::Report report(sewarqo::Kind::error(), "m");
+    report.label({0, 7, 8, "here"});
+    const std::vector<sewarqo::Source> sources = {{"a\n\xc3\xa9\r\n\xe2\x80\xa8" "ab\nc\n"}};
+    const std::string wanted = "Error: m\n   ,-[ <unknown>:4:2 ]\n   |\n 4 | ab\n   |  |  \n   |  `-- here\n---'\n";
+    see("a whole source", report.render(sources, plain()), wanted);
+    see("an excerpt", report.render(sources, cut), wanted);
+    sewarqo::Report second(sewarqo::Kind::error(), "m");
+    second.label({0, 2, 3, "here"});
+    cut.byte_offsets = true;
+    see("no text in front", second.draw({{"\xff\nb"}}, cut).value().text,
+        "Error: m\n   ,-[ <unknown>:2:1 ]\n   |\n 2 | b\n   | |  \n   | `-- here\n---'\n");
+}
+
 static void colors() {
     see("of the palette", written(sewarqo::Color::fixed(81).number()), "337");
     see("of three", written(sewarqo::Color::rgb(1, 2, 255).number()), "16843519");
@@ -108,6 +125,7 @@ int main() {
     streams();
     offsets();
     suggestions();
+    excerpts();
     colors();
     std::cout << looked << " looked at, " << faults << " faults\n";
     return faults != 0;

@@ -5,6 +5,7 @@ import ctypes
 import operator
 from typing import TYPE_CHECKING, Any, Dict, Hashable, Iterable, Iterator, List, NamedTuple, Optional, Tuple
 
+from ._excerpt import excerpt
 from ._faults import BadLabel, BadReport, BadSource
 from ._library import LARGEST, CLabel, CLeftOut, COptional, CReport, CSource, CText, library, size
 from ._parts import Config, Edit, Label, LeftOut, Picture, Source, Sources, Text
@@ -61,9 +62,27 @@ class Call:
         self.labels: List[Label] = listed(report.labels, "labels")
         self.given = list(_given(sources))
         self.numbers: Dict[Hashable, int] = {it.key: number for number, it in enumerate(self.given)}
-        self.sources = (CSource * len(self.given))(*map(_source, self.given))
         self.flags = _flags(config) | BYTE_OFFSETS * _counts_bytes(self.given)
         self.asked = self.report_of(config)
+        if config.excerpts:
+            self.given = [self.cut(number, it) for number, it in enumerate(self.given)]
+        self.sources = (CSource * len(self.given))(*map(_source, self.given))
+
+    def cut(self, number: int, given: _Given) -> _Given:
+        """The source with this number, of which only those lines are left that the picture needs. The places in
+        it count from their beginning."""
+        labels = [self.asked.labels[at] for at in range(self.asked.labels_len)]
+        own = [it for it in labels if it.source == number]
+        starts = [it.start for it in own] + [self.asked.start] * (self.asked.source == number)
+        if not starts:
+            return given._replace(text=given.text[:0])
+        last = max(starts + [it.end - 1 for it in own if it.end])
+        found = excerpt(given.text, min(starts), last, self.asked.context_lines)
+        for label in own:
+            label.start -= found.front
+            label.end -= found.front
+        self.asked.start -= found.front * (self.asked.source == number)
+        return given._replace(text=found.text, line_offset=given.line_offset + found.lines)
 
     def given_labels(self) -> List[CLabel]:
         """The labels."""
@@ -274,7 +293,7 @@ def sizes(config: Config) -> Tuple[int, int, int]:
 # The settings that are on or off, with the bit that each sets, and whether it sets that where it is on.
 _SWITCHES = [
     ("color", 1, False), ("ascii", 2, True), ("compact", 4, True), ("underlines", 16, False),
-    ("multiline_arrows", 32, False), ("cross_gap", 64, False), ("safe", 128, False), ("lone_underlines", 256, True),
+    ("multiline_arrows", 32, False), ("cross_gap", 64, False), ("safe", 128, False), ("lone_underlines", 256, True), ("excerpts", 0, True),
 ]
 
 

@@ -58,7 +58,9 @@ class Config(NamedTuple):
     Where `safe` is off, texts are drawn as they are: an escape character in one reaches the terminal.
     With `lone_underlines` labels are underlined also where no label of their line has a message.
     `context_lines` lines are shown above and below each line that has a label. `width` is how many columns
-    the text of a line may take, which is cut where it takes more; 0 is any number.
+    the text of a line may take, which is cut where it takes more; 0 is any number. With `excerpts` the
+    library is handed only the lines that the picture needs, and no others are checked: a call over a large
+    source takes less.
 
     >>> report = Report("error", "a \\x1b[1mbold\\x1b[0m word")
     >>> report.render("", Config(color=False))
@@ -77,6 +79,7 @@ class Config(NamedTuple):
     lone_underlines: bool = False
     context_lines: int = 0
     width: int = 0
+    excerpts: bool = False
 
 
 class LeftOut(NamedTuple):

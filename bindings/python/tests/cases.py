@@ -1,5 +1,5 @@
 """Draws stored cases (docs/CASES.md) that need no cache of their own, and compares pictures and lists. The
-cases come as JSON, a list, over standard input. The last line is 'N cases, M differ', and the status 1
+cases come as JSON, a list, over standard input. With the word `excerpts` the library is handed excerpts. The last line is 'N cases, M differ', and the status 1
 where M > 0.
 """
 
@@ -91,6 +91,7 @@ class Case:
             context_lines=number(settings.get("context_lines", 0)),
             width=number(settings.get("width", 0)),
             safe="safe" in self.case,
+            excerpts=sys.argv[1:] == ["excerpts"],
         )
 
     def is_drawn(self):

@@ -38,6 +38,15 @@ TWO = """Error: m
 ---'
 """
 NAMED = ONE.replace("<unknown>", "a.sql")
+# One over the b of line 4, behind ends of lines of several kinds.
+BEHIND = """Error: m
+   ,-[ <unknown>:4:2 ]
+   |
+ 4 | ab
+   |  |
+   |  `-- here
+---'
+"""
 
 
 class Name(str, enum.Enum):
@@ -110,6 +119,12 @@ def drawn():
     yield "bytes of a subclass", one(None).render(Bytes(b"abc"), PLAIN), ONE
     yield "subclasses side by side", one("a.sql").render({"a.sql": Loud("abc"), "b": "x"}, PLAIN), NAMED
     yield "other numbers", one(None, start=Number(0), end=Number(3)).render("abc", PLAIN), ONE
+    cut = PLAIN._replace(excerpts=True)
+    here = one(None, message="here", start=7, end=8)
+    for what, config in ("a whole source", PLAIN), ("an excerpt", cut):
+        yield what, here.render("a\n\u00e9\r\n\u2028ab\nc\n", config), BEHIND
+    yield "what is in front of an excerpt", one(None, start=2, end=5).render(b"\xff\nabc", cut), ONE.replace(
+        ":1:1", ":2:1").replace(" 1 |", " 2 |")
     yield "a width", one(None).render("abc", PLAIN._replace(width=Number(9), tab_width=Number(4))), ONE
 
 
@@ -223,6 +238,7 @@ NOT_MADE = [
     (lambda: Report("error").render("x", Config(ascii=None)), TypeError, "ascii: None is no bool"),
     (lambda: Report("error").render("x", Config(tab_width="4")), TypeError, "tab_width: '4' is no int"),
     (lambda: Report("error").render("x", Config(attach=["end"])), BadReport, "attach: ['end'] is not"),
+    (lambda: Report("error").render("x", Config(excerpts=2)), TypeError, "excerpts: 2 is no bool"),
 ]
 
 
