@@ -80,13 +80,15 @@ def is_run(rows, whole):
     return any(whole[at : at + len(rows)] == rows for at in range(len(whole)))
 
 
+def section_of(page, heading):
+    """What stands below a heading of the second level, up to the next one."""
+    return page.partition(f"\n## {heading}\n")[2].partition("\n## ")[0]
+
+
 def dependency_of(page):
-    """The two lines of README.md that name the library: that of crates.txt, and the names that the other
-    one uses."""
-    section = page.partition("\n## To depend on it\n")[2].partition("\n## ")[0]
-    (line,) = re.findall(r"^    (\w+: ariadne)$", section, re.M)
-    (use,) = re.findall(r"^    use ariadne::\{(.*)\};$", section, re.M)
-    return line, use.split(", ")
+    """The line of README.md that names the library in crates.txt."""
+    (line,) = re.findall(r"^    (\w+: ariadne)$", section_of(page, "Rattle"), re.M)
+    return line
 
 
 def table_of(page, *headings):

@@ -2,7 +2,7 @@
 //! with this file.
 
 use crate::asserts::assert_trimmed;
-use crate::readme::tell;
+use crate::readme::write_type_error;
 use ariadne::WriteError;
 use std::alloc::Global;
 
@@ -29,7 +29,7 @@ fn picture(alloc: Global) -> Result<Vec<u8>, WriteError> {
     let text =
         "def five = match () in {\n\t() => 5,\n\t() => \"5\",\n}\n\ndef six =\n    five\n    + 1\n";
     let mut out = Vec::new(alloc);
-    tell(alloc, text, &mut out)?;
+    write_type_error(alloc, text, &mut out)?;
     Ok(out)
 }
 

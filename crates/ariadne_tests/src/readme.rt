@@ -4,8 +4,12 @@ use ariadne::{CharSet, Config, Label, Report, ReportKind, Source, WriteError};
 use std::alloc::Global;
 use std::io::Write;
 
-/// Draws the error that types differ, over its text.
-pub fn tell<W: Write>(alloc: Global, text: &str, out: &mut W) -> Result<(), WriteError> {
+/// Writes a type error over the source text: three labels, whose spans count characters from 0.
+pub fn write_type_error<W: Write>(
+    alloc: Global,
+    text: &str,
+    out: &mut W,
+) -> Result<(), WriteError> {
     let config = Config::new()
         .with_char_set(CharSet::Ascii)
         .with_color(false);
