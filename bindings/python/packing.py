@@ -17,13 +17,16 @@ import sysconfig
 import tarfile
 import zipfile
 from pathlib import Path
+from platform import machine
 
 HERE = Path(__file__).resolve().parent
 NAME = "sewarqo"
 BEGUN = (1980, 1, 1, 0, 0, 0)  # (what a file's time is, since zip has none before)
 # Where the library and the licence may be: here, or in the release that has this folder.
 IS_RELEASED = HERE.parts[-4:] == ("share", "sewarqo", "bindings", "python")
-LIBRARIES = [HERE / NAME / "libsewarqo.so"] + [HERE / "../../../../lib/libsewarqo.so"] * IS_RELEASED
+LIBRARIES = [HERE / NAME / "libsewarqo.so"]
+if IS_RELEASED:  # (Debian has the library in the folder of its processor)
+    LIBRARIES += [HERE / "../../../../lib" / at / "libsewarqo.so" for at in (".", f"{machine()}-linux-gnu")]
 LICENCES = [HERE / "LICENSE-MIT", HERE / ("../../../doc/sewarqo" if IS_RELEASED else "../..") / "LICENSE-MIT"]
 METADATA = """Metadata-Version: 2.1
 Name: sewarqo
