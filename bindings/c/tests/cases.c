@@ -1,6 +1,7 @@
-/* Draws reports over whole sources and over excerpts, and compares what comes of both: the status, the picture and
-   the labels that are left out; not where the whole is refused for the numbers of its lines. Each line of standard input is a case, in the words that bindings/rust/examples/cases.rs
-   reads; its picture is not looked at. The last line is 'N cases, M differ', and the status 1 where M > 0. */
+/* Draws cases over whole sources and over excerpts, and compares both with the picture of the case, and with one
+   another: the status and the labels that are left out. Each line of standard input is a case, in the words that
+   bindings/rust/examples/cases.rs reads. A case without a picture is drawn alike by both, unless the whole is refused
+   for the numbers of its lines. The last line is 'N cases, M differ', and the status 1 where M > 0. */
 #include "sewarqo_excerpt.h"
 #include "sewarqo_grow.h"
 #include <stdio.h>
@@ -76,13 +77,18 @@ typedef struct {
     size_t sources_len;
     sewarqo_label labels[MOST];
     sewarqo_text helps[MOST], notes[MOST];
+    sewarqo_edit edits[MOST];
+    size_t edits_len;
+    sewarqo_picture suggested;
+    sewarqo_text wanted;
 } a_case;
 
+/* The number of the last source of an id, or how many there are where none has it. */
 static size_t source_of(const a_case *it, sewarqo_text id) {
-    size_t at;
-    for (at = 0; at < it->sources_len && !are_same(it->ids[at], id); at++)
-        ;
-    return at;
+    size_t at = it->sources_len;
+    while (at > 0 && !are_same(it->ids[at - 1], id))
+        at--;
+    return at > 0 ? at - 1 : it->sources_len;
 }
 
 static void read_source(a_case *it, words *line) {
@@ -106,11 +112,39 @@ static void read_label(a_case *it, words *line, sewarqo_text id) {
     label->priority = (int32_t)number(line);
 }
 
+static void read_edit(a_case *it, words *line) {
+    sewarqo_edit *edit = &it->edits[it->edits_len++];
+    edit->start = size(line);
+    edit->end = size(line);
+    edit->text = optional(line).text;
+}
+
+/* Adds a help that shows the edits of the case, if it has some. */
+static void suggest(a_case *it) {
+    sewarqo_suggestion asked = {{{{NULL, 0}, 0}, {NULL, 0}, 0}, NULL, 0, 0, 0};
+    void *bytes;
+    size_t count;
+    if (it->edits_len == 0)
+        return;
+    asked.source = it->sources[0];
+    asked.edits = it->edits;
+    asked.edits_len = it->edits_len;
+    asked.flags = it->report.flags;
+    asked.tab_width = it->report.tab_width;
+    if (sewarqo_suggest_grown(&asked, NULL, &it->suggested, &count) != SEWARQO_DRAWN)
+        broken("suggestion");
+    bytes = it->suggested.bytes;
+    it->helps[it->report.helps_len].bytes = bytes;
+    it->helps[it->report.helps_len++].len = it->suggested.len;
+}
+
 /* Reads a case; the words of its sources stand in front of those of its labels. */
 static void read_case(a_case *it, words *line) {
+    sewarqo_picture suggested = it->suggested;
     sewarqo_text kind, own;
     const char *what;
     memset(it, 0, sizeof *it);
+    it->suggested = suggested;
     optional(line); /* its name */
     kind = optional(line).text;
     it->report.kind = is(kind, "Error") ? SEWARQO_ERROR : is(kind, "Warning") ? SEWARQO_WARNING
@@ -128,7 +162,7 @@ static void read_case(a_case *it, words *line) {
     it->report.tab_width = size(line);
     it->report.context_lines = size(line);
     it->report.width = size(line);
-    optional(line); /* its picture */
+    it->wanted = optional(line).text;
     while ((what = word(line)) != NULL) {
         if (strcmp(what, "source") == 0 && it->sources_len < MOST)
             read_source(it, line);
@@ -138,9 +172,12 @@ static void read_case(a_case *it, words *line) {
             it->helps[it->report.helps_len++] = optional(line).text;
         else if (strcmp(what, "note") == 0 && it->report.notes_len < MOST)
             it->notes[it->report.notes_len++] = optional(line).text;
+        else if (strcmp(what, "edit") == 0 && it->edits_len < MOST)
+            read_edit(it, line);
         else
             broken(what);
     }
+    suggest(it);
     it->report.source = source_of(it, own);
     it->report.labels = it->labels;
     it->report.helps = it->helps;
@@ -171,6 +208,12 @@ static int are_alike(const drawn *one, const drawn *other) {
     return 1;
 }
 
+/* Whether a picture is that of a case, if it has one. */
+static int is_wanted(const a_case *it, const drawn *made) {
+    return it->wanted.len == 0 || (it->wanted.len == made->picture.len &&
+                                   memcmp(it->wanted.bytes, made->picture.bytes, it->wanted.len) == 0);
+}
+
 int main(void) {
     static a_case it;
     static drawn whole, cut;
@@ -187,12 +230,13 @@ int main(void) {
         small = sewarqo_excerpt(&it.report, excerpts, it.sources_len, moved);
         draw(&cut, &small, excerpts, it.sources_len);
         cases++;
-        if (!are_alike(&whole, &cut)) {
+        if (!are_alike(&whole, &cut) || !is_wanted(&it, &whole)) {
             differ++;
             printf("fault: case %zu differs: status %u and %u\n%s%s", cases, (unsigned)whole.status,
                    (unsigned)cut.status, whole.picture.bytes, cut.picture.bytes);
         }
     }
+    sewarqo_picture_free(&it.suggested);
     sewarqo_picture_free(&whole.picture);
     sewarqo_picture_free(&cut.picture);
     printf("%zu cases, %zu differ\n", cases, differ);
