@@ -8,7 +8,6 @@
 #![tactic(auto)]
 
 mod checksum;
-mod edits;
 mod job;
 mod jobs;
 mod long_lines;
@@ -19,7 +18,6 @@ mod pictures;
 mod texts;
 
 use ariadne::{Cache, Report, Source, Span};
-use ariadne_edits::EditError;
 use ariadne_safe::{LineEnds, SafeReport, SafeSource, SafeSources};
 use job::Job;
 use order::{Kind, Named, Order, Shape, Workload};
@@ -122,25 +120,11 @@ fn measure_named(
     measure_draw(rt, &report, &mut cache, rounds)
 }
 
-/// Measures the making of a help that shows so many edits.
-fn measure_edits(rt: &(impl AllocGlobal + Clock), count: u16, rounds: u32) -> io::Result<Outcome> {
-    let edits = edits::edits(rt.alloc(), count)?;
-    let source = Source::from(rt.alloc(), texts::narrow(rt.alloc(), u32::from(count))?)?;
-    let start = Instant::now(rt)?;
-    let help = match edits::suggest(rt.alloc(), &source, edits.as_slice(), rounds) {
-        Ok(help) => help,
-        Err(EditError::Memory(error)) => return Err(error.into()),
-        Err(EditError::Refused(_)) => return Err(io::ErrorKind::InvalidInput.into()),
-    };
-    let nanoseconds = start.elapsed(rt)?.as_nanos();
-    Ok(outcome_of(help.as_bytes(), nanoseconds))
-}
-
-/// What the making of these bytes returned.
-fn outcome_of(bytes: &[u8], nanoseconds: u128) -> Outcome {
+/// What the writing of this picture returned.
+fn outcome_of(picture: &[u8], nanoseconds: u128) -> Outcome {
     Outcome {
-        bytes: bytes.len(),
-        checksum: checksum::of_bytes(bytes),
+        bytes: picture.len(),
+        checksum: checksum::of_bytes(picture),
         nanoseconds,
     }
 }
@@ -157,7 +141,6 @@ fn measure(rt: &(impl AllocGlobal + Clock), order: &Order<'_>) -> io::Result<Out
         Kind::LongLine(line) => measure_job(rt, long_lines::job(alloc, line, number)?, rounds),
         Kind::ManyLabels(many) => measure_job(rt, many_labels::job(alloc, many, number)?, rounds),
         Kind::Named(named) => measure_named(rt, named, number, rounds),
-        Kind::Edits => measure_edits(rt, number, rounds),
     }
 }
 

@@ -101,8 +101,6 @@ pub enum Kind {
     ManyLabels(ManyLabels),
     /// Draws a report over sources that have names.
     Named(Named),
-    /// Shows an edit of each line as a help.
-    Edits,
 }
 
 /// The workloads whose names end in no number, each with its number.
@@ -148,11 +146,10 @@ const NUMBERED: &[(&str, Kind)] = &[
     ("sources-", Kind::Named(Named::Each)),
     ("longid-", Kind::Named(Named::Long)),
     ("altsrc-", Kind::Named(Named::Alternate)),
-    ("edits-", Kind::Edits),
 ];
 
-/// A workload: what is measured, and a number. That is the number of its labels, of its sources, of its
-/// edits or of the copies of its lines, of the characters of its line, or of its words.
+/// A workload: what is measured, and a number. That is the number of its labels, of its sources or
+/// of the copies of its lines, of the characters of its line, or of its words.
 #[derive(Clone, Copy)]
 pub struct Workload {
     pub kind: Kind,
