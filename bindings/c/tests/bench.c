@@ -1,17 +1,19 @@
-/* Draws a workload of docs/SPEED.md again and again: bench two|nested|two-safe|nested-safe N, which prints
-   NAME N BYTES CHECKSUM NANOSECONDS. Texts are drawn as they are, or safely. Each call has the report and
-   the source anew, and finds the lines. */
+/* Draws a workload of docs/SPEED.md again and again: bench two|nested|two-safe|nested-safe|edits-LINES N, which
+   prints NAME N BYTES CHECKSUM NANOSECONDS. Texts are drawn as they are, or safely. Each call has the report
+   and the source anew, and finds the lines. The last workload suggests an edit in each of so many lines. */
 #define _POSIX_C_SOURCE 199309L
 #include "sewarqo.h"
 #include <stdio.h>
 #include <stdlib.h>
 #include <time.h>
 
-enum { LINES = 50, DEEP = 20, WORDS = 4, LABELS = LINES * WORDS + DEEP, ROOM = 100000 };
+enum { LINES = 50, DEEP = 20, WORDS = 4, LABELS = LINES * WORDS + DEEP, EDITS = 10000, ROOM = 200 * EDITS };
 
-static char text[LINES * 50 + 1], messages[LABELS][20];
+static char text[EDITS * 50 + 1], messages[LABELS][20];
 static sewarqo_label labels[LABELS];
 static size_t labels_len;
+static sewarqo_edit edits[EDITS];
+static uint8_t out[ROOM];
 
 static void add(size_t start, size_t end, const char *message) {
     labels[labels_len++] = (sewarqo_label){.start = start, .end = end, .message = sewarqo_some(message)};
@@ -25,11 +27,16 @@ static const char *two(void) {
     return "can't compare apples with oranges";
 }
 
+/* Writes a line of 50 bytes, which is numbered from 0. */
+static void write_line(size_t line) {
+    sprintf(text + 50 * line, "let v%06zu = alpha + beta * gamma - delta (eps);\n", line);
+}
+
 /* Four labels in each of 50 lines, and 20 over several lines, of which each lies inside the next. */
 static const char *nested(void) {
     static const size_t ENDS[WORDS][2] = {{14, 19}, {22, 26}, {29, 34}, {37, 42}};
     for (size_t line = 0; line < LINES; line++) {
-        sprintf(text + 50 * line, "let v%06zu = alpha + beta * gamma - delta (eps);\n", line);
+        write_line(line);
         for (size_t word = 0; word < WORDS; word++) {
             sprintf(messages[labels_len], "inline %zu %zu", line, word);
             add(50 * line + ENDS[word][0], 50 * line + ENDS[word][1], messages[labels_len]);
@@ -43,26 +50,59 @@ static const char *nested(void) {
     return "nested";
 }
 
+/* A word is replaced in each of so many lines, which have no other edit. */
+static void put_in_words(size_t lines) {
+    for (size_t line = 0; line < lines; line++) {
+        write_line(line);
+        edits[line] = (sewarqo_edit){.start = 50 * line + 14, .end = 50 * line + 19, .text = sewarqo_str("omega")};
+    }
+}
+
+static uint64_t checksum(size_t len) {
+    uint64_t sum = 0xcbf29ce484222325;
+    for (size_t at = 0; at < len; at++)
+        sum = (sum ^ out[at]) * 0x100000001b3;
+    return sum;
+}
+
+/* Draws a report so often, or tells a suggestion where there are edits. The length of what was drawn, or 0. */
+static size_t draw(const sewarqo_report *report, const sewarqo_suggestion *suggestion, long turns) {
+    const sewarqo_source *source = &suggestion->source;
+    size_t len = 0, count;
+    for (long turn = turns; turn > 0; turn--) {
+        uint32_t status = suggestion->edits_len
+                              ? sewarqo_suggest(suggestion, out, ROOM, &len, &count)
+                              : sewarqo_draw(report, source, 1, out, ROOM, &len, NULL, 0, &count);
+        if (status != SEWARQO_DRAWN)
+            return 0;
+    }
+    return len;
+}
+
 int main(int argc, char **argv) {
-    static uint8_t out[ROOM];
     if (argc != 3)
         return 2;
-    const char *message = strncmp(argv[1], "two", 3) == 0 ? two() : nested();
-    uint32_t as_is = strstr(argv[1], "-safe") ? 0 : SEWARQO_AS_IS;
-    sewarqo_source source = {.text = sewarqo_str(text)};
-    sewarqo_report report = {.message = sewarqo_str(message), .start = labels[0].start, .labels = labels,
-                             .labels_len = labels_len, .flags = SEWARQO_PLAIN | SEWARQO_ASCII | as_is};
-    size_t len = 0, count;
+    sewarqo_report report = {.labels = labels, .flags = SEWARQO_PLAIN | SEWARQO_ASCII};
+    sewarqo_suggestion suggestion = {.edits = edits};
+    if (strncmp(argv[1], "edits-", 6) == 0) {
+        suggestion.edits_len = strtoul(argv[1] + 6, NULL, 10);
+        if (suggestion.edits_len == 0 || suggestion.edits_len > EDITS)
+            return 2;
+        put_in_words(suggestion.edits_len);
+    } else {
+        report.message = sewarqo_str(strncmp(argv[1], "two", 3) == 0 ? two() : nested());
+        report.flags |= strstr(argv[1], "-safe") ? 0 : SEWARQO_AS_IS;
+    }
+    report.start = labels[0].start;
+    report.labels_len = labels_len;
+    suggestion.source.text = sewarqo_str(text);
     struct timespec from, to;
     clock_gettime(CLOCK_MONOTONIC, &from);
-    for (long turn = atol(argv[2]); turn > 0; turn--)
-        if (sewarqo_draw(&report, &source, 1, out, ROOM, &len, NULL, 0, &count) != SEWARQO_DRAWN)
-            return 1;
+    size_t len = draw(&report, &suggestion, atol(argv[2]));
     clock_gettime(CLOCK_MONOTONIC, &to);
-    uint64_t checksum = 0xcbf29ce484222325;
-    for (size_t at = 0; at < len; at++)
-        checksum = (checksum ^ out[at]) * 0x100000001b3;
+    if (len == 0)
+        return 1;
     long long spent = (to.tv_sec - from.tv_sec) * 1000000000LL + (to.tv_nsec - from.tv_nsec);
-    printf("%s %s %zu %016llx %lld\n", argv[1], argv[2], len, (unsigned long long)checksum, spent);
+    printf("%s %s %zu %016llx %lld\n", argv[1], argv[2], len, (unsigned long long)checksum(len), spent);
     return 0;
 }
