@@ -28,7 +28,7 @@ int main(void) {
     size_t count;
     uint32_t status = sewarqo_draw_grown(&report, sources, 2, &picture, left, 4, &count);
     if (status > SEWARQO_LEFT_OUT) {
-        fprintf(stderr, "refused with status %u, at number %zu\n", status, count);
+        fprintf(stderr, "error %u, at number %zu\n", status, count);
         return 1;
     }
     fwrite(picture.bytes, 1, picture.len, stdout);

@@ -6,7 +6,7 @@
 
    Whatever the texts hold, the only escapes of a picture are the library's own, for a terminal that
    reads UTF-8: a sign stands for each character that it obeys, and for those that it shows nothing of
-   which SAFE.md lists. That page tells what is not promised too. Under SEWARQO_AS_IS texts are drawn as
+   which SAFE.md lists. That page tells what is not promised too. Under SEWARQO_RAW texts are drawn as
    they are, and an escape character in one reaches the terminal.
 
    A pointer may be null where its length is 0. With a length it must point to so many values, and
@@ -98,7 +98,7 @@ enum {
     SEWARQO_NO_UNDERLINES = 16,
     SEWARQO_NO_MULTILINE_ARROWS = 32,
     SEWARQO_NO_CROSS_GAP = 64,       /* a crossing where strokes cross, and no gap */
-    SEWARQO_AS_IS = 128,             /* texts are drawn as they are, with the escapes that they hold */
+    SEWARQO_RAW = 128,               /* texts are drawn as they are, with the escapes that they hold */
     SEWARQO_LONE_UNDERLINES = 256    /* underlines also where no label of a line has a message */
 };
 
@@ -159,36 +159,36 @@ typedef struct {
 
 /* What sewarqo_draw and sewarqo_suggest return. */
 enum {
-    SEWARQO_DRAWN = 0,          /* the picture has all labels */
-    SEWARQO_LEFT_OUT = 1,       /* the picture is there, without `*count` of the labels */
-    SEWARQO_TOO_SHORT = 2,      /* the picture takes `*len` bytes, and `out` has less */
-    SEWARQO_NO_MEMORY = 3,
-    /* What follows tells the first thing that is wrong: of the report's own fields, then label by label,
-       help by help, note by note, and source by source. `*count` is the number of the label, the text or
-       the source, and 0 of a field. */
-    SEWARQO_BAD_KIND = 4,
-    SEWARQO_BAD_KIND_COLOR = 5,
-    SEWARQO_BAD_KIND_NAME = 6,   /* not UTF-8 */
-    SEWARQO_BAD_FLAGS = 7,
-    SEWARQO_BAD_ATTACH = 8,
-    SEWARQO_BAD_CODE = 9,        /* not UTF-8 */
-    SEWARQO_BAD_MESSAGE = 10,    /* not UTF-8 */
-    SEWARQO_LABEL_SOURCE = 11,   /* the label `*count` names a source that was not given */
-    SEWARQO_LABEL_BACKWARDS = 12,/* it ends before it starts */
-    SEWARQO_LABEL_COLOR = 13,    /* its colour is none */
-    SEWARQO_LABEL_MESSAGE = 14,  /* its message is not UTF-8 */
-    SEWARQO_BAD_HELP = 15,       /* the help `*count` is not UTF-8 */
-    SEWARQO_BAD_NOTE = 16,       /* the note `*count` is not UTF-8 */
-    SEWARQO_SOURCE_NAME = 17,    /* the name of the source `*count` is not UTF-8 */
-    SEWARQO_SOURCE_TEXT = 18,    /* its text is not UTF-8 */
-    SEWARQO_SOURCE_LINES = 19,   /* its line_offset and the number of its lines exceed SIZE_MAX */
-    /* Of sewarqo_suggest alone, which returns 0, 2, 3, 7, 18 and 19 too: in this order, whichever edit comes first.
-       `*count` is the number of the edit. */
-    SEWARQO_EDIT_TEXT = 20,      /* the text of the edit `*count` is not UTF-8 */
-    SEWARQO_EDIT_BACKWARDS = 21, /* it ends before it starts */
-    SEWARQO_EDIT_OVERLAPS = 22,  /* it starts before the end of the edit in front of it */
-    SEWARQO_EDIT_PAST_SOURCE = 23,    /* it reaches past the source */
-    SEWARQO_EDIT_CUTS_CHARACTER = 24  /* in bytes: one of its ends is inside a character */
+    SEWARQO_DRAWN = 0,            /* the picture has all labels */
+    SEWARQO_LEFT_OUT = 1,         /* the picture is there, without `*count` of the labels */
+    SEWARQO_BUFFER_TOO_SMALL = 2, /* the picture takes `*len` bytes, and `out` has less */
+    SEWARQO_ERR_NO_MEMORY = 3,
+    /* The first error of the call: of the report's own fields, then label by label, help by help, note by
+       note, and source by source. `*count` is the number of the label, the text or the source, and 0 of a
+       field. */
+    SEWARQO_ERR_KIND = 4,
+    SEWARQO_ERR_KIND_COLOR = 5,
+    SEWARQO_ERR_KIND_NAME = 6,       /* not UTF-8 */
+    SEWARQO_ERR_FLAGS = 7,
+    SEWARQO_ERR_ATTACH = 8,
+    SEWARQO_ERR_CODE = 9,            /* not UTF-8 */
+    SEWARQO_ERR_MESSAGE = 10,        /* not UTF-8 */
+    SEWARQO_ERR_LABEL_SOURCE = 11,   /* the label `*count` names a source that was not given */
+    SEWARQO_ERR_LABEL_BACKWARDS = 12, /* it ends before it starts */
+    SEWARQO_ERR_LABEL_COLOR = 13,    /* its colour is none */
+    SEWARQO_ERR_LABEL_MESSAGE = 14,  /* its message is not UTF-8 */
+    SEWARQO_ERR_HELP = 15,           /* the help `*count` is not UTF-8 */
+    SEWARQO_ERR_NOTE = 16,           /* the note `*count` is not UTF-8 */
+    SEWARQO_ERR_SOURCE_NAME = 17,    /* the name of the source `*count` is not UTF-8 */
+    SEWARQO_ERR_SOURCE_TEXT = 18,    /* its text is not UTF-8 */
+    SEWARQO_ERR_SOURCE_LINES = 19,   /* its line_offset and the number of its lines exceed SIZE_MAX */
+    /* Of sewarqo_suggest alone, which returns 0, 2, 3, 7, 18 and 19 too: in this order, whichever edit comes
+       first. `*count` is the number of the edit. */
+    SEWARQO_ERR_EDIT_TEXT = 20,          /* the text of the edit `*count` is not UTF-8 */
+    SEWARQO_ERR_EDIT_BACKWARDS = 21,     /* it ends before it starts */
+    SEWARQO_ERR_EDIT_OVERLAPS = 22,      /* it starts before the end of the edit in front of it */
+    SEWARQO_ERR_EDIT_PAST_SOURCE = 23,   /* it reaches past the source */
+    SEWARQO_ERR_EDIT_CUTS_CHARACTER = 24 /* in bytes: one of its ends is inside a character */
 };
 
 /* Draws a report over its sources.
@@ -196,8 +196,8 @@ enum {
  * After SEWARQO_DRAWN and SEWARQO_LEFT_OUT the first `*len` bytes of `out` are the picture, and those
  * behind it are as they were. `left` holds the labels that are left out, in their order, as far as it
  * has room, and `*count` tells how many there are. After any other status `out` and `left` are as they
- * were. `*len` is 0 after all but the first three, and `*count` is 0 after SEWARQO_TOO_SHORT and
- * SEWARQO_NO_MEMORY. */
+ * were. `*len` is 0 after all but the first three, and `*count` is 0 after SEWARQO_BUFFER_TOO_SMALL and
+ * SEWARQO_ERR_NO_MEMORY. */
 uint32_t sewarqo_draw(const sewarqo_report *report, const sewarqo_source *sources, size_t sources_len,
                       uint8_t *out, size_t out_len, size_t *len,
                       sewarqo_left_out *left, size_t left_len, size_t *count);
@@ -209,12 +209,12 @@ uint32_t sewarqo_draw(const sewarqo_report *report, const sewarqo_source *source
  *      4 - let first = take(names);
  *      4 + let first = take(&names);
  *
- * A sign stands for each character that a terminal obeys or shows nothing of, also under SEWARQO_AS_IS. Where two
+ * A sign stands for each character that a terminal obeys or shows nothing of, also under SEWARQO_RAW. Where two
  * lines differ in white space alone, that is shown by signs. Lines are not cut to a report's `width`.
  *
  * After SEWARQO_DRAWN the first `*len` bytes of `out` are the text, and those behind it are as they were. After
- * SEWARQO_TOO_SHORT it takes `*len` bytes. After any other status `*len` is 0. `*count` is 0 but after those of
- * edits. */
+ * SEWARQO_BUFFER_TOO_SMALL it takes `*len` bytes. After any other status `*len` is 0. `*count` is 0 but after those
+ * of edits. */
 uint32_t sewarqo_suggest(const sewarqo_suggestion *suggestion, uint8_t *out, size_t out_len, size_t *len,
                          size_t *count);
 
@@ -279,20 +279,20 @@ static inline size_t sewarqo_offset(sewarqo_text text, size_t line, size_t colum
    that tells of no such thing. */
 static inline const char *sewarqo_status_part(uint32_t status) {
     switch (status) {
-    case SEWARQO_LABEL_SOURCE:
-    case SEWARQO_LABEL_BACKWARDS:
-    case SEWARQO_LABEL_COLOR:
-    case SEWARQO_LABEL_MESSAGE: return "label";
-    case SEWARQO_BAD_HELP: return "help";
-    case SEWARQO_BAD_NOTE: return "note";
-    case SEWARQO_SOURCE_NAME:
-    case SEWARQO_SOURCE_TEXT:
-    case SEWARQO_SOURCE_LINES: return "source";
-    case SEWARQO_EDIT_TEXT:
-    case SEWARQO_EDIT_BACKWARDS:
-    case SEWARQO_EDIT_OVERLAPS:
-    case SEWARQO_EDIT_PAST_SOURCE:
-    case SEWARQO_EDIT_CUTS_CHARACTER: return "edit";
+    case SEWARQO_ERR_LABEL_SOURCE:
+    case SEWARQO_ERR_LABEL_BACKWARDS:
+    case SEWARQO_ERR_LABEL_COLOR:
+    case SEWARQO_ERR_LABEL_MESSAGE: return "label";
+    case SEWARQO_ERR_HELP: return "help";
+    case SEWARQO_ERR_NOTE: return "note";
+    case SEWARQO_ERR_SOURCE_NAME:
+    case SEWARQO_ERR_SOURCE_TEXT:
+    case SEWARQO_ERR_SOURCE_LINES: return "source";
+    case SEWARQO_ERR_EDIT_TEXT:
+    case SEWARQO_ERR_EDIT_BACKWARDS:
+    case SEWARQO_ERR_EDIT_OVERLAPS:
+    case SEWARQO_ERR_EDIT_PAST_SOURCE:
+    case SEWARQO_ERR_EDIT_CUTS_CHARACTER: return "edit";
     default: return "";
     }
 }
@@ -302,29 +302,29 @@ static inline const char *sewarqo_status_text(uint32_t status) {
     switch (status) {
     case SEWARQO_DRAWN: return "the picture has all labels";
     case SEWARQO_LEFT_OUT: return "the picture has not all labels";
-    case SEWARQO_TOO_SHORT: return "the picture takes more room";
-    case SEWARQO_NO_MEMORY: return "there was no memory";
-    case SEWARQO_BAD_KIND: return "the kind is none";
-    case SEWARQO_BAD_KIND_COLOR: return "the colour of the kind is none";
-    case SEWARQO_BAD_KIND_NAME: return "the name of the kind is not UTF-8";
-    case SEWARQO_BAD_FLAGS: return "the library knows no such flag";
-    case SEWARQO_BAD_ATTACH: return "labels have no such place to attach to";
-    case SEWARQO_BAD_CODE: return "the code is not UTF-8";
-    case SEWARQO_BAD_MESSAGE: return "the message is not UTF-8";
-    case SEWARQO_LABEL_SOURCE: return "its source was not given";
-    case SEWARQO_LABEL_BACKWARDS:
-    case SEWARQO_EDIT_BACKWARDS: return "it ends before it starts";
-    case SEWARQO_LABEL_COLOR: return "its colour is none";
-    case SEWARQO_LABEL_MESSAGE: return "its message is not UTF-8";
-    case SEWARQO_BAD_HELP:
-    case SEWARQO_BAD_NOTE: return "it is not UTF-8";
-    case SEWARQO_SOURCE_NAME: return "its name is not UTF-8";
-    case SEWARQO_SOURCE_TEXT:
-    case SEWARQO_EDIT_TEXT: return "its text is not UTF-8";
-    case SEWARQO_SOURCE_LINES: return "its line_offset and the number of its lines exceed the largest number";
-    case SEWARQO_EDIT_OVERLAPS: return "it starts before the end of the edit in front of it";
-    case SEWARQO_EDIT_PAST_SOURCE: return "it reaches past the source";
-    case SEWARQO_EDIT_CUTS_CHARACTER: return "one of its ends is inside a character";
+    case SEWARQO_BUFFER_TOO_SMALL: return "the picture takes more room";
+    case SEWARQO_ERR_NO_MEMORY: return "there was no memory";
+    case SEWARQO_ERR_KIND: return "the kind is none";
+    case SEWARQO_ERR_KIND_COLOR: return "the colour of the kind is none";
+    case SEWARQO_ERR_KIND_NAME: return "the name of the kind is not UTF-8";
+    case SEWARQO_ERR_FLAGS: return "the library knows no such flag";
+    case SEWARQO_ERR_ATTACH: return "labels have no such place to attach to";
+    case SEWARQO_ERR_CODE: return "the code is not UTF-8";
+    case SEWARQO_ERR_MESSAGE: return "the message is not UTF-8";
+    case SEWARQO_ERR_LABEL_SOURCE: return "its source was not given";
+    case SEWARQO_ERR_LABEL_BACKWARDS:
+    case SEWARQO_ERR_EDIT_BACKWARDS: return "it ends before it starts";
+    case SEWARQO_ERR_LABEL_COLOR: return "its colour is none";
+    case SEWARQO_ERR_LABEL_MESSAGE: return "its message is not UTF-8";
+    case SEWARQO_ERR_HELP:
+    case SEWARQO_ERR_NOTE: return "it is not UTF-8";
+    case SEWARQO_ERR_SOURCE_NAME: return "its name is not UTF-8";
+    case SEWARQO_ERR_SOURCE_TEXT:
+    case SEWARQO_ERR_EDIT_TEXT: return "its text is not UTF-8";
+    case SEWARQO_ERR_SOURCE_LINES: return "its line_offset and the number of its lines exceed the largest number";
+    case SEWARQO_ERR_EDIT_OVERLAPS: return "it starts before the end of the edit in front of it";
+    case SEWARQO_ERR_EDIT_PAST_SOURCE: return "it reaches past the source";
+    case SEWARQO_ERR_EDIT_CUTS_CHARACTER: return "one of its ends is inside a character";
     default: return "there is no such status";
     }
 }

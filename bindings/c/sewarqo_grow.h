@@ -17,7 +17,7 @@ typedef struct {
     size_t room; /* in bytes, with the zero's */
 } sewarqo_picture;
 
-/* Draws as sewarqo_draw does, in room that grows. It never returns SEWARQO_TOO_SHORT. After a refusal
+/* Draws as sewarqo_draw does, in room that grows. It never returns SEWARQO_BUFFER_TOO_SMALL. After a refusal
    `picture` is empty, and keeps its room. */
 static inline uint32_t sewarqo_draw_grown(const sewarqo_report *report, const sewarqo_source *sources,
                                           size_t sources_len, sewarqo_picture *picture,
@@ -33,7 +33,7 @@ static inline uint32_t sewarqo_draw_grown(const sewarqo_report *report, const se
                 *count = 0;
                 if (picture->room > 0)
                     picture->bytes[0] = 0;
-                return SEWARQO_NO_MEMORY;
+                return SEWARQO_ERR_NO_MEMORY;
             }
             picture->bytes = bytes;
             picture->room = needed + 1;
@@ -42,7 +42,7 @@ static inline uint32_t sewarqo_draw_grown(const sewarqo_report *report, const se
         status = sewarqo_draw(report, sources, sources_len, SEWARQO_CAST_(uint8_t *, room), picture->room - 1,
                               &picture->len, left, left_len, count);
         needed = picture->len;
-    } while (status == SEWARQO_TOO_SHORT);
+    } while (status == SEWARQO_BUFFER_TOO_SMALL);
     if (status > SEWARQO_LEFT_OUT)
         picture->len = 0;
     picture->bytes[picture->len] = 0;
@@ -50,7 +50,7 @@ static inline uint32_t sewarqo_draw_grown(const sewarqo_report *report, const se
 }
 
 /* Puts a message, a line feed and what sewarqo_suggest tells into room that grows, as the text of a help: without
-   the line feed where there is no message, or where the edits change nothing. It never returns SEWARQO_TOO_SHORT.
+   the line feed where there is no message, or where the edits change nothing. It never returns SEWARQO_BUFFER_TOO_SMALL.
    After a refusal `help` is empty, and keeps its room. */
 static inline uint32_t sewarqo_suggest_grown(const sewarqo_suggestion *suggestion, const char *message,
                                              sewarqo_picture *help, size_t *count) {
@@ -66,7 +66,7 @@ static inline uint32_t sewarqo_suggest_grown(const sewarqo_suggestion *suggestio
                 *count = 0;
                 if (help->room > 0)
                     help->bytes[0] = 0;
-                return SEWARQO_NO_MEMORY;
+                return SEWARQO_ERR_NO_MEMORY;
             }
             help->bytes = bytes;
             help->room = front + needed + 1;
@@ -74,7 +74,7 @@ static inline uint32_t sewarqo_suggest_grown(const sewarqo_suggestion *suggestio
         room = help->bytes + front;
         status = sewarqo_suggest(suggestion, SEWARQO_CAST_(uint8_t *, room), help->room - 1 - front, &len, count);
         needed = len;
-    } while (status == SEWARQO_TOO_SHORT);
+    } while (status == SEWARQO_BUFFER_TOO_SMALL);
     help->len = status != SEWARQO_DRAWN ? 0 : len > 0 ? front + len : front - (front > 0);
     if (help->len > 0 && front > 0) {
         memcpy(help->bytes, message, front - 1);

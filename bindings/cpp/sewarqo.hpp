@@ -132,7 +132,7 @@ inline std::ostream &operator<<(std::ostream &out, const Picture &picture) { ret
 
 // Why there is no picture, or no text of a help: a status of sewarqo.h, and the number of the label, the text, the
 // source or the edit at fault. A stream gets it in words.
-struct Refusal {
+struct ErrorInfo {
     std::uint32_t status;
     std::size_t number;
     // In words: "label 2: it ends before it starts".
@@ -142,7 +142,7 @@ struct Refusal {
     }
 };
 
-inline std::ostream &operator<<(std::ostream &out, const Refusal &refusal) { return out << refusal.text(); }
+inline std::ostream &operator<<(std::ostream &out, const ErrorInfo &why) { return out << why.text(); }
 
 // The offset of a column of a line, both from 1, in characters or in bytes, which columns count too. Lines end
 // at line feeds alone. A column past its line is the line's end, in front of its LF or CR LF. Where the text has
@@ -154,26 +154,25 @@ inline std::size_t offset(std::string_view text, std::size_t line, std::size_t c
                           byte_offsets ? SEWARQO_BYTE_OFFSETS : 0);
 }
 
-// The exception of a refusal that is not for want of memory. Its `what` has the refusal in words, behind
-// "sewarqo: ".
+// The exception of an error other than want of memory. Its `what` has the error in words, behind "sewarqo: ".
 class Error : public std::runtime_error {
 public:
-    explicit Error(Refusal refusal) : std::runtime_error("sewarqo: " + refusal.text()), refusal_(refusal) {}
-    Refusal refusal() const noexcept { return refusal_; }
+    explicit Error(ErrorInfo why) : std::runtime_error("sewarqo: " + why.text()), info_(why) {}
+    ErrorInfo info() const noexcept { return info_; }
 
 private:
-    Refusal refusal_;
+    ErrorInfo info_;
 };
 
 // A picture, or why there is none.
 class Result {
 public:
     Result(Picture picture) : picture_(std::move(picture)) {}
-    Result(Refusal refusal) : refusal_(refusal) {}
+    Result(ErrorInfo why) : info_(why) {}
     bool has_value() const noexcept { return picture_.has_value(); }
     explicit operator bool() const noexcept { return has_value(); }
-    // The refusal, where there is no picture.
-    Refusal error() const noexcept { return refusal_; }
+    // The error, where there is no picture.
+    ErrorInfo error() const noexcept { return info_; }
     // The picture. Without one it throws an Error, or std::bad_alloc where there was no memory. Where the
     // program is built without exceptions, it aborts.
     Picture &value() & { return check(); }
@@ -182,20 +181,20 @@ public:
 private:
     Picture &check() {
         if (!picture_)
-            refuse();
+            fail();
         return *picture_;
     }
-    [[noreturn]] void refuse() const {
+    [[noreturn]] void fail() const {
 #ifdef __cpp_exceptions
-        if (refusal_.status == SEWARQO_NO_MEMORY)
+        if (info_.status == SEWARQO_ERR_NO_MEMORY)
             throw std::bad_alloc();
-        throw Error(refusal_);
+        throw Error(info_);
 #else
         std::abort();
 #endif
     }
     std::optional<Picture> picture_;
-    Refusal refusal_ = {SEWARQO_DRAWN, 0};
+    ErrorInfo info_ = {SEWARQO_DRAWN, 0};
 };
 
 // What is said of which pieces of sources.
@@ -229,10 +228,10 @@ public:
         std::uint32_t status;
         while ((status = sewarqo_suggest(&asked, reinterpret_cast<std::uint8_t *>(help.text.data()),
                                          help.text.size(), &len, &count))
-               == SEWARQO_TOO_SHORT)
+               == SEWARQO_BUFFER_TOO_SMALL)
             help.text.resize(len);
         if (status != SEWARQO_DRAWN)
-            return Refusal{status, count};
+            return ErrorInfo{status, count};
         help.text.resize(len);
         return help;
     }
@@ -280,7 +279,7 @@ private:
                | (config.compact ? SEWARQO_COMPACT : 0) | (config.byte_offsets ? SEWARQO_BYTE_OFFSETS : 0)
                | (config.underlines ? 0 : SEWARQO_NO_UNDERLINES)
                | (config.multiline_arrows ? 0 : SEWARQO_NO_MULTILINE_ARROWS)
-               | (config.cross_gap ? 0 : SEWARQO_NO_CROSS_GAP) | (config.safe ? 0 : SEWARQO_AS_IS)
+               | (config.cross_gap ? 0 : SEWARQO_NO_CROSS_GAP) | (config.safe ? 0 : SEWARQO_RAW)
                | (config.lone_underlines ? SEWARQO_LONE_UNDERLINES : 0);
     }
 
@@ -319,10 +318,10 @@ private:
         while ((status = sewarqo_draw(&report, sources.data(), sources.size(),
                                       reinterpret_cast<std::uint8_t *>(picture.text.data()),
                                       picture.text.size(), &len, picture.left_out.data(), labels, &count))
-               == SEWARQO_TOO_SHORT)
+               == SEWARQO_BUFFER_TOO_SMALL)
             picture.text.resize(len);
         if (status > SEWARQO_LEFT_OUT)
-            return Refusal{status, count};
+            return ErrorInfo{status, count};
         picture.text.resize(len);
         picture.left_out.resize(count);
         return picture;

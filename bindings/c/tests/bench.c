@@ -91,7 +91,7 @@ int main(int argc, char **argv) {
         put_in_words(suggestion.edits_len);
     } else {
         report.message = sewarqo_str(strncmp(argv[1], "two", 3) == 0 ? two() : nested());
-        report.flags |= strstr(argv[1], "-safe") ? 0 : SEWARQO_AS_IS;
+        report.flags |= strstr(argv[1], "-safe") ? 0 : SEWARQO_RAW;
     }
     report.start = labels[0].start;
     report.labels_len = labels_len;

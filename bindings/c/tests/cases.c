@@ -197,7 +197,7 @@ static void draw(drawn *it, const sewarqo_report *report, const sewarqo_source *
 
 static int are_alike(const drawn *one, const drawn *other) {
     size_t at;
-    if (one->status == SEWARQO_SOURCE_LINES)
+    if (one->status == SEWARQO_ERR_SOURCE_LINES)
         return 1;
     if (one->status != other->status || one->count != other->count || one->picture.len != other->picture.len ||
         memcmp(one->picture.bytes, other->picture.bytes, one->picture.len) != 0)

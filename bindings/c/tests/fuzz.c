@@ -14,7 +14,7 @@ static const uint8_t *bytes;
 static size_t bytes_len;
 
 /* How often each status came. */
-static size_t seen[SEWARQO_EDIT_CUTS_CHARACTER + 1];
+static size_t seen[SEWARQO_ERR_EDIT_CUTS_CHARACTER + 1];
 
 static uint8_t byte(void) {
     if (bytes_len == 0)
@@ -105,11 +105,11 @@ static void try_once(void) {
     if (report.tab_width > 100)
         report.tab_width = 100;
     uint32_t status = sewarqo_draw(&report, sources, sources_len, out, room, &len, left, left_room, &count);
-    require(status <= SEWARQO_SOURCE_LINES, "a status");
+    require(status <= SEWARQO_ERR_SOURCE_LINES, "a status");
     seen[status]++;
     bool is_drawn = status <= SEWARQO_LEFT_OUT;
     require(!is_drawn || len <= room, "a picture in its room");
-    require(status != SEWARQO_TOO_SHORT || len > room, "a picture that takes more");
+    require(status != SEWARQO_BUFFER_TOO_SMALL || len > room, "a picture that takes more");
     for (size_t at = is_drawn ? len : 0; at < ROOM; at++)
         require(out[at] == '#', "the rest of the buffer");
     size_t told = is_drawn ? count < left_room ? count : left_room : 0;
@@ -138,12 +138,13 @@ static void try_suggestion(void) {
         room = ROOM;
     memset(out, '#', ROOM);
     uint32_t status = sewarqo_suggest(&suggestion, out, room, &len, &count);
-    bool is_told = status == SEWARQO_DRAWN, is_of_edit = status >= SEWARQO_EDIT_TEXT;
-    require(is_told || status == SEWARQO_TOO_SHORT || status == SEWARQO_NO_MEMORY || status == SEWARQO_BAD_FLAGS
-            || status == SEWARQO_SOURCE_TEXT || status == SEWARQO_SOURCE_LINES || (is_of_edit && status <= SEWARQO_EDIT_CUTS_CHARACTER), "a status");
+    bool is_told = status == SEWARQO_DRAWN, is_of_edit = status >= SEWARQO_ERR_EDIT_TEXT;
+    require(is_told || status == SEWARQO_BUFFER_TOO_SMALL || status == SEWARQO_ERR_NO_MEMORY
+            || status == SEWARQO_ERR_FLAGS || status == SEWARQO_ERR_SOURCE_TEXT || status == SEWARQO_ERR_SOURCE_LINES
+            || (is_of_edit && status <= SEWARQO_ERR_EDIT_CUTS_CHARACTER), "a status");
     seen[status]++;
     require(!is_told || len <= room, "a text in its room");
-    require(status != SEWARQO_TOO_SHORT || len > room, "a text that takes more");
+    require(status != SEWARQO_BUFFER_TOO_SMALL || len > room, "a text that takes more");
     require(is_of_edit ? count < edits_len : count == 0, "the number of an edit");
     for (size_t at = is_told ? len : 0; at < ROOM; at++)
         require(out[at] == '#', "the rest of the buffer");
@@ -176,7 +177,7 @@ int main(int argc, char **argv) {
         }
         LLVMFuzzerTestOneInput(data, sizeof data);
     }
-    for (uint32_t status = 0; status <= SEWARQO_EDIT_CUTS_CHARACTER; status++)
+    for (uint32_t status = 0; status <= SEWARQO_ERR_EDIT_CUTS_CHARACTER; status++)
         printf("status %u: %zu\n", status, seen[status]);
     printf("%zu tries, 0 faults\n", tries);
     return 0;

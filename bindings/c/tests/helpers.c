@@ -147,13 +147,13 @@ static void sinks(void) {
     prepare();
     see("a sink: the status", sent_by(0, &count) == SEWARQO_DRAWN && count == 0);
     see("a sink: its picture", sent.calls == 1 && sent.is_right);
-    see("a sink that takes nothing", sent_by(1, &count) == SEWARQO_NOT_SENT && sent.calls == 1);
+    see("a sink that takes nothing", sent_by(1, &count) == SEWARQO_ERR_NOT_SENT && sent.calls == 1);
     call.label.end = sewarqo_offset(call.source.text, 9, 1, 0);
     see("a line that is not there", sent_by(0, &count) == SEWARQO_LEFT_OUT && count == 1 && sent.calls == 1);
     see("what is left out", sewarqo_send(&call.report, &call.source, 1, take, &sent, &left, 1, &count) == SEWARQO_LEFT_OUT
         && left.label == 0 && left.reason == SEWARQO_PAST_SOURCE);
     call.label.source = 1;
-    see("a refusal", sent_by(0, &count) == SEWARQO_LABEL_SOURCE && count == 0 && sent.calls == 0);
+    see("a refusal", sent_by(0, &count) == SEWARQO_ERR_LABEL_SOURCE && count == 0 && sent.calls == 0);
 }
 
 static void files(void) {
@@ -172,7 +172,7 @@ static void files(void) {
     fclose(file);
     if (full != NULL) {
         setvbuf(full, NULL, _IONBF, 0);
-        see("a full one", sewarqo_print(&call.report, &call.source, 1, full, NULL, 0, &count) == SEWARQO_NOT_SENT);
+        see("a full one", sewarqo_print(&call.report, &call.source, 1, full, NULL, 0, &count) == SEWARQO_ERR_NOT_SENT);
         fclose(full);
     }
 }
@@ -204,7 +204,7 @@ static void suggestions(void) {
         && strcmp(help.bytes, "") == 0 && help.len == 0);
     suggestion.edits_len = 1;
     edit.end = 12;
-    see("a refusal", sewarqo_suggest_grown(&suggestion, "m", &help, &count) == SEWARQO_EDIT_PAST_SOURCE && count == 0
+    see("a refusal", sewarqo_suggest_grown(&suggestion, "m", &help, &count) == SEWARQO_ERR_EDIT_PAST_SOURCE && count == 0
         && help.len == 0 && help.bytes[0] == 0);
     sewarqo_picture_free(&help);
 }
@@ -218,31 +218,31 @@ static const struct {
 } STATUSES[] = {
     {SEWARQO_DRAWN, 0, "the picture has all labels"},
     {SEWARQO_LEFT_OUT, 3, "the picture has not all labels"},
-    {SEWARQO_TOO_SHORT, 0, "the picture takes more room"},
-    {SEWARQO_NO_MEMORY, 0, "there was no memory"},
-    {SEWARQO_BAD_KIND, 0, "the kind is none"},
-    {SEWARQO_BAD_KIND_COLOR, 0, "the colour of the kind is none"},
-    {SEWARQO_BAD_KIND_NAME, 0, "the name of the kind is not UTF-8"},
-    {SEWARQO_BAD_FLAGS, 0, "the library knows no such flag"},
-    {SEWARQO_BAD_ATTACH, 0, "labels have no such place to attach to"},
-    {SEWARQO_BAD_CODE, 0, "the code is not UTF-8"},
-    {SEWARQO_BAD_MESSAGE, 0, "the message is not UTF-8"},
-    {SEWARQO_LABEL_SOURCE, 0, "label 0: its source was not given"},
-    {SEWARQO_LABEL_BACKWARDS, 12, "label 12: it ends before it starts"},
-    {SEWARQO_LABEL_COLOR, 1, "label 1: its colour is none"},
-    {SEWARQO_LABEL_MESSAGE, 1, "label 1: its message is not UTF-8"},
-    {SEWARQO_BAD_HELP, 2, "help 2: it is not UTF-8"},
-    {SEWARQO_BAD_NOTE, 2, "note 2: it is not UTF-8"},
-    {SEWARQO_SOURCE_NAME, 4, "source 4: its name is not UTF-8"},
-    {SEWARQO_SOURCE_TEXT, 4, "source 4: its text is not UTF-8"},
-    {SEWARQO_SOURCE_LINES, 4, "source 4: its line_offset and the number of its lines exceed the largest number"},
-    {SEWARQO_EDIT_TEXT, 1, "edit 1: its text is not UTF-8"},
-    {SEWARQO_EDIT_BACKWARDS, 0, "edit 0: it ends before it starts"},
-    {SEWARQO_EDIT_OVERLAPS, 2, "edit 2: it starts before the end of the edit in front of it"},
-    {SEWARQO_EDIT_PAST_SOURCE, 3, "edit 3: it reaches past the source"},
-    {SEWARQO_EDIT_CUTS_CHARACTER, 4, "edit 4: one of its ends is inside a character"},
+    {SEWARQO_BUFFER_TOO_SMALL, 0, "the picture takes more room"},
+    {SEWARQO_ERR_NO_MEMORY, 0, "there was no memory"},
+    {SEWARQO_ERR_KIND, 0, "the kind is none"},
+    {SEWARQO_ERR_KIND_COLOR, 0, "the colour of the kind is none"},
+    {SEWARQO_ERR_KIND_NAME, 0, "the name of the kind is not UTF-8"},
+    {SEWARQO_ERR_FLAGS, 0, "the library knows no such flag"},
+    {SEWARQO_ERR_ATTACH, 0, "labels have no such place to attach to"},
+    {SEWARQO_ERR_CODE, 0, "the code is not UTF-8"},
+    {SEWARQO_ERR_MESSAGE, 0, "the message is not UTF-8"},
+    {SEWARQO_ERR_LABEL_SOURCE, 0, "label 0: its source was not given"},
+    {SEWARQO_ERR_LABEL_BACKWARDS, 12, "label 12: it ends before it starts"},
+    {SEWARQO_ERR_LABEL_COLOR, 1, "label 1: its colour is none"},
+    {SEWARQO_ERR_LABEL_MESSAGE, 1, "label 1: its message is not UTF-8"},
+    {SEWARQO_ERR_HELP, 2, "help 2: it is not UTF-8"},
+    {SEWARQO_ERR_NOTE, 2, "note 2: it is not UTF-8"},
+    {SEWARQO_ERR_SOURCE_NAME, 4, "source 4: its name is not UTF-8"},
+    {SEWARQO_ERR_SOURCE_TEXT, 4, "source 4: its text is not UTF-8"},
+    {SEWARQO_ERR_SOURCE_LINES, 4, "source 4: its line_offset and the number of its lines exceed the largest number"},
+    {SEWARQO_ERR_EDIT_TEXT, 1, "edit 1: its text is not UTF-8"},
+    {SEWARQO_ERR_EDIT_BACKWARDS, 0, "edit 0: it ends before it starts"},
+    {SEWARQO_ERR_EDIT_OVERLAPS, 2, "edit 2: it starts before the end of the edit in front of it"},
+    {SEWARQO_ERR_EDIT_PAST_SOURCE, 3, "edit 3: it reaches past the source"},
+    {SEWARQO_ERR_EDIT_CUTS_CHARACTER, 4, "edit 4: one of its ends is inside a character"},
     {25, 1, "there is no such status"},
-    {SEWARQO_NOT_SENT, 1, "the picture was not taken"},
+    {SEWARQO_ERR_NOT_SENT, 1, "the picture was not taken"},
 };
 
 static void statuses(void) {
@@ -254,8 +254,8 @@ static void statuses(void) {
         see(STATUSES[at].text, strcmp(text, STATUSES[at].text) == 0 && len == strlen(text));
         see(STATUSES[at].text, status >= 25 || status == at);
     }
-    see("no room", sewarqo_explain(SEWARQO_LABEL_COLOR, 1, NULL, 0) == 27);
-    see("little room", sewarqo_explain(SEWARQO_LABEL_COLOR, 1, cut, room) == 27 && strcmp(cut, "label 1") == 0);
+    see("no room", sewarqo_explain(SEWARQO_ERR_LABEL_COLOR, 1, NULL, 0) == 27);
+    see("little room", sewarqo_explain(SEWARQO_ERR_LABEL_COLOR, 1, cut, room) == 27 && strcmp(cut, "label 1") == 0);
 }
 
 int main(int argc, char **argv) {

@@ -98,9 +98,9 @@ static void make(const char *what, uint32_t status) {
             fault(what, "the list has changed");
             break;
         }
-    if (status >= SEWARQO_NO_MEMORY && call.len != 0)
+    if (status >= SEWARQO_ERR_NO_MEMORY && call.len != 0)
         fault(what, "a length");
-    if ((status == SEWARQO_TOO_SHORT || status == SEWARQO_NO_MEMORY) && call.count != 0)
+    if ((status == SEWARQO_BUFFER_TOO_SMALL || status == SEWARQO_ERR_NO_MEMORY) && call.count != 0)
         fault(what, "a number");
     if (held != 0)
         fault(what, "memory is kept");
@@ -119,48 +119,48 @@ static const sewarqo_optional BAD_OPTIONAL = {{NOT_TEXT, sizeof NOT_TEXT}, 1};
 
 static void refusals(void) {
     call.report.kind = 4;
-    refuse("no kind", SEWARQO_BAD_KIND, 0);
+    refuse("no kind", SEWARQO_ERR_KIND, 0);
     call.report.kind = SEWARQO_CUSTOM;
-    refuse("a kind without colour", SEWARQO_BAD_KIND_COLOR, 0);
+    refuse("a kind without colour", SEWARQO_ERR_KIND_COLOR, 0);
     call.report.kind = SEWARQO_CUSTOM;
     call.report.kind_color = SEWARQO_BLUE;
     call.report.kind_name = BAD;
-    refuse("the name of a kind", SEWARQO_BAD_KIND_NAME, 0);
+    refuse("the name of a kind", SEWARQO_ERR_KIND_NAME, 0);
     call.report.flags = 512;
-    refuse("no flag", SEWARQO_BAD_FLAGS, 0);
+    refuse("no flag", SEWARQO_ERR_FLAGS, 0);
     call.report.attach = 3;
-    refuse("attached nowhere", SEWARQO_BAD_ATTACH, 0);
+    refuse("attached nowhere", SEWARQO_ERR_ATTACH, 0);
     call.report.code = BAD_OPTIONAL;
-    refuse("the code", SEWARQO_BAD_CODE, 0);
+    refuse("the code", SEWARQO_ERR_CODE, 0);
     call.report.message = BAD;
-    refuse("the message", SEWARQO_BAD_MESSAGE, 0);
+    refuse("the message", SEWARQO_ERR_MESSAGE, 0);
     call.labels[2].source = 2;
-    refuse("a label in no source", SEWARQO_LABEL_SOURCE, 2);
+    refuse("a label in no source", SEWARQO_ERR_LABEL_SOURCE, 2);
     call.labels[1].end = 8;
-    refuse("a label backwards", SEWARQO_LABEL_BACKWARDS, 1);
+    refuse("a label backwards", SEWARQO_ERR_LABEL_BACKWARDS, 1);
     call.labels[1].color = 18;
-    refuse("a label in no colour", SEWARQO_LABEL_COLOR, 1);
+    refuse("a label in no colour", SEWARQO_ERR_LABEL_COLOR, 1);
     call.labels[0].message = BAD_OPTIONAL;
-    refuse("the message of a label", SEWARQO_LABEL_MESSAGE, 0);
+    refuse("the message of a label", SEWARQO_ERR_LABEL_MESSAGE, 0);
     call.helps[1] = BAD;
-    refuse("a help", SEWARQO_BAD_HELP, 1);
+    refuse("a help", SEWARQO_ERR_HELP, 1);
     call.notes[1] = BAD;
-    refuse("a note", SEWARQO_BAD_NOTE, 1);
+    refuse("a note", SEWARQO_ERR_NOTE, 1);
     call.sources[1].name = BAD_OPTIONAL;
-    refuse("the name of a source", SEWARQO_SOURCE_NAME, 1);
+    refuse("the name of a source", SEWARQO_ERR_SOURCE_NAME, 1);
     call.sources[1].text = BAD;
-    refuse("the text of a source", SEWARQO_SOURCE_TEXT, 1);
+    refuse("the text of a source", SEWARQO_ERR_SOURCE_TEXT, 1);
     call.sources[1].line_offset = SIZE_MAX;
-    refuse("the lines of a source", SEWARQO_SOURCE_LINES, 1);
+    refuse("the lines of a source", SEWARQO_ERR_SOURCE_LINES, 1);
     call.labels[2].source = 2;
     call.sources[0].text = BAD;
-    refuse("a label and then a source", SEWARQO_LABEL_SOURCE, 2);
+    refuse("a label and then a source", SEWARQO_ERR_LABEL_SOURCE, 2);
     call.labels[0].message = BAD_OPTIONAL;
     call.labels[1].source = 2;
-    refuse("the first of two labels", SEWARQO_LABEL_MESSAGE, 0);
+    refuse("the first of two labels", SEWARQO_ERR_LABEL_MESSAGE, 0);
     call.sources[0].line_offset = SIZE_MAX;
     call.sources[1].name = BAD_OPTIONAL;
-    refuse("the first of two sources", SEWARQO_SOURCE_LINES, 0);
+    refuse("the first of two sources", SEWARQO_ERR_SOURCE_LINES, 0);
 }
 
 /* What is near a refusal, and isn't one. */
@@ -225,11 +225,11 @@ static void rooms(void) {
     call.room = len;
     make("no byte too many", SEWARQO_DRAWN);
     call.room = len - 1;
-    make("one byte short", SEWARQO_TOO_SHORT);
+    make("one byte short", SEWARQO_BUFFER_TOO_SMALL);
     if (call.len != len)
         fault("one byte short", "another length");
     call.room = 0;
-    make("no room", SEWARQO_TOO_SHORT);
+    make("no room", SEWARQO_BUFFER_TOO_SMALL);
     if (call.len != len)
         fault("no room", "another length");
     prepare();
@@ -241,7 +241,7 @@ static void memory(uint32_t flags) {
     make("all memory", SEWARQO_DRAWN);
     size_t requests = asked;
     for (refused = 0; refused < requests; refused++)
-        make("a request for memory", SEWARQO_NO_MEMORY);
+        make("a request for memory", SEWARQO_ERR_NO_MEMORY);
     printf("%zu requests for memory\n", requests);
     refused = SIZE_MAX;
     prepare();
@@ -254,7 +254,7 @@ static void no_buffers(void) {
     sewarqo_report report = {0};
     uint32_t status = sewarqo_draw(&report, NULL, 0, NULL, 0, &len, NULL, 0, &count);
     calls++;
-    if (status != SEWARQO_TOO_SHORT || len == 0 || count != 0)
+    if (status != SEWARQO_BUFFER_TOO_SMALL || len == 0 || count != 0)
         fault("no buffers", "another answer");
     call.report = report;
     call.sources_len = 0;
@@ -274,7 +274,7 @@ static bool shows(const char *bytes) {
 }
 
 /* What a terminal obeys has a sign, in each text, and offsets stay those of the given text; under
-   SEWARQO_AS_IS it is drawn as it is. */
+   SEWARQO_RAW it is drawn as it is. */
 static void hidden(void) {
     call.report.kind = SEWARQO_CUSTOM;
     call.report.kind_color = SEWARQO_BLUE;
@@ -296,7 +296,7 @@ static void hidden(void) {
         fault("hidden characters", "a sign is missing");
     if (!shows("\xe2\x90\x9b[7m\xef\xbf\xbd def\n   |       ^|^"))
         fault("hidden characters", "a label is elsewhere");
-    call.report.flags |= SEWARQO_AS_IS;
+    call.report.flags |= SEWARQO_RAW;
     make("texts as they are", SEWARQO_DRAWN);
     if (!shows("k\x1b[1m: m\x1b[2m") || !shows("\x1b[7m\xe2\x80\xae def") || shows("\xe2\x90\x9b"))
         fault("texts as they are", "a text has changed");
@@ -339,7 +339,7 @@ static void suggest(const char *what, uint32_t status, size_t number) {
             fault(what, "the buffer has changed");
             break;
         }
-    if (status >= SEWARQO_NO_MEMORY && call.len != 0)
+    if (status >= SEWARQO_ERR_NO_MEMORY && call.len != 0)
         fault(what, "a length");
     if (call.count != number)
         fault(what, "another number");
@@ -376,7 +376,7 @@ static void suggestions(void) {
     suggestion.edits[0] = (sewarqo_edit){9, 13, sewarqo_str("\t\x1b[1m\xe2\x80\xae")};
     suggestion.asked.edits_len = 1;
     suggestion.asked.tab_width = 2;
-    suggestion.asked.flags = SEWARQO_AS_IS;
+    suggestion.asked.flags = SEWARQO_RAW;
     suggest_text("hidden characters", "42 -     g(d\xc3\xa9j);\n42 +   \xe2\x90\x9b[1m\xef\xbf\xbdg(d\xc3\xa9j);");
     suggestion.edits[0] = (sewarqo_edit){9, 10, sewarqo_str("\t")};
     suggestion.asked.edits_len = 1;
@@ -397,27 +397,27 @@ static void suggestions(void) {
 static void suggestions_refused(void) {
     suggestion.asked.flags = 512;
     suggestion.asked.source.text = BAD;
-    suggest_none("no flag", SEWARQO_BAD_FLAGS, 0);
+    suggest_none("no flag", SEWARQO_ERR_FLAGS, 0);
     suggestion.asked.source.text = BAD;
     suggestion.edits[1].text = BAD;
-    suggest_none("the text of a source", SEWARQO_SOURCE_TEXT, 0);
+    suggest_none("the text of a source", SEWARQO_ERR_SOURCE_TEXT, 0);
     suggestion.asked.source.line_offset = SIZE_MAX - 2;
     suggestion.edits[1].text = BAD;
-    suggest_none("the lines of a source", SEWARQO_SOURCE_LINES, 0);
+    suggest_none("the lines of a source", SEWARQO_ERR_SOURCE_LINES, 0);
     suggestion.edits[0].start = 99;
     suggestion.edits[1].text = BAD;
-    suggest_none("the text of an edit", SEWARQO_EDIT_TEXT, 1);
+    suggest_none("the text of an edit", SEWARQO_ERR_EDIT_TEXT, 1);
     suggestion.edits[0].start = 99;
     suggestion.edits[1].end = 99;
-    suggest_none("an edit backwards", SEWARQO_EDIT_BACKWARDS, 0);
+    suggest_none("an edit backwards", SEWARQO_ERR_EDIT_BACKWARDS, 0);
     suggestion.edits[0].end = 99;
     suggestion.edits[1].end = 18;
-    suggest_none("edits that overlap", SEWARQO_EDIT_OVERLAPS, 0);
+    suggest_none("edits that overlap", SEWARQO_ERR_EDIT_OVERLAPS, 0);
     suggestion.edits[0].end = 24;
-    suggest_none("an edit past the source", SEWARQO_EDIT_PAST_SOURCE, 0);
+    suggest_none("an edit past the source", SEWARQO_ERR_EDIT_PAST_SOURCE, 0);
     suggestion.asked.flags = SEWARQO_BYTE_OFFSETS;
     suggestion.edits[1].end = 17;
-    suggest_none("an edit that cuts a character", SEWARQO_EDIT_CUTS_CHARACTER, 1);
+    suggest_none("an edit that cuts a character", SEWARQO_ERR_EDIT_CUTS_CHARACTER, 1);
 }
 
 static void suggestion_rooms(void) {
@@ -426,16 +426,17 @@ static void suggestion_rooms(void) {
     suggestion.room = len;
     suggest("no byte too many", SEWARQO_DRAWN, 0);
     for (suggestion.room = 0; suggestion.room < len; suggestion.room += len - 1) {
-        suggest("bytes too few", SEWARQO_TOO_SHORT, 0);
+        suggest("bytes too few", SEWARQO_BUFFER_TOO_SMALL, 0);
         if (call.len != len)
             fault("bytes too few", "another length");
     }
     size_t needed = 77, count = 77;
-    if (sewarqo_suggest(&suggestion.asked, NULL, 0, &needed, &count) != SEWARQO_TOO_SHORT || needed != len || count != 0)
+    if (sewarqo_suggest(&suggestion.asked, NULL, 0, &needed, &count) != SEWARQO_BUFFER_TOO_SMALL || needed != len
+        || count != 0)
         fault("no buffer", "another answer");
     suggestion.room = ROOM;
     for (refused = 0; refused < requests; refused++)
-        suggest("a request for memory", SEWARQO_NO_MEMORY, 0);
+        suggest("a request for memory", SEWARQO_ERR_NO_MEMORY, 0);
     printf("%zu requests for memory\n", requests);
     refused = SIZE_MAX;
 }
@@ -459,7 +460,7 @@ int main(void) {
     edges();
     left_out();
     memory(0);
-    memory(SEWARQO_AS_IS);
+    memory(SEWARQO_RAW);
     no_buffers();
     hidden();
     many_labels();

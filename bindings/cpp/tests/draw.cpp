@@ -19,13 +19,13 @@ static sewarqo::Report report() {
 
 static bool is_refused(const sewarqo::Report &report, const std::vector<sewarqo::Source> &sources,
                        std::uint32_t status, std::size_t number) {
-    const sewarqo::Refusal refusal = report.draw(sources).error();
+    const sewarqo::ErrorInfo refusal = report.draw(sources).error();
     const bool is_value = refusal.status == status && refusal.number == number;
 #ifdef __cpp_exceptions
     try {
         report.render(sources);
     } catch (const sewarqo::Error &error) {
-        return is_value && error.refusal().status == status;
+        return is_value && error.info().status == status;
     }
     return false;
 #else
@@ -56,7 +56,7 @@ int main(int argc, char **argv) {
     config.color = !is_plain;
     config.ascii = is_plain;
     std::cout << report().render(sources, config);
-    const bool labels = is_refused(report().label({2, 0, 0}), sources, SEWARQO_LABEL_SOURCE, 4);
-    const bool texts = is_refused(report().note("\xff"), sources, SEWARQO_BAD_NOTE, 1);
+    const bool labels = is_refused(report().label({2, 0, 0}), sources, SEWARQO_ERR_LABEL_SOURCE, 4);
+    const bool texts = is_refused(report().note("\xff"), sources, SEWARQO_ERR_NOTE, 1);
     return labels && texts && is_safe() ? 0 : 1;
 }

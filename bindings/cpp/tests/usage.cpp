@@ -36,8 +36,8 @@ static void streams() {
     sewarqo::Report refused(sewarqo::Kind::error());
     refused.label({0, 0, 1}).label({0, 3, 2});
     see("a refusal", written(refused.draw({{"abcd"}}).error()), "label 1: it ends before it starts");
-    see("of a field", written(sewarqo::Refusal{SEWARQO_BAD_MESSAGE, 0}), "the message is not UTF-8");
-    see("of a source", sewarqo::Refusal{SEWARQO_SOURCE_TEXT, 3}.text(), "source 3: its text is not UTF-8");
+    see("of a field", written(sewarqo::ErrorInfo{SEWARQO_ERR_MESSAGE, 0}), "the message is not UTF-8");
+    see("of a source", sewarqo::ErrorInfo{SEWARQO_ERR_SOURCE_TEXT, 3}.text(), "source 3: its text is not UTF-8");
     std::ostringstream out;
     out << std::setw(12) << std::setfill('.') << report.draw({}, plain()).value() << '|';
     see("a width", out.str(), "..Advice: m\n|");

@@ -27,18 +27,19 @@ with Python 3.8 and later, needs nothing else, and may be called from any number
 """
 
 from ._color import Color
-from ._faults import BadEdit, BadLabel, BadReport, BadSource, Refused
+from ._errors import EditError, LabelError, ReportError, SewarqoError, SourceError
 from ._parts import Config, Edit, Label, LeftOut, Picture, Source, Sources
 from ._report import Report
 
 __all__ = [
-    "BadEdit", "BadLabel", "BadReport", "BadSource", "Color", "Config", "Edit", "Label", "LeftOut", "Picture",
-    "Refused", "Report", "Source", "Sources", "__version__",
+    "Color", "Config", "Edit", "EditError", "Label", "LabelError", "LeftOut", "Picture", "Report", "ReportError",
+    "SewarqoError", "Source", "SourceError", "Sources", "__version__",
 ]
 __version__ = "0.6.0"
 
 # (Names are those by which they are imported, in tracebacks and in what is pickled.)
 for _it in (
-    BadEdit, BadLabel, BadReport, BadSource, Color, Config, Edit, Label, LeftOut, Picture, Refused, Report, Source,
+    Color, Config, Edit, EditError, Label, LabelError, LeftOut, Picture, Report, ReportError, SewarqoError, Source,
+    SourceError,
 ):
     _it.__module__ = __name__

@@ -6,7 +6,7 @@ import operator
 from typing import TYPE_CHECKING, Any, Dict, Hashable, Iterable, Iterator, List, NamedTuple, Optional, Tuple
 
 from ._excerpt import excerpt
-from ._faults import BadLabel, BadReport, BadSource
+from ._errors import LabelError, ReportError, SourceError
 from ._library import LARGEST, CLabel, CLeftOut, COptional, CReport, CSource, CText, library, size
 from ._parts import Config, Edit, Label, LeftOut, Picture, Source, Sources, Text
 
@@ -18,7 +18,7 @@ _CUSTOM = 3
 _ATTACH = {"middle": 0, "start": 1, "end": 2}
 _REASONS = {1: "past its source", 2: "cuts a character"}
 BYTE_OFFSETS = 8
-_LEFT_OUT, TOO_SHORT, NO_MEMORY = 1, 2, 3
+_LEFT_OUT, BUFFER_TOO_SMALL, NO_MEMORY = 1, 2, 3
 _REPORT_FAULTS = {
     4: "kind", 5: "kind_color", 6: "kind", 7: "config", 8: "config", 9: "code", 10: "message", 15: "helps",
     16: "notes",
@@ -100,20 +100,20 @@ class Call:
             raise TypeError(f"{label!r} is no Label")
         source = self.number_of(label.source)
         if source is None:
-            raise BadLabel(_LABEL_FAULTS[11], number, label)
+            raise LabelError(_LABEL_FAULTS[11], number, label)
         start, end = integer(label.start, "start"), integer(label.end, "end")
         if not (0 <= start <= LARGEST and 0 <= end <= LARGEST):
-            raise BadLabel(f"{start} to {end} is no piece of a text", number, label)
+            raise LabelError(f"{start} to {end} is no piece of a text", number, label)
         order, priority = integer(label.order, "order"), integer(label.priority, "priority")
         if not all(-(2**31) <= it < 2**31 for it in (order, priority)):
-            raise BadLabel("its order or its priority takes more than 32 bits", number, label)
+            raise LabelError("its order or its priority takes more than 32 bits", number, label)
         color = 0 if label.color is None else integer(label.color, "color")
         if label.color is not None and not 0 < color < 2**32:
-            raise BadLabel(_LABEL_FAULTS[13], number, label)
+            raise LabelError(_LABEL_FAULTS[13], number, label)
         try:
             message = COptional() if label.message is None else COptional(c_text(label.message, "message"), 1)
         except UnicodeEncodeError as error:
-            raise BadLabel(surrogate(error), number, label) from None
+            raise LabelError(surrogate(error), number, label) from None
         return CLabel(source, start, end, message, color, order, priority)
 
     def number_of(self, key: Hashable) -> Optional[int]:
@@ -133,7 +133,7 @@ class Call:
             raise wrong("at", self.report.at, "source with an offset") from None
         start = integer(given, "at")
         if not 0 <= start <= LARGEST:
-            raise BadReport(f"at: {start} is no offset", "at")
+            raise ReportError(f"at: {start} is no offset", "at")
         number = self.number_of(source)
         return LARGEST if number is None else number, start
 
@@ -143,7 +143,7 @@ class Call:
         tab_width, context_lines, width = sizes(config)
         kind_color = integer(report.kind_color, "kind_color")
         if not 0 < kind_color < 2**32:
-            raise BadReport("the colour of the kind is none", "kind_color")
+            raise ReportError("the colour of the kind is none", "kind_color")
         kind_name = _part(report.kind, "kind")
         kind = KINDS.get(report.kind, _CUSTOM)
         source, start = self.place(labels)
@@ -161,10 +161,10 @@ class Call:
         """The picture: the call is made again where the buffer was too short for it."""
         a_label = 2048 if self.config.color else 256  # (so that few are drawn twice)
         answer = self.call(4096 + a_label * len(self.labels))
-        if answer.status == TOO_SHORT:
+        if answer.status == BUFFER_TOO_SMALL:
             answer = self.call(answer.length)
         if answer.status > _LEFT_OUT:
-            raise self.refusal(answer.status, answer.number)
+            raise self.error(answer.status, answer.number)
         left_out = [LeftOut(it.label, _REASONS[it.reason]) for it in answer.left[:answer.number]]
         return Picture(answer.out.raw[:answer.length].decode(), left_out)
 
@@ -179,16 +179,16 @@ class Call:
         )
         return _Answer(status, out, length.value, left, count.value)
 
-    def refusal(self, status: int, number: int) -> Exception:
-        """The exception for a status that is a refusal."""
+    def error(self, status: int, number: int) -> Exception:
+        """The exception for the status of an error."""
         if status == NO_MEMORY:
             return MemoryError("there was no memory for the picture")
         if status in _LABEL_FAULTS:
-            return BadLabel(_LABEL_FAULTS[status], number, self.labels[number])
+            return LabelError(_LABEL_FAULTS[status], number, self.labels[number])
         if status in SOURCE_FAULTS:
-            return BadSource(SOURCE_FAULTS[status], self.given[number].key)
+            return SourceError(SOURCE_FAULTS[status], self.given[number].key)
         part = _REPORT_FAULTS.get(status, "")
-        return BadReport(f"{part} is faulty (status {status})", part)
+        return ReportError(f"{part} is faulty (status {status})", part)
 
 
 # ---- what is of another type
@@ -257,9 +257,9 @@ def _source(given: _Given) -> CSource:
         name = COptional() if given.name is None else COptional(c_text(given.name, "name"), 1)
         text = c_text(given.text, "text")
     except UnicodeEncodeError as error:
-        raise BadSource(surrogate(error), given.key) from None
+        raise SourceError(surrogate(error), given.key) from None
     if not 0 <= given.line_offset <= LARGEST:
-        raise BadSource(f"its line_offset {given.line_offset} is no number of lines", given.key)
+        raise SourceError(f"its line_offset {given.line_offset} is no number of lines", given.key)
     return CSource(name, text, given.line_offset)
 
 
@@ -277,16 +277,16 @@ def _counts_bytes(given: Iterable[_Given]) -> bool:
 def sizes(config: Config) -> Tuple[int, int, int]:
     """The settings that are numbers. One that is none is refused, and so is another `attach`."""
     if config.attach not in list(_ATTACH):
-        raise BadReport(f"attach: {config.attach!r} is not 'start', 'middle' or 'end'", "config")
+        raise ReportError(f"attach: {config.attach!r} is not 'start', 'middle' or 'end'", "config")
     tab_width = integer(config.tab_width, "tab_width")
     if not 1 <= tab_width <= LARGEST:
-        raise BadReport(f"tab_width: {tab_width} is no width", "config")
+        raise ReportError(f"tab_width: {tab_width} is no width", "config")
     context_lines = integer(config.context_lines, "context_lines")
     if not 0 <= context_lines <= LARGEST:
-        raise BadReport(f"context_lines: {context_lines} is no number of lines", "config")
+        raise ReportError(f"context_lines: {context_lines} is no number of lines", "config")
     width = integer(config.width, "width")
     if not 0 <= width <= LARGEST:
-        raise BadReport(f"width: {width} is no number of columns", "config")
+        raise ReportError(f"width: {width} is no number of columns", "config")
     return tab_width, context_lines, width
 
 
@@ -324,7 +324,7 @@ def _part(text: str, part: str) -> CText:
     try:
         return c_text(text, part)
     except UnicodeEncodeError as error:
-        raise BadReport(f"{part}: {surrogate(error)}", part) from None
+        raise ReportError(f"{part}: {surrogate(error)}", part) from None
 
 
 def _parts(texts: Iterable[str], part: str) -> List[CText]:

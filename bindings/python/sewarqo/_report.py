@@ -6,7 +6,7 @@ from typing import Any, Hashable, Iterable, List, Optional, Protocol, Sequence, 
 
 from ._call import KINDS, Call, listed, wrong
 from ._color import Color
-from ._faults import BadReport
+from ._errors import ReportError
 from ._parts import Config, Edit, Label, Picture, Source, Sources, Text
 from ._suggestion import suggested
 
@@ -82,7 +82,7 @@ class Report:
         name, or a list of such texts, whose keys are 0, 1 and so on. Labels that point past their source, or
         (in bytes) into a character, are left out: `draw` tells which.
 
-        Raises `BadLabel`, `BadReport` or `BadSource` where one is faulty, `TypeError` where one is of another
+        Raises `LabelError`, `ReportError` or `SourceError` where one is faulty, `TypeError` where one is of another
         type, and `MemoryError`.
         """
         return self.draw(sources, config).text
@@ -114,8 +114,8 @@ class Report:
         It is handed in as a help, as it is or behind a message and a line feed. Edits that change nothing have an
         empty text. A sign stands for each hidden character. Of the configuration `tab_width` alone counts.
 
-        Raises `BadEdit` where one ends before it starts, starts before the end of the one in front of it,
-        reaches past the source, or (in bytes) cuts a character; in this order. `BadReport`, `BadSource`,
+        Raises `EditError` where one ends before it starts, starts before the end of the one in front of it,
+        reaches past the source, or (in bytes) cuts a character; in this order. `ReportError`, `SourceError`,
         `TypeError` and `MemoryError` are as for `render`.
 
         >>> print(Report.suggest("let first = take(names);", [Edit(17, 17, "&")]))
@@ -131,7 +131,7 @@ def _check_kind(kind: str) -> None:
         raise wrong("kind", kind, "str")
     known = kind.lower()
     if kind not in KINDS and known in KINDS:
-        raise BadReport(f"kind: {kind!r} is not {known!r}, and one of your own needs a kind_color", "kind")
+        raise ReportError(f"kind: {kind!r} is not {known!r}, and one of your own needs a kind_color", "kind")
 
 
 def _checked(config: Config) -> Config:

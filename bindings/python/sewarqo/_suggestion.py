@@ -3,8 +3,10 @@
 import ctypes
 from typing import Iterable, List, Union
 
-from ._call import BYTE_OFFSETS, NO_MEMORY, SOURCE_FAULTS, TOO_SHORT, c_text, integer, listed, one_source, sizes, surrogate
-from ._faults import BadEdit, BadReport, BadSource
+from ._call import (
+    BUFFER_TOO_SMALL, BYTE_OFFSETS, NO_MEMORY, SOURCE_FAULTS, c_text, integer, listed, one_source, sizes, surrogate,
+)
+from ._errors import EditError, ReportError, SourceError
 from ._library import LARGEST, CEdit, CSuggestion, library, size
 from ._parts import Config, Edit, Source, Text
 
@@ -28,11 +30,11 @@ def suggested(source: Union[Text, Source], edits: Iterable[Edit], config: Config
         out = ctypes.create_string_buffer(room)
         status = library().sewarqo_suggest(
             ctypes.byref(asked), out, room, ctypes.byref(length), ctypes.byref(count))
-        if status != TOO_SHORT:
+        if status != BUFFER_TOO_SMALL:
             break
         room = length.value
     if status:
-        raise _refusal(status, count.value, listed_edits)
+        raise _error(status, count.value, listed_edits)
     return out.raw[:length.value].decode()
 
 
@@ -43,20 +45,20 @@ def _edit(number: int, edit: Edit) -> CEdit:
             raise TypeError(f"{edit!r} is no Edit")
         start, end = integer(edit.start, "start"), integer(edit.end, "end")
         if not (0 <= start <= LARGEST and 0 <= end <= LARGEST):
-            raise BadEdit(f"{start} to {end} is no piece of a text", number, edit)
+            raise EditError(f"{start} to {end} is no piece of a text", number, edit)
         return CEdit(start, end, c_text(edit.text, "text"))
     except UnicodeEncodeError as error:
-        raise BadEdit(surrogate(error), number, edit) from None
+        raise EditError(surrogate(error), number, edit) from None
     except TypeError as error:
         raise TypeError(f"edit {number}: {error}") from None
 
 
-def _refusal(status: int, number: int, edits: List[Edit]) -> Exception:
-    """The exception for a status that is a refusal."""
+def _error(status: int, number: int, edits: List[Edit]) -> Exception:
+    """The exception for the status of an error."""
     if status == NO_MEMORY:
         return MemoryError("there was no memory for the suggestion")
     if status in SOURCE_FAULTS:
-        return BadSource(SOURCE_FAULTS[status], None)
+        return SourceError(SOURCE_FAULTS[status], None)
     if status in _EDIT_FAULTS:
-        return BadEdit(_EDIT_FAULTS[status], number, edits[number])
-    return BadReport(f"the suggestion is faulty (status {status})", "config")
+        return EditError(_EDIT_FAULTS[status], number, edits[number])
+    return ReportError(f"the suggestion is faulty (status {status})", "config")

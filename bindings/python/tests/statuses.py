@@ -6,7 +6,7 @@ where M > 0.
 import ctypes
 import resource
 
-from sewarqo import BadEdit, BadLabel, BadReport, BadSource, Color, Config, Edit, Label, Report, Source
+from sewarqo import Color, Config, Edit, EditError, Label, LabelError, Report, ReportError, Source, SourceError
 from sewarqo._library import CEdit, CLabel, COptional, CReport, CSource, CSuggestion, CText, library
 
 LARGEST = 2**64 - 1
@@ -20,28 +20,28 @@ def label(*words, **settings):
 
 # What is handed in, the exception, and what it names.
 REFUSALS = [
-    (Report("hint", kind_color=18), "x", BadReport, "kind_color"),
-    (Report("hint", kind_color=0), "x", BadReport, "kind_color"),
-    (Report(LONE), "x", BadReport, "kind"),
-    (Report("error", LONE), "x", BadReport, "message"),
-    (Report("error", code=LONE), "x", BadReport, "code"),
-    (Report("error", helps=["h", LONE]), "x", BadReport, "helps"),
-    (Report("error", notes=[LONE]), "x", BadReport, "notes"),
-    (Report("error", at=(None, -1)), "x", BadReport, "at"),
-    (label(3, 2), "xyz", BadLabel, 1),
-    (label(-1, 2), "xyz", BadLabel, 1),
-    (label(0, LARGEST + 1), "xyz", BadLabel, 1),
-    (label(0, 1, LONE), "xyz", BadLabel, 1),
-    (label(0, 1, color=18), "xyz", BadLabel, 1),
-    (label(0, 1, color=2**25), "xyz", BadLabel, 1),
-    (label(0, 1, order=2**31), "xyz", BadLabel, 1),
-    (label(0, 1, priority=-(2**31) - 1), "xyz", BadLabel, 1),
-    (Report("error", labels=[Label("a", 0, 0)]), {"b": "x"}, BadLabel, 0),
-    (Report("error"), {"a": "x", "b": LONE}, BadSource, "b"),
-    (Report("error"), {"a": b"x", "b": b"\xff"}, BadSource, "b"),
-    (Report("error"), {LONE: "x"}, BadSource, LONE),
-    (Report("error"), {"a": Source("x", line_offset=-1)}, BadSource, "a"),
-    (Report("error"), {"a": Source("x", line_offset=LARGEST)}, BadSource, "a"),
+    (Report("hint", kind_color=18), "x", ReportError, "kind_color"),
+    (Report("hint", kind_color=0), "x", ReportError, "kind_color"),
+    (Report(LONE), "x", ReportError, "kind"),
+    (Report("error", LONE), "x", ReportError, "message"),
+    (Report("error", code=LONE), "x", ReportError, "code"),
+    (Report("error", helps=["h", LONE]), "x", ReportError, "helps"),
+    (Report("error", notes=[LONE]), "x", ReportError, "notes"),
+    (Report("error", at=(None, -1)), "x", ReportError, "at"),
+    (label(3, 2), "xyz", LabelError, 1),
+    (label(-1, 2), "xyz", LabelError, 1),
+    (label(0, LARGEST + 1), "xyz", LabelError, 1),
+    (label(0, 1, LONE), "xyz", LabelError, 1),
+    (label(0, 1, color=18), "xyz", LabelError, 1),
+    (label(0, 1, color=2**25), "xyz", LabelError, 1),
+    (label(0, 1, order=2**31), "xyz", LabelError, 1),
+    (label(0, 1, priority=-(2**31) - 1), "xyz", LabelError, 1),
+    (Report("error", labels=[Label("a", 0, 0)]), {"b": "x"}, LabelError, 0),
+    (Report("error"), {"a": "x", "b": LONE}, SourceError, "b"),
+    (Report("error"), {"a": b"x", "b": b"\xff"}, SourceError, "b"),
+    (Report("error"), {LONE: "x"}, SourceError, LONE),
+    (Report("error"), {"a": Source("x", line_offset=-1)}, SourceError, "a"),
+    (Report("error"), {"a": Source("x", line_offset=LARGEST)}, SourceError, "a"),
 ]
 # The status of a call, the number of what is at fault, and what is changed in a call that draws.
 STATUSES = [
@@ -67,19 +67,19 @@ STATUSES = [
 ]
 # Edits of a source that are refused, the exception, and what it names.
 EDITS = [
-    ("abc", [(0, 1, ""), (2, 1, "")], BadEdit, 1),
-    ("abc", [(0, 1, ""), (-1, 2, "")], BadEdit, 1),
-    ("abc", [(0, LARGEST + 1, "")], BadEdit, 0),
-    ("abc", [(1, 3, ""), (0, 2, "")], BadEdit, 0),
-    ("abc", [(1, 3, ""), (0, 4, "")], BadEdit, 0),
-    ("abc", [(0, 4, "")], BadEdit, 0),
-    ("abc", [(0, 1, LONE)], BadEdit, 0),
-    (b"abc", [(0, 1, b"\xff")], BadEdit, 0),
-    ("d\u00e9".encode(), [(0, 1, ""), (2, 3, "")], BadEdit, 1),
-    (LONE, [], BadSource, None),
-    (b"\xff", [], BadSource, None),
-    (Source("abc", -1), [], BadSource, None),
-    (Source("abc", LARGEST), [], BadSource, None),
+    ("abc", [(0, 1, ""), (2, 1, "")], EditError, 1),
+    ("abc", [(0, 1, ""), (-1, 2, "")], EditError, 1),
+    ("abc", [(0, LARGEST + 1, "")], EditError, 0),
+    ("abc", [(1, 3, ""), (0, 2, "")], EditError, 0),
+    ("abc", [(1, 3, ""), (0, 4, "")], EditError, 0),
+    ("abc", [(0, 4, "")], EditError, 0),
+    ("abc", [(0, 1, LONE)], EditError, 0),
+    (b"abc", [(0, 1, b"\xff")], EditError, 0),
+    ("d\u00e9".encode(), [(0, 1, ""), (2, 3, "")], EditError, 1),
+    (LONE, [], SourceError, None),
+    (b"\xff", [], SourceError, None),
+    (Source("abc", -1), [], SourceError, None),
+    (Source("abc", LARGEST), [], SourceError, None),
 ]
 # The status of a call that suggests, the number of the edit at fault, and what is changed in a call that tells.
 SUGGESTIONS = [
@@ -199,10 +199,10 @@ def refused_edits(source, edits):
     edits = [Edit(*it) for it in edits]
     try:
         Report.suggest(source, edits)
-    except BadEdit as error:
-        return BadEdit, error.number if error.edit is edits[error.number] else None
-    except BadSource as error:
-        return BadSource, error.source
+    except EditError as error:
+        return EditError, error.number if error.edit is edits[error.number] else None
+    except SourceError as error:
+        return SourceError, error.source
     return None
 
 
@@ -210,12 +210,12 @@ def refused(report, sources, config=Config()):
     """The exception, and what it names."""
     try:
         report.render(sources, config)
-    except BadLabel as error:
-        return BadLabel, error.number if error.label is report.labels[error.number] else None
-    except BadReport as error:
-        return BadReport, error.part
-    except BadSource as error:
-        return BadSource, error.source
+    except LabelError as error:
+        return LabelError, error.number if error.label is report.labels[error.number] else None
+    except ReportError as error:
+        return ReportError, error.part
+    except SourceError as error:
+        return SourceError, error.source
     return None
 
 
@@ -228,7 +228,7 @@ def unlike():
         if refused_edits(source, edits) != (wanted, named):
             yield f"{wanted.__name__} of {edits}: {refused_edits(source, edits)}"
     for config in CONFIGS:
-        if refused(Report("error"), "x", config) != (BadReport, "config"):
+        if refused(Report("error"), "x", config) != (ReportError, "config"):
             yield f"{config}: {refused(Report('error'), 'x', config)}"
     for sources in {"a": "x", "b": b"x"}, {"a": 3}:
         try:

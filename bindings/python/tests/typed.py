@@ -8,7 +8,7 @@ from pathlib import Path
 from typing import Dict, List, Mapping, Tuple
 
 import sewarqo
-from sewarqo import BadEdit, BadLabel, Color, Config, Edit, Label, LeftOut, Picture, Report, Source, Sources
+from sewarqo import Color, Config, Edit, EditError, Label, LabelError, LeftOut, Picture, Report, Source, Sources
 
 report = Report("error", "m", code="E1", labels=[Label("a", 0, 1, "x", Color.RED)], helps=("h",), at=("a", 3))
 texts: Dict[str, str] = {"a": "text"}
@@ -35,14 +35,14 @@ color: Color = Color.fixed(81)
 def drawn_over(given: Sources) -> str:
     try:
         return report.render(given)
-    except BadLabel as error:
+    except LabelError as error:
         return f"{error.number + 1}, {error.label.start}, {error.why.upper()}"
 
 
 def number_of(edits: List[Edit]) -> int:
     try:
         return len(Report.suggest("text", edits))
-    except BadEdit as error:
+    except EditError as error:
         return error.number + error.edit.start
 
 

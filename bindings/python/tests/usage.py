@@ -11,7 +11,7 @@ import pickle
 import sys
 
 from sewarqo import (
-    BadEdit, BadLabel, BadReport, BadSource, Color, Config, Edit, Label, Report, Source, __version__)
+    EditError, LabelError, ReportError, SourceError, Color, Config, Edit, Label, Report, Source, __version__)
 
 PLAIN = Config(color=False, ascii=True)
 # The same report over a source without a name, and over two.
@@ -159,7 +159,7 @@ def texts():
     yield "of three", repr([Color.rgb(0, 0, 0), Color.rgb(1, 2, 255)]), "[Color.rgb(0, 0, 0), Color.rgb(1, 2, 255)]"
     yield "no colour", repr([Color(0), Color(18), Color(512)]), "[Color(0), Color(18), Color(512)]"
     yield "a number", f"{Color.fixed(81)} {str(Color.RED)} {Color.RED + 1}", "337 3 4"
-    yield "an exception", repr(BadReport), "<class 'sewarqo.BadReport'>"
+    yield "an exception", repr(ReportError), "<class 'sewarqo.ReportError'>"
     yield "the version", __version__.count("."), 2
 
 
@@ -183,14 +183,14 @@ def equal():
 def copies():
     label = Label("a", 0, 1)
     for error, told in (
-        (BadLabel("why", 3, label), "label 3: why"), (BadReport("why", "code"), "why"),
-        (BadEdit("why", 3, Edit(0, 1, "")), "edit 3: why"),
-        (BadSource("why", "a"), "source 'a': why"),
+        (LabelError("why", 3, label), "label 3: why"), (ReportError("why", "code"), "why"),
+        (EditError("why", 3, Edit(0, 1, "")), "edit 3: why"),
+        (SourceError("why", "a"), "source 'a': why"),
     ):
         error.more = "kept"
         for copied in copy.copy(error), copy.deepcopy(error), pickle.loads(pickle.dumps(error)):
             yield told, (type(copied), str(copied), vars(copied)), (type(error), told, vars(error))
-    yield "a label at fault", vars(BadLabel("why", 3, label)), {"why": "why", "number": 3, "label": label}
+    yield "a label at fault", vars(LabelError("why", 3, label)), {"why": "why", "number": 3, "label": label}
 
 
 # Reports that hold something of another type, and how the exception begins.
@@ -223,8 +223,8 @@ NOT_MADE = [
     (lambda: Report("error", notes="abc"), TypeError, "notes: 'abc' is no list"),
     (lambda: Report("error", labels=Label(None, 0, 1)), TypeError, "labels: Label(source=None"),
     (lambda: Report("error", labels=5), TypeError, "labels: 5 is no list"),
-    (lambda: Report("Error"), BadReport, "kind: 'Error' is not 'error'"),
-    (lambda: Report("WARNING"), BadReport, "kind: 'WARNING' is not 'warning'"),
+    (lambda: Report("Error"), ReportError, "kind: 'Error' is not 'error'"),
+    (lambda: Report("WARNING"), ReportError, "kind: 'WARNING' is not 'warning'"),
     (lambda: Report.suggest("abc", [Edit(0, 1, ""), 5]), TypeError, "edit 1: 5 is no Edit"),
     (lambda: Report.suggest("abc", [Edit(0, "1", "")]), TypeError, "edit 0: end: '1' is no int"),
     (lambda: Report.suggest("abc", [Edit(0, 1, None)]), TypeError, "edit 0: text: None is no str"),
@@ -237,7 +237,7 @@ NOT_MADE = [
     (lambda: Report("error").render("x", Config(color="never")), TypeError, "color: 'never' is no bool"),
     (lambda: Report("error").render("x", Config(ascii=None)), TypeError, "ascii: None is no bool"),
     (lambda: Report("error").render("x", Config(tab_width="4")), TypeError, "tab_width: '4' is no int"),
-    (lambda: Report("error").render("x", Config(attach=["end"])), BadReport, "attach: ['end'] is not"),
+    (lambda: Report("error").render("x", Config(attach=["end"])), ReportError, "attach: ['end'] is not"),
     (lambda: Report("error").render("x", Config(excerpts=2)), TypeError, "excerpts: 2 is no bool"),
 ]
 

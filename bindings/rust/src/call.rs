@@ -130,7 +130,7 @@ pub(crate) const NO_MEMORY: u32 = 3;
 
 const DRAWN: u32 = 0;
 const LEFT_OUT: u32 = 1;
-const TOO_SHORT: u32 = 2;
+const BUFFER_TOO_SMALL: u32 = 2;
 
 /// The picture of a report over its sources. It is drawn twice if it has more bytes than `room`.
 pub(crate) fn draw(
@@ -147,7 +147,7 @@ pub(crate) fn draw(
                 unsafe { out.set_len(len) };
                 return Ok(out);
             }
-            TOO_SHORT => out.reserve(len),
+            BUFFER_TOO_SMALL => out.reserve(len),
             status => return Err(Refusal(status)),
         }
     }
@@ -191,7 +191,7 @@ pub(crate) fn suggest(suggestion: &GivenSuggestion<'_>) -> Result<Vec<u8>, (Refu
                 unsafe { out.set_len(len) };
                 return Ok(out);
             }
-            TOO_SHORT => out.reserve(len),
+            BUFFER_TOO_SMALL => out.reserve(len),
             status => return Err((Refusal(status), count)),
         }
     }

@@ -28,7 +28,7 @@ impl Edit {
 /// Why there is no text that shows edits. Each but the last two names an edit by its number, from 0. Of edits the
 /// first reason that holds of some counts, in this order.
 #[derive(Clone, Copy, Debug, PartialEq, Eq)]
-pub enum BadEdit {
+pub enum EditError {
     /// Its end lies before its start.
     Reversed(usize),
     /// It begins before the end of the edit in front of it.
@@ -43,35 +43,35 @@ pub enum BadEdit {
     NoMemory,
 }
 
-impl BadEdit {
+impl EditError {
     /// What a status and the number of an edit say.
-    fn of(Refusal(status): Refusal, number: usize) -> BadEdit {
+    fn of(Refusal(status): Refusal, number: usize) -> EditError {
         match status {
-            19 => BadEdit::SourceLines,
-            21 => BadEdit::Reversed(number),
-            22 => BadEdit::Overlaps(number),
-            23 => BadEdit::PastSource(number),
-            24 => BadEdit::CutsCharacter(number),
+            19 => EditError::SourceLines,
+            21 => EditError::Reversed(number),
+            22 => EditError::Overlaps(number),
+            23 => EditError::PastSource(number),
+            24 => EditError::CutsCharacter(number),
             // (Texts are UTF-8 here, and flags are known.)
-            _ => BadEdit::NoMemory,
+            _ => EditError::NoMemory,
         }
     }
 }
 
-impl Display for BadEdit {
+impl Display for EditError {
     fn fmt(&self, f: &mut Formatter<'_>) -> fmt::Result {
         match self {
-            BadEdit::Reversed(edit) => write!(f, "edit {edit}: it ends before it starts"),
-            BadEdit::Overlaps(edit) => write!(f, "edit {edit}: it starts before the end of the edit in front of it"),
-            BadEdit::PastSource(edit) => write!(f, "edit {edit}: it reaches past the source"),
-            BadEdit::CutsCharacter(edit) => write!(f, "edit {edit}: one of its ends is inside a character"),
-            BadEdit::SourceLines => f.write_str("the line numbers of the source exceed the greatest number"),
-            BadEdit::NoMemory => f.write_str("there was no memory"),
+            EditError::Reversed(edit) => write!(f, "edit {edit}: it ends before it starts"),
+            EditError::Overlaps(edit) => write!(f, "edit {edit}: it starts before the end of the edit in front of it"),
+            EditError::PastSource(edit) => write!(f, "edit {edit}: it reaches past the source"),
+            EditError::CutsCharacter(edit) => write!(f, "edit {edit}: one of its ends is inside a character"),
+            EditError::SourceLines => f.write_str("the line numbers of the source exceed the greatest number"),
+            EditError::NoMemory => f.write_str("there was no memory"),
         }
     }
 }
 
-impl Error for BadEdit {}
+impl Error for EditError {}
 
 impl Report<'_> {
     /// The text of a help that shows edits of a source: each line that changes as it was (`-`) and as it will be
@@ -82,7 +82,7 @@ impl Report<'_> {
     /// lists, whatever the configuration says. `ariadne` 0.6.0 has no such call.
     ///
     /// ```
-    /// use ariadne::{BadEdit, Config, Edit, IndexType, Report, Source};
+    /// use ariadne::{Config, Edit, EditError, IndexType, Report, Source};
     ///
     /// let source = Source::from("fn f() {\n    g(d\u{e9}j);\n}\n").with_display_line_offset(40);
     /// let edits = [Edit::new(16..17, "x"), Edit::new(15..15, "&")];
@@ -90,9 +90,9 @@ impl Report<'_> {
     /// assert_eq!(help, "42 -     g(d\u{e9}j);\n42 +     g(&dxj);");
     ///
     /// let bytes = Config::new().with_index_type(IndexType::Byte);
-    /// assert_eq!(Report::suggest(&source, &[Edit::new(17..18, "")], &bytes), Err(BadEdit::CutsCharacter(0)));
+    /// assert_eq!(Report::suggest(&source, &[Edit::new(17..18, "")], &bytes), Err(EditError::CutsCharacter(0)));
     /// ```
-    pub fn suggest<I: AsRef<str>>(source: &Source<I>, edits: &[Edit], config: &Config) -> Result<String, BadEdit> {
+    pub fn suggest<I: AsRef<str>>(source: &Source<I>, edits: &[Edit], config: &Config) -> Result<String, EditError> {
         let given: Vec<GivenEdit<'_>> = edits.iter().map(given_edit).collect();
         let suggestion = GivenSuggestion {
             source: GivenSource {
@@ -106,7 +106,7 @@ impl Report<'_> {
         };
         match suggest(&suggestion) {
             Ok(text) => Ok(String::from_utf8_lossy(&text).into_owned()),
-            Err((refusal, number)) => Err(BadEdit::of(refusal, number)),
+            Err((refusal, number)) => Err(EditError::of(refusal, number)),
         }
     }
 }
@@ -118,14 +118,14 @@ fn given_edit(edit: &Edit) -> GivenEdit<'_> {
 
 #[cfg(test)]
 mod tests {
-    use super::{BadEdit, Edit};
+    use super::{Edit, EditError};
     use crate::{Config, IndexType, Report, Source};
     use std::ops::Range;
 
     /// Two lines: in characters 0..3 and 3..7, in bytes 0..3 and 3..8.
     const TEXT: &str = "ab\nd\u{e9}j\n";
 
-    fn suggested(index_type: IndexType, edits: &[(Range<usize>, &str)]) -> Result<String, BadEdit> {
+    fn suggested(index_type: IndexType, edits: &[(Range<usize>, &str)]) -> Result<String, EditError> {
         let edits: Vec<Edit> = edits.iter().map(|(span, text)| Edit::new(span.clone(), text)).collect();
         Report::suggest(&Source::from(TEXT), &edits, &Config::new().with_index_type(index_type))
     }
@@ -144,10 +144,10 @@ mod tests {
     #[allow(clippy::reversed_empty_ranges)]
     fn refusals() {
         let refused = |edits: &[(Range<usize>, &str)]| suggested(IndexType::Byte, edits).unwrap_err();
-        assert_eq!(refused(&[(0..1, ""), (2..1, "")]), BadEdit::Reversed(1));
-        assert_eq!(refused(&[(1..3, ""), (0..2, "")]), BadEdit::Overlaps(0));
-        assert_eq!(refused(&[(0..9, "")]), BadEdit::PastSource(0));
-        assert_eq!(refused(&[(0..5, "")]), BadEdit::CutsCharacter(0));
+        assert_eq!(refused(&[(0..1, ""), (2..1, "")]), EditError::Reversed(1));
+        assert_eq!(refused(&[(1..3, ""), (0..2, "")]), EditError::Overlaps(0));
+        assert_eq!(refused(&[(0..9, "")]), EditError::PastSource(0));
+        assert_eq!(refused(&[(0..5, "")]), EditError::CutsCharacter(0));
         assert_eq!(refused(&[(0..5, "")]).to_string(), "edit 0: one of its ends is inside a character");
     }
 }

@@ -48,7 +48,7 @@ mod write;
 pub use cache::{sources, Cache, FileCache, FnCache};
 pub use color::{Color, ColorGenerator};
 pub use config::{CharSet, Config, IndexType, LabelAttach};
-pub use edit::{BadEdit, Edit};
+pub use edit::{Edit, EditError};
 pub use label::Label;
 pub use paint::{Background, Fmt, Foreground};
 pub use report::{Report, ReportBuilder, ReportKind};

@@ -6,11 +6,11 @@ if TYPE_CHECKING:
     from ._parts import Edit, Label
 
 
-class Refused(ValueError):
+class SewarqoError(ValueError):
     """There is no picture or text, since something that was handed in is faulty. Nothing was drawn."""
 
 
-class BadReport(Refused):
+class ReportError(SewarqoError):
     """A setting or a text of the report is faulty: `why`. `part` names it: "message", "notes", .."""
 
     def __init__(self, why: str, part: str) -> None:
@@ -22,7 +22,7 @@ class BadReport(Refused):
         return type(self), (self.why, self.part), self.__dict__
 
 
-class BadLabel(Refused):
+class LabelError(SewarqoError):
     """A label is faulty: `why`. `label` is it, and `number` its number in the report, from 0."""
 
     def __init__(self, why: str, number: int, label: "Label") -> None:
@@ -35,7 +35,7 @@ class BadLabel(Refused):
         return type(self), (self.why, self.number, self.label), self.__dict__
 
 
-class BadSource(Refused):
+class SourceError(SewarqoError):
     """A source is faulty: `why`. `source` is what it was handed in under."""
 
     def __init__(self, why: str, source: Hashable) -> None:
@@ -47,7 +47,7 @@ class BadSource(Refused):
         return type(self), (self.why, self.source), self.__dict__
 
 
-class BadEdit(Refused):
+class EditError(SewarqoError):
     """An edit is faulty: `why`. `edit` is it, and `number` its number in the list, from 0."""
 
     def __init__(self, why: str, number: int, edit: "Edit") -> None:
