@@ -1,5 +1,5 @@
 """The form of a case: which members it has, of which form each is, and which of them go together. The
-page docs/CASES.md says the same. `check_case(case)` refuses one that is not so."""
+page docs/dev/CASES.md says the same. `check_case(case)` refuses one that is not so."""
 
 import re
 from dataclasses import dataclass

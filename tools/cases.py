@@ -1,4 +1,4 @@
-"""Cases as docs/CASES.md tells them: those that are stored, and reports written as cases or read from
+"""Cases as docs/dev/CASES.md tells them: those that are stored, and reports written as cases or read from
 them."""
 
 import re

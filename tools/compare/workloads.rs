@@ -1,4 +1,4 @@
-//! The workloads of docs/SPEED.md, as plain data.
+//! The workloads of docs/dev/SPEED.md, as plain data.
 
 use std::iter::once;
 

@@ -1,4 +1,4 @@
-/* Draws a workload of docs/SPEED.md again and again: bench two|nested|two-safe|nested-safe|edits-LINES N, which
+/* Draws a workload of docs/dev/SPEED.md again and again: bench two|nested|two-safe|nested-safe|edits-LINES N, which
    prints NAME N BYTES CHECKSUM NANOSECONDS. Texts are drawn as they are, or safely. Each call has the report
    and the source anew, and finds the lines. The last workload suggests an edit in each of so many lines. */
 #define _POSIX_C_SOURCE 199309L

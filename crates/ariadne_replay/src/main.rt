@@ -1,6 +1,6 @@
-//! Draws the cases of files, and compares what is drawn with what they store. docs/CASES.md says what
-//! a case is. A case is read as it stands: tools/replay refuses one that has a mistake, and shows how
-//! two pictures differ.
+//! Draws the cases of files, and compares what is drawn with what they store. docs/dev/CASES.md says
+//! what a case is. A case is read as it stands: tools/replay refuses one that has a mistake, and shows
+//! how two pictures differ.
 //!
 //! `ariadne_replay FILE..` reads these files, and without words standard input. What is drawn of a case
 //! that stores another picture, or none, is a line of JSON:
