@@ -1,4 +1,48 @@
 //! Compiler diagnostics: reports whose labels are drawn over the sources that they point into.
+//!
+//! This function writes an error with a code, a label and a help over a text:
+//!
+//! ```rust
+//! pub(crate) fn draw<W: Write>(alloc: Global, out: &mut W) -> Result<(), WriteError> {
+//!     let label = Label::new(10..14).with_message(alloc, "no such name")?;
+//!     let report = Report::build(alloc, ReportKind::Error, 10..14)
+//!         .with_config(plain())
+//!         .with_code(3)?
+//!         .with_message("unknown name")?
+//!         .with_label(label)?
+//!         .with_help("did you mean `apple`?")?
+//!         .finish();
+//!     let mut source = Source::from(alloc, "let pie = aple + 1;")?;
+//!     // The result lists the labels that are left out. This one lies in the text.
+//!     report.write(&mut source, out)?;
+//!     Ok(())
+//! }
+//! ```
+//!
+//! `plain()` is `Config::new().with_char_set(CharSet::Ascii).with_color(false)`. The picture:
+//!
+//! ```text
+//! [03] Error: unknown name
+//!    ,-[ <unknown>:1:11 ]
+//!    |
+//!  1 | let pie = aple + 1;
+//!    |           ^^|^
+//!    |             `--- no such name
+//!    |
+//!    | Help: did you mean `apple`?
+//! ---'
+//! ```
+//!
+//! - A `Report` has a kind, a message, labels, notes and helps. `Report::build` returns its builder.
+//! - A `Label` has a span, and mostly a message and a colour. Offsets count from 0, and ends are
+//!   exclusive.
+//! - A `Source` is a text; `sources`, `FileCache`, `FnCache` and `SourceTable` hold several by id.
+//! - A `Config` sets colours, characters, widths and the unit of offsets.
+//! - A call that makes a text or a list takes an allocator, and returns an error without memory.
+//! - A label that doesn't fit its source is skipped, and `write` returns it with the reason.
+//!
+//! Texts are sent as they are: for texts that anyone may have written there is `ariadne_safe`. After
+//! `Ok` the writer has taken exactly the picture; the contract of `Report::write` says so.
 #![tactic(auto)]
 
 pub mod builder;

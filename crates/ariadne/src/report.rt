@@ -14,6 +14,17 @@ use std::marker::Model;
 use std::ops::Range;
 
 /// A diagnostic that is ready to be written.
+///
+/// It may be written again and again, over one cache or several, and keeps its texts.
+///
+/// ```rust
+/// let report = Report::build(alloc, ReportKind::Error, ("-", 4..8))
+///     .with_config(plain())
+///     .with_message("unknown fruit")?
+///     .with_label(Label::new(("-", 4..8)).with_message(alloc, "not among the fruit")?)?
+///     .with_label(Label::new(("fruit", 0..5)).with_message(alloc, "there is only this one")?)?;
+/// Ok(report.finish())
+/// ```
 #[derive(Debug, Drop)]
 pub struct Report<'a, S: Span = Range<usize>> {
     pub(crate) content: Content<'a, S>,

@@ -69,7 +69,7 @@ pub trait Cache<Id: Eq> {
     // What the cache needs before it is asked, as that its function may be called.
     ghost can_fetch: { Self → Type 0 } = { λ _. ⊤ };
 
-    /// Has the source of an id held, or says why it can't be.
+    /// Fetches the source of an id that isn't held, or returns why that can't be done.
     ///
     /// What was held before stays, under every id. After `Ok` the id is held and nothing else is
     /// new; an id that was held already gives `Ok`, changes nothing and takes no memory.

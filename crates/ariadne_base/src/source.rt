@@ -42,6 +42,10 @@ use std::str::Chars;
 ///
 /// Offsets count from the start of the text, and line numbers from the first line, both from 0. A
 /// look-up of an offset searches the lines by halving, and takes no memory.
+///
+/// ```rust
+/// let mut source = Source::from(alloc, "let pie = aple + 1;")?;
+/// ```
 #[derive(Debug, Drop)]
 pub struct Source<I: SourceText = String> {
     text: I,

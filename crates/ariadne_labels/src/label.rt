@@ -16,6 +16,10 @@ use std::ops::Range;
 ///
 /// The offsets of its span count from 0, in characters of the source, or in bytes of its text where
 /// the report's index type says so. Its end is exclusive, and not less than its start.
+///
+/// ```rust
+/// let label = Label::new(10..14).with_message(alloc, "no such name")?;
+/// ```
 #[derive(Debug, Drop)]
 pub struct Label<S: Span = Range<usize>> {
     span: S,

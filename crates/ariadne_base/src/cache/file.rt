@@ -65,6 +65,11 @@ impl Error for FileError {}
 /// An id is a path as text, a `String` or a `&str`, and one cache serves both. A file is read whole
 /// at its first fetch, and its text is taken as it is: a byte order mark is a character of it. What
 /// is held stays, also where the file changes later.
+///
+/// ```rust
+/// let mut cache = FileCache::new(files, alloc);
+/// report(alloc, pie, fruit)?.write(&mut cache, out)
+/// ```
 #[derive(Drop)]
 #[derive_where(Debug)]
 pub struct FileCache<R: Files + Drop> {

@@ -22,6 +22,16 @@ use std::marker::Model;
 /// A fetch of an id that isn't held calls the function once. Its error is returned as `Failed`, and
 /// the next fetch of that id calls it again; its text becomes the source that is held for good. A
 /// fetch of a held id never calls it.
+///
+/// ```rust
+/// let mut cache: FnCache<&str, _, &str> = FnCache::new(
+///     rt.alloc(),
+///     |id: &&str| -> Result<&str, u8> {
+///         calls.set(calls.get().wrapping_add(1));
+///         if *id == "z" { Err(7) } else { Ok("ab") }
+///     },
+/// );
+/// ```
 #[derive(Drop)]
 #[derive_where(Debug; Id, I)]
 pub struct FnCache<Id: SourceName + Hash + Clone, F, I: SourceText> {

@@ -33,6 +33,12 @@ impl<Id: SourceName + Hash + Clone, I: SourceText> Model for SourceMap<Id, I> {
 
 /// The sources of these pairs of id and text. The last pair of an id counts.
 ///
+/// Two sources, as a field of a cache:
+///
+/// ```rust
+/// map: sources(alloc, [("-", "use pear"), ("fruit", "apple")])?,
+/// ```
+///
 /// On `Err` there was no memory for them, and the pairs that are left are dropped.
 pub fn sources<
     Id: SourceName + Hash + Clone,
