@@ -33,7 +33,7 @@
 //! ---'
 //! ```
 //!
-//! - A `Report` has a kind, a message, labels, notes and helps. `Report::build` returns its builder.
+//! - A `Report` has a kind, a message, labels, notes and helps. `Report::build` begins one.
 //! - A `Label` has a span, and mostly a message and a colour. Offsets count from 0, and ends are
 //!   exclusive.
 //! - A `Source` is a text; `sources`, `FileCache`, `FnCache` and `SourceTable` hold several by id.
@@ -41,8 +41,8 @@
 //! - A call that makes a text or a list takes an allocator, and returns an error without memory.
 //! - A label that doesn't fit its source is skipped, and `write` returns it with the reason.
 //!
-//! Texts are sent as they are: for texts that anyone may have written there is `ariadne_safe`. After
-//! `Ok` the writer has taken exactly the picture; the contract of `Report::write` says so.
+//! Texts are sent as they are: for texts that anyone may have written there is `ariadne_safe`.
+//! After `Ok` the writer has taken exactly the picture; the contract of `Report::write` says so.
 #![tactic(auto)]
 
 pub mod builder;
