@@ -1,4 +1,4 @@
-"""Draws stored cases (docs/CASES.md) that need no cache of their own, and compares pictures and lists. The
+"""Draws stored cases (docs/dev/CASES.md) that need no cache of their own, and compares pictures and lists. The
 cases come as JSON, a list, over standard input. With the word `excerpts` the library is handed excerpts. The last line is 'N cases, M differ', and the status 1
 where M > 0.
 """
