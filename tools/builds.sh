@@ -226,7 +226,7 @@ keep() {
 proved_places() {
     places 'src specs proofs' "$@"
     case $* in
-        *sewarqo_c*) printf '%s\n' bindings/c/heap.c tools/library ;;
+        *sewarqo_c*) printf '%s\n' bindings/c/heap.c bindings/c/sewarqo.h bindings/c/version.c tools/library ;;
     esac
 }
 

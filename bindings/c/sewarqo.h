@@ -191,6 +191,10 @@ enum {
     SEWARQO_ERR_EDIT_CUTS_CHARACTER = 24 /* in bytes: one of its ends is inside a character */
 };
 
+/* The version of the library that is linked or loaded, as SEWARQO_VERSION is that of this header. The text is
+ * constant. */
+const char *sewarqo_version(void);
+
 /* Draws a report over its sources.
  *
  * After SEWARQO_DRAWN and SEWARQO_LEFT_OUT the first `*len` bytes of `out` are the picture, and those

@@ -27,6 +27,9 @@
 
 namespace sewarqo {
 
+// The version of the library that is linked or loaded, as SEWARQO_VERSION is that of the header.
+inline std::string_view version() { return sewarqo_version(); }
+
 // A colour, or none: one with a name, as Color(SEWARQO_RED), or one of the palette, or of red, green and
 // blue.
 class Color {

@@ -30,6 +30,7 @@ static void versions(const char *wanted) {
     see("its parts", strcmp(joined, wanted) == 0);
     snprintf(joined, sizeof joined, "%d.%d.%d", number / 10000, number / 100 % 100, number % 100);
     see("its number", strcmp(joined, wanted) == 0);
+    see("that of the library", strcmp(sewarqo_version(), wanted) == 0);
 }
 
 /* ---- offsets */

@@ -54,6 +54,7 @@ static void streams() {
 static void offsets() {
     const std::string_view text = "ab\nd\xc3\xa9" "f\r\n";
     const std::size_t none = SIZE_MAX;
+    see("the version", written(sewarqo::version()), SEWARQO_VERSION);
     see("characters", written(sewarqo::offset(text, 2, 3)), "5");
     see("bytes", written(sewarqo::offset(text, 2, 4, true)), "6");
     see("past its line", written(sewarqo::offset(text, 2, 99)), "6");
