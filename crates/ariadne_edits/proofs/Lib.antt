@@ -6,3 +6,9 @@ pub mod Fitting
 pub mod Bodies
 pub mod Pushing
 pub mod DrawnRows
+pub mod SameLines
+pub mod PairLists
+pub mod StayLists
+pub mod StayLines
+pub mod Untouched
+pub mod KeptRows

@@ -57,3 +57,7 @@ module _ (bare whole rest : List ℕ) (whole_text : IsUtf8 whole) (cut : StripsP
             ∙ ap (λ x. bare ++ x) (encodes-chars rest rest_text) ∙ sym parts));
         ends = ends;
       }
+
+-- texts of the same characters
+pub same_text : (a b : List ℕ) → IsUtf8 a → IsUtf8 b → chars a ≡ chars b → a ≡ b
+same_text a b u v e = sym (encodes-chars a u) ∙ ap encode_utf8_all e ∙ encodes-chars b v

@@ -13,7 +13,7 @@ range_more : (a n : ℕ) → range_with_len a (suc n) ≡ range_with_len a n ++ 
 range_more a zero = ap (λ x. x ∷ []) (let e : a ≡ a + 0 = omega arith in e)
 range_more a (suc n) = ap (λ xs. a ∷ xs) (range_more (a + 1) n ∙ ap (λ x. range_with_len (a + 1) n ++ x ∷ []) (let e : a + 1 + n ≡ a + suc n = omega arith in e))
 
-upto_more : (n : ℕ) → upto (n + 1) ≡ upto n ++ n ∷ []
+pub upto_more : (n : ℕ) → upto (n + 1) ≡ upto n ++ n ∷ []
 upto_more n = ap (λ m. range_with_len 0 m) (let e : n + 1 ≡ suc n = omega arith in e) ∙ range_more 0 n ∙ ap (λ x. upto n ++ x ∷ []) (let e : 0 + n ≡ n = omega arith in e)
 
 all_more : {X : Type 0} (P : X → Type 0) (xs : List X) (x : X) → AllByRecursion P xs → P x → AllByRecursion P (xs ++ x ∷ [])

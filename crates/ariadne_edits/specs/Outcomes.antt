@@ -4,6 +4,7 @@ use Rattle.ariadne_base.specs.Lines.{lines_of}
 use Rattle.ariadne_picture.specs.declared.switches.IndexType.{IndexType}
 use Rattle.ariadne_edits.specs.Changes.{AreInOrder, edited_text, in_bytes}
 use Rattle.ariadne_edits.specs.Drawn.{drawn_text, number_width}
+use Rattle.ariadne_edits.specs.Kept.{KeepUntouched}
 use Rattle.ariadne_edits.specs.Refusals.{refusal_of}
 use Rattle.ariadne_edits.specs.Rows.{Tell}
 use Rattle.ariadne_edits.specs.declared.change.Change.{Change}
@@ -40,13 +41,14 @@ pub record IsEdited (counts : IndexType) (text : List ℕ) (edits : List Edit) (
   pub is : out ≡ edited_text text made
 
 -- a text shows which lines edits of a source change: rows tell how the lines of the source become those
--- of the edited text, and all of them are drawn
+-- of the edited text, each line that no edit touches is kept, and all rows are drawn
 pub record IsSuggestion (counts : IndexType) (tab_width offset : ℕ) (text : List ℕ)
     (edits : List Edit) (help : List ℕ) : Type 0 where
   pub after : List ℕ
   pub edited : IsEdited counts text edits after
   pub rows : List Row
   pub told : Tell (lines_of (chars text)) (lines_of (chars after)) rows
+  pub kept : KeepUntouched text edited.made rows
   pub drawn : help ≡ drawn_text
       (record { width = number_width offset rows; offset = offset; tab_width = tab_width })
       (lines_of (chars text)) (lines_of (chars after)) rows

@@ -1,7 +1,12 @@
-//! Which lines may be kept. What is found here decides how few lines are shown, and not whether what is
-//! shown is right: `rows` keeps no line that isn't the same.
+//! Which lines may be kept. `rows` keeps no line that isn't the same, so what is found here decides how
+//! few lines are shown: each line that no change touches is among them.
 
-ghost use Rattle.std.specs.Prelude.{◌≤◌, length};
+ghost use Rattle.std.specs.Prelude.{◌≡◌, ◌+◌, ◌-◌, ◌≤◌, ◌<◌, ◌^◌, ◌++◌, ℕ, IfOk, OnOk, length};
+ghost use Rattle.std.specs.List.{AllByRecursion};
+ghost use Rattle.ariadne_base.specs.Listing.{listed_lines};
+ghost use Rattle.ariadne_edits.specs.Changes.{edited_text, Fit};
+ghost use Rattle.ariadne_edits.specs.Kept.{IsPaired, IsUntouched};
+ghost use Rattle.ariadne_edits.specs.Stays.{AreStays, IsInside, from_reaching, pair_at, pairs_in};
 
 use crate::change::Change;
 use crate::line::text_of;
@@ -26,29 +31,33 @@ pub(crate) fn pairs(
     old: &Source<&str>,
     new: &Source<&str>,
     changes: &[Change<'_>],
-) -> Result<Vec<(usize, usize)>, AllocError> {
-    let stays = stays(alloc, old.text(), changes)?;
+) -> Result<Vec<(usize, usize)>, AllocError>
+    requires fit { Fit old.now.text 0 changes.now }
+    requires edited { new.now.text ≡ edited_text old.now.text changes.now }
+    ensures { IfOk result (λ pairs. (i : ℕ) → IsUntouched old.now.text changes.now i
+        → IsPaired (listed_lines old.now) (listed_lines new.now) pairs.items i) }
+{
+    let stays = stays(alloc, old.text(), changes, new.text().len())?;
+    let mut rest = stays.as_slice();
     let mut pairs = Vec::new(alloc);
-    let mut begin = 0usize;
-    let mut first = 0;
+    let mut begin = 0;
     for i in 0..old.lines().len() {
-        first = reaching(stays.as_slice(), first, begin);
-        push_pairs(&mut pairs, new, &stays[first..], i, begin)?;
-        begin = begin.saturating_add(text_of(old, i).len());
+        rest = reaching(rest, begin);
+        push_pairs(&mut pairs, new, rest, i, begin)?;
+        begin += text_of(old, i).len();
     }
     Ok(pairs)
 }
 
-/// The first piece from `first` on that reaches up to a byte, or the number of pieces.
-fn reaching(stays: &[Stay], first: usize, begin: usize) -> usize
-    requires { first ≤ length stays.now }
-    ensures { result ≤ length stays.now }
+/// The pieces from the first that reaches up to a byte.
+fn reaching<'a>(stays: &'a [Stay], begin: usize) -> &'a [Stay]
+    ensures { result.now ≡ from_reaching begin stays.now }
 {
-    let mut found = first;
-    while found < stays.len() && stays[found].end < begin {
-        found += 1;
+    let mut passed = 0;
+    while passed < stays.len() && stays[passed].end < begin {
+        passed += 1;
     }
-    found
+    &stays[passed..]
 }
 
 /// Appends the pairs of line `i`, which begins at a byte.
@@ -58,35 +67,74 @@ fn push_pairs(
     stays: &[Stay],
     i: usize,
     begin: usize,
-) -> Result<(), AllocError> {
+) -> Result<(), AllocError>
+    requires inside { AllByRecursion (IsInside (length new.now.text) begin) stays.now }
+    requires fits { length new.now.text < 2 ^ 64 }
+    ensures { OnOk result (pairs.new.items
+        ≡ pairs.old.items ++ pairs_in (listed_lines new.now) i begin stays.now) }
+{
     for stay in stays {
         if stay.start > begin {
             return Ok(());
         }
-        let to = stay.to.saturating_add(begin - stay.start);
-        if let Some((_, j, 0)) = new.get_byte_line(to) {
-            pairs.push((i, j))?;
-        }
+        push_pair(pairs, new, i, stay.to + (begin - stay.start))?;
     }
     Ok(())
 }
 
-/// The pieces of a text that changes leave, which are trimmed first.
-fn stays(alloc: Global, text: &str, changes: &[Change<'_>]) -> Result<Vec<Stay>, AllocError> {
+/// Appends line `i` with the line of the edited text that begins at a byte, if one does.
+fn push_pair(
+    pairs: &mut Vec<(usize, usize)>,
+    new: &Source<&str>,
+    i: usize,
+    to: usize,
+) -> Result<(), AllocError>
+    requires { to ≤ length new.now.text }
+    ensures { OnOk result (pairs.new.items ≡ pairs.old.items ++ pair_at (listed_lines new.now) i to) }
+{
+    let (_, j, column) = new.get_byte_line(to).unwrap();
+    if column == 0 {
+        pairs.push((i, j))?;
+    }
+    Ok(())
+}
+
+/// The pieces of a text that changes leave, which are trimmed first. The edited text has `size` bytes.
+fn stays(
+    alloc: Global,
+    text: &str,
+    changes: &[Change<'_>],
+    size: usize,
+) -> Result<Vec<Stay>, AllocError>
+    requires fit { Fit text.now 0 changes.now }
+    requires edited { length (edited_text text.now changes.now) ≡ size }
+    ensures are { IfOk result (λ stays.
+        AreStays (length text.now) size 0 0 0 0 changes.now stays.items) }
+    ensures fits { OnOk result (length text.now < 2 ^ 64) }
+{
     let mut stays = Vec::new(alloc);
-    let mut start = 0;
-    let mut to = 0usize;
+    // where the text behind the last change begins, in both texts, and how many bytes in front stay too
+    let mut at = 0;
+    let mut to = 0;
+    let mut back = 0;
     for change in changes {
         let trim = trim_of(text.as_bytes(), change);
-        let end = change.start.saturating_add(trim.front);
-        stays.push(Stay { start, end, to })?;
-        to = to
-            .saturating_add(end.saturating_sub(start))
-            .saturating_add(trim.new_len);
-        start = change.end.saturating_sub(trim.back);
+        let end = change.start + trim.front;
+        stays.push(Stay {
+            start: at - back,
+            end,
+            to: to - back,
+        })?;
+        to += change.start - at + change.text.len();
+        at = change.end;
+        back = trim.back;
     }
     let end = text.len();
-    stays.push(Stay { start, end, to })?;
+    stays.push(Stay {
+        start: at - back,
+        end,
+        to: to - back,
+    })?;
     Ok(stays)
 }
 
@@ -97,24 +145,20 @@ struct Trim {
     front: usize,
     /// How many bytes are the same behind.
     back: usize,
-    /// How many bytes are put in between.
-    new_len: usize,
 }
 
 /// What a change of a text has in common with what it replaces.
-fn trim_of(text: &[u8], change: &Change<'_>) -> Trim {
+fn trim_of(text: &[u8], change: &Change<'_>) -> Trim
+    requires rises { change.now.start ≤ change.now.end }
+    requires within { change.now.end ≤ length text.now }
+    ensures old { change.now.start + (result.front + result.back) ≤ change.now.end }
+    ensures new { result.front + result.back ≤ length change.now.text.now }
+{
+    let old = &text[change.start..change.end];
     let new = change.text.as_bytes();
-    let old = match text.get(change.start..change.end) {
-        Some(old) => old,
-        None => &[],
-    };
     let front = common_front(old, new);
     let back = common_back(&old[front..], &new[front..]);
-    Trim {
-        front,
-        back,
-        new_len: new.len() - front - back,
-    }
+    Trim { front, back }
 }
 
 /// How many bytes two texts have in common in front.

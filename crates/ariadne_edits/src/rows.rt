@@ -1,9 +1,11 @@
 //! The lines of a source and of the edited text, side by side.
 
-ghost use Rattle.std.specs.Prelude.{◌+◌, ◌<◌, ◌≤◌, ◌^◌, IfOk, IfSome, IsSome, IsTrue, OnOk, length};
-ghost use Rattle.std.specs.Prelude.{chars};
+ghost use Rattle.std.specs.Prelude.{◌≡◌, ◌+◌, ◌<◌, ◌≤◌, ◌^◌, ◌⊎◌, ℕ, IfOk, IfSome, IsSome, IsTrue, OnOk};
+ghost use Rattle.std.specs.Prelude.{chars, length, Some};
 ghost use Rattle.ariadne_base.specs.Listing.{listed_lines};
+ghost use Rattle.ariadne_edits.specs.Kept.{AreSame, HasKept, IsPaired, KeepAlso};
 ghost use Rattle.ariadne_edits.specs.Rows.{AreMarked, IsKept, IsLastOf, Tell, TellFirst};
+ghost use Rattle.ariadne_edits.specs.declared.rows.Row.TheVariants.{Kept};
 
 use crate::line::{are_twins, is_terminated, text_of};
 use ariadne_base::Source;
@@ -53,7 +55,10 @@ pub(crate) fn rows(
     new: &Source<&str>,
     pairs: &[(usize, usize)],
 ) -> Result<Vec<Row>, AllocError>
-    ensures { IfOk result (λ rows. Tell (listed_lines old.now) (listed_lines new.now) rows.items) }
+    ensures told { IfOk result (λ rows.
+        Tell (listed_lines old.now) (listed_lines new.now) rows.items) }
+    ensures kept { IfOk result (λ rows. (i : ℕ)
+        → IsPaired (listed_lines old.now) (listed_lines new.now) pairs.now i → HasKept rows.items i) }
 {
     let mut rows = Vec::new(alloc);
     let mut told = (0, 0);
@@ -87,6 +92,11 @@ fn push_pair(
     ensures told { let TellTo = TellFirst (listed_lines old.now) (listed_lines new.now) in
         IfOk result (λ next. TellTo told.0 told.1 rows.old.items
         → TellTo next.0 next.1 rows.new.items) }
+    ensures next { IfOk result (λ next. (next ≡ told) ⊎ (next ≡ (pair.0 + 1, pair.1 + 1))) }
+    ensures keeps { OnOk result (KeepAlso rows.old.items rows.new.items) }
+    ensures kept { OnOk result (told.0 ≤ pair.0 → told.1 ≤ pair.1
+        → AreSame (listed_lines old.now) (listed_lines new.now) pair.0 pair.1
+        → HasKept rows.new.items pair.0) }
 {
     let (old_from, new_from) = told;
     let (old_to, new_to) = pair;
@@ -112,6 +122,8 @@ fn push_pair(
 /// The row of a line of the source that is kept as one of the edited text, if it is the same.
 fn kept(old: &Source<&str>, i: usize, new: &Source<&str>, j: usize) -> Option<Row>
     ensures kept { IfSome result (IsKept (listed_lines old.now) (listed_lines new.now) i j) }
+    ensures same { AreSame (listed_lines old.now) (listed_lines new.now) i j
+        → result ≡ Some (Kept i j) }
     ensures fits { IsSome result → (i + 1 < 2 ^ 64) × (j + 1 < 2 ^ 64) }
 {
     if old.lines().len() <= i || new.lines().len() <= j {
@@ -149,9 +161,10 @@ fn push_run(
     requires new_rise { run.new_from ≤ run.new_to }
     requires old_there { run.old_to ≤ length (listed_lines old.now) }
     requires new_there { run.new_to ≤ length (listed_lines new.now) }
-    ensures { let TellTo = TellFirst (listed_lines old.now) (listed_lines new.now) in
+    ensures told { let TellTo = TellFirst (listed_lines old.now) (listed_lines new.now) in
         OnOk result (TellTo run.old_from run.new_from rows.old.items
         → TellTo run.old_to run.new_to rows.new.items) }
+    ensures keeps { OnOk result (KeepAlso rows.old.items rows.new.items) }
 {
     push_removed(alloc, rows, old, new, run)?;
     push_added(alloc, rows, old, new, run)
@@ -167,9 +180,10 @@ fn push_removed(
 ) -> Result<(), AllocError>
     requires rise { run.old_from ≤ run.old_to }
     requires there { run.new_to ≤ length (listed_lines new.now) }
-    ensures { let TellTo = TellFirst (listed_lines old.now) (listed_lines new.now) in
+    ensures told { let TellTo = TellFirst (listed_lines old.now) (listed_lines new.now) in
         OnOk result (TellTo run.old_from run.new_from rows.old.items
         → TellTo run.old_to run.new_from rows.new.items) }
+    ensures keeps { OnOk result (KeepAlso rows.old.items rows.new.items) }
 {
     for i in run.old_from..run.old_to {
         let twin = twin_of(i - run.old_from, run.new_from, run.new_to);
@@ -189,9 +203,10 @@ fn push_added(
 ) -> Result<(), AllocError>
     requires rise { run.new_from ≤ run.new_to }
     requires there { run.old_to ≤ length (listed_lines old.now) }
-    ensures { let TellTo = TellFirst (listed_lines old.now) (listed_lines new.now) in
+    ensures told { let TellTo = TellFirst (listed_lines old.now) (listed_lines new.now) in
         OnOk result (TellTo run.old_to run.new_from rows.old.items
         → TellTo run.old_to run.new_to rows.new.items) }
+    ensures keeps { OnOk result (KeepAlso rows.old.items rows.new.items) }
 {
     for j in run.new_from..run.new_to {
         let twin = twin_of(j - run.new_from, run.old_from, run.old_to);

@@ -1,14 +1,17 @@
 use Rattle.std.proofs.Common.{subst}
 use Rattle.ariadne_base.specs.Listing.{listed_lines}
 use Rattle.ariadne_edits.specs.Rows.{AreMarked}
+use Rattle.ariadne_edits.proofs.KeptRows.{keeps_more}
 use Rattle.ariadne_edits.proofs.RowLists.{told_added}
 use Rattle.ariadne_edits.proofs.rows.push_added.Goals as goal
 
 -- one line more is new
 pub loop-j-preserved : goal.loop-j-preserved
-loop-j-preserved c = λ h.
+loop-j-preserved c =
     let old = listed_lines c.args.old.now in
     let new = listed_lines c.args.new.now in
     let marked = subst (λ l. AreMarked c.in_ok-blanks.blanks l old) c.text_of.ensures c.in_ok-blanks.ensures in
-    rw (c.in_ok-push.ensures).items
-    (told_added old new c.args.run.old_to c.loop-j.j c.loop-j.rows.items (c.loop-j.invariant h) c.in_ok-blanks.blanks marked)
+    rw (c.in_ok-push.ensures).items (
+      λ h. told_added old new c.args.run.old_to c.loop-j.j c.loop-j.rows.items (c.loop-j.invariant.0 h) c.in_ok-blanks.blanks marked,
+      λ k h. keeps_more c.loop-j.rows.items _ k (c.loop-j.invariant.1 k h),
+    )

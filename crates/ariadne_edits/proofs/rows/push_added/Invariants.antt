@@ -1,8 +1,10 @@
 use Rattle.ariadne_base.specs.Listing.{listed_lines}
+use Rattle.ariadne_edits.specs.Kept.{KeepAlso}
 use Rattle.ariadne_edits.specs.Rows.{TellFirst}
 use Rattle.ariadne_edits.proofs.rows.push_added.Given as goal
 
 abbrev pub invariant-loop-j : goal.invariant-loop-j
 invariant-loop-j l =
-    TellFirst (listed_lines l.old) (listed_lines l.new) l.run.old_to l.run.new_from l.initial.rows.items
-    → TellFirst (listed_lines l.old) (listed_lines l.new) l.run.old_to l.j l.rows.items
+    (TellFirst (listed_lines l.old) (listed_lines l.new) l.run.old_to l.run.new_from l.initial.rows.items
+    → TellFirst (listed_lines l.old) (listed_lines l.new) l.run.old_to l.j l.rows.items)
+    × KeepAlso l.initial.rows.items l.rows.items

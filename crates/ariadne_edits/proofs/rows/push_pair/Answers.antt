@@ -7,4 +7,4 @@ pub returns-in_ok-push-in-Some-clause-told : goal.returns-in_ok-push-in-Some-cla
 returns-in_ok-push-in-Some-clause-told c = λ h.
     rw (c.in_ok-push-in-Some.ensures).items
     (told_kept (listed_lines c.args.old.now) (listed_lines c.args.new.now) c.args.pair.0 c.args.pair.1 c.push_run.new.rows.items
-    (c.in_ok-push_run-in-Some.ensures h) c.in-Some.row c.in-Some.ensures.kept)
+    (c.in_ok-push_run-in-Some.ensures.told h) c.in-Some.row c.in-Some.ensures.kept)
