@@ -170,14 +170,21 @@ def drawn(rows, offset, tab_width):
     return "\n".join(lines[first:-1])
 
 
+def in_characters(old, change):
+    """Where a trimmed change of a text begins and ends there, to whole characters."""
+    start, end, _ = change
+    whole = [at for at in range(len(old) + 1) if at == len(old) or old[at] & 0xC0 != 0x80]
+    return max(at for at in whole if at <= start), min(at for at in whole if at >= end)
+
+
 def untouched(olds, changes):
-    """The numbers of the lines that no change meets, nor their borders."""
+    """The numbers of the lines that no change meets, nor their borders, by where changes begin and end."""
     begins = begins_of(olds)
     pieces = list(zip(begins, begins[1:]))
     return {
         line
         for line, (begin, end) in enumerate(pieces)
-        if all(behind < begin or end < start for start, behind, _ in changes)
+        if all(behind < begin or end < start for start, behind in changes)
     }
 
 
@@ -199,5 +206,5 @@ def help_of(source, is_bytes, tab_width, edits):
     added = {row.number for row in rows if row and row.sign == "+"}
     left = [line.rstrip(SEPARATORS) for at, line in enumerate(olds) if at not in removed]
     assert left == [line.rstrip(SEPARATORS) for at, line in enumerate(news) if at not in added]
-    assert not removed & untouched(olds, [trimmed(old, it) for it in changes])
+    assert not removed & untouched(olds, [in_characters(old, trimmed(old, it)) for it in changes])
     return drawn(rows, source["offset"], tab_width)
