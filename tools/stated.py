@@ -210,8 +210,9 @@ def clauses_in(crate, source, path):
     module = [it for it in path.relative_to(source).with_suffix("").parts if it not in ("lib", "main")]
     lines, imports, owner = text.split("\n"), imports_of(text), []
     for at, line in enumerate(lines):
-        whole = line if line.endswith(("{", "}")) else " ".join(lines[at : at + 8])
-        impl, head = IMPL.match(re.sub(r"^impl< .*?> ", "impl<> ", whole)), FUNCTION.match(line)
+        # (The parameters of an `impl` may take lines of their own.)
+        whole = line if line != "impl<" else "impl<" + next(it for it in lines[at:] if it.startswith(">"))
+        impl, head = IMPL.match(whole), FUNCTION.match(line)
         if line and not line.startswith((" ", "}", ">", "#", "/")):
             owner = []
         if impl:
