@@ -9,6 +9,7 @@ from report_model import WHITE_SPACE, Source, columns_of
 # What stands for white space that has no sign of its own, where white space is shown by signs.
 BLANK, OTHER_BLANK = "\u00b7", "\u2423"
 SEPARATORS = "\n\r\x0b\x0c\x85\u2028\u2029"
+CLOSING = set(SEPARATORS) - {"\r"}  # those that LF behind them can't join
 LAST_NUMBER = 2**64 - 1
 
 
@@ -178,13 +179,14 @@ def in_characters(old, change):
 
 
 def untouched(olds, changes):
-    """The numbers of the lines that no change meets, nor their borders, by where changes begin and end."""
+    """The numbers of the lines that no change meets, nor their borders, by where changes begin and end. A change
+    may begin right behind a line that ends in another terminator than CR."""
     begins = begins_of(olds)
-    pieces = list(zip(begins, begins[1:]))
+    ends = [end + 1 - (line[-1:] in CLOSING) for end, line in zip(begins[1:], olds)]
     return {
         line
-        for line, (begin, end) in enumerate(pieces)
-        if all(behind < begin or end < start for start, behind in changes)
+        for line, (begin, end) in enumerate(zip(begins, ends))
+        if all(behind < begin or end <= start for start, behind in changes)
     }
 
 

@@ -8,6 +8,7 @@ use Rattle.std.proofs.lemmas.Grind.{flat_map-append}
 use Rattle.std.proofs.lemmas.Str.{encodes-append, length-le-encodes}
 use Rattle.ariadne_base.specs.Lines.{is_separator, begins_with_line_feed, ends_line, in_front, full_lines_of, lines_of, HasNoSeparatorInside, EndsIn, BeginsIn, CutsCrLf, AreFullLines}
 use Rattle.ariadne_base.specs.Locations.{byte_len}
+use Rattle.ariadne_edits.specs.Kept.{IsClosed}
 
 -- the text of lines
 abbrev pub joined : List (List ℕ) → List ℕ
@@ -24,6 +25,7 @@ IsCut (c ∷ d ∷ t) u = IsCut (d ∷ t) u
 
 -- ---- where it ends by the characters beside it alone
 
+-- whether a character ends its line turns on the next one alone
 ends_next : (c d : ℕ) (t u : List ℕ) → ends_line c (d ∷ t) ≡ ends_line c (d ∷ u)
 unfolding ends_line begins_with_line_feed
 ends_next c d t u = refl
@@ -33,6 +35,7 @@ cut_next [] d t u h = tt
 cut_next (c ∷ []) d t u h = ends_next c d u t ∙ h
 cut_next (c ∷ e ∷ a) d t u h = cut_next (e ∷ a) d t u h
 
+-- what stands in front of one text more does not matter
 cut_behind : (x y u : List ℕ) → IsSome y → IsCut y u → IsCut (x ++ y) u
 cut_behind [] y u s h = h
 cut_behind (c ∷ []) [] u s h = absurd s
@@ -47,6 +50,7 @@ cut_ahead (c ∷ e ∷ x) y u s h = cut_ahead (e ∷ x) y u s h
 
 -- ---- lines of two texts between which one ends
 
+-- a character goes in front of the first line
 in_front_append : (c : ℕ) (f g : List (List ℕ)) → 0 < length f → in_front c (f ++ g) ≡ in_front c f ++ g
 unfolding in_front
 in_front_append c [] g h = absurd (omega arith)
@@ -57,6 +61,7 @@ unfolding in_front
 some_in_front c [] = omega arith
 some_in_front c (l ∷ f) = omega arith
 
+-- one character more
 full_more : (c : ℕ) (t : List ℕ) → full_lines_of (c ∷ t) ≡ cond (ends_line c t) ((c ∷ []) ∷ full_lines_of t) (in_front c (full_lines_of t))
 unfolding full_lines_of
 full_more c t = refl
@@ -69,6 +74,7 @@ full_one : (c : ℕ) → full_lines_of (c ∷ []) ≡ (c ∷ []) ∷ []
 unfolding full_lines_of in_front
 full_one c = cond_both (ends_line c []) ((c ∷ []) ∷ []) ((c ∷ []) ∷ []) (λ r. r ≡ (c ∷ []) ∷ []) (λ _. refl) (λ _. refl)
 
+-- the lines of both, one behind the other
 cut_lines : (a u : List ℕ) → IsCut a u → full_lines_of (a ++ u) ≡ full_lines_of a ++ full_lines_of u
 unfolding full_lines_of
 cut_lines [] u h = refl
@@ -92,6 +98,7 @@ cut_lines (c ∷ d ∷ t) u h =
 
 -- ---- a text's own lines
 
+-- a terminator ends its line, unless it is a CR before LF
 ends_here : (c : ℕ) (u : List ℕ) → is_separator c ≡ true → ¬ ((c ≡ 13) × BeginsIn (λ d. d ≡ 10) u) → ends_line c u ≡ true
 unfolding ends_line begins_with_line_feed
 ends_here c [] e n = rw e (never (c == 13))
@@ -103,10 +110,17 @@ ends_here c (d ∷ u) e n =
     rw e (not_from_false ((c == 13) && (d == 10)) (false_from_ne_true ((c == 13) && (d == 10))
     (λ t. let h = and_parts (c == 13) (d == 10) t in n (eqb-true c 13 h.0, eqb-true d 10 h.1))))
 
+-- so a line ends behind each of its terminators
 end_cut : (x u : List ℕ) → EndsIn (λ c. is_separator c ≡ true) x → ¬ (CutsCrLf x u) → IsCut x u
 end_cut [] u e n = tt
 end_cut (c ∷ []) u e n = ends_here c u e n
 end_cut (c ∷ d ∷ t) u e n = end_cut (d ∷ t) u e n
+
+-- a closed line ends whatever follows
+closed_cut : (l u : List ℕ) → IsClosed l → IsCut l u
+closed_cut [] u e = tt
+closed_cut (c ∷ []) u e = ends_here c u e.0 (λ h. e.1 h.0)
+closed_cut (c ∷ d ∷ t) u e = closed_cut (d ∷ t) u e
 
 begins_alone : (P : ℕ → Type 0) (m u : List ℕ) → IsSome m → BeginsIn P (m ++ u) → BeginsIn P m
 begins_alone P [] u s h = absurd s
@@ -132,6 +146,7 @@ cut_first : (l m : List ℕ) (g : List (List ℕ)) → AreFullLines (l ∷ m ∷
 cut_first l m g a =
     end_cut l (joined (m ∷ g)) a.1 (λ h. a.2 (h.0, begins_alone (λ c. c ≡ 10) m (joined g) (some_first m g a.3) h.1))
 
+-- a line ends between two lines
 cut_of : (f : List (List ℕ)) (l : List ℕ) (g : List (List ℕ)) → AreFullLines (f ++ l ∷ g) → IsCut (joined f) (joined (l ∷ g))
 cut_of [] l g a = tt
 cut_of (x ∷ []) l g a = subst (λ t. IsCut t (joined (l ∷ g))) (sym (append-nil x)) (cut_first x l g a)
@@ -286,18 +301,13 @@ module _ (a m b a' b' : List ℕ) (f : List (List ℕ)) (l : List ℕ) (g : List
       by_lines [] full e = absurd (let no : ⊥ = cc in no)
       by_lines (n ∷ g) full e = cut_first l n g (from_line f l (n ∷ g) full)
 
-  pub line_stays : (byte_len a < byte_len (joined f)) ⊎ ((a ≡ []) × (a' ≡ []))
-      → (byte_len (joined f) + byte_len l < byte_len a + byte_len m) ⊎ ((b ≡ []) × (b' ≡ []))
+  -- both borders stay
+  from_sides : Sides → (byte_len a < byte_len (joined f)) ⊎ ((a ≡ []) × (a' ≡ []))
+      → (byte_len (joined f) + byte_len l < byte_len a + byte_len m)
+      ⊎ (((b ≡ []) × (b' ≡ [])) ⊎ ((byte_len (joined f) + byte_len l ≤ byte_len a + byte_len m) × IsClosed l))
       → (at : ℕ) → at + byte_len a ≡ byte_len a' + byte_len (joined f)
       → HasLine (lines_of (a' ++ (m ++ b'))) l at
-  line_stays before after at e =
-      let none : byte_len [] ≡ 0 = refl in
-      let low : byte_len a ≤ byte_len (joined f) = elim before [ inl h ↦ omega arith | inr h ↦ omega (arith, ap byte_len h.0, none) ] in
-      let high : byte_len (joined f) + byte_len l ≤ byte_len a + byte_len m = elim after [
-        | inl h ↦ omega arith
-        | inr h ↦ omega (arith, ap byte_len h.0, none, sizes)
-      ] in
-      let s = sides low high in
+  from_sides s before after at e =
       let x = a' ++ s.left in
       let y = s.right ++ b' in
       let ahead : IsCut x (l ++ y) = elim before [
@@ -306,10 +316,12 @@ module _ (a m b a' b' : List ℕ) (f : List (List ℕ)) (l : List ℕ) (g : List
             (cut_here (a ++ s.left) l (joined g) (cut_before s) line_some y))
         | inr h ↦ subst (λ a'. IsCut (a' ++ s.left) (l ++ y)) (h.0 ∙ sym h.1) (cut_here (a ++ s.left) l (joined g) (cut_before s) line_some y)
       ] in
-      let end : IsCut l y ⊎ (y ≡ []) = ending s.right s.behind (elim after [
-        | inl h ↦ inl (omega (arith, size_append (s.left ++ l) s.right, size_append s.left l, ap byte_len s.piece, size_append a s.left, ap byte_len s.front, h))
-        | inr h ↦ inr h
-      ]) in
+      let end : IsCut l y ⊎ (y ≡ []) = elim after [
+        | inl h ↦
+            ending s.right s.behind
+            (inl (omega (arith, size_append (s.left ++ l) s.right, size_append s.left l, ap byte_len s.piece, size_append a s.left, ap byte_len s.front, h)))
+        | inr h ↦ elim h [ inl k ↦ ending s.right s.behind (inr k) | inr k ↦ inl (closed_cut l y k.1) ]
+      ] in
       let found = cut_out x l y line_some (inside_first l g (from_line f l g full)) ahead end in
       let text : x ++ (l ++ y) ≡ a' ++ (m ++ b') =
       append_assoc a' s.left (l ++ y) ∙ ap (λ t. a' ++ t) (sym (append_assoc s.left l y) ∙ sym (append_assoc (s.left ++ l) s.right b') ∙ ap (λ m. m ++ b') (sym s.piece)) in
@@ -320,6 +332,21 @@ module _ (a m b a' b' : List ℕ) (f : List (List ℕ)) (l : List ℕ) (g : List
       ending [] e (inl h) = absurd (let none : byte_len [] ≡ 0 = refl in omega arith)
       ending [] e (inr h) = inr h.1
       ending (c ∷ r) e h = inl (cut_next l c (r ++ b) (r ++ b') (subst (IsCut l) e (cut_after c (r ++ b) e)))
+
+  -- so the line stands in the other text
+  pub line_stays : (byte_len a < byte_len (joined f)) ⊎ ((a ≡ []) × (a' ≡ []))
+      → (byte_len (joined f) + byte_len l < byte_len a + byte_len m)
+      ⊎ (((b ≡ []) × (b' ≡ [])) ⊎ ((byte_len (joined f) + byte_len l ≤ byte_len a + byte_len m) × IsClosed l))
+      → (at : ℕ) → at + byte_len a ≡ byte_len a' + byte_len (joined f)
+      → HasLine (lines_of (a' ++ (m ++ b'))) l at
+  line_stays before after at e =
+      let none : byte_len [] ≡ 0 = refl in
+      let low : byte_len a ≤ byte_len (joined f) = elim before [ inl h ↦ omega arith | inr h ↦ omega (arith, ap byte_len h.0, none) ] in
+      let high : byte_len (joined f) + byte_len l ≤ byte_len a + byte_len m = elim after [
+        | inl h ↦ omega arith
+        | inr h ↦ elim h [ inl k ↦ omega (arith, ap byte_len k.0, none, sizes) | inr k ↦ k.0 ]
+      ] in
+      from_sides (sides low high) before after at e
 
 -- each full line has some bytes
 pub some_full_line : (ls : List (List ℕ)) (n : ℕ) → AreFullLines ls → n < length ls → 0 < byte_len (get_or ls n [])

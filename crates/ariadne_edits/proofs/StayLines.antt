@@ -1,5 +1,5 @@
 -- A line that lies in a piece that stays, with its borders, is a line of the edited text.
-use Rattle.std.proofs.Common.{◌≡◌, ◌∙◌, ap, sym, refl, subst, ℕ, ◌+◌, ◌-◌, ◌<◌, ◌≤◌, List, [], ◌∷◌, ◌++◌, ◌⊎◌, inl, inr, drop, take, get_or, length, arith}
+use Rattle.std.proofs.Common.{◌≡◌, ◌∙◌, ap, sym, refl, subst, ℕ, zero, suc, ◌+◌, ◌-◌, ◌<◌, ◌≤◌, List, [], ◌∷◌, ◌++◌, ◌⊎◌, inl, inr, drop, take, get_or, length, arith}
 use Rattle.std.specs.Prelude.{slice_range}
 use Rattle.std.specs.Str.{chars, IsUtf8, IsCharBoundary}
 use Rattle.std.proofs.lemmas.Bool.{cases_lt}
@@ -10,6 +10,7 @@ use Rattle.ariadne_base.specs.Lines.{lines_of, AreFullLines, AreLinesOf, empty_l
 use Rattle.ariadne_base.specs.Locations.{byte_len, line_at, line_offset, line_text}
 use Rattle.ariadne_base.proofs.LineLaws.{are_lines, joined_byte_len, lines_byte_len, lines_joined}
 use Rattle.ariadne_base.proofs.LocationLemmas.{offset_all, offset_more, offset_up, line_at_only}
+use Rattle.ariadne_edits.specs.Kept.{IsClosed}
 use Rattle.ariadne_edits.proofs.SameLines.{joined, line_stays, HasLine, IsSome, some_full_line}
 
 -- line i of one text stands as a line of another, which begins at a byte
@@ -79,6 +80,15 @@ pub empty_or_some : (t : List ℕ) → (t ≡ []) ⊎ IsSome t
 empty_or_some [] = inl refl
 empty_or_some (c ∷ t) = inr tt
 
+line_of_none : (i : ℕ) → line_text (lines_of []) i ≡ []
+unfolding lines_of
+line_of_none zero = refl
+line_of_none (suc i) = refl
+
+-- a line ends within a piece, or with both texts, or with the piece, where it ends whatever follows
+abbrev pub EndsWithin : ℕ → ℕ → List ℕ → List ℕ → List ℕ → Type 0
+EndsWithin next end text rest line = (next < end) ⊎ (((end ≡ length text) × (rest ≡ [])) ⊎ ((next ≡ end) × IsClosed line))
+
 -- ---- a piece of a text in another
 
 module _ (text new front rest : List ℕ) (at end : ℕ) (text_utf8 : IsUtf8 text) (new_utf8 : IsUtf8 new) (at_whole : IsCharBoundary text at)
@@ -126,7 +136,7 @@ module _ (text new front rest : List ℕ) (at end : ℕ) (text_utf8 : IsUtf8 tex
 
   module _ (i : ℕ) (there : i < length (lines_of (chars text)))
       (before : (at < line_offset byte_len (lines_of (chars text)) i) ⊎ ((at ≡ 0) × (front ≡ [])))
-      (after : (line_offset byte_len (lines_of (chars text)) (i + 1) < end) ⊎ ((end ≡ length text) × (rest ≡ [])))
+      (after : EndsWithin (line_offset byte_len (lines_of (chars text)) (i + 1)) end text rest (line_text (lines_of (chars text)) i))
       (to : ℕ) (place : to + at ≡ length front + line_offset byte_len (lines_of (chars text)) i) where
     up_to_end : line_offset byte_len (lines_of (chars text)) (i + 1) ≤ length text
     up_to_end =
@@ -163,7 +173,7 @@ module _ (text new front rest : List ℕ) (at end : ℕ) (text_utf8 : IsUtf8 tex
         let next = up_to_next in
         let last = up_to_end in
         let front_text : IsUtf8 front = elim before [
-          | inl h ↦ new_front_utf8 (elim after [ inl k ↦ omega arith | inr k ↦ omega (arith, k.0) ])
+          | inl h ↦ new_front_utf8 (elim after [ inl k ↦ omega arith | inr k ↦ elim k [ inl q ↦ omega (arith, q.0) | inr q ↦ omega (arith, q.0) ] ])
           | inr h ↦ subst IsUtf8 (sym h.1) IsUtf8-nil
         ] in
         let size_a' : byte_len a' ≡ length front = chars_size front front_text in
@@ -173,9 +183,13 @@ module _ (text new front rest : List ℕ) (at end : ℕ) (text_utf8 : IsUtf8 tex
           | inl h ↦ inl (omega (arith, size_a, size_f, h))
           | inr h ↦ inr (ap (λ n. chars (take n text)) h.0 ∙ chars-nil, ap chars h.1 ∙ chars-nil)
         ] in
-        let after' : (byte_len (joined f) + byte_len l < byte_len a + byte_len m) ⊎ ((b ≡ []) × (b' ≡ [])) = elim after [
+        let after' : (byte_len (joined f) + byte_len l < byte_len a + byte_len m)
+        ⊎ (((b ≡ []) × (b' ≡ [])) ⊎ ((byte_len (joined f) + byte_len l ≤ byte_len a + byte_len m) × IsClosed l)) = elim after [
           | inl h ↦ inl (omega (arith, size_a, size_m, size_f, next, rises, h))
-          | inr h ↦ inr (ap chars (drop_all end text (omega (arith, h.0))) ∙ chars-nil, ap chars h.1 ∙ chars-nil)
+          | inr h ↦ inr (elim h [
+            | inl k ↦ inl (ap chars (drop_all end text (omega (arith, k.0))) ∙ chars-nil, ap chars k.1 ∙ chars-nil)
+            | inr k ↦ inr (omega (arith, size_a, size_m, size_f, next, rises, k.0), k.1)
+          ])
         ] in
         let found : HasLine (lines_of (a' ++ (m ++ b'))) l to =
         line_stays a m b a' b' f l g full whole before' after' to (omega (arith, size_a, size_a', size_f, place)) in
@@ -189,7 +203,13 @@ module _ (text new front rest : List ℕ) (at end : ℕ) (text_utf8 : IsUtf8 tex
         let up = offset_up byte_len (lines_of (chars text)) i (i + 1) (omega arith) in
         let within = end_whole.0 in
         let front_none : front ≡ [] = elim before [ inl h ↦ absurd (omega arith) | inr h ↦ h.1 ] in
-        let rest_none : rest ≡ [] = elim after [ inl h ↦ absurd (omega arith) | inr h ↦ h.1 ] in
+        let rest_none : rest ≡ [] = elim after [
+          | inl h ↦ absurd (omega arith)
+          | inr h ↦ elim h [
+            | inl k ↦ k.1
+            | inr k ↦ absurd (subst IsClosed (ap (λ t. line_text (lines_of t) i) e ∙ line_of_none i) k.1)
+          ]
+        ] in
         let piece_none : slice_range text at end ≡ [] = nil_from_length (slice_range text at end) (omega (arith, size_of_piece)) in
         let text_none : text ≡ [] = nil_from_length text none in
         let same : new ≡ text =

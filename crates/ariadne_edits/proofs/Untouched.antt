@@ -21,7 +21,7 @@ use Rattle.ariadne_edits.specs.Stays.{AreStays, first_pairs, from_reaching, IsIn
 use Rattle.ariadne_edits.proofs.PairLists.{is_below, not_below}
 use Rattle.ariadne_edits.proofs.RowLists.{upto_more}
 use Rattle.ariadne_edits.proofs.StayLists.{size_between}
-use Rattle.ariadne_edits.proofs.StayLines.{empty_or_some, line_some, line_stands, one_line, StandsAt}
+use Rattle.ariadne_edits.proofs.StayLines.{EndsWithin, empty_or_some, line_some, line_stands, one_line, StandsAt}
 
 -- ---- pieces
 
@@ -202,7 +202,7 @@ module _ (text new : List ℕ) (text_utf8 : IsUtf8 text) (new_utf8 : IsUtf8 new)
   in_first : (low new_low at to end : ℕ) (front rest : List ℕ) (s : Stay) (stays : List Stay) → IsCharBoundary text at → IsCharBoundary text end → at ≤ end
       → new ≡ front ++ (slice_range text at end ++ rest) → to ≡ length front
       → (at < line_offset byte_len (lines_of (chars text)) i) ⊎ ((at ≡ 0) × (front ≡ []))
-      → (line_offset byte_len (lines_of (chars text)) (i + 1) < end) ⊎ ((end ≡ length text) × (rest ≡ []))
+      → EndsWithin (line_offset byte_len (lines_of (chars text)) (i + 1)) end text rest (line_text (lines_of (chars text)) i)
       → line_offset byte_len (lines_of (chars text)) i ≤ end
       → IsStay total low new_low at to end s → AllByRecursion (λ t. s.end ≤ t.start) stays
       → Finds (lines_of (chars text)) (lines_of (chars new)) i low new_low (line_offset byte_len (lines_of (chars text)) i) (s ∷ stays)
@@ -225,7 +225,7 @@ module _ (text new : List ℕ) (text_utf8 : IsUtf8 text) (new_utf8 : IsUtf8 new)
   pub finds : (low new_low at to : ℕ) (front : List ℕ) (changes : List Change) (stays : List Stay) → IsCharBoundary text at → Fit text at changes
       → new ≡ front ++ edited_from text at changes → to ≡ length front
       → (at < line_offset byte_len (lines_of (chars text)) i) ⊎ ((at ≡ 0) × (front ≡ []))
-      → AllByRecursion (Misses (line_offset byte_len (lines_of (chars text)) i) (line_offset byte_len (lines_of (chars text)) (i + 1))) changes
+      → AllByRecursion (Misses (line_text (lines_of (chars text)) i) (line_offset byte_len (lines_of (chars text)) i) (line_offset byte_len (lines_of (chars text)) (i + 1))) changes
       → AreStays (length text) total low new_low at to changes stays
       → Finds (lines_of (chars text)) (lines_of (chars new)) i low new_low (line_offset byte_len (lines_of (chars text)) i) stays
   unfolding edited_from
@@ -236,7 +236,7 @@ module _ (text new : List ℕ) (text_utf8 : IsUtf8 text) (new_utf8 : IsUtf8 new)
       let end : slice_range text at (length text) ++ [] ≡ drop at text =
       ap (λ x. slice_range text at (length text) ++ x) (sym (drop_all (length text) text (omega arith))) ∙ sym (drop_split text at (length text) u.0) in
       in_first low new_low at to (length text) front [] s stays u (IsCharBoundary-end text) u.0 (e ∙ ap (λ x. front ++ x) (sym end)) size before
-      (inr (refl, refl)) (omega arith) a.0 (subst (AllByRecursion (λ t. s.end ≤ t.start)) (sym a.1) tt)
+      (inr (inl (refl, refl))) (omega arith) a.0 (subst (AllByRecursion (λ t. s.end ≤ t.start)) (sym a.1) tt)
   finds low new_low at to front (c ∷ changes) (s ∷ stays) u fit e size before missed a =
       let ls = lines_of (chars text) in
       let w = within_text in
@@ -255,8 +255,11 @@ module _ (text new : List ℕ) (text_utf8 : IsUtf8 text) (new_utf8 : IsUtf8 new)
             found_behind ls (lines_of (chars new)) i total low new_low at to c.start (line_offset byte_len ls i) s stays a.0 (omega arith)
             (finds s.end (s.to + (s.end - s.start)) c.end (to + (c.start - at + length c.text.now)) front' changes stays f.ends_whole fit.1 made longer (inl h) missed.1 a.1)
         | inr h ↦
+            let next = line_offset byte_len ls (i + 1) in
+            let after : EndsWithin next c.start text (c.text.now ++ rest) (line_text ls i) = elim h [ inl k ↦ inl k | inr k ↦ inr (inr k) ] in
+            let last : next ≤ c.start = elim h [ inl k ↦ omega arith | inr k ↦ omega (arith, k.0) ] in
             in_first low new_low at to c.start front (c.text.now ++ rest) s stays u f.starts_whole behind (e ∙ ap (λ x. front ++ x) (append_assoc middle c.text.now rest)) size before
-            (inl h) (omega arith) a.0
+            after (omega arith) a.0
             (behind_all (length text) total s.end (s.to + (s.end - s.start)) c.end (to + (c.start - at + length c.text.now)) s.end changes stays (omega arith) a.1)
       ]
 

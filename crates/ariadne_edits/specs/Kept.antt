@@ -1,8 +1,8 @@
 -- Which lines of a source are kept: at least each line that no change touches. Changes are those that
 -- are made, in order, and their offsets count bytes.
-use Rattle.std.specs.Prelude.{ℕ, ◌+◌, ◌<◌, ◌≡◌, ◌⊎◌, List, [], ◌∷◌, length, chars, Contains}
+use Rattle.std.specs.Prelude.{ℕ, ◌+◌, ◌<◌, ◌≡◌, ◌⊎◌, List, [], ◌∷◌, length, chars, Contains, true}
 use Rattle.std.specs.List.{AllByRecursion}
-use Rattle.ariadne_base.specs.Lines.{lines_of}
+use Rattle.ariadne_base.specs.Lines.{is_separator, lines_of, EndsIn}
 use Rattle.ariadne_base.specs.Locations.{byte_len, line_offset, line_text}
 use Rattle.ariadne_edits.specs.declared.change.Change.{Change}
 use Rattle.ariadne_edits.specs.declared.rows.Row.{Row}
@@ -10,15 +10,20 @@ use Rattle.ariadne_edits.specs.declared.rows.Row.TheVariants.{Kept}
 
 -- ---- what is promised
 
--- a change touches neither the bytes from one offset to another nor their borders: it ends in front of
--- them, or begins behind them
-abbrev pub Misses : ℕ → ℕ → Change → Type 0
-Misses begin end c = (c.end < begin) ⊎ (end < c.start)
+-- a line ends whatever follows: its last character is a terminator, and no CR, which LF may join
+abbrev pub IsClosed : List ℕ → Type 0
+IsClosed line = EndsIn (λ c. (is_separator c ≡ true) × ¬ (c ≡ 13)) line
 
--- no change touches line i of a text: each lies in front of the line or behind it, with a byte between
+-- a change touches neither a line from one offset to another nor its borders: it ends in front of the
+-- line, or begins behind it. It may begin right behind a line that is closed
+abbrev pub Misses : List ℕ → ℕ → ℕ → Change → Type 0
+Misses line begin end c = (c.end < begin) ⊎ ((end < c.start) ⊎ ((end ≡ c.start) × IsClosed line))
+
+-- no change touches line i of a text
 pub record IsUntouched (text : List ℕ) (changes : List Change) (i : ℕ) : Type 0 where
   pub there : i < length (lines_of (chars text))
-  pub missed : AllByRecursion (Misses (line_offset byte_len (lines_of (chars text)) i)
+  pub missed : AllByRecursion (Misses (line_text (lines_of (chars text)) i)
+      (line_offset byte_len (lines_of (chars text)) i)
       (line_offset byte_len (lines_of (chars text)) (i + 1))) changes
 
 -- some row tells that line i stays as it is
