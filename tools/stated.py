@@ -15,7 +15,7 @@ from typing import NamedTuple
 
 ROOT = Path(__file__).resolve().parent.parent
 WORD = re.compile(r"[^\W\d][\w-]*")
-IMPORT = re.compile(r"^(?:ghost )?(?:pub )?use Rattle\.(\w+)\.specs\.([\w.]+)\.\{([^}]*)\}", re.M)
+IMPORT = re.compile(r"^ *(?:ghost )?(?:pub )?use Rattle\.(\w+)\.specs\.([\w.]+)\.\{([^}]*)\}", re.M)
 DEFINED = re.compile(r"^ *(?:(?:abbrev|unfoldable) pub (\w[\w-]*)|pub (?:record|data) (\w+))(?![\w-])", re.M)
 FUNCTION = re.compile(
     r'^( *)(?:pub(?:\([a-z ]+\))? )?(?:final )?(?:const )?(?:unsafe )?(?:extern "C" )?fn (\w+)')
