@@ -14,9 +14,9 @@ use Rattle.ariadne_picture.specs.Report.{ReportFields, custom}
 use Rattle.ariadne_picture.specs.Canvas.{canvas}
 use Rattle.ariadne_picture.specs.Print.{printed, unescaped}
 use Rattle.ariadne_picture.specs.Sent.{row_text, lines_sent, HaveNoLineFeeds}
-use Rattle.ariadne_picture.specs.ReadBack.{HaveShortNumbers}
+use Rattle.ariadne_picture.specs.ReadBack.{HaveShortNumbers, HaveWholeLines}
 use Rattle.ariadne_picture.specs.Variants.{HaveNoEscapes, OwnStartIsBoundary, colorless, text_of, in_chars, char_world, char_report}
-use Rattle.ariadne_picture.proofs.Worked.Sample.{Span, Entry, world, utf8, named, one, report, label, silent_label, label_in, color_config, byte_config, drawn}
+use Rattle.ariadne_picture.proofs.Worked.Sample.{Span, Entry, world, utf8, named, one, report, label, silent_label, label_in, ascii_config, color_config, byte_config, drawn}
 use Rattle.ariadne_picture.proofs.Worked.Readings.{infos, cells_of}
 
 -- ---- a report in colours that has all texts
@@ -210,3 +210,14 @@ fed_in_the_message_of_a_label = (refl, λ h. true≢false (sym h.labels.0))
 fed_in_a_name : IsFed (record { id = []; name = Some fed; listing = record { text = utf8 "x"; display_offset = 0 } } ∷ []) simple
 unfolding cut
 fed_in_a_name = (refl, λ h. true≢false (sym h.names.0))
+
+-- ---- a line that is cut
+
+unfoldable cut_line : ReportFields Span
+cut_line = record simple { labels = label 7 8 "h" ∷ []; config = record ascii_config { width = 9 } }
+
+-- it breaks the premise of reading back without the gutters
+a_line_that_is_cut : let w = world (one "abcdefghijklmnop") in
+    HaveWholeLines w cut_line (infos (one "abcdefghijklmnop") cut_line) → ⊥
+unfolding moved cut_line
+a_line_that_is_cut h = true≢false (h.0 0)

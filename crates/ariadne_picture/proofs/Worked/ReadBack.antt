@@ -69,6 +69,19 @@ a_cut_line_is_read_back : rows_tell_by_gutters (source "abcdefghijklmnop" ∷ []
 unfolding read
 a_cut_line_is_read_back = refl
 
+-- in ASCII a mark has three columns, so that the same line has two cells less than one without labels: who doesn't know how
+-- many gutter columns it has looks two cells too far to the left, and is told nothing
+unfoldable cut_in_ascii : ReportFields Span
+cut_in_ascii = configured (record ascii_config { width = 9 }) (label 7 8 "h" ∷ [])
+
+a_cut_line_in_ascii : rows_tell_by_gutters (source "abcdefghijklmnop" ∷ []) (one "abcdefghijklmnop") cut_in_ascii as_drawn ≡ told 0 0 4 "h" ∷ []
+unfolding read cut_in_ascii
+a_cut_line_in_ascii = refl
+
+without_its_gutter : rows_tell (source "abcdefghijklmnop" ∷ []) (one "abcdefghijklmnop") cut_in_ascii as_drawn ≡ []
+unfolding read cut_in_ascii
+without_its_gutter = refl
+
 -- ---- two labels within one line
 
 unfoldable fruit : ConfigFields → ReportFields Span
