@@ -1,2 +1,3 @@
+pub mod CutShort
 pub mod Decimals
 pub mod Turns

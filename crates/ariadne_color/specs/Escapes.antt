@@ -29,6 +29,9 @@ abbrev pub closed : Option Color → List ℕ
 closed None = []
 closed (Some c) = closing
 
--- the first text begins with the second
-abbrev pub BeginsWith : List ℕ → List ℕ → Type 0
-BeginsWith whole start = (rest : List ℕ) × (whole ≡ start ++ rest)
+-- a text got a beginning of what was to follow it, and nothing else
+pub record IsCutShort (before more after : List ℕ) : Type 0 where
+  pub part : List ℕ
+  pub rest : List ℕ
+  pub begins : more ≡ part ++ rest
+  pub follows : after ≡ before ++ part

@@ -3,7 +3,7 @@
 ghost use Rattle.std.specs.Prelude.{◌≡◌, ◌+◌, ◌<◌, ◌++◌, OnOk, OnErr, decimal, encode_utf8};
 ghost use Rattle.std.specs.Prelude.{string_bytes};
 ghost use Rattle.ariadne_color.specs.Colors.{foreground, background, painted};
-ghost use Rattle.ariadne_color.specs.Escapes.{BeginsWith, closed, opened, opening, opening_end};
+ghost use Rattle.ariadne_color.specs.Escapes.{closed, opened, opening, opening_end, IsCutShort};
 
 use crate::color::Color;
 use std::alloc::AllocError;
@@ -18,7 +18,8 @@ pub(crate) const CLOSING: &str = "\x1b[0m";
 pub fn push_painted(out: &mut String, color: Option<Color>, text: &str) -> Result<(), AllocError>
     ensures ok { OnOk result
         (string_bytes out.new ≡ string_bytes out.old ++ painted color text.now) }
-    ensures err { OnErr result (BeginsWith (string_bytes out.new) (string_bytes out.old)) }
+    ensures err { OnErr result
+        (IsCutShort (string_bytes out.old) (painted color text.now) (string_bytes out.new)) }
 {
     push_opening(out, color)?;
     out.push_str(text)?;
@@ -32,7 +33,8 @@ pub fn push_painted(out: &mut String, color: Option<Color>, text: &str) -> Resul
 pub fn push_painted_char(out: &mut String, color: Option<Color>, c: char) -> Result<(), AllocError>
     ensures ok { OnOk result
         (string_bytes out.new ≡ string_bytes out.old ++ painted color (encode_utf8 c)) }
-    ensures err { OnErr result (BeginsWith (string_bytes out.new) (string_bytes out.old)) }
+    ensures err { OnErr result
+        (IsCutShort (string_bytes out.old) (painted color (encode_utf8 c)) (string_bytes out.new)) }
 {
     push_opening(out, color)?;
     out.push(c)?;
@@ -45,7 +47,8 @@ pub fn push_painted_char(out: &mut String, color: Option<Color>, c: char) -> Res
 /// no memory for the whole, and `out` keeps what it held, with a beginning of the escape behind it.
 pub fn push_opening(out: &mut String, color: Option<Color>) -> Result<(), AllocError>
     ensures ok { OnOk result (string_bytes out.new ≡ string_bytes out.old ++ opened color) }
-    ensures err { OnErr result (BeginsWith (string_bytes out.new) (string_bytes out.old)) }
+    ensures err { OnErr result
+        (IsCutShort (string_bytes out.old) (opened color) (string_bytes out.new)) }
 {
     match color {
         Some(color) => push_escape(out, color),
@@ -60,7 +63,8 @@ pub fn push_opening(out: &mut String, color: Option<Color>) -> Result<(), AllocE
 /// no memory for the whole, and `out` keeps what it held, with a beginning of the escape behind it.
 pub fn push_closing(out: &mut String, color: Option<Color>) -> Result<(), AllocError>
     ensures ok { OnOk result (string_bytes out.new ≡ string_bytes out.old ++ closed color) }
-    ensures err { OnErr result (BeginsWith (string_bytes out.new) (string_bytes out.old)) }
+    ensures err { OnErr result
+        (IsCutShort (string_bytes out.old) (closed color) (string_bytes out.new)) }
 {
     match color {
         Some(_) => out.push_str(CLOSING),
@@ -72,7 +76,8 @@ pub fn push_closing(out: &mut String, color: Option<Color>) -> Result<(), AllocE
 fn push_escape(out: &mut String, color: Color) -> Result<(), AllocError>
     ensures ok { OnOk result
         (string_bytes out.new ≡ string_bytes out.old ++ opening foreground color) }
-    ensures err { OnErr result (BeginsWith (string_bytes out.new) (string_bytes out.old)) }
+    ensures err { OnErr result
+        (IsCutShort (string_bytes out.old) (opening foreground color) (string_bytes out.new)) }
 {
     out.push_str(opening_head(color).0)?;
     match color {
@@ -86,7 +91,9 @@ fn push_escape(out: &mut String, color: Color) -> Result<(), AllocError>
 fn push_mix(out: &mut String, red: u8, green: u8, blue: u8) -> Result<(), AllocError>
     ensures ok { OnOk result
         (string_bytes out.new ≡ string_bytes out.old ++ opening_end (Color.Rgb red green blue)) }
-    ensures err { OnErr result (BeginsWith (string_bytes out.new) (string_bytes out.old)) }
+    ensures err { OnErr result
+        (IsCutShort (string_bytes out.old) (opening_end (Color.Rgb red green blue))
+            (string_bytes out.new)) }
 {
     push_number(out, red, ";")?;
     push_number(out, green, ";")?;
@@ -97,7 +104,8 @@ fn push_mix(out: &mut String, red: u8, green: u8, blue: u8) -> Result<(), AllocE
 fn push_number(out: &mut String, number: u8, behind: &str) -> Result<(), AllocError>
     ensures ok { OnOk result
         (string_bytes out.new ≡ string_bytes out.old ++ decimal number ++ behind.now) }
-    ensures err { OnErr result (BeginsWith (string_bytes out.new) (string_bytes out.old)) }
+    ensures err { OnErr result
+        (IsCutShort (string_bytes out.old) (decimal number ++ behind.now) (string_bytes out.new)) }
 {
     push_decimal(out, number)?;
     out.push_str(behind)
@@ -106,7 +114,8 @@ fn push_number(out: &mut String, number: u8, behind: &str) -> Result<(), AllocEr
 /// Appends a number in decimal digits, without leading zeros.
 fn push_decimal(out: &mut String, number: u8) -> Result<(), AllocError>
     ensures ok { OnOk result (string_bytes out.new ≡ string_bytes out.old ++ decimal number) }
-    ensures err { OnErr result (BeginsWith (string_bytes out.new) (string_bytes out.old)) }
+    ensures err { OnErr result
+        (IsCutShort (string_bytes out.old) (decimal number) (string_bytes out.new)) }
 {
     if number >= 100 {
         out.push(digit(number / 100))?;
