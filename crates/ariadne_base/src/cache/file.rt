@@ -1,6 +1,6 @@
 //! A cache of files: an id is a path, and each file is read whole when it is first asked for.
 
-ghost use Rattle.std.specs.Prelude.{◌≡◌, List, [], Some, ⊤, string_bytes, OnOk, OnErr, IsSome};
+ghost use Rattle.std.specs.Prelude.{◌≡◌, List, [], Some, ⊤, string_bytes, OnOk, OnErr};
 ghost use Rattle.std.specs.Prelude.{None};
 ghost use Rattle.std.specs.Cmp.Lexicographic.{bytes_decides};
 ghost use Rattle.std.specs.Option.{option_copied};
@@ -11,6 +11,7 @@ ghost use Rattle.std.specs.IoError.{error_kind};
 ghost use Rattle.ariadne_base.specs.declared.cache.FetchError.TheVariants.{Memory, Failed};
 ghost use Rattle.ariadne_base.specs.declared.cache.file.FileError.TheVariants.{Read, NotUtf8};
 ghost use Rattle.ariadne_base.specs.Cache.{Fetched, held, Grows, SameHeld, KeepsOtherIds};
+ghost use Rattle.ariadne_base.specs.Cache.{listing_of};
 ghost use Rattle.ariadne_base.specs.Files.{by_path, by_text, file_error_text, file_fault};
 
 use crate::cache::put::put;
@@ -122,7 +123,8 @@ impl<R: Files + Drop> FileCache<R> {
     /// Holds a text as the source of a path that is not held.
     fn keep(&mut self, path: &str, text: String) -> Result<(), AllocError>
         requires { held bytes_eq (by_path self.old) path.now ≡ None }
-        ensures ok { OnOk result (IsSome (held bytes_eq (by_path self.new) path.now)) }
+        ensures ok { OnOk result (held bytes_eq (by_path self.new) path.now
+            ≡ Some (listing_of (string_bytes text))) }
         ensures others { KeepsOtherIds bytes_eq path.now (by_path self.old) (by_path self.new) }
         ensures grows { Grows bytes_eq (by_path self.old) (by_path self.new) }
         ensures err { OnErr result (SameHeld bytes_eq (by_path self.old) (by_path self.new)) }

@@ -1,4 +1,4 @@
-use Rattle.std.proofs.Common.{Some, subst, IsSome, sym, refl, ap, string_bytes}
+use Rattle.std.proofs.Common.{Some, ap, string_bytes}
 use Rattle.std.specs.Cmp.Lexicographic.{nat_list_eq_equiv}
 use Rattle.std.specs.HashMap.{Updates}
 use Rattle.std.specs.String.{string_eq}
@@ -21,7 +21,7 @@ returns g c =
     let tried = tried-put nat_list_eq_equiv path source (by_path old.entries) (by_path new.entries) c.put.result put
     (on_err_weaker c.put.result (ap by_path) c.put.ensures.err) (rw (← c.self.view_is) at c.requires) in
     rw (← c.self.view_is) record {
-      ok = on_ok_weaker c.put.result (λ e. subst IsSome (sym e) refl) tried.0;
+      ok = tried.0;
       others = tried.1;
       grows = tried.2;
       err = tried.3;
