@@ -229,5 +229,5 @@ module _ (checked : List Checked) (report : ReportFields Place) (whole : Some re
 
   -- or its first bytes were
   pub wrote_part : (before after : Option (List ℕ)) (sent : ℕ)
-      → IsCutOff {E = FileError} (λ id e. ⊤) (files old) (files new) report sent before after → IsCut new before after (report_of checked)
-  wrote_part before after sent is = rw (← whole) (sent, written_part old new report fields.1 inside_before inside_after before after sent is)
+      → IsCutOff {E = FileError} (λ id e. ⊤) (files old) (files new) report sent before after → IsCut new before after sent (report_of checked)
+  wrote_part before after sent is = rw (← whole) (written_part old new report fields.1 inside_before inside_after before after sent is)

@@ -100,11 +100,11 @@ module _ (contents : List (Bor (List ℕ) × Listing)) (before after : Option (L
   Prints (Some report) =
       IsWritten {E = FileError} (λ id e. ⊤) (files contents) (files contents) report [] before after
 
-  -- the first bytes of it, which has more
-  abbrev pub IsCut : Option (ReportFields (Bor (List ℕ) × Range ℕ)) → Type 0
-  IsCut None = ⊥
-  IsCut (Some report) = (sent : ℕ)
-      × IsCutOff {E = FileError} (λ id e. ⊤) (files contents) (files contents) report sent
+  -- so many first bytes of it, which has more
+  abbrev pub IsCut : ℕ → Option (ReportFields (Bor (List ℕ) × Range ℕ)) → Type 0
+  IsCut sent None = ⊥
+  IsCut sent (Some report) =
+      IsCutOff {E = FileError} (λ id e. ⊤) (files contents) (files contents) report sent
       before after
 
 -- ---- how a run ends
@@ -125,19 +125,19 @@ module _ (words : List (List ℕ)) (before after : Option (List ℕ)) where
     pub status : ended ≡ status_of checked
     pub prints : Prints contents before after (report_of checked)
 
-  -- a run that ended when the writer failed
-  pub record IsCutRun : Type 0 where
+  -- a run that ended when the writer failed, which had taken so many bytes
+  pub record IsCutRun (sent : ℕ) : Type 0 where
     pub contents : List (Bor (List ℕ) × Listing)
     pub checked : List Checked
     pub are_checked : AreChecked words contents checked
-    pub cut : IsCut contents before after (report_of checked)
+    pub cut : IsCut contents before after sent (report_of checked)
 
   -- a run over words that name files, by its status
   abbrev pub EndedOver : Status → Type 0
   EndedOver status.Clean = IsWhole status.Clean
   EndedOver status.Offences = IsWhole status.Offences
   EndedOver status.BadInput = IsWhole status.BadInput
-  EndedOver status.Failed = Keeps before after ⊎ IsCutRun
+  EndedOver status.Failed = Keeps before after ⊎ ((sent : ℕ) × IsCutRun sent)
 
 -- any run
 abbrev pub Ended : List (List ℕ) → Option (List ℕ) → Option (List ℕ) → Status → Type 0

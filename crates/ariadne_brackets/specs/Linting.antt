@@ -23,7 +23,7 @@ abbrev pub Wrote : List (Bor (List ℕ) × Listing) → List Checked → Option 
 Wrote contents checked before after (Ok done) = Prints contents before after (report_of checked)
 Wrote contents checked before after (Err Usage) = ⊥
 Wrote contents checked before after (Err (Writer sent)) =
-    IsCut contents before after (report_of checked)
+    IsCut contents before after sent (report_of checked)
 Wrote contents checked before after (Err (Memory refused)) = Keeps before after
 
 -- what a run over files leaves, by its result
@@ -31,5 +31,5 @@ abbrev pub RanOver : List (List ℕ) → Option (List ℕ) → Option (List ℕ)
     → Type 0
 RanOver words before after (Ok status) = IsWhole words before after status
 RanOver words before after (Err Usage) = ⊥
-RanOver words before after (Err (Writer sent)) = IsCutRun words before after
+RanOver words before after (Err (Writer sent)) = IsCutRun words before after sent
 RanOver words before after (Err (Memory refused)) = Keeps before after
