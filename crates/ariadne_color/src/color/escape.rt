@@ -93,7 +93,7 @@ fn push_mix(out: &mut String, red: u8, green: u8, blue: u8) -> Result<(), AllocE
         (string_bytes out.new ≡ string_bytes out.old ++ opening_end (Color.Rgb red green blue)) }
     ensures err { OnErr result
         (IsCutShort (string_bytes out.old) (opening_end (Color.Rgb red green blue))
-            (string_bytes out.new)) }
+        (string_bytes out.new)) }
 {
     push_number(out, red, ";")?;
     push_number(out, green, ";")?;
