@@ -18,6 +18,7 @@ BELOW = re.compile(r" *[|:] ?")
 ARROW = re.compile(r"( *\| [ |]*)(`-+|--+) (.*)$")
 ASIDE = re.compile(r" *\| +(Help|Note)\b(?: \d+)?: (.*)$")
 MORE = re.compile(r" *\| {2,}(.*)$")
+CHANGED = re.compile(r" *\d+ [-+] ")
 TAB = 4
 
 
@@ -49,7 +50,7 @@ class Picture:
     marked: dict = field(default_factory=dict)  # by file and line, the columns of a terminal
     arrows: list = field(default_factory=list)
     spans: list = field(default_factory=list)
-    asides: list = field(default_factory=list)  # the rows of helps and notes
+    asides: list = field(default_factory=list)  # the rows of helps and notes, and behind one the lines that change
     notes: list = field(default_factory=list)  # the first rows of notes
     faults: list = field(default_factory=list)
 
@@ -141,6 +142,8 @@ class PictureReader:
             column = arrow.end(1) - self.left
             text = arrow[3].rstrip()
             self.picture.arrows.append(Arrow(self.path, self.number, column if column >= 0 else None, text))
+        elif more and self.picture.asides and CHANGED.match(more[1]):
+            self.picture.asides[-1] += f"\n{more[1].rstrip()}"
         elif more and self.picture.asides:
             self.picture.asides.append(more[1].rstrip())
 

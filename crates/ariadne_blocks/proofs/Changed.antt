@@ -3,8 +3,8 @@ use Rattle.std.proofs.Common.{◌≡◌, ◌∙◌, ℕ, List, ap, sym}
 use Rattle.std.specs.Prelude.{Bool, true, false, if◌then◌else◌}
 use Rattle.ariadne_snippets.specs.declared.taken.FixKind.{FixKind}
 use Rattle.ariadne_told.specs.FixRows.{FixRow}
-use Rattle.ariadne_blocks.specs.Blocks.{fix_row_help, with_fix_row, with_help, with_reason, View}
-use Rattle.ariadne_blocks.specs.FixRows.{column_of, is_told_in, kind_of, unescaped}
+use Rattle.ariadne_blocks.specs.Blocks.{fix_row_help, with_help, with_help_of_row, with_reason, View}
+use Rattle.ariadne_blocks.specs.FixRows.{column_of, is_told_in, kind_of}
 use Rattle.ariadne_blocks.specs.Fixes.{fix_text}
 
 -- a change that may be told already
@@ -14,20 +14,20 @@ with_change row view change =
     else with_help (fix_row_help row change) (with_reason view)
 
 -- it is
-pub told_already : (row : FixRow) (view : View) (kind : FixKind) (text : List ℕ)
-    → (kind, text) ≡ kind_of row (unescaped row.text) → is_told_in view.changes row.start.line kind text ≡ true
-    → view ≡ with_fix_row row view
+pub told_already : (row : FixRow) (view : View) (kind : FixKind) (text plain : List ℕ)
+    → (kind, text) ≡ kind_of row plain → is_told_in view.changes row.start.line kind text ≡ true
+    → view ≡ with_help_of_row row plain view
 unfolding with_change
-told_already row view kind text is told =
+told_already row view kind text plain is told =
     ap (λ (b : Bool). if b then view else with_help (fix_row_help row (kind, text)) (with_reason view)) (sym told)
     ∙ ap (with_change row view) is
 
 -- it isn't
-pub told_now : (row : FixRow) (view : View) (kind : FixKind) (text : List ℕ)
-    → (kind, text) ≡ kind_of row (unescaped row.text) → is_told_in view.changes row.start.line kind text ≡ false
-    → with_help (fix_row_help row (kind, text)) (with_reason view) ≡ with_fix_row row view
+pub told_now : (row : FixRow) (view : View) (kind : FixKind) (text plain : List ℕ)
+    → (kind, text) ≡ kind_of row plain → is_told_in view.changes row.start.line kind text ≡ false
+    → with_help (fix_row_help row (kind, text)) (with_reason view) ≡ with_help_of_row row plain view
 unfolding with_change
-told_now row view kind text is told =
+told_now row view kind text plain is told =
     ap (λ (b : Bool). if b then view else with_help (fix_row_help row (kind, text)) (with_reason view)) (sym told)
     ∙ ap (with_change row view) is
 

@@ -5,6 +5,7 @@ pub mod Gone
 pub mod Joined
 pub mod Lists
 pub mod Once
+pub mod Proposed
 pub mod Said
 pub mod Settled
 pub mod Viewed

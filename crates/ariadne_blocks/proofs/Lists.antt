@@ -3,7 +3,7 @@ use Rattle.std.proofs.Common.{◌≡◌, ◌∙◌, ℕ, suc, zero, ◌+◌, ◌
 use Rattle.std.specs.Prelude.{Bool, true, false, cond, ◌||◌, map, slice_get, Option, None, Some, option_map}
 use Rattle.std.specs.List.{find, fold, list_any}
 use Rattle.std.proofs.lemmas.Option.{slice_get-map}
-use Rattle.std.proofs.lemmas.List.{get_or_default, drop-set-lt, drop_all, drop_more, map-append, take_all, take_more, take_more_set}
+use Rattle.std.proofs.lemmas.List.{get_or_default, drop-set-lt, drop_all, drop_more, length-map, map-append, take_all, take_more, take_more_set}
 
 -- an element of what is read of a list
 pub get_mapped : {A B : Type 0} (f : A → B) (xs : List A) (i : ℕ) (x : A) → i < length xs → x ≡ get_or xs i x
@@ -33,6 +33,10 @@ first_mapped f (x ∷ xs) = refl
 pub place_mapped : {A B : Type 0} (f : A → B) (xs : List A) (i : ℕ)
     → slice_get (map f xs) i ≡ option_map f (slice_get xs i)
 place_mapped f xs i = slice_get-map f xs i
+
+-- how many there are
+pub length_mapped : {A B : Type 0} (f : A → B) (xs : List A) → length (map f xs) ≡ length xs
+length_mapped f xs = length-map xs f
 
 -- one more behind them
 pub pushed : {A B : Type 0} (f : A → B) (xs all : List A) (x : A) → all ≡ xs ++ x ∷ []

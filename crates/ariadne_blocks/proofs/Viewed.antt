@@ -16,18 +16,20 @@ use Rattle.ariadne_blocks.proofs.Lists.{first_mapped}
 -- views are the same whose parts are
 pub same_view : (v w : View) → v.told ≡ w.told → v.path ≡ w.path → v.at ≡ w.at → v.marked ≡ w.marked
     → v.behind ≡ w.behind → v.goes_on ≡ w.goes_on → v.aside ≡ w.aside → v.named ≡ w.named
-    → v.caret ≡ w.caret → v.changes ≡ w.changes → v ≡ w
-same_view v w told path at marked behind goes_on aside named caret changes =
+    → v.caret ≡ w.caret → v.changes ≡ w.changes → v.since ≡ w.since → v.why ≡ w.why → v ≡ w
+same_view v w told path at marked behind goes_on aside named caret changes since why =
     ap (λ (t : Telling). record v { told = t }) told
     ∙ ap (λ t. record v { told = w.told; path = t }) path
     ∙ ap (λ t. record v { told = w.told; path = w.path; at = t }) at
     ∙ ap (λ t. record v { told = w.told; path = w.path; at = w.at; marked = t }) marked
     ∙ ap (λ t. record v { told = w.told; path = w.path; at = w.at; marked = w.marked; behind = t }) behind
-    ∙ ap (λ t. record w { goes_on = t; aside = v.aside; named = v.named; caret = v.caret; changes = v.changes }) goes_on
-    ∙ ap (λ t. record w { aside = t; named = v.named; caret = v.caret; changes = v.changes }) aside
-    ∙ ap (λ t. record w { named = t; caret = v.caret; changes = v.changes }) named
-    ∙ ap (λ t. record w { caret = t; changes = v.changes }) caret
-    ∙ ap (λ t. record w { changes = t }) changes
+    ∙ ap (λ t. record w { goes_on = t; aside = v.aside; named = v.named; caret = v.caret; changes = v.changes; since = v.since; why = v.why }) goes_on
+    ∙ ap (λ t. record w { aside = t; named = v.named; caret = v.caret; changes = v.changes; since = v.since; why = v.why }) aside
+    ∙ ap (λ t. record w { named = t; caret = v.caret; changes = v.changes; since = v.since; why = v.why }) named
+    ∙ ap (λ t. record w { caret = t; changes = v.changes; since = v.since; why = v.why }) caret
+    ∙ ap (λ t. record w { changes = t; since = v.since; why = v.why }) changes
+    ∙ ap (λ t. record w { since = t; why = v.why }) since
+    ∙ ap (λ t. record w { why = t }) why
 
 -- a row is one, whatever is known of events behind it
 pub row_with_events : (file : Option File) (line : Line) (before after : Block) (has_events : Bool)

@@ -19,6 +19,7 @@ use Rattle.ariadne_told.specs.ArrowsTold.{place_of_arrow}
 use Rattle.ariadne_told.specs.FixRows.{fix_row_in, FixRow}
 use Rattle.ariadne_told.specs.Noted.{place_row}
 use Rattle.ariadne_told.specs.Places.{seen, Seen}
+use Rattle.ariadne_told.specs.Proposed.{Edit, Proposed}
 use Rattle.ariadne_told.specs.declared.diagnostic.Diagnostic.{Diagnostic}
 use Rattle.ariadne_told.specs.declared.diagnostic.Place.{Place}
 use Rattle.ariadne_blocks.specs.Colors.{IsBare}
@@ -30,6 +31,7 @@ use Rattle.ariadne_blocks.specs.GoingOn.{behind_head, may_go_on_in, row_in}
 use Rattle.ariadne_blocks.specs.Marks.{Marking, with_begun, with_labels, with_marks}
 use Rattle.ariadne_blocks.specs.Messages.{is_of_python, with_lines}
 use Rattle.ariadne_blocks.specs.Notes.{are_lines_of, is_line_of, note_places}
+use Rattle.ariadne_blocks.specs.Proposed.{edit_with, proposals_with, Way}
 use Rattle.ariadne_blocks.specs.Telling.{Telling, telling}
 use Rattle.ariadne_blocks.specs.declared.block.Aside.{Aside}
 use Rattle.ariadne_blocks.specs.declared.block.Aside.TheVariants as aside
@@ -89,6 +91,9 @@ pub record View : Type 0 where
   pub caret : Option ℕ
   -- what rows below the head or the note that was read last said how to change
   pub changes : List ToldChange
+  -- the number of the help from which on helps say what rows change, and why: what that help begins with
+  pub since : ℕ
+  pub why : List ℕ
 
 abbrev pub view_of : Block → View
 view_of block = record {
@@ -102,6 +107,8 @@ view_of block = record {
   named = option_map seen block.named;
   caret = block.caret;
   changes = block.changes.items;
+  since = block.since;
+  why = string_bytes block.why;
 }
 
 -- ---- texts beside the message
@@ -112,8 +119,15 @@ with_aside aside.Note text told = record told { notes = told.notes ++ text ∷ [
 with_aside aside.Help text told = record told { helps = told.helps ++ text ∷ [] }
 with_aside aside.Change text told = record told { helps = told.helps ++ text ∷ [] }
 
+-- what rows change is said from a help on, which says why
+abbrev pub reason_behind : Aside → List ℕ → View → View
+reason_behind aside.Note text view = view
+reason_behind aside.Help text view = record view { since = length view.told.helps; why = text }
+reason_behind aside.Change text view = record view { since = length view.told.helps; why = text }
+
 abbrev pub with_text : Aside → List ℕ → View → View
-with_text aside text view = record view { told = with_aside aside text view.told; aside = aside }
+with_text aside text view =
+    record (reason_behind aside text view) { told = with_aside aside text view.told; aside = aside }
 
 -- ---- its head and its notes
 
@@ -139,6 +153,8 @@ begun told head caret = record {
   named = None;
   caret = caret;
   changes = [];
+  since = length told.helps;
+  why = [];
 }
 
 pub record IsBegun (told : Diagnostic) (head : List ℕ) (caret : Option ℕ) (block : Block) : Type 0 where
@@ -162,6 +178,8 @@ noted note view = record view {
   goes_on = Nowhere;
   aside = aside.Note;
   changes = [];
+  since = length view.told.helps;
+  why = [];
 }
 
 -- a note has no place of its own: it names no column, in the line that a diagnostic begins in, or all the lines
@@ -303,11 +321,31 @@ fix_row_help row change = fix_text change.0 row.start.line (column_of row) chang
 abbrev pub with_help : List ℕ → View → View
 with_help help view = with_change_by view.aside help view
 
-abbrev pub with_fix_row : FixRow → View → View
-with_fix_row row view =
-    let change = kind_of row (unescaped row.text) in
+abbrev pub with_help_of_row : FixRow → List ℕ → View → View
+with_help_of_row row text view =
+    let change = kind_of row text in
     if is_told_in view.changes row.start.line change.0 change.1 then view
     else with_help (fix_row_help row change) (with_reason view)
+
+-- and it proposes the change
+abbrev pub proposing : View → Way
+proposing view = record {
+  helps = (view.since, length view.told.helps);
+  why = view.why;
+  file = view.path;
+  drawn = view.changes;
+}
+
+abbrev pub with_proposals : List Proposed → View → View
+with_proposals proposals view = record view { told = record view.told { proposals = proposals } }
+
+abbrev pub with_proposed : Edit → View → View
+with_proposed edit view = with_proposals (proposals_with (proposing view) edit view.told.proposals) view
+
+abbrev pub with_fix_row : FixRow → View → View
+with_fix_row row view =
+    let text = unescaped row.text in
+    with_proposed (edit_with row text) (with_help_of_row row text view)
 
 -- a row for programs tells a change in the file that the rows quote
 abbrev pub fix_row_by : List ℕ → Option FixRow → Option FixRow

@@ -9,5 +9,6 @@ pub mod GoingOn
 pub mod Marks
 pub mod Messages
 pub mod Notes
+pub mod Proposed
 pub mod Repeats
 pub mod Telling

@@ -2,6 +2,7 @@
 use Rattle.std.specs.Prelude.{ℕ, Bool, List, map, Option, option_map, String, string_bytes}
 use Rattle.std.specs.declared.alloc.Global.{Global}
 use Rattle.ariadne_told.specs.Places.{seen, Seen}
+use Rattle.ariadne_told.specs.Proposed.{proposed, Proposed}
 use Rattle.ariadne_told.specs.declared.diagnostic.Diagnostic.{Diagnostic}
 use Rattle.ariadne_told.specs.declared.diagnostic.OwnKind.{OwnKind}
 use Rattle.ariadne_told.specs.declared.diagnostic.QuotedLine.{QuotedLine}
@@ -16,6 +17,7 @@ pub record Telling : Type 0 where
   pub places : List Seen
   pub notes : List (List ℕ)
   pub helps : List (List ℕ)
+  pub proposals : List Proposed
   pub quoted : List QuotedLine
   pub manifest : Option (String Global)
   pub is_sum : Bool
@@ -29,6 +31,7 @@ telling told = record {
   places = map seen told.places.items;
   notes = map string_bytes told.notes.items;
   helps = map string_bytes told.helps.items;
+  proposals = map proposed told.proposals.items;
   quoted = told.quoted.items;
   manifest = told.manifest;
   is_sum = told.is_sum;

@@ -13,7 +13,7 @@ use ariadne_told::{Place, arrow_of, named_place};
 use std::alloc::{AllocError, Global};
 
 impl Block {
-    /// Takes in a note or a help.
+    /// Takes in a note, or a help: what rows change is said from that on, and it says why.
     pub(crate) fn add_text(
         &mut self,
         alloc: Global,
@@ -27,7 +27,11 @@ impl Block {
         let text = String::from_str(alloc, text)?;
         match aside {
             Aside::Note => self.told.notes.push(text)?,
-            Aside::Help | Aside::Change => self.told.helps.push(text)?,
+            Aside::Help | Aside::Change => {
+                self.since = self.told.helps.len();
+                self.why = text.clone()?;
+                self.told.helps.push(text)?;
+            }
         }
         Ok(())
     }

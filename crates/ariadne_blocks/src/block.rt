@@ -36,6 +36,10 @@ pub struct Block {
     pub(crate) has_events: bool,
     /// What rows below the head or the note that was read last said how to change.
     pub(crate) changes: Vec<ToldChange>,
+    /// The number of the help from which on helps say what rows change.
+    pub(crate) since: usize,
+    /// Why: what that help begins with, if it says why.
+    pub(crate) why: String,
 }
 
 /// A text beside the message.
@@ -62,6 +66,7 @@ impl Block {
     {
         let rows = Rows::new(alloc, told.places.first(), 0, caret)?;
         let goes_on = GoesOn::behind(head, told.places.first());
+        let since = told.helps.len();
         Ok(Block {
             told,
             caret,
@@ -72,6 +77,8 @@ impl Block {
             named: None,
             has_events: false,
             changes: Vec::new(alloc),
+            since,
+            why: String::new(alloc),
         })
     }
 
@@ -95,6 +102,9 @@ impl Block {
         let at = self.told.places.len();
         self.rows = Rows::new(alloc, note.places.first(), at, caret)?;
         self.changes.clear();
+        let since = self.told.helps.len();
+        self.since = since;
+        self.why = String::new(alloc);
         push_note(&mut self.told.places, note.message, note.places)
     }
 

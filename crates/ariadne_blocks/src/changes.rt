@@ -38,13 +38,27 @@ impl Block {
         }
     }
 
-    /// Takes in a row that tells programs what to change: as a change, unless a row of the snippet told it.
+    /// Takes in a row that tells programs what to change: as a help, and as a part of what is proposed.
     pub(crate) fn add_fix_row(&mut self, alloc: Global, row: &FixRow<'_>) -> Result<(), AllocError>
         ensures { OnOk result (view_of self.new
             ≡ blocks.with_fix_row (fix_row_told row.now) (view_of self.old)) }
     {
         let text = unescaped(alloc, row.text)?;
-        let fix = fix_of(row, text.as_str());
+        self.add_help_of_row(alloc, row, text.as_str())?;
+        self.propose(alloc, row, text.as_str())
+    }
+
+    /// Has a help say what a row changes, which has this text without escapes, unless a row of the snippet told it.
+    fn add_help_of_row(
+        &mut self,
+        alloc: Global,
+        row: &FixRow<'_>,
+        text: &str,
+    ) -> Result<(), AllocError>
+        ensures { OnOk result (view_of self.new
+            ≡ blocks.with_help_of_row (fix_row_told row.now) text.now (view_of self.old)) }
+    {
+        let fix = fix_of(row, text);
         if is_told(self.changes.as_slice(), &fix) {
             return Ok(());
         }

@@ -5,11 +5,13 @@ ghost use Rattle.std.specs.Prelude.{◌≡◌, ◌==◌, ◌++◌, ◌∷◌, �
 ghost use Rattle.std.specs.List.{list_any};
 ghost use Rattle.ariadne_told.specs.FixRows.{fix_row_told};
 ghost use Rattle.ariadne_told.specs.Pieces.{in_front_of, in_front_of_text};
+ghost use Rattle.ariadne_told.specs.Proposed.{edit_of};
 ghost use Rattle.ariadne_blocks.specs.FixRows as rows;
+ghost use Rattle.ariadne_blocks.specs.Proposed.{edit_with};
 
 use crate::events::closes_with;
 use ariadne_snippets::{Fix, FixKind, Point};
-use ariadne_told::FixRow;
+use ariadne_told::{Change, FixRow};
 use std::alloc::{AllocError, Global};
 
 /// A change that rows below a line have told: in which line it is, and whether that only removes something.
@@ -100,6 +102,17 @@ pub(crate) fn fix_of<'a>(row: &FixRow<'_>, text: &'a str) -> Fix<'a>
         offset: 0,
     };
     Fix { at, kind, text }
+}
+
+/// The change that a row tells, which has this text without escapes.
+pub(crate) fn change_of(alloc: Global, row: &FixRow<'_>, text: &str) -> Result<Change, AllocError>
+    ensures { IfOk result (λ change. edit_of change ≡ edit_with (fix_row_told row.now) text.now) }
+{
+    Ok(Change {
+        start: row.start,
+        end: row.end,
+        put_in: String::from_str(alloc, text)?,
+    })
 }
 
 /// What kind of fix a row is, and its text: a line where it ends one, and takes the place of nothing at its start.

@@ -16,6 +16,7 @@ pub mod line;
 pub mod message;
 mod message_lines;
 mod places;
+mod proposing;
 pub mod repeats;
 mod rows;
 mod taking;

@@ -3,6 +3,8 @@
 #![tactic(auto)]
 
 #[cfg(test)]
+mod block_proposals;
+#[cfg(test)]
 mod comparing;
 #[cfg(test)]
 mod draw;
@@ -27,6 +29,10 @@ mod snippets;
 #[cfg(test)]
 mod snippets_of_rustc;
 #[cfg(test)]
+mod suggested;
+#[cfg(test)]
 mod told_lines;
 #[cfg(test)]
 mod told_others;
+#[cfg(test)]
+mod told_proposals;

@@ -5,7 +5,7 @@ ghost use Rattle.std.specs.Prelude.{◌<◌};
 use crate::outcome::Outcome;
 use ariadne_fakes::{Folder, Given, Taker, refuse, texts};
 use ariadne_show::{
-    Asked, FailOn, Fault, Options, Status, Streams, Sum, read_words, show, tell_fault,
+    Asked, FailOn, Fault, Options, Status, Streams, Sum, Width, read_words, show, tell_fault,
 };
 use std::alloc::{AllocError, Global};
 use std::io::{BufReader, ErrorKind};
@@ -15,10 +15,15 @@ use std::rt::Files;
 /// What stands in the file that the lines are about.
 pub const FILE: &[u8] = b"let x = y;\nlast";
 
-/// The options that these words ask for.
+/// The options that these words ask for, in a pipe.
 pub fn options_of<'a>(rt: &(impl AllocGlobal + Abort), words: &'a [String]) -> Options<'a> {
     match read_words(rt.alloc(), words) {
-        Ok(Asked::Show { options, .. }) => options,
+        Ok(Asked::Show { mut options, .. }) => {
+            if let Width::Columns(columns) = options.width {
+                options.style.width = columns;
+            }
+            options
+        }
         _ => panic!(rt; "these words ask for nothing that is shown"),
     }
 }

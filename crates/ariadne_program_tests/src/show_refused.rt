@@ -16,9 +16,10 @@ use std::rt::{Env, Files};
 const NO_MEMORY: &[u8] = b"ariadne-show: no memory\n";
 
 /// What tools print, with a `@` for the folder of its files: JSON of cargo's about a file that is gone,
-/// with half of a pair that stands alone; a line of make's; a report with a name of its own; gcc's text with
-/// lines in front, a snippet and notes; rustc's text, with a message of two rows and a place that isn't
-/// here; a line that its file lacks; mypy's text; and a line that passes.
+/// with half of a pair that stands alone; a line of make's; a report with a name of its own; gcc's JSON with a
+/// fix-it; gcc's text with lines in front, a snippet and notes, and with rows that tell programs what to change;
+/// rustc's text, with a message of two rows and a place that isn't here; a line that its file lacks; mypy's
+/// text; and a line that passes.
 ///
 /// The longest line stands first. Where there is no memory for a line, a diagnostic that is held is shown
 /// as it was read, as in front of a line that can't be read: that is no beginning of the whole.
@@ -26,6 +27,7 @@ const PRINTED: &str =
     "{\"reason\":\"compiler-message\",\"manifest_path\":\"/p/q/Cargo.toml\",\"message\":{\"message\":\"\\ud800\",\"level\":\"error\",\"spans\":[{\"file_name\":\"gone\",\"line_start\":1,\"column_start\":1,\"line_end\":1,\"column_end\":3,\"is_primary\":true,\"text\":[{\"text\":\"ab\"}]}],\"children\":[]}}
 make: Entering directory '@'
 {\"kind\":\"error\",\"name\":\"n\",\"message\":\"m\",\"labels\":[{\"file\":\"a.c\",\"start\":[1,5]}]}
+[{\"kind\":\"error\",\"message\":\"m\",\"locations\":[{\"caret\":{\"file\":\"a.c\",\"line\":1,\"byte-column\":5}}],\"fixits\":[{\"start\":{\"file\":\"a.c\",\"line\":1,\"byte-column\":5},\"next\":{\"file\":\"a.c\",\"line\":1,\"byte-column\":6},\"string\":\"z\"}]}]
 In file included from b.c:1:
 a.c: In function 'f':
 \x1b[1ma.c:1:9:\x1b[m error: m [-Wm]
@@ -38,6 +40,9 @@ b.c:1:5: note: n
     1 | let x = y;
       |     ^
 b.c:9:1: note: o
+a.c:1:9: error: m
+fix-it:\"a.c\":{1:5-1:6}:\"z\"
+fix-it:\"a.c\":{1:9-1:10}:\"z\"
 error[E1]: m
            o
  --> a.c:1:5

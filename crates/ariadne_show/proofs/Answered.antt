@@ -110,11 +110,14 @@ pub tally_if : {T E : Type 0} (r : Result T E) (options : Options) (line : Line)
 tally_if (Ok x) options line first last is behind so it = tally (sym behind ∙ so) it
 tally_if (Err e) options line first last is behind so it = tt
 
-pub other_passed_if : {T E : Type 0} (r : Result T E) (options : Options) (line : Line) (first followed last : At) (is : Bool)
-    → is ≡ is_tally_behind line.text.now first.known first.out.shown → is ≡ false → IsFollowed line.text.now first followed
-    → OnOk r (IsLinePassed options line.bytes.now followed last) → OnOk r (IsOtherShown options line first last)
-other_passed_if (Ok x) options line first followed last is behind not_so way it = passed followed (sym behind ∙ not_so) way it
-other_passed_if (Err e) options line first followed last is behind not_so way it = tt
+pub other_passed_if : {T E : Type 0} (r : Result T E) (options : Options) (line : Line) (first finished followed : At) (known : Known)
+    (b : Out) (is : Bool) → is ≡ is_tally_behind line.text.now first.known first.out.shown → is ≡ false
+    → IsFinished options first finished → IsFollowed line.text.now finished followed → known ≡ followed.known
+    → OnOk r (HasPassed options line.bytes.now followed.out b)
+    → OnOk r (IsOtherShown options line first (record { known = known; out = b }))
+other_passed_if (Ok x) options line first finished followed known b is same no_tally before moved kept it =
+    passed finished followed (sym same ∙ no_tally) before moved it kept
+other_passed_if (Err e) options line first finished followed known b is same no_tally before moved kept it = tt
 
 -- ---- lines of text
 

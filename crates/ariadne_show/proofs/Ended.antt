@@ -5,33 +5,35 @@ use Rattle.std.specs.declared.alloc.Global.{Global}
 use Rattle.ariadne_blocks.specs.Blocks.{lines_behind, told_of}
 use Rattle.ariadne_blocks.specs.declared.block.Block.{Block}
 use Rattle.ariadne_told.specs.declared.diagnostic.Diagnostic.{Diagnostic}
-use Rattle.ariadne_show.specs.Finding.{IsOpened}
+use Rattle.ariadne_show.specs.Finding.{AreChangedFound, IsOpened}
 use Rattle.ariadne_show.specs.Fronts.{passing_of}
 use Rattle.ariadne_show.specs.Known.{AreMarksSettled}
 use Rattle.ariadne_show.specs.Shown.{At, AreAllShown, AreShown, HasNoRepeats, IsBlockFinished, IsBlockWritten, IsFinished}
-use Rattle.ariadne_show.specs.Shown.{IsLinePassed, IsWholeShown}
+use Rattle.ariadne_show.specs.Shown.{IsLinePassed, IsSettledShown, IsWholeShown}
 use Rattle.ariadne_show.specs.Shown.{block_written, no_block}
 use Rattle.ariadne_show.specs.Writing.{HasPassed, HavePassed, IsShownOnce, Out}
 use Rattle.ariadne_show.specs.declared.finder.Finder.{Finder}
 use Rattle.ariadne_show.specs.declared.front.WaitingLine.{WaitingLine}
 use Rattle.ariadne_show.specs.declared.known.Known.{Known}
 use Rattle.ariadne_show.specs.declared.options.Options.{Options}
-use Rattle.ariadne_show.specs.declared.shelf.Shelf.{Shelf}
 
 -- a diagnostic was written, after Ok
-pub written_if : {T E : Type 0} (r : Result T E) (options : Options) (block : Block) (told : Diagnostic) (first last : Known)
-    (shelf : Shelf) (whole : Diagnostic) (a b c : Out) (bytes : List (List ℕ)) → AreMarksSettled whole told first last
-    → whole ≡ told_of block → shelf ≡ first.finder.shelf → IsShownOnce options shelf told a b → bytes ≡ lines_behind block
-    → OnOk r (HavePassed options bytes b c)
+pub written_if : {T E : Type 0} (r : Result T E) (options : Options) (block : Block) (told : Diagnostic) (first marked last : Known)
+    (whole : Diagnostic) (a b c : Out) (bytes : List (List ℕ)) → AreMarksSettled whole told first marked
+    → whole ≡ told_of block
+    → IsSettledShown options told (record { known = marked; out = a }) (record { known = last; out = b })
+    → bytes ≡ lines_behind block → OnOk r (HavePassed options bytes b c)
     → OnOk r (IsBlockWritten options block (record { known = first; out = a }) (record { known = last; out = c }))
-written_if (Ok x) options block told first last shelf whole a b c bytes settled is over once same behind = record {
+written_if (Ok x) options block told first marked last whole a b c bytes settled is once same behind = record {
   told = told;
-  settled = subst (λ (d : Diagnostic). AreMarksSettled d told first last) is settled;
-  shown = b;
-  once = subst (λ (s : Shelf). IsShownOnce options s told a b) over once;
+  marked = marked;
+  settled = subst (λ (d : Diagnostic). AreMarksSettled d told first marked) is settled;
+  shown = record { known = last; out = b };
+  once = once;
   behind = subst (λ (lines : List (List ℕ)). HavePassed options lines b c) same behind;
+  known = refl;
 }
-written_if (Err e) options block told first last shelf whole a b c bytes settled is over once same behind = tt
+written_if (Err e) options block told first marked last whole a b c bytes settled is once same behind = tt
 
 -- the one in front was, if there is one
 pub finished_some_if : {T E : Type 0} (r : Result T E) (options : Options) (known : Known) (a : Out) (taken : Option Block)
@@ -79,15 +81,24 @@ line_passed_if (Err e) options line first finished known a b before same passed 
 
 -- ---- a diagnostic that is whole
 
-pub whole_if : {T E : Type 0} (r : Result T E) (options : Options) (told opened single : Diagnostic) (known last : Known)
-    (finder : Finder) (a b : Out) → IsOpened told opened known.finder finder → HasNoRepeats opened single
-    → last ≡ record known { finder = finder } → OnOk r (IsShownOnce options finder.shelf single a b)
-    → OnOk r (IsWholeShown options told (record { known = known; out = a }) (record { known = last; out = b }))
-whole_if (Ok x) options told opened single known last finder a b files none kept it =
-    subst (λ (k : Known). IsWholeShown options told (record { known = known; out = a }) (record { known = k; out = b }))
-    (sym kept)
-    (record { opened = opened; files = files; single = single; repeats = none; shown_once = it; known = refl })
-whole_if (Err e) options told opened single known last finder a b files none kept it = tt
+pub whole_if : {T E : Type 0} (r : Result T E) (options : Options) (told opened single : Diagnostic) (known : Known)
+    (finder : Finder) (a : Out) (last : At) → IsOpened told opened known.finder finder → HasNoRepeats opened single
+    → OnOk r (IsSettledShown options single (record { known = record known { finder = finder }; out = a }) last)
+    → OnOk r (IsWholeShown options told (record { known = known; out = a }) last)
+whole_if (Ok x) options told opened single known finder a last files none it =
+    record { opened = opened; finder = finder; files = files; single = single; repeats = none; shown = it }
+whole_if (Err e) options told opened single known finder a last files none it = tt
+
+-- ---- a diagnostic whose places are settled
+
+pub settled_shown_if : {T E : Type 0} (r : Result T E) (options : Options) (told found : Diagnostic) (known last : Known)
+    (finder : Finder) (a b : Out) → AreChangedFound told found known.finder finder → last ≡ record known { finder = finder }
+    → OnOk r (IsShownOnce options finder.shelf found a b)
+    → OnOk r (IsSettledShown options told (record { known = known; out = a }) (record { known = last; out = b }))
+settled_shown_if (Ok x) options told found known last finder a b changed kept it =
+    subst (λ (k : Known). IsSettledShown options told (record { known = known; out = a }) (record { known = k; out = b }))
+    (sym kept) (record { found = found; changed = changed; once = it; known = refl })
+settled_shown_if (Err e) options told found known last finder a b changed kept it = tt
 
 -- all of several
 pub all_shown_if : {T E : Type 0} (r : Result T E) (options : Options) (all : List Diagnostic) (first finished last : At)

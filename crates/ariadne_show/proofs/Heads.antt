@@ -12,6 +12,8 @@ use Rattle.ariadne_show.specs.declared.options.Style.{Style}
 use Rattle.ariadne_show.specs.Drawn.{coded, config_of, kind_of, IsAbout, IsBare, IsReportOf}
 use Rattle.ariadne_show.specs.Asides.{helps_of, notes_of, with_helps, with_notes}
 use Rattle.ariadne_show.specs.Found.{Files, Found}
+use Rattle.ariadne_show.specs.Proposed.{AreSketched}
+use Rattle.ariadne_show.specs.declared.proposed.Sketch.{Sketch}
 use Rattle.ariadne_show.specs.Labels.{AreOrdered, header_of, labels_of, shown_header, with_labels}
 use Rattle.ariadne_show.specs.Widths.{IsTextWidth, without_rows}
 use Rattle.ariadne_safe.specs.Reports.{shown_place}
@@ -99,32 +101,37 @@ rows_without r width notes helps none nor whole = λ i. record r {
 }
 
 pub report_about : (style : Style) (files : Files) (told : Diagnostic) (main : Found) (ordered : List Found)
-    (r m s : ReportFields (ℕ × Range ℕ)) (width : ℕ) (under sources : List SafeSource) → IsAbout style 0 told (string_bytes told.message) r
-    → IsBare r → r.span ≡ shown_header r.config.index_type under main → AreOrdered files main.number told.places.items ordered
+    (r m s : ReportFields (ℕ × Range ℕ)) (width : ℕ) (under sources : List SafeSource) (sketches : List Sketch)
+    → IsAbout style 0 told (string_bytes told.message) r → IsBare r → r.span ≡ shown_header r.config.index_type under main → AreOrdered files main.number told.places.items ordered
     → m ≡ with_labels (labels_of r.config.index_type under told.severity style.is_compact ordered) r
-    → IsTextWidth style.width under m width
-    → s ≡ with_helps (helps_of width told) (with_notes (notes_of width files told) (wide width m))
+    → IsTextWidth style.width under m width → AreSketched width files sources told.proposals.items sketches
+    → s ≡ with_helps (helps_of width sketches told) (with_notes (notes_of width files told) (wide width m))
     → sources ≡ under → IsReportOf style files told main sources s
-report_about style files told main ordered r m s width under sources about bare span places marked fits is same =
+report_about style files told main ordered r m s width under sources sketches about bare span places marked fits drawn is same =
     rw (is, same, marked) (record {
       width = width;
       is_width =
           subst (λ (q : ReportFields (ℕ × Range ℕ)). IsTextWidth style.width under q width)
           (marked
-          ∙ rows_without (with_labels labels r) width (notes_of width files told) (helps_of width told) bare.notes bare.helps
+          ∙ rows_without (with_labels labels r) width (notes_of width files told) helps bare.notes bare.helps
           (ap (λ (c : ConfigFields). c.width) about.config)) fits;
-      about = about_more style told (string_bytes told.message) (with_labels labels r) width (notes_of width files told) (helps_of width told)
+      about = about_more style told (string_bytes told.message) (with_labels labels r) width (notes_of width files told) helps
           (about_labels style told (string_bytes told.message) r labels about);
       span = span;
       ordered = ordered;
       places = places;
       labels = ap (λ l. l ++ labels) bare.labels;
       notes = ap (λ l. l ++ notes_of width files told) bare.notes;
-      helps = ap (λ l. l ++ helps_of width told) bare.helps;
+      sketches = sketches;
+      proposals = subst (λ (l : List SafeSource). AreSketched width files l told.proposals.items sketches) same drawn;
+      helps = ap (λ l. l ++ helps) bare.helps;
     })
   where
     labels : List (LabelFields (ℕ × Range ℕ))
     labels = labels_of r.config.index_type under told.severity style.is_compact ordered
+
+    helps : List (List ℕ)
+    helps = helps_of width sketches told
 
 -- a header that ends at the end of a place
 abbrev header_to : Found → ℕ → ℕ × Range ℕ

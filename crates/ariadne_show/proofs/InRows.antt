@@ -1,8 +1,9 @@
 -- Words in rows, and how many columns they take.
 use Rattle.std.proofs.Common.{◌≡◌, ◌∙◌, ℕ, ◌+◌, List, [], ◌∷◌, ◌++◌, Option, Some, None, length, ap, sym, subst, refl, arith, append_assoc, encode_utf8}
-use Rattle.std.specs.Prelude.{Bool, true, false, chars, nat_le, ◌==◌, if◌then◌else◌}
-use Rattle.std.specs.List.{join_with_byte}
+use Rattle.std.specs.Prelude.{Bool, true, false, chars, nat_le, ◌==◌, ◌<◌, ◌≤◌, ◌&&◌, if◌then◌else◌}
+use Rattle.std.specs.List.{join_with_byte, list_all}
 use Rattle.std.specs.Str.{IsUtf8}
+use Rattle.std.proofs.lemmas.Bool.{leb-false, true_from_ne_false}
 use Rattle.std.proofs.lemmas.Iterator.{YieldsList}
 use Rattle.std.proofs.lemmas.List.{append-nil, map-append, nil_from_length}
 use Rattle.std.proofs.lemmas.List.Splits.{join_with_byte-slice_split}
@@ -101,6 +102,59 @@ module _ {S A : Type 0} (steps : S → Option A → S → Type 0) (text : A → 
       → steps it None next → behind state [] ≡ [] → rows ≡ whole
   left_none it next state rows whole so_far step none =
       none_of it next state rows whole so_far.items so_far.left so_far.same step none
+
+-- ---- whether a test holds of all that an iterator yields
+
+-- a number that is at most another
+pub le_true : (n m : ℕ) → n ≤ m → nat_le n m ≡ true
+le_true n m le = true_from_ne_false (nat_le n m) (λ e. let less : m < n = leb-false n m e in omega (arith, less, le))
+
+-- that hangs on the items that are left
+pub record HangsOn {S A : Type 0} (steps : S → Option A → S → Type 0) (text : A → List ℕ) (test : List ℕ → Bool)
+    (it : S) (all : Bool) : Type 0 where
+  pub items : List (List ℕ)
+  pub left : YieldsList steps text it items
+  pub same : list_all test items ≡ all
+
+module _ {S A : Type 0} (steps : S → Option A → S → Type 0) (text : A → List ℕ) (test : List ℕ → Bool) where
+  -- where it holds of the item that comes, on the others
+  next_tested : (it next : S) (item : A) (all : Bool) (items : List (List ℕ)) → YieldsList steps text it items
+      → list_all test items ≡ all → steps it (Some item) next → test (text item) ≡ true → HangsOn steps text test next all
+  next_tested it next item all [] left same step holds = absurd (left.runs item next step)
+  next_tested it next item all (x ∷ items) left same step holds =
+      let first = left.runs.1 item next step in
+      record {
+        items = items;
+        left = record { runs = first.1 };
+        same = sym (ap (λ t. t && list_all test items) (ap test (sym first.0) ∙ holds)) ∙ same;
+      }
+
+  pub hangs_next : (it next : S) (item : A) (all : Bool) → HangsOn steps text test it all → steps it (Some item) next
+      → test (text item) ≡ true → HangsOn steps text test next all
+  hangs_next it next item all so_far step holds =
+      next_tested it next item all so_far.items so_far.left so_far.same step holds
+
+  -- where it does not, it holds not of all
+  failed_at : (it next : S) (item : A) (all : Bool) (items : List (List ℕ)) → YieldsList steps text it items
+      → list_all test items ≡ all → steps it (Some item) next → test (text item) ≡ false → false ≡ all
+  failed_at it next item all [] left same step fails = absurd (left.runs item next step)
+  failed_at it next item all (x ∷ items) left same step fails =
+      let first = left.runs.1 item next step in
+      sym (ap (λ t. t && list_all test items) (ap test (sym first.0) ∙ fails)) ∙ same
+
+  pub hangs_no_more : (it next : S) (item : A) (all : Bool) → HangsOn steps text test it all → steps it (Some item) next
+      → test (text item) ≡ false → false ≡ all
+  hangs_no_more it next item all so_far step fails =
+      failed_at it next item all so_far.items so_far.left so_far.same step fails
+
+  -- where none comes, it holds of all
+  held_by_all : (it next : S) (all : Bool) (items : List (List ℕ)) → YieldsList steps text it items
+      → list_all test items ≡ all → steps it None next → true ≡ all
+  held_by_all it next all [] left same step = same
+  held_by_all it next all (x ∷ items) left same step = absurd (left.runs.0 next step)
+
+  pub hangs_none : (it next : S) (all : Bool) → HangsOn steps text test it all → steps it None next → true ≡ all
+  hangs_none it next all so_far step = held_by_all it next all so_far.items so_far.left so_far.same step
 
 -- where none comes at all
 pub none_begun : {S A : Type 0} (steps : S → Option A → S → Type 0) (text : A → List ℕ) (it next : S) (rows : List ℕ)

@@ -9,6 +9,7 @@ pub mod Locating
 pub mod Notes
 pub mod Ordered
 pub mod Passed
+pub mod Proposing
 pub mod Quoting
 pub mod Reading
 pub mod Said

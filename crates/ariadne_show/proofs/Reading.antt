@@ -49,12 +49,13 @@ characters_of_others bytes text isnt same =
 -- what is held of a file whose source is added
 pub held_behind : (old new : List SafeSource) (path bytes : List ℕ) (file : FileText) (held : Held) (begun source : SafeSource)
     → IsTextOf bytes file → held.is_utf8 ≡ file.is_utf8 → held.has_mark ≡ file.has_mark → held.above ≡ 0
+    → held.is_read ≡ true
     → held.columns ≡ chars (string_bytes file.text) → listing_of begun ≡ shown_text 0 (string_bytes file.text)
     → given_of begun ≡ string_bytes file.text → name_of source ≡ Some (visible_bytes OneRow path)
     → listing_of source ≡ listing_of begun → given_of source ≡ given_of begun → new ≡ old ++ source ∷ []
     → held.number ≡ length old → IsHeldBehind old new path bytes held
-held_behind old new path bytes file held begun source is utf8 mark whole columns listed given named kept also behind number = record {
-  file = record { utf8 = utf8 ∙ is.utf8; mark = mark ∙ is.mark; columns = columns ∙ is.text; whole = whole };
+held_behind old new path bytes file held begun source is utf8 mark whole read columns listed given named kept also behind number = record {
+  file = record { utf8 = utf8 ∙ is.utf8; mark = mark ∙ is.mark; columns = columns ∙ is.text; whole = whole; read = read };
   source = source;
   behind = behind;
   number = number;
@@ -67,15 +68,15 @@ held_behind old new path bytes file held begun source is utf8 mark whole columns
 
 -- what is held of lines that are quoted whose source is added
 pub quoted_behind : (old new : List SafeSource) (path : List ℕ) (lines : List QuotedLine) (held : Held) (last : ℕ) (text : List ℕ)
-    (begun named source : SafeSource) → held.is_utf8 ≡ true → held.has_mark ≡ false → Some (held.above, last) ≡ lines_held path lines
+    (begun named source : SafeSource) → held.is_utf8 ≡ true → held.has_mark ≡ false → held.is_read ≡ false → Some (held.above, last) ≡ lines_held path lines
     → text ≡ text_held path lines (held.above, last) → held.columns ≡ chars text → listing_of begun ≡ shown_text 0 text
     → given_of begun ≡ text → name_of named ≡ Some (visible_bytes OneRow path) → listing_of named ≡ listing_of begun
     → given_of named ≡ given_of begun → listing_of source ≡ record (listing_of named) { display_offset = held.above }
     → name_of source ≡ name_of named → given_of source ≡ given_of named → new ≡ old ++ source ∷ [] → held.number ≡ length old
     → IsQuotedBehind old new path lines held
-quoted_behind old new path lines held last text begun named source utf8 mark range same columns listed given name kept also moved called still behind number =
+quoted_behind old new path lines held last text begun named source utf8 mark unread range same columns listed given name kept also moved called still behind number =
     let whole : given_of source ≡ text = still ∙ also ∙ given in record {
-      file = record { utf8 = utf8; mark = mark; last = last; lines = sym range; columns = columns ∙ ap chars same };
+      file = record { utf8 = utf8; mark = mark; last = last; lines = sym range; columns = columns ∙ ap chars same; unread = unread };
       source = source;
       behind = behind;
       number = number;

@@ -1,6 +1,8 @@
--- What a report says beside: the notes and helps of a diagnostic, and a note for each of its places
--- that can't be drawn.
-use Rattle.std.specs.Prelude.{ℕ, not, List, [], ◌++◌, map, filter}
+-- What a report says beside: the notes and helps of a diagnostic, what is drawn in the place of helps, and
+-- a note for each of its places that can't be drawn.
+use Rattle.std.specs.Prelude.{ℕ, ◌+◌, ◌==◌, ◌&&◌, nat_le, nat_lt, Bool, not, if◌then◌else◌}
+use Rattle.std.specs.Prelude.{List, [], ◌∷◌, ◌++◌, map, filter}
+use Rattle.std.specs.List.{flat_map, list_any}
 use Rattle.std.specs.Prelude.{Option, Some, None, String, string_bytes, codes, decimal}
 use Rattle.std.specs.declared.alloc.Global.{Global}
 use Rattle.std.specs.declared.ops.Range.{Range}
@@ -11,6 +13,7 @@ use Rattle.ariadne_told.specs.declared.diagnostic.Diagnostic.{Diagnostic}
 use Rattle.ariadne_told.specs.declared.diagnostic.Place.{Place}
 use Rattle.ariadne_show.specs.Found.{Files, is_found}
 use Rattle.ariadne_show.specs.Wrapped.{wrapped}
+use Rattle.ariadne_show.specs.declared.proposed.Sketch.{Sketch}
 
 -- a column behind a colon, if there is one
 abbrev pub column_text : Option ℕ → List ℕ
@@ -46,9 +49,39 @@ abbrev pub notes_of : ℕ → Files → Diagnostic → List (List ℕ)
 notes_of columns files told =
     missing_notes columns files told.places.items ++ aside_notes columns told.notes.items
 
--- the helps
-abbrev pub helps_of : ℕ → Diagnostic → List (List ℕ)
-helps_of columns told = aside_notes columns told.helps.items
+-- a proposal that is drawn begins at the help with this number, and stands in its place
+abbrev pub begins_at : ℕ → Sketch → Bool
+begins_at number sketch = sketch.helps.start == number
+
+abbrev pub covers : ℕ → Sketch → Bool
+covers number sketch = nat_le sketch.helps.start number && nat_lt number sketch.helps.end
+
+-- the texts of a proposal that is drawn
+abbrev pub sketch_texts : Sketch → List (List ℕ)
+sketch_texts sketch = map (λ text. visible_bytes Aside (string_bytes text)) sketch.texts.items
+
+-- those of the proposals that begin at the help with this number
+abbrev pub texts_at : ℕ → List Sketch → List (List ℕ)
+texts_at number sketches = flat_map sketch_texts (filter (begins_at number) sketches)
+
+-- a help with this number, unless a proposal stands in its place
+abbrev pub own_text : ℕ → List Sketch → ℕ → String Global → List (List ℕ)
+own_text columns sketches number help =
+    if list_any (covers number) sketches then [] else aside_notes columns (help ∷ [])
+
+-- what stands for it: the texts of the proposals that begin there, and then the help
+abbrev pub help_texts : ℕ → List Sketch → ℕ → String Global → List (List ℕ)
+help_texts columns sketches number help =
+    texts_at number sketches ++ own_text columns sketches number help
+
+-- the helps, of which the first has this number
+unfoldable pub helps_from : ℕ → List Sketch → ℕ → List (String Global) → List (List ℕ)
+helps_from columns sketches number [] = []
+helps_from columns sketches number (help ∷ helps) =
+    help_texts columns sketches number help ++ helps_from columns sketches (number + 1) helps
+
+abbrev pub helps_of : ℕ → List Sketch → Diagnostic → List (List ℕ)
+helps_of columns sketches told = helps_from columns sketches 0 told.helps.items
 
 -- a report with more notes, and with more helps
 abbrev pub with_notes : List (List ℕ) → ReportFields (ℕ × Range ℕ) → ReportFields (ℕ × Range ℕ)

@@ -22,9 +22,11 @@ use Rattle.ariadne_told.specs.declared.diagnostic.OwnKind.{OwnKind}
 use Rattle.ariadne_told.specs.declared.diagnostic.Severity.{Severity}
 use Rattle.ariadne_told.specs.declared.diagnostic.Severity.TheVariants.{Error, Warning, Note}
 use Rattle.ariadne_show.specs.declared.options.Style.{Style}
+use Rattle.ariadne_show.specs.declared.proposed.Sketch.{Sketch}
 use Rattle.ariadne_show.specs.Asides.{helps_of, notes_of}
 use Rattle.ariadne_show.specs.Found.{Files, Found}
 use Rattle.ariadne_show.specs.Labels.{severity_color, AreOrdered, labels_of, main_in, shown_header}
+use Rattle.ariadne_show.specs.Proposed.{AreSketched}
 use Rattle.ariadne_show.specs.Said.{first_line, lines_of}
 use Rattle.ariadne_show.specs.Widths.{IsTextWidth, without_rows}
 
@@ -86,7 +88,8 @@ pub record IsBare (report : ReportFields (ℕ × Range ℕ)) : Type 0 where
   pub helps : report.helps ≡ []
 
 -- a report has the head, the labels, the notes and the helps of a diagnostic whose own place was found.
--- Its lines, notes and helps take the columns that its margin leaves of a row
+-- Its lines, notes and helps take the columns that its margin leaves of a row, and what it proposes is
+-- drawn in the place of some helps
 pub record IsReportOf (style : Style) (files : Files) (told : Diagnostic) (main : Found)
     (sources : List SafeSource) (report : ReportFields (ℕ × Range ℕ)) : Type 0 where
   pub width : ℕ
@@ -98,7 +101,9 @@ pub record IsReportOf (style : Style) (files : Files) (told : Diagnostic) (main 
   pub labels : report.labels
       ≡ labels_of report.config.index_type sources told.severity style.is_compact ordered
   pub notes : report.notes ≡ notes_of width files told
-  pub helps : report.helps ≡ helps_of width told
+  pub sketches : List Sketch
+  pub proposals : AreSketched width files sources told.proposals.items sketches
+  pub helps : report.helps ≡ helps_of width sketches told
 
 -- ---- pictures
 

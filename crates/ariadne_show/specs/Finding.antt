@@ -10,7 +10,7 @@ use Rattle.ariadne_told.specs.declared.diagnostic.Diagnostic.{Diagnostic}
 use Rattle.ariadne_told.specs.declared.diagnostic.Place.{Place}
 use Rattle.ariadne_show.specs.Found.{files_of, held_at, unit_in}
 use Rattle.ariadne_show.specs.Located.{caret_in_line}
-use Rattle.ariadne_show.specs.Read.{AreOpened, IsSettledNow}
+use Rattle.ariadne_show.specs.Read.{AreFilesSettled, AreOpened, IsSettledNow}
 use Rattle.ariadne_show.specs.declared.finder.Finder.{Finder}
 use Rattle.ariadne_show.specs.declared.held.Held.{Held}
 use Rattle.ariadne_show.specs.declared.shelf.Shelf.{Shelf}
@@ -70,6 +70,14 @@ pub record IsOpened (told opened : Diagnostic) (first last : Finder) : Type 0 wh
   pub looked : IsSearchFor first (option_map string_bytes told.manifest) search
   pub places : AreOpened search told.quoted.items told.places.items opened.places.items first.shelf last.shelf
   pub others : opened ≡ record told { places = opened.places }
+  pub finder : last ≡ record first { shelf = last.shelf }
+
+-- those that it proposes to change were: its proposals have the paths at which they were found
+pub record AreChangedFound (told found : Diagnostic) (first last : Finder) : Type 0 where
+  pub search : Search
+  pub looked : IsSearchFor first (option_map string_bytes told.manifest) search
+  pub files : AreFilesSettled search told.proposals.items found.proposals.items first.shelf last.shelf
+  pub others : found ≡ record told { proposals = found.proposals }
   pub finder : last ≡ record first { shelf = last.shelf }
 
 -- that of a place was that a line by itself tells

@@ -53,15 +53,19 @@ unit_in held Char = Char
 unit_in held Display = Display
 
 -- how many bytes of a byte order mark the columns of a line leave out
-abbrev pub mark_before : Held → Place → ℕ → ℕ
-mark_before held place line =
-    if held.has_mark && (place.is_past_mark && line == 1) then 3 else 0
+abbrev pub mark_before : Held → Bool → ℕ → ℕ
+mark_before held is_past_mark line =
+    if held.has_mark && (is_past_mark && line == 1) then 3 else 0
 
 -- the offset of a spot, which is at this column where it names none, if the file has its line
-unfoldable pub spot_in : Held → Place → Spot → ℕ → Option ℕ
-spot_in held place spot column =
-    offset_of (unit_in held place.unit) held.columns (spot.line - held.above)
-    (min (unwrap_or spot.column column + mark_before held place spot.line) (2 ^ 64 - 1))
+unfoldable pub spot_by : Held → Unit → Bool → Spot → ℕ → Option ℕ
+spot_by held unit is_past_mark spot column =
+    offset_of (unit_in held unit) held.columns (spot.line - held.above)
+    (min (unwrap_or spot.column column + mark_before held is_past_mark spot.line) (2 ^ 64 - 1))
+
+-- that of a spot of a place
+abbrev pub spot_in : Held → Place → Spot → ℕ → Option ℕ
+spot_in held place spot column = spot_by held place.unit place.is_past_mark spot column
 
 -- that of the spot where a place ends: the end of its line, where it names no column; the end of what is
 -- held of the file, where that has no such line, and its start, where the line stands above it

@@ -13,6 +13,7 @@ pub mod Limits
 pub mod Lines
 pub mod Located
 pub mod Pages
+pub mod Proposed
 pub mod Quoted
 pub mod Read
 pub mod Said

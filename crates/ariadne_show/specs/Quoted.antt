@@ -62,3 +62,4 @@ pub record IsQuotedFile (path : List ℕ) (quoted : List QuotedLine) (held : Hel
   pub last : ℕ
   pub lines : lines_held path quoted ≡ Some (held.above, last)
   pub columns : held.columns ≡ chars (text_held path quoted (held.above, last))
+  pub unread : held.is_read ≡ false

@@ -11,6 +11,7 @@ use Rattle.ariadne_safe.specs.declared.sources.SafeSource.{SafeSource}
 use Rattle.ariadne_search.specs.Search.{candidates}
 use Rattle.ariadne_search.specs.declared.search.Search.{Search}
 use Rattle.ariadne_told.specs.declared.diagnostic.Place.{Place}
+use Rattle.ariadne_told.specs.declared.diagnostic.Proposal.{Proposal}
 use Rattle.ariadne_told.specs.declared.diagnostic.QuotedLine.{QuotedLine}
 use Rattle.ariadne_show.specs.Found.{Files, files_of, held_at, quoted_in, read_in}
 use Rattle.ariadne_show.specs.Quoted.{lines_held, text_held, IsQuotedFile}
@@ -40,6 +41,7 @@ pub record IsFileOf (bytes : List ℕ) (held : Held) : Type 0 where
   pub mark : held.has_mark ≡ starts_with nat_eq bytes byte_order_mark
   pub columns : held.columns ≡ characters bytes
   pub whole : held.above ≡ 0
+  pub read : held.is_read ≡ true
 
 -- a text as it is shown, in the lines of compilers, of which the first stands below others
 abbrev pub shown_text : ℕ → List ℕ → Listing
@@ -196,4 +198,27 @@ pub record AreOpened (search : Search) (lines : List QuotedLine) (before after :
   pub settled : AllZip (IsSettled search (read_in new)) before after
   pub quoted : AreQuotedIn lines new
   pub held : All (λ place. IsHeldIfQuoted lines new (string_bytes place.file)) after
+  pub sources : HaveSources new
+
+-- ---- the files of proposals
+
+-- a proposal has the path of its file, where that was found, and is else as it was
+pub record IsFileSettled (search : Search) (files : Files) (before after : Proposal) : Type 0 where
+  pub found : Option (List ℕ)
+  pub first : IsFirst files (candidates search (string_bytes before.file)) found
+  pub file : string_bytes after.file ≡ unwrap_or found (string_bytes before.file)
+  pub others : after ≡ record before { file = after.file }
+
+-- and its file was looked for
+pub record IsFileSettledNow (search : Search) (before after : Proposal) (old new : Shelf) : Type 0 where
+  pub kept : AreKept (read_in old) (read_in new)
+  pub settled : IsFileSettled search (read_in new) before after
+  pub quoted : (path : List ℕ) → quoted_in new path ≡ quoted_in old path
+  pub sources : HaveSources new
+
+-- the files of all of them were
+pub record AreFilesSettled (search : Search) (before after : List Proposal) (old new : Shelf) : Type 0 where
+  pub kept : AreKept (read_in old) (read_in new)
+  pub settled : AllZip (IsFileSettled search (read_in new)) before after
+  pub quoted : (path : List ℕ) → quoted_in new path ≡ quoted_in old path
   pub sources : HaveSources new

@@ -23,7 +23,7 @@ use Rattle.ariadne_told.specs.declared.diagnostic.Diagnostic.{Diagnostic}
 use Rattle.ariadne_told.specs.declared.diagnostic.Place.{Place}
 use Rattle.ariadne_told.specs.declared.telling.Answer.{Answer}
 use Rattle.ariadne_told.specs.declared.telling.Answer.TheVariants as answer
-use Rattle.ariadne_show.specs.Finding.{caret_at, is_first_held, is_held, IsOpened, IsPlaceSettled}
+use Rattle.ariadne_show.specs.Finding.{AreChangedFound, caret_at, is_first_held, is_held, IsOpened, IsPlaceSettled}
 use Rattle.ariadne_show.specs.Fronts.{bytes_in, lines_of, passing_of}
 use Rattle.ariadne_show.specs.Known.{is_note_of, AreMarksSettled, IsMoreInFront, IsNew, IsNoRowInFront, IsPlacedBy}
 use Rattle.ariadne_show.specs.Known.{IsRowInFront, MayNotGoOn, PlacesNone, Waits, WaitsNot}
@@ -55,15 +55,30 @@ pub record At : Type 0 where
 abbrev pub at_of : Run → StreamBytes → At
 at_of run streams = record { known = run.known; out = out_of run.shown streams }
 
+-- a run whose files were looked for
+abbrev pub with_finder : At → Finder → At
+with_finder at finder = record at { known = record at.known { finder = finder } }
+
+-- ---- a diagnostic
+
+-- one whose places are settled was shown, over its files and those that it proposes to change
+pub record IsSettledShown (options : Options) (told : Diagnostic) (first last : At) : Type 0 where
+  pub found : Diagnostic
+  pub changed : AreChangedFound told found first.known.finder last.known.finder
+  pub once : IsShownOnce options last.known.finder.shelf found first.out last.out
+  pub known : last.known ≡ record first.known { finder = last.known.finder }
+
 -- ---- the end of a diagnostic of lines of text
 
 -- it was shown, and the lines passed that turned out to be none of it
 pub record IsBlockWritten (options : Options) (block : Block) (first last : At) : Type 0 where
   pub told : Diagnostic
-  pub settled : AreMarksSettled (told_of block) told first.known last.known
-  pub shown : Out
-  pub once : IsShownOnce options first.known.finder.shelf told first.out shown
-  pub behind : HavePassed options (lines_behind block) shown last.out
+  pub marked : Known
+  pub settled : AreMarksSettled (told_of block) told first.known marked
+  pub shown : At
+  pub once : IsSettledShown options told (record first { known = marked }) shown
+  pub behind : HavePassed options (lines_behind block) shown.out last.out
+  pub known : last.known ≡ shown.known
 
 -- a run that holds none
 abbrev pub without_block : At → At
@@ -100,11 +115,11 @@ pub record HasNoRepeats (told single : Diagnostic) : Type 0 where
 -- one was shown over its files
 pub record IsWholeShown (options : Options) (told : Diagnostic) (first last : At) : Type 0 where
   pub opened : Diagnostic
-  pub files : IsOpened told opened first.known.finder last.known.finder
+  pub finder : Finder
+  pub files : IsOpened told opened first.known.finder finder
   pub single : Diagnostic
   pub repeats : HasNoRepeats opened single
-  pub shown_once : IsShownOnce options last.known.finder.shelf single first.out last.out
-  pub known : last.known ≡ record first.known { finder = last.known.finder }
+  pub shown : IsSettledShown options single (with_finder first finder) last
 
 -- each was, in their order
 pub data AreShown (options : Options) : List Diagnostic → At → At → Type 0 where
@@ -192,10 +207,6 @@ pub record IsNoteAddedTo (options : Options) (before : Block) (note : Diagnostic
 
 -- ---- heads and notes
 
--- a run whose files were looked for
-abbrev pub with_finder : At → Finder → At
-with_finder at finder = record at { known = record at.known { finder = finder } }
-
 -- a head begins a diagnostic where its file can be read; else its line passed
 pub data IsHeadShown (options : Options) (line : Line) (told : Diagnostic) (first last : At) : Type 0 where
   began : (opened : Diagnostic) (finder : Finder) → IsOpened told opened first.known.finder finder
@@ -250,8 +261,9 @@ pub record IsFollowed (text : List ℕ) (first last : At) : Type 0 where
 pub data IsOtherShown (options : Options) (line : Line) (first last : At) : Type 0 where
   tally : is_tally_behind line.text.now first.known first.out.shown ≡ true → IsFinished options first last
       → IsOtherShown options line first last
-  passed : (followed : At) → is_tally_behind line.text.now first.known first.out.shown ≡ false
-      → IsFollowed line.text.now first followed → IsLinePassed options line.bytes.now followed last
+  passed : (finished followed : At) → is_tally_behind line.text.now first.known first.out.shown ≡ false
+      → IsFinished options first finished → IsFollowed line.text.now finished followed
+      → HasPassed options line.bytes.now followed.out last.out → last.known ≡ followed.known
       → IsOtherShown options line first last
 
 -- a line of text that names no kind beside a place names the place of a head that waits, waits itself, goes on

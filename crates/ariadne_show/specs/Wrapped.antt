@@ -2,9 +2,9 @@
 -- its blanks: a row has as many words as fit there, and a word that is wider stands alone. No word is
 -- cut, and nothing is left out but the blank in front of a row. Columns are those of the text as it is
 -- shown, where a sign stands for each hidden character.
-use Rattle.std.specs.Prelude.{ℕ, ◌+◌, ◌-◌, max, ◌==◌, nat_le, if◌then◌else◌}
+use Rattle.std.specs.Prelude.{ℕ, ◌+◌, ◌-◌, max, Bool, ◌==◌, ◌||◌, nat_le, if◌then◌else◌}
 use Rattle.std.specs.Prelude.{List, [], ◌∷◌, ◌++◌, map}
-use Rattle.std.specs.List.{slice_split}
+use Rattle.std.specs.List.{list_all, slice_split}
 use Rattle.ariadne.specs.Columns.{text_columns}
 use Rattle.ariadne.specs.Lists.{joined}
 use Rattle.ariadne_visible.specs.Visible.{visible_bytes}
@@ -53,6 +53,14 @@ aside_columns columns = max (columns - 8) 1
 unfoldable pub wrapped : ℕ → List ℕ → List ℕ
 wrapped columns text =
     if columns == 0 then text else wrapped_lines (aside_columns columns) (lines_in text)
+
+-- a row takes at most n columns
+abbrev pub is_within : ℕ → List ℕ → Bool
+is_within n row = nat_le (word_columns row) n
+
+-- each row of a text takes at most so many columns, with the name; 0 is any number
+abbrev pub fits : ℕ → List ℕ → Bool
+fits columns rows = columns == 0 || list_all (is_within (aside_columns columns)) (lines_in rows)
 
 -- a text with blanks for its line ends
 abbrev pub in_one_line : List ℕ → List ℕ

@@ -138,8 +138,9 @@ impl<R: Files> Task<'_, R> {
         if run.is_tally(line.text) {
             return self.finish(run, streams);
         }
+        self.finish(run, streams)?;
         run.known.finder.folders.follow(line.text)?;
-        self.pass_line(run, line.bytes, streams)
+        self.pass(run, line.bytes, streams)
     }
 
     /// Holds a diagnostic whose head waited, and whose place a line names, if its file can be read. Else

@@ -1,14 +1,20 @@
 //! What a report says beside: notes and helps.
 
-ghost use Rattle.std.specs.Prelude.{◌≡◌, ℕ, List, [], ◌∷◌, ◌++◌, string_bytes, IfOk};
+ghost use Rattle.std.specs.Prelude.{◌≡◌, ℕ, List, [], ◌∷◌, ◌++◌, map};
+ghost use Rattle.std.specs.Prelude.{string_bytes, IfOk};
+ghost use Rattle.std.specs.List.{list_any};
+ghost use Rattle.ariadne_visible.specs.Visible.{visible_bytes};
+ghost use Rattle.ariadne_visible.specs.declared.text.TextKind.TheVariants.{Aside};
 ghost use Rattle.ariadne_safe.specs.Building.{made_of, sources_under};
-ghost use Rattle.ariadne_show.specs.Asides.{aside_notes, helps_of, missing_notes, notes_of};
+ghost use Rattle.ariadne_show.specs.Asides.{aside_notes, covers, helps_from, helps_of, missing_notes};
+ghost use Rattle.ariadne_show.specs.Asides.{notes_of, own_text, texts_at};
 ghost use Rattle.ariadne_show.specs.Asides.{column_text as text_of_column, spot_name as name_of_spot};
 ghost use Rattle.ariadne_show.specs.Asides.{spot_text as text_of_spot};
 ghost use Rattle.ariadne_show.specs.Asides.{with_helps as more_helps, with_notes as more_notes};
 ghost use Rattle.ariadne_show.specs.Found.{files_of};
 
 use crate::found::found_place;
+use crate::proposed::Sketch;
 use crate::shelf::Shelf;
 use crate::wrapping::wrapped;
 use ariadne_safe::SafeBuilder;
@@ -16,21 +22,23 @@ use ariadne_told::{Diagnostic, Place};
 use std::alloc::{AllocError, Global};
 
 /// The report with the notes and helps, and before them a note for each place that can't be drawn, in
-/// rows of so many columns, or of any number where that is 0.
+/// rows of so many columns, or of any number where that is 0. Proposals that are drawn stand in the place of
+/// their helps.
 pub fn with_asides<'s>(
     alloc: Global,
     builder: SafeBuilder<'s>,
     shelf: &Shelf,
     told: &Diagnostic,
+    sketches: &[Sketch],
     width: usize,
 ) -> Result<SafeBuilder<'s>, AllocError>
-    ensures report { IfOk result (λ b. made_of b ≡ more_helps (helps_of width told.now)
+    ensures report { IfOk result (λ b. made_of b ≡ more_helps (helps_of width sketches.now told.now)
         (more_notes (notes_of width (files_of shelf.now) told.now) (made_of builder.entry))) }
     ensures sources { IfOk result (λ b. sources_under b ≡ sources_under builder.entry) }
 {
     let builder = with_missing(alloc, builder, shelf, told.places.as_slice(), width)?;
     let builder = with_notes(alloc, builder, told.notes.as_slice(), width)?;
-    with_helps(alloc, builder, told.helps.as_slice(), width)
+    with_helps(alloc, builder, told.helps.as_slice(), sketches, width)
 }
 
 /// The report with a note for each place that can't be drawn.
@@ -93,23 +101,98 @@ fn with_notes<'s>(
     Ok(builder)
 }
 
-/// The report with these helps.
+/// The report with these helps, and with proposals that are drawn in the place of some.
 fn with_helps<'s>(
     alloc: Global,
     builder: SafeBuilder<'s>,
     helps: &[String],
+    sketches: &[Sketch],
     width: usize,
 ) -> Result<SafeBuilder<'s>, AllocError>
     ensures report { IfOk result (λ b. made_of b
-        ≡ more_helps (aside_notes width helps.now) (made_of builder.entry)) }
+        ≡ more_helps (helps_from width sketches.now 0 helps.now) (made_of builder.entry)) }
     ensures sources { IfOk result (λ b. sources_under b ≡ sources_under builder.entry) }
 {
     let mut builder = builder;
-    for help in helps {
-        let help = wrapped(alloc, help.as_str(), width)?;
-        builder = builder.with_help(help.as_str())?;
+    for (number, help) in helps.iter().enumerate() {
+        builder = with_sketches(builder, sketches, number)?;
+        builder = with_help(alloc, builder, sketches, number, help, width)?;
     }
     Ok(builder)
+}
+
+/// The report with the proposals that begin at the help with a number.
+fn with_sketches<'s>(
+    builder: SafeBuilder<'s>,
+    sketches: &[Sketch],
+    number: usize,
+) -> Result<SafeBuilder<'s>, AllocError>
+    ensures report { IfOk result (λ b. made_of b
+        ≡ more_helps (texts_at number sketches.now) (made_of builder.entry)) }
+    ensures sources { IfOk result (λ b. sources_under b ≡ sources_under builder.entry) }
+{
+    let mut builder = builder;
+    for sketch in sketches {
+        builder = with_sketch(builder, sketch, number)?;
+    }
+    Ok(builder)
+}
+
+/// The report with the texts of a proposal, if that begins at the help with a number.
+fn with_sketch<'s>(
+    builder: SafeBuilder<'s>,
+    sketch: &Sketch,
+    number: usize,
+) -> Result<SafeBuilder<'s>, AllocError>
+    ensures report { IfOk result (λ b. made_of b
+        ≡ more_helps (texts_at number (sketch.now ∷ [])) (made_of builder.entry)) }
+    ensures sources { IfOk result (λ b. sources_under b ≡ sources_under builder.entry) }
+{
+    if sketch.helps.start == number {
+        with_texts(builder, sketch.texts.as_slice())
+    } else {
+        Ok(builder)
+    }
+}
+
+/// The report with these texts as helps.
+fn with_texts<'s>(builder: SafeBuilder<'s>, texts: &[String]) -> Result<SafeBuilder<'s>, AllocError>
+    ensures report { IfOk result (λ b. made_of b ≡ more_helps
+        (map (λ text. visible_bytes Aside (string_bytes text)) texts.now) (made_of builder.entry)) }
+    ensures sources { IfOk result (λ b. sources_under b ≡ sources_under builder.entry) }
+{
+    let mut builder = builder;
+    for text in texts {
+        builder = builder.with_help(text.as_str())?;
+    }
+    Ok(builder)
+}
+
+/// The report with the help with a number, unless a proposal stands in its place.
+fn with_help<'s>(
+    alloc: Global,
+    builder: SafeBuilder<'s>,
+    sketches: &[Sketch],
+    number: usize,
+    help: &String,
+    width: usize,
+) -> Result<SafeBuilder<'s>, AllocError>
+    ensures report { IfOk result (λ b. made_of b ≡ more_helps
+        (own_text width sketches.now number help.now) (made_of builder.entry)) }
+    ensures sources { IfOk result (λ b. sources_under b ≡ sources_under builder.entry) }
+{
+    if is_covered(sketches, number) {
+        return Ok(builder);
+    }
+    let help = wrapped(alloc, help.as_str(), width)?;
+    builder.with_help(help.as_str())
+}
+
+/// Whether a proposal stands in the place of the help with a number.
+fn is_covered(sketches: &[Sketch], number: usize) -> bool
+    ensures { result ≡ list_any (covers number) sketches.now }
+{
+    sketches.iter().any(|sketch| sketch.helps.contains(&number))
 }
 
 /// Where a place begins, as `FILE:LINE:COLUMN`, and what is said of it.

@@ -24,6 +24,7 @@ use crate::asides::{spot_text, with_asides};
 use crate::fault::Fault;
 use crate::found::{FoundPlace, found_main, ordered_places};
 use crate::options::Style;
+use crate::proposed::sketches;
 use crate::shelf::Shelf;
 use crate::texts::line_texts;
 use ariadne::{CharSet, Color, Config, Label, ReportKind};
@@ -216,7 +217,9 @@ fn report_of<'s>(
         places.as_slice(),
     )?;
     let width = text_width(&builder, style.width)?;
-    Ok(with_asides(alloc, builder.with_width(width), shelf, told, width)?.finish())
+    let sketches = sketches(alloc, shelf, told.proposals.as_slice(), width)?;
+    let builder = builder.with_width(width);
+    Ok(with_asides(alloc, builder, shelf, told, sketches.as_slice(), width)?.finish())
 }
 
 /// How many columns the text of a line may take where a row of this report may take so many: those that

@@ -2,7 +2,7 @@
 
 ghost use Rattle.std.specs.Prelude.{◌≡◌, IfOk, OnOk};
 ghost use Rattle.ariadne_show.specs.Finding.{caret_at, is_first_held, is_held, IsNewFinder, IsOpened};
-ghost use Rattle.ariadne_show.specs.Finding.{IsPlaceSettled};
+ghost use Rattle.ariadne_show.specs.Finding.{AreChangedFound, IsPlaceSettled};
 ghost use Rattle.ariadne_show.specs.Read.{HaveSources};
 
 use crate::bounds::Bounds;
@@ -60,6 +60,23 @@ impl Finder {
         self.shelf
             .open(files, &search, places, told.quoted.as_slice())?;
         Ok(self.holds_first(told))
+    }
+
+    /// Has the files read that a diagnostic proposes to change, and gives its proposals the paths at which
+    /// they were found. On `Err` there was no memory.
+    pub fn find_changed<R: Files>(
+        &mut self,
+        files: &R,
+        told: &mut Diagnostic,
+    ) -> Result<(), AllocError>
+        requires { HaveSources self.old.shelf }
+        ensures { OnOk result (AreChangedFound told.old told.new self.old self.new) }
+    {
+        let search = self
+            .origin
+            .search(told.manifest.as_deref(), self.folders.as_slice());
+        self.shelf
+            .settle_files(files, &search, told.proposals.as_mut_slice())
     }
 
     /// Whether the file of the first place of a diagnostic is held.

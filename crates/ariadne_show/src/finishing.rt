@@ -71,7 +71,7 @@ impl<R: Files> Task<'_, R> {
     {
         let (mut told, behind) = block.finish();
         run.known.settle(self.alloc, &mut told)?;
-        self.show_one(run, &told, streams)?;
+        self.show_settled(run, told, streams)?;
         pass_behind(
             self.alloc,
             self.options,

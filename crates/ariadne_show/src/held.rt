@@ -3,11 +3,12 @@
 ghost use Rattle.std.specs.Prelude.{◌≡◌, ◌≤◌, chars, length, string_bytes, IfOk, IfSome};
 ghost use Rattle.ariadne_show.specs.Found.{caret_in, end_of, end_spot_in, mark_before, span_in};
 ghost use Rattle.ariadne_show.specs.Found.{caret_in_marks, char_at as char_in};
-ghost use Rattle.ariadne_show.specs.Found.{is_sure as is_sure_in, marked_in, own_span_in, spot_in, unit_in};
+ghost use Rattle.ariadne_show.specs.Found.{is_sure as is_sure_in, marked_in, own_span_in, spot_by, spot_in, unit_in};
+ghost use Rattle.ariadne_show.specs.Proposed.{span_of};
 ghost use Rattle.ariadne_show.specs.Read.{IsTextOf};
 
 use ariadne_columns::Columns;
-use ariadne_told::{End, Place, Spot, Unit};
+use ariadne_told::{Change, End, Place, Proposal, Spot, Unit};
 use std::alloc::{AllocError, Global};
 use std::ops::Range;
 
@@ -57,7 +58,7 @@ fn latin_text(alloc: Global, bytes: &[u8]) -> Result<String, AllocError>
     Ok(text)
 }
 
-/// A file that was read.
+/// A file that was read, or lines that are quoted of one.
 #[derive(Drop)]
 pub struct Held {
     /// The number of its source.
@@ -70,6 +71,8 @@ pub struct Held {
     pub has_mark: bool,
     /// How many of its lines stand above those that are held: none, where the file was read.
     pub above: usize,
+    /// Whether the file was read. Else it is held as it is quoted.
+    pub is_read: bool,
 }
 
 impl Held {
@@ -167,15 +170,34 @@ impl Held {
     }
 
     /// The offset of a spot of a place, which is at this column where it names none.
-    #[tactic(auto, unfolding(crate::specs::Found::spot_in))]
     fn offset(&self, place: &Place, spot: Spot, column: usize) -> Option<usize>
         ensures offset { result ≡ spot_in self.now place.now spot column }
         ensures bound { IfSome result (λ offset. offset ≤ length self.now.columns) }
     {
-        let mark = self.mark(place, spot.line);
+        self.spot(place.unit, place.is_past_mark, spot, column)
+    }
+
+    /// The characters that a change replaces, if the file has both of its ends.
+    #[tactic(auto, unfolding(crate::specs::Proposed::span_of))]
+    pub fn changed(&self, proposal: &Proposal, change: &Change) -> Option<Range<usize>>
+        ensures { result ≡ span_of self.now proposal.now change.now }
+    {
+        let start = self.spot(proposal.unit, proposal.is_past_mark, change.start, 1)?;
+        let end = self.spot(proposal.unit, proposal.is_past_mark, change.end, 1)?;
+        Some(start..end)
+    }
+
+    /// The offset of a spot, which is at this column where it names none. Columns count `unit`, and those
+    /// that are past the mark leave out a byte order mark.
+    #[tactic(auto, unfolding(crate::specs::Found::spot_by))]
+    fn spot(&self, unit: Unit, is_past_mark: bool, spot: Spot, column: usize) -> Option<usize>
+        ensures offset { result ≡ spot_by self.now unit is_past_mark spot column }
+        ensures bound { IfSome result (λ offset. offset ≤ length self.now.columns) }
+    {
+        let mark = self.mark(is_past_mark, spot.line);
         let column = spot.column.unwrap_or(column).saturating_add(mark);
         let line = spot.line.saturating_sub(self.above);
-        self.columns.offset(self.unit(place.unit), line, column)
+        self.columns.offset(self.unit(unit), line, column)
     }
 
     /// What columns count: characters in place of bytes, where the file is no UTF-8.
@@ -189,10 +211,10 @@ impl Held {
     }
 
     /// How many bytes of a byte order mark the columns of a line leave out.
-    fn mark(&self, place: &Place, line: usize) -> usize
-        ensures { result ≡ mark_before self.now place.now line }
+    fn mark(&self, is_past_mark: bool, line: usize) -> usize
+        ensures { result ≡ mark_before self.now is_past_mark line }
     {
-        if self.has_mark && place.is_past_mark && line == 1 {
+        if self.has_mark && is_past_mark && line == 1 {
             MARK.len()
         } else {
             0

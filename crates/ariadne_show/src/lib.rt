@@ -21,6 +21,7 @@ mod lines;
 pub mod located;
 pub mod options;
 pub mod pages;
+mod proposed;
 mod quoted;
 pub mod run;
 mod sending;

@@ -58,6 +58,7 @@ pub fn hold_quoted(
         is_utf8: true,
         has_mark: false,
         above: lines.above,
+        is_read: false,
     }))
 }
 

@@ -11,7 +11,8 @@ ghost use Rattle.ariadne_show.specs.Found.{files_of, held_at, read_in};
 ghost use Rattle.ariadne_show.specs.Located.{caret_in_line as caret_in_its_line};
 ghost use Rattle.ariadne_show.specs.Read.{is_read as is_read_in, sources_in, AreQuoted, HaveSearched};
 ghost use Rattle.ariadne_show.specs.Read.{HaveSources, HaveTried, AreOpened, IsHeldBehind};
-ghost use Rattle.ariadne_show.specs.Read.{AreQuotedIn, IsQuotedNow, IsSettledNow, IsTried};
+ghost use Rattle.ariadne_show.specs.Read.{AreFilesSettled, AreQuotedIn, IsFileSettledNow};
+ghost use Rattle.ariadne_show.specs.Read.{IsQuotedNow, IsSettledNow, IsTried};
 
 use crate::bounds::Bounds;
 use crate::held::{FileText, Held};
@@ -20,7 +21,7 @@ use ariadne_blocks::QuotedFile;
 use ariadne_columns::{Columns, Unit};
 use ariadne_safe::{LineEnds, SafeSource, SafeSources};
 use ariadne_search::{Search, candidates};
-use ariadne_told::{Place, QuotedLine};
+use ariadne_told::{Place, Proposal, QuotedLine};
 use std::alloc::{AllocError, Global};
 use std::collections::HashMap;
 use std::rt::Files;
@@ -174,6 +175,42 @@ impl Shelf {
         Ok(())
     }
 
+    /// Has the files of proposals read, and gives the proposals the paths at which they were found.
+    ///
+    /// On `Err` there was no memory.
+    pub fn settle_files<R: Files>(
+        &mut self,
+        files: &R,
+        search: &Search<'_>,
+        proposals: &mut [Proposal],
+    ) -> Result<(), AllocError>
+        requires { HaveSources self.old }
+        ensures { OnOk result
+            (AreFilesSettled search.now proposals.old proposals.new self.old self.new) }
+    {
+        for proposal in proposals.iter_mut() {
+            self.settle_file(files, search, proposal)?;
+        }
+        Ok(())
+    }
+
+    /// Has the file of a proposal read, and gives the proposal the path at which it was found.
+    fn settle_file<R: Files>(
+        &mut self,
+        files: &R,
+        search: &Search<'_>,
+        proposal: &mut Proposal,
+    ) -> Result<(), AllocError>
+        requires { HaveSources self.old }
+        ensures { OnOk result
+            (IsFileSettledNow search.now proposal.old proposal.new self.old self.new) }
+    {
+        if let Some(path) = self.find(files, search, proposal.file.as_str())? {
+            proposal.file = path;
+        }
+        Ok(())
+    }
+
     /// Holds what is quoted of the files of places that were not read, and nothing else that is quoted.
     fn quote(&mut self, places: &[Place], quoted: &[QuotedLine]) -> Result<(), AllocError>
         requires { HaveSources self.old }
@@ -240,5 +277,6 @@ fn hold(
         is_utf8: file.is_utf8,
         has_mark: file.has_mark,
         above: 0,
+        is_read: true,
     })
 }

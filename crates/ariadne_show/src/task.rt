@@ -2,6 +2,8 @@
 
 ghost use Rattle.std.specs.Prelude.{◌≡◌, OnOk};
 ghost use Rattle.ariadne_show.specs.Fronts.{bytes_in};
+ghost use Rattle.ariadne_show.specs.Read.{HaveSources};
+ghost use Rattle.ariadne_show.specs.Shown.{at_of, IsSettledShown};
 ghost use Rattle.ariadne_show.specs.Writing.{out_of, HasPassed, HavePassed, IsShownOnce};
 
 use crate::fault::Fault;
@@ -54,8 +56,25 @@ impl<R: Files> Task<'_, R> {
         pass_lines(self.alloc, self.options, lines, &mut run.shown, streams)
     }
 
+    /// Counts a diagnostic whose places were settled, and writes it, if that is asked for, over its files and
+    /// those that it proposes to change.
+    pub(crate) fn show_settled<W: Write, F: Write>(
+        &self,
+        run: &mut Run,
+        mut told: Diagnostic,
+        streams: &mut Streams<W, F>,
+    ) -> Result<(), Fault>
+        requires { HaveSources run.old.known.finder.shelf }
+        ensures shown { OnOk result (IsSettledShown self.now.options.now told
+            (at_of run.old streams.old) (at_of run.new streams.new)) }
+        ensures sources { OnOk result (HaveSources run.new.known.finder.shelf) }
+    {
+        run.known.finder.find_changed(self.files, &mut told)?;
+        self.show_one(run, &told, streams)
+    }
+
     /// Counts a diagnostic whose files were read, and writes it, if that is asked for.
-    pub(crate) fn show_one<W: Write, F: Write>(
+    fn show_one<W: Write, F: Write>(
         &self,
         run: &mut Run,
         told: &Diagnostic,

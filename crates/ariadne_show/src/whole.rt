@@ -62,6 +62,6 @@ impl<R: Files> Task<'_, R> {
     {
         run.known.finder.open(self.files, &mut told)?;
         drop_repeats(self.alloc, &mut told.places)?;
-        self.show_one(run, &told, streams)
+        self.show_settled(run, told, streams)
     }
 }

@@ -1,6 +1,8 @@
 //! Helps and notes in rows of so many columns.
 
 ghost use Rattle.std.specs.Prelude.{◌≡◌, ◌++◌, ◌∷◌, ℕ, List, string_bytes, IfOk, OnOk};
+ghost use Rattle.std.specs.List.{list_all};
+ghost use Rattle.ariadne_show.specs.Wrapped.{fits as fits_in, is_within};
 ghost use Rattle.ariadne_show.specs.Wrapped.{behind_words, in_one_line, lines_in, word_columns, wrapped_line, wrapped_lines};
 ghost use Rattle.ariadne_show.specs.Wrapped.{wrapped as wrapped_text};
 
@@ -93,6 +95,28 @@ fn push_word(
     rows.push('\n')?;
     rows.push_str(word)?;
     Ok(columns)
+}
+
+/// Whether each row of a text takes at most so many columns, with the name in front; 0 is any number.
+pub fn fits(alloc: Global, rows: &str, columns: usize) -> Result<bool, AllocError>
+    ensures { IfOk result (λ they_do. they_do ≡ fits_in columns rows.now) }
+{
+    if columns == 0 {
+        return Ok(true);
+    }
+    are_within(alloc, rows, columns.saturating_sub(NAME).max(1))
+}
+
+/// Whether each row of a text takes at most so many columns.
+fn are_within(alloc: Global, rows: &str, width: usize) -> Result<bool, AllocError>
+    ensures { IfOk result (λ they_are. they_are ≡ list_all (is_within width) (lines_in rows.now)) }
+{
+    for row in rows.split('\n') {
+        if columns_of(alloc, row)? > width {
+            return Ok(false);
+        }
+    }
+    Ok(true)
 }
 
 /// The columns of a word as it is shown. On `Err` there was no memory for that, or none holds so many.

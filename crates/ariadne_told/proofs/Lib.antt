@@ -1,4 +1,5 @@
 pub mod Characters
+pub mod Children
 pub mod Depths
 pub mod Handed
 pub mod Outcomes
@@ -7,3 +8,4 @@ pub mod Splits
 pub mod Suggests
 pub mod Texts
 pub mod Values
+pub mod Ways

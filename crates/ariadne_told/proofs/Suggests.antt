@@ -1,7 +1,6 @@
 -- What spans say, part by part.
-use Rattle.std.proofs.Common.{◌≡◌, ◌∙◌, ap, sym, subst, ℕ, ◌+◌, ◌<◌, ◌≤◌, List, [], ◌∷◌, ◌++◌, drop, length, get_or, append_assoc, Option, None, Some}
+use Rattle.std.proofs.Common.{◌≡◌, ◌∙◌, ap, sym, subst, ℕ, ◌+◌, ◌<◌, ◌≤◌, List, [], ◌∷◌, ◌++◌, drop, length, get_or, append_assoc, Option, None}
 use Rattle.std.proofs.lemmas.List.{append-nil, at_drop_all, at_drop_more}
-use Rattle.std.specs.Prelude.{IfSome}
 use Rattle.serde_json.specs.Data.{Items, item}
 use Rattle.serde_json.specs.View.{items_view, view}
 use Rattle.serde_json.specs.declared.value.Value.{Value}
@@ -42,9 +41,3 @@ pushed_part said joint words text bytes middle after e f g h =
     ∙ append_assoc said joint text
     ∙ ap (λ xs. said ++ (xs ++ text)) g
     ∙ ap (λ xs. said ++ (words ++ xs)) h
-
--- what holds of what is said holds of the text that it is
-pub said_by : {S : Type 0} (bytes : S → List ℕ) (P : List ℕ → Type 0) (r : Option S) (said : S)
-    → IfSome r (λ it. it ≡ said) → P (bytes said) → IfSome r (λ it. P (bytes it))
-said_by bytes P None said is holds = tt
-said_by bytes P (Some it) said is holds = subst P (sym (ap bytes is)) holds

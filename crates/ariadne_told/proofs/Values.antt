@@ -1,7 +1,7 @@
 -- Lists of values, and their items.
 use Rattle.std.proofs.Common.{◌≡◌, ap, refl, arith}
 use Rattle.std.proofs.lemmas.Bool.{ne_eqb}
-use Rattle.std.specs.Prelude.{◌<◌, ◌==◌, Bool, false, ◌&&◌, List, [], ◌∷◌, length}
+use Rattle.std.specs.Prelude.{◌<◌, ◌==◌, Bool, false, ◌&&◌, List, [], ◌∷◌, length, Option}
 use Rattle.std.specs.List.{list_all}
 use Rattle.serde_json.specs.Data.{Data}
 use Rattle.serde_json.specs.View.{items_view, view}
@@ -9,6 +9,7 @@ use Rattle.serde_json.specs.declared.value.Value.{Value}
 use Rattle.std.specs.List.{cons_option, filter_map}
 use Rattle.ariadne_told.specs.GccFixes.{change_of, changes_of}
 use Rattle.ariadne_told.specs.Members.{all_items, has_none}
+use Rattle.ariadne_told.specs.Proposed.{changes_by, Filed}
 use Rattle.ariadne_told.specs.Told.{is_gcc, is_gcc_list}
 
 -- items pass where their values do
@@ -37,3 +38,9 @@ gcc_some (v ∷ values) some = ap (λ b. is_gcc (view v) && b) (all_view is_gcc 
 pub changes_past : (fixes : List Value) → changes_of (items_view fixes) ≡ filter_map (λ v. change_of (view v)) fixes
 changes_past [] = refl
 changes_past (v ∷ fixes) = ap (λ changes. cons_option (change_of (view v)) changes) (changes_past fixes)
+
+-- the changes that values tell grow by that of the next one
+pub changes_by_values : (change : Data → Option Filed) (values : List Value)
+    → changes_by change (items_view values) ≡ filter_map (λ v. change (view v)) values
+changes_by_values change [] = refl
+changes_by_values change (v ∷ values) = ap (λ changes. cons_option (change (view v)) changes) (changes_by_values change values)

@@ -1,7 +1,7 @@
 -- Rows that tell programs what to put where, as clang and gcc write them with -fdiagnostics-parseable-fixits:
 -- fix-it:"FILE":{LINE:COLUMN-LINE:COLUMN}:"TEXT". Columns count bytes from 1, and the second place is that behind
 -- what is replaced. 34 is `"`, and 58 `:`.
-use Rattle.std.specs.Prelude.{ℕ, List, codes, Option, Some, None, option_and_then, option_map}
+use Rattle.std.specs.Prelude.{ℕ, List, codes, Option, option_and_then, option_map}
 use Rattle.ariadne_told.specs.Heads.{range_in}
 use Rattle.ariadne_told.specs.Pieces.{behind, behind_text, in_front_of, split_once}
 use Rattle.ariadne_told.specs.declared.diagnostic.Spot.{Spot}

@@ -2,7 +2,7 @@
 use Rattle.std.specs.Prelude.{ℕ, ◌==◌, if◌then◌else◌, List, [], ◌∷◌, ◌++◌, length, map, codes, decimal}
 use Rattle.std.specs.List.{concat}
 use Rattle.std.specs.Prelude.{Option, Some, None, unwrap_or}
-use Rattle.ariadne_told.specs.Told.{is_same_spot}
+use Rattle.ariadne_told.specs.Places.{is_same_spot}
 use Rattle.ariadne_told.specs.declared.diagnostic.Spot.{Spot}
 use Rattle.ariadne_told.specs.declared.fixes.Covered.{Covered}
 use Rattle.ariadne_told.specs.declared.fixes.Covered.TheVariants.{Unnamed, Text, UpTo}

@@ -8,7 +8,7 @@ use Rattle.serde_json.specs.Data.{Data, Items, no_items, item}
 use Rattle.ariadne_told.specs.Fixes.{change_words, line_words, reasoned}
 use Rattle.ariadne_told.specs.Members.{gcc_spot_at, items_in, list_at, text_at, words_at}
 use Rattle.ariadne_told.specs.Pieces.{in_front_of}
-use Rattle.ariadne_told.specs.Told.{is_same_spot}
+use Rattle.ariadne_told.specs.Places.{is_same_spot}
 use Rattle.ariadne_told.specs.declared.diagnostic.Spot.{Spot}
 use Rattle.ariadne_told.specs.declared.fixes.Covered.TheVariants.{Unnamed}
 

@@ -11,6 +11,7 @@ pub mod Members
 pub mod Noted
 pub mod Pieces
 pub mod Places
+pub mod Proposed
 pub mod Sent
 pub mod Severities
 pub mod Sgr

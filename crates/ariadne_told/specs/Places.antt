@@ -1,10 +1,14 @@
 -- Places of a diagnostic, with their texts in place of what holds these.
-use Rattle.std.specs.Prelude.{ℕ, pos, Bool, false, List, [], Option, None, string_bytes}
+use Rattle.std.specs.Prelude.{ℕ, ◌==◌, pos, Bool, false, ◌&&◌, List, [], Option, None, string_bytes, unwrap_or}
 use Rattle.ariadne_columns.specs.declared.unit.Unit.{Unit}
 use Rattle.ariadne_told.specs.declared.diagnostic.End.{End}
 use Rattle.ariadne_told.specs.declared.diagnostic.Look.{Look}
 use Rattle.ariadne_told.specs.declared.diagnostic.Place.{Place}
 use Rattle.ariadne_told.specs.declared.diagnostic.Spot.{Spot}
+
+-- two spots are the same
+abbrev pub is_same_spot : Spot → Spot → Bool
+is_same_spot a b = a.line == b.line && unwrap_or a.column 0 == unwrap_or b.column 0
 
 -- a place as it is read: its texts, and not what holds them
 pub record Seen : Type 0 where

@@ -5,9 +5,9 @@ use Rattle.std.specs.Prelude.{ℕ, ◌≡◌, ◌<◌, ◌==◌, Bool, true, fal
 use Rattle.std.specs.Prelude.{if◌then◌else◌}
 use Rattle.std.specs.Prelude.{List, [], ◌∷◌, codes, map, slice_index}
 use Rattle.std.specs.Prelude.{Option, Some, None, is_some, option_and_then, option_map}
-use Rattle.std.specs.Prelude.{length, slice_get, Vec, string_bytes}
+use Rattle.std.specs.Prelude.{length, slice_get, Vec, string_bytes, vec_len}
 use Rattle.std.specs.List.{ends_with, filter, find}
-use Rattle.std.specs.Option.{option_or, unwrap_or}
+use Rattle.std.specs.Option.{option_or}
 use Rattle.std.specs.declared.alloc.Global.{Global}
 use Rattle.std.specs.Str.{bytes_eq}
 use Rattle.serde_json.specs.Data.{Data, Items, no_items, item}
@@ -18,7 +18,8 @@ use Rattle.ariadne_columns.specs.declared.unit.Unit.{Unit}
 use Rattle.ariadne_columns.specs.declared.unit.Unit.TheVariants.{Char}
 use Rattle.ariadne_told.specs.Heads.{head_of_line, is_among, ranges_in, Head}
 use Rattle.ariadne_told.specs.Members.{all_items, items_in, list_at, number_of, text_at, IsOfReport, IsOfRustc}
-use Rattle.ariadne_told.specs.Places.{place_of, seen, Seen}
+use Rattle.ariadne_told.specs.Places.{is_same_spot, place_of, seen, Seen}
+use Rattle.ariadne_told.specs.Proposed.{AreProposedBeside}
 use Rattle.ariadne_told.specs.Sent.{IsHeldNow, WasSent}
 use Rattle.ariadne_told.specs.Severities.{severity_of}
 use Rattle.ariadne_told.specs.declared.diagnostic.Diagnostic.{Diagnostic}
@@ -194,10 +195,6 @@ own_place_of head unit =
       is_primary = true;
     }
 
--- two spots are the same
-abbrev pub is_same_spot : Spot → Spot → Bool
-is_same_spot a b = a.line == b.line && unwrap_or a.column 0 == unwrap_or b.column 0
-
 -- a range is its own
 abbrev pub is_own_range : Option (Spot × Spot) → Spot × Spot → Bool
 is_own_range None range = false
@@ -229,6 +226,7 @@ pub record IsOfHead (unit : Unit) (head : Head) (told : Diagnostic) : Type 0 whe
       ≡ own_place_of head unit ∷ other_places head unit
   pub notes : told.notes.items ≡ []
   pub helps : told.helps.items ≡ []
+  pub proposals : told.proposals.items ≡ []
   pub is_counted : told.is_sum ≡ false
 
 -- a note about the diagnostic in front is named so, and has no code of its own; or its message goes on with
@@ -259,10 +257,14 @@ IsHeldIfAny (Some message) first last = IsHeldNow first last message
 abbrev pub IsAlone : (Diagnostic → Type 0) → List Diagnostic → Type 0
 IsAlone is all = (one : Diagnostic) × (all ≡ one ∷ []) × is one
 
+-- a diagnostic is what a value of rustc's tells, and proposes what the value's children do
+abbrev pub IsToldByRustc : Data → Diagnostic → Type 0
+IsToldByRustc d told = IsOfRustc d told × AreProposedBeside d (vec_len told.helps) told.proposals.items
+
 -- diagnostics that a value tells: that of rustc's which it is or hands on, one at least where it is a list of
 -- gcc's, or that of a report
 pub data AreTold (d : Data) (all : List Diagnostic) : Type 0 where
-  of_rustc : (message : Data) → rustc_in d ≡ Some message → IsAlone (IsOfRustc message) all → AreTold d all
+  of_rustc : (message : Data) → rustc_in d ≡ Some message → IsAlone (IsToldByRustc message) all → AreTold d all
   of_gcc : tells_gcc d ≡ true → 0 < length all → AreTold d all
   of_report : is_report d ≡ true → IsAlone (IsOfReport d) all → AreTold d all
 

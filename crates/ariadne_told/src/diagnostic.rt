@@ -10,6 +10,7 @@ use crate::names::{is_error, is_note, is_warning};
 use ariadne_color::Color;
 use ariadne_columns::Unit;
 use std::alloc::{AllocError, Global};
+use std::ops::Range;
 
 /// How bad a diagnostic is.
 #[derive(Clone, Copy, Debug, PartialEq, Eq)]
@@ -119,6 +120,34 @@ pub struct QuotedLine {
     pub text: String,
 }
 
+/// A piece of a file, and the text that is put in its place.
+#[derive(Debug, Drop)]
+pub struct Change {
+    /// Where the piece begins.
+    pub start: Spot,
+    /// Where it ends: in front of this. It is `start` for an insertion.
+    pub end: Spot,
+    /// The text put there.
+    pub put_in: String,
+}
+
+/// The changes that a tool proposes, in one or several ways, each a list of changes of one file.
+#[derive(Debug, Drop)]
+pub struct Proposal {
+    /// The helps that say the same in words: from the first to before the last, by their numbers from 0.
+    pub helps: Range<usize>,
+    /// Why: what the tool says beside; nothing if it is empty.
+    pub why: String,
+    /// The file's path, as the tool wrote it.
+    pub file: String,
+    /// What the columns of its changes count.
+    pub unit: Unit,
+    /// Whether they leave out a byte order mark at the start of the file.
+    pub is_past_mark: bool,
+    /// The ways: of each, its changes in the tool's order.
+    pub ways: Vec<Vec<Change>>,
+}
+
 /// What a tool tells.
 #[derive(Debug, Drop)]
 pub struct Diagnostic {
@@ -136,6 +165,8 @@ pub struct Diagnostic {
     pub notes: Vec<String>,
     /// What it proposes.
     pub helps: Vec<String>,
+    /// What it proposes, as changes of files.
+    pub proposals: Vec<Proposal>,
     /// The lines of files that it quotes.
     pub quoted: Vec<QuotedLine>,
     /// The path of the manifest of the package that it is about, where cargo hands it on.
@@ -154,6 +185,7 @@ impl Diagnostic {
         ensures places { IfOk result (λ told. told.places.items ≡ []) }
         ensures notes { IfOk result (λ told. told.notes.items ≡ []) }
         ensures helps { IfOk result (λ told. told.helps.items ≡ []) }
+        ensures proposals { IfOk result (λ told. told.proposals.items ≡ []) }
         ensures counted { IfOk result (λ told. told.is_sum ≡ false) }
     {
         Ok(Diagnostic {
@@ -164,6 +196,7 @@ impl Diagnostic {
             places: Vec::new(alloc),
             notes: Vec::new(alloc),
             helps: Vec::new(alloc),
+            proposals: Vec::new(alloc),
             quoted: Vec::new(alloc),
             manifest: None,
             is_sum: false,

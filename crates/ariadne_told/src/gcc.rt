@@ -1,17 +1,20 @@
 //! Diagnostics of `gcc -fdiagnostics-format=json`: one line of text with a list of them.
 
-ghost use Rattle.std.specs.Prelude.{◌≡◌, ◌++◌, ◌<◌, is_some, length, map, option_map, string_bytes, true};
+ghost use Rattle.std.specs.Prelude.{◌≡◌, ◌++◌, ◌<◌, [], is_some, length, map, option_map, string_bytes, true};
 ghost use Rattle.std.specs.Prelude.{vec_len, IfOk, IfSome, OnOk};
 ghost use Rattle.std.specs.List.{list_all};
+ghost use Rattle.std.specs.Option.{option_to_list};
 ghost use Rattle.serde_json.specs.View.{items_view, view};
 ghost use Rattle.ariadne_told.specs.GccFixes as fixes;
 ghost use Rattle.ariadne_told.specs.Told.{is_gcc, is_gcc_list, tells_gcc};
 ghost use Rattle.ariadne_told.specs.Members.{gcc_end, gcc_place, gcc_spot, gcc_spot_at, is_gcc_more, is_gcc_note};
 ghost use Rattle.ariadne_told.specs.Members.{IsOfGcc};
 ghost use Rattle.ariadne_told.specs.Places.{seen};
+ghost use Rattle.ariadne_told.specs.Proposed.{fixits_of, gcc_note_proposed, gcc_proposed, proposed};
 
 use crate::diagnostic::{Diagnostic, End, Place, Severity, Spot};
 use crate::fixes::{Covered, change_text, line_text, push_reasoned};
+use crate::fixits::proposal;
 use crate::heads::{is_same, place};
 use crate::json::{copied_text, has_words, items, number, severity as severity_of, text, words};
 use crate::pieces::{begins_with, in_front_of};
@@ -119,13 +122,36 @@ fn told_by_item(alloc: Global, value: &Value) -> Result<Diagnostic, AllocError>
     ensures told { IfOk result (λ told. IsOfGcc (view value.now) told) }
     ensures helps { IfOk result (λ told.
         map string_bytes told.helps.items ≡ fixes.gcc_changes (view value.now)) }
+    ensures proposals { IfOk result (λ told. map proposed told.proposals.items
+        ≡ option_to_list (gcc_proposed (0, vec_len told.helps) [] (fixits_of (view value.now)))) }
 {
     let mut told = Diagnostic::new(alloc, severity_of(value, "kind"), words(value, "message"))?;
     told.code = copied_text(alloc, value, "option")?;
     push_locations(alloc, &mut told.places, items(value, "locations"))?;
     push_events(alloc, &mut told.places, &mut told.notes, value)?;
-    told.helps = changes_in(alloc, items(value, "fixits"))?;
+    let fixits = items(value, "fixits");
+    told.helps = changes_in(alloc, fixits)?;
+    push_proposal(alloc, &mut told, 0, "", fixits)?;
     Ok(told)
+}
+
+/// Adds what fix-its propose, which the helps from the one with this number on say.
+fn push_proposal(
+    alloc: Global,
+    told: &mut Diagnostic,
+    first: usize,
+    why: &str,
+    fixits: &[Value],
+) -> Result<(), AllocError>
+    ensures proposals { OnOk result (map proposed told.new.proposals.items
+        ≡ map proposed told.old.proposals.items
+        ++ option_to_list (gcc_proposed (first, vec_len told.old.helps) why.now (items_view fixits.now))) }
+    ensures others { OnOk result (told.new ≡ record told.old { proposals = told.new.proposals }) }
+{
+    if let Some(it) = proposal(alloc, first..told.helps.len(), why, fixits)? {
+        told.proposals.push(it)?;
+    }
+    Ok(())
 }
 
 /// Adds the places of a diagnostic's locations: it is about the first.
@@ -202,13 +228,19 @@ fn event_place(alloc: Global, event: &Value) -> Result<Option<Place>, AllocError
 /// Adds a note: as the label of its first place, if that is elsewhere and has none of its own. What it says is to
 /// be changed is a help, which says why, as the note does.
 fn push_note(alloc: Global, told: &mut Diagnostic, value: &Value) -> Result<(), AllocError>
-    ensures { OnOk result (map string_bytes told.new.helps.items
+    ensures helps { OnOk result (map string_bytes told.new.helps.items
         ≡ map string_bytes told.old.helps.items ++ fixes.gcc_note_helps (view value.now)) }
+    ensures proposals { OnOk result (map proposed told.new.proposals.items
+        ≡ map proposed told.old.proposals.items ++ option_to_list (gcc_note_proposed
+        (vec_len told.old.helps, vec_len told.new.helps) (view value.now))) }
 {
     let message = words(value, "message").trim_start();
     push_noted(alloc, told, items(value, "locations"), message)?;
-    let changes = changes_in(alloc, items(value, "fixits"))?;
-    push_reasoned(alloc, &mut told.helps, message, changes)
+    let fixits = items(value, "fixits");
+    let first = told.helps.len();
+    let changes = changes_in(alloc, fixits)?;
+    push_reasoned(alloc, &mut told.helps, message, changes)?;
+    push_proposal(alloc, told, first, message, fixits)
 }
 
 /// Adds what a note says, and its places.
@@ -218,7 +250,8 @@ fn push_noted(
     locations: &[Value],
     message: &str,
 ) -> Result<(), AllocError>
-    ensures { OnOk result (told.new.helps ≡ told.old.helps) }
+    ensures helps { OnOk result (told.new.helps ≡ told.old.helps) }
+    ensures proposals { OnOk result (told.new.proposals ≡ told.old.proposals) }
 {
     let is_label = locations.first().is_some_and(|it| {
         is_elsewhere(told.places.as_slice(), it) && text(it, "label").is_none()
@@ -275,7 +308,7 @@ fn spot(value: &Value) -> Option<Spot>
 }
 
 /// A spot that is a member of a location.
-fn spot_of(location: &Value, name: &str) -> Option<Spot>
+pub(crate) fn spot_of(location: &Value, name: &str) -> Option<Spot>
     ensures { result ≡ gcc_spot_at name.now (view location.now) }
 {
     spot(location.get(name)?)

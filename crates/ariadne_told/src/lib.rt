@@ -8,6 +8,7 @@ mod colors;
 pub mod diagnostic;
 pub mod fix_rows;
 mod fixes;
+mod fixits;
 pub mod fronts;
 mod gcc;
 mod heads;
@@ -17,6 +18,7 @@ pub mod lines;
 mod names;
 mod noted;
 mod pieces;
+mod proposals;
 mod report;
 mod rustc;
 pub mod sent;
@@ -28,7 +30,9 @@ pub mod telling;
 
 pub use ariadne_columns::Unit;
 pub use arrows::{Arrow, BareHead, arrow_of, bare_head_of};
-pub use diagnostic::{Diagnostic, End, Look, OwnKind, Place, QuotedLine, Severity, Spot};
+pub use diagnostic::{
+    Change, Diagnostic, End, Look, OwnKind, Place, Proposal, QuotedLine, Severity, Spot,
+};
 pub use fix_rows::{FixRow, fix_row_of};
 pub use fronts::{Front, front_of, is_scope_line};
 pub use lines::code_in;

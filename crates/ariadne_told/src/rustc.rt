@@ -1,21 +1,26 @@
 //! Diagnostics of `rustc --error-format=json`, and of `cargo --message-format=json`.
 
-ghost use Rattle.std.specs.Prelude.{◌≡◌, is_some, option_map, string_bytes, IfOk};
+ghost use Rattle.std.specs.Prelude.{◌≡◌, ◌≤◌, ◌+◌, ◌++◌, is_some, map, option_map, string_bytes, vec_len};
+ghost use Rattle.std.specs.Prelude.{IfOk, OnOk};
+ghost use Rattle.std.specs.Option.{option_to_list};
 ghost use Rattle.serde_json.specs.View.{items_view, view};
 ghost use Rattle.ariadne_told.specs.Members.{has_none, is_rustc_sum, is_sum_by as sums_up, rustc_code, rustc_end};
 ghost use Rattle.ariadne_told.specs.Members.{rustc_place, spot_at, IsOfRustc};
 ghost use Rattle.ariadne_told.specs.Places.{seen};
+ghost use Rattle.ariadne_told.specs.Proposed.{filed, proposed, rustc_changes, rustc_proposed, rustc_proposed_by};
+ghost use Rattle.ariadne_told.specs.Proposed.{AddsHelps, AreProposedBeside};
 ghost use Rattle.ariadne_told.specs.Told.{is_rustc as is_of_rustc, rustc_in};
 
-use crate::diagnostic::{Diagnostic, End, Place, QuotedLine, Spot};
+use crate::diagnostic::{Diagnostic, End, Place, Proposal, QuotedLine, Spot};
 use crate::heads::place;
 use crate::json::{
     copied_text, has_list, has_words, is_true, items, number, severity, text, words,
 };
 use crate::noted::{named_place, push_row};
 use crate::pieces::{begins_with, closes_with};
+use crate::proposals::FileChange;
 use crate::spots::is_among;
-use crate::suggested::{end_of, quoted_text, start_of, suggestion};
+use crate::suggested::{changes_of, end_of, proposal, quoted_text, start_of, suggestion};
 use ariadne_columns::Unit;
 use serde_json::Value;
 use std::alloc::{AllocError, Global};
@@ -47,17 +52,26 @@ fn is_rustc(value: &Value) -> bool
     text(value, "message").is_some() && text(value, "level").is_some() && has_list(value, "spans")
 }
 
-/// What rustc says of its places, and beside its message.
+/// What rustc shows of files.
 #[derive(Drop)]
-struct Beside {
+struct Shown {
     /// The places.
     places: Vec<Place>,
     /// The lines of files that it quotes.
     quoted: Vec<QuotedLine>,
+}
+
+/// What rustc says of its places, and beside its message.
+#[derive(Drop)]
+struct Beside {
+    /// What it shows.
+    shown: Shown,
     /// Its notes.
     notes: Vec<String>,
     /// Its helps.
     helps: Vec<String>,
+    /// What it proposes, as changes of files.
+    proposals: Vec<Proposal>,
 }
 
 /// The diagnostic of a value that is one, about a package of which this is the manifest.
@@ -66,23 +80,26 @@ pub(crate) fn told_by_rustc(
     value: &Value,
     manifest: Option<String>,
 ) -> Result<Diagnostic, AllocError>
-    ensures { IfOk result (λ told. IsOfRustc (view value.now) told) }
+    ensures told { IfOk result (λ told. IsOfRustc (view value.now) told) }
+    ensures proposals { IfOk result (λ told.
+        AreProposedBeside (view value.now) (vec_len told.helps) told.proposals.items) }
 {
     let Beside {
-        places,
-        quoted,
+        shown,
         notes,
         helps,
+        proposals,
     } = said_beside(alloc, value)?;
     Ok(Diagnostic {
         severity: severity(value, "level"),
         own_kind: None,
         code: code(alloc, value)?,
         message: String::from_str(alloc, words(value, "message"))?,
-        places,
+        places: shown.places,
         notes,
         helps,
-        quoted,
+        proposals,
+        quoted: shown.quoted,
         manifest,
         is_sum: is_sum(value),
     })
@@ -99,26 +116,33 @@ fn code(alloc: Global, value: &Value) -> Result<Option<String>, AllocError>
 }
 
 /// What rustc says beside the message of a diagnostic.
-fn said_beside(alloc: Global, value: &Value) -> Result<Beside, AllocError> {
+fn said_beside(alloc: Global, value: &Value) -> Result<Beside, AllocError>
+    ensures { IfOk result (λ told.
+        AreProposedBeside (view value.now) (vec_len told.helps) told.proposals.items) }
+{
     let mut told = Beside {
-        places: Vec::new(alloc),
-        quoted: Vec::new(alloc),
+        shown: Shown {
+            places: Vec::new(alloc),
+            quoted: Vec::new(alloc),
+        },
         notes: Vec::new(alloc),
         helps: Vec::new(alloc),
+        proposals: Vec::new(alloc),
     };
-    push_spans(alloc, &mut told, items(value, "spans"))?;
-    for child in items(value, "children") {
+    push_spans(alloc, &mut told.shown, items(value, "spans"))?;
+    let children = items(value, "children");
+    for child in children {
         push_child(alloc, &mut told, child)?;
     }
     Ok(told)
 }
 
 /// Adds the places of spans, and those of the macro calls that made them.
-fn push_spans(alloc: Global, told: &mut Beside, spans: &[Value]) -> Result<(), AllocError> {
+fn push_spans(alloc: Global, shown: &mut Shown, spans: &[Value]) -> Result<(), AllocError> {
     for span in spans.iter().filter(|span| !is_dummy(span)) {
         let own_text = words(span, "label");
-        push_place(alloc, told, span, own_text, is_true(span, "is_primary"))?;
-        push_macro_call(alloc, told, span)?;
+        push_place(alloc, shown, span, own_text, is_true(span, "is_primary"))?;
+        push_macro_call(alloc, shown, span)?;
     }
     Ok(())
 }
@@ -205,7 +229,7 @@ fn end(span: &Value) -> End
 /// Adds the place of a span, and what is said of it.
 fn push_place(
     alloc: Global,
-    told: &mut Beside,
+    shown: &mut Shown,
     span: &Value,
     said: &str,
     is_primary: bool,
@@ -216,12 +240,12 @@ fn push_place(
     };
     push_quoted(
         alloc,
-        &mut told.quoted,
+        &mut shown.quoted,
         place.file.as_str(),
         place.start.line,
         items(own, "text"),
     )?;
-    told.places.push(place)?;
+    shown.places.push(place)?;
     Ok(())
 }
 
@@ -269,11 +293,11 @@ fn push_quoted(
 
 /// Adds the place of the outermost macro call that a span of the user's was made by, where it isn't a part of
 /// that.
-fn push_macro_call(alloc: Global, told: &mut Beside, span: &Value) -> Result<(), AllocError> {
+fn push_macro_call(alloc: Global, shown: &mut Shown, span: &Value) -> Result<(), AllocError> {
     let own = own_span(span);
     match macro_call(own) {
         Some(call) if is_own(own) && is_own(call) && !is_part(own, call) => {
-            push_place(alloc, told, call, "in this macro invocation", false)
+            push_place(alloc, shown, call, "in this macro invocation", false)
         }
         _ => Ok(()),
     }
@@ -311,14 +335,57 @@ fn is_by_macro(span: &Value) -> bool {
 
 /// Adds a note or a help: with what it puts in, or as labels where its places can be shown, and else as a
 /// text.
-fn push_child(alloc: Global, told: &mut Beside, child: &Value) -> Result<(), AllocError> {
+fn push_child(alloc: Global, told: &mut Beside, child: &Value) -> Result<(), AllocError>
+    ensures proposals { OnOk result (map proposed told.new.proposals.items
+        ≡ map proposed told.old.proposals.items
+        ++ option_to_list (rustc_proposed (vec_len told.old.helps) (view child.now))) }
+    ensures helps { OnOk result
+        (AddsHelps (vec_len told.old.helps) (rustc_changes (view child.now)) (vec_len told.new.helps)) }
+{
+    let spans = items(child, "spans");
+    let changes = changes_of(alloc, spans)?;
+    if changes.is_empty() {
+        return push_noted(alloc, told, child);
+    }
+    push_suggestion(
+        alloc,
+        told,
+        words(child, "message"),
+        spans,
+        changes.as_slice(),
+    )
+}
+
+/// Adds the help of a child whose spans put something in, and these changes as what it proposes.
+fn push_suggestion(
+    alloc: Global,
+    told: &mut Beside,
+    message: &str,
+    spans: &[Value],
+    changes: &[FileChange<'_>],
+) -> Result<(), AllocError>
+    ensures proposals { OnOk result (map proposed told.new.proposals.items
+        ≡ map proposed told.old.proposals.items ++ option_to_list (rustc_proposed_by
+        (vec_len told.old.helps, vec_len told.old.helps + 1) message.now (map filed changes.now))) }
+    ensures helps { OnOk result (vec_len told.new.helps ≡ vec_len told.old.helps + 1) }
+{
+    let first = told.helps.len();
+    let put_in = suggestion(alloc, spans)?;
+    told.helps.push(format!(in alloc; "{message}: {put_in}")?)?;
+    if let Some(it) = proposal(alloc, first..told.helps.len(), message, changes)? {
+        told.proposals.push(it)?;
+    }
+    Ok(())
+}
+
+/// Adds a child that puts nothing in: as labels where its places can be shown, and else as a text.
+fn push_noted(alloc: Global, told: &mut Beside, child: &Value) -> Result<(), AllocError>
+    ensures proposals { OnOk result (told.new.proposals ≡ told.old.proposals) }
+    ensures helps { OnOk result (vec_len told.old.helps ≤ vec_len told.new.helps) }
+{
     let message = words(child, "message");
     let spans = items(child, "spans");
-    if let Some(put_in) = suggestion(alloc, spans)? {
-        told.helps.push(format!(in alloc; "{message}: {put_in}")?)?;
-        return Ok(());
-    }
-    push_noted_places(alloc, told, spans, message)?;
+    push_noted_places(alloc, &mut told.shown, spans, message)?;
     let said = noted_text(alloc, spans, message)?;
     if !spans.is_empty() && said.is_empty() {
         return Ok(());
@@ -335,7 +402,7 @@ fn push_child(alloc: Global, told: &mut Beside, child: &Value) -> Result<(), All
 /// themselves.
 fn push_noted_places(
     alloc: Global,
-    told: &mut Beside,
+    shown: &mut Shown,
     spans: &[Value],
     message: &str,
 ) -> Result<(), AllocError> {
@@ -345,7 +412,7 @@ fn push_noted_places(
             None if is_true(span, "is_primary") => message,
             None => "",
         };
-        push_place(alloc, told, span, said, false)?;
+        push_place(alloc, shown, span, said, false)?;
     }
     Ok(())
 }

@@ -1,45 +1,94 @@
 //! What rustc's JSON suggests: spans that say what is to be put where.
 
-ghost use Rattle.std.specs.Prelude.{◌≡◌, ◌++◌, [], length, string_bytes, take, IfOk, IfSome, List, None, OnOk, ℕ};
+ghost use Rattle.std.specs.Prelude.{◌≡◌, ◌++◌, length, map, option_map, string_bytes, take};
+ghost use Rattle.std.specs.Prelude.{IfOk, IfSome, List, None, OnOk, ℕ};
 ghost use Rattle.std.specs.Str.{trim_end};
 ghost use Rattle.serde_json.specs.View.{items_view, view};
 ghost use Rattle.ariadne_told.specs.Fixes.{joint_words};
 ghost use Rattle.ariadne_told.specs.Members.{span_end, span_start};
+ghost use Rattle.ariadne_told.specs.Proposed.{changes_by, filed, proposed, rustc_change, rustc_proposed_by};
 ghost use Rattle.ariadne_told.specs.Suggested as suggested;
 ghost use Rattle.ariadne_told.specs.Suggested.{behind_chars, chars_before, front_chars, from_span, quoted_line};
 ghost use Rattle.ariadne_told.specs.Suggested.{AddsPart, IsCovered, SayParts, SaysPart};
 
-use crate::diagnostic::Spot;
+use crate::diagnostic::{Proposal, Spot};
 use crate::fixes::{Covered, change_text, line_text};
 use crate::heads::is_same;
 use crate::json::{items, number, text, words};
 use crate::pieces::{in_front_of_text, split_once};
+use crate::proposals::{FileChange, one_file, ways_of};
+use ariadne_columns::Unit;
 use serde_json::Value;
 use std::alloc::{AllocError, Global};
+use std::ops::Range;
 
-/// What is to be put in at each of these spans, if anything is: each suggestion is a row of its own.
+/// What is to be put in at each of these spans: each suggestion is a row of its own.
 ///
 /// rustc lists the parts of all suggestions of a help one behind the other. A part that begins where the
 /// first one does begins another suggestion.
-pub(crate) fn suggestion(alloc: Global, spans: &[Value]) -> Result<Option<String>, AllocError>
-    ensures said { IfOk result (λ said. IfSome said (λ text.
-        SayParts None (items_view spans.now) (string_bytes text))) }
-    ensures none { IfOk result (λ said. said ≡ None → SayParts None (items_view spans.now) []) }
+pub(crate) fn suggestion(alloc: Global, spans: &[Value]) -> Result<String, AllocError>
+    ensures { IfOk result (λ text. SayParts None (items_view spans.now) (string_bytes text)) }
 {
     let mut said = String::new(alloc);
     let mut first = None;
     for span in spans {
         push_part(alloc, &mut said, &mut first, span)?;
     }
-    Ok(unless_empty(said))
+    Ok(said)
 }
 
-/// A text, if it is not empty.
-fn unless_empty(text: String) -> Option<String>
-    ensures some { IfSome result (λ it. it ≡ text) }
-    ensures none { result ≡ None → string_bytes text ≡ [] }
+/// What suggestions propose that these helps say, if they are all of one file: each is a way.
+pub(crate) fn proposal(
+    alloc: Global,
+    helps: Range<usize>,
+    why: &str,
+    changes: &[FileChange<'_>],
+) -> Result<Option<Proposal>, AllocError>
+    ensures { IfOk result (λ it. option_map proposed it
+        ≡ rustc_proposed_by (helps.start, helps.end) why.now (map filed changes.now)) }
 {
-    if text.is_empty() { None } else { Some(text) }
+    let Some(file) = one_file(changes) else {
+        return Ok(None);
+    };
+    Ok(Some(Proposal {
+        helps,
+        why: String::from_str(alloc, why)?,
+        file: String::from_str(alloc, file)?,
+        unit: Unit::Char,
+        is_past_mark: false,
+        ways: ways_of(alloc, changes)?,
+    }))
+}
+
+/// The changes that spans suggest.
+#[tactic(auto, using(crate::proofs::Values::changes_by_values))]
+pub(crate) fn changes_of<'a>(
+    alloc: Global,
+    spans: &'a [Value],
+) -> Result<Vec<FileChange<'a>>, AllocError>
+    ensures { IfOk result (λ changes.
+        map filed changes.items ≡ changes_by rustc_change (items_view spans.now)) }
+{
+    let mut changes = Vec::new(alloc);
+    for span in spans {
+        if let Some(change) = change_of(span) {
+            changes.push(change)?;
+        }
+    }
+    Ok(changes)
+}
+
+/// The change that a span suggests, if it does.
+fn change_of(span: &Value) -> Option<FileChange<'_>>
+    ensures { option_map filed result ≡ rustc_change (view span.now) }
+{
+    let put_in = text(span, "suggested_replacement")?;
+    Some(FileChange {
+        file: words(span, "file_name"),
+        start: start_of(span),
+        end: end_of(span),
+        put_in,
+    })
 }
 
 /// Has what is said go on with what a span says, if that puts in a text. The first such span began here, if there was

@@ -1,33 +1,31 @@
-use Rattle.std.proofs.Common.{◌≡◌, ◌∙◌, ◌+◌, ◌++◌, ◌∷◌, [], List, ap, refl, sym, take}
-use Rattle.std.proofs.lemmas.List.{take_more}
-use Rattle.std.specs.Prelude.{ℕ}
+use Rattle.std.proofs.Common.{◌≡◌, ◌∙◌, ◌+◌, ◌∷◌, add-one, ap, drop, drop-cons, refl, sym}
+use Rattle.std.proofs.lemmas.List.{drop_all}
+use Rattle.std.specs.Prelude.{suc}
 use Rattle.ariadne_safe.specs.Building.{made_of}
-use Rattle.ariadne_visible.specs.Visible.{visible_bytes}
-use Rattle.ariadne_visible.specs.declared.text.TextKind.TheVariants.{Aside}
-use Rattle.ariadne_show.specs.Asides.{aside_notes, with_helps}
-use Rattle.ariadne_show.specs.Wrapped.{wrapped}
-use Rattle.ariadne_show.proofs.Notes.{no_helps, helps_more, texts_more}
+use Rattle.ariadne_show.specs.Asides.{own_text, texts_at}
+use Rattle.ariadne_show.proofs.Proposing.{help_more, no_help_left}
 use Rattle.ariadne_show.proofs.asides.with_helps.Goals as goal
 
--- none at first
-pub loop-help-init : goal.loop-help-init
-loop-help-init c = record { report = no_helps (made_of c.args.builder); sources = refl }
-
 -- one more in each turn
-pub loop-help-preserved : goal.loop-help-preserved
-loop-help-preserved c =
-    let i = c.loop-help.help-index in
+pub loop-number-preserved : goal.loop-number-preserved
+loop-number-preserved c =
+    let i = c.loop-number.number in
     let all = c.args.helps.now in
     let n = c.args.width in
-    let help = c.help-item.result in
-    let text = c.as_str-in-loop-help.result.now in
-    let more : take (i + 1) all ≡ take i all ++ help ∷ [] =
-    take_more all i help c.loop-help-test.true ∙ ap (λ x. take i all ++ x ∷ []) (sym c.help-item.is) in record {
-      report = helps_more (made_of c.args.builder) (made_of c.loop-help.builder) (made_of c.in_ok-builder.builder)
-          (aside_notes n (take i all)) (visible_bytes Aside text ∷ []) c.loop-help.invariant.report
-          c.in_ok-builder.ensures.report
-          ∙ ap (λ (l : List (List ℕ)). with_helps l (made_of c.args.builder))
-          (texts_more n (take i all) (take (i + 1) all) help text
-          (c.as_str-in-loop-help.ensures.value ∙ c.in_ok-help.ensures.rows ∙ ap (wrapped n) c.as_str.ensures.value) more);
-      sources = c.in_ok-builder.ensures.sources ∙ c.loop-help.invariant.sources;
+    let sketches = c.args.sketches.now in
+    let help = c.index-helps-number.result in
+    let first : drop i all ≡ help ∷ drop (i + 1) all =
+    rw add-one (drop-cons all i help c.loop-number-test.true ∙ ap (λ x. x ∷ drop (suc i) all) (sym c.index-helps-number.is)) in record {
+      report = help_more n sketches i (drop i all) (drop (i + 1) all) help (made_of c.loop-number.builder)
+          (made_of c.in_ok-builder.builder) (made_of c.in_ok-builder-2.builder) (texts_at i sketches) (own_text n sketches i help)
+          first refl c.in_ok-builder.ensures.report c.in_ok-builder-2.ensures.report
+          ∙ c.loop-number.invariant.report;
+      sources = c.in_ok-builder-2.ensures.sources ∙ c.in_ok-builder.ensures.sources ∙ c.loop-number.invariant.sources;
     }
+
+-- none is left
+pub returns-clause-report : goal.returns-clause-report
+returns-clause-report c =
+    no_help_left c.args.width c.args.sketches.now c.loop-number.number (drop c.loop-number.number c.args.helps.now)
+    (made_of c.loop-number.builder) (drop_all c.loop-number.number c.args.helps.now c.loop-number-test.false)
+    ∙ c.loop-number.invariant.report

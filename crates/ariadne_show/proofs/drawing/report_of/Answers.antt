@@ -7,10 +7,13 @@ use Rattle.ariadne_safe.specs.Sources.{sources_of}
 use Rattle.ariadne_safe.specs.declared.sources.SafeSource.{SafeSource}
 use Rattle.ariadne_show.specs.Drawn.{IsAbout, IsBare}
 use Rattle.ariadne_told.specs.declared.diagnostic.Place.{Place}
+use Rattle.ariadne_told.specs.declared.diagnostic.Proposal.{Proposal}
+use Rattle.ariadne_show.specs.declared.proposed.Sketch.{Sketch}
 use Rattle.ariadne_show.specs.declared.found.FoundPlace.{FoundPlace}
 use Rattle.ariadne_show.specs.Asides.{helps_of, notes_of, with_helps, with_notes}
 use Rattle.ariadne_show.specs.Found.{files_of, found_of}
 use Rattle.ariadne_show.specs.Labels.{labels_of, shown_header, with_labels, AreOrdered}
+use Rattle.ariadne_show.specs.Proposed.{AreSketched}
 use Rattle.ariadne_show.specs.Read.{sources_in}
 use Rattle.ariadne_show.specs.Widths.{IsTextWidth}
 use Rattle.ariadne_show.proofs.Heads.{about, begun_bare, begun_span, header_ends, new_bare, report_about, wide}
@@ -41,9 +44,17 @@ returns c =
     ∙ ap (λ (places : List FoundPlace). with_labels (labels_of built.config.index_type under told.severity c.args.style.is_compact (map found_of places)) built)
     c.as_slice-2.ensures.value in
     let width = c.in_ok-width.width in
-    let whole : report ≡ with_helps (helps_of width told) (with_notes (notes_of width files told) (wide width (made_of c.in_ok-builder-2.builder))) =
+    let sketches = c.in_ok-sketches.sketches.items in
+    let drawn : AreSketched width files (sources_in c.args.shelf.now) told.proposals.items sketches =
+    subst (λ (l : List Proposal). AreSketched width files (sources_in c.args.shelf.now) l sketches) c.as_slice-3.ensures.value
+    c.in_ok-sketches.ensures in
+    let notes = notes_of width files told in
+    let whole : report ≡ with_helps (helps_of width sketches told) (with_notes notes (wide width (made_of c.in_ok-builder-2.builder))) =
     c.finish.ensures.report ∙ c.in_ok-with_asides.ensures.report
-    ∙ ap (λ (r : ReportFields (ℕ × Range ℕ)). with_helps (helps_of width told) (with_notes (notes_of width files told) r)) c.with_width.ensures.report in
+    ∙ ap (λ (r : ReportFields (ℕ × Range ℕ)). with_helps (helps_of width c.as_slice-4.result.now told) (with_notes notes r))
+    c.with_width-builder.ensures.report
+    ∙ ap (λ (l : List Sketch). with_helps (helps_of width l told) (with_notes notes (wide width (made_of c.in_ok-builder-2.builder))))
+    c.as_slice-4.ensures.value in
     let fits : IsTextWidth c.args.style.width under (made_of c.in_ok-builder-2.builder) width =
     subst (λ (sources : List SafeSource). IsTextWidth c.args.style.width sources (made_of c.in_ok-builder-2.builder) width)
     c.in_ok-builder-2.ensures.sources c.in_ok-width.ensures in
@@ -56,6 +67,6 @@ returns c =
     c.in_ok-builder.ensures.sources ∙ c.in_ok-with_message.ensures.sources ∙ c.new-builder.ensures.sources
     ∙ c.sources.ensures in record {
       report = report_about c.args.style files told main ordered built (made_of c.in_ok-builder-2.builder) report width under
-          (sources_in c.args.shelf.now) head bare span placed labelled fits whole (sym begun);
-      sources = c.finish.ensures.sources ∙ c.in_ok-with_asides.ensures.sources ∙ c.with_width.ensures.sources ∙ c.in_ok-builder-2.ensures.sources ∙ begun;
+          (sources_in c.args.shelf.now) sketches head bare span placed labelled fits drawn whole (sym begun);
+      sources = c.finish.ensures.sources ∙ c.in_ok-with_asides.ensures.sources ∙ c.with_width-builder.ensures.sources ∙ c.in_ok-builder-2.ensures.sources ∙ begun;
     }

@@ -9,7 +9,7 @@ use Rattle.ariadne_show.proofs.quoted.hold_quoted.Goals as goal
 pub returns : goal.returns
 returns c =
     quoted_behind (sources_of c.args.sources.now) (sources_of c.add.new.self) c.args.path.now c.args.quoted.now _ c.in-Some.lines.last
-    (string_bytes c.in_ok-text.text) c.in_ok-source.source c.in_ok-with_name.field-0 c.with_display_line_offset-source.result refl refl
+    (string_bytes c.in_ok-text.text) c.in_ok-source.source c.in_ok-with_name.field-0 c.with_display_line_offset-source.result refl refl refl
     c.in-Some.ensures.lines c.in_ok-text.ensures (c.in_ok-columns.ensures ∙ ap chars c.as_str-2.ensures.value)
     (c.in_ok-source.ensures.text ∙ ap (shown_text 0) c.as_str.ensures.value) (c.in_ok-source.ensures.given ∙ c.as_str.ensures.value)
     c.in_ok-with_name.ensures.name c.in_ok-with_name.ensures.text c.in_ok-with_name.ensures.given

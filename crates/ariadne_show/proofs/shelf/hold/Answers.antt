@@ -9,7 +9,7 @@ use Rattle.ariadne_show.proofs.shelf.hold.Goals as goal
 pub returns : goal.returns
 returns c =
     held_behind (sources_of c.args.sources.now) (sources_of c.add.new.self) c.args.path.now c.args.bytes.now c.in_ok-file.file _
-    c.in_ok-source.source c.in_ok-with_name.field-0 c.in_ok-file.ensures refl refl refl
+    c.in_ok-source.source c.in_ok-with_name.field-0 c.in_ok-file.ensures refl refl refl refl
     (c.in_ok-columns.ensures ∙ ap chars c.as_str.ensures.value)
     (c.in_ok-source.ensures.text ∙ ap (shown_text 0) c.as_str-2.ensures.value)
     (c.in_ok-source.ensures.given ∙ c.as_str-2.ensures.value) c.in_ok-with_name.ensures.name c.in_ok-with_name.ensures.text

@@ -29,5 +29,6 @@ returns c = record {
       c.in_ok-push_ranges.ensures;
   notes = c.in_ok-told.ensures.notes;
   helps = c.in_ok-told.ensures.helps;
+  proposals = c.in_ok-told.ensures.proposals;
   is_counted = c.in_ok-told.ensures.counted;
 }

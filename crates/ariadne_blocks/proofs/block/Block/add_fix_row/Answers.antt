@@ -1,34 +1,21 @@
-use Rattle.std.proofs.Common.{◌∙◌, ap, sym}
+use Rattle.std.proofs.Common.{◌∙◌, ap}
 use Rattle.std.proofs.lemmas.Result.{on_ok_weaker}
 use Rattle.ariadne_told.specs.FixRows.{fix_row_told}
-use Rattle.ariadne_blocks.specs.Blocks.{view_of}
-use Rattle.ariadne_blocks.specs.FixRows.{is_told_in, kind_of}
-use Rattle.ariadne_blocks.proofs.Changed.{help_is, told_already, told_now}
+use Rattle.ariadne_blocks.specs.Blocks.{view_of, with_help_of_row, with_proposed}
+use Rattle.ariadne_blocks.specs.FixRows.{unescaped}
+use Rattle.ariadne_blocks.specs.Proposed.{edit_with}
 use Rattle.ariadne_blocks.proofs.block.Block.add_fix_row.Goals as goal
 
--- a row above told it
-pub returns-then-is_told : goal.returns-then-is_told
-returns-then-is_told c =
-    let row = fix_row_told c.args.row.now in
-    let fix = c.fix_of-fix.result in
-    told_already row (view_of c.args.self.now) fix.kind fix.text.now
-    (c.fix_of-fix.ensures.kind ∙ ap (kind_of row) (c.as_str.ensures.value ∙ c.in_ok-text.ensures))
-    (sym (c.is_told.ensures ∙ ap (λ cs. is_told_in cs fix.at.line fix.kind fix.text.now) c.as_slice.ensures.value
-    ∙ ap (λ n. is_told_in c.args.self.now.changes.items n fix.kind fix.text.now) c.fix_of-fix.ensures.line)
-    ∙ c.if-is_told.true)
-
--- or none did
+-- the row's help is there, and then what it proposes
 pub returns : goal.returns
 returns c =
     let row = fix_row_told c.args.row.now in
-    let fix = c.fix_of-fix.result in
-    on_ok_weaker c.add_change.result
-    (λ view. view
-    ∙ help_is row fix.kind fix.text.now _ _ (view_of c.add_reason.new.self) (view_of c.args.self.now) _
-    (c.in_ok-change.ensures) c.fix_of-fix.ensures.line c.column_of.ensures c.in_ok-add_reason.ensures.view
-    ∙ told_now row (view_of c.args.self.now) fix.kind fix.text.now
-    (c.fix_of-fix.ensures.kind ∙ ap (kind_of row) (c.as_str.ensures.value ∙ c.in_ok-text.ensures))
-    (sym (c.is_told.ensures ∙ ap (λ cs. is_told_in cs fix.at.line fix.kind fix.text.now) c.as_slice.ensures.value
-    ∙ ap (λ n. is_told_in c.args.self.now.changes.items n fix.kind fix.text.now) c.fix_of-fix.ensures.line)
-    ∙ c.if-is_told.false))
-    c.add_change.ensures.view
+    let view = view_of c.args.self.now in
+    on_ok_weaker c.propose.result
+    (λ proposed. proposed
+    ∙ ap (λ told. with_proposed (edit_with row c.as_str-2.result.now) told) c.in_ok-add_help_of_row.ensures
+    ∙ ap (λ text. with_proposed (edit_with row text) (with_help_of_row row c.as_str.result.now view))
+    (c.as_str-2.ensures.value ∙ c.in_ok-text.ensures)
+    ∙ ap (λ text. with_proposed (edit_with row (unescaped row.text)) (with_help_of_row row text view))
+    (c.as_str.ensures.value ∙ c.in_ok-text.ensures))
+    c.propose.ensures

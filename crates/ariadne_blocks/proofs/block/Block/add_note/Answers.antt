@@ -1,5 +1,5 @@
 use Rattle.std.proofs.Common.{◌≡◌, ◌∙◌, ℕ, ap, refl, subst, sym}
-use Rattle.std.specs.Prelude.{slice_get, List}
+use Rattle.std.specs.Prelude.{slice_get, string_bytes, List}
 use Rattle.std.specs.Option.{option_copied}
 use Rattle.std.proofs.lemmas.List.{length-map}
 use Rattle.std.proofs.lemmas.Result.{IfOk-weaker}
@@ -26,5 +26,6 @@ returns c =
     (ap (λ (ps : List Seen). record (telling old.told) { places = ps }) added)
     (first_path note.places.items c.first.result _ first c.in_ok-self.ensures.path)
     (c.in_ok-self.ensures.at ∙ c.len-at.ensures ∙ old.told.places.ok.0 ∙ sym (length-map old.told.places.items seen))
-    c.in_ok-self.ensures.marked refl refl refl refl refl c.clear.ensures.items))
+    c.in_ok-self.ensures.marked refl refl refl refl refl c.clear.ensures.items
+    (c.len-since.ensures ∙ old.told.helps.ok.0 ∙ sym (length-map old.told.helps.items string_bytes)) c.new-2.ensures.bytes))
     c.push_note.ensures

@@ -1,6 +1,7 @@
-use Rattle.std.proofs.Common.{◌≡◌, ◌∙◌, ℕ, ap, refl, subst}
-use Rattle.std.specs.Prelude.{map, slice_get}
+use Rattle.std.proofs.Common.{◌≡◌, ◌∙◌, ℕ, ap, refl, subst, sym}
+use Rattle.std.specs.Prelude.{map, slice_get, string_bytes}
 use Rattle.std.specs.Option.{option_copied}
+use Rattle.std.proofs.lemmas.List.{length-map}
 use Rattle.ariadne_snippets.specs.Snippets.{IsUnread}
 use Rattle.ariadne_blocks.specs.Blocks.{begun, bytes_of, held_of}
 use Rattle.ariadne_blocks.specs.Telling.{telling}
@@ -23,5 +24,6 @@ returns c =
       view = same_view _ (begun (telling c.args.told) c.args.head.now c.args.caret) refl
           (first_path places c.first.result _ first c.in_ok-rows.ensures.path) c.in_ok-rows.ensures.at
           c.in_ok-rows.ensures.marked (ap (map held_of) c.new-2.ensures.items)
-          (c.behind-goes_on.ensures ∙ first_goes_on c.args.head.now places c.first-2.result again) refl refl refl c.new-3.ensures.items;
+          (c.behind-goes_on.ensures ∙ first_goes_on c.args.head.now places c.first-2.result again) refl refl refl c.new-3.ensures.items
+          (c.len-since.ensures ∙ c.args.told.helps.ok.0 ∙ sym (length-map c.args.told.helps.items string_bytes)) c.new-4.ensures.bytes;
     }

@@ -20,5 +20,5 @@ returns-clause-held c = λ yes.
       view = same_view _ (with_more c.args.line.bytes.now c.args.line.text.now (view_of old)) refl refl refl refl
           (pushed held_of old.more.items c.push.new.self.items c.in_ok-more.more c.in_ok-push.ensures.items
           ∙ ap (λ h. map held_of old.more.items ++ h ∷ []) c.in_ok-more.ensures)
-          (ap (λ n. Cut n) c.width_of.ensures) refl refl refl refl;
+          (ap (λ n. Cut n) c.width_of.ensures) refl refl refl refl refl refl;
     }

@@ -1,0 +1,85 @@
+//! Pictures with what tools propose: lines before and after, or words where those can't be drawn.
+
+use crate::show::{run, with_path};
+use ariadne_fakes::{Folder, Given, Taker};
+use ariadne_show::Status;
+use std::process::Abort;
+use std::rt::Files;
+
+/// What stands in the file.
+const FILE: &[u8] = b"a = b;\nlet c = d;\n";
+
+/// Asserts that of lines about the file at this path this is drawn by these words, with its path for each `@`.
+fn assert_drawn(
+    rt: &(impl Files + AllocGlobal + Abort),
+    path: &str,
+    words: &[&str],
+    input: &str,
+    want: &str,
+) {
+    let input = with_path(rt.alloc(), input, path).expect(rt, "memory");
+    let want = with_path(rt.alloc(), want, path).expect(rt, "memory");
+    let out = Taker::whole(rt.alloc()).expect(rt, "memory");
+    let outcome = run(rt, words, Given::whole(input.as_bytes()), out, 0);
+    outcome.assert_is(rt, Status::WithErrors, want.as_bytes(), b"")
+}
+
+/// gcc's JSON of an error at the `d`, with fix-its at it and behind it.
+const TWO_FIXITS: &str =
+    "[{\"kind\":\"error\",\"message\":\"m\",\"locations\":[{\"caret\":{\"file\":\"@\",\"line\":2,\"byte-column\":9}}],\
+     \"fixits\":[{\"start\":{\"file\":\"@\",\"line\":2,\"byte-column\":9},\"next\":{\"file\":\"@\",\"line\":2,\"byte-column\":10},\"string\":\"e\"},\
+     {\"start\":{\"file\":\"@\",\"line\":1,\"byte-column\":1},\"next\":{\"file\":\"@\",\"line\":1,\"byte-column\":1},\"string\":\"let \"}],\
+     \"children\":[]}]\n";
+
+/// The picture of it up to its helps.
+const PICTURE: &str = "Error: m\n   ,-[ @:2:9 ]\n   |\n 2 | let c = d;\n   |         ^  \n   | \n";
+
+/// By which words what is drawn in the place of its helps.
+const HELPS: &[(&[&str], &str)] = &[
+    // both changes are one suggestion, and both lines stand before those that replace them
+    (
+        &["--ascii"],
+        "   | Help: 1 - a = b;\n   |       2 - let c = d;\n   |       1 + let a = b;\n   |       2 + let c = e;\n---'\n1 error\n",
+    ),
+    // a row of 14 columns fits where the name takes 8 and the margin 5
+    (
+        &["--ascii", "--width", "27"],
+        "   | Help: 1 - a = b;\n   |       2 - let c = d;\n   |       1 + let a = b;\n   |       2 + let c = e;\n---'\n1 error\n",
+    ),
+    // and not in one column less
+    (
+        &["--ascii", "--width", "26"],
+        "   | Help 1: put `e` at\n   |         2:9\n   | \n   | Help 2: put `let ` at\n   |         1:1\n---'\n1 error\n",
+    ),
+];
+
+#[test]
+fn proposals_are_drawn_where_their_rows_fit(rt: HostRuntime) {
+    let folder = Folder::new(&rt).expect(&rt, "a folder");
+    let path = folder.file_of(&rt, "a.c", FILE).expect(&rt, "a file");
+    for (words, helps) in HELPS {
+        let want = format!(in rt.alloc(); "{PICTURE}{helps}").expect(&rt, "memory");
+        assert_drawn(&rt, path.as_str(), *words, TWO_FIXITS, want.as_str())
+    }
+    folder.remove(&rt).expect(&rt, "no folder")
+}
+
+/// rustc's JSON of an error at the `b`, for which a help lists two texts.
+const TWO_WAYS: &str =
+    "{\"message\":\"m\",\"code\":null,\"level\":\"error\",\"spans\":[{\"file_name\":\"@\",\"line_start\":1,\"line_end\":1,\
+     \"column_start\":5,\"column_end\":6,\"is_primary\":true,\"label\":null,\"text\":[]}],\"children\":[{\"message\":\"try\",\
+     \"code\":null,\"level\":\"help\",\"spans\":[{\"file_name\":\"@\",\"line_start\":1,\"line_end\":1,\"column_start\":5,\
+     \"column_end\":6,\"is_primary\":true,\"text\":[],\"suggested_replacement\":\"x\"},{\"file_name\":\"@\",\"line_start\":1,\
+     \"line_end\":1,\"column_start\":5,\"column_end\":6,\"is_primary\":true,\"text\":[],\"suggested_replacement\":\"y\"}],\
+     \"children\":[],\"rendered\":null}]}\n";
+
+#[test]
+fn each_way_is_a_help_below_its_reason(rt: HostRuntime) {
+    let folder = Folder::new(&rt).expect(&rt, "a folder");
+    let path = folder.file_of(&rt, "a.rs", FILE).expect(&rt, "a file");
+    let want = "Error: m\n   ,-[ @:1:5 ]\n   |\n 1 | a = b;\n   |     ^  \n   | \n   | \
+                Help 1: try\n   |         1 - a = b;\n   |         1 + a = x;\n   | \n   | \
+                Help 2: try\n   |         1 - a = b;\n   |         1 + a = y;\n---'\n1 error\n";
+    assert_drawn(&rt, path.as_str(), &["--ascii"], TWO_WAYS, want);
+    folder.remove(&rt).expect(&rt, "no folder")
+}
