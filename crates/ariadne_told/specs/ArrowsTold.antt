@@ -2,8 +2,7 @@
 use Rattle.std.specs.Prelude.{ℕ, ◌≡◌, Bool, false, not, List, [], Option, None, option_map, string_bytes}
 use Rattle.ariadne_columns.specs.declared.unit.Unit.TheVariants.{Char}
 use Rattle.ariadne_told.specs.Kinds.{Kind}
-use Rattle.ariadne_told.specs.Places.{place_of, Seen}
-use Rattle.ariadne_told.specs.Told.{named}
+use Rattle.ariadne_told.specs.Places.{named, place_of, Seen}
 use Rattle.ariadne_told.specs.declared.arrows.Arrow.{Arrow}
 use Rattle.ariadne_told.specs.declared.arrows.BareHead.{BareHead}
 use Rattle.ariadne_told.specs.declared.diagnostic.Diagnostic.{Diagnostic}

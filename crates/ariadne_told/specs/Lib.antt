@@ -12,6 +12,7 @@ pub mod Noted
 pub mod Pieces
 pub mod Places
 pub mod Proposed
+pub mod Reports
 pub mod Sent
 pub mod Severities
 pub mod Sgr

@@ -193,13 +193,3 @@ pub record IsOfGcc (d : Data) (told : Diagnostic) : Type 0 where
   pub code : option_map string_bytes told.code ≡ text_at (codes "option") d
   pub message : string_bytes told.message ≡ words_at (codes "message") d
   pub is_sum : told.is_sum ≡ false
-
--- ---- reports
-
--- a diagnostic is what a report tells, which proposes nothing
-pub record IsOfReport (d : Data) (told : Diagnostic) : Type 0 where
-  pub severity : told.severity ≡ severity_at (codes "kind") d
-  pub code : option_map string_bytes told.code ≡ text_at (codes "code") d
-  pub message : string_bytes told.message ≡ words_at (codes "message") d
-  pub proposals : told.proposals.items ≡ []
-  pub is_sum : told.is_sum ≡ false

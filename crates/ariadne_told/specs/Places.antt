@@ -1,8 +1,10 @@
--- Places of a diagnostic, with their texts in place of what holds these.
+-- Places of a diagnostic and kinds of its own, with their texts in place of what holds these.
 use Rattle.std.specs.Prelude.{ℕ, ◌==◌, pos, Bool, false, ◌&&◌, List, [], Option, None, string_bytes, unwrap_or}
+use Rattle.ariadne_color.specs.declared.color.Color.{Color}
 use Rattle.ariadne_columns.specs.declared.unit.Unit.{Unit}
 use Rattle.ariadne_told.specs.declared.diagnostic.End.{End}
 use Rattle.ariadne_told.specs.declared.diagnostic.Look.{Look}
+use Rattle.ariadne_told.specs.declared.diagnostic.OwnKind.{OwnKind}
 use Rattle.ariadne_told.specs.declared.diagnostic.Place.{Place}
 use Rattle.ariadne_told.specs.declared.diagnostic.Spot.{Spot}
 
@@ -52,3 +54,7 @@ place_of file start end unit = record {
   look = record { order = pos 0; priority = pos 0; color = None };
   marks = None;
 }
+
+-- a kind of its own: its name, and its colour
+abbrev pub named : OwnKind → List ℕ × Option Color
+named kind = (string_bytes kind.name, kind.color)

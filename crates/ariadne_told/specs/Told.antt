@@ -13,19 +13,18 @@ use Rattle.std.specs.Str.{bytes_eq}
 use Rattle.serde_json.specs.Data.{Data, Items, no_items, item}
 use Rattle.serde_json.specs.Find.{get, as_array}
 use Rattle.ariadne_json.specs.Reading.{value_in as value_of}
-use Rattle.ariadne_color.specs.declared.color.Color.{Color}
 use Rattle.ariadne_columns.specs.declared.unit.Unit.{Unit}
 use Rattle.ariadne_columns.specs.declared.unit.Unit.TheVariants.{Char}
 use Rattle.ariadne_told.specs.Heads.{head_of_line, is_among, ranges_in, Head}
-use Rattle.ariadne_told.specs.Members.{all_items, items_in, list_at, number_of, text_at, IsOfReport, IsOfRustc}
-use Rattle.ariadne_told.specs.Places.{is_same_spot, place_of, seen, Seen}
+use Rattle.ariadne_told.specs.Members.{all_items, items_in, list_at, text_at, IsOfRustc}
+use Rattle.ariadne_told.specs.Places.{is_same_spot, named, place_of, seen, Seen}
 use Rattle.ariadne_told.specs.Proposed.{AreProposedBeside}
+use Rattle.ariadne_told.specs.Reports.{label_spot, IsOfReport}
 use Rattle.ariadne_told.specs.Sent.{IsHeldNow, WasSent}
 use Rattle.ariadne_told.specs.Severities.{severity_of}
 use Rattle.ariadne_told.specs.declared.diagnostic.Diagnostic.{Diagnostic}
 use Rattle.ariadne_told.specs.declared.diagnostic.End.{End}
 use Rattle.ariadne_told.specs.declared.diagnostic.End.TheVariants.{Before, Behind, OfWord}
-use Rattle.ariadne_told.specs.declared.diagnostic.OwnKind.{OwnKind}
 use Rattle.ariadne_told.specs.declared.diagnostic.Place.{Place}
 use Rattle.ariadne_told.specs.declared.diagnostic.Spot.{Spot}
 use Rattle.ariadne_told.specs.declared.sent.Sent.{Sent}
@@ -99,16 +98,10 @@ tells_gcc d = tells_gcc_in (as_array d)
 
 -- ---- reports
 
--- a list begins with one
-abbrev pub begins_with_number : Items → Bool
-begins_with_number no_items = false
-begins_with_number (item d items) = is_some (number_of d)
-
 -- a label has a file and a start, which is a list of a line and a column, or of a line alone
 abbrev pub is_label : Data → Bool
 is_label d =
-    is_some (text_at (codes "file") d)
-    && begins_with_number (items_in (list_at (codes "start") d))
+    is_some (text_at (codes "file") d) && is_some (label_spot (codes "start") d)
 
 -- a report has a known kind, a message and labels
 abbrev pub is_report : Data → Bool
@@ -211,10 +204,6 @@ others_among head unit ranges =
 
 abbrev pub other_places : Head → Unit → List Seen
 other_places head unit = others_among head unit (ranges_in 16 head.ranges)
-
--- a kind of its own: its name, and its colour
-abbrev pub named : OwnKind → List ℕ × Option Color
-named kind = (string_bytes kind.name, kind.color)
 
 -- a diagnostic is what a head tells where the columns of lines of text count this
 pub record IsOfHead (unit : Unit) (head : Head) (told : Diagnostic) : Type 0 where

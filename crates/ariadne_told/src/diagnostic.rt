@@ -186,6 +186,8 @@ impl Diagnostic {
         ensures notes { IfOk result (λ told. told.notes.items ≡ []) }
         ensures helps { IfOk result (λ told. told.helps.items ≡ []) }
         ensures proposals { IfOk result (λ told. told.proposals.items ≡ []) }
+        ensures quoted { IfOk result (λ told. told.quoted.items ≡ []) }
+        ensures manifest { IfOk result (λ told. told.manifest ≡ None) }
         ensures counted { IfOk result (λ told. told.is_sum ≡ false) }
     {
         Ok(Diagnostic {

@@ -2,8 +2,8 @@
 
 ghost use Rattle.std.specs.Prelude.{◌≡◌, ◌++◌, map, option_map, string_bytes, IfOk, OnOk};
 ghost use Rattle.std.specs.Prelude.{None};
-ghost use Rattle.ariadne_told.specs.Places.{is_same_spot as is_of_same_spot, place_of, seen};
-ghost use Rattle.ariadne_told.specs.Told.{is_own_range, named};
+ghost use Rattle.ariadne_told.specs.Places.{is_same_spot as is_of_same_spot, named, place_of, seen};
+ghost use Rattle.ariadne_told.specs.Told.{is_own_range};
 ghost use Rattle.ariadne_told.specs.Told.{other_places, own_place_of, own_range_of};
 ghost use Rattle.ariadne_told.specs.Told.{IsOfHead};
 ghost use Rattle.ariadne_told.specs.ToldLines.{head_told};

@@ -1,15 +1,19 @@
 //! The program's own form: a report in one line of JSON.
 
-ghost use Rattle.std.specs.Prelude.{◌≡◌, is_some, IfOk};
-ghost use Rattle.std.specs.List.{list_all};
+ghost use Rattle.std.specs.Prelude.{◌≡◌, ◌++◌, codes, map, option_map, string_bytes, IfOk, OnOk};
+ghost use Rattle.std.specs.List.{list_all, list_any};
 ghost use Rattle.serde_json.specs.View.{items_view, view};
-ghost use Rattle.ariadne_told.specs.Members.{IsOfReport};
-ghost use Rattle.ariadne_told.specs.Members.{all_items, items_in, list_at};
-ghost use Rattle.ariadne_told.specs.Told.{begins_with_number};
+ghost use Rattle.ariadne_told.specs.Members.{all_items};
+ghost use Rattle.ariadne_told.specs.Places.{named, seen};
+ghost use Rattle.ariadne_told.specs.Reports.{has_primary as has_primary_label, is_primary as is_primary_label};
+ghost use Rattle.ariadne_told.specs.Reports.{label_place as place_of_label, label_spot};
+ghost use Rattle.ariadne_told.specs.Reports.{look_at, places_in, report_kind, report_unit, texts_in, whole_at};
+ghost use Rattle.ariadne_told.specs.Reports.{IsOfReport};
 ghost use Rattle.ariadne_told.specs.Told.{is_label as is_of_label, is_report as is_of_report};
 
 use crate::colors::color;
 use crate::diagnostic::{Diagnostic, End, Look, OwnKind, Place, Severity, Spot};
+use crate::heads::place;
 use crate::json::{copied_text, has_list, is_true, items, severity, text, usize_of, words};
 use ariadne_columns::Unit;
 use serde_json::Value;
@@ -49,8 +53,7 @@ fn is_label(value: &Value) -> bool
 
 /// A member that is a list of a line and a column, or of a line alone.
 fn spot(value: &Value, name: &str) -> Option<Spot>
-    ensures { is_some result
-        ≡ begins_with_number (items_in (list_at name.now (view value.now))) }
+    ensures { result ≡ label_spot name.now (view value.now) }
 {
     let numbers = items(value, name);
     Some(Spot {
@@ -60,7 +63,9 @@ fn spot(value: &Value, name: &str) -> Option<Spot>
 }
 
 /// What the report says that its columns count: characters, where it says nothing.
-fn unit_of(value: &Value) -> Unit {
+fn unit_of(value: &Value) -> Unit
+    ensures { result ≡ report_unit (view value.now) }
+{
     match text(value, "columns") {
         Some("bytes") => Unit::Byte,
         Some("display") => Unit::Display,
@@ -87,7 +92,9 @@ pub(crate) fn told_by_report(alloc: Global, value: &Value) -> Result<Diagnostic,
 }
 
 /// The kind of its own that a report has, if it has one.
-fn own_kind(alloc: Global, value: &Value) -> Result<Option<OwnKind>, AllocError> {
+fn own_kind(alloc: Global, value: &Value) -> Result<Option<OwnKind>, AllocError>
+    ensures { IfOk result (λ kind. option_map named kind ≡ report_kind (view value.now)) }
+{
     match copied_text(alloc, value, "name")? {
         Some(name) => Ok(Some(OwnKind {
             name,
@@ -103,47 +110,63 @@ fn push_labels(
     places: &mut Vec<Place>,
     labels: &[Value],
     unit: Unit,
-) -> Result<(), AllocError> {
-    let has_primary = labels.iter().any(|label| is_true(label, "primary"));
-    for (number, label) in labels.iter().enumerate() {
-        let is_primary = is_true(label, "primary") || (number == 0 && !has_primary);
-        push_label(alloc, places, label, unit, is_primary)?;
+) -> Result<(), AllocError>
+    ensures { OnOk result (map seen places.new.items
+        ≡ map seen places.old.items ++ places_in unit (items_view labels.now)) }
+{
+    let mut is_needed = !has_primary(labels);
+    for label in labels {
+        let is_primary = is_true(label, "primary") || is_needed;
+        is_needed = false;
+        if let Some(place) = label_place(alloc, label, unit, is_primary)? {
+            places.push(place)?;
+        }
     }
     Ok(())
 }
 
-/// Adds the place of a label.
-fn push_label(
+/// Whether one of these labels is primary.
+fn has_primary(labels: &[Value]) -> bool
+    ensures { result ≡ has_primary_label (items_view labels.now) }
+{
+    any_is_primary(labels)
+}
+
+/// Whether any of these values is a label that is primary.
+fn any_is_primary(labels: &[Value]) -> bool
+    ensures { result ≡ list_any (λ v. is_primary_label (view v)) labels.now }
+{
+    labels.iter().any(|label| is_true(label, "primary"))
+}
+
+/// The place of a label, if it begins somewhere.
+fn label_place(
     alloc: Global,
-    places: &mut Vec<Place>,
     label: &Value,
     unit: Unit,
     is_primary: bool,
-) -> Result<(), AllocError> {
+) -> Result<Option<Place>, AllocError>
+    ensures { IfOk result (λ place. option_map seen place ≡ option_map
+        (place_of_label unit is_primary (view label.now)) (label_spot (codes "start") (view label.now))) }
+{
     let Some(start) = spot(label, "start") else {
-        return Ok(());
+        return Ok(None);
     };
     let end = match spot(label, "end") {
         Some(end) => End::Before(end),
         None => End::OfWord,
     };
-    places.push(Place {
-        file: String::from_str(alloc, words(label, "file"))?,
-        caret: start,
-        start,
-        end,
-        unit,
-        is_past_mark: false,
-        text: String::from_str(alloc, words(label, "text"))?,
-        is_primary,
-        look: look_of(label),
-        marks: None,
-    })?;
-    Ok(())
+    let mut place = place(alloc, words(label, "file"), start, end, unit)?;
+    place.text = String::from_str(alloc, words(label, "text"))?;
+    place.is_primary = is_primary;
+    place.look = look_of(label);
+    Ok(Some(place))
 }
 
 /// What a label says of its look.
-fn look_of(label: &Value) -> Look {
+fn look_of(label: &Value) -> Look
+    ensures { result ≡ look_at (view label.now) }
+{
     Look {
         order: number_of_label(label, "order").unwrap_or(0),
         priority: number_of_label(label, "priority").unwrap_or(0),
@@ -152,12 +175,18 @@ fn look_of(label: &Value) -> Look {
 }
 
 /// A member that is a whole number of 32 bits.
-fn number_of_label(label: &Value, name: &str) -> Option<i32> {
+fn number_of_label(label: &Value, name: &str) -> Option<i32>
+    ensures { result ≡ whole_at name.now (view label.now) }
+{
     i32::try_from(label.get(name)?.as_i64()?).ok()
 }
 
 /// Adds those of these values that are texts.
-fn push_texts(alloc: Global, texts: &mut Vec<String>, values: &[Value]) -> Result<(), AllocError> {
+#[tactic(auto, using(crate::proofs::Values::texts_past))]
+fn push_texts(alloc: Global, texts: &mut Vec<String>, values: &[Value]) -> Result<(), AllocError>
+    ensures { OnOk result (map string_bytes texts.new.items
+        ≡ map string_bytes texts.old.items ++ texts_in (items_view values.now)) }
+{
     for value in values {
         if let Some(said) = value.as_str() {
             texts.push(String::from_str(alloc, said)?)?;
