@@ -1,6 +1,7 @@
 pub mod Characters
 pub mod Children
 pub mod Depths
+pub mod GccLists
 pub mod Handed
 pub mod Outcomes
 pub mod Ranges

@@ -4,6 +4,7 @@ pub mod FixRows
 pub mod Fixes
 pub mod Fronts
 pub mod FrontsTold
+pub mod Gcc
 pub mod GccFixes
 pub mod Heads
 pub mod Kinds

@@ -185,11 +185,3 @@ abbrev pub is_gcc_more : Severity → Data → Bool
 is_gcc_more severity d =
     is_same_severity (severity_at (codes "kind") d) severity
     && begins_with (codes "  ") (words_at (codes "message") d)
-
--- a diagnostic is what a value of gcc's tells: its option is the code, and its kind the severity
-pub record IsOfGcc (d : Data) (told : Diagnostic) : Type 0 where
-  pub severity : told.severity ≡ severity_at (codes "kind") d
-  pub own_kind : told.own_kind ≡ None
-  pub code : option_map string_bytes told.code ≡ text_at (codes "option") d
-  pub message : string_bytes told.message ≡ words_at (codes "message") d
-  pub is_sum : told.is_sum ≡ false

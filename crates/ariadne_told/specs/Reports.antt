@@ -1,5 +1,5 @@
 -- What a report of the program's own form becomes: its kind and code, its places, its notes and its helps.
-use Rattle.std.specs.Prelude.{ℕ, ◌≡◌, ◌^◌, ℤ, pos, negsuc, nat_lt, Bool, true, false, not, ◌||◌, if◌then◌else◌}
+use Rattle.std.specs.Prelude.{ℕ, ◌≡◌, ◌^◌, ℤ, pos, negsuc, nat_lt, Bool, false, not, ◌||◌, if◌then◌else◌}
 use Rattle.std.specs.Prelude.{List, [], ◌∷◌, codes, map, string_bytes, unwrap_or}
 use Rattle.std.specs.Prelude.{Option, Some, None, option_and_then, option_map}
 use Rattle.std.specs.List.{cons_option, find}
@@ -15,7 +15,6 @@ use Rattle.ariadne_columns.specs.declared.unit.Unit.TheVariants.{Byte, Char, Dis
 use Rattle.ariadne_told.specs.Members.{end_before, is_true_at, items_in, list_at, number_of, severity_at, text_at, words_at}
 use Rattle.ariadne_told.specs.Places.{named, place_of, seen, Seen}
 use Rattle.ariadne_told.specs.declared.diagnostic.Diagnostic.{Diagnostic}
-use Rattle.ariadne_told.specs.declared.diagnostic.End.{End}
 use Rattle.ariadne_told.specs.declared.diagnostic.Look.{Look}
 use Rattle.ariadne_told.specs.declared.diagnostic.Spot.{Spot}
 

@@ -15,6 +15,7 @@ use Rattle.serde_json.specs.Find.{get, as_array}
 use Rattle.ariadne_json.specs.Reading.{value_in as value_of}
 use Rattle.ariadne_columns.specs.declared.unit.Unit.{Unit}
 use Rattle.ariadne_columns.specs.declared.unit.Unit.TheVariants.{Char}
+use Rattle.ariadne_told.specs.Gcc.{gcc_list, read}
 use Rattle.ariadne_told.specs.Heads.{head_of_line, is_among, ranges_in, Head}
 use Rattle.ariadne_told.specs.Members.{all_items, items_in, list_at, text_at, IsOfRustc}
 use Rattle.ariadne_told.specs.Places.{is_same_spot, named, place_of, seen, Seen}
@@ -250,11 +251,12 @@ IsAlone is all = (one : Diagnostic) × (all ≡ one ∷ []) × is one
 abbrev pub IsToldByRustc : Data → Diagnostic → Type 0
 IsToldByRustc d told = IsOfRustc d told × AreProposedBeside d (vec_len told.helps) told.proposals.items
 
--- diagnostics that a value tells: that of rustc's which it is or hands on, one at least where it is a list of
--- gcc's, or that of a report
+-- diagnostics that a value tells: that of rustc's which it is or hands on, those of a list of gcc's, one at least,
+-- or that of a report
 pub data AreTold (d : Data) (all : List Diagnostic) : Type 0 where
   of_rustc : (message : Data) → rustc_in d ≡ Some message → IsAlone (IsToldByRustc message) all → AreTold d all
-  of_gcc : tells_gcc d ≡ true → 0 < length all → AreTold d all
+  of_gcc : (items : Items) → as_array d ≡ Some items → tells_gcc d ≡ true → map read all ≡ gcc_list [] items
+      → 0 < length all → AreTold d all
   of_report : is_report d ≡ true → IsAlone (IsOfReport d) all → AreTold d all
 
 -- of a value, where these messages were handed on before: diagnostics, one at least, where it tells some;

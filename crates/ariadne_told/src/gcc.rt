@@ -1,16 +1,25 @@
 //! Diagnostics of `gcc -fdiagnostics-format=json`: one line of text with a list of them.
 
-ghost use Rattle.std.specs.Prelude.{◌≡◌, ◌++◌, ◌<◌, [], is_some, length, map, option_map, string_bytes, true};
+ghost use Rattle.std.specs.Prelude.{◌≡◌, ◌++◌, ◌<◌, [], codes, is_some, length, map, option_map, string_bytes, true, Some};
 ghost use Rattle.std.specs.Prelude.{vec_len, IfOk, IfSome, OnOk};
 ghost use Rattle.std.specs.List.{list_all};
 ghost use Rattle.std.specs.Option.{option_to_list};
+ghost use Rattle.serde_json.specs.Find.{as_array};
 ghost use Rattle.serde_json.specs.View.{items_view, view};
+ghost use Rattle.ariadne_told.specs.Gcc.{event_note, event_places, event_notes, event_told, gcc_all, gcc_behind};
+ghost use Rattle.ariadne_told.specs.Gcc.{event_place as place_of_event, event_text as text_of_event};
+ghost use Rattle.ariadne_told.specs.Gcc.{gcc_list, gcc_noted, gcc_read, has_column as is_in_column, last_with};
+ghost use Rattle.ariadne_told.specs.Gcc.{is_away as is_away_from, is_caret_of as is_of_caret};
+ghost use Rattle.ariadne_told.specs.Gcc.{is_column as is_same_column, is_elsewhere as is_elsewhere_than};
+ghost use Rattle.ariadne_told.specs.Gcc.{is_label as is_said_there, is_part as is_part_of, is_spot as is_that_spot};
+ghost use Rattle.ariadne_told.specs.Gcc.{location_places, note_beside, noted_place as place_noted, own_location};
+ghost use Rattle.ariadne_told.specs.Gcc.{read, says_something as something_said, with_note_said, with_noted};
 ghost use Rattle.ariadne_told.specs.GccFixes as fixes;
 ghost use Rattle.ariadne_told.specs.Told.{is_gcc, is_gcc_list, tells_gcc};
 ghost use Rattle.ariadne_told.specs.Members.{gcc_end, gcc_place, gcc_spot, gcc_spot_at, is_gcc_more, is_gcc_note};
-ghost use Rattle.ariadne_told.specs.Members.{IsOfGcc};
+ghost use Rattle.ariadne_told.specs.Members.{items_in, list_at};
 ghost use Rattle.ariadne_told.specs.Places.{seen};
-ghost use Rattle.ariadne_told.specs.Proposed.{fixits_of, gcc_note_proposed, gcc_proposed, proposed};
+ghost use Rattle.ariadne_told.specs.Proposed.{gcc_proposed, proposed};
 
 use crate::diagnostic::{Diagnostic, End, Place, Severity, Spot};
 use crate::fixes::{Covered, change_text, line_text, push_reasoned};
@@ -26,6 +35,7 @@ use std::alloc::{AllocError, Global};
 /// locations.
 pub(crate) fn gcc_messages(value: &Value) -> Option<&[Value]>
     ensures list { is_some result ≡ tells_gcc (view value.now) }
+    ensures items { IfSome result (λ values. as_array (view value.now) ≡ Some (items_view values.now)) }
     ensures some { IfSome result (λ values. 0 < length values.now) }
 {
     let values = value.as_array()?.as_slice();
@@ -66,7 +76,8 @@ fn is_message(value: &Value) -> bool
 
 /// The diagnostics of these values, and of those that stand in them.
 pub(crate) fn told_by_gcc(alloc: Global, values: &[Value]) -> Result<Vec<Diagnostic>, AllocError>
-    ensures { IfOk result (λ all. 0 < length values.now → 0 < vec_len all) }
+    ensures all { IfOk result (λ all. map read all.items ≡ gcc_list [] (items_view values.now)) }
+    ensures some { IfOk result (λ all. 0 < length values.now → 0 < vec_len all) }
 {
     let mut all = Vec::new(alloc);
     for value in values {
@@ -78,9 +89,12 @@ pub(crate) fn told_by_gcc(alloc: Global, values: &[Value]) -> Result<Vec<Diagnos
 
 /// Adds the children of a diagnostic: gcc groups errors below a warning too. They have none themselves.
 fn push_children(alloc: Global, all: &mut Vec<Diagnostic>, value: &Value) -> Result<(), AllocError>
-    ensures { OnOk result (0 < vec_len all.old → 0 < vec_len all.new) }
+    ensures all { OnOk result (map read all.new.items
+        ≡ gcc_all (map read all.old.items) (items_in (list_at (codes "children") (view value.now)))) }
+    ensures some { OnOk result (0 < vec_len all.old → 0 < vec_len all.new) }
 {
-    for child in items(value, "children") {
+    let children = items(value, "children");
+    for child in children {
         push_told(alloc, all, child)?;
     }
     Ok(())
@@ -89,17 +103,44 @@ fn push_children(alloc: Global, all: &mut Vec<Diagnostic>, value: &Value) -> Res
 /// Adds a note to the diagnostic before it, and so one that goes on with that; what is neither, or has none
 /// before it, is a diagnostic more.
 fn push_told(alloc: Global, all: &mut Vec<Diagnostic>, value: &Value) -> Result<(), AllocError>
-    ensures { OnOk result (0 < vec_len all.new) }
+    ensures all { OnOk result (map read all.new.items ≡ gcc_behind (map read all.old.items) (view value.now)) }
+    ensures some { OnOk result (0 < vec_len all.new) }
 {
-    match all.last_mut() {
-        Some(told) if is_note(value) || goes_on(value, told.severity) => {
-            push_note(alloc, told, value)
-        }
-        _ => {
+    match all.pop() {
+        Some(last) => push_behind(alloc, all, last, value),
+        None => {
             all.push(told_by_item(alloc, value)?)?;
             Ok(())
         }
     }
+}
+
+/// Adds the last diagnostic, with a value behind it: as a part of it, or as a diagnostic more.
+fn push_behind(
+    alloc: Global,
+    all: &mut Vec<Diagnostic>,
+    mut last: Diagnostic,
+    value: &Value,
+) -> Result<(), AllocError>
+    ensures all { OnOk result (map read all.new.items
+        ≡ map read all.old.items ++ last_with (read last) (view value.now)) }
+    ensures some { OnOk result (0 < vec_len all.new) }
+{
+    if is_part(value, last.severity) {
+        push_note(alloc, &mut last, value)?;
+        all.push(last)?;
+        return Ok(());
+    }
+    all.push(last)?;
+    all.push(told_by_item(alloc, value)?)?;
+    Ok(())
+}
+
+/// Whether a value is a part of the diagnostic before it, which has this severity.
+fn is_part(value: &Value, severity: Severity) -> bool
+    ensures { result ≡ is_part_of severity (view value.now) }
+{
+    is_note(value) || goes_on(value, severity)
 }
 
 /// Whether a value is a note.
@@ -119,16 +160,12 @@ fn goes_on(value: &Value, severity: Severity) -> bool
 
 /// The diagnostic of one value.
 fn told_by_item(alloc: Global, value: &Value) -> Result<Diagnostic, AllocError>
-    ensures told { IfOk result (λ told. IsOfGcc (view value.now) told) }
-    ensures helps { IfOk result (λ told.
-        map string_bytes told.helps.items ≡ fixes.gcc_changes (view value.now)) }
-    ensures proposals { IfOk result (λ told. map proposed told.proposals.items
-        ≡ option_to_list (gcc_proposed (0, vec_len told.helps) [] (fixits_of (view value.now)))) }
+    ensures { IfOk result (λ told. read told ≡ gcc_read (view value.now)) }
 {
     let mut told = Diagnostic::new(alloc, severity_of(value, "kind"), words(value, "message"))?;
     told.code = copied_text(alloc, value, "option")?;
     push_locations(alloc, &mut told.places, items(value, "locations"))?;
-    push_events(alloc, &mut told.places, &mut told.notes, value)?;
+    push_events(alloc, &mut told, items(value, "path"))?;
     let fixits = items(value, "fixits");
     told.helps = changes_in(alloc, fixits)?;
     push_proposal(alloc, &mut told, 0, "", fixits)?;
@@ -159,61 +196,103 @@ fn push_locations(
     alloc: Global,
     places: &mut Vec<Place>,
     locations: &[Value],
-) -> Result<(), AllocError> {
-    for (number, location) in locations.iter().enumerate() {
-        if number == 0 || says_something(location) {
-            let said = words(location, "label");
-            push_place(alloc, places, location, said, number == 0)?;
+) -> Result<(), AllocError>
+    ensures { OnOk result (map seen places.new.items
+        ≡ map seen places.old.items ++ location_places true (items_view locations.now)) }
+{
+    let mut is_first = true;
+    for location in locations {
+        if let Some(place) = own_place(alloc, location, is_first)? {
+            places.push(place)?;
         }
+        is_first = false;
     }
     Ok(())
+}
+
+/// The place of one of a diagnostic's locations, if it is the first or says something.
+fn own_place(alloc: Global, location: &Value, is_first: bool) -> Result<Option<Place>, AllocError>
+    ensures { IfOk result (λ place. option_map seen place ≡ own_location is_first (view location.now)) }
+{
+    if is_first || says_something(location) {
+        location_place(alloc, location, words(location, "label"), is_first)
+    } else {
+        Ok(None)
+    }
 }
 
 /// Whether a location says something: it has a label, or a column. gcc gives the end of a file none.
-fn says_something(location: &Value) -> bool {
-    text(location, "label").is_some()
-        || location
-            .get("caret")
-            .and_then(spot)
-            .is_some_and(|at| at.column.is_some())
+fn says_something(location: &Value) -> bool
+    ensures { result ≡ something_said (view location.now) }
+{
+    text(location, "label").is_some() || has_column(spot_of(location, "caret"))
 }
 
-/// Adds the places of the events that lead to a diagnostic of the analyzer, in their order.
-fn push_events(
-    alloc: Global,
-    places: &mut Vec<Place>,
-    notes: &mut Vec<String>,
-    value: &Value,
-) -> Result<(), AllocError> {
-    for (number, event) in items(value, "path").iter().enumerate() {
-        push_event(alloc, places, notes, event, number.saturating_add(1))?;
+/// Whether a spot is there, and has a column.
+fn has_column(spot: Option<Spot>) -> bool
+    ensures { result ≡ is_in_column spot }
+{
+    match spot {
+        Some(spot) => spot.column.is_some(),
+        None => false,
+    }
+}
+
+/// Adds the places of the events that lead to a diagnostic of the analyzer, in their order. Of one without a place
+/// a note says the same.
+fn push_events(alloc: Global, told: &mut Diagnostic, events: &[Value]) -> Result<(), AllocError>
+    ensures places { OnOk result (map seen told.new.places.items
+        ≡ map seen told.old.places.items ++ event_places 1 (items_view events.now)) }
+    ensures notes { OnOk result (map string_bytes told.new.notes.items
+        ≡ map string_bytes told.old.notes.items ++ event_notes 1 (items_view events.now)) }
+    ensures others { OnOk result (told.new
+        ≡ record told.old { places = told.new.places; notes = told.new.notes }) }
+{
+    let mut number = 1;
+    for event in events {
+        push_event(alloc, told, event, number)?;
+        number += 1;
     }
     Ok(())
 }
 
-/// Adds the place of an event with this number, from 1. It says the number too, as in gcc's text. One without a
-/// place is a note.
+/// Adds an event, which has this number.
 fn push_event(
     alloc: Global,
-    places: &mut Vec<Place>,
-    notes: &mut Vec<String>,
+    told: &mut Diagnostic,
     event: &Value,
     number: usize,
-) -> Result<(), AllocError> {
-    let description = words(event, "description");
-    let said = format!(in alloc; "({number}) {description}")?;
+) -> Result<(), AllocError>
+    ensures places { OnOk result (map seen told.new.places.items
+        ≡ map seen told.old.places.items ++ option_to_list (event_told number (view event.now))) }
+    ensures notes { OnOk result (map string_bytes told.new.notes.items
+        ≡ map string_bytes told.old.notes.items ++ option_to_list (event_note number (view event.now))) }
+    ensures others { OnOk result (told.new
+        ≡ record told.old { places = told.new.places; notes = told.new.notes }) }
+{
+    let said = event_text(alloc, number, event)?;
     match event_place(alloc, event)? {
         Some(mut place) => {
             place.text = said;
-            places.push(place)?;
+            told.places.push(place)?;
         }
-        None => notes.push(said)?,
+        None => told.notes.push(said)?,
     }
     Ok(())
 }
 
+/// What an event with this number, from 1, says: the number too, as in gcc's text.
+fn event_text(alloc: Global, number: usize, event: &Value) -> Result<String, AllocError>
+    ensures { IfOk result (λ text. string_bytes text ≡ text_of_event number (view event.now)) }
+{
+    let description = words(event, "description");
+    format!(in alloc; "({number}) {description}")
+}
+
 /// Where an event is, if it says so.
-fn event_place(alloc: Global, event: &Value) -> Result<Option<Place>, AllocError> {
+fn event_place(alloc: Global, event: &Value) -> Result<Option<Place>, AllocError>
+    ensures { IfOk result (λ place. option_map seen place ≡ place_of_event (view event.now)) }
+{
     let Some(location) = event.get("location") else {
         return Ok(None);
     };
@@ -228,11 +307,7 @@ fn event_place(alloc: Global, event: &Value) -> Result<Option<Place>, AllocError
 /// Adds a note: as the label of its first place, if that is elsewhere and has none of its own. What it says is to
 /// be changed is a help, which says why, as the note does.
 fn push_note(alloc: Global, told: &mut Diagnostic, value: &Value) -> Result<(), AllocError>
-    ensures helps { OnOk result (map string_bytes told.new.helps.items
-        ≡ map string_bytes told.old.helps.items ++ fixes.gcc_note_helps (view value.now)) }
-    ensures proposals { OnOk result (map proposed told.new.proposals.items
-        ≡ map proposed told.old.proposals.items ++ option_to_list (gcc_note_proposed
-        (vec_len told.old.helps, vec_len told.new.helps) (view value.now))) }
+    ensures { OnOk result (read told.new ≡ gcc_noted (read told.old) (view value.now)) }
 {
     let message = words(value, "message").trim_start();
     push_noted(alloc, told, items(value, "locations"), message)?;
@@ -250,17 +325,28 @@ fn push_noted(
     locations: &[Value],
     message: &str,
 ) -> Result<(), AllocError>
-    ensures helps { OnOk result (told.new.helps ≡ told.old.helps) }
-    ensures proposals { OnOk result (told.new.proposals ≡ told.old.proposals) }
+    ensures places { OnOk result (map seen told.new.places.items ≡ with_note_said
+        (map seen told.old.places.items) message.now (items_view locations.now)) }
+    ensures notes { OnOk result (map string_bytes told.new.notes.items ≡ map string_bytes told.old.notes.items
+        ++ note_beside (map seen told.old.places.items) message.now (items_view locations.now)) }
+    ensures others { OnOk result (told.new
+        ≡ record told.old { places = told.new.places; notes = told.new.notes }) }
 {
-    let is_label = locations.first().is_some_and(|it| {
-        is_elsewhere(told.places.as_slice(), it) && text(it, "label").is_none()
-    });
-    if is_label {
-        push_noted_places(alloc, &mut told.places, locations, message)
-    } else {
-        told.notes.push(String::from_str(alloc, message)?)?;
-        push_noted_places(alloc, &mut told.places, locations, "")
+    if is_label(told.places.as_slice(), locations) {
+        return push_noted_places(alloc, &mut told.places, locations, message);
+    }
+    told.notes.push(String::from_str(alloc, message)?)?;
+    push_noted_places(alloc, &mut told.places, locations, "")
+}
+
+/// Whether the first of a note's locations says the note: it is elsewhere than where the diagnostic points, and
+/// has no label of its own.
+fn is_label(places: &[Place], locations: &[Value]) -> bool
+    ensures { result ≡ is_said_there (map seen places.now) (items_view locations.now) }
+{
+    match locations.first() {
+        Some(first) => is_elsewhere(places, first) && text(first, "label").is_none(),
+        None => false,
     }
 }
 
@@ -271,25 +357,83 @@ fn push_noted_places(
     places: &mut Vec<Place>,
     locations: &[Value],
     first_text: &str,
-) -> Result<(), AllocError> {
-    for (number, location) in locations.iter().enumerate() {
-        let own_text = if number == 0 { first_text } else { "" };
-        let said = text(location, "label").unwrap_or(own_text);
-        if !said.is_empty() || is_elsewhere(places.as_slice(), location) {
-            push_place(alloc, places, location, said, false)?;
+) -> Result<(), AllocError>
+    ensures { OnOk result (map seen places.new.items
+        ≡ with_noted (map seen places.old.items) first_text.now (items_view locations.now)) }
+{
+    let mut own_text = first_text;
+    for location in locations {
+        if let Some(place) = noted_place(alloc, places.as_slice(), location, own_text)? {
+            places.push(place)?;
         }
+        own_text = "";
     }
     Ok(())
 }
 
+/// The place of a note's location, if it says something, or is elsewhere than where the diagnostic with these
+/// places points. It says this, if it has no label.
+fn noted_place(
+    alloc: Global,
+    places: &[Place],
+    location: &Value,
+    own_text: &str,
+) -> Result<Option<Place>, AllocError>
+    ensures { IfOk result (λ place. option_map seen place
+        ≡ place_noted (map seen places.now) own_text.now (view location.now)) }
+{
+    let said = text(location, "label").unwrap_or(own_text);
+    if said.is_empty() && !is_elsewhere(places, location) {
+        return Ok(None);
+    }
+    location_place(alloc, location, said, false)
+}
+
 /// Whether a location is elsewhere than where the diagnostic with these places points.
-fn is_elsewhere(places: &[Place], location: &Value) -> bool {
-    match (places.first(), location.get("caret")) {
-        (_, None) => false,
-        (None, Some(_)) => true,
-        (Some(first), Some(caret)) => {
-            spot(caret) != Some(first.caret) || text(caret, "file") != Some(first.file.as_str())
-        }
+fn is_elsewhere(places: &[Place], location: &Value) -> bool
+    ensures { result ≡ is_elsewhere_than (map seen places.now) (view location.now) }
+{
+    match location.get("caret") {
+        Some(caret) => is_away(places, caret),
+        None => false,
+    }
+}
+
+/// Whether a caret is elsewhere.
+fn is_away(places: &[Place], caret: &Value) -> bool
+    ensures { result ≡ is_away_from (map seen places.now) (view caret.now) }
+{
+    match places.first() {
+        Some(first) => !is_caret_of(first, caret),
+        None => true,
+    }
+}
+
+/// Whether a caret is where a place has its own.
+fn is_caret_of(place: &Place, caret: &Value) -> bool
+    ensures { result ≡ is_of_caret (seen place.now) (view caret.now) }
+{
+    is_spot(place.caret, spot(caret)) && has_words(caret, "file", place.file.as_str())
+}
+
+/// Whether a spot is this one.
+fn is_spot(at: Spot, found: Option<Spot>) -> bool
+    ensures { result ≡ is_that_spot at found }
+{
+    match found {
+        Some(spot) => spot.line == at.line && is_column(spot.column, at.column),
+        None => false,
+    }
+}
+
+/// Whether two columns are the same.
+fn is_column(one: Option<usize>, other: Option<usize>) -> bool
+    ensures { result ≡ is_same_column one other }
+{
+    match (one, other) {
+        (Some(one), Some(other)) => one == other,
+        (None, None) => true,
+        _ => false,
     }
 }
 
@@ -324,20 +468,6 @@ fn end_of(location: &Value, caret: Spot) -> End
         (None, Some(_)) => End::Behind(caret),
         (None, None) => End::OfWord,
     }
-}
-
-/// Adds the place of a location, and what is said of it.
-fn push_place(
-    alloc: Global,
-    places: &mut Vec<Place>,
-    location: &Value,
-    said: &str,
-    is_primary: bool,
-) -> Result<(), AllocError> {
-    if let Some(place) = location_place(alloc, location, said, is_primary)? {
-        places.push(place)?;
-    }
-    Ok(())
 }
 
 /// The place of a location, and what is said of it. One without a caret or its line has none.
