@@ -5,7 +5,6 @@ mod Options
 mod Threes
 mod PlainWords
 mod PageWords
-mod SentPages
 -- The report.
 mod Writing
 mod Ending

@@ -1,10 +1,10 @@
 //! The texts that the program has ready: its help and its version.
 
-ghost use Rattle.std.specs.Prelude.{◌≡◌, ◌<◌, length, map, string_bytes, take, IfErr, OnOk};
-ghost use Rattle.std.specs.Io.KnownBytes.{Appends};
+ghost use Rattle.std.specs.Prelude.{◌≡◌, map, string_bytes};
 ghost use Rattle.ariadne_draw.specs.Pages.{page_asked, page_text, IsShown};
 
 use super::fault::{Fault, Status, tell_fault};
+use ariadne_send::send::send;
 use std::io::Write;
 
 /// What `--help` writes. Its two pictures are those that the program draws for the words above
@@ -120,24 +120,6 @@ pub fn show<W: Write, F: Write>(page: Page, out: &mut W, faults: &mut F) -> Stat
 {
     match send(out, page.text().as_bytes()) {
         Ok(()) => Status::Drawn,
-        Err(sent) => tell_fault(faults, &Fault::Writer { sent }),
+        Err(error) => tell_fault(faults, &Fault::Writer { sent: error.sent }),
     }
-}
-
-/// Sends all bytes, and stops where the writer fails or takes nothing: it has then taken the first
-/// ones, so many.
-fn send<W: Write>(out: &mut W, bytes: &[u8]) -> Result<(), usize>
-    ensures ok { OnOk result (Appends (W.contents out.old) (W.contents out.new) bytes.now) }
-    ensures fewer { IfErr result (λ sent. sent < length bytes.now) }
-    ensures err { IfErr result (λ sent.
-        Appends (W.contents out.old) (W.contents out.new) (take sent bytes.now)) }
-{
-    let mut sent = 0;
-    while sent < bytes.len() {
-        match out.write(&bytes[sent..]) {
-            Ok(taken) if taken > 0 => sent += taken,
-            _ => return Err(sent),
-        }
-    }
-    Ok(())
 }
