@@ -13,7 +13,6 @@ use Rattle.ariadne_told.specs.ArrowsTold.{Bare, bare_of, IsOfBareHead}
 use Rattle.ariadne_told.specs.Fronts.{Front, front_in, is_scope_line}
 use Rattle.ariadne_told.specs.FrontsTold.{place_of_front}
 use Rattle.ariadne_told.specs.Places.{seen}
-use Rattle.ariadne_told.specs.declared.diagnostic.Diagnostic.{Diagnostic}
 use Rattle.ariadne_told.specs.declared.diagnostic.Place.{Place}
 use Rattle.ariadne_show.specs.declared.front.Role.{Role}
 use Rattle.ariadne_show.specs.declared.front.Role.TheVariants as role
