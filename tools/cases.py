@@ -92,8 +92,8 @@ def label_of(label):
         at=f"{label['start']}..{label['end']}",
         message=label["message"],
         color=label.get("color"),
-        order=label["order"],
-        priority=label["priority"],
+        order=label["order"] or None,
+        priority=label["priority"] or None,
     )
 
 
@@ -121,7 +121,8 @@ def sources_of(report):
 
 
 def members_told(name, report):
-    """The members of a report as a case of a name, without a picture."""
+    """The members of a report as a case of a name, without a picture. (Those of the default are left out: an
+    unproved build reads a member as long as it draws a row.)"""
     source_id, start, end = report["span"]
     return told(
         name=name,
@@ -130,13 +131,13 @@ def members_told(name, report):
         code=report.get("code"),
         message=report.get("message"),
         id=source_id,
-        at=f"{start}..{end}",
+        at=f"{start}..{end}" if start or end else None,
         **sources_of(report),
         labels=[label_of(label) for label in report["labels"]],
         helps=report.get("helps"),
         edits=report.get("edits"),
         notes=report.get("notes"),
-        settings=report["config"],
+        settings={setting: it for setting, it in report["config"].items() if it != SETTINGS[setting]},
         takes=report.get("takes"),
         safe=report.get("safe"),
     )
