@@ -104,7 +104,7 @@ checksum() {
 
 # files FOLDER PLACE..: a checksum and the name of each file in these places of the folder.
 files() (
-    cd "$1" && shift && find "$@" -type f -print0 | LC_ALL=C sort -z | xargs -0 b2sum -l 256
+    cd "$1" && shift && find "$@" -type f -exec b2sum -l 256 {} + | LC_ALL=C sort
 )
 
 # places PARTS CRATE..: the folders that the crates have for these parts, from the clone's folder.
@@ -123,9 +123,12 @@ entries() (
     grep -E "^($*)[ :]" "$clone/crates.txt"
 )
 
+# What an unproved build is made of beside its crates.
+makers='tools/keeping tools/gathered.py'
+
 # unproved_sources CLONE CRATE..: a checksum of what an unproved build of the last crate is made of.
 unproved_sources() {
-    { entries "$@" && files "$1" $(shift && places src "$@") && files "$root/tools" keeping gathered.py; } | checksum
+    { entries "$@" && files "$1" $(shift && places src "$@") $makers; } | checksum
 }
 
 # copy CLONE CRATE..: makes a clone of what unproved builds of these crates are made of.
@@ -135,7 +138,8 @@ copy() {
     for crate; do
         mkdir -p "$clone/crates/$crate" && cp -R "$root/crates/$crate/src" "$clone/crates/$crate" || return
     done
-    entries "$root" "$@" > "$clone/crates.txt" && chmod -R u+w "$clone"
+    mkdir -p "$clone/tools" && (cd "$root" && cp $makers "$clone/tools") && entries "$root" "$@" > "$clone/crates.txt" &&
+        chmod -R u+w "$clone"
 }
 
 # loader FILE: the words that started a program when it kept itself, before its own two, a line each: the
@@ -157,7 +161,8 @@ starter() {
 # no `rt`. (It takes three milliseconds, and `rt version` takes 50.)
 kit() {
     found=$(command -v rt) || return 0
-    folder=$(dirname -- "$(readlink -f -- "$found")")
+    found=$(readlink -f -- "$found")
+    folder=${found%/*}
     echo $(stat -L -c %i:%.9Z "$folder"/rt* "$folder"/rattle* 2> /dev/null)
 }
 
