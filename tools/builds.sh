@@ -235,11 +235,15 @@ proved_places() {
     esac
 }
 
-# proved_checksum CRATE [BUILD]: a checksum of what a proved build of the crate is made of, and of its bytes.
+# sums PLACE..: a checksum and the name of each file in these places of the clone.
+sums() {
+    files "$root" "$@"
+}
+
+# proved_checksum CRATE BUILD: a checksum of what a proved build of the crate is made of, and of its bytes.
 proved_checksum() {
     crates=$(below "$1")
-    shift
-    { entries "$root" $crates && files "$root" $(proved_places $crates) "$@"; } | checksum
+    { entries "$root" $crates && sums $(proved_places $crates) "$2"; } | checksum
 }
 
 # state CRATE..: a line that differs after each edit of what proved builds of these crates are made of, also
