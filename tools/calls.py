@@ -70,11 +70,18 @@ def edits_of(case):
     return ", ".join(f"Edit {{ span: {it['at']}, text: String::from_str(alloc, {literal(it['text'])})? }}" for it in case["edits"])
 
 
+def view_of(settings):
+    """How the lines of a suggestion are shown."""
+    tab_width, width = settings.get("tab_width", 4), settings.get("width", 0)
+    char_set = settings.get("char_set", "Ascii")
+    return f"View {{ tab_width: {tab_width}, width: {width}, char_set: CharSet::{char_set} }}"
+
+
 def suggestion_of(case):
     """The help that shows the edits of a case."""
     settings = case.get("settings", {})
-    counts, tab_width = settings.get("index_type", "Char"), settings.get("tab_width", 4)
-    return f"suggestion(alloc, &source, IndexType::{counts}, {tab_width}, &[{edits_of(case)}])?.as_str()"
+    counts = settings.get("index_type", "Char")
+    return f"suggestion(alloc, &source, IndexType::{counts}, {view_of(settings)}, &[{edits_of(case)}])?.as_str()"
 
 
 def call_of(case):

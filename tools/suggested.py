@@ -23,13 +23,35 @@ class Edit:
 
 
 @dataclass(frozen=True)
+class View:
+    """How lines are shown: the columns from one tab stop to the next, the columns that a line may take, 0 for any, and
+    the mark in place of what is left out then."""
+
+    tab_width: int
+    width: int
+    mark: str
+
+    @staticmethod
+    def of(config):
+        """That of a report with these settings."""
+        return View(config["tab_width"], config["width"], "..." if config["char_set"] == "Ascii" else "\u2026")
+
+    @property
+    def most(self):
+        """The columns that a line may take, where it may not take any."""
+        return max(self.width, 2 * len(self.mark))
+
+
+@dataclass(frozen=True)
 class Row:
-    """A line that is removed (`-`) or added (`+`), and whether its white space is shown by signs."""
+    """A line that is removed (`-`) or added (`+`), whether its white space is shown by signs, and the line at its
+    place among those that are added or removed there; an empty one where there is none."""
 
     sign: str
     number: int
     line: str
     is_marked: bool
+    counterpart: str
 
 
 def in_order(edits):
@@ -122,8 +144,9 @@ def seen(line):
 def run_of(olds, i, news, j):
     """The rows of lines that change, which are numbered from these on."""
     twins = [seen(old) == seen(new) for old, new in zip(olds, news)] + [False] * max(len(olds), len(news))
-    yield from (Row("-", i + at, line, twins[at]) for at, line in enumerate(olds))
-    yield from (Row("+", j + at, line, twins[at]) for at, line in enumerate(news))
+    for sign_of_row, first, lines, others in ("-", i, olds, news), ("+", j, news, olds):
+        for at, line in enumerate(lines):
+            yield Row(sign_of_row, first + at, line, twins[at], others[at] if at < len(others) else "")
 
 
 def rows_of(olds, news, pieces):
@@ -155,7 +178,43 @@ def mark(it):
     return BLANK if it == " " else OTHER_BLANK if it in WHITE_SPACE else it
 
 
-def drawn(rows, offset, tab_width):
+def body_of(row, line, tab_width):
+    """What a row shows of a line that is shown whole."""
+    return "".join(map(mark, line)) if row.is_marked else spread(line, tab_width)
+
+
+def columns(text):
+    """The columns of a text."""
+    return sum(map(columns_of, text))
+
+
+def cut_in_front(text, most, cut):
+    """A text in so many columns: if it takes more, the mark and the most of its last characters, from one on that
+    takes columns."""
+    if columns(text) <= most:
+        return text
+    fitting = (text[at:] for at in range(len(text)) if columns_of(text[at]) and columns(text[at:]) <= most - len(cut))
+    return cut + next(fitting, "")
+
+
+def cut_behind(text, most, cut):
+    """A text in so many columns: if it takes more, the most of its first characters, and the mark."""
+    if columns(text) <= most:
+        return text
+    return max((text[:at] for at in range(len(text) + 1) if columns(text[:at]) <= most - len(cut)), key=len) + cut
+
+
+def fitted(text, other, view):
+    """What is shown of a line with a counterpart: if one of them takes too many columns, half of them at the most
+    for what both have in common in front, and the rest for what differs."""
+    if not view.width or max(columns(text), columns(other)) <= view.most:
+        return text
+    at = common(text, other)
+    front = cut_in_front(text[:at], view.most // 2, view.mark)
+    return front + cut_behind(text[at:], view.most - columns(front), view.mark)
+
+
+def drawn(rows, offset, view):
     """The text of rows. Where lines are kept between two of them, `...` stands for these."""
     numbers = [min(offset + row.number + 1, LAST_NUMBER) for row in rows if row]
     width = max(map(len, map(str, numbers)), default=1)
@@ -165,8 +224,8 @@ def drawn(rows, offset, tab_width):
             lines.append("...".rjust(width))
         for row in group if is_drawn else ():
             number = str(min(offset + row.number + 1, LAST_NUMBER)).rjust(width)
-            body = "".join(map(mark, row.line)) if row.is_marked else spread(row.line, tab_width)
-            lines.append(f"{number} {row.sign} {body}")
+            text, other = (body_of(row, line, view.tab_width) for line in (row.line, row.counterpart))
+            lines.append(f"{number} {row.sign} {fitted(text, other, view)}")
     first = 1 if rows and rows[0] is None else 0
     return "\n".join(lines[first:-1])
 
@@ -190,7 +249,7 @@ def untouched(olds, changes):
     }
 
 
-def help_of(source, is_bytes, tab_width, edits):
+def help_of(source, is_bytes, view, edits):
     """The help that shows edits of a source, or why they are refused.
 
     The rows are right by themselves, however they were found: the source's lines without the removed ones
@@ -209,4 +268,4 @@ def help_of(source, is_bytes, tab_width, edits):
     left = [line.rstrip(SEPARATORS) for at, line in enumerate(olds) if at not in removed]
     assert left == [line.rstrip(SEPARATORS) for at, line in enumerate(news) if at not in added]
     assert not removed & untouched(olds, [in_characters(old, trimmed(old, it)) for it in changes])
-    return drawn(rows, source["offset"], tab_width)
+    return drawn(rows, source["offset"], view)

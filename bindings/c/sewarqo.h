@@ -153,8 +153,9 @@ typedef struct {
     sewarqo_source source; /* its name is not read. Of an excerpt all lines are needed that an edit reaches */
     const sewarqo_edit *edits;
     size_t edits_len;
-    uint32_t flags;        /* those of the report: SEWARQO_BYTE_OFFSETS alone changes something */
+    uint32_t flags;        /* those of the report: SEWARQO_BYTE_OFFSETS and SEWARQO_ASCII alone change something */
     size_t tab_width;      /* in columns; 0 is the usual 4 */
+    size_t width;          /* in columns: of the text of a line, which is cut where it is longer. 0 is any */
 } sewarqo_suggestion;
 
 /* What sewarqo_draw and sewarqo_suggest return. */

@@ -214,7 +214,7 @@ public:
 
     // The text of a help that shows edits of a source, or an exception: Error, or std::bad_alloc. Each line that
     // changes stands in it as it was (`-`) and as it will be (`+`). It is handed in as a help, as it is or behind a
-    // message and a line feed. Of the configuration `byte_offsets` and `tab_width` count.
+    // message and a line feed. Of the configuration `byte_offsets`, `ascii`, `tab_width` and `width` count.
     static std::string suggest(const Source &source, const std::vector<Edit> &edits, const Config &config = {}) {
         return suggestion(source, edits, config).value().text;
     }
@@ -225,7 +225,7 @@ public:
         for (const Edit &edit : edits)
             given.push_back({edit.start, edit.end, text_of(edit.text)});
         const sewarqo_suggestion asked = {{{}, text_of(source.text), source.line_offset}, given.data(), given.size(),
-                                          flags_of(config), config.tab_width};
+                                          flags_of(config), config.tab_width, config.width};
         Picture help{std::string(1024, '\0'), {}};
         std::size_t len = 0, count = 0;
         std::uint32_t status;

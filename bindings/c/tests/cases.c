@@ -121,7 +121,7 @@ static void read_edit(a_case *it, words *line) {
 
 /* Adds a help that shows the edits of the case, if it has some. */
 static void suggest(a_case *it) {
-    sewarqo_suggestion asked = {{{{NULL, 0}, 0}, {NULL, 0}, 0}, NULL, 0, 0, 0};
+    sewarqo_suggestion asked = {{{{NULL, 0}, 0}, {NULL, 0}, 0}, NULL, 0, 0, 0, 0};
     void *bytes;
     size_t count;
     if (it->edits_len == 0)
@@ -131,6 +131,7 @@ static void suggest(a_case *it) {
     asked.edits_len = it->edits_len;
     asked.flags = it->report.flags;
     asked.tab_width = it->report.tab_width;
+    asked.width = it->report.width;
     if (sewarqo_suggest_grown(&asked, NULL, &it->suggested, &count) != SEWARQO_DRAWN)
         broken("suggestion");
     bytes = it->suggested.bytes;

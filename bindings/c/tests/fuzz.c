@@ -123,7 +123,7 @@ static void try_suggestion(void) {
     static uint8_t out[ROOM];
     sewarqo_edit edits[EDITS];
     size_t edits_len = byte() % (EDITS + 1);
-    sewarqo_suggestion suggestion = {{optional(9), text(60), number(99)}, edits, edits_len, byte() % 2 ? 0 : 8, number(9)};
+    sewarqo_suggestion suggestion = {{optional(9), text(60), number(99)}, edits, edits_len, byte() % 2 ? 0 : 8, number(9), number(9)};
     for (size_t at = 0; at < EDITS; at++) {
         size_t start = number(60), more = number(9);
         size_t end = is_rare(30) ? more : more <= SIZE_MAX - start ? start + more : start;

@@ -183,7 +183,7 @@ static void files(void) {
 static void suggestions(void) {
     static char put_in[3001];
     sewarqo_edit edit = {4, 4, {NULL, 0}};
-    sewarqo_suggestion suggestion = {{{{NULL, 0}, 0}, {NULL, 0}, 8}, NULL, 1, 0, 0};
+    sewarqo_suggestion suggestion = {{{{NULL, 0}, 0}, {NULL, 0}, 8}, NULL, 1, 0, 0, 0};
     sewarqo_picture help = {NULL, 0, 0};
     size_t count = 7;
     suggestion.source.text = sewarqo_str("let a = b;\n");

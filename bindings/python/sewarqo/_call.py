@@ -62,7 +62,7 @@ class Call:
         self.labels: List[Label] = listed(report.labels, "labels")
         self.given = list(_given(sources))
         self.numbers: Dict[Hashable, int] = {it.key: number for number, it in enumerate(self.given)}
-        self.flags = _flags(config) | BYTE_OFFSETS * _counts_bytes(self.given)
+        self.flags = flags_of(config) | BYTE_OFFSETS * _counts_bytes(self.given)
         self.asked = self.report_of(config)
         if config.excerpts:
             self.given = [self.cut(number, it) for number, it in enumerate(self.given)]
@@ -297,7 +297,7 @@ _SWITCHES = [
 ]
 
 
-def _flags(config: Config) -> int:
+def flags_of(config: Config) -> int:
     flags = 0
     for name, bit, is_set in _SWITCHES:
         value = getattr(config, name)

@@ -48,7 +48,7 @@ class CEdit(ctypes.Structure):
 
 class CSuggestion(ctypes.Structure):
     _fields_ = [
-        ("source", CSource), ("edits", ctypes.POINTER(CEdit)), ("edits_len", size), ("flags", u32), ("tab_width", size),
+        ("source", CSource), ("edits", ctypes.POINTER(CEdit)), ("edits_len", size), ("flags", u32), ("tab_width", size), ("width", size),
     ]
 
 

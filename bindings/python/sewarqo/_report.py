@@ -112,7 +112,8 @@ class Report:
         be (`+`), behind its number, and `...` for lines between that stay.
 
         It is handed in as a help, as it is or behind a message and a line feed. Edits that change nothing have an
-        empty text. A sign stands for each hidden character. Of the configuration `tab_width` alone counts.
+        empty text. A sign stands for each hidden character. Of the configuration `ascii`, `tab_width` and `width`
+        count.
 
         Raises `EditError` where one ends before it starts, starts before the end of the one in front of it,
         reaches past the source, or (in bytes) cuts a character; in this order. `ReportError`, `SourceError`,

@@ -4,7 +4,8 @@ import ctypes
 from typing import Iterable, List, Union
 
 from ._call import (
-    BUFFER_TOO_SMALL, BYTE_OFFSETS, NO_MEMORY, SOURCE_FAULTS, c_text, integer, listed, one_source, sizes, surrogate,
+    BUFFER_TOO_SMALL, BYTE_OFFSETS, NO_MEMORY, SOURCE_FAULTS, c_text, flags_of, integer, listed, one_source, sizes,
+    surrogate,
 )
 from ._errors import EditError, ReportError, SourceError
 from ._library import LARGEST, CEdit, CSuggestion, library, size
@@ -21,9 +22,11 @@ def suggested(source: Union[Text, Source], edits: Iterable[Edit], config: Config
     """The text of the help. The call is made again where the buffer was too short for it."""
     listed_edits: List[Edit] = listed(edits, "edits")
     given = [_edit(number, edit) for number, edit in enumerate(listed_edits)]
-    flags = BYTE_OFFSETS * isinstance(source.text if isinstance(source, Source) else source, bytes)
-    tab_width, _, _ = sizes(config)
-    asked = CSuggestion(one_source(source), (CEdit * len(given))(*given), len(given), flags, tab_width)
+    counts_bytes = isinstance(source.text if isinstance(source, Source) else source, bytes)
+    tab_width, _, width = sizes(config)
+    asked = CSuggestion(
+        one_source(source), (CEdit * len(given))(*given), len(given), flags_of(config) | BYTE_OFFSETS * counts_bytes,
+        tab_width, width)
     length, count = size(), size()
     room = 1024
     while True:

@@ -255,7 +255,7 @@ def numbers_of_colors():
     for color in colors:
         if "\x1b[" not in Report("hint", kind_color=color).render("x"):
             yield f"colour {color}"
-    if (ctypes.sizeof(CReport), ctypes.sizeof(CSuggestion)) != (160, 80):
+    if (ctypes.sizeof(CReport), ctypes.sizeof(CSuggestion)) != (160, 88):
         yield f"a report of {ctypes.sizeof(CReport)} bytes, a suggestion of {ctypes.sizeof(CSuggestion)}"
 
 

@@ -91,6 +91,7 @@ pub(crate) struct GivenSuggestion<'a> {
     pub(crate) edits: Lent<'a, GivenEdit<'a>>,
     pub(crate) flags: u32,
     pub(crate) tab_width: usize,
+    pub(crate) width: usize,
 }
 
 #[repr(C)]

@@ -78,7 +78,7 @@ impl Report<'_> {
     /// (`+`), behind its number, and `...` for lines between that stay. It is handed in as a help, as it is or behind
     /// a message and a line feed. Edits that change nothing have an empty text.
     ///
-    /// What offsets count and the width of a tab are the configuration's. A sign stands for each character that SAFE.md
+    /// What offsets count, the width of a tab and of a line, and the characters of strokes are the configuration's. A sign stands for each character that SAFE.md
     /// lists, whatever the configuration says. `ariadne` 0.6.0 has no such call.
     ///
     /// ```
@@ -103,6 +103,7 @@ impl Report<'_> {
             edits: Lent::from(given.as_slice()),
             flags: flags_of(config),
             tab_width: config.tab_width,
+            width: config.width,
         };
         match suggest(&suggestion) {
             Ok(text) => Ok(String::from_utf8_lossy(&text).into_owned()),

@@ -6,6 +6,7 @@ use Rattle.std.specs.declared.ops.Range.{Range}
 use Rattle.ariadne.specs.Color.TheVariants.{Primary}
 use Rattle.ariadne.specs.LabelAttach.{LabelAttach}
 use Rattle.ariadne.specs.LabelAttach.TheVariants.{Start, Middle, End}
+use Rattle.ariadne.specs.CharSet.{CharSet}
 use Rattle.ariadne.specs.CharSet.TheVariants.{Ascii, Unicode}
 use Rattle.ariadne.specs.IndexType.{IndexType}
 use Rattle.ariadne.specs.IndexType.TheVariants.{Byte, Char}
@@ -34,6 +35,10 @@ attach_of attach = if attach == 1 then Start else (if attach == 2 then End else 
 abbrev pub index_type_of : ℕ → IndexType
 index_type_of flags = if has flags 8 then Byte else Char
 
+-- the characters that strokes and marks are drawn with
+abbrev pub char_set_of : ℕ → CharSet
+char_set_of flags = if has flags 2 then Ascii else Unicode
+
 -- how many columns stand from one tab stop to the next
 abbrev pub columns_of_tab : ℕ → ℕ
 columns_of_tab tab_width = if tab_width == 0 then 4 else tab_width
@@ -51,7 +56,7 @@ config_with flags attach tab_width context_lines width = record {
   tab_width = columns_of_tab tab_width;
   context_lines = context_lines;
   width = width;
-  char_set = if has flags 2 then Ascii else Unicode;
+  char_set = char_set_of flags;
   index_type = index_type_of flags;
 }
 

@@ -4,6 +4,7 @@ use Rattle.std.specs.Prelude.{drop, take, Option, Some, None, option_map, string
 use Rattle.std.specs.Str.{is_utf8}
 use Rattle.ariadne.specs.Listing.{listed_lines}
 use Rattle.ariadne_edits.specs.Outcomes.{IsSuggestion, Refuses}
+use Rattle.ariadne_edits.specs.declared.cut.View.{View}
 use Rattle.ariadne_edits.specs.declared.edit.BadEdit.{BadEdit}
 use Rattle.ariadne_edits.specs.declared.edit.BadEdit.TheVariants.{Reversed, Overlaps, PastSource}
 use Rattle.ariadne_edits.specs.declared.edit.BadEdit.TheVariants.{CutsCharacter}
@@ -17,7 +18,7 @@ use Rattle.ariadne_calls.specs.declared.suggestion.Suggested.{Suggested}
 use Rattle.ariadne_calls.specs.declared.suggestion.Suggested.TheVariants.{Told, TooShort, Refused}
 use Rattle.ariadne_calls.specs.declared.suggestion.Unsuggested.{Unsuggested}
 use Rattle.ariadne_calls.specs.declared.suggestion.Unsuggested.TheVariants.{NoMemory, Faulty}
-use Rattle.ariadne_calls.specs.Asked.{columns_of_tab, index_type_of}
+use Rattle.ariadne_calls.specs.Asked.{char_set_of, columns_of_tab, index_type_of}
 use Rattle.ariadne_calls.specs.Given.{listing_of}
 
 -- ---- the edits
@@ -54,6 +55,11 @@ abbrev pub IsUnread : List GivenEdit → Unsuggested → Type 0
 IsUnread edits NoMemory = ⊤
 IsUnread edits (Faulty fault) = option_map EditText (first_unread 0 edits) ≡ Some fault
 
+-- how lines are shown
+abbrev pub view_of : GivenSuggestion → View
+view_of s =
+    record { tab_width = columns_of_tab s.tab_width; width = s.width; char_set = char_set_of s.flags }
+
 module _ (s : GivenSuggestion) where
   -- the given edits can't be made, and this is why
   pub record AreRefused (bad : BadEdit) : Type 0 where
@@ -80,7 +86,7 @@ module _ (s : GivenSuggestion) where
   pub record IsTold (bytes : List ℕ) : Type 0 where
     pub edits : List Edit
     pub asked : AreAsked s.edits.now edits
-    pub shown : IsSuggestion (index_type_of s.flags) (columns_of_tab s.tab_width) s.source.line_offset
+    pub shown : IsSuggestion (index_type_of s.flags) (view_of s) s.source.line_offset
         s.source.text.bytes.now edits bytes
 
   -- they stand in front in the buffer, and what was behind them stays

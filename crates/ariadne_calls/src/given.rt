@@ -94,10 +94,12 @@ pub struct GivenSuggestion<'a> {
     /// The source, whose name is not read.
     pub source: GivenSource<'a>,
     pub edits: &'a [GivenEdit<'a>],
-    /// Bits as those of a report, of which 8 alone is read: offsets in bytes.
+    /// Bits as those of a report, of which two are read: 2, the mark in ASCII, and 8, offsets in bytes.
     pub flags: u32,
     /// In columns; 0 is the usual 4.
     pub tab_width: usize,
+    /// In columns of the text of a line; 0 is any.
+    pub width: usize,
 }
 
 /// A label that is left out of the picture.

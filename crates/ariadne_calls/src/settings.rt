@@ -2,8 +2,8 @@
 
 ghost use Rattle.std.specs.Prelude.{◌≡◌, ◌≢◌, [], IfOk, OnOk, IfErr};
 ghost use Rattle.ariadne.specs.Kinds as kinds;
-ghost use Rattle.ariadne_calls.specs.Asked.{attach_of, columns_of_tab, config_of, config_with, custom_of};
-ghost use Rattle.ariadne_calls.specs.Asked.{has, index_type_of, kind_of};
+ghost use Rattle.ariadne_calls.specs.Asked.{attach_of, char_set_of, columns_of_tab, config_of, config_with};
+ghost use Rattle.ariadne_calls.specs.Asked.{custom_of, has, index_type_of, kind_of};
 ghost use Rattle.ariadne_calls.specs.Faults.{IsFirst, custom_faults, kind_faults, settings_faults};
 
 use crate::colors::color_of;
@@ -76,14 +76,9 @@ fn attach_of(attach: u32) -> LabelAttach
 fn config_with(flags: u32, tab_width: usize) -> Config
     ensures { result ≡ config_with flags 0 tab_width 0 0 }
 {
-    let char_set = if has(flags, 2) {
-        CharSet::Ascii
-    } else {
-        CharSet::Unicode
-    };
     Config::new()
         .with_color(!has(flags, 1))
-        .with_char_set(char_set)
+        .with_char_set(char_set_of(flags))
         .with_compact(has(flags, 4))
         .with_index_type(index_type_of(flags))
         .with_underlines(!has(flags, 16))
@@ -91,6 +86,17 @@ fn config_with(flags: u32, tab_width: usize) -> Config
         .with_multiline_arrows(!has(flags, 32))
         .with_cross_gap(!has(flags, 64))
         .with_tab_width(columns_of_tab(tab_width))
+}
+
+/// The characters that strokes and marks are drawn with.
+pub fn char_set_of(flags: u32) -> CharSet
+    ensures { result ≡ char_set_of flags }
+{
+    if has(flags, 2) {
+        CharSet::Ascii
+    } else {
+        CharSet::Unicode
+    }
 }
 
 /// What offsets count.

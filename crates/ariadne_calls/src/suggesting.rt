@@ -1,15 +1,15 @@
 //! From the edits that a call is given to the text of a help, and from there to its buffer.
 
-ghost use Rattle.std.specs.Prelude.{◌≡◌, IfOk, OnOk, IfErr, None, string_bytes};
+ghost use Rattle.std.specs.Prelude.{◌≡◌, ◌≤◌, IfOk, OnOk, IfErr, None, string_bytes};
 ghost use Rattle.ariadne_calls.specs.Suggesting.{AreAsked, asked_edit, first_unread, Gives, IsRefusal};
-ghost use Rattle.ariadne_calls.specs.Suggesting.{IsTold, IsUnread, made_edit, misgiven};
+ghost use Rattle.ariadne_calls.specs.Suggesting.{IsTold, IsUnread, made_edit, misgiven, view_of};
 
 use crate::given::{GivenEdit, GivenSuggestion};
-use crate::settings::{columns_of_tab, index_type_of};
+use crate::settings::{char_set_of, columns_of_tab, index_type_of};
 use crate::suggestion::{Misgiven, Suggested, Unsuggested};
 use crate::texts::decoded;
 use ariadne::Source;
-use ariadne_edits::{Edit, EditError, suggestion};
+use ariadne_edits::{Edit, EditError, View, suggestion};
 use std::alloc::{AllocError, Global};
 
 /// Writes the text of a help that shows edits of a source into `out`.
@@ -51,11 +51,22 @@ fn text_of(alloc: Global, given: &GivenSuggestion<'_>) -> Result<String, Unsugge
     };
     let source = source.with_display_line_offset(offset);
     let counts = index_type_of(given.flags);
-    let tab_width = columns_of_tab(given.tab_width);
-    match suggestion(alloc, &source, counts, tab_width, edits.as_slice()) {
+    match suggestion(alloc, &source, counts, view_of(given), edits.as_slice()) {
         Ok(text) => Ok(text),
         Err(EditError::Memory(_)) => Err(Unsuggested::NoMemory),
         Err(EditError::Refused(bad)) => Err(Unsuggested::Faulty(Misgiven::Edits(bad))),
+    }
+}
+
+/// How lines are shown.
+fn view_of(given: &GivenSuggestion<'_>) -> View
+    ensures view { result ≡ view_of given.now }
+    ensures tabs { 1 ≤ result.tab_width }
+{
+    View {
+        tab_width: columns_of_tab(given.tab_width),
+        width: given.width,
+        char_set: char_set_of(given.flags),
     }
 }
 

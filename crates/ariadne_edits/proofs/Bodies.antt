@@ -1,7 +1,9 @@
 -- What is shown of a line, character by character.
-use Rattle.std.proofs.Common.{◌≡◌, ◌∙◌, ap, sym, refl, ℕ, zero, suc, ◌+◌, ◌==◌, true, false, not, cond, List, [], ◌∷◌, ◌++◌, replicate, eq-eqb}
-use Rattle.std.specs.Prelude.{encode_utf8_all}
+use Rattle.std.proofs.Common.{◌≡◌, ◌∙◌, ap, sym, refl, ℕ, zero, suc, ◌+◌, ◌≤◌, ◌==◌, true, false, not, cond, List, [], ◌∷◌, ◌++◌, replicate, eq-eqb, arith}
+use Rattle.std.specs.Prelude.{encode_utf8_all, unwrap_or, Option, Some, None}
 use Rattle.std.specs.Char.{is_whitespace}
+use Rattle.unicode_width.specs.Width.{char_width}
+use Rattle.unicode_width.proofs.Rules.{width_or_zero-le}
 use Rattle.ariadne_base.specs.Lines.{is_separator}
 use Rattle.ariadne_edits.specs.Bodies.{columns_at, shown_at, sign_of, spread, tab_blanks}
 use Rattle.ariadne_edits.specs.Rows.{seen_of}
@@ -27,6 +29,14 @@ spread_more tab_width column next c t e = ap (λ n. shown_at tab_width column c 
 pub spread_none : (tab_width column : ℕ) → spread tab_width column [] ≡ []
 unfolding spread
 spread_none tab_width column = refl
+
+-- a character takes three columns at most
+pub columns-le : (c : ℕ) → unwrap_or (char_width false c) 1 ≤ 3
+columns-le c = at_most (char_width false c) (width_or_zero-le false c)
+  where
+    at_most : (w : Option ℕ) → unwrap_or w 0 ≤ 3 → unwrap_or w 1 ≤ 3
+    at_most None h = omega arith
+    at_most (Some n) h = h
 
 -- what is seen of a line
 pub seen_more : (c : ℕ) (t : List ℕ) → is_whitespace c ≡ false → seen_of (c ∷ t) ≡ (c ∷ []) ++ seen_of t

@@ -1,10 +1,13 @@
 pub mod RowLists
 pub mod RowLaws
+pub mod Counterparts
 pub mod LineTexts
 pub mod Texts
 pub mod Fitting
 pub mod Bodies
 pub mod Pushing
+pub mod Cuts
+pub mod Widths
 pub mod DrawnRows
 pub mod SameLines
 pub mod PairLists

@@ -3,7 +3,7 @@ use Rattle.std.proofs.Common.{◌≡◌, ◌∙◌, ap, sym, refl, ℕ, suc, zer
 use Rattle.std.specs.List.{flat_map, range_with_len, AllByRecursion}
 use Rattle.std.proofs.lemmas.Grind.{flat_map-append}
 use Rattle.ariadne_base.specs.Locations.{upto, line_text}
-use Rattle.ariadne_edits.specs.declared.rows.Blanks.{Blanks}
+use Rattle.ariadne_edits.specs.declared.rows.Look.{Look}
 use Rattle.ariadne_edits.specs.declared.rows.Row.{Row}
 use Rattle.ariadne_edits.specs.declared.rows.Row.TheVariants.{Removed, Added}
 use Rattle.ariadne_edits.specs.Rows.{lines_before, lines_after, AreMarked, IsKept, IsSame, TellFirst}
@@ -31,18 +31,18 @@ lines_same f rows row i h e =
     flat_map-append f rows (row ∷ []) ∙ ap (λ xs. flat_map f rows ++ (xs ++ [])) e ∙ append-nil (flat_map f rows) ∙ h
 
 module _ (old new : List (List ℕ)) (i j : ℕ) (rows : List Row) (h : TellFirst old new i j rows) where
-  pub told_removed : (blanks : Blanks) → AreMarked blanks (line_text old i) new → TellFirst old new (i + 1) j (rows ++ Removed i blanks ∷ [])
-  told_removed blanks marked = record {
-    before = lines_more lines_before rows (Removed i blanks) i h.before refl;
-    after = lines_same lines_after rows (Removed i blanks) j h.after refl;
-    same = all_more (IsSame old new) rows (Removed i blanks) h.same marked;
+  pub told_removed : (look : Look) → AreMarked look.blanks (line_text old i) new → TellFirst old new (i + 1) j (rows ++ Removed i look ∷ [])
+  told_removed look marked = record {
+    before = lines_more lines_before rows (Removed i look) i h.before refl;
+    after = lines_same lines_after rows (Removed i look) j h.after refl;
+    same = all_more (IsSame old new) rows (Removed i look) h.same marked;
   }
 
-  pub told_added : (blanks : Blanks) → AreMarked blanks (line_text new j) old → TellFirst old new i (j + 1) (rows ++ Added j blanks ∷ [])
-  told_added blanks marked = record {
-    before = lines_same lines_before rows (Added j blanks) i h.before refl;
-    after = lines_more lines_after rows (Added j blanks) j h.after refl;
-    same = all_more (IsSame old new) rows (Added j blanks) h.same marked;
+  pub told_added : (look : Look) → AreMarked look.blanks (line_text new j) old → TellFirst old new i (j + 1) (rows ++ Added j look ∷ [])
+  told_added look marked = record {
+    before = lines_same lines_before rows (Added j look) i h.before refl;
+    after = lines_more lines_after rows (Added j look) j h.after refl;
+    same = all_more (IsSame old new) rows (Added j look) h.same marked;
   }
 
   pub told_kept : (row : Row) → IsKept old new i j row → TellFirst old new (i + 1) (j + 1) (rows ++ row ∷ [])

@@ -3,8 +3,10 @@ use Rattle.std.specs.Prelude.{ℕ, ◌+◌, ◌-◌, ◌^◌, min, max, Bool, tr
 use Rattle.std.specs.Prelude.{if◌then◌else◌, List, [], ◌∷◌, ◌++◌, length, replicate, decimal, codes}
 use Rattle.std.specs.Prelude.{encode_utf8_all}
 use Rattle.ariadne_base.specs.Locations.{line_text}
-use Rattle.ariadne_edits.specs.Bodies.{body}
+use Rattle.ariadne_edits.specs.Cuts.{shown_line, text_of_counterpart}
+use Rattle.ariadne_edits.specs.declared.cut.View.{View}
 use Rattle.ariadne_edits.specs.declared.drawing.Layout.{Layout}
+use Rattle.ariadne_edits.specs.declared.rows.Look.{Look}
 use Rattle.ariadne_edits.specs.declared.rows.Row.{Row}
 use Rattle.ariadne_edits.specs.declared.rows.Row.TheVariants.{Kept, KeptLast, Removed, Added}
 
@@ -18,8 +20,8 @@ number_of offset i = min (offset + i + 1) (2 ^ 64 - 1)
 abbrev pub row_number : ℕ → Row → ℕ
 row_number offset (Kept i j) = 0
 row_number offset (KeptLast i j) = 0
-row_number offset (Removed i blanks) = number_of offset i
-row_number offset (Added j blanks) = number_of offset j
+row_number offset (Removed i look) = number_of offset i
+row_number offset (Added j look) = number_of offset j
 
 -- the greatest of them
 abbrev pub greatest_number : ℕ → List Row → ℕ
@@ -47,20 +49,25 @@ row_text width number sign line =
 abbrev pub is_drawn : Row → Bool
 is_drawn (Kept i j) = false
 is_drawn (KeptLast i j) = false
-is_drawn (Removed i blanks) = true
-is_drawn (Added j blanks) = true
+is_drawn (Removed i look) = true
+is_drawn (Added j look) = true
+
+-- what is shown of line i of a text, whose counterparts are lines of another
+abbrev pub line_shown : View → List (List ℕ) → ℕ → Look → List (List ℕ) → List ℕ
+line_shown view lines i look others =
+    shown_line view look.blanks (line_text lines i) (text_of_counterpart others look.counterpart)
 
 module _ (layout : Layout) (old new : List (List ℕ)) where
   -- what is drawn of a row: of a kept line nothing
   abbrev pub drawn_row : Bool → Bool → Row → List ℕ
   drawn_row is_first is_apart (Kept i j) = []
   drawn_row is_first is_apart (KeptLast i j) = []
-  drawn_row is_first is_apart (Removed i blanks) =
+  drawn_row is_first is_apart (Removed i look) =
       parting is_first is_apart layout.width ++ row_text layout.width
-      (number_of layout.offset i) (codes " - ") (body layout.tab_width blanks (line_text old i))
-  drawn_row is_first is_apart (Added j blanks) =
+      (number_of layout.offset i) (codes " - ") (line_shown layout.view old i look new)
+  drawn_row is_first is_apart (Added j look) =
       parting is_first is_apart layout.width ++ row_text layout.width
-      (number_of layout.offset j) (codes " + ") (body layout.tab_width blanks (line_text new j))
+      (number_of layout.offset j) (codes " + ") (line_shown layout.view new j look old)
 
   -- the rows in order
   unfoldable pub drawn_rows : Bool → Bool → List Row → List ℕ

@@ -1,8 +1,10 @@
 pub mod Changes
 pub mod Refusals
 pub mod Rows
+pub mod Counterparts
 pub mod Kept
 pub mod Stays
 pub mod Bodies
+pub mod Cuts
 pub mod Drawn
 pub mod Outcomes

@@ -1,13 +1,15 @@
 -- What comes of edits of a source.
-use Rattle.std.specs.Prelude.{ℕ, ◌≡◌, List, map, Some, None, chars, ⊤}
+use Rattle.std.specs.Prelude.{ℕ, ◌≡◌, List, length, map, Some, None, chars, ⊤}
 use Rattle.ariadne_base.specs.Lines.{lines_of}
 use Rattle.ariadne_picture.specs.declared.switches.IndexType.{IndexType}
 use Rattle.ariadne_edits.specs.Changes.{AreInOrder, edited_text, in_bytes}
+use Rattle.ariadne_edits.specs.Counterparts.{HaveCounterparts}
 use Rattle.ariadne_edits.specs.Drawn.{drawn_text, number_width}
 use Rattle.ariadne_edits.specs.Kept.{KeepUntouched}
 use Rattle.ariadne_edits.specs.Refusals.{refusal_of}
 use Rattle.ariadne_edits.specs.Rows.{Tell}
 use Rattle.ariadne_edits.specs.declared.change.Change.{Change}
+use Rattle.ariadne_edits.specs.declared.cut.View.{View}
 use Rattle.ariadne_edits.specs.declared.edit.BadEdit.{BadEdit}
 use Rattle.ariadne_edits.specs.declared.edit.Edit.{Edit}
 use Rattle.ariadne_edits.specs.declared.edit.EditError.{EditError}
@@ -41,14 +43,17 @@ pub record IsEdited (counts : IndexType) (text : List ℕ) (edits : List Edit) (
   pub is : out ≡ edited_text text made
 
 -- a text shows which lines edits of a source change: rows tell how the lines of the source become those
--- of the edited text, each line that no edit touches is kept, and all rows are drawn
-pub record IsSuggestion (counts : IndexType) (tab_width offset : ℕ) (text : List ℕ)
+-- of the edited text, each line that no edit touches is kept, those that change have their counterparts,
+-- and all rows are drawn
+pub record IsSuggestion (counts : IndexType) (view : View) (offset : ℕ) (text : List ℕ)
     (edits : List Edit) (help : List ℕ) : Type 0 where
   pub after : List ℕ
   pub edited : IsEdited counts text edits after
   pub rows : List Row
   pub told : Tell (lines_of (chars text)) (lines_of (chars after)) rows
   pub kept : KeepUntouched text edited.made rows
+  pub counterparts : HaveCounterparts (0, 0)
+      (length (lines_of (chars text)), length (lines_of (chars after))) rows
   pub drawn : help ≡ drawn_text
-      (record { width = number_width offset rows; offset = offset; tab_width = tab_width })
+      (record { width = number_width offset rows; offset = offset; view = view })
       (lines_of (chars text)) (lines_of (chars after)) rows

@@ -47,22 +47,22 @@ AreMarked Marked line lines = HasTwin line lines
 abbrev pub lines_before : Row → List ℕ
 lines_before (Kept i j) = i ∷ []
 lines_before (KeptLast i j) = i ∷ []
-lines_before (Removed i blanks) = i ∷ []
-lines_before (Added j blanks) = []
+lines_before (Removed i look) = i ∷ []
+lines_before (Added j look) = []
 
 -- and that of the edited text
 abbrev pub lines_after : Row → List ℕ
 lines_after (Kept i j) = j ∷ []
 lines_after (KeptLast i j) = j ∷ []
-lines_after (Removed i blanks) = []
-lines_after (Added j blanks) = j ∷ []
+lines_after (Removed i look) = []
+lines_after (Added j look) = j ∷ []
 
 -- a kept line is the same in both, but for the terminator that the last line may lack
 abbrev pub IsSame : List (List ℕ) → List (List ℕ) → Row → Type 0
 IsSame old new (Kept i j) = line_text old i ≡ line_text new j
 IsSame old new (KeptLast i j) = IsLastOf old new i j ⊎ IsLastOf new old j i
-IsSame old new (Removed i blanks) = AreMarked blanks (line_text old i) new
-IsSame old new (Added j blanks) = AreMarked blanks (line_text new j) old
+IsSame old new (Removed i look) = AreMarked look.blanks (line_text old i) new
+IsSame old new (Added j look) = AreMarked look.blanks (line_text new j) old
 
 -- a row tells that line i of the source is kept as line j of the edited text
 pub record IsKept (old new : List (List ℕ)) (i j : ℕ) (row : Row) : Type 0 where
@@ -90,8 +90,8 @@ Tell old new rows = TellFirst old new (length old) (length new) rows
 abbrev pub patched_line : List (List ℕ) → List (List ℕ) → Row → List (List ℕ)
 patched_line old new (Kept i j) = line_text old i ∷ []
 patched_line old new (KeptLast i j) = line_text new j ∷ []
-patched_line old new (Removed i blanks) = []
-patched_line old new (Added j blanks) = line_text new j ∷ []
+patched_line old new (Removed i look) = []
+patched_line old new (Added j look) = line_text new j ∷ []
 
 unfoldable pub patched : List (List ℕ) → List (List ℕ) → List Row → List (List ℕ)
 patched old new rows = flat_map (patched_line old new) rows

@@ -76,8 +76,9 @@ fn push_shown(
 
 /// The columns of a character that is printed as it is.
 #[tactic(auto, unfolding(ariadne_picture::specs::Columns::char_columns))]
-fn columns_of(c: char) -> usize
-    ensures { result ≡ char_columns c }
+pub(crate) fn columns_of(c: char) -> usize
+    ensures columns { result ≡ char_columns c }
+    ensures most { result ≤ 3 }
 {
     c.width().unwrap_or(1)
 }

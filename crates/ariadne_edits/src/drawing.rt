@@ -3,15 +3,16 @@
 ghost use Rattle.std.specs.Prelude.{◌≡◌, ◌-◌, ◌++◌, ◌&&◌, ◌≤◌, not, IfOk, OnOk, chars};
 ghost use Rattle.std.specs.Prelude.{decimal, length, replicate, string_bytes};
 ghost use Rattle.ariadne_base.specs.Listing.{listed_lines};
-ghost use Rattle.ariadne_edits.specs.Bodies.{body};
+ghost use Rattle.ariadne_edits.specs.Cuts.{text_of_counterpart};
 ghost use Rattle.ariadne_edits.specs.Drawn.{drawn_row, drawn_text, greatest_number as greatest};
-ghost use Rattle.ariadne_edits.specs.Drawn.{is_drawn as shows, number_of as shown_number};
+ghost use Rattle.ariadne_edits.specs.Drawn.{is_drawn as shows, line_shown, number_of as shown_number};
 ghost use Rattle.ariadne_edits.specs.Drawn.{number_width as columns_of_numbers, parting};
 ghost use Rattle.ariadne_edits.specs.Drawn.{row_number as number_in, row_text};
 
-use crate::body::{push_blanks, push_body};
+use crate::body::push_blanks;
+use crate::cut::{View, push_line};
 use crate::line::text_of;
-use crate::rows::{Blanks, Row};
+use crate::rows::{Look, Row};
 use ariadne_base::Source;
 use std::alloc::{AllocError, Global};
 
@@ -22,8 +23,8 @@ pub struct Layout {
     pub width: usize,
     /// What is added to the numbers of lines.
     pub offset: usize,
-    /// How many columns stand from one tab stop to the next.
-    pub tab_width: usize,
+    /// How lines are shown.
+    pub view: View,
 }
 
 /// Where a row stands among those that are drawn.
@@ -46,7 +47,7 @@ pub(crate) fn drawn(
     new: &Source<&str>,
     rows: &[Row],
 ) -> Result<String, AllocError>
-    requires tabs { 1 ≤ layout.tab_width }
+    requires tabs { 1 ≤ layout.view.tab_width }
     ensures { IfOk result (λ text. string_bytes text
         ≡ drawn_text layout (listed_lines old.now) (listed_lines new.now) rows.now) }
 {
@@ -91,7 +92,7 @@ fn push_drawn(
     standing: Standing,
     row: Row,
 ) -> Result<(), AllocError>
-    requires tabs { 1 ≤ layout.tab_width }
+    requires tabs { 1 ≤ layout.view.tab_width }
     ensures { OnOk result (string_bytes out.new ≡ string_bytes out.old
         ++ drawn_row layout (listed_lines old.now) (listed_lines new.now)
         standing.is_first standing.is_apart row) }
@@ -99,13 +100,13 @@ fn push_drawn(
     match row {
         Row::Kept(_, _) => Ok(()),
         Row::KeptLast(_, _) => Ok(()),
-        Row::Removed(i, blanks) => {
+        Row::Removed(i, look) => {
             push_parting(out, standing, layout.width)?;
-            push_row(alloc, out, layout, i, " - ", blanks, text_of(old, i))
+            push_row(alloc, out, layout, " - ", old, i, look, new)
         }
-        Row::Added(j, blanks) => {
+        Row::Added(j, look) => {
             push_parting(out, standing, layout.width)?;
-            push_row(alloc, out, layout, j, " + ", blanks, text_of(new, j))
+            push_row(alloc, out, layout, " + ", new, j, look, old)
         }
     }
 }
@@ -127,25 +128,43 @@ fn push_parting(out: &mut String, standing: Standing, width: usize) -> Result<()
     Ok(())
 }
 
-/// Appends a row.
+/// Appends a row: line `i` of a text, whose counterparts are lines of another.
 fn push_row(
     alloc: Global,
     out: &mut String,
     layout: Layout,
-    number: usize,
     sign: &str,
-    blanks: Blanks,
-    line: &str,
+    lines: &Source<&str>,
+    i: usize,
+    look: Look,
+    others: &Source<&str>,
 ) -> Result<(), AllocError>
-    requires tabs { 1 ≤ layout.tab_width }
+    requires tabs { 1 ≤ layout.view.tab_width }
     ensures { OnOk result (string_bytes out.new ≡ string_bytes out.old
-        ++ row_text layout.width (shown_number layout.offset number) sign.now
-        (body layout.tab_width blanks (chars line.now))) }
+        ++ row_text layout.width (shown_number layout.offset i) sign.now
+        (line_shown layout.view (listed_lines lines.now) i look (listed_lines others.now))) }
 {
-    push_number(alloc, out, layout.width, number_of(layout.offset, number))?;
+    push_number(alloc, out, layout.width, number_of(layout.offset, i))?;
     out.push_str(sign)?;
-    push_body(out, layout.tab_width, blanks, line)?;
-    Ok(())
+    let other = counterpart_text(others, look.counterpart);
+    push_line(
+        alloc,
+        out,
+        layout.view,
+        look.blanks,
+        text_of(lines, i),
+        other,
+    )
+}
+
+/// The text of a counterpart, which is empty where there is none.
+fn counterpart_text<'a>(others: &'a Source<&str>, counterpart: Option<usize>) -> &'a str
+    ensures { chars result.now ≡ text_of_counterpart (listed_lines others.now) counterpart }
+{
+    match counterpart {
+        None => "",
+        Some(number) => text_of(others, number),
+    }
 }
 
 /// Appends a number at the end of so many columns.

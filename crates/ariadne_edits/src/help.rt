@@ -4,6 +4,7 @@ ghost use Rattle.std.specs.Prelude.{◌≤◌, IfOk, IfErr, chars, string_bytes}
 ghost use Rattle.ariadne_base.specs.Lines.{lines_of};
 ghost use Rattle.ariadne_edits.specs.Outcomes.{IsEdited, IsSuggestion, RefusedAs};
 
+use crate::cut::View;
 use crate::drawing::{Layout, drawn, number_width};
 use crate::edit::{Edit, EditError};
 use crate::hints::pairs;
@@ -35,10 +36,14 @@ pub fn edited(
 /// will be (`+`), with its number. `...` stands for lines between that stay.
 ///
 /// Offsets count as `counts` says. Line numbers have the display offset of the source added. Tabs are
-/// spread to the next of the stops that stand each `tab_width` columns, and a sign stands for each
+/// spread to the next of the stops that stand each `view.tab_width` columns, and a sign stands for each
 /// hidden character. Where two lines differ in white space alone, that is shown by signs. A text that
 /// doesn't change has no rows: the answer is empty. No row ends in a line feed but those in front of
 /// others.
+///
+/// If `view.width` isn't 0 and a line takes more columns, it is cut, and so is its counterpart: of what
+/// both have in common in front the last characters are shown, with a mark in half of the width at most,
+/// of what differs the first characters and a mark.
 ///
 /// On `Refused` the edits can't be made, on `Memory` there was no memory.
 ///
@@ -52,16 +57,16 @@ pub fn suggestion<I: SourceText>(
     alloc: Global,
     source: &Source<I>,
     counts: IndexType,
-    tab_width: usize,
+    view: View,
     edits: &[Edit],
 ) -> Result<String, EditError>
-    requires tabs { 1 ≤ tab_width }
-    ensures ok { IfOk result (λ help. IsSuggestion counts tab_width source.now.display_offset
+    requires tabs { 1 ≤ view.tab_width }
+    ensures ok { IfOk result (λ help. IsSuggestion counts view source.now.display_offset
         source.now.text edits.now (string_bytes help)) }
     ensures err { IfErr result (RefusedAs counts source.now.text edits.now) }
 {
     let offset = source.display_line_offset();
-    suggestion_of(alloc, source.text(), offset, counts, tab_width, edits)
+    suggestion_of(alloc, source.text(), offset, counts, view, edits)
 }
 
 /// The same for a text whose line numbers have this offset added.
@@ -70,12 +75,12 @@ fn suggestion_of(
     text: &str,
     offset: usize,
     counts: IndexType,
-    tab_width: usize,
+    view: View,
     edits: &[Edit],
 ) -> Result<String, EditError>
-    requires tabs { 1 ≤ tab_width }
+    requires tabs { 1 ≤ view.tab_width }
     ensures ok { IfOk result (λ help.
-        IsSuggestion counts tab_width offset text.now edits.now (string_bytes help)) }
+        IsSuggestion counts view offset text.now edits.now (string_bytes help)) }
     ensures err { IfErr result (RefusedAs counts text.now edits.now) }
 {
     let made = accepted(alloc, text, counts, edits)?;
@@ -88,7 +93,7 @@ fn suggestion_of(
     let layout = Layout {
         width,
         offset,
-        tab_width,
+        view,
     };
     let help = drawn(alloc, layout, &old, &new, rows.as_slice())?;
     Ok(help)

@@ -4,6 +4,7 @@
 
 mod body;
 pub mod change;
+pub mod cut;
 pub mod drawing;
 pub mod edit;
 pub mod help;
@@ -14,6 +15,7 @@ mod making;
 mod refusal;
 pub mod rows;
 
+pub use cut::View;
 pub use edit::{BadEdit, Edit, EditError};
 pub use help::{edited, suggestion};
-pub use rows::{Blanks, Row};
+pub use rows::{Blanks, Look, Row};

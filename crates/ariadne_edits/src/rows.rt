@@ -3,9 +3,10 @@
 ghost use Rattle.std.specs.Prelude.{◌≡◌, ◌+◌, ◌<◌, ◌≤◌, ◌^◌, ◌⊎◌, ℕ, IfOk, IfSome, IsSome, IsTrue, OnOk};
 ghost use Rattle.std.specs.Prelude.{chars, length, Some};
 ghost use Rattle.ariadne_base.specs.Listing.{listed_lines};
+ghost use Rattle.ariadne_edits.specs.Counterparts.{EndInRun, EndKept, HaveCounterparts, line_in};
 ghost use Rattle.ariadne_edits.specs.Kept.{AreSame, HasKept, IsPaired, KeepAlso};
 ghost use Rattle.ariadne_edits.specs.Rows.{AreMarked, IsKept, IsLastOf, Tell, TellFirst};
-ghost use Rattle.ariadne_edits.specs.declared.rows.Row.TheVariants.{Kept};
+ghost use Rattle.ariadne_edits.specs.declared.rows.Row.TheVariants.{Kept, KeptLast};
 
 use crate::line::{are_twins, is_terminated, text_of};
 use ariadne_base::Source;
@@ -20,6 +21,16 @@ pub enum Blanks {
     Marked,
 }
 
+/// How a line is shown that changes.
+#[derive(Clone, Copy, Debug, PartialEq, Eq)]
+pub struct Look {
+    /// How its white space is shown.
+    pub blanks: Blanks,
+    /// Its counterpart in the other text, if it has one: of lines that are removed and added at one
+    /// place the first are each other's counterparts, and so on.
+    pub counterpart: Option<usize>,
+}
+
 /// A line of the source, of the edited text, or of both. Lines count from 0.
 #[derive(Clone, Copy, Debug, PartialEq, Eq)]
 pub enum Row {
@@ -29,9 +40,9 @@ pub enum Row {
     /// lines follow.
     KeptLast(usize, usize),
     /// This line of the source is gone.
-    Removed(usize, Blanks),
+    Removed(usize, Look),
     /// This line of the edited text is new.
-    Added(usize, Blanks),
+    Added(usize, Look),
 }
 
 /// The lines that change between two that are kept.
@@ -59,6 +70,8 @@ pub(crate) fn rows(
         Tell (listed_lines old.now) (listed_lines new.now) rows.items) }
     ensures kept { IfOk result (λ rows. (i : ℕ)
         → IsPaired (listed_lines old.now) (listed_lines new.now) pairs.now i → HasKept rows.items i) }
+    ensures counterparts { IfOk result (λ rows. HaveCounterparts (0, 0)
+        (length (listed_lines old.now), length (listed_lines new.now)) rows.items) }
 {
     let mut rows = Vec::new(alloc);
     let mut told = (0, 0);
@@ -97,6 +110,8 @@ fn push_pair(
     ensures kept { OnOk result (told.0 ≤ pair.0 → told.1 ≤ pair.1
         → AreSame (listed_lines old.now) (listed_lines new.now) pair.0 pair.1
         → HasKept rows.new.items pair.0) }
+    ensures counterparts { IfOk result (λ next.
+        EndKept told rows.old.items → EndKept next rows.new.items) }
 {
     let (old_from, new_from) = told;
     let (old_to, new_to) = pair;
@@ -124,6 +139,7 @@ fn kept(old: &Source<&str>, i: usize, new: &Source<&str>, j: usize) -> Option<Ro
     ensures kept { IfSome result (IsKept (listed_lines old.now) (listed_lines new.now) i j) }
     ensures same { AreSame (listed_lines old.now) (listed_lines new.now) i j
         → result ≡ Some (Kept i j) }
+    ensures is { IfSome result (λ row. (row ≡ Kept i j) ⊎ (row ≡ KeptLast i j)) }
     ensures fits { IsSome result → (i + 1 < 2 ^ 64) × (j + 1 < 2 ^ 64) }
 {
     if old.lines().len() <= i || new.lines().len() <= j {
@@ -165,6 +181,8 @@ fn push_run(
         OnOk result (TellTo run.old_from run.new_from rows.old.items
         → TellTo run.old_to run.new_to rows.new.items) }
     ensures keeps { OnOk result (KeepAlso rows.old.items rows.new.items) }
+    ensures counterparts { let InRun = EndInRun (run.old_from, run.new_from) (run.old_to, run.new_to) in
+        OnOk result (InRun rows.old.items → InRun rows.new.items) }
 {
     push_removed(alloc, rows, old, new, run)?;
     push_added(alloc, rows, old, new, run)
@@ -184,11 +202,13 @@ fn push_removed(
         OnOk result (TellTo run.old_from run.new_from rows.old.items
         → TellTo run.old_to run.new_from rows.new.items) }
     ensures keeps { OnOk result (KeepAlso rows.old.items rows.new.items) }
+    ensures counterparts { let InRun = EndInRun (run.old_from, run.new_from) (run.old_to, run.new_to) in
+        OnOk result (InRun rows.old.items → InRun rows.new.items) }
 {
     for i in run.old_from..run.old_to {
-        let twin = twin_of(i - run.old_from, run.new_from, run.new_to);
-        let blanks = blanks_of(alloc, text_of(old, i), new, twin)?;
-        rows.push(Row::Removed(i, blanks))?;
+        let counterpart = counterpart_of(i - run.old_from, run.new_from, run.new_to);
+        let look = look_of(alloc, text_of(old, i), new, counterpart)?;
+        rows.push(Row::Removed(i, look))?;
     }
     Ok(())
 }
@@ -207,34 +227,56 @@ fn push_added(
         OnOk result (TellTo run.old_to run.new_from rows.old.items
         → TellTo run.old_to run.new_to rows.new.items) }
     ensures keeps { OnOk result (KeepAlso rows.old.items rows.new.items) }
+    ensures counterparts { let InRun = EndInRun (run.old_from, run.new_from) (run.old_to, run.new_to) in
+        OnOk result (InRun rows.old.items → InRun rows.new.items) }
 {
     for j in run.new_from..run.new_to {
-        let twin = twin_of(j - run.new_from, run.old_from, run.old_to);
-        let blanks = blanks_of(alloc, text_of(new, j), old, twin)?;
-        rows.push(Row::Added(j, blanks))?;
+        let counterpart = counterpart_of(j - run.new_from, run.old_from, run.old_to);
+        let look = look_of(alloc, text_of(new, j), old, counterpart)?;
+        rows.push(Row::Added(j, look))?;
     }
     Ok(())
 }
 
-/// The line of the other text that stands at the same place of a run, if there are so many.
-fn twin_of(place: usize, from: usize, to: usize) -> Option<usize>
-    ensures { IfSome result (λ number. number < to) }
+/// The line at a place of those from one on, if there are so many.
+fn counterpart_of(place: usize, from: usize, to: usize) -> Option<usize>
+    ensures is { result ≡ line_in from to place }
+    ensures within { IfSome result (λ number. number < to) }
 {
     let number = from.checked_add(place)?;
     if number < to { Some(number) } else { None }
 }
 
-/// How the white space of a line is shown that stands for one of another text, if it does.
+/// How a line is shown that has this counterpart in another text, if it has one.
+fn look_of(
+    alloc: Global,
+    line: &str,
+    other: &Source<&str>,
+    counterpart: Option<usize>,
+) -> Result<Look, AllocError>
+    requires { IfSome counterpart (λ number. number < length (listed_lines other.now)) }
+    ensures marked { IfOk result (λ look.
+        AreMarked look.blanks (chars line.now) (listed_lines other.now)) }
+    ensures counterpart { IfOk result (λ look. look.counterpart ≡ counterpart) }
+{
+    let blanks = blanks_of(alloc, line, other, counterpart)?;
+    Ok(Look {
+        blanks,
+        counterpart,
+    })
+}
+
+/// How the white space of a line is shown that has this counterpart in another text, if it has one.
 fn blanks_of(
     alloc: Global,
     line: &str,
     other: &Source<&str>,
-    twin: Option<usize>,
+    counterpart: Option<usize>,
 ) -> Result<Blanks, AllocError>
-    requires { IfSome twin (λ number. number < length (listed_lines other.now)) }
+    requires { IfSome counterpart (λ number. number < length (listed_lines other.now)) }
     ensures { IfOk result (λ blanks. AreMarked blanks (chars line.now) (listed_lines other.now)) }
 {
-    match twin {
+    match counterpart {
         Some(number) => {
             if are_twins(alloc, line, text_of(other, number))? {
                 Ok(Blanks::Marked)

@@ -46,10 +46,15 @@ const HELPS: &[(&[&str], &str)] = &[
         &["--ascii", "--width", "27"],
         "   | Help: 1 - a = b;\n   |       2 - let c = d;\n   |       1 + let a = b;\n   |       2 + let c = e;\n---'\n1 error\n",
     ),
-    // and not in one column less
+    // in one column less, lines are cut around their first difference
     (
         &["--ascii", "--width", "26"],
-        "   | Help 1: put `e` at\n   |         2:9\n   | \n   | Help 2: put `let ` at\n   |         1:1\n---'\n1 error\n",
+        "   | Help: 1 - a = b;\n   |       2 - ... d;\n   |       1 + let a ...\n   |       2 + ... e;\n---'\n1 error\n",
+    ),
+    // where no line with two marks fits, words say it
+    (
+        &["--ascii", "--width", "22"],
+        "   | Help 1: put `e`\n   |         at 2:9\n   | \n   | Help 2: put `let\n   |         ` at 1:1\n---'\n1 error\n",
     ),
 ];
 

@@ -1,10 +1,12 @@
 //! The help that a case makes of edits of its source.
 
+ghost use Rattle.std.specs.Prelude.{◌≤◌};
+
 use crate::making::{config_of, counted, tab_width_of};
 use crate::members::{has, list, text};
 use crate::offsets::offsets_at;
 use ariadne::{ReportBuilder, Span};
-use ariadne_edits::{Edit, EditError, suggestion};
+use ariadne_edits::{Edit, EditError, View, suggestion};
 use std::alloc::{AllocError, Global};
 use toml::Value;
 
@@ -26,10 +28,22 @@ fn help_of(alloc: Global, case: &Value) -> Result<String, AllocError> {
     let source = counted(alloc, text(case, "source").unwrap_or(""), case)?;
     let edits = edits_of(alloc, list(case, "edits"))?;
     let counts = config_of(case).index_type();
-    match suggestion(alloc, &source, counts, tab_width_of(case), edits.as_slice()) {
+    match suggestion(alloc, &source, counts, view_of(case), edits.as_slice()) {
         Ok(help) => Ok(help),
         Err(EditError::Memory(error)) => Err(error),
         Err(EditError::Refused(bad)) => format!(in alloc; "{bad:?}"),
+    }
+}
+
+/// How a case shows lines.
+fn view_of(case: &Value) -> View
+    ensures { 1 ≤ result.tab_width }
+{
+    let switches = config_of(case).switches();
+    View {
+        tab_width: tab_width_of(case),
+        width: switches.width,
+        char_set: switches.char_set,
     }
 }
 

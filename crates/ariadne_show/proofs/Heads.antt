@@ -9,7 +9,7 @@ use Rattle.ariadne_visible.specs.Visible.{visible_bytes}
 use Rattle.ariadne_visible.specs.declared.text.TextKind.TheVariants.{OneRow}
 use Rattle.ariadne_told.specs.declared.diagnostic.Diagnostic.{Diagnostic}
 use Rattle.ariadne_show.specs.declared.options.Style.{Style}
-use Rattle.ariadne_show.specs.Drawn.{coded, config_of, kind_of, IsAbout, IsBare, IsReportOf}
+use Rattle.ariadne_show.specs.Drawn.{coded, config_of, kind_of, room_in, IsAbout, IsBare, IsReportOf}
 use Rattle.ariadne_show.specs.Asides.{helps_of, notes_of, with_helps, with_notes}
 use Rattle.ariadne_show.specs.Found.{Files, Found}
 use Rattle.ariadne_show.specs.Proposed.{AreSketched}
@@ -104,7 +104,7 @@ pub report_about : (style : Style) (files : Files) (told : Diagnostic) (main : F
     (r m s : ReportFields (ℕ × Range ℕ)) (width : ℕ) (under sources : List SafeSource) (sketches : List Sketch)
     → IsAbout style 0 told (string_bytes told.message) r → IsBare r → r.span ≡ shown_header r.config.index_type under main → AreOrdered files main.number told.places.items ordered
     → m ≡ with_labels (labels_of r.config.index_type under told.severity style.is_compact ordered) r
-    → IsTextWidth style.width under m width → AreSketched width files sources told.proposals.items sketches
+    → IsTextWidth style.width under m width → AreSketched (room_in style width) files sources told.proposals.items sketches
     → s ≡ with_helps (helps_of width sketches told) (with_notes (notes_of width files told) (wide width m))
     → sources ≡ under → IsReportOf style files told main sources s
 report_about style files told main ordered r m s width under sources sketches about bare span places marked fits drawn is same =
@@ -123,7 +123,7 @@ report_about style files told main ordered r m s width under sources sketches ab
       labels = ap (λ l. l ++ labels) bare.labels;
       notes = ap (λ l. l ++ notes_of width files told) bare.notes;
       sketches = sketches;
-      proposals = subst (λ (l : List SafeSource). AreSketched width files l told.proposals.items sketches) same drawn;
+      proposals = subst (λ (l : List SafeSource). AreSketched (room_in style width) files l told.proposals.items sketches) same drawn;
       helps = ap (λ l. l ++ helps) bare.helps;
     })
   where

@@ -24,6 +24,7 @@ use Rattle.ariadne_show.specs.Proposed.{all_drawn, not_drawn, not_read, one_sket
 use Rattle.ariadne_show.specs.Proposed.{AreEdits, AreSketched, AreWaysDrawn, IsEdit, IsSketched, IsWayDrawn}
 use Rattle.ariadne_show.specs.Read.{AreFilesSettled, AreKept, HaveSearched, HaveSources, IsFileSettled, IsFileSettledNow}
 use Rattle.ariadne_show.specs.declared.held.Held.{Held}
+use Rattle.ariadne_show.specs.declared.proposed.Room.{Room}
 use Rattle.ariadne_show.specs.declared.proposed.Sketch.{Sketch}
 use Rattle.ariadne_show.specs.declared.shelf.Shelf.{Shelf}
 use Rattle.ariadne_show.proofs.Searching.{first_still, kept_on, rest_still, zip_more, zip_still}
@@ -93,28 +94,28 @@ all_settled search before after i a b left right so_far = record {
 -- ---- what is drawn of them
 
 -- one more is drawn, or left out
-pub sketched_more : (columns : ℕ) (files : Files) (sources : List SafeSource) (xs all : List Proposal) (old new : List Sketch)
+pub sketched_more : (room : Room) (files : Files) (sources : List SafeSource) (xs all : List Proposal) (old new : List Sketch)
     (x : Proposal) (sketch : Option Sketch) → all ≡ xs ++ x ∷ [] → new ≡ old ++ option_to_list sketch
-    → AreSketched columns files sources xs old → IsSketched columns files sources x sketch
-    → AreSketched columns files sources all new
-sketched_more columns files sources xs all old new x sketch more pushed so_far one =
+    → AreSketched room files sources xs old → IsSketched room files sources x sketch
+    → AreSketched room files sources all new
+sketched_more room files sources xs all old new x sketch more pushed so_far one =
     rw (more, pushed) (one_sketched_more so_far x sketch one)
 
 -- the file of a proposal was not read
-pub file_unread : (columns : ℕ) (files : Files) (sources : List SafeSource) (proposal : Proposal) (path : List ℕ)
-    → path ≡ string_bytes proposal.file → None ≡ page_at files sources path → IsSketched columns files sources proposal None
-file_unread columns files sources proposal path same none =
+pub file_unread : (room : Room) (files : Files) (sources : List SafeSource) (proposal : Proposal) (path : List ℕ)
+    → path ≡ string_bytes proposal.file → None ≡ page_at files sources path → IsSketched room files sources proposal None
+file_unread room files sources proposal path same none =
     not_read (ap (page_at files sources) (sym same) ∙ sym none)
 
 -- it was, and a proposal has its texts, or none
-pub sketched_by : (columns : ℕ) (files : Files) (sources : List SafeSource) (proposal : Proposal) (path : List ℕ) (held : Held)
+pub sketched_by : (room : Room) (files : Files) (sources : List SafeSource) (proposal : Proposal) (path : List ℕ) (held : Held)
     (source : SafeSource) (texts : Option (Vec (String Global) Global)) → path ≡ string_bytes proposal.file
-    → Some (held, source) ≡ page_at files sources path → AreWaysDrawn columns held source proposal texts
-    → IsSketched columns files sources proposal
+    → Some (held, source) ≡ page_at files sources path → AreWaysDrawn room held source proposal texts
+    → IsSketched room files sources proposal
     (option_map (λ (v : Vec (String Global) Global). record { helps = proposal.helps; texts = v }) texts)
-sketched_by columns files sources proposal path held source None same page drawn =
+sketched_by room files sources proposal path held source None same page drawn =
     not_drawn held source (ap (page_at files sources) (sym same) ∙ sym page) drawn
-sketched_by columns files sources proposal path held source (Some v) same page drawn =
+sketched_by room files sources proposal path held source (Some v) same page drawn =
     sketched held source (record { helps = proposal.helps; texts = v }) (ap (page_at files sources) (sym same) ∙ sym page) refl drawn
 
 -- ---- lists side by side
@@ -141,35 +142,35 @@ some_item v is same not_so none =
     let zero : vec_len v ≡ 0 = omega (arith, nil, v.ok.0) in
     false≢true (sym not_so ∙ same ∙ ap (λ n. n == 0) zero)
 
-module _ (columns : ℕ) (held : Held) (source : SafeSource) (proposal : Proposal) where
+module _ (room : Room) (held : Held) (source : SafeSource) (proposal : Proposal) where
   -- a way has this text
   abbrev pub HasText : Vec Change Global → String Global → Type 0
-  HasText way text = IsWayDrawn columns held source proposal way.items (Some (string_bytes text))
+  HasText way text = IsWayDrawn room held source proposal way.items (Some (string_bytes text))
 
   -- one that has none
   pub way_without : (all : List (Vec Change Global)) (i : ℕ) (way : Vec Change Global) (changes : List Change)
       → all ≡ proposal.ways.items → i < length all → way ≡ get_or all i way → changes ≡ way.items
-      → IsWayDrawn columns held source proposal changes None → AreWaysDrawn columns held source proposal None
+      → IsWayDrawn room held source proposal changes None → AreWaysDrawn room held source proposal None
   way_without all i way changes whole within is same none =
       way_left way (subst (λ (l : List (Vec Change Global)). Contains l way) whole
       (subst (Contains all) (sym is) (Contains-get_or all i way within)))
-      (subst (λ (l : List Change). IsWayDrawn columns held source proposal l None) same none)
+      (subst (λ (l : List Change). IsWayDrawn room held source proposal l None) same none)
 
   -- one more has its text
   pub ways_more : (all : List (Vec Change Global)) (i : ℕ) (way : Vec Change Global) (changes : List Change)
       (old new : List (String Global)) (text : String Global) → i < length all → way ≡ get_or all i way → changes ≡ way.items
       → new ≡ old ++ text ∷ [] → AllZip HasText (take i all) old
-      → IsWayDrawn columns held source proposal changes (Some (string_bytes text)) → AllZip HasText (take (i + 1) all) new
+      → IsWayDrawn room held source proposal changes (Some (string_bytes text)) → AllZip HasText (take (i + 1) all) new
   ways_more all i way changes old new text within is same pushed so_far one =
       let more : take (i + 1) all ≡ take i all ++ way ∷ [] =
       take_more all i way within ∙ ap (λ x. take i all ++ x ∷ []) (sym is) in
       rw (more, pushed) (zip_push HasText (take i all) old way text so_far
-      (subst (λ (l : List Change). IsWayDrawn columns held source proposal l (Some (string_bytes text))) same one))
+      (subst (λ (l : List Change). IsWayDrawn room held source proposal l (Some (string_bytes text))) same one))
 
   -- all have
   pub ways_all : (all : List (Vec Change Global)) (i : ℕ) (texts : Vec (String Global) Global) → all ≡ proposal.ways.items
       → take i all ≡ all → ¬ (proposal.ways.items ≡ []) → AllZip HasText (take i all) texts.items
-      → AreWaysDrawn columns held source proposal (Some texts)
+      → AreWaysDrawn room held source proposal (Some texts)
   ways_all all i texts whole left some so_far =
       all_drawn texts some (subst (λ (l : List (Vec Change Global)). AllZip HasText l texts.items) (left ∙ whole) so_far)
 

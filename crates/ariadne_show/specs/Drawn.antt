@@ -7,6 +7,7 @@ use Rattle.std.specs.Prelude.{String, string_bytes, unwrap_or, Vec}
 use Rattle.std.specs.declared.alloc.Global.{Global}
 use Rattle.std.specs.declared.ops.Range.{Range}
 use Rattle.ariadne.specs.Building.{filled_code}
+use Rattle.ariadne.specs.CharSet.{CharSet}
 use Rattle.ariadne.specs.CharSet.TheVariants.{Ascii, Unicode}
 use Rattle.ariadne.specs.LeftOut.{LeftOut}
 use Rattle.ariadne.specs.Report.{ConfigFields, Kind, ReportFields, custom, default_config}
@@ -22,6 +23,7 @@ use Rattle.ariadne_told.specs.declared.diagnostic.OwnKind.{OwnKind}
 use Rattle.ariadne_told.specs.declared.diagnostic.Severity.{Severity}
 use Rattle.ariadne_told.specs.declared.diagnostic.Severity.TheVariants.{Error, Warning, Note}
 use Rattle.ariadne_show.specs.declared.options.Style.{Style}
+use Rattle.ariadne_show.specs.declared.proposed.Room.{Room}
 use Rattle.ariadne_show.specs.declared.proposed.Sketch.{Sketch}
 use Rattle.ariadne_show.specs.Asides.{helps_of, notes_of}
 use Rattle.ariadne_show.specs.Found.{Files, Found}
@@ -54,12 +56,16 @@ kind_for (Some own) severity =
 abbrev pub kind_of : Diagnostic → Kind
 kind_of told = kind_for told.own_kind told.severity
 
+-- the characters that strokes and marks are drawn with
+abbrev pub char_set_of : Style → CharSet
+char_set_of style = if style.is_ascii then Ascii else Unicode
+
 -- the default configuration, but for the colours, the strokes, the size and the context lines that are
 -- asked for, and with underlines also where no label of a line has a message
 abbrev pub config_of : Style → ConfigFields
 config_of style = record default_config {
   color = style.is_colored;
-  char_set = if style.is_ascii then Ascii else Unicode;
+  char_set = char_set_of style;
   compact = style.is_compact;
   lone_underlines = true;
   context_lines = style.context_lines;
@@ -87,6 +93,10 @@ pub record IsBare (report : ReportFields (ℕ × Range ℕ)) : Type 0 where
   pub notes : report.notes ≡ []
   pub helps : report.helps ≡ []
 
+-- the room that what is drawn of proposals has in rows of so many columns
+abbrev pub room_in : Style → ℕ → Room
+room_in style width = record { columns = width; char_set = char_set_of style }
+
 -- a report has the head, the labels, the notes and the helps of a diagnostic whose own place was found.
 -- Its lines, notes and helps take the columns that its margin leaves of a row, and what it proposes is
 -- drawn in the place of some helps
@@ -102,7 +112,7 @@ pub record IsReportOf (style : Style) (files : Files) (told : Diagnostic) (main 
       ≡ labels_of report.config.index_type sources told.severity style.is_compact ordered
   pub notes : report.notes ≡ notes_of width files told
   pub sketches : List Sketch
-  pub proposals : AreSketched width files sources told.proposals.items sketches
+  pub proposals : AreSketched (room_in style width) files sources told.proposals.items sketches
   pub helps : report.helps ≡ helps_of width sketches told
 
 -- ---- pictures

@@ -1,7 +1,7 @@
 -- What is drawn of the changes that a diagnostic proposes: the rows of a suggestion for each way. A
 -- proposal is drawn where its file was read and each of its ways can be shown whole, in the place of its
 -- helps. Else these stand in words.
-use Rattle.std.specs.Prelude.{ℕ, ◌≡◌, ◌≢◌, ◌==◌, ◌&&◌, not, Bool, true, false, if◌then◌else◌}
+use Rattle.std.specs.Prelude.{ℕ, ◌≡◌, ◌≢◌, ◌==◌, ◌+◌, ◌-◌, ◌&&◌, decimal, max, not, Bool, true, false, if◌then◌else◌}
 use Rattle.std.specs.Prelude.{List, [], ◌∷◌, ◌++◌, length, Contains, Option, Some, None, string_bytes, slice_get}
 use Rattle.std.specs.Prelude.{option_and_then, option_map, String, Vec}
 use Rattle.std.specs.List.{AllZip}
@@ -9,7 +9,9 @@ use Rattle.std.specs.Option.{option_to_list}
 use Rattle.std.specs.declared.alloc.Global.{Global}
 use Rattle.std.specs.declared.ops.Range.{Range}
 use Rattle.ariadne.specs.IndexType.TheVariants.{Char}
+use Rattle.ariadne.specs.Listing.{listed_lines}
 use Rattle.ariadne_edits.specs.Outcomes.{IsSuggestion, Refuses}
+use Rattle.ariadne_edits.specs.declared.cut.View.{View}
 use Rattle.ariadne_edits.specs.declared.edit.BadEdit.{BadEdit}
 use Rattle.ariadne_edits.specs.declared.edit.Edit.{Edit}
 use Rattle.ariadne_safe.specs.Sources.{listing_of}
@@ -18,9 +20,10 @@ use Rattle.ariadne_told.specs.declared.diagnostic.Change.{Change}
 use Rattle.ariadne_told.specs.declared.diagnostic.Proposal.{Proposal}
 use Rattle.ariadne_told.specs.declared.diagnostic.Spot.{Spot}
 use Rattle.ariadne_show.specs.Found.{spot_by, Files, held_at}
-use Rattle.ariadne_show.specs.Wrapped.{fits, wrapped}
+use Rattle.ariadne_show.specs.Wrapped.{aside_columns, fits, wrapped}
 use Rattle.ariadne_show.specs.declared.held.Held.{Held}
 use Rattle.ariadne_show.specs.declared.proposed.Sketch.{Sketch}
+use Rattle.ariadne_show.specs.declared.proposed.Room.{Room}
 use Rattle.ariadne_show.specs.declared.proposed.TheConstants.{TAB_WIDTH}
 
 -- ---- the file
@@ -57,11 +60,30 @@ AreEdits held proposal changes (Some edits) = AllZip (IsEdit held proposal) chan
 AreEdits held proposal changes None =
     (change : Change) × Contains changes change × (span_of held proposal change ≡ None)
 
+-- how many columns the number of its last line takes
+abbrev pub number_columns : SafeSource → ℕ
+number_columns source =
+    length (decimal ((listing_of source).display_offset + length (listed_lines (listing_of source))))
+
+-- how many columns of its text a line may take in a row of so many, behind its number and its sign; 0 is any
+-- number of both
+abbrev pub line_columns : ℕ → SafeSource → ℕ
+line_columns columns source =
+    if columns == 0 then 0 else max 1 (aside_columns columns - (number_columns source + 3))
+
+-- how changed lines are shown: with tab stops as in pictures, and cut where a row has no room for them
+abbrev pub view_in : Room → SafeSource → View
+view_in room source = record {
+  tab_width = TAB_WIDTH;
+  width = line_columns room.columns source;
+  char_set = room.char_set;
+}
+
 -- rows show edits of a source as it is shown; or there are none, as the edits are refused
-abbrev pub AreRows : SafeSource → List Edit → Option (List ℕ) → Type 0
-AreRows source edits (Some rows) =
-    IsSuggestion Char TAB_WIDTH (listing_of source).display_offset (listing_of source).text edits rows
-AreRows source edits None = (bad : BadEdit) × Refuses Char (listing_of source).text edits bad
+abbrev pub AreRows : Room → SafeSource → List Edit → Option (List ℕ) → Type 0
+AreRows room source edits (Some rows) = IsSuggestion Char (view_in room source)
+    (listing_of source).display_offset (listing_of source).text edits rows
+AreRows room source edits None = (bad : BadEdit) × Refuses Char (listing_of source).text edits bad
 
 -- ---- the text of a way
 
@@ -75,50 +97,50 @@ way_text columns why rows = if length why == 0 then rows else wrapped columns wh
 
 -- the text of a way; none where the file doesn't have its changes, they are refused, or their rows can't be
 -- shown
-pub data IsWayDrawn (columns : ℕ) (held : Held) (source : SafeSource) (proposal : Proposal) (changes : List Change)
+pub data IsWayDrawn (room : Room) (held : Held) (source : SafeSource) (proposal : Proposal) (changes : List Change)
     : Option (List ℕ) → Type 0 where
   not_there : AreEdits held proposal changes None
-      → IsWayDrawn columns held source proposal changes None
-  refused : (edits : List Edit) → AreEdits held proposal changes (Some edits) → AreRows source edits None
-      → IsWayDrawn columns held source proposal changes None
+      → IsWayDrawn room held source proposal changes None
+  refused : (edits : List Edit) → AreEdits held proposal changes (Some edits) → AreRows room source edits None
+      → IsWayDrawn room held source proposal changes None
   not_shown : (edits : List Edit) (rows : List ℕ) → AreEdits held proposal changes (Some edits)
-      → AreRows source edits (Some rows) → are_shown columns rows ≡ false
-      → IsWayDrawn columns held source proposal changes None
+      → AreRows room source edits (Some rows) → are_shown room.columns rows ≡ false
+      → IsWayDrawn room held source proposal changes None
   shown : (edits : List Edit) (rows : List ℕ) → AreEdits held proposal changes (Some edits)
-      → AreRows source edits (Some rows) → are_shown columns rows ≡ true
-      → IsWayDrawn columns held source proposal changes
-      (Some (way_text columns (string_bytes proposal.why) rows))
+      → AreRows room source edits (Some rows) → are_shown room.columns rows ≡ true
+      → IsWayDrawn room held source proposal changes
+      (Some (way_text room.columns (string_bytes proposal.why) rows))
 
 -- ---- proposals
 
 -- the texts of all ways; none where there is no way, or some way has no text
-pub data AreWaysDrawn (columns : ℕ) (held : Held) (source : SafeSource) (proposal : Proposal)
+pub data AreWaysDrawn (room : Room) (held : Held) (source : SafeSource) (proposal : Proposal)
     : Option (Vec (String Global) Global) → Type 0 where
-  no_way : proposal.ways.items ≡ [] → AreWaysDrawn columns held source proposal None
+  no_way : proposal.ways.items ≡ [] → AreWaysDrawn room held source proposal None
   way_left : (way : Vec Change Global) → Contains proposal.ways.items way
-      → IsWayDrawn columns held source proposal way.items None → AreWaysDrawn columns held source proposal None
+      → IsWayDrawn room held source proposal way.items None → AreWaysDrawn room held source proposal None
   all_drawn : (texts : Vec (String Global) Global) → proposal.ways.items ≢ []
-      → AllZip (λ way text. IsWayDrawn columns held source proposal way.items (Some (string_bytes text)))
-      proposal.ways.items texts.items → AreWaysDrawn columns held source proposal (Some texts)
+      → AllZip (λ way text. IsWayDrawn room held source proposal way.items (Some (string_bytes text)))
+      proposal.ways.items texts.items → AreWaysDrawn room held source proposal (Some texts)
 
 -- what is drawn of a proposal: a text for each of its ways, in the place of its helps; or nothing, where its
 -- file was not read, or has no texts
-pub data IsSketched (columns : ℕ) (files : Files) (sources : List SafeSource) (proposal : Proposal)
+pub data IsSketched (room : Room) (files : Files) (sources : List SafeSource) (proposal : Proposal)
     : Option Sketch → Type 0 where
   not_read : page_at files sources (string_bytes proposal.file) ≡ None
-      → IsSketched columns files sources proposal None
+      → IsSketched room files sources proposal None
   not_drawn : (held : Held) (source : SafeSource)
       → page_at files sources (string_bytes proposal.file) ≡ Some (held, source)
-      → AreWaysDrawn columns held source proposal None → IsSketched columns files sources proposal None
+      → AreWaysDrawn room held source proposal None → IsSketched room files sources proposal None
   sketched : (held : Held) (source : SafeSource) (sketch : Sketch)
       → page_at files sources (string_bytes proposal.file) ≡ Some (held, source)
-      → sketch.helps ≡ proposal.helps → AreWaysDrawn columns held source proposal (Some sketch.texts)
-      → IsSketched columns files sources proposal (Some sketch)
+      → sketch.helps ≡ proposal.helps → AreWaysDrawn room held source proposal (Some sketch.texts)
+      → IsSketched room files sources proposal (Some sketch)
 
 -- of proposals, in their order
-pub data AreSketched (columns : ℕ) (files : Files) (sources : List SafeSource) : List Proposal → List Sketch → Type 0 where
-  none_sketched : AreSketched columns files sources [] []
+pub data AreSketched (room : Room) (files : Files) (sources : List SafeSource) : List Proposal → List Sketch → Type 0 where
+  none_sketched : AreSketched room files sources [] []
   one_sketched_more : {proposals : List Proposal} {sketches : List Sketch}
-      → AreSketched columns files sources proposals sketches → (proposal : Proposal) (sketch : Option Sketch)
-      → IsSketched columns files sources proposal sketch
-      → AreSketched columns files sources (proposals ++ proposal ∷ []) (sketches ++ option_to_list sketch)
+      → AreSketched room files sources proposals sketches → (proposal : Proposal) (sketch : Option Sketch)
+      → IsSketched room files sources proposal sketch
+      → AreSketched room files sources (proposals ++ proposal ∷ []) (sketches ++ option_to_list sketch)

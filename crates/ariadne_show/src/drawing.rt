@@ -7,7 +7,8 @@ ghost use Rattle.ariadne_visible.specs.declared.text.TextKind.TheVariants.{OneRo
 ghost use Rattle.ariadne_told.specs.declared.diagnostic.Severity.TheVariants.{Note};
 ghost use Rattle.ariadne_safe.specs.Building.{kind_in, made_of, report_of as report_in};
 ghost use Rattle.ariadne_safe.specs.Building.{sources_below, sources_under};
-ghost use Rattle.ariadne_show.specs.Drawn.{coded, config_of as config_fields, severity_kind};
+ghost use Rattle.ariadne_show.specs.Drawn.{char_set_of as strokes_of, coded, config_of as config_fields};
+ghost use Rattle.ariadne_show.specs.Drawn.{room_in as room_of, severity_kind};
 ghost use Rattle.ariadne_show.specs.Drawn.{kind_of as told_kind, own_name as own_name_in};
 ghost use Rattle.ariadne_show.specs.Drawn.{AreSaid, IsHeadDrawn, IsPicture, IsReportOf, IsSaid};
 ghost use Rattle.ariadne_show.specs.Drawn.{IsToldDrawn};
@@ -24,7 +25,7 @@ use crate::asides::{spot_text, with_asides};
 use crate::fault::Fault;
 use crate::found::{FoundPlace, found_main, ordered_places};
 use crate::options::Style;
-use crate::proposed::sketches;
+use crate::proposed::{Room, sketches};
 use crate::shelf::Shelf;
 use crate::texts::line_texts;
 use ariadne::{CharSet, Color, Config, Label, ReportKind};
@@ -217,9 +218,20 @@ fn report_of<'s>(
         places.as_slice(),
     )?;
     let width = text_width(&builder, style.width)?;
-    let sketches = sketches(alloc, shelf, told.proposals.as_slice(), width)?;
+    let room = room_in(style, width);
+    let sketches = sketches(alloc, shelf, told.proposals.as_slice(), room)?;
     let builder = builder.with_width(width);
     Ok(with_asides(alloc, builder, shelf, told, sketches.as_slice(), width)?.finish())
+}
+
+/// The room that what is drawn of proposals has in rows of so many columns.
+fn room_in(style: Style, width: usize) -> Room
+    ensures { result ≡ room_of style width }
+{
+    Room {
+        columns: width,
+        char_set: char_set_of(style),
+    }
 }
 
 /// How many columns the text of a line may take where a row of this report may take so many: those that
@@ -359,19 +371,25 @@ fn color_of(severity: Severity) -> Color
     }
 }
 
+/// The characters that strokes and marks are drawn with.
+fn char_set_of(style: Style) -> CharSet
+    ensures { result ≡ strokes_of style }
+{
+    if style.is_ascii {
+        CharSet::Ascii
+    } else {
+        CharSet::Unicode
+    }
+}
+
 /// The configuration of pictures, whose lines are whole.
 fn config_of(style: Style) -> Config
     ensures { result ≡ config_fields style }
 {
-    let char_set = if style.is_ascii {
-        CharSet::Ascii
-    } else {
-        CharSet::Unicode
-    };
     Config::new()
         .with_color(style.is_colored)
         .with_compact(style.is_compact)
-        .with_char_set(char_set)
+        .with_char_set(char_set_of(style))
         .with_lone_underlines(true)
         .with_context_lines(style.context_lines)
 }

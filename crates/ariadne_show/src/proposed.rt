@@ -5,14 +5,15 @@ ghost use Rattle.std.specs.Option.{option_to_list};
 ghost use Rattle.ariadne_show.specs.Found.{files_of};
 ghost use Rattle.ariadne_show.specs.Proposed.{are_shown as can_be_shown, page_at, way_text as text_of_way};
 ghost use Rattle.ariadne_show.specs.Proposed.{AreEdits, AreRows, AreSketched, AreWaysDrawn, IsSketched};
-ghost use Rattle.ariadne_show.specs.Proposed.{IsWayDrawn};
+ghost use Rattle.ariadne_show.specs.Proposed.{line_columns as columns_of_line, number_columns as columns_of_numbers};
+ghost use Rattle.ariadne_show.specs.Proposed.{view_in as view_of, IsWayDrawn};
 ghost use Rattle.ariadne_show.specs.Read.{sources_in};
 
 use crate::held::Held;
 use crate::shelf::Shelf;
-use crate::wrapping::{fits, wrapped};
-use ariadne::IndexType;
-use ariadne_edits::{Edit, EditError, suggestion};
+use crate::wrapping::{aside_columns, fits, wrapped};
+use ariadne::{CharSet, IndexType};
+use ariadne_edits::{Edit, EditError, View, suggestion};
 use ariadne_safe::SafeSource;
 use ariadne_told::{Change, Proposal};
 use std::alloc::{AllocError, Global};
@@ -20,6 +21,18 @@ use std::ops::Range;
 
 /// How many columns stand from one tab stop to the next, as in pictures.
 const TAB_WIDTH: usize = 4;
+
+/// How many columns stand between the number of a line and its text.
+const SIGN: usize = 3;
+
+/// The room for what is drawn of proposals.
+#[derive(Clone, Copy)]
+pub struct Room {
+    /// How many columns a row takes at most; 0 is any number.
+    pub columns: usize,
+    /// The characters of the mark in place of what is left out of a line.
+    pub char_set: CharSet,
+}
 
 /// A proposal as it is drawn.
 #[derive(Drop)]
@@ -30,20 +43,20 @@ pub struct Sketch {
     pub texts: Vec<String>,
 }
 
-/// What is drawn of proposals whose files were looked for, in rows of so many columns, or of any number
-/// where that is 0. A proposal that can't be drawn whole is left out.
+/// What is drawn of proposals whose files were looked for, in this room. A proposal that can't be drawn
+/// whole is left out.
 pub fn sketches(
     alloc: Global,
     shelf: &Shelf,
     proposals: &[Proposal],
-    columns: usize,
+    room: Room,
 ) -> Result<Vec<Sketch>, AllocError>
-    ensures { IfOk result (λ all. AreSketched columns (files_of shelf.now) (sources_in shelf.now)
+    ensures { IfOk result (λ all. AreSketched room (files_of shelf.now) (sources_in shelf.now)
         proposals.now all.items) }
 {
     let mut all = Vec::new(alloc);
     for proposal in proposals {
-        push_sketch(&mut all, sketch_of(alloc, shelf, proposal, columns)?)?;
+        push_sketch(&mut all, sketch_of(alloc, shelf, proposal, room)?)?;
     }
     Ok(all)
 }
@@ -63,15 +76,15 @@ fn sketch_of(
     alloc: Global,
     shelf: &Shelf,
     proposal: &Proposal,
-    columns: usize,
+    room: Room,
 ) -> Result<Option<Sketch>, AllocError>
     ensures { IfOk result
-        (IsSketched columns (files_of shelf.now) (sources_in shelf.now) proposal.now) }
+        (IsSketched room (files_of shelf.now) (sources_in shelf.now) proposal.now) }
 {
     let Some((held, source)) = page_of(shelf, proposal.file.as_str()) else {
         return Ok(None);
     };
-    let Some(texts) = texts_of(alloc, held, source, proposal, columns)? else {
+    let Some(texts) = texts_of(alloc, held, source, proposal, room)? else {
         return Ok(None);
     };
     Ok(Some(Sketch {
@@ -98,16 +111,16 @@ fn texts_of(
     held: &Held,
     source: &SafeSource,
     proposal: &Proposal,
-    columns: usize,
+    room: Room,
 ) -> Result<Option<Vec<String>>, AllocError>
-    ensures { IfOk result (AreWaysDrawn columns held.now source.now proposal.now) }
+    ensures { IfOk result (AreWaysDrawn room held.now source.now proposal.now) }
 {
     if proposal.ways.is_empty() {
         return Ok(None);
     }
     let mut texts = Vec::new(alloc);
     for way in &proposal.ways {
-        let Some(text) = text_of(alloc, held, source, proposal, way.as_slice(), columns)? else {
+        let Some(text) = text_of(alloc, held, source, proposal, way.as_slice(), room)? else {
             return Ok(None);
         };
         texts.push(text)?;
@@ -122,21 +135,21 @@ fn text_of(
     source: &SafeSource,
     proposal: &Proposal,
     changes: &[Change],
-    columns: usize,
+    room: Room,
 ) -> Result<Option<String>, AllocError>
-    ensures { IfOk result (λ text. IsWayDrawn columns held.now source.now proposal.now changes.now
+    ensures { IfOk result (λ text. IsWayDrawn room held.now source.now proposal.now changes.now
         (option_map string_bytes text)) }
 {
     let Some(edits) = edits_of(alloc, held, proposal, changes)? else {
         return Ok(None);
     };
-    let Some(rows) = rows_of(alloc, source, edits.as_slice())? else {
+    let Some(rows) = rows_of(alloc, room, source, edits.as_slice())? else {
         return Ok(None);
     };
-    if !are_shown(alloc, rows.as_str(), columns)? {
+    if !are_shown(alloc, rows.as_str(), room.columns)? {
         return Ok(None);
     }
-    Ok(Some(way_text(alloc, proposal.why.as_str(), rows.as_str(), columns)?))
+    Ok(Some(way_text(alloc, proposal.why.as_str(), rows.as_str(), room.columns)?))
 }
 
 /// The edits that changes are, if the file has all of them.
@@ -161,14 +174,54 @@ fn edits_of(
 }
 
 /// The rows that show edits of a source, if these can be made.
-fn rows_of(alloc: Global, source: &SafeSource, edits: &[Edit]) -> Result<Option<String>, AllocError>
-    ensures { IfOk result (λ rows. AreRows source.now edits.now (option_map string_bytes rows)) }
+fn rows_of(
+    alloc: Global,
+    room: Room,
+    source: &SafeSource,
+    edits: &[Edit],
+) -> Result<Option<String>, AllocError>
+    ensures { IfOk result (λ rows. AreRows room source.now edits.now (option_map string_bytes rows)) }
 {
-    match suggestion(alloc, source.source(), IndexType::Char, TAB_WIDTH, edits) {
+    let view = view_in(alloc, room, source)?;
+    match suggestion(alloc, source.source(), IndexType::Char, view, edits) {
         Ok(rows) => Ok(Some(rows)),
         Err(EditError::Refused(_)) => Ok(None),
         Err(EditError::Memory(error)) => Err(error),
     }
+}
+
+/// How changed lines are shown: with tab stops as in pictures, and cut where a row has no room for them.
+fn view_in(alloc: Global, room: Room, source: &SafeSource) -> Result<View, AllocError>
+    ensures { IfOk result (λ view. view ≡ view_of room source.now) }
+{
+    Ok(View {
+        tab_width: TAB_WIDTH,
+        width: line_columns(alloc, room.columns, source)?,
+        char_set: room.char_set,
+    })
+}
+
+/// How many columns of its text a line may take in a row of so many, behind its number and its sign; 0 is any
+/// number of both.
+fn line_columns(alloc: Global, columns: usize, source: &SafeSource) -> Result<usize, AllocError>
+    ensures { IfOk result (λ width. width ≡ columns_of_line columns source.now) }
+{
+    if columns == 0 {
+        return Ok(0);
+    }
+    let taken = number_columns(alloc, source)?.saturating_add(SIGN);
+    Ok(aside_columns(columns).saturating_sub(taken).max(1))
+}
+
+/// How many columns the number of a source's last line takes.
+fn number_columns(alloc: Global, source: &SafeSource) -> Result<usize, AllocError>
+    ensures { IfOk result (λ columns. columns ≡ columns_of_numbers source.now) }
+{
+    let source = source.source();
+    let last = source
+        .display_line_offset()
+        .saturating_add(source.lines().len());
+    Ok(format!(in alloc; "{last}")?.len())
 }
 
 /// Whether rows can be shown: there are some, and they fit.

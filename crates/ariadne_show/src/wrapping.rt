@@ -2,7 +2,7 @@
 
 ghost use Rattle.std.specs.Prelude.{◌≡◌, ◌++◌, ◌∷◌, ℕ, List, string_bytes, IfOk, OnOk};
 ghost use Rattle.std.specs.List.{list_all};
-ghost use Rattle.ariadne_show.specs.Wrapped.{fits as fits_in, is_within};
+ghost use Rattle.ariadne_show.specs.Wrapped.{aside_columns as columns_left, fits as fits_in, is_within};
 ghost use Rattle.ariadne_show.specs.Wrapped.{behind_words, in_one_line, lines_in, word_columns, wrapped_line, wrapped_lines};
 ghost use Rattle.ariadne_show.specs.Wrapped.{wrapped as wrapped_text};
 
@@ -34,7 +34,7 @@ fn in_rows(alloc: Global, text: &str, columns: usize) -> Result<String, AllocErr
         return String::from_str(alloc, text);
     }
     let mut rows = String::new(alloc);
-    push_lines(alloc, &mut rows, text, columns.saturating_sub(NAME).max(1))?;
+    push_lines(alloc, &mut rows, text, aside_columns(columns))?;
     Ok(rows)
 }
 
@@ -97,6 +97,13 @@ fn push_word(
     Ok(columns)
 }
 
+/// How many columns of a row of so many are left behind the name in front.
+pub fn aside_columns(columns: usize) -> usize
+    ensures { result ≡ columns_left columns }
+{
+    columns.saturating_sub(NAME).max(1)
+}
+
 /// Whether each row of a text takes at most so many columns, with the name in front; 0 is any number.
 pub fn fits(alloc: Global, rows: &str, columns: usize) -> Result<bool, AllocError>
     ensures { IfOk result (λ they_do. they_do ≡ fits_in columns rows.now) }
@@ -104,7 +111,7 @@ pub fn fits(alloc: Global, rows: &str, columns: usize) -> Result<bool, AllocErro
     if columns == 0 {
         return Ok(true);
     }
-    are_within(alloc, rows, columns.saturating_sub(NAME).max(1))
+    are_within(alloc, rows, aside_columns(columns))
 }
 
 /// Whether each row of a text takes at most so many columns.

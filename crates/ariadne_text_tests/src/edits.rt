@@ -1,10 +1,10 @@
 //! Suggestions: which lines change before and after, and which edits are refused.
 
-ghost use Rattle.std.specs.Prelude.{◌<◌};
+ghost use Rattle.std.specs.Prelude.{◌<◌, ◌≤◌};
 
 use crate::comparing::{assert_same, assert_same_of};
-use ariadne::{IndexType, Source};
-use ariadne_edits::{BadEdit, Edit, EditError, edited, suggestion};
+use ariadne::{CharSet, IndexType, Source};
+use ariadne_edits::{BadEdit, Edit, EditError, View, edited, suggestion};
 use ariadne_fakes::{refuse, was_refused};
 use std::process::Abort;
 
@@ -13,6 +13,13 @@ const MOST_REQUESTS: usize = 1000;
 
 /// An edit of a piece from a start to before an end.
 type Piece = (usize, usize, &'static str);
+
+/// Lines that are shown whole.
+const WHOLE: View = View {
+    tab_width: 4,
+    width: 0,
+    char_set: CharSet::Unicode,
+};
 
 /// A program.
 const RUST: &str =
@@ -87,11 +94,104 @@ fn edits_of(rt: &(impl Abort + AllocGlobal), pieces: &[Piece]) -> Vec<Edit> {
     edits
 }
 
+/// A line with a call of many arguments.
+const CALL: &str = "let total = sum_of(first, second, third);\n";
+
+/// Sources and edits, with a width, the characters of the mark and what the help says.
+const CUT: &[(&str, &[Piece], usize, CharSet, &str)] = &[
+    // in front and behind
+    (
+        CALL,
+        &[(26, 26, "&")],
+        25,
+        CharSet::Ascii,
+        "1 - ...f(first, second, th...\n1 + ...f(first, &second, t...",
+    ),
+    (
+        CALL,
+        &[(26, 26, "&")],
+        25,
+        CharSet::Unicode,
+        "1 - \u{2026}_of(first, second, thir\u{2026}\n1 + \u{2026}_of(first, &second, thi\u{2026}",
+    ),
+    // the first line alone would fit, and is cut as the other
+    (
+        CALL,
+        &[(26, 26, "&")],
+        41,
+        CharSet::Ascii,
+        "1 - ... = sum_of(first, second, third);\n1 + ... = sum_of(first, &second, third);",
+    ),
+    // both fit
+    (
+        CALL,
+        &[(26, 26, "&")],
+        42,
+        CharSet::Ascii,
+        "1 - let total = sum_of(first, second, third);\n1 + let total = sum_of(first, &second, third);",
+    ),
+    // what is in common takes no more than half
+    (
+        CALL,
+        &[(4, 9, "sum")],
+        20,
+        CharSet::Ascii,
+        "1 - let total = sum_o...\n1 + let sum = sum_of(...",
+    ),
+    // a line without a counterpart
+    (
+        "a\nlet total = sum_of(first, second, third);\nb\n",
+        &[(2, 44, "")],
+        10,
+        CharSet::Ascii,
+        "2 - let tot...",
+    ),
+    // an accent goes with its letter, and a wide letter is shown whole
+    (
+        "abcde\u{301}fg = 1;;;;;;;\n",
+        &[(11, 12, "2")],
+        13,
+        CharSet::Unicode,
+        "1 - \u{2026}fg = 1;;;;;\u{2026}\n1 + \u{2026}fg = 2;;;;;\u{2026}",
+    ),
+    (
+        "abcde\u{301}fg = 1;;;;;;;\n",
+        &[(11, 12, "2")],
+        14,
+        CharSet::Unicode,
+        "1 - \u{2026}e\u{301}fg = 1;;;;;\u{2026}\n1 + \u{2026}e\u{301}fg = 2;;;;;\u{2026}",
+    ),
+    (
+        "let name = 漢字漢字漢字;\n",
+        &[(15, 16, "x")],
+        17,
+        CharSet::Unicode,
+        "1 - \u{2026}字漢字漢字;\n1 + \u{2026}字漢字x字;",
+    ),
+    // less than two marks take
+    (
+        CALL,
+        &[(26, 26, "&")],
+        1,
+        CharSet::Unicode,
+        "1 - \u{2026}\u{2026}\n1 + \u{2026}\u{2026}",
+    ),
+    (
+        CALL,
+        &[(26, 26, "&")],
+        1,
+        CharSet::Ascii,
+        "1 - ......\n1 + ......",
+    ),
+];
+
 /// What a help says of edits, or an empty text where they are refused.
-fn help_of(rt: &(impl Abort + AllocGlobal), text: &str, pieces: &[Piece]) -> String {
+fn help_of(rt: &(impl Abort + AllocGlobal), text: &str, pieces: &[Piece], view: View) -> String
+    requires { 1 ≤ view.tab_width }
+{
     let source = Source::from(rt.alloc(), text).expect(rt, "memory");
     let edits = edits_of(rt, pieces);
-    match suggestion(rt.alloc(), &source, IndexType::Char, 4, edits.as_slice()) {
+    match suggestion(rt.alloc(), &source, IndexType::Char, view, edits.as_slice()) {
         Ok(help) => help,
         Err(_) => String::new(rt.alloc()),
     }
@@ -100,7 +200,29 @@ fn help_of(rt: &(impl Abort + AllocGlobal), text: &str, pieces: &[Piece]) -> Str
 #[test]
 fn lines_are_shown_before_and_after(rt: HostRuntime) {
     for (text, pieces, want) in SHOWN {
-        assert_same_of(&rt, *text, &help_of(&rt, *text, *pieces).as_str(), want);
+        assert_same_of(
+            &rt,
+            *text,
+            &help_of(&rt, *text, *pieces, WHOLE).as_str(),
+            want,
+        );
+    }
+}
+
+#[test]
+fn lines_are_cut_around_their_first_difference(rt: HostRuntime) {
+    for (text, pieces, width, char_set, want) in CUT {
+        let view = View {
+            tab_width: 4,
+            width: *width,
+            char_set: *char_set,
+        };
+        assert_same_of(
+            &rt,
+            *text,
+            &help_of(&rt, *text, *pieces, view).as_str(),
+            want,
+        );
     }
 }
 
@@ -110,7 +232,13 @@ fn numbers_have_the_display_offset(rt: HostRuntime) {
     assert!(rt; source.lines().len() < 9);
     let source = source.with_display_line_offset(8);
     let edits = edits_of(&rt, &[(0, 1, "A"), (2, 3, "B")]);
-    let help = suggestion(rt.alloc(), &source, IndexType::Byte, 4, edits.as_slice());
+    let help = suggestion(
+        rt.alloc(),
+        &source,
+        IndexType::Byte,
+        WHOLE,
+        edits.as_slice(),
+    );
     let want = " 9 - a\n10 - b\n 9 + A\n10 + B";
     assert_same(&rt, &help.ok().map(|it| it.as_str() == want), &Some(true));
 }
@@ -169,7 +297,13 @@ fn is_made_without(rt: &(impl Abort + AllocGlobal), nth: usize) -> bool
     let source = Source::from(rt.alloc(), "a\nb\n").expect(rt, "memory");
     let edits = edits_of(rt, &[(2, 3, "B"), (0, 1, " a")]);
     refuse(rt.alloc(), nth);
-    let help = suggestion(rt.alloc(), &source, IndexType::Char, 4, edits.as_slice());
+    let help = suggestion(
+        rt.alloc(),
+        &source,
+        IndexType::Char,
+        WHOLE,
+        edits.as_slice(),
+    );
     let is_refused = was_refused(rt.alloc());
     let is_memory = matches!(help, Err(EditError::Memory(_)));
     assert_same(rt, &(nth, is_memory), &(nth, is_refused));

@@ -1,8 +1,9 @@
-use Rattle.std.proofs.Common.{◌≡◌, ◌∙◌, ℕ, List, ap, sym, subst, string_bytes}
+use Rattle.std.proofs.Common.{◌≡◌, ◌∙◌, ℕ, List, ap, length, sym, subst, string_bytes}
 use Rattle.std.specs.Str.{chars}
 use Rattle.ariadne_base.specs.Lines.{lines_of}
 use Rattle.ariadne_base.specs.Listing.{Listing, listed_lines}
 use Rattle.ariadne_edits.specs.Changes.{edited_text, Fit}
+use Rattle.ariadne_edits.specs.Counterparts.{HaveCounterparts}
 use Rattle.ariadne_edits.specs.Drawn.{drawn_text, number_width}
 use Rattle.ariadne_edits.specs.Kept.{IsPaired, IsUntouched}
 use Rattle.ariadne_edits.specs.Rows.{Tell}
@@ -27,7 +28,7 @@ returns-clause-ok c =
     let old_lines : old ≡ lines_of (chars t) = ap listed_lines c.in_ok-old.ensures in
     let new_lines : new ≡ lines_of (chars after) = ap listed_lines c.in_ok-new.ensures ∙ ap (λ b. lines_of (chars b)) c.as_str.ensures.value in
     let text_is : c.in_ok-old.old.text ≡ t = ap (λ (s : Listing). s.text) c.in_ok-old.ensures in
-    let layout : ℕ → Layout = λ w. record { width = w; offset = c.args.offset; tab_width = c.args.tab_width } in
+    let layout : ℕ → Layout = λ w. record { width = w; offset = c.args.offset; view = c.args.view } in
     let width = number_width c.args.offset rows in
     record {
       after = after;
@@ -42,6 +43,8 @@ returns-clause-ok c =
           (subst (λ pairs. IsPaired old new pairs i) (sym c.as_slice-3.ensures.value)
           (c.in_ok-pairs.ensures i
           (subst (λ b. IsUntouched b c.as_slice-2.result.now i) (sym text_is) (subst (λ cs. IsUntouched t cs i) (sym c.as_slice-2.ensures.value) clear))));
+      counterparts = subst (λ ls. HaveCounterparts (0, 0) (length (lines_of (chars t)), length ls) rows) new_lines
+          (subst (λ ls. HaveCounterparts (0, 0) (length ls, length new) rows) old_lines c.in_ok-rows.ensures.counterparts);
       drawn = c.in_ok-help.ensures
           ∙ ap (λ w. drawn_text (layout w) old new c.as_slice-5.result.now) (c.in_ok-width.ensures ∙ ap (number_width c.args.offset) c.as_slice-4.ensures.value)
           ∙ ap (λ rs. drawn_text (layout width) old new rs) c.as_slice-5.ensures.value

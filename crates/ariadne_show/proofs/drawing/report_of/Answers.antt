@@ -5,9 +5,10 @@ use Rattle.ariadne.specs.Report.{ReportFields}
 use Rattle.ariadne_safe.specs.Building.{kind_in, made_of, report_of as report_in, sources_under}
 use Rattle.ariadne_safe.specs.Sources.{sources_of}
 use Rattle.ariadne_safe.specs.declared.sources.SafeSource.{SafeSource}
-use Rattle.ariadne_show.specs.Drawn.{IsAbout, IsBare}
+use Rattle.ariadne_show.specs.Drawn.{room_in, IsAbout, IsBare}
 use Rattle.ariadne_told.specs.declared.diagnostic.Place.{Place}
 use Rattle.ariadne_told.specs.declared.diagnostic.Proposal.{Proposal}
+use Rattle.ariadne_show.specs.declared.proposed.Room.{Room}
 use Rattle.ariadne_show.specs.declared.proposed.Sketch.{Sketch}
 use Rattle.ariadne_show.specs.declared.found.FoundPlace.{FoundPlace}
 use Rattle.ariadne_show.specs.Asides.{helps_of, notes_of, with_helps, with_notes}
@@ -45,9 +46,11 @@ returns c =
     c.as_slice-2.ensures.value in
     let width = c.in_ok-width.width in
     let sketches = c.in_ok-sketches.sketches.items in
-    let drawn : AreSketched width files (sources_in c.args.shelf.now) told.proposals.items sketches =
-    subst (λ (l : List Proposal). AreSketched width files (sources_in c.args.shelf.now) l sketches) c.as_slice-3.ensures.value
-    c.in_ok-sketches.ensures in
+    let room = room_in c.args.style width in
+    let drawn : AreSketched room files (sources_in c.args.shelf.now) told.proposals.items sketches =
+    subst (λ (l : List Proposal). AreSketched room files (sources_in c.args.shelf.now) l sketches) c.as_slice-3.ensures.value
+    (subst (λ (room : Room). AreSketched room files (sources_in c.args.shelf.now) c.as_slice-3.result.now sketches)
+    c.room_in-room.ensures c.in_ok-sketches.ensures) in
     let notes = notes_of width files told in
     let whole : report ≡ with_helps (helps_of width sketches told) (with_notes notes (wide width (made_of c.in_ok-builder-2.builder))) =
     c.finish.ensures.report ∙ c.in_ok-with_asides.ensures.report

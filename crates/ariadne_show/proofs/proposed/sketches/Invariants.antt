@@ -7,4 +7,4 @@ use Rattle.ariadne_show.proofs.proposed.sketches.Given as goal
 -- the proposals that are passed are drawn, or left out
 abbrev pub invariant-loop-proposal : goal.invariant-loop-proposal
 invariant-loop-proposal l =
-    AreSketched l.columns (files_of l.shelf) (sources_in l.shelf) (take l.proposal-index l.proposals) l.all.items
+    AreSketched l.room (files_of l.shelf) (sources_in l.shelf) (take l.proposal-index l.proposals) l.all.items
