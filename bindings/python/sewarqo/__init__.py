@@ -18,8 +18,8 @@ Error: can't compare apples with oranges
 
 Offsets count from 0, and the end of a label is exclusive. Over sources of type `str` they count
 characters, over sources of type `bytes` (in UTF-8) they count bytes. Whatever the texts hold, a picture
-has no escapes but the library's, for a terminal that reads UTF-8: a sign stands for each character that
-SAFE.md lists. With `Config(safe=False)` texts are drawn as they are.
+has no escapes but the library's, for a terminal that reads UTF-8: the characters that SAFE.md lists have
+replacement symbols. With `Config(safe=False)` texts are drawn as they are.
 
 The package needs the shared library libsewarqo.so: the one that the environment variable
 SEWARQO_LIBRARY names, or the one in its folder or beside that, or the one that the system finds. It works
@@ -28,18 +28,19 @@ with Python 3.8 and later, needs nothing else, and may be called from any number
 
 from ._color import Color
 from ._errors import EditError, LabelError, ReportError, SewarqoError, SourceError
+from ._offset import offset
 from ._parts import Config, Edit, Label, LeftOut, Picture, Source, Sources
 from ._report import Report
 
 __all__ = [
     "Color", "Config", "Edit", "EditError", "Label", "LabelError", "LeftOut", "Picture", "Report", "ReportError",
-    "SewarqoError", "Source", "SourceError", "Sources", "__version__",
+    "SewarqoError", "Source", "SourceError", "Sources", "__version__", "offset",
 ]
 __version__ = "0.6.0"
 
 # (Names are those by which they are imported, in tracebacks and in what is pickled.)
 for _it in (
     Color, Config, Edit, EditError, Label, LabelError, LeftOut, Picture, Report, ReportError, SewarqoError, Source,
-    SourceError,
+    SourceError, offset,
 ):
     _it.__module__ = __name__

@@ -29,6 +29,7 @@ help_text: str = Report.suggest("text", [Edit(0, 1, "T")])
 help_text = Report.suggest(b"text", (Edit(0, 1, it) for it in (b"T",)), Config(tab_width=8))
 help_text = report.suggest(Source("text", 3), ())
 version: str = sewarqo.__version__
+at: int = sewarqo.offset("text", 1, 2) + sewarqo.offset(b"text", 1, 2)
 color: Color = Color.fixed(81)
 
 

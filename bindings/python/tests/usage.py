@@ -11,7 +11,7 @@ import pickle
 import sys
 
 from sewarqo import (
-    EditError, LabelError, ReportError, SourceError, Color, Config, Edit, Label, Report, Source, __version__)
+    EditError, LabelError, ReportError, SourceError, Color, Config, Edit, Label, Report, Source, __version__, offset)
 
 PLAIN = Config(color=False, ascii=True)
 # The same report over a source without a name, and over two.
@@ -242,6 +242,31 @@ NOT_MADE = [
 ]
 
 
+# Lines of a, b LF | d, two bytes, two bytes, CR LF | LF | x, CR, y LF | (nothing).
+LINES = "ab\ndéà\r\n\nx\ry\n"
+NO_LINE = 2 * sys.maxsize + 1
+# A text, a line and a column of it, and the offset in characters and in bytes.
+OFFSETS = [
+    (LINES, 1, 1, 0, 0), (LINES, 1, 2, 1, 1), (LINES, 1, 3, 2, 2), (LINES, 1, 4, 2, 2), (LINES, 1, 0, 0, 0),
+    (LINES, 2, 1, 3, 3), (LINES, 2, 3, 5, 5), (LINES, 2, 6, 6, 8), (LINES, 2, 7, 6, 8), (LINES, 2, 10**30, 6, 8),
+    (LINES, 3, 1, 8, 10), (LINES, 3, 2, 8, 10), (LINES, 4, 3, 11, 13), (LINES, 4, 9, 12, 14), (LINES, 5, 2, 13, 15),
+    (LINES, 6, 1, NO_LINE, NO_LINE), (LINES, 0, 1, NO_LINE, NO_LINE), (LINES, -1, 1, NO_LINE, NO_LINE),
+    (LINES, 10**30, 1, NO_LINE, NO_LINE), ("", 1, 5, 0, 0), ("", 2, 1, NO_LINE, NO_LINE), ("abc", 1, 9, 3, 3),
+    ("abc\r", 1, 9, 4, 4), ("\r\n", 1, 9, 0, 0), ("\n\n", 2, 1, 1, 1),
+]
+
+
+def offsets():
+    for text, line, column, in_characters, in_bytes in OFFSETS:
+        what = f"{text!r}, line {line}, column {column}"
+        yield what, offset(text, line, column), in_characters
+        yield what, offset(text.encode(), Number(line), Number(column)), in_bytes
+    for words, told in (
+        ((5, 1, 1), "text: 5 is no text"), (("a", "1", 1), "line: '1' is no int"), (("a", 1, 1.5), "column: 1.5 is no int"),
+    ):
+        yield told, raised(lambda: offset(*words), told), (TypeError, told)
+
+
 def refusals():
     for report, sources, told in WRONG:
         yield told, raised(lambda: report.render(sources), told), (TypeError, told)
@@ -293,7 +318,7 @@ def set_no_color(value):
         os.environ["NO_COLOR"] = value
 
 
-looked = [it for seen in (pictures, suggestions, texts, equal, copies, refusals, printing) for it in seen()]
+looked = [it for seen in (pictures, suggestions, texts, offsets, equal, copies, refusals, printing) for it in seen()]
 faults = [f"{what}: {got!r}, and not {wanted!r}" for what, got, wanted in looked if got != wanted]
 print(*faults, sep="\n", end="\n" * bool(faults))
 print(f"{len(looked)} looked at, {len(faults)} faults")
