@@ -1,16 +1,19 @@
-/* Draws a workload of docs/dev/SPEED.md again and again: bench two|nested|two-safe|nested-safe|edits-LINES N, which
-   prints NAME N BYTES CHECKSUM NANOSECONDS. Texts are drawn as they are, or safely. Each call has the report
-   and the source anew, and finds the lines. The last workload suggests an edit in each of so many lines. */
+/* Draws a workload of docs/dev/SPEED.md again and again: bench NAME N, which prints NAME N BYTES CHECKSUM NANOSECONDS.
+   A name is `two` or `nested`, or `long` with `-end`, `-escapes` and `-excerpt` or without; behind them `-safe` has the
+   texts drawn safely. Each call has the report and the source anew, and finds the lines. `edits-LINES` suggests an
+   edit in each of so many lines. */
 #define _POSIX_C_SOURCE 199309L
-#include "sewarqo.h"
+#include "sewarqo_excerpt.h"
 #include <stdio.h>
 #include <stdlib.h>
 #include <time.h>
 
 enum { LINES = 50, DEEP = 20, WORDS = 4, LABELS = LINES * WORDS + DEEP, EDITS = 10000, ROOM = 200 * EDITS };
+enum { LONG = 200000 }; /* lines of a long text */
 
-static char text[EDITS * 50 + 1], messages[LABELS][20];
-static sewarqo_label labels[LABELS];
+static char text[LONG * 50 + 1], messages[LABELS][20];
+static sewarqo_label labels[LABELS], moved[LABELS];
+static int has_excerpt;
 static size_t labels_len;
 static sewarqo_edit edits[EDITS];
 static uint8_t out[ROOM];
@@ -50,6 +53,19 @@ static const char *nested(void) {
     return "nested";
 }
 
+/* A label in the middle of a long text or at its end, and an escape character in each hundredth line or in none. */
+static const char *long_text(const char *name) {
+    size_t labelled = strstr(name, "-end") ? LONG - 1 : LONG / 2;
+    for (size_t line = 0; line < LONG; line++) {
+        write_line(line);
+        if (line % 100 == 0 && strstr(name, "-escapes"))
+            text[50 * line + 4] = '\x1b';
+    }
+    add(50 * labelled + 14, 50 * labelled + 19, "here");
+    has_excerpt = strstr(name, "-excerpt") != NULL;
+    return "long";
+}
+
 /* A word is replaced in each of so many lines, which have no other edit. */
 static void put_in_words(size_t lines) {
     for (size_t line = 0; line < lines; line++) {
@@ -65,18 +81,32 @@ static uint64_t checksum(size_t len) {
     return sum;
 }
 
+/* Draws a report over a source, or over an excerpt of it. */
+static uint32_t draw_over(const sewarqo_report *report, sewarqo_source source, size_t *len, size_t *count) {
+    sewarqo_report cut = *report;
+    if (has_excerpt)
+        cut = sewarqo_excerpt(report, &source, 1, moved);
+    return sewarqo_draw(&cut, &source, 1, out, ROOM, len, NULL, 0, count);
+}
+
 /* Draws a report so often, or tells a suggestion where there are edits. The length of what was drawn, or 0. */
 static size_t draw(const sewarqo_report *report, const sewarqo_suggestion *suggestion, long turns) {
-    const sewarqo_source *source = &suggestion->source;
     size_t len = 0, count;
     for (long turn = turns; turn > 0; turn--) {
         uint32_t status = suggestion->edits_len
                               ? sewarqo_suggest(suggestion, out, ROOM, &len, &count)
-                              : sewarqo_draw(report, source, 1, out, ROOM, &len, NULL, 0, &count);
+                              : draw_over(report, suggestion->source, &len, &count);
         if (status != SEWARQO_DRAWN)
             return 0;
     }
     return len;
+}
+
+/* Has the text and the labels of a workload. Its message. */
+static const char *drawn(const char *name) {
+    if (strncmp(name, "long", 4) == 0)
+        return long_text(name);
+    return strncmp(name, "two", 3) == 0 ? two() : nested();
 }
 
 int main(int argc, char **argv) {
@@ -90,7 +120,7 @@ int main(int argc, char **argv) {
             return 2;
         put_in_words(suggestion.edits_len);
     } else {
-        report.message = sewarqo_str(strncmp(argv[1], "two", 3) == 0 ? two() : nested());
+        report.message = sewarqo_str(drawn(argv[1]));
         report.flags |= strstr(argv[1], "-safe") ? 0 : SEWARQO_RAW;
     }
     report.start = labels[0].start;
