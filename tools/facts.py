@@ -21,7 +21,10 @@ SPEED, PROOFS, TRY_SAFE = "docs/dev/SPEED.md", "docs/dev/PROOFS.md", "tools/try-
 # Of docs/dev/PROOFS.md: what a crate takes, and what a run of the gate took.
 CRATE_MINUTES = re.compile(r"^\|`(\w+)`\|([\d.]*)\|[\d.]*\|[\d.]*\|([\d.]*)\|[\d.]*\|$", re.M)
 GATE_MINUTES = re.compile(r"^\|`[\w-]+`\|\w+\|[\d-]+\|(\d+)\|$", re.M)
-PROGRAMS = {"ariadne-draw": "ariadne_programs", "ariadne-brackets": "ariadne_brackets_program", "ariadne-show": "ariadne_show_program"}
+PROGRAMS = {
+    "ariadne-draw": "ariadne_programs", "ariadne-brackets": "ariadne_brackets_program",
+    "ariadne-show": "ariadne_show_program",
+}
 LIBRARY = ("sewarqo_c",)
 # Workloads of docs/COMPARED.md: what they are there, and what of that is a number.
 COMPARED_ROWS = {
