@@ -10,6 +10,8 @@ use std::alloc::{AllocError, Global};
 use std::collections::HashMap;
 use std::io;
 use std::io::IsTerminal;
+use std::ops::Range;
+use std::process::Abort;
 use std::rc::RcStr;
 use std::string::FromUtf8Error;
 
@@ -174,7 +176,7 @@ pub fn over_one_source(rt: HostRuntime, alloc: Global, report: &Report<'_>) -> R
     Ok(())
 }
 
-type Named<'a> = Report<'static, (&'a str, std::ops::Range<usize>)>;
+type Named<'a> = Report<'static, (&'a str, Range<usize>)>;
 
 pub fn over_named_sources(rt: HostRuntime, alloc: Global, report: &Named<'static>) -> Result<(), WriteError> {
     let source = Source::from(alloc, "apple")?;
@@ -272,6 +274,48 @@ pub fn of_skipped_labels(rt: HostRuntime, alloc: Global, report: &Named<'static>
 
 pub fn of_faults(error: &FileError) -> bool {
     error.fault().is_some()
+}
+
+// ---- examples in comments
+
+pub fn of_comments_on_spans(rt: &(impl Abort + AllocGlobal)) {
+    assert_eq!(rt; Span::len(&(2..5)), 3);
+    assert_eq!(rt; Span::end(&("stock.sql", 2..=4)), 5);
+}
+
+pub fn of_comments_on_places(alloc: Global) -> Result<(), AllocError> {
+    let name = Place::at(4).to(Place::at(9));
+    Label::new(name).with_message(alloc, "unknown")?;
+    Label::new(("stock.sql", name)).with_message(alloc, "unknown")?;
+    Ok(())
+}
+
+pub fn of_comments_on_tables(alloc: Global) -> Result<(), AllocError> {
+    let mut table = SourceTable::new(alloc);
+    let stock = table.add("stock.sql", "SELECT name, prise")?;
+    Report::build(alloc, ReportKind::Error, (stock, 13..18));
+    Ok(())
+}
+
+pub fn of_comments_on_margins(alloc: Global, builder: ReportBuilder<'static>) -> Result<Report<'static>, AllocError> {
+    let mut cache = Source::from(alloc, "apple")?;
+    let columns = 80 - builder.margin_columns(&mut cache)?.min(60);
+    let report = builder.with_config(Config::new().with_width(columns)).finish();
+    Ok(report)
+}
+
+pub fn of_comments_on_configs() -> Config {
+    let config = Config::new().with_char_set(CharSet::Ascii).with_color(false);
+    config
+}
+
+pub fn of_comments_on_colors(rt: &(impl Abort + AllocGlobal), alloc: Global) -> Result<(), AllocError> {
+    let mut colors = ColorGenerator::new();
+    assert_eq!(rt; colors.next(), Color::Fixed(201));
+    assert_eq!(rt; colors.next(), Color::Fixed(155));
+    let text = format!(in alloc; "{}", "warning".fg(Some(Color::Yellow)))?;
+    assert_eq!(rt; text.as_str(), "\x1b[33mwarning\x1b[0m");
+    Ok(())
 }
 
 // ---- the traps of docs/RATTLE.md, which are right code, and their other forms
