@@ -1,16 +1,15 @@
-/* Compiler diagnostics, drawn over their sources by one call, and suggested edits as texts by another.
+/* Compiler diagnostics, rendered over their sources by one call, and suggested edits as texts by another.
 
-   A call keeps no state. Any number of threads may call at once, over memory that none of them
-   writes meanwhile. It may not be called from a signal handler. Each pointer that a struct or a
-   call is handed is the caller's before, during and after it: the library keeps none.
+   A call keeps no state. Any number of threads may call at once, over memory not written by any of them
+   meanwhile. Don't call the library from a signal handler. You own all memory passed to a call: the
+   library keeps no pointer.
 
-   Whatever the texts hold, the only escapes of a picture are the library's own, for a terminal that
-   reads UTF-8: a sign stands for each character that it obeys, and for those that it shows nothing of
-   which SAFE.md lists. That page tells what is not promised too. Under SEWARQO_RAW texts are drawn as
-   they are, and an escape character in one reaches the terminal.
+   The only escapes in a picture are the library's own, for a terminal that reads UTF-8: control and
+   invisible characters are replaced by visible symbols. SAFE.md lists the characters, and the limits.
+   Under SEWARQO_RAW texts are rendered unchanged, and escape characters reach the terminal.
 
-   A pointer may be null where its length is 0. With a length it must point to so many values, and
-   `len` and `count` must point to one. What a call writes overlaps nothing else that it is given. */
+   A pointer may be null if its length is 0. With a length it must point to so many values; `len` and
+   `count` must point to one value. The memory written by a call must not overlap its other memory. */
 #ifndef SEWARQO_H
 #define SEWARQO_H
 
@@ -214,8 +213,8 @@ uint32_t sewarqo_draw(const sewarqo_report *report, const sewarqo_source *source
  *      4 - let first = take(names);
  *      4 + let first = take(&names);
  *
- * A sign stands for each character that a terminal obeys or shows nothing of, also under SEWARQO_RAW. Where two
- * lines differ in white space alone, that is shown by signs. Lines are not cut to a report's `width`.
+ * Control and invisible characters are replaced by symbols, also under SEWARQO_RAW. If two lines differ only in white
+ * space, symbols show the white space. Lines are not cut to a report's `width`.
  *
  * After SEWARQO_DRAWN the first `*len` bytes of `out` are the text, and those behind it are as they were. After
  * SEWARQO_BUFFER_TOO_SMALL it takes `*len` bytes. After any other status `*len` is 0. `*count` is 0 but after those

@@ -5,10 +5,9 @@
 //     std::string picture = report.render({{"apple == orange;", "main.fruit"}});
 //
 // Texts are UTF-8. Offsets count from 0, in characters or (Config::byte_offsets) in bytes, and the end
-// of a label is exclusive. Whatever the texts hold, a picture has no escapes but the library's, for a
-// terminal that reads UTF-8: a sign stands for each character that SAFE.md lists (Config::safe).
-// A report keeps copies of its texts; those of sources are read by the call alone. Any number of threads
-// may draw at once.
+// of a label is exclusive. The only escapes in a picture are the library's, for a terminal that reads
+// UTF-8: symbols replace the characters listed in SAFE.md (Config::safe). A report keeps copies of its
+// texts; texts of sources are read only during a call. Any number of threads may call at once.
 #ifndef SEWARQO_HPP
 #define SEWARQO_HPP
 

@@ -108,12 +108,11 @@ class Report:
 
     @staticmethod
     def suggest(source: Union[Text, Source], edits: Iterable[Edit], config: Config = Config()) -> str:
-        """The text of a help that shows edits of a source: each line that changes as it was (`-`) and as it will
-        be (`+`), behind its number, and `...` for lines between that stay.
+        """The text of a help for edits of a source: each changed line before (`-`) and after (`+`), with its
+        number, and `...` for unchanged lines between.
 
-        It is handed in as a help, as it is or behind a message and a line feed. Edits that change nothing have an
-        empty text. A sign stands for each hidden character. Of the configuration `ascii`, `tab_width` and `width`
-        count.
+        Pass the text as a help, alone or after a message and a line feed. Edits without effect have an empty
+        text. Hidden characters have symbols. Of the configuration, only `ascii`, `tab_width` and `width` count.
 
         Raises `EditError` where one ends before it starts, starts before the end of the one in front of it,
         reaches past the source, or (in bytes) cuts a character; in this order. `ReportError`, `SourceError`,

@@ -147,10 +147,9 @@ impl Config {
         self
     }
 
-    /// Whether a sign stands for each character of a text that SAFE.md lists: those that a terminal of
-    /// UTF-8 obeys, and some that it shows nothing of. Usually false, since the escapes of
-    /// [`Fmt`](crate::Fmt) in messages would be shown by signs too. Offsets are those of the given texts.
-    /// `ariadne` 0.6.0 has no such call.
+    /// Whether symbols replace the control and invisible characters listed in SAFE.md. The default is
+    /// false, since the escapes of [`Fmt`](crate::Fmt) in messages would be replaced too. Offsets refer
+    /// to the original texts. `ariadne` 0.6.0 has no such call.
     ///
     /// ```
     /// use ariadne::{Config, Report, ReportKind, Source};

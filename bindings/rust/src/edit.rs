@@ -78,8 +78,9 @@ impl Report<'_> {
     /// (`+`), behind its number, and `...` for lines between that stay. It is handed in as a help, as it is or behind
     /// a message and a line feed. Edits that change nothing have an empty text.
     ///
-    /// What offsets count, the width of a tab and of a line, and the characters of strokes are the configuration's. A sign stands for each character that SAFE.md
-    /// lists, whatever the configuration says. `ariadne` 0.6.0 has no such call.
+    /// The configuration has the unit of offsets, the characters of strokes, and the width of a tab and of a line.
+    /// Symbols replace the characters listed in SAFE.md, whatever the configuration says. `ariadne` 0.6.0 has no
+    /// such call.
     ///
     /// ```
     /// use ariadne::{Config, Edit, EditError, IndexType, Report, Source};
