@@ -220,9 +220,13 @@ def of_c():
     yield "All {} must belong to one allocator", functions
     yield "each power of two up to {} dividing", found(heap, r"power of two up to (\d+) that divides")
     yield "For a text of {} bytes with nothing hidden", *contents_of("index")
-    yield "hidden a call takes {} million instructions", millions(found(SPEED, r"takes C ([\d,]+) safely"))
-    yield "in each hundredth line {} million.", millions(found(SPEED, r"in each hundredth line it takes ([\d,]+),"))
-    yield "With `SEWARQO_RAW` a call takes {} million.", millions(found(SPEED, r"and with unchanged texts ([\d,]+)\."))
+    taken = {name: millions(cells[0]) for name, cells in lines_of(text_of(SPEED), "Workload", "C", "Contents").items()}
+    yield "hidden a call takes {} million instructions", taken["long-safe"]
+    yield "in each hundredth line {} million.", taken["long-escapes-safe"]
+    yield "With `SEWARQO_RAW` a call takes {} million.", taken["long"]
+    yield "At -{}, a label in the middle", found("tools/compare-languages", r'\["cc", "-(O\d)"')
+    cut = taken["long-excerpt-safe"], taken["long-end-excerpt-safe"]
+    yield "then takes {} million instructions, and a label at the end {} million", *cut
     yield "is lines {} and {} of a large file", f"{offset + 1:,}", f"{offset + 2:,}"
 
 
