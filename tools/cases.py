@@ -22,7 +22,6 @@ SETTINGS = {
     "multiline_arrows": True,
     "color": False,
     "context_lines": 0,
-    "width": 0,
     "tab_width": 4,
     "width": 0,
     "char_set": "Ascii",

@@ -1,20 +1,37 @@
 """Random reports whose labels run over short and long lines, with the pictures that report_model.py reckons;
 and the same reports over excerpts, as docs/C.md tells to cut them out of large sources.
 
-Each source ends in lines without a label, of which each has an end, and no more lines are shown near others.
-So lines that are added behind a source change no picture.
+Each source ends in lines without a label, of which each has an end. So lines that are added behind a source
+change no picture, but where more lines are shown near others than these.
 """
 
 import random
+from itertools import count
 
-from cases import members_told
+from cases import LAST_OFFSET, SETTINGS, members_told
 from many import MANY
 from report_model import Model, Source, sources_of
 
 PIECES = (*MANY.LETTERS, *MANY.CONTROLS, *MANY.BLANKS)
 LINE_PIECES = (0, 0, 2, 8, 60)  # that a line has at the most
-CONTEXT_LINES = (0, 0, 1, 3)
-LAST_LINES = "y\n" * max(CONTEXT_LINES)
+CONTEXT_LINES = (0, 0, 0, 1, 1, 3, 3, LAST_OFFSET)
+FEW_CONTEXT_LINES = 3
+LAST_LINES = "y\n" * FEW_CONTEXT_LINES
+# A value of each setting that changes some pictures.
+OTHER_VALUES = {
+    "cross_gap": False,
+    "label_attach": "Start",
+    "compact": False,
+    "underlines": False,
+    "lone_underlines": False,
+    "multiline_arrows": False,
+    "color": False,
+    "context_lines": 0,
+    "width": 0,
+    "tab_width": 1,
+    "char_set": "Ascii",
+    "index_type": "Byte",
+}
 
 
 def random_source(chance, source_id):
@@ -26,7 +43,7 @@ def random_source(chance, source_id):
 
 def random_offset(chance, source):
     """An offset on any line of a source, but for its last ones."""
-    line = chance.randrange(len(source.lines) - max(CONTEXT_LINES))
+    line = chance.randrange(len(source.lines) - FEW_CONTEXT_LINES)
     return source.starts[line] + chance.randrange(len(source.lines[line]))
 
 
@@ -53,18 +70,40 @@ def random_places(chance, sources):
 
 
 def random_report(seed, number):
-    """The report of a number in the run of a seed, in colours, with its picture. Its texts and settings are
-    those of a report of try-many."""
+    """The report of a number in the run of a seed, in characters, with its picture. Its texts and the other
+    settings are those of a report of try-many."""
     chance = random.Random(f"over lines {seed} {number}")
     report = MANY.random_report(f"over lines {seed}", number)
-    context_lines = chance.choice(CONTEXT_LINES)
-    config = dict(report["config"], index_type="Char", color=True, context_lines=context_lines)
+    context_lines, color = chance.choice(CONTEXT_LINES), chance.random() < 0.5
+    config = dict(report["config"], index_type="Char", color=color, context_lines=context_lines)
     cache = "source" if report["cache"] == "source" else "sources"
     given = MANY.random_sources(chance, cache, config["tab_width"], random_source)
     own, *places = random_places(chance, sources_of({"sources": given}))
     told = {"config": config, "cache": cache, "sources": given, "hidden": [], "span": own}
     report.update(told, labels=MANY.random_labels(chance, places))
     return dict(report, picture=Model(report).picture())
+
+
+def has_few_context_lines(config):
+    """Whether lines that are added behind a source change nothing of a picture with these settings."""
+    return config.get("context_lines", SETTINGS["context_lines"]) <= FEW_CONTEXT_LINES
+
+
+def misread_report(seed, name):
+    """The first report of a seed with another value of this setting than its picture has, which shows that: it
+    would have another picture, and so would its excerpt."""
+    for number in count():
+        report = random_report(seed, number)
+        told = dict(report, config={**report["config"], name: OTHER_VALUES[name]})
+        pictures = [Model(it).picture() for it in (told, excerpt_of(told))]
+        if has_few_context_lines(told["config"]) and report["picture"] not in pictures:
+            return told
+
+
+def wrong_reports(seed):
+    """Reports with wrong pictures: each is misread in a setting, and the picture of the last one lacks its end."""
+    misread = [misread_report(seed, name) for name in SETTINGS]
+    return [*misread, dict(misread[0], picture=Model(misread[0]).picture()[:-1])]
 
 
 def excerpt_of(report):
@@ -92,7 +131,7 @@ def excerpt_of(report):
 
 
 def cases_of(report):
-    """The report as cases with its picture, in both kinds of offsets."""
-    for told in (report, MANY.with_other_offsets(report)):
+    """The report as cases with its picture, in both kinds of offsets, if none lies inside a character."""
+    for told in filter(None, (report, MANY.with_other_offsets(report))):
         name = f"{report['name']} {told['config']['index_type']}"
         yield {**members_told(name, told), "picture": report["picture"]}

@@ -1,6 +1,6 @@
-"""Draws stored cases (docs/dev/CASES.md) that need no cache of their own, and compares pictures and lists. The
-cases come as JSON, a list, over standard input. With the word `excerpts` the library is handed excerpts. The last line is 'N cases, M differ', and the status 1
-where M > 0.
+"""Draws stored cases (docs/dev/CASES.md) that need no cache of their own, and compares pictures and lists. Each
+line of standard input is a case, as JSON. With the word `excerpts` the library is handed excerpts. The last line is
+'N cases, M differ', and the status 1 where M > 0.
 """
 
 import json
@@ -101,7 +101,7 @@ class Case:
         return drawn.text == self.case["picture"] and left_out == self.case.get("left_out", [])
 
 
-cases = json.load(sys.stdin)
+cases = list(map(json.loads, sys.stdin))
 differing = [case["name"] for case in cases if not Case(case).is_drawn()]
 print(*differing, sep="\n", end="\n" * bool(differing))
 print(f"{len(cases)} cases, {len(differing)} differ")

@@ -7,8 +7,8 @@
 //!
 //! A help behind the others shows the edits of a case, which has one source then.
 //!
-//! With a number as its word, so many lines more stand behind each source. The last line is 'N cases, M
-//! differ', and the status 1 where M > 0.
+//! With a number as its word, so many lines more stand behind each source, of a hundred bytes each. The last
+//! line is 'N cases, M differ', and the status 1 where M > 0.
 
 use ariadne::{
     Cache, CharSet, Color, Config, Edit, IndexType, Label, LabelAttach, Report, ReportBuilder, ReportKind, Source,
@@ -182,7 +182,8 @@ fn differing(line: &str, behind: &str) -> Option<String> {
 }
 
 fn main() -> ExitCode {
-    let behind = "z\n".repeat(env::args().nth(1).map_or(0, |lines| lines.parse().expect("a number")));
+    let line = "z".repeat(99) + "\n";
+    let behind = line.repeat(env::args().nth(1).map_or(0, |lines| lines.parse().expect("a number")));
     let lines: Vec<String> = io::stdin().lock().lines().map(|line| line.expect("a line")).collect();
     let names: Vec<String> = lines.iter().filter_map(|line| differing(line, &behind)).collect();
     for name in &names {
