@@ -212,7 +212,9 @@ def of_c():
     heap, tab = "bindings/c/heap.c", found("crates/ariadne_calls/src/settings.rt", r"tab_width == 0 \{ (\d+) \}")
     functions = word(count(heap, r"^(?:struct block|void) rattle_\w+\("))
     offset = int(found(C, r"\.line_offset = (\d+)"))
+    exported = found("tools/library", r"global: ([\w; ]+); local")
     yield "from {} and {} on", standards("c")[0], standards("c++")[0]
+    yield "the shared library, with {} exported calls", word(len(exported.split(";")))
     yield "| columns | 0 is {} |", tab
     yield "gets memory by {} functions", functions
     yield "defines the {} over", functions
