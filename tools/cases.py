@@ -91,8 +91,8 @@ def label_of(label):
         at=f"{label['start']}..{label['end']}",
         message=label["message"],
         color=label.get("color"),
-        order=label["order"] or None,
-        priority=label["priority"] or None,
+        order=label["order"],
+        priority=label["priority"],
     )
 
 
@@ -120,8 +120,7 @@ def sources_of(report):
 
 
 def members_told(name, report):
-    """The members of a report as a case of a name, without a picture. (Those of the default are left out: an
-    unproved build reads a member as long as it draws a row.)"""
+    """The members of a report as a case of a name, without a picture."""
     source_id, start, end = report["span"]
     return told(
         name=name,
@@ -130,13 +129,13 @@ def members_told(name, report):
         code=report.get("code"),
         message=report.get("message"),
         id=source_id,
-        at=f"{start}..{end}" if start or end else None,
+        at=f"{start}..{end}",
         **sources_of(report),
         labels=[label_of(label) for label in report["labels"]],
         helps=report.get("helps"),
         edits=report.get("edits"),
         notes=report.get("notes"),
-        settings={setting: it for setting, it in report["config"].items() if it != SETTINGS[setting]},
+        settings=report["config"],
         takes=report.get("takes"),
         safe=report.get("safe"),
     )
