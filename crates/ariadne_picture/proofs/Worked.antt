@@ -26,6 +26,7 @@ mod WrongColors
 mod WrongTextColors
 mod WrongOtherRows
 mod WrongLonePictures
+mod WrongShownLines
 mod TwoReadings
 mod OddReports
 pub mod Premises

@@ -1,11 +1,11 @@
 -- The parts of a line that are shown where it is cut: what strokes lead to is seen, letters are whole, and the line takes no
 -- more columns than are asked for, unless the places that strokes lead to take more.
-use Rattle.std.proofs.Common.{◌≡◌, ℕ, zero, suc, ◌+◌, ◌-◌, ◌<◌, ◌≤◌, ◌⊎◌, ◌↔◌, Bool, true, false, List, [], ◌∷◌, ◌++◌, map, length, Option, Some, refl}
+use Rattle.std.proofs.Common.{◌≡◌, ℕ, zero, suc, ◌+◌, ◌-◌, ◌<◌, ◌≤◌, ◌⊎◌, ◌↔◌, Bool, true, false, List, [], ◌∷◌, ◌++◌, map, length, Some, refl}
 use Rattle.std.proofs.Common.{sym, ap, ◌∙◌, subst, arith, inl, inr, filter}
 use Rattle.std.specs.Prelude.{slice_get, option_map, option_to_list, unwrap_or, ◌&&◌, ◌||◌, ◌==◌, nat_le, nat_lt, if◌then◌else◌}
-use Rattle.std.specs.List.{list_all, list_any, prefix_len, range_with_len}
+use Rattle.std.specs.List.{list_all, prefix_len, range_with_len}
 use Rattle.std.specs.Str.{drop_trailing_whitespace}
-use Rattle.std.proofs.lemmas.Bool.{cases_Bool, cases_lt, cond_both, cond-true, cond-false, le-leb, lt-leb, lt-ltb, le-ltb, leb-true, true≢false, and_left, and_right}
+use Rattle.std.proofs.lemmas.Bool.{cases_Bool, cases_lt, cond_both, cond-true, cond-false, le-leb, lt-leb, lt-ltb, le-ltb, leb-true, true≢false, and_left}
 use Rattle.std.proofs.lemmas.List.{get_or_past}
 use Rattle.std.proofs.lemmas.List.FromFn.{get_or-map-range_with_len, length-map-range_with_len}
 use Rattle.std.proofs.lemmas.Option.{slice_get-map, unwrap_or-slice_get}

@@ -4,7 +4,6 @@ use Rattle.ariadne_picture.specs.ReadBack.Rows.{Known}
 use Rattle.std.proofs.Common.{◌≡◌, ℕ, true, List, Some, IsPermutation, refl, sym, ap, ◌∙◌}
 use Rattle.std.specs.Prelude.{slice_get}
 use Rattle.std.proofs.lemmas.Bool.{true≢false, not-true}
-use Rattle.ariadne_base.specs.Listing.{Listing}
 use Rattle.ariadne_picture.specs.Ranks.{is_start}
 use Rattle.ariadne_picture.specs.Rows.{Row, arrow}
 use Rattle.ariadne_picture.specs.Pieces.{Section}

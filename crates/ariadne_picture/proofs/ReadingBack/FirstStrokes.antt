@@ -7,7 +7,6 @@ use Rattle.std.specs.Prelude.{slice_get}
 use Rattle.std.specs.List.{list_any}
 use Rattle.std.proofs.lemmas.Bool.{cond_both, cases_lt, lt-ltb}
 use Rattle.std.proofs.lemmas.List.{append-nil, get_or_past, length-map}
-use Rattle.ariadne_base.specs.Listing.{Listing}
 use Rattle.ariadne_picture.specs.declared.switches.CharSet.{CharSet}
 use Rattle.ariadne_picture.specs.declared.switches.CharSet.TheVariants.{Unicode, Ascii}
 use Rattle.ariadne_picture.specs.declared.switches.Switches.{Switches}

@@ -3,7 +3,6 @@ use Rattle.ariadne_picture.specs.ReadBack.Rows.{Known}
 use Rattle.std.proofs.Common.{◌≡◌, ℕ, true, false, not, ◌&&◌, ◌==◌, List, Some, None, refl, sym, ap, ◌∙◌, subst, arith, inl, inr, nat_lt}
 use Rattle.std.specs.Prelude.{slice_get}
 use Rattle.std.proofs.lemmas.Bool.{cond_both, eqb-true, true≢false}
-use Rattle.ariadne_base.specs.Listing.{Listing}
 use Rattle.ariadne_picture.specs.declared.switches.CharSet.{CharSet}
 use Rattle.ariadne_picture.specs.declared.switches.CharSet.TheVariants.{Unicode, Ascii}
 use Rattle.ariadne_picture.specs.declared.cell.Glyph.{Glyph}

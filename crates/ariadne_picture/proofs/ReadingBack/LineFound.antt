@@ -12,7 +12,7 @@ use Rattle.std.proofs.lemmas.List.{length-map, append_cancel_right}
 use Rattle.std.proofs.lemmas.Option.{get_or_from_slice_get}
 use Rattle.ariadne_base.specs.Locations.{upto, line_text, line_offset}
 use Rattle.ariadne_base.specs.Ranges.{last_offset}
-use Rattle.ariadne_base.specs.Listing.{Listing, listed_lines}
+use Rattle.ariadne_base.specs.Listing.{listed_lines}
 use Rattle.ariadne_base.proofs.LocationLemmas.{line_at_is}
 use Rattle.ariadne_base.proofs.LineLaws.{some_line}
 use Rattle.ariadne_picture.specs.declared.switches.CharSet.{CharSet}

@@ -7,7 +7,7 @@ use Rattle.std.specs.Prelude.{slice_get, find, decimal}
 use Rattle.ariadne_picture.specs.declared.label_info.LineLabel.{LineLabel}
 use Rattle.std.specs.List.{range_with_len}
 use Rattle.std.proofs.lemmas.Bool.{cond-true, cond-false}
-use Rattle.ariadne_base.specs.Listing.{Listing, listed_lines}
+use Rattle.ariadne_base.specs.Listing.{listed_lines}
 use Rattle.ariadne_picture.specs.declared.sight.Sight.{Sight}
 use Rattle.ariadne_picture.specs.declared.switches.Switches.{Switches}
 use Rattle.ariadne_picture.specs.Groups.{printed_number}

@@ -4,7 +4,6 @@ use Rattle.std.proofs.Common.{◌≡◌, ℕ, suc, ◌-◌, ◌%◌, Bool, true,
 use Rattle.std.proofs.Common.{is_some, refl, sym, ap, ◌∙◌, arith, inl, inr}
 use Rattle.std.specs.Prelude.{slice_get}
 use Rattle.std.proofs.lemmas.Bool.{cases_Bool, and_right, or_from, or_left, or_right, eq-eqb, ne_eqb, lt-ltb}
-use Rattle.ariadne_base.specs.Listing.{Listing}
 use Rattle.ariadne_picture.specs.declared.switches.Switches.{Switches}
 use Rattle.ariadne_picture.specs.declared.cell.Glyph.TheVariants.{Ltop}
 use Rattle.ariadne_picture.specs.declared.label_info.LineLabel.{LineLabel}

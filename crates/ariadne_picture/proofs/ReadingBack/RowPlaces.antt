@@ -8,7 +8,6 @@ use Rattle.std.specs.List.{range_with_len}
 use Rattle.std.proofs.lemmas.Bool.{cond_both, cond-true, cond-false, cases_lt, ltb-true, true≢false}
 use Rattle.std.proofs.lemmas.List.{length-append}
 use Rattle.std.proofs.lemmas.List.Elements.{filter-append}
-use Rattle.ariadne_base.specs.Listing.{Listing}
 use Rattle.ariadne_picture.specs.Rows.{Row, group_header, source, rows}
 use Rattle.ariadne_picture.specs.Pieces.{Section}
 use Rattle.ariadne_picture.specs.ReadBack.Rows.{last_before, is_heading, shows_line, group_of, line_row, has_line}

@@ -6,7 +6,6 @@ use Rattle.std.proofs.Common.{ap, ◌∙◌, subst, arith, inl, inr, ◌⊎◌}
 use Rattle.std.specs.List.{prefix_len}
 use Rattle.std.proofs.lemmas.Bool.{cond_both, le-ltb, ne_eqb, false_from_ne_true}
 use Rattle.std.proofs.lemmas.List.{length-append}
-use Rattle.ariadne_base.specs.Listing.{Listing}
 use Rattle.ariadne_picture.specs.declared.switches.CharSet.{CharSet}
 use Rattle.ariadne_picture.specs.declared.cell.Glyph.{Glyph}
 use Rattle.ariadne_picture.specs.declared.cell.Glyph.TheVariants.{Blank, Vbar, Lbot}

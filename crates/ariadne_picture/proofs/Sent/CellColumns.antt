@@ -27,7 +27,7 @@ use Rattle.ariadne_picture.specs.Rows.{label_rows, is_inside, line_rows, aside_r
 use Rattle.std.specs.Str.Lines.{lines}
 use Rattle.ariadne_picture.specs.declared.sight.Sight.{Sight}
 use Rattle.ariadne_picture.specs.declared.sight.Sight.TheVariants.{Seen, Marked, Unseen}
-use Rattle.ariadne_picture.specs.Columns.{Layout, char_columns, text_columns, shown, shown_columns, width, column_of, arrow_len, whole_column, sight_of, mark_columns}
+use Rattle.ariadne_picture.specs.Columns.{Layout, char_columns, text_columns, shown, shown_columns, width, arrow_len, whole_column, sight_of, mark_columns}
 use Rattle.ariadne_picture.specs.Cells.{glyph_code, column_ink}
 use Rattle.ariadne_picture.specs.Pieces.{Piece, plain_text, blank_piece, spaces, stroke, glyph_text, ink_pieces, shown_text, char_pieces}
 use Rattle.ariadne_picture.specs.Pieces.{mark_text, seen_pieces, source_pieces, char_paint, shown_pieces, area_pieces, margin_text, margin_pieces, column_size}

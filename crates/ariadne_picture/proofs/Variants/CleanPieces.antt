@@ -22,7 +22,7 @@ use Rattle.ariadne_picture.specs.declared.sight.Sight.TheVariants.{Seen, Marked,
 use Rattle.ariadne_picture.specs.Columns.{Layout, layout_of, shown, shown_columns, width, arrow_len, whole_column, sight_of}
 use Rattle.ariadne_picture.specs.Cells.{column_ink}
 use Rattle.ariadne_picture.specs.Pieces.{Piece, blank_piece, plain_text, spaces, stroke, glyph_text, ink_pieces, shown_text, char_pieces, char_paint}
-use Rattle.ariadne_picture.specs.Pieces.{mark_text, seen_pieces, source_pieces, shown_pieces, area_pieces, margin_text, margin_pieces, column_size, gutter_len, gutter_pieces}
+use Rattle.ariadne_picture.specs.Pieces.{seen_pieces, source_pieces, shown_pieces, area_pieces, margin_text, margin_pieces, column_size, gutter_len, gutter_pieces}
 use Rattle.ariadne_picture.specs.Pieces.{Texts, Section, location_text, group_header_pieces, spacer_pieces, repeated, tail_pieces, message_pieces}
 use Rattle.ariadne_picture.specs.Pieces.{aside_texts, aside_name, aside_prefix, aside_line, aside_pieces, rest_pieces, row_pieces, text_pieces}
 use Rattle.ariadne_picture.proofs.Lists.ListFacts.{all-append}

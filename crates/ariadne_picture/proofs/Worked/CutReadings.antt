@@ -1,5 +1,5 @@
 -- Where lines are cut, reports that tell otherwise can have one picture.
-use Rattle.std.specs.Prelude.{ℕ, ◌≡◌, refl, ◌∷◌, []}
+use Rattle.std.specs.Prelude.{◌≡◌, refl, ◌∷◌, []}
 use Rattle.ariadne_picture.specs.Report.{ConfigFields}
 use Rattle.ariadne_picture.proofs.Worked.Sample.{drawn, picture, rows, one, label, unicode_config, configured}
 
