@@ -1,4 +1,4 @@
-//! Reports in the making.
+//! Builders of reports.
 
 ghost use Rattle.std.specs.Prelude.{◌≡◌, ℕ, ◌++◌, ◌∷◌, [], List, map, Some, IfOk, OnOk, OnErr};
 ghost use Rattle.std.specs.Prelude.{string_bytes};
@@ -17,10 +17,17 @@ use std::alloc::{AllocError, Global};
 use std::marker::Model;
 use std::ops::Range;
 
-/// A report in the making, which [`Report::build`] begins.
+/// A report under construction, from [`Report::build`].
 ///
-/// A call by value that is refused memory drops the report. A call by reference that is refused
-/// leaves it as it was; where it adds several texts or labels, those before stay added.
+/// If memory runs out, a call by value drops the report. A call by reference leaves the report
+/// unchanged, except that the texts or labels added before the failure stay.
+///
+/// ```rust
+/// let mut builder = Report::build(alloc, ReportKind::Warning, 0..5).with_message("unused name")?;
+/// builder.add_label(Label::new(0..5).with_message(alloc, "never read")?)?;
+/// builder.add_note("a name with `_` in front may be unused")?;
+/// let report = builder.finish();
+/// ```
 #[derive(Debug, Drop)]
 pub struct ReportBuilder<'a, S: Span = Range<usize>> {
     pub(crate) report: Content<'a, S>,
@@ -56,9 +63,8 @@ impl<'a, S: Span> ReportBuilder<'a, S> {
         }
     }
 
-    /// The report with this number as its code, which stands in brackets in front of its kind, in
-    /// place of the code that it may have had. The code is the number's decimal digits, with a zero
-    /// in front of a single one.
+    /// The report with this number as its code; an older code is dropped. The header shows the code
+    /// in brackets before the kind: the decimal digits, with a zero before a single digit.
     pub fn with_code(self, code: u64) -> Result<ReportBuilder<'a, S>, AllocError>
     where
         S: Drop,
@@ -70,9 +76,8 @@ impl<'a, S: Span> ReportBuilder<'a, S> {
         Ok(ReportBuilder { report })
     }
 
-    /// The report with this text as its code, which stands in brackets in front of its kind, in
-    /// place of the code that it may have had. Blanks stand behind it where it has less than two
-    /// characters.
+    /// The report with this text as its code; an older code is dropped. The header shows the code
+    /// in brackets before the kind, filled with blanks to two characters.
     pub fn with_code_text(self, code: &str) -> Result<ReportBuilder<'a, S>, AllocError>
     where
         S: Drop,
@@ -84,8 +89,8 @@ impl<'a, S: Span> ReportBuilder<'a, S> {
         Ok(ReportBuilder { report })
     }
 
-    /// Gives the report this message, in place of the one that it may have had. On `Err` there was
-    /// no memory for it, and the report is as it was.
+    /// Sets the message; an older message is dropped. On `Err` memory ran out, and the report is
+    /// unchanged.
     pub fn set_message(&mut self, message: &str) -> Result<(), AllocError>
         ensures ok { OnOk result (self.new ≡ record self.old { message = Some message.now }) }
         ensures err { OnErr result (self.new ≡ self.old) }
@@ -95,8 +100,8 @@ impl<'a, S: Span> ReportBuilder<'a, S> {
         Ok(())
     }
 
-    /// The report with this message, in place of the one that it may have had. On `Err` there was
-    /// no memory for it, and the report is dropped.
+    /// The report with this message; an older message is dropped. On `Err` memory ran out, and the
+    /// report is dropped.
     pub fn with_message(mut self, message: &str) -> Result<ReportBuilder<'a, S>, AllocError>
     where
         S: Drop,
@@ -107,10 +112,9 @@ impl<'a, S: Span> ReportBuilder<'a, S> {
         Ok(self)
     }
 
-    /// Gives the report this note, in place of all that it had. On `Err` there was no memory for
-    /// it, and the report is as it was.
+    /// Sets this note as the only one. On `Err` memory ran out, and the report is unchanged.
     ///
-    /// Notes stand below the labels: a report without a label that is drawn shows none.
+    /// Notes are below the labels: a report without a drawn label shows no notes.
     pub fn set_note(&mut self, note: &str) -> Result<(), AllocError>
         ensures ok { OnOk result (self.new ≡ record self.old { notes = note.now ∷ [] }) }
         ensures err { OnErr result (self.new ≡ self.old) }
@@ -121,10 +125,9 @@ impl<'a, S: Span> ReportBuilder<'a, S> {
         Ok(())
     }
 
-    /// Adds a note behind those that the report has. On `Err` there was no memory for it, and the
-    /// report is as it was.
+    /// Adds a note after the others. On `Err` memory ran out, and the report is unchanged.
     ///
-    /// Notes stand below the labels: a report without a label that is drawn shows none.
+    /// Notes are below the labels: a report without a drawn label shows no notes.
     pub fn add_note(&mut self, note: &str) -> Result<(), AllocError>
         ensures ok { OnOk result (self.new ≡ record self.old
             { notes = self.old.notes ++ note.now ∷ [] }) }
@@ -136,10 +139,10 @@ impl<'a, S: Span> ReportBuilder<'a, S> {
         Ok(())
     }
 
-    /// Adds these notes in turn, behind those that the report has. On `Err` there was no memory
-    /// for one of them: those before it stay added, and it and those behind it are dropped.
+    /// Adds these notes in turn, after the others. On `Err` memory ran out at one of the notes: the
+    /// notes before stay added, and the others are dropped.
     ///
-    /// Notes stand below the labels: a report without a label that is drawn shows none.
+    /// Notes are below the labels: a report without a drawn label shows no notes.
     pub fn with_notes<'t, T: IntoIterator<Item = &'t str>>(
         &mut self,
         notes: T,
@@ -163,10 +166,10 @@ impl<'a, S: Span> ReportBuilder<'a, S> {
         Ok(())
     }
 
-    /// The report with one note more, behind those that it has. On `Err` there was no memory for
-    /// it, and the report is dropped.
+    /// The report with one more note, after the others. On `Err` memory ran out, and the report is
+    /// dropped.
     ///
-    /// Notes stand below the labels: a report without a label that is drawn shows none.
+    /// Notes are below the labels: a report without a drawn label shows no notes.
     pub fn with_note(mut self, note: &str) -> Result<ReportBuilder<'a, S>, AllocError>
     where
         S: Drop,
@@ -177,10 +180,9 @@ impl<'a, S: Span> ReportBuilder<'a, S> {
         Ok(self)
     }
 
-    /// Gives the report this help, in place of all that it had. On `Err` there was no memory for
-    /// it, and the report is as it was.
+    /// Sets this help as the only one. On `Err` memory ran out, and the report is unchanged.
     ///
-    /// Helps stand below the labels: a report without a label that is drawn shows none.
+    /// Helps are below the labels: a report without a drawn label shows no helps.
     pub fn set_help(&mut self, help: &str) -> Result<(), AllocError>
         ensures ok { OnOk result (self.new ≡ record self.old { helps = help.now ∷ [] }) }
         ensures err { OnErr result (self.new ≡ self.old) }
@@ -191,10 +193,9 @@ impl<'a, S: Span> ReportBuilder<'a, S> {
         Ok(())
     }
 
-    /// Adds a help behind those that the report has. On `Err` there was no memory for it, and the
-    /// report is as it was.
+    /// Adds a help after the others. On `Err` memory ran out, and the report is unchanged.
     ///
-    /// Helps stand below the labels: a report without a label that is drawn shows none.
+    /// Helps are below the labels: a report without a drawn label shows no helps.
     pub fn add_help(&mut self, help: &str) -> Result<(), AllocError>
         ensures ok { OnOk result (self.new ≡ record self.old
             { helps = self.old.helps ++ help.now ∷ [] }) }
@@ -206,10 +207,10 @@ impl<'a, S: Span> ReportBuilder<'a, S> {
         Ok(())
     }
 
-    /// Adds these helps in turn, behind those that the report has. On `Err` there was no memory
-    /// for one of them: those before it stay added, and it and those behind it are dropped.
+    /// Adds these helps in turn, after the others. On `Err` memory ran out at one of the helps: the
+    /// helps before stay added, and the others are dropped.
     ///
-    /// Helps stand below the labels: a report without a label that is drawn shows none.
+    /// Helps are below the labels: a report without a drawn label shows no helps.
     pub fn with_helps<'t, T: IntoIterator<Item = &'t str>>(
         &mut self,
         helps: T,
@@ -233,10 +234,10 @@ impl<'a, S: Span> ReportBuilder<'a, S> {
         Ok(())
     }
 
-    /// The report with one help more, behind those that it has. On `Err` there was no memory for
-    /// it, and the report is dropped.
+    /// The report with one more help, after the others. On `Err` memory ran out, and the report is
+    /// dropped.
     ///
-    /// Helps stand below the labels: a report without a label that is drawn shows none.
+    /// Helps are below the labels: a report without a drawn label shows no helps.
     pub fn with_help(mut self, help: &str) -> Result<ReportBuilder<'a, S>, AllocError>
     where
         S: Drop,
@@ -247,8 +248,8 @@ impl<'a, S: Span> ReportBuilder<'a, S> {
         Ok(self)
     }
 
-    /// Adds a label behind those that the report has. On `Err` there was no memory for it: it is
-    /// dropped, and the report is as it was.
+    /// Adds a label after the others. On `Err` memory ran out: the label is dropped, and the report
+    /// is unchanged.
     pub fn add_label(&mut self, label: Label<S>) -> Result<(), AllocError>
     where
         S: Drop,
@@ -260,8 +261,8 @@ impl<'a, S: Span> ReportBuilder<'a, S> {
         Ok(())
     }
 
-    /// Adds these labels in turn, behind those that the report has. On `Err` there was no memory
-    /// for one of them: those before it stay added, and it and those behind it are dropped.
+    /// Adds these labels in turn, after the others. On `Err` memory ran out at one of the labels:
+    /// the labels before stay added, and the others are dropped.
     pub fn add_labels<T: IntoIterator<Item = Label<S>>>(
         &mut self,
         labels: T,
@@ -284,8 +285,8 @@ impl<'a, S: Span> ReportBuilder<'a, S> {
         Ok(())
     }
 
-    /// The report with one label more, behind those that it has. On `Err` there was no memory for
-    /// it, and label and report are dropped.
+    /// The report with one more label, after the others. On `Err` memory ran out, and label and
+    /// report are dropped.
     pub fn with_label(mut self, label: Label<S>) -> Result<ReportBuilder<'a, S>, AllocError>
     where
         S: Drop,
@@ -296,8 +297,8 @@ impl<'a, S: Span> ReportBuilder<'a, S> {
         Ok(self)
     }
 
-    /// The report with these labels in turn, behind those that it has. On `Err` there was no memory
-    /// for one of them, and labels and report are dropped.
+    /// The report with these labels in turn, after the others. On `Err` memory ran out, and labels
+    /// and report are dropped.
     pub fn with_labels<T: IntoIterator<Item = Label<S>>>(
         mut self,
         labels: T,
@@ -315,14 +316,14 @@ impl<'a, S: Span> ReportBuilder<'a, S> {
         Ok(self)
     }
 
-    /// How the report will be drawn, and what its offsets count.
+    /// The settings of the picture, and the unit of offsets.
     pub fn config(&self) -> Config
         ensures { result ≡ self.now.config }
     {
         self.report.config()
     }
 
-    /// The report with this configuration, whatever it had.
+    /// The report with this configuration; the older one is dropped.
     pub fn with_config(self, config: Config) -> ReportBuilder<'a, S>
         ensures { result ≡ record self.entry { config = config } }
     {
@@ -331,7 +332,7 @@ impl<'a, S: Span> ReportBuilder<'a, S> {
         ReportBuilder { report }
     }
 
-    /// The report, ready to be written.
+    /// The finished report.
     pub fn finish(self) -> Report<'a, S>
         ensures { result ≡ self.entry }
     {
@@ -340,7 +341,7 @@ impl<'a, S: Span> ReportBuilder<'a, S> {
     }
 }
 
-/// The code that a number is: its digits, with zeros in front where they are less than two.
+/// The code for a number: the digits, with zeros before to at least two.
 #[tactic(auto, using(crate::proofs::Building::zero_filled))]
 fn number_code(alloc: Global, number: u64) -> Result<String, AllocError>
     ensures { IfOk result (λ code. string_bytes code ≡ numeric_code number) }
@@ -348,7 +349,7 @@ fn number_code(alloc: Global, number: u64) -> Result<String, AllocError>
     format!(in alloc; "{number:02}")
 }
 
-/// The code that a text is: with blanks behind it where it has less than two characters.
+/// The code for a text: with blanks after to at least two characters.
 fn text_code(alloc: Global, text: &str) -> Result<String, AllocError>
     ensures { IfOk result (λ code. string_bytes code ≡ filled_code text.now) }
 {

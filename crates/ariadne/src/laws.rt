@@ -1,5 +1,5 @@
-//! Laws of what becomes of labels, and of the definitions that a picture is drawn by. Each is the
-//! contract of a function that does nothing: calling it tells the law.
+//! Laws of outcomes of labels, and of the definitions of a picture. A law is the contract of an
+//! empty function: a call of the function states the law.
 
 pub use ariadne_accept::laws::labels_are_drawn_or_listed;
 pub use ariadne_picture::laws::{

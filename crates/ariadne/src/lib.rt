@@ -1,6 +1,6 @@
-//! Compiler diagnostics: reports whose labels are drawn over the sources that they point into.
+//! Compiler diagnostics: reports with labels, rendered over the source code.
 //!
-//! This function writes an error with a code, a label and a help over a text:
+//! An error with a code, a label and a help, written over a text:
 //!
 //! ```rust
 //! pub(crate) fn draw<W: Write>(alloc: Global, out: &mut W) -> Result<(), WriteError> {
@@ -33,16 +33,17 @@
 //! ---'
 //! ```
 //!
-//! - A `Report` has a kind, a message, labels, notes and helps. `Report::build` begins one.
+//! - A `Report` has a kind, a message, labels, notes and helps. `Report::build` starts a report.
 //! - A `Label` has a span, and mostly a message and a colour. Offsets count from 0, and ends are
 //!   exclusive.
 //! - A `Source` is a text; `sources`, `FileCache`, `FnCache` and `SourceTable` hold several by id.
 //! - A `Config` sets colours, characters, widths and the unit of offsets.
-//! - A call that makes a text or a list takes an allocator, and returns an error without memory.
-//! - A label that doesn't fit its source is skipped, and `write` returns it with the reason.
+//! - Calls that make texts or lists take an allocator, and return an error if memory runs out.
+//! - If a label doesn't fit the source, the label is skipped. `write` returns the skipped labels,
+//!   each with the reason.
 //!
-//! Texts are sent as they are: for texts that anyone may have written there is `ariadne_safe`.
-//! After `Ok` the writer has taken exactly the picture; the contract of `Report::write` says so.
+//! Texts are sent unchanged. For untrusted texts use `ariadne_safe`. After `Ok` the writer has
+//! received exactly the picture, by the contract of `Report::write`.
 #![tactic(auto)]
 
 pub mod builder;

@@ -1,4 +1,4 @@
-//! How much of a row a picture takes in front of the source text.
+//! The columns of a picture before the source text.
 
 ghost use Rattle.std.specs.Prelude.{◌≡◌, IfOk};
 ghost use Rattle.ariadne_accept.specs.Drawn.{world};
@@ -14,26 +14,26 @@ use ariadne_drawing::margins::margin_columns;
 use std::alloc::AllocError;
 
 impl<'a, S: Span> Report<'a, S> {
-    /// How many columns of a row stand in front of the source text: those of the margin, and those of
-    /// the gutter, where bars lead from line to line. It is the most that a group of labels has, and 0
-    /// where no label is drawn.
+    /// The number of columns of a row before the source text: those of the margin, and those of the
+    /// gutter, with the bars between lines. The number is the greatest of all groups of labels, and
+    /// 0 without a drawn label.
     ///
     /// ```text
     ///  1 | ,-> def five = match () in {       9 of them: 5 of the margin, and 4 of the gutter
     /// ```
     ///
-    /// A program that knows how many columns a row may take asks for lines of so many less. The width
-    /// that the report has counts for nothing here; `ReportBuilder` has this call too, where the width
-    /// can still be set.
+    /// If a row may take only so many columns, subtract this number for the width of lines. The
+    /// width of the report has no effect here. `ReportBuilder` has this call too, while you can
+    /// still set the width.
     ///
     /// ```rust
     /// let columns = 80 - builder.margin_columns(&mut cache)?.min(60);
     /// let report = builder.with_config(Config::new().with_width(columns)).finish();
     /// ```
     ///
-    /// The source of each label is fetched, in the order of the labels, and no other is, as `write` does
-    /// it. On `Err` there was no memory, of the cache or to sort the labels. After each result the cache
-    /// holds what it held, and beyond that at most sources of labels.
+    /// Only the sources of labels are fetched, in the order of the labels, as by `write`. On `Err`
+    /// memory ran out, in the cache or for sorting the labels. After each result the cache has all
+    /// sources from before, and at most sources of labels more.
     pub fn margin_columns<C: Cache<S::SourceId>>(&self, cache: &mut C) -> Result<usize, AllocError>
         requires { C.can_fetch cache.old }
         ensures again { C.can_fetch cache.new }
@@ -51,11 +51,11 @@ impl<'a, S: Span> Report<'a, S> {
 }
 
 impl<'a, S: Span> ReportBuilder<'a, S> {
-    /// How many columns of a row stand in front of the source text of the report as it is so far, as
-    /// `Report::margin_columns` has it.
+    /// The number of columns of a row before the source text, for the report so far, like
+    /// `Report::margin_columns`.
     ///
-    /// On `Err` there was no memory, of the cache or to sort the labels. After each result the cache
-    /// holds what it held, and beyond that at most sources of labels.
+    /// On `Err` memory ran out, in the cache or for sorting the labels. After each result the cache
+    /// has all sources from before, and at most sources of labels more.
     pub fn margin_columns<C: Cache<S::SourceId>>(&self, cache: &mut C) -> Result<usize, AllocError>
         requires { C.can_fetch cache.old }
         ensures again { C.can_fetch cache.new }
@@ -72,9 +72,9 @@ impl<'a, S: Span> ReportBuilder<'a, S> {
     }
 }
 
-/// How many columns stand in front of the source texts of a report's picture over the sources of a cache.
+/// The number of columns before the source texts in a report's picture over the sources of a cache.
 ///
-/// On `Err` there was no memory, of the cache or to sort the labels.
+/// On `Err` memory ran out, in the cache or for sorting the labels.
 fn columns_of<S: Span, C: Cache<S::SourceId>>(
     report: &Content<'_, S>,
     cache: &mut C,

@@ -1,4 +1,4 @@
-//! Reports: what is said of which pieces of sources.
+//! Reports: diagnostics over sources.
 
 ghost use Rattle.std.specs.Prelude.{◌≡◌, map, string_bytes};
 ghost use Rattle.std.specs.Option.{option_copied};
@@ -13,9 +13,9 @@ use std::alloc::Global;
 use std::marker::Model;
 use std::ops::Range;
 
-/// A diagnostic that is ready to be written.
+/// A finished diagnostic.
 ///
-/// It may be written again and again, over one cache or several, and keeps its texts.
+/// You can write a report many times, over one cache or several. The report owns its texts.
 ///
 /// ```rust
 /// let report = Report::build(alloc, ReportKind::Error, ("-", 4..8))
@@ -42,69 +42,69 @@ impl<'a, S: Span> Report<'a, S> {
     ghost use Rattle.ariadne_picture.specs.Report.{new_report};
     ghost use Rattle.ariadne_labels.specs.Kinds.{kind_of};
 
-    /// Begins a report of this kind.
+    /// Starts a report of this kind.
     ///
-    /// `span` is the place that the header of its picture names, where that is in a source which
-    /// is drawn. The report has the default configuration, and no code, message, labels, notes or
-    /// helps yet. `alloc` serves all calls of the builder.
+    /// The header of the picture shows the start of `span`, if the source of `span` has a drawn
+    /// label. The report has the default configuration, and no code, message, labels, notes or
+    /// helps. All calls of the builder use `alloc`.
     pub fn build(alloc: Global, kind: ReportKind<'a>, span: S) -> ReportBuilder<'a, S>
         ensures { result ≡ new_report (kind_of kind.entry) span }
     {
         ReportBuilder::new(alloc, kind, span)
     }
 
-    /// What kind of report it is.
+    /// The kind.
     pub fn kind(&self) -> ReportKind<'a>
         ensures kind { kind_of result ≡ self.now.kind }
     {
         self.content.kind
     }
 
-    /// Its code, as it stands in brackets in front of the kind, if it has one: that of a number has at
-    /// least two digits, and that of a text is filled to two characters.
+    /// The code in the header, in brackets before the kind, if there is one. The code of a number
+    /// has at least two digits, and the code of a text is filled to two characters.
     pub fn code(&self) -> Option<&str>
         ensures code { option_copied result ≡ self.now.code }
     {
         self.content.code()
     }
 
-    /// What its header says, if it has a message.
+    /// The message in the header, if there is one.
     pub fn message(&self) -> Option<&str>
         ensures message { option_copied result ≡ self.now.message }
     {
         self.content.message()
     }
 
-    /// What it points at: the place that its header names.
+    /// The span with the location in the header.
     pub fn span(&self) -> &S
         ensures span { result.now ≡ self.now.span }
     {
         self.content.span()
     }
 
-    /// Its labels, in the order in which they were added. The list of those that `write` leaves out
-    /// counts them from 0.
+    /// The labels, in the order of the calls. The list of skipped labels from `write` counts from
+    /// 0.
     pub fn labels(&self) -> &[Label<S>]
         ensures labels { result.now ≡ self.now.labels }
     {
         self.content.labels()
     }
 
-    /// The texts of its notes, in the order in which they were added.
+    /// The texts of the notes, in the order of the calls.
     pub fn notes(&self) -> &[String]
         ensures notes { map string_bytes result.now ≡ self.now.notes }
     {
         self.content.notes()
     }
 
-    /// The texts of its helps, in the order in which they were added.
+    /// The texts of the helps, in the order of the calls.
     pub fn helps(&self) -> &[String]
         ensures helps { map string_bytes result.now ≡ self.now.helps }
     {
         self.content.helps()
     }
 
-    /// How it is drawn, and what its offsets count.
+    /// The settings of the picture, and the unit of offsets.
     pub fn config(&self) -> Config
         ensures config { result ≡ self.now.config }
     {

@@ -1,5 +1,4 @@
-//! Writing a report: its labels are judged, the picture of those that are drawn is made whole, and
-//! sent.
+//! Writing a report: the labels are checked, the whole picture is made, and then sent.
 
 ghost use Rattle.std.specs.Prelude.{◌≡◌, IfOk, None, string_bytes};
 ghost use Rattle.ariadne_accept.specs.Drawn.{world};
@@ -19,7 +18,7 @@ use std::alloc::AllocError;
 use std::io;
 use std::io::{Stderr, Write};
 
-/// What is drawn of a report, and the labels that are left out.
+/// A picture, and the skipped labels.
 #[derive(Drop)]
 struct Picture<E> {
     text: String,
@@ -27,21 +26,22 @@ struct Picture<E> {
 }
 
 impl<'a, S: Span> Report<'a, S> {
-    /// Draws the report over the sources of a cache and sends the picture to `out`.
+    /// Renders the report over the sources of a cache, and sends the picture to `out`.
     ///
-    /// The source of each label is fetched, in the order of the labels, and no other is. A label is
-    /// left out where its source can't be had, where it begins past its source or ends more than
-    /// one past it, and where one of its ends lies inside a character. The result lists these
-    /// labels by their positions, from 0, each with its reason. The picture is drawn whole before
-    /// its first byte is sent, and sending takes no memory.
+    /// Only the sources of labels are fetched, in the order of the labels. A label is skipped if
+    /// the source can't be loaded, or if an end is inside a character. A label is also skipped if
+    /// the label begins past the source, or ends more than one past. The result lists the skipped
+    /// labels by position, from 0, each with the reason. The whole picture is made before the first
+    /// byte is sent, and sending takes no memory.
     ///
-    /// On `Memory` nothing was sent: the cache had no memory for a source, or there was none for
-    /// the picture. On `Io` the writer failed, or took nothing of a piece that is not empty: it has
-    /// taken exactly the first `sent` bytes of the picture, which has more. After each result the
-    /// cache holds what it held, and beyond that at most sources of labels.
+    /// - On `Memory` nothing was sent: there was no memory for a source, or for the picture.
+    /// - On `Io` the writer failed, or took no byte of a non-empty slice. Exactly the first `sent`
+    ///   bytes of the picture were written, fewer than the whole picture.
+    /// - After each result the cache has all sources from before, and at most sources of labels
+    ///   more.
     ///
-    /// After `Ok` every message can be found. It has a row of its own, and strokes lead from it to
-    /// the characters that its label points at, in the columns where the source row shows them.
+    /// After `Ok` every message has a row of its own. Connectors lead from the row to the
+    /// characters of the label, in the columns of these characters in the source row.
     pub fn write<C: Cache<S::SourceId>, W: Write>(
         &self,
         cache: &mut C,
@@ -64,10 +64,11 @@ impl<'a, S: Span> Report<'a, S> {
         Ok(picture.left_out)
     }
 
-    /// Draws the report over the sources of a cache and sends the picture to a sink, as `write` does
-    /// to a writer.
+    /// Renders the report over the sources of a cache, and sends the picture to a sink, like
+    /// `write` to a writer.
     ///
-    /// After `Io` the sink has failed; after every other result it has failed only if it had before.
+    /// After `Io` the sink has failed. After any other result the sink has failed only if the sink
+    /// had failed before.
     pub fn write_to<C: Cache<S::SourceId>, K: Sink>(
         &self,
         cache: &mut C,
@@ -91,9 +92,9 @@ impl<'a, S: Span> Report<'a, S> {
         Ok(picture.left_out)
     }
 
-    /// Draws the report over the sources of a cache and sends the picture to `out`, which is to be
-    /// printed to standard output. It is `write` under another name: no terminal is asked, so the
-    /// bytes and the results are the same.
+    /// Renders the report over the sources of a cache, and sends the picture to `out`, for standard
+    /// output. The call is `write` under another name. No terminal is asked, so the bytes and the
+    /// results are the same.
     pub fn write_for_stdout<C: Cache<S::SourceId>, W: Write>(
         &self,
         cache: &mut C,
@@ -114,9 +115,9 @@ impl<'a, S: Span> Report<'a, S> {
         self.write(cache, out)
     }
 
-    /// Draws the report over the sources of a cache and sends the picture to the runtime's standard
-    /// output, as `write` does. What that output holds is not known, so the contract tells which
-    /// labels are left out, and that a fault sent less than the picture, and not what was sent.
+    /// Renders the report over the sources of a cache, and sends the picture to the runtime's
+    /// standard output, like `write`. The bytes at that output are unknown. So the contract
+    /// describes only the skipped labels, and that less than the picture was sent before an error.
     pub fn print<C: Cache<S::SourceId>, R: Print>(
         &self,
         cache: &mut C,
@@ -136,9 +137,9 @@ impl<'a, S: Span> Report<'a, S> {
         self.write(cache, &mut io::writer(rt))
     }
 
-    /// Draws the report over the sources of a cache and sends the picture to the runtime's standard
-    /// error, `rt.stderr()`, as `write` does. What that holds is not known, so the contract tells
-    /// what that of `print` does.
+    /// Renders the report over the sources of a cache, and sends the picture to the runtime's
+    /// standard error, `rt.stderr()`, like `write`. The contract says as much as the contract of
+    /// `print`.
     pub fn eprint<C: Cache<S::SourceId>>(
         &self,
         cache: &mut C,
@@ -158,9 +159,9 @@ impl<'a, S: Span> Report<'a, S> {
         self.write(cache, &mut stderr)
     }
 
-    /// Draws the report over the sources of a cache.
+    /// Renders the report over the sources of a cache.
     ///
-    /// On `Err` there was no memory, of the cache or for the picture.
+    /// On `Err` memory ran out, in the cache or for the picture.
     fn picture<C: Cache<S::SourceId>>(&self, cache: &mut C) -> Result<Picture<C::Error>, AllocError>
         requires { C.can_fetch cache.old }
         ensures again { C.can_fetch cache.new }

@@ -1,4 +1,4 @@
-//! Why a report was not written whole.
+//! Errors of writing a report.
 
 ghost use Rattle.std.specs.Prelude.{Some};
 ghost use Rattle.ariadne.specs.WriteErrors.{shown_error, IsFaultOf};
@@ -9,15 +9,23 @@ use std::error::Error;
 use std::{fmt, io};
 
 /// Why a report was not written whole.
+///
+/// ```rust
+/// let sent = match report.write(&mut source, out) {
+///     Ok(_) => None, // the whole picture
+///     Err(WriteError::Memory(_)) => Some(0),
+///     Err(WriteError::Io { sent, .. }) => Some(sent),
+/// };
+/// ```
 #[derive(Debug, Drop)]
 pub enum WriteError {
-    /// There was no memory for the picture, and nothing was sent.
+    /// Memory for the picture ran out, and nothing was sent.
     Memory(AllocError),
-    /// The writer failed, or took nothing of a piece that is not empty.
+    /// The writer failed, or took no byte of a non-empty slice.
     Io {
-        /// How many bytes of the picture were sent before, which are its first ones.
+        /// The number of bytes sent before, the first of the picture.
         sent: usize,
-        /// What the writer returned, or a fault of the kind `WriteZero` where it took nothing.
+        /// The writer's error, or an error of the kind `WriteZero` if the writer took no byte.
         fault: io::Error,
     },
 }
@@ -59,8 +67,8 @@ impl From<SendError> for WriteError {
     }
 }
 
-/// What `?` makes of it where an `io::Result` is returned: the fault of the writer, or one of the kind
-/// `OutOfMemory`. How many bytes were sent is then no longer told.
+/// For `?` in a function with an `io::Result`: the writer's error, or an error of the kind
+/// `OutOfMemory`. The number of bytes sent is lost.
 impl From<WriteError> for io::Error {
     ghost from_gives = { λ error fault. IsFaultOf error fault };
 

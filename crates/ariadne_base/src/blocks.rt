@@ -1,4 +1,5 @@
-//! Text in blocks of 64 bytes: the number of its characters, where each begins, and where no line ends.
+//! Text in blocks of 64 bytes: the number of characters, the start of each character, and blocks
+//! without the end of a line.
 
 pub mod count;
 mod marks;

@@ -1,4 +1,4 @@
-//! Where sources come from: a cache is a finite map from ids to sources, which only grows.
+//! Caches: finite maps from ids to sources, to which sources are only added.
 
 ghost use Rattle.std.specs.Prelude.{◌≡◌, ℕ, ⊤, true, List, Option, None, IsOkAnd, IfErr};
 ghost use Rattle.std.specs.Prelude.{OnErr, IfSome};
@@ -21,12 +21,20 @@ use crate::source::Source;
 use crate::text::SourceText;
 use std::alloc::{AllocError, AllocFailed};
 
-/// Why a fetch has no source to return.
+/// Why a fetch returns no source.
+///
+/// ```rust
+/// let is_held = match cache.ensure(&id) {
+///     Ok(()) => true,
+///     Err(FetchError::Memory(_)) => false, // a later call may succeed
+///     Err(FetchError::Failed(_)) => false, // the cache says why
+/// };
+/// ```
 #[derive(Debug, Drop)]
 pub enum FetchError<E> {
-    /// A growth of memory was refused. The same fetch may succeed when there is memory.
+    /// Memory ran out. A later call with the same id may succeed.
     Memory(AllocError),
-    /// The cache can't have the source, and this says why.
+    /// The cache can't load the source, for this reason.
     Failed(E),
 }
 
@@ -46,34 +54,65 @@ impl<T: Drop, E> From<AllocFailed<T>> for FetchError<E> {
     }
 }
 
-/// A finite map from ids to sources that a fetch may add to, and that nothing else changes.
+/// A finite map from ids to sources. A fetch may add a source, and nothing else changes the map.
 ///
-/// Callers write `fetch` and `display`; a cache of your own writes `ensure`, `get` and `display`.
-/// Equal ids count as one id throughout.
+/// You call `fetch` and `display`. If you implement a cache, write `ensure`, `get` and `display`.
+/// Equal ids count as one id.
+///
+/// A cache with a map inside, for sources without names:
+///
+/// ```rust
+/// impl<'s> Cache<&'s str> for Nameless<'s> {
+///     type Storage = &'s str;
+///
+///     type Error = UnknownSource;
+///
+///     ghost contents = { λ c. c.map };
+///
+///     ghost names = { λ _ _. None };
+///
+///     ghost fails = { λ id e. e ≡ id.now };
+///
+///     ghost names_respect_eq = { λ _ _ _ _. refl };
+///
+///     fn ensure(&mut self, id: &&'s str) -> Result<(), FetchError<UnknownSource>> {
+///         self.map.ensure(id)
+///     }
+///
+///     fn get(&self, id: &&'s str) -> Option<&Source<&'s str>> {
+///         self.map.get(id)
+///     }
+///
+///     fn display<'a>(&'a self, _id: &'a &'s str) -> Option<&'a str> {
+///         None
+///     }
+/// }
+/// ```
 pub trait Cache<Id: Eq> {
-    /// What holds the text of each source.
+    /// The owner of each source's text.
     type Storage: SourceText;
 
-    /// Why a source can't be had, other than for want of memory.
+    /// Why a source can't be loaded, except for lack of memory.
     type Error: Drop;
 
-    // The sources that are held, each under its id. They are read by look-ups alone.
+    // The sources held, each under an id. Only look-ups read the list.
     ghost contents: { Self → List (Id × Listing) };
 
-    // The name that an id is shown under, if it has one.
+    // The name shown for an id, if there is one.
     ghost names: { Self → Id → Option (List ℕ) };
 
-    // The errors that may be returned for an id.
+    // The possible errors of an id.
     ghost fails: { Id → Self.Error → Type 0 };
 
-    // What the cache needs before it is asked, as that its function may be called.
+    // The condition of a fetch, for example that the cache's function may be called.
     ghost can_fetch: { Self → Type 0 } = { λ _. ⊤ };
 
-    /// Fetches the source of an id that isn't held, or returns why that can't be done.
+    /// Loads the source of an id, if no source is held under the id. Returns an error if the source
+    /// can't be loaded.
     ///
-    /// What was held before stays, under every id. After `Ok` the id is held and nothing else is
-    /// new; an id that was held already gives `Ok`, changes nothing and takes no memory.
-    /// After an error the cache holds what it held, and the id was not held.
+    /// All sources held before the call stay. After `Ok` a source is held under the id, and nothing
+    /// else is new. If one was held before, nothing changes, and no memory is taken. After an error
+    /// the cache is unchanged, and the id has no source.
     fn ensure(&mut self, id: &Id) -> Result<(), FetchError<Self::Error>>
         requires { can_fetch self.old }
         ensures again { can_fetch self.new }
@@ -81,18 +120,18 @@ pub trait Cache<Id: Eq> {
             (contents self.old) (contents self.new) id.now result }
         ensures naming { (q : Id) → names self.new q ≡ names self.old q };
 
-    /// The source that is held under an id, if there is one. It takes no memory.
+    /// Borrows the source held under an id, if there is one. Takes no memory.
     fn get(&self, id: &Id) -> Option<&Source<Self::Storage>>
         ensures { option_copied result ≡ held Id.eq (contents self.now) id.now };
 
-    /// The name that an id is shown under, if it has one. No fetch changes it. It takes no memory.
+    /// The name shown for an id, if there is one. A fetch changes no name. Takes no memory.
     fn display<'a>(&'a self, id: &'a Id) -> Option<&'a str>
         ensures { option_copied result ≡ names self.now id.now };
 
-    /// The source of an id, which is held from here on.
+    /// Loads the source of an id if necessary, and borrows the source.
     ///
-    /// The cache is then as `ensure` leaves it, which no clause here says: who uses the cache again
-    /// writes `ensure` and `get`. An error means that the id was not held.
+    /// Afterwards the cache is as after `ensure`, but no clause here says so. If you use the cache
+    /// again, call `ensure` and `get`. After an error the id has no source.
     final fn fetch(&mut self, id: &Id) -> Result<&Source<Self::Storage>, FetchError<Self::Error>>
         requires { can_fetch self.old }
         ensures known { IfSome (held Id.eq (contents self.old) id.now) (λ s.

@@ -1,5 +1,5 @@
-//! Sources and the caches that hold them. `ariadne` gives out the names at the end; what else
-//! is public here serves the crates above, and is no part of its surface.
+//! Sources, spans and caches. `ariadne` re-exports the names at the end. All other public items are
+//! for the crates above, and not for users.
 #![tactic(auto)]
 
 pub mod blocks;

@@ -1,4 +1,4 @@
-//! Sources: texts with their lines, and the location of an offset in them.
+//! Sources: texts with lines, and the line and column of an offset.
 
 ghost use Rattle.std.specs.Prelude.{◌≡◌, ℕ, ◌+◌, ◌^◌, ◌<◌, ◌≤◌, ◌↔◌, ◌==◌, ◌&&◌, ◌++◌, List, []};
 ghost use Rattle.std.specs.Prelude.{length, nat_eq, IsTrue, IsSome, IfSome, IfOk};
@@ -34,14 +34,14 @@ use std::marker::Model;
 use std::ops::Range;
 use std::str::Chars;
 
-/// A text with its lines, which labels point into.
+/// A text with its lines, into which labels point.
 ///
-/// Seven characters end a line: CR, LF, U+000B, U+000C, U+0085, U+2028 and U+2029; a CR and the LF
-/// behind it end it together. A line keeps its terminator. A text that ends in a terminator has no
-/// further line, and the empty text has one empty line.
+/// Seven characters end a line: CR, LF, U+000B, U+000C, U+0085, U+2028 and U+2029. CR LF is one
+/// end. A line includes its end. A text with a line end as its last characters has no further line,
+/// and the empty text has one empty line.
 ///
-/// Offsets count from the start of the text, and line numbers from the first line, both from 0. A
-/// look-up of an offset searches the lines by halving, and takes no memory.
+/// Offsets count from the start of the text, and line numbers from the first line, both from 0. The
+/// line of an offset is found by binary search, without memory.
 ///
 /// ```rust
 /// let mut source = Source::from(alloc, "let pie = aple + 1;")?;
@@ -69,9 +69,9 @@ impl<I: SourceText> Model for Source<I> {
 }
 
 impl<I: SourceText> Source<I> {
-    /// Makes a source of a text, in one pass over it. Its display offset is 0.
+    /// Makes a source from a text, in one pass. The display offset is 0.
     ///
-    /// On `Err` there was no memory for its lines, and the text is dropped.
+    /// On `Err` memory ran out, and the text is dropped.
     pub fn from(alloc: Global, text: I) -> Result<Source<I>, AllocError>
     where
         I: Drop,
@@ -115,7 +115,7 @@ impl<I: SourceText> Source<I> {
         self.text().chars()
     }
 
-    /// The line of a number, where there are so many.
+    /// The line with this number, if the source has so many lines.
     pub fn line(&self, number: usize) -> Option<Line>
         ensures { result ≡ slice_get (line_table (listed_lines self.now)) number }
     {
@@ -126,7 +126,7 @@ impl<I: SourceText> Source<I> {
         }
     }
 
-    /// The line of a number that there is.
+    /// The line with a number below the number of lines.
     fn line_at(&self, number: usize) -> Line
         requires { number < length (listed_lines self.now) }
         ensures { result ≡ line_extent (listed_lines self.now) number }
@@ -143,16 +143,16 @@ impl<I: SourceText> Source<I> {
         self.starts.len() - 1
     }
 
-    /// Where each line begins.
+    /// The start of each line.
     fn begins(&self) -> &[Start]
         ensures { result.now ≡ line_begins (listed_lines self.now) }
     {
         &self.starts[..self.number_of_lines()]
     }
 
-    /// The lines, in order. They join to this text, and each but the last ends in a terminator. No
-    /// separator stands elsewhere, no CR LF is cut, and none is empty, unless the text is. There is
-    /// one such list.
+    /// The lines, in order. Joined, the lines are the text. Each line except the last ends in a
+    /// line end, and no line has a line end elsewhere. No CR LF is cut, and no line is empty,
+    /// except the line of an empty text. There is only one such list.
     pub fn lines(&self) -> SourceLines<'_>
         ensures table { result ≡ line_table (listed_lines self.now) }
         ensures number { length result ≡ length (listed_lines self.now) }
@@ -163,9 +163,9 @@ impl<I: SourceText> Source<I> {
         SourceLines { rest: &self.starts }
     }
 
-    /// The same source, whose line numbers are shown with an offset added.
+    /// The source with an offset added to each shown line number.
     ///
-    /// The offset and the number of lines, `lines().len()`, are together within `usize`.
+    /// The offset plus the number of lines, `lines().len()`, fits `usize`.
     pub fn with_display_line_offset(self, offset: usize) -> Source<I>
         requires { offset + length (listed_lines self) < 2 ^ 64 }
         ensures { result ≡ record { text = self.text; display_offset = offset } }
@@ -182,7 +182,7 @@ impl<I: SourceText> Source<I> {
         }
     }
 
-    /// What is added to a line number where it is shown; 0 unless it was set.
+    /// The number added to each shown line number; 0 by default.
     pub fn display_line_offset(&self) -> usize
         ensures offset { result ≡ self.now.display_offset }
         ensures fits { self.now.display_offset + length (listed_lines self.now) < 2 ^ 64 }
@@ -190,11 +190,11 @@ impl<I: SourceText> Source<I> {
         self.display_line_offset
     }
 
-    /// The line that an offset in characters lies in, the line's number, and the offset's column:
-    /// the number of characters between the line's start and the offset.
+    /// For an offset in characters: the line, the line's number, and the column. The column is the
+    /// number of characters between the start of the line and the offset.
     ///
-    /// `None` where the offset exceeds the number of characters. The offset that equals it lies in
-    /// the last line.
+    /// Returns `None` if the offset is greater than the number of characters. An offset equal to
+    /// the number of characters is on the last line.
     pub fn get_offset_line(&self, offset: usize) -> Option<(Line, usize, usize)>
         ensures found { IsSome result ↔ (offset ≤ length (chars self.now.text)) }
         ensures location { IfSome result
@@ -209,10 +209,10 @@ impl<I: SourceText> Source<I> {
         Some((line, number, offset - line.offset))
     }
 
-    /// The same for an offset in bytes: its line, the line's number, and the number of bytes
-    /// between the line's start and the offset, which need not begin a character.
+    /// For an offset in bytes: the line, the line's number, and the number of bytes between the
+    /// start of the line and the offset. The offset need not be at the start of a character.
     ///
-    /// `None` where the offset exceeds the number of bytes.
+    /// Returns `None` if the offset is greater than the number of bytes.
     pub fn get_byte_line(&self, byte_offset: usize) -> Option<(Line, usize, usize)>
         ensures found { IsSome result ↔ (byte_offset ≤ length self.now.text) }
         ensures location { IfSome result (λ p. p
@@ -227,11 +227,11 @@ impl<I: SourceText> Source<I> {
         Some((line, number, byte_offset - line.byte_offset))
     }
 
-    /// The numbers of the lines that a span of characters runs across. They begin with the line of
-    /// its start, and end with the line of its last offset, or with the last line where that offset
-    /// is past the source. A start past the source counts as line 0.
+    /// The numbers of the lines under a span of characters: from the line of the start to the line
+    /// of the last offset. If the last offset is past the source, the range ends with the last
+    /// line. If the start is past the source, the range begins with line 0.
     ///
-    /// The range has a line for every span, also where the span is reversed or past the source.
+    /// The range has at least one line, also for a reversed span and past the source.
     pub fn get_line_range<S: Span>(&self, span: &S) -> Range<usize>
         ensures start { result.start ≡ first_line (listed_lines self.now) (S.start_of span.now) }
         ensures end { result.end
@@ -249,7 +249,7 @@ impl<I: SourceText> Source<I> {
         start..end
     }
 
-    /// The number of the line that an offset in characters lies in, if it lies in one.
+    /// The number of the line with an offset in characters, if there is such a line.
     fn line_number(&self, offset: usize) -> Option<usize>
         ensures number { result ≡ line_number (listed_lines self.now) offset }
         ensures there { IfSome result (λ n. n < length (listed_lines self.now)) }
@@ -258,10 +258,10 @@ impl<I: SourceText> Source<I> {
         Some(number)
     }
 
-    /// The text of a line, its terminator included.
+    /// The text of a line, with the line's end.
     ///
-    /// `None` where the bytes of the line are not whole characters of this text, as they may be for
-    /// a line of another source.
+    /// Returns `None` if the bytes of the line are not whole characters of this text, for example
+    /// for a line of another source.
     pub fn get_line_text(&self, line: Line) -> Option<&str>
         ensures found { IsSome result ↔ IsCutOut self.now.text line.byte_offset (byte_end line) }
         ensures text { IfSome result (λ t. t.now
@@ -281,7 +281,7 @@ impl<I: SourceText> Source<I> {
         }
     }
 
-    /// A copy with the same text and display offset. On `Err` there was no memory for it.
+    /// A copy with the same text and display offset. On `Err` memory ran out.
     pub fn clone(&self) -> Result<Source<I>, AllocError>
     where
         I: Clone,
@@ -297,13 +297,13 @@ impl<I: SourceText> Source<I> {
         })
     }
 
-    /// The memory that the source was made with.
+    /// The allocator of the source.
     pub fn memory(&self) -> Global {
         *self.starts.allocator()
     }
 }
 
-/// Sources are equal where their texts and display offsets are.
+/// Sources are equal if their texts and display offsets are equal.
 impl<I: SourceText> PartialEq for Source<I> {
     ghost eq = { λ x y. pointwise nat_eq x.text y.text && (x.display_offset == y.display_offset) };
 

@@ -1,4 +1,4 @@
-//! Spans: the pieces of sources that labels point at.
+//! Spans: the parts of sources for labels.
 
 ghost use Rattle.std.specs.Prelude.{◌≡◌, ℕ, ◌-◌, ◌<◌, ◌≤◌, IsTrue, ◌↔◌};
 
@@ -8,28 +8,28 @@ mod range_inclusive;
 
 pub use place::Place;
 
-/// A piece of a source, from its start to before its end.
+/// A part of a source, from a start to an exclusive end.
 ///
-/// Offsets count from the start of the source, from 0, in characters (or in bytes, for a report
-/// whose index type says so). A span returns the same at every call. Its end may lie before its
-/// start, or past the source.
+/// Offsets count from the start of the source, from 0: characters, or bytes if the report's index
+/// type is `Byte`. A span returns the same values at every call. The end may be before the start,
+/// or past the source.
 ///
 /// ```rust
 /// assert_eq!(rt; Span::len(&(2..5)), 3);
 /// assert_eq!(rt; Span::end(&("stock.sql", 2..=4)), 5);
 /// ```
 pub trait Span {
-    /// What names a source.
+    /// The id of a source.
     type SourceId: Eq;
 
-    // The name of its source, its first offset, and one past its last offset.
+    // The id of the source, the first offset, and the end.
     ghost source_of: { Self → Self.SourceId };
 
     ghost start_of: { Self → ℕ };
 
     ghost end_of: { Self → ℕ };
 
-    /// The name of the source that the span lies in.
+    /// The id of the source.
     fn source(&self) -> &Self::SourceId
         ensures { result.now ≡ source_of self.now };
 
@@ -37,11 +37,11 @@ pub trait Span {
     fn start(&self) -> usize
         ensures { result ≡ start_of self.now };
 
-    /// One past the last offset.
+    /// The end: one past the last offset.
     fn end(&self) -> usize
         ensures { result ≡ end_of self.now };
 
-    /// The end minus the start, or 0 where the end lies before the start.
+    /// The end minus the start, or 0 if the end is before the start.
     final fn len(&self) -> usize
         ensures { result ≡ end_of self.now - start_of self.now }
     {
@@ -55,7 +55,7 @@ pub trait Span {
         self.end() <= self.start()
     }
 
-    /// Whether an offset lies between start and end; the end itself does not.
+    /// Whether an offset is at or after the start, and before the end.
     final fn contains(&self, offset: usize) -> bool
         ensures { IsTrue result ↔ ((start_of self.now ≤ offset) × (offset < end_of self.now)) }
     {

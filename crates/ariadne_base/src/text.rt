@@ -1,11 +1,16 @@
-//! What holds the text of a source.
+//! Owners of the text of a source.
 
 ghost use Rattle.std.specs.Prelude.{◌≡◌, ℕ, List, string_bytes};
 ghost use Rattle.std.specs.Rc.{rc_str_bytes};
 
 use std::rc::RcStr;
 
-/// A value that lends the text of a source, the same at every call.
+/// An owner of the text of a source. The text is the same at every call.
+///
+/// ```rust
+/// let borrowed: Source<&str> = Source::from(alloc, "apple")?;
+/// let shared: Source<RcStr> = Source::from(alloc, RcStr::from_str(alloc, "apple")?)?;
+/// ```
 pub trait SourceText {
     // The bytes of the text, in UTF-8.
     ghost text: { Self → List ℕ };

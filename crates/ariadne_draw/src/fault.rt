@@ -18,8 +18,7 @@ pub enum Status {
     Drawn = 0,
     /// The report was written without some of its labels, which standard error names.
     LeftOut = 1,
-    /// The words ask for nothing that it can draw, or the input can't be read or is no text. Nothing
-    /// was written.
+    /// The arguments are invalid, or the input can't be read or is not text. Nothing was written.
     BadInput = 2,
     /// Memory was refused, and nothing was written, or the writer failed on the way.
     Failed = 3,
@@ -28,7 +27,7 @@ pub enum Status {
 /// Why the program can't draw. The texts are those that standard error gets.
 #[derive(Debug, Drop, Error)]
 pub enum Fault {
-    /// The words ask for nothing that it can draw.
+    /// The arguments are invalid.
     #[error("usage: ariadne-draw [--ascii] [--plain] [--compact] [--bytes] [--file PATH] MESSAGE [START END TEXT]...")]
     Usage,
     /// A read of standard input failed.

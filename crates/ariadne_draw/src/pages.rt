@@ -7,32 +7,31 @@ use super::fault::{Fault, Status, tell_fault};
 use ariadne_send::send::send;
 use std::io::Write;
 
-/// What `--help` writes. Its two pictures are those that the program draws for the words above
-/// them, without the blanks at the ends of rows.
+/// The text of `--help`. The program renders its two pictures for the arguments above, without the
+/// blanks at the ends of rows.
 pub const HELP: &str = "\
 usage: ariadne-draw [--ascii] [--plain] [--compact] [--bytes] [--file PATH] MESSAGE [START END TEXT]...
 
-Draws an error with this message over the text of standard input. Each label is three words: it
-stands from offset START to END, exclusive, and says TEXT. Offsets count characters, from 0. Options
-come first, in any order, and the last --file counts.
+Renders an error with this message over the text of standard input. Each label has three arguments:
+the START and the END, exclusive, and its TEXT. Offsets count characters, from 0. Options come first,
+in any order. The last --file counts.
 
-  --ascii      strokes are ASCII, and not box drawing characters
-  --plain      there are no colours; NO_COLOR, where it is set and not empty, counts as this option
-  --compact    the picture has fewer rows and columns
-  --bytes      offsets count bytes, and not characters
-  --file PATH  the report is drawn over this file, and standard input is not read
-  --           the word behind it is MESSAGE, whatever it begins with
-  --help       writes this text, where it is the only word
-  --version    writes the program's version and that of what it ports, where it is the only word
+  --ascii      draws in ASCII, and not with box drawing characters
+  --plain      uses no colours; the same if NO_COLOR is set and not empty
+  --compact    uses fewer rows and columns
+  --bytes      counts offsets in bytes, and not in characters
+  --file PATH  renders over this file, and doesn't read standard input
+  --           the next argument is MESSAGE, whatever it begins with
+  --help       prints this text, if it is the only argument
+  --version    prints the versions of the program and of the original, if it is the only argument
 
-One dash begins no option: -h is a message, and the program then waits for standard input.
-Colours are on in a pipe and a file too, unless --plain or NO_COLOR says otherwise.
-Codes, helps, notes, other kinds and labels without text can't be given here: they are for calls of
-the library.
+Options begin with two dashes: -h is a message, and the program then waits for standard input.
+Colours are also used in a pipe and a file, unless you give --plain or NO_COLOR.
+The program has no codes, helps, notes, other kinds, and no labels without text. The library has.
 
-The text, the words and the name of the file are written as they are, with all that a terminal obeys
-in them. Where others may have written them use ariadne-show, or the library's crate ariadne_safe:
-they show signs for it.
+The text, the arguments and the name of the file are sent unchanged, including control characters.
+For texts from others use ariadne-show, or the library's crate ariadne_safe: both show symbols for
+such characters.
 
 Two labels on one line:
 
@@ -64,16 +63,16 @@ A label over three lines, in box drawing characters:
 
 Status:
 
-  0  the report was drawn with all its labels, or the text that was asked for was written
-  1  the report was drawn without some labels: standard error says which, by number from 1, and why
-  2  nothing was drawn: the words ask for no report, or standard input can't be read or is not UTF-8
-  3  writing failed on the way, or there was no memory and nothing was written
+  0  the picture has all labels, or the text of --help or --version was printed
+  1  the picture lacks some labels: standard error names each, by number from 1, with the reason
+  2  nothing was rendered: the arguments are invalid, or the text can't be read or is not UTF-8
+  3  writing failed, or memory ran out and nothing was written
   4  nothing was run: bin/ariadne-draw could not build the program
 
-A write that a signal interrupts is made again.
+A write that a signal interrupts is repeated.
 ";
 
-/// What `--version` writes: the program's name and version, and the version of what it ports.
+/// The text of `--version`: the program's name and version, and the version of the original.
 pub const VERSION: &str = "\
 ariadne-draw 0.6.0
 port of the Rust crate ariadne 0.6.0

@@ -1,4 +1,4 @@
-//! How a report is drawn.
+//! The settings of a picture.
 
 ghost use Rattle.std.specs.Prelude.{◌≡◌, ◌≤◌};
 ghost use Rattle.ariadne_picture.specs.Report.{switches_of};
@@ -7,7 +7,7 @@ use ariadne_picture::switches::Switches;
 pub use ariadne_picture::switches::{CharSet, IndexType, LabelAttach};
 use std::marker::Model;
 
-/// The switches of a report's picture.
+/// The settings of a report's picture.
 ///
 /// ```rust
 /// let config = Config::new().with_char_set(CharSet::Ascii).with_color(false);
@@ -70,10 +70,11 @@ impl Model for Config {
 impl Config {
     ghost use Rattle.ariadne_picture.specs.Report.{default_config};
 
-    /// The default switches: gaps where arrows cross, arrows attached to the middle, not compact,
-    /// underlines but no lone ones, and arrows at the ends of labels over several lines. Colours, a
-    /// tab stop every 4 columns, lines of any width and none but those with labels, box drawing
-    /// characters, and offsets in characters.
+    /// The default settings. Crossing arrows have gaps, and arrows start in the middle of labels.
+    /// The picture is not compact. Labels have underlines, but no lone underlines, and labels over
+    /// several lines have arrow heads. There are colours, a tab stop every 4 columns, box drawing
+    /// characters, and offsets in characters. Lines have any width, and only lines with labels are
+    /// shown.
     pub const fn new() -> Config
         ensures { result ≡ default_config }
     {
@@ -93,8 +94,8 @@ impl Config {
         }
     }
 
-    /// Whether a horizontal that crosses a vertical hides it; else it is drawn as a crossing. By
-    /// default it does.
+    /// Whether a gap is left where a horizontal line crosses a vertical one. Otherwise a crossing
+    /// is drawn. The default is a gap.
     ///
     /// ```text
     /// with_cross_gap(true)      with_cross_gap(false)
@@ -111,8 +112,8 @@ impl Config {
         self
     }
 
-    /// Where the arrow of a label within one line is attached: at its first character, its middle
-    /// one or its last one. By default it is the middle.
+    /// The start of the arrow of a label within one line: at the first character, the middle one or
+    /// the last one. The default is the middle.
     ///
     /// ```text
     /// LabelAttach::Start      LabelAttach::Middle      LabelAttach::End
@@ -127,9 +128,8 @@ impl Config {
         self
     }
 
-    /// Whether the picture is drawn with fewer rows and columns: without underlines, without the
-    /// rows between a line and its messages, and without those that only set parts of the picture
-    /// apart. By default it is not.
+    /// Whether the picture has fewer rows and columns: no underlines, no rows between a line and
+    /// its messages, and no rows or columns only for space. The default is `false`.
     ///
     /// ```text
     /// with_compact(false)      with_compact(true)
@@ -144,8 +144,8 @@ impl Config {
         self
     }
 
-    /// Whether labels within one line are underlined, where some label of the line has a message. By
-    /// default they are; compact pictures have no underlines.
+    /// Whether labels within one line have underlines, if some label of the line has a message. The
+    /// default is `true`. Compact pictures have no underlines.
     ///
     /// ```text
     /// with_underlines(true)      with_underlines(false)
@@ -160,9 +160,9 @@ impl Config {
         self
     }
 
-    /// Whether labels within one line are underlined also where no label of the line has a message:
-    /// in a row of their own, below the line. By default they are not. Compact pictures have no such
-    /// row, nor have those without underlines.
+    /// Whether labels within one line also have underlines if no label of the line has a message:
+    /// in an extra row below the line. The default is `false`. There is no such row in compact
+    /// pictures, or without underlines.
     ///
     /// ```text
     /// with_lone_underlines(true)      with_lone_underlines(false)
@@ -170,7 +170,7 @@ impl Config {
     ///    |          ^
     /// ```
     ///
-    /// Labels that only colour their code have such a row too.
+    /// Labels only for colour have such a row too.
     pub const fn with_lone_underlines(mut self, lone_underlines: bool) -> Config
         ensures { result ≡ record self { lone_underlines = lone_underlines } }
     {
@@ -178,8 +178,8 @@ impl Config {
         self
     }
 
-    /// Whether the ends of labels over several lines are shown by arrow heads below their line. By
-    /// default they are.
+    /// Whether arrow heads below a line show the ends of labels over several lines. The default is
+    /// `true`.
     ///
     /// ```text
     /// with_multiline_arrows(true)      with_multiline_arrows(false)
@@ -200,8 +200,8 @@ impl Config {
         self
     }
 
-    /// Whether the picture has colours. By default it has; else all colours of the report are left
-    /// out as it is drawn.
+    /// Whether the picture has colours. The default is `true`. Otherwise all colours of the report
+    /// are ignored.
     pub const fn with_color(mut self, color: bool) -> Config
         ensures { result ≡ record self { color = color } }
     {
@@ -209,8 +209,8 @@ impl Config {
         self
     }
 
-    /// How many columns of a line stand from one tab stop to the next: at least 1, and 4 by default.
-    /// A tab reaches to the next stop, whatever wide or combining characters stand before it.
+    /// The number of columns from one tab stop to the next: at least 1, and 4 by default. A tab
+    /// reaches to the next stop, also after wide and combining characters.
     ///
     /// ```text
     /// with_tab_width(4)      with_tab_width(8)
@@ -226,8 +226,8 @@ impl Config {
         self
     }
 
-    /// How many lines are shown before each line that has labels, and how many behind it. By default
-    /// none are. Such a line has no rows below it, and the other lines without labels stay hidden.
+    /// The number of lines shown before each line with labels, and after. The default is 0. These
+    /// lines have no rows below. All other lines without labels stay hidden.
     ///
     /// ```text
     /// with_context_lines(0)      with_context_lines(1)
@@ -238,7 +238,7 @@ impl Config {
     ///                             4 | d
     /// ```
     ///
-    /// At the ends of a source there are fewer, however high the number is.
+    /// At the start and the end of a source there are fewer lines.
     pub const fn with_context_lines(mut self, context_lines: usize) -> Config
         ensures { result ≡ record self { context_lines = context_lines } }
     {
@@ -246,10 +246,9 @@ impl Config {
         self
     }
 
-    /// How many columns of its text a line may take: 0 by default, where each is shown whole. A
-    /// longer line is cut to what its labels need and to what stands round it, with a mark in place
-    /// of what is left out: `…`, or `...` in ASCII. The margin, the gutter and the messages take
-    /// columns of their own.
+    /// The largest number of columns for the text of a line. The default, 0, is no limit. A longer
+    /// line is cut to the needs of its labels and the text around. A mark replaces the missing
+    /// text: `…`, or `...` in ASCII. The margin, the gutter and the messages take more columns.
     ///
     /// ```text
     /// with_width(0)                      with_width(16)
@@ -258,8 +257,8 @@ impl Config {
     ///    |                   `--- no        |        `--- no
     /// ```
     ///
-    /// Labels that stand far apart have parts of their own. Where what they need takes more columns,
-    /// the line takes them. A line without labels is cut to its beginning.
+    /// Labels far apart get separate parts. If the labels need more columns, the line takes more. A
+    /// line without labels is cut to its beginning.
     pub const fn with_width(mut self, width: usize) -> Config
         ensures { result ≡ record self { width = width } }
     {
@@ -267,7 +266,7 @@ impl Config {
         self
     }
 
-    /// The characters that strokes are drawn with, by default those for boxes of Unicode.
+    /// The characters of the lines in a picture. The default is box drawing characters of Unicode.
     ///
     /// ```text
     /// CharSet::Unicode                          CharSet::Ascii
@@ -286,9 +285,9 @@ impl Config {
         self
     }
 
-    /// What the offsets of spans count from 0: characters of a source, or bytes of its text in
-    /// UTF-8. By default they are characters. In `äpplë == örängë;` the last word is 9..15 by
-    /// characters and 11..20 by bytes, and its picture is the same.
+    /// The unit of offsets: characters of a source, or bytes in UTF-8, both from 0. The default is
+    /// characters. In `äpplë == örängë;` the last word is 9..15 in characters and 11..20 in bytes,
+    /// and the picture is the same.
     pub const fn with_index_type(mut self, index_type: IndexType) -> Config
         ensures { result ≡ record self { index_type = index_type } }
     {
@@ -296,7 +295,7 @@ impl Config {
         self
     }
 
-    /// What the layout reads of it.
+    /// The settings of the layout.
     pub fn switches(&self) -> Switches
         ensures switches { result ≡ switches_of self.now }
         ensures tabs { 1 ≤ self.now.tab_width }
@@ -314,21 +313,21 @@ impl Config {
         }
     }
 
-    /// Where arrows of labels within one line are attached.
+    /// The start of the arrows of labels within one line.
     pub fn label_attach(&self) -> LabelAttach
         ensures { result ≡ self.now.label_attach }
     {
         self.label_attach
     }
 
-    /// What offsets count.
+    /// The unit of offsets.
     pub fn index_type(&self) -> IndexType
         ensures { result ≡ self.now.index_type }
     {
         self.index_type
     }
 
-    /// Whether there are colours.
+    /// Whether the picture has colours.
     pub fn is_colored(&self) -> bool
         ensures { result ≡ self.now.color }
     {

@@ -1,4 +1,4 @@
-//! What kind of report it is.
+//! The kinds of reports.
 
 ghost use Rattle.std.specs.Prelude.{◌≡◌, Some};
 ghost use Rattle.ariadne_picture.specs.Canvas.{kind_color};
@@ -7,21 +7,26 @@ ghost use Rattle.ariadne_labels.specs.Kinds.{kind_of, shown_kind};
 use ariadne_color::Color;
 use std::fmt;
 
-/// The kind of a report, which its header names.
+/// The kind of a report, shown in the header.
+///
+/// ```rust
+/// let hint = ReportKind::Custom("Hint", Color::Blue);
+/// assert_eq!(rt; hint.name(), "Hint");
+/// ```
 #[derive(Clone, Copy, Debug, PartialEq, Eq)]
 pub enum ReportKind<'a> {
-    /// What keeps the program from doing what was asked.
+    /// A fault: the requested work was not done.
     Error,
-    /// What is likely to be wrong.
+    /// A likely fault.
     Warning,
-    /// What could be better.
+    /// A possible improvement.
     Advice,
-    /// A kind of the caller's own: its name, and its colour.
+    /// A kind of your own: the name and the colour.
     Custom(&'a str, Color),
 }
 
 impl<'a> ReportKind<'a> {
-    /// What the header calls it.
+    /// The name in the header.
     pub fn name(self) -> &'a str
         ensures { result.now ≡ shown_kind self.entry }
     {
@@ -33,7 +38,7 @@ impl<'a> ReportKind<'a> {
         }
     }
 
-    /// The colour that the header shows it in.
+    /// The colour of the name in the header.
     pub fn color(self) -> Color
         ensures { result ≡ kind_color (kind_of self.entry) }
     {
@@ -46,7 +51,7 @@ impl<'a> ReportKind<'a> {
     }
 }
 
-/// `Error`, `Warning`, `Advice`, or the name of the caller's own kind.
+/// `Error`, `Warning`, `Advice`, or the name of your own kind.
 impl fmt::Display for ReportKind<'_> {
     ghost output = { λ kind. Some (shown_kind kind) };
 

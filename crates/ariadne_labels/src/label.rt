@@ -1,4 +1,4 @@
-//! Labels: pieces of sources with messages.
+//! Labels: spans with messages.
 
 ghost use Rattle.std.specs.Prelude.{◌≡◌, ◌≤◌, true, Some, IfOk};
 ghost use Rattle.std.specs.Option.{option_copied};
@@ -12,10 +12,10 @@ use std::hash::{Hash, Hasher};
 use std::marker::Model;
 use std::ops::Range;
 
-/// A piece of a source that a report points at, and what it says of it.
+/// A span of a source, mostly with a message, for a report.
 ///
-/// The offsets of its span count from 0, in characters of the source, or in bytes of its text where
-/// the report's index type says so. Its end is exclusive, and not less than its start.
+/// The offsets of the span count from 0: characters of the source, or bytes if the report's index
+/// type is `Byte`. The end is exclusive, and not less than the start.
 ///
 /// ```rust
 /// let label = Label::new(10..14).with_message(alloc, "no such name")?;
@@ -63,8 +63,8 @@ impl<S: Span> Label<S> {
         }
     }
 
-    /// The label with this message, in place of the one that it may have had. Where there is no
-    /// memory for the message the label is dropped.
+    /// The label with this message; an older message is dropped. If memory runs out, the label is
+    /// dropped.
     pub fn with_message(mut self, alloc: Global, message: &str) -> Result<Label<S>, AllocError>
     where
         S: Drop,
@@ -90,8 +90,8 @@ impl<S: Span> Label<S> {
         self
     }
 
-    /// The label with this priority. Where spans overlap, the label of the highest priority is
-    /// seen, and of several such that of the shortest span.
+    /// The label with this priority. If spans overlap, the label of the highest priority is seen.
+    /// Among equal priorities, the label with the shortest span is seen.
     pub fn with_priority(mut self, priority: i32) -> Label<S>
         ensures { result ≡ record self { priority = priority } }
     {
@@ -99,7 +99,7 @@ impl<S: Span> Label<S> {
         self
     }
 
-    /// What it points at.
+    /// The span.
     pub fn span(&self) -> &S
         ensures span { result.now ≡ self.now.span }
         ensures forward { S.start_of self.now.span ≤ S.end_of self.now.span }
@@ -107,28 +107,28 @@ impl<S: Span> Label<S> {
         &self.span
     }
 
-    /// What it says, if it has a message.
+    /// The message, if the label has one.
     pub fn message(&self) -> Option<&str>
         ensures { option_copied result ≡ self.now.message }
     {
         self.message.as_deref()
     }
 
-    /// Its own colour, if it has one.
+    /// The label's own colour, if the label has one.
     pub fn color(&self) -> Option<Color>
         ensures { result ≡ self.now.color }
     {
         self.color
     }
 
-    /// What it is ordered by among the report's labels.
+    /// The order among the labels of the report.
     pub fn order(&self) -> i32
         ensures { result ≡ self.now.order }
     {
         self.order
     }
 
-    /// What it is preferred by where spans overlap.
+    /// The priority over other labels, if spans overlap.
     pub fn priority(&self) -> i32
         ensures { result ≡ self.now.priority }
     {
@@ -137,8 +137,8 @@ impl<S: Span> Label<S> {
 }
 
 impl<S: Span + Eq> Label<S> {
-    /// A copy of the label. A clone of its span is to equal the span, and to start and end where
-    /// the span does; all else of the copy is the same. On `Err` there was no memory for it.
+    /// A copy of the label. You prove that a clone of the span equals the span, with the same start
+    /// and end; everything else is the same. On `Err` memory ran out.
     pub fn clone(&self) -> Result<Label<S>, AllocError>
     where
         S: Clone,
@@ -164,7 +164,7 @@ impl<S: Span + Eq> Label<S> {
     }
 }
 
-/// Labels are equal where their spans, messages, colours, orders and priorities are.
+/// Labels are equal if their spans, messages, colours, orders and priorities are equal.
 impl<S: Span + Eq> PartialEq for Label<S> {
     ghost eq = { label_eq S.eq };
 

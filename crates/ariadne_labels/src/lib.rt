@@ -1,5 +1,5 @@
-//! Labels, kinds of reports and configurations. `ariadne` gives out the types; what else is public
-//! here, as `Config::switches`, serves the crates above, and is no part of its surface.
+//! Labels, kinds of reports and configurations. `ariadne` re-exports the types. All other public
+//! items, as `Config::switches`, are for the crates above, and not for users.
 #![tactic(auto)]
 
 pub mod config;

@@ -21,7 +21,7 @@ pub enum Status {
     Shown = 0,
     /// All was shown, and an error was among it, or what else `--fail-on` asks for.
     WithErrors = 1,
-    /// The words ask for nothing that the program does.
+    /// The arguments are invalid.
     WrongWords = 2,
     /// Reading or writing failed on the way, or memory was refused.
     Failed = 3,
@@ -35,7 +35,7 @@ pub enum Fault {
     /// A word is no UTF-8.
     #[error("a word is not UTF-8")]
     NoText,
-    /// The words ask for nothing that the program does: what is wrong with them.
+    /// The arguments are invalid, for this reason.
     #[error("{text}")]
     Words { text: String },
     /// A read of standard input failed.
@@ -79,8 +79,7 @@ impl From<WriteError> for Fault {
 }
 
 impl Fault {
-    /// That the words ask for nothing that the program does: what `clap` says of them, with a sign for
-    /// each character that a terminal obeys, but for its line feeds.
+    /// Invalid arguments: the message of `clap`, with symbols for control characters except line feeds.
     pub fn words(alloc: Global, error: &clap::Error) -> Result<Fault, AllocError>
         ensures { IfOk result TellsWords }
     {
@@ -92,7 +91,7 @@ impl Fault {
         })
     }
 
-    /// That a value of `--width` is none, told with such signs.
+    /// An invalid value of `--width`, shown with the same symbols.
     pub fn no_width(alloc: Global, value: &str) -> Result<Fault, AllocError>
         ensures { IfOk result TellsWords }
     {

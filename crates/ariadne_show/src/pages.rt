@@ -7,66 +7,66 @@ use crate::fault::{Fault, Status, tell_fault};
 use crate::sending::send;
 use std::io::Write;
 
-/// What `--help` writes. `bin/release` makes the manual page of it.
+/// The text of `--help`. `bin/release` makes the manual page from it.
 pub const HELP: &str = "\
 usage: ariadne-show [OPTIONS] [FILE]...
 
-Reads what compilers and linters print, from the files or from standard input, and draws it over the
-files that it names. Every other line is written in its place, with a sign for what a terminal obeys.
-A file that is drawn is read once. At the end stands how many errors, warnings and notes there were.
+Reads the output of compilers and linters, from files or from standard input, and renders each
+diagnostic over the files that it names. All other lines pass through, with symbols for control
+characters. Each file is read once. At the end comes the number of errors, warnings and notes.
 
-FILE is a log of what they printed. Several are read one after the other; - is standard input, which
-is read where none is named.
+FILE is a log of such output. Several are read in order; - is standard input, which is also read
+if there is no FILE.
 
-What is read:
+Input:
 
-  --format FORMAT  the form of what is read; the other lines go through
-      auto     each line by its own form, where nothing else is said
+  --format FORMAT  reads only one form; all other lines pass through
+      auto     each line by its own form: the default
       rustc    lines of rustc --error-format=json and cargo --message-format=json
       gcc      lines of gcc -fdiagnostics-format=json
       lines    FILE:LINE:COLUMN: KIND: MESSAGE
       report   the program's own form: docs/SHOW.md describes it
-  --columns UNIT   what the columns of FILE:LINE:COLUMN count
-      bytes    bytes, where nothing else is said; so does clang
-      chars    characters; so does shellcheck
-      display  columns of a terminal, with tabs of 8; so does gcc
-  --base DIR       the folder in which files are looked for, and which alone may be read
+  --columns UNIT   the unit of columns in FILE:LINE:COLUMN
+      bytes    bytes, as in clang: the default
+      chars    characters, as in shellcheck
+      display  columns of a terminal, with tabs of 8, as in gcc
+  --base DIR       looks for files in DIR, and reads no file outside of DIR
 
-What is written:
+Output:
 
-  --output FORM    how each diagnostic is written
-      picture  as a picture over its files, where nothing else is said
+  --output FORM    how each diagnostic is printed
+      picture  as a picture over its files: the default
       short    as FILE:LINE:COLUMN: kind: message [code], in one line
-      github   as a command of a GitHub workflow, which puts it beside its line
+      github   as a command of a GitHub workflow, for a message beside the line
       sarif    as a result in a SARIF log
-  --short          the same as --output short, where there is no --output
-  --severity KIND  error, warning or note: what is less severe is counted, and not drawn
-  --max N          draws N diagnostics at most, and tells how many more there are
-  --context N      shows N lines above and below those of a picture; none, where nothing is said
-  --width N        cuts lines so that a row takes at most N columns, or auto, or full; auto is as
-                   many as COLUMNS says at a terminal, and full shows lines whole
-  --raw            lines go through as they are, with what a terminal obeys
-  --color WHEN     auto, always or never; auto is as the environment asks, and else at a terminal
-  --ascii          strokes are ASCII, and not box drawing characters
-  --compact        the pictures have fewer rows and columns
-  --fail-on KIND   error, warning or never: what status 1 tells of, which else is errors
+  --short          the same as --output short, if there is no --output
+  --severity KIND  error, warning or note: less severe diagnostics are counted, and not printed
+  --max N          prints at most N diagnostics, and how many more there are
+  --context N      shows N lines above and below each labelled line of a picture: 0 by default
+  --width N        cuts long lines, so that a row has at most N columns; or auto, or full. auto is
+                   the number in COLUMNS at a terminal, and full shows lines whole
+  --raw            passes lines through unchanged, including control characters
+  --color WHEN     auto, always or never. auto asks the environment, and then for a terminal
+  --ascii          draws in ASCII, and not with box drawing characters
+  --compact        uses fewer rows and columns
+  --fail-on KIND   error, warning or never: the least severity for status 1, error by default
 
-  -h, --help       writes this text
-  -V, --version    writes the program's version
+  -h, --help       prints this text
+  -V, --version    prints the program's version
 
-The value of an option is the word behind it, or joined to it by a =. Of an option the last one
-counts. Behind -- all words are files. Whatever files and messages hold, a picture shows a sign for
-each character that a terminal of UTF-8 obeys, and for others of which nothing is seen: docs/SAFE.md
-lists them.
+The value of an option is the next argument, or follows a =. If an option is given twice, the last
+one counts. After -- all arguments are files. A picture has a symbol for each control character, and
+for other invisible characters, whatever files and messages contain: docs/SAFE.md lists them. The
+terminal has to read UTF-8.
 
-Environment, where --width is auto: COLUMNS. Where --color is auto the first that says something
+Environment, if --width is auto: COLUMNS. If --color is auto, the first of these that applies
 decides:
 
-  NO_COLOR         no colours, where it is not empty
-  FORCE_COLOR      colours, where it is not empty
-  CLICOLOR_FORCE   colours, where it is not empty and not 0
-  CLICOLOR         no colours, where it is 0
-  TERM             no colours, where it is dumb
+  NO_COLOR         no colours, if it is not empty
+  FORCE_COLOR      colours, if it is not empty
+  CLICOLOR_FORCE   colours, if it is neither empty nor 0
+  CLICOLOR         no colours, if it is 0
+  TERM             no colours, if it is dumb
 
 Examples:
 
@@ -89,17 +89,17 @@ Examples:
 
 Status:
 
-  0    all was shown, and no error was among it, or nothing else that --fail-on names
-  1    all was shown, and an error was among it, or what else --fail-on names
-  2    the words ask for nothing that the program does: standard error says why
-  3    reading or writing failed, or there was no memory
+  0    everything was shown, and no diagnostic is as severe as --fail-on says
+  1    everything was shown, and some diagnostic is
+  2    the arguments are invalid; the reason is printed to standard error
+  3    reading or writing failed, or memory ran out
   4    nothing was run: bin/ariadne-show could not build the program
-  141  nobody read the output any more
+  141  the reader of the output was gone
 
-A write that a signal interrupts is made again.
+A write that a signal interrupts is repeated.
 ";
 
-/// What `--version` writes.
+/// The text of `--version`.
 pub const VERSION: &str = "\
 ariadne-show 0.6.0
 ";

@@ -14,7 +14,7 @@ pub fn count_chars(text: &str) -> usize
     count_starts(text.as_bytes())
 }
 
-/// The number of bytes that begin a character.
+/// The number of first bytes of characters.
 fn count_starts(bytes: &[u8]) -> usize
     ensures { result ≡ count_by is_char_start bytes.now }
 {
@@ -35,7 +35,7 @@ fn count_starts_plain(bytes: &[u8]) -> usize
     bytes.iter().filter(|byte| begins_char(**byte)).count()
 }
 
-/// Whether a byte begins a character.
+/// Whether a byte is the first of a character.
 #[inline(always)]
 pub(super) fn begins_char(byte: u8) -> bool
     ensures { result ≡ is_char_start byte }

@@ -13,13 +13,14 @@ use std::simd::prelude::*;
 /// The marks of a block.
 #[derive(Clone, Copy)]
 pub(super) struct Block {
-    /// Where a separator begins.
+    /// The starts of separators.
     pub(super) separators: u64,
-    /// Where a character begins.
+    /// The starts of characters.
     pub(super) starts: u64,
 }
 
-/// The marks of the 64 bytes from a place on. A separator may end in the two bytes behind them.
+/// The marks of 64 bytes from a position. The last separator may end in the two bytes after the
+/// block.
 #[inline(always)]
 pub(super) fn block_at(bytes: &[u8], at: usize) -> Block
     requires { at + 66 ≤ length bytes.now }
@@ -61,7 +62,7 @@ fn controls(block: u8x64) -> u64
         .to_bitmask()
 }
 
-/// Marks the first bytes of longer separators, from each byte and the two behind it.
+/// Marks the first bytes of longer separators, from each byte and the next two.
 #[inline(always)]
 fn wide_separators(first: u8x64, second: u8x64, third: u8x64) -> u64
     ensures { (k : ℕ) → k < 64 → bit_at result k
@@ -74,19 +75,19 @@ fn wide_separators(first: u8x64, second: u8x64, third: u8x64) -> u64
     (of_two | of_three).to_bitmask()
 }
 
-/// Marks the bytes that begin a character.
+/// Marks the first bytes of characters.
 #[inline(always)]
 pub(super) fn starts(block: u8x64) -> u64
     ensures { result ≡ mask_l (map is_char_start block) }
 {
-    // The bytes that begin none are 0x80 to 0xBF. With 0x80 added they are those below 0x40, so
-    // this takes one comparison a vector.
+    // All other bytes are 0x80 to 0xBF. With 0x80 added, these are below 0x40, so one comparison a
+    // vector is enough.
     (block + u8x64::splat(0x80))
         .simd_ge(u8x64::splat(0x40))
         .to_bitmask()
 }
 
-/// The place of the first mark.
+/// The position of the first mark.
 #[inline(always)]
 pub(super) fn lowest(marks: u64) -> usize
     requires { marks ≢ 0 }
@@ -97,7 +98,7 @@ pub(super) fn lowest(marks: u64) -> usize
     marks.trailing_zeros() as usize
 }
 
-/// The number of marks before a place.
+/// The number of marks before a position.
 #[inline(always)]
 pub(super) fn count_below(marks: u64, place: usize) -> usize
     requires { place < 64 }

@@ -1,4 +1,4 @@
-//! The bytes at which characters begin.
+//! The first bytes of characters.
 
 ghost use Rattle.std.specs.Prelude.{◌≡◌, ◌≤◌, chars, encode_utf8_all, length, take};
 ghost use Rattle.std.specs.Fmt.{is_char_start};
@@ -9,15 +9,15 @@ use super::count::begins_char;
 use super::marks::starts;
 use std::simd::prelude::*;
 
-/// The number of bytes before character `number` of a text, from 0, or of all bytes where there are
-/// no more characters.
+/// The number of bytes before character `number` of a text, from 0. If the text has fewer
+/// characters, the number of all bytes.
 pub fn byte_of_char(text: &str, number: usize) -> usize
     ensures { result ≡ length (encode_utf8_all (take number (chars text.now))) }
 {
     place_of(text.as_bytes(), number)
 }
 
-/// The place at which character `number` begins, or the end.
+/// The position of the first byte of character `number`, or the end.
 fn place_of(bytes: &[u8], number: usize) -> usize
     ensures { IsCharPlace bytes.now number result }
 {
@@ -34,7 +34,7 @@ fn place_of(bytes: &[u8], number: usize) -> usize
     place_from(bytes, number, at, count)
 }
 
-/// The same, byte by byte from a place on, before which `begun` characters begin.
+/// The same, byte by byte from a position with `begun` characters before.
 fn place_from(bytes: &[u8], number: usize, from: usize, begun: usize) -> usize
     requires { HasBegun bytes.now number from begun }
     ensures { IsCharPlace bytes.now number result }

@@ -11,13 +11,14 @@ use super::marks::{block_at, count_below, lowest};
 /// A run of characters.
 #[derive(Clone, Copy)]
 pub(crate) struct Run {
-    /// Its length in bytes.
+    /// The number of bytes.
     pub bytes: usize,
-    /// The number of its characters.
+    /// The number of characters.
     pub chars: usize,
 }
 
-/// The run of characters before the first separator of a text, or the whole text where it has none.
+/// The run of characters before the first separator of a text, or the whole text if the text has no
+/// separator.
 #[inline(always)]
 pub(crate) fn plain_run(text: &str) -> Run
     ensures cut { IsCharBoundary text.now result.bytes }
@@ -27,8 +28,7 @@ pub(crate) fn plain_run(text: &str) -> Run
     plain_bytes(text.as_bytes())
 }
 
-/// The bytes before the first at which a separator begins, and the number of characters that begin
-/// among them.
+/// The number of bytes before the first separator, and the number of characters beginning there.
 #[inline(always)]
 fn plain_bytes(bytes: &[u8]) -> Run
     ensures plain { IsPlain bytes.now result.bytes result.chars }
@@ -56,7 +56,7 @@ fn plain_bytes(bytes: &[u8]) -> Run
     plain_bytes_from(bytes, at, chars)
 }
 
-/// The same, byte by byte from a place on.
+/// The same, byte by byte from a position.
 #[inline(never)]
 fn plain_bytes_from(bytes: &[u8], from: usize, begun: usize) -> Run
     requires { IsPlain bytes.now from begun }
@@ -79,7 +79,7 @@ fn plain_bytes_from(bytes: &[u8], from: usize, begun: usize) -> Run
     Run { bytes: at, chars }
 }
 
-/// Whether a byte is ASCII and no control character.
+/// Whether a byte is ASCII and not a control character.
 #[inline(always)]
 fn is_printable_ascii(byte: u8) -> bool
     ensures { IsTrue result ↔ ((32 ≤ byte) × (byte < 127)) }
@@ -113,7 +113,7 @@ fn begins_at(bytes: &[u8], at: usize) -> bool
     }
 }
 
-/// The byte at a place, or 0 past the end.
+/// The byte at a position, or 0 past the end.
 fn byte_or_zero(bytes: &[u8], at: usize) -> u8
     ensures { result ≡ slice_index bytes.now at }
 {

@@ -1,4 +1,4 @@
-//! A cache of files: an id is a path, and each file is read whole when it is first asked for.
+//! A cache of files: an id is a path, and each file is read whole at its first fetch.
 
 ghost use Rattle.std.specs.Prelude.{◌≡◌, List, [], Some, ⊤, string_bytes, OnOk, OnErr};
 ghost use Rattle.std.specs.Prelude.{None};
@@ -25,18 +25,25 @@ use std::marker::Model;
 use std::rt::Files;
 use std::{fmt, fs, io};
 
-/// Why a file is no source.
+/// Why a file can't be a source.
+///
+/// ```rust
+/// match &left.reason {
+///     Reason::Unfetched(error) => error.fault(),
+///     Reason::PastSource | Reason::CutsCharacter => None,
+/// }
+/// ```
 #[derive(Debug, Drop)]
 pub enum FileError {
-    /// It can't be opened or read, and this is the fault that was returned.
+    /// The file can't be opened or read, for this reason.
     Read(io::Error),
-    /// It was read, and its bytes aren't text in UTF-8.
+    /// The bytes of the file are not text in UTF-8.
     NotUtf8,
 }
 
 impl FileError {
-    /// The system's reason, where the file can't be opened or read: printed, it says as much as `No
-    /// such file or directory (os error 2)`. A file that isn't UTF-8 has none.
+    /// The system's reason, if the file can't be opened or read: printed, for example `No such file
+    /// or directory (os error 2)`. `None` if the file isn't UTF-8.
     pub fn fault(&self) -> Option<&io::Error>
         ensures fault { option_copied result ≡ file_fault self.now }
     {
@@ -47,7 +54,7 @@ impl FileError {
     }
 }
 
-/// `file can't be read`, or `file isn't UTF-8`. What the system says of a file is told by `fault`.
+/// `file can't be read`, or `file isn't UTF-8`. `fault` returns the system's reason.
 impl fmt::Display for FileError {
     ghost output = { λ e. Some (file_error_text e) };
 
@@ -61,11 +68,11 @@ impl fmt::Display for FileError {
 
 impl Error for FileError {}
 
-/// The files of a file system that were read so far.
+/// Files, each read at its first fetch.
 ///
-/// An id is a path as text, a `String` or a `&str`, and one cache serves both. A file is read whole
-/// at its first fetch, and its text is taken as it is: a byte order mark is a character of it. What
-/// is held stays, also where the file changes later.
+/// An id is a path as text, a `String` or a `&str`, and one cache takes both. A file is read whole,
+/// and the text is not changed: a byte order mark is a character. Later changes of the file are not
+/// seen.
 ///
 /// ```rust
 /// let mut cache = FileCache::new(files, alloc);
@@ -91,7 +98,7 @@ impl<R: Files + Drop> Model for FileCache<R> {
 }
 
 impl<R: Files + Drop> FileCache<R> {
-    /// A cache that has read nothing yet.
+    /// A cache without files.
     pub fn new(files: R, alloc: Global) -> FileCache<R>
         ensures { result ≡ [] }
     {
@@ -102,7 +109,7 @@ impl<R: Files + Drop> FileCache<R> {
         }
     }
 
-    /// Has the file at a path held.
+    /// Loads the file at a path, if necessary.
     fn load(&mut self, path: &str) -> Result<(), FetchError<FileError>>
         ensures { Fetched bytes_eq (λ _ _. ⊤)
             (by_path self.old) (by_path self.new) path.now result }
@@ -120,7 +127,7 @@ impl<R: Files + Drop> FileCache<R> {
         }
     }
 
-    /// Holds a text as the source of a path that is not held.
+    /// Holds a text as the source of a path without a source.
     fn keep(&mut self, path: &str, text: String) -> Result<(), AllocError>
         requires { held bytes_eq (by_path self.old) path.now ≡ None }
         ensures ok { OnOk result (held bytes_eq (by_path self.new) path.now
@@ -149,7 +156,7 @@ fn read_text<R: Files>(
     }
 }
 
-/// What is returned for a fault of a read. A want of memory is told as such.
+/// The error of a failed read. Lack of memory is `Memory`.
 fn reading_error(fault: io::Error) -> FetchError<FileError>
     ensures memory { error_kind fault ≡ ErrorKind.OutOfMemory → result ≡ Memory alloc_error }
     ensures read { error_kind fault ≢ ErrorKind.OutOfMemory → result ≡ Failed (Read fault) }

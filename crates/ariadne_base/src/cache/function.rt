@@ -1,4 +1,4 @@
-//! A cache that asks a function for the text of each source that it lacks, and holds it for good.
+//! A cache over a function: the function returns the text of each missing source.
 
 ghost use Rattle.std.specs.Prelude.{◌≡◌, [], ◌++◌, true, Some, None, IfOk, OnOk};
 ghost use Rattle.std.specs.Prelude.{OnErr, IsSome, Result, ⊤};
@@ -17,11 +17,12 @@ use std::collections::HashMap;
 use std::hash::Hash;
 use std::marker::Model;
 
-/// A cache that asks a function for the text of each source that it lacks.
+/// A cache over a function. The function returns the text of each missing source.
 ///
-/// A fetch of an id that isn't held calls the function once. Its error is returned as `Failed`, and
-/// the next fetch of that id calls it again; its text becomes the source that is held for good. A
-/// fetch of a held id never calls it.
+/// A fetch of an id without a source calls the function once. If the function returns a text, the
+/// text becomes the source for good. If the function returns an error, the fetch returns the error
+/// as `Failed`, and the next fetch of the id calls the function again. For an id with a source the
+/// function is not called.
 ///
 /// ```rust
 /// let mut cache: FnCache<&str, _, &str> = FnCache::new(
@@ -53,7 +54,7 @@ impl<Id: SourceName + Hash + Clone, F, I: SourceText> Model for FnCache<Id, F, I
 }
 
 impl<Id: SourceName + Hash + Clone, F, I: SourceText> FnCache<Id, F, I> {
-    /// A cache that holds nothing yet. A clone of an id has to equal it.
+    /// A cache without sources. A clone of an id has to equal the id.
     pub fn new(alloc: Global, get: F) -> FnCache<Id, F, I>
         requires { (p q : Id) → Id.is_clone p q → Id.eq p q ≡ true }
         ensures empty { result.sources ≡ [] }
@@ -66,9 +67,9 @@ impl<Id: SourceName + Hash + Clone, F, I: SourceText> FnCache<Id, F, I> {
         }
     }
 
-    /// Holds these sources too. A source that is held under one of their ids is replaced.
+    /// Adds these sources. If an id has a source already, the new source replaces the old one.
     ///
-    /// On `Err` there was no memory for them, and this cache and they are gone.
+    /// On `Err` memory ran out, and the cache and all sources are dropped.
     pub fn with_sources(
         mut self,
         given: HashMap<Id, Source<I>>,
@@ -85,7 +86,7 @@ impl<Id: SourceName + Hash + Clone, F, I: SourceText> FnCache<Id, F, I> {
         Ok(self)
     }
 
-    /// Holds a text as the source of an id that is not held.
+    /// Holds a text as the source of an id without a source.
     fn keep(&mut self, id: &Id, text: I) -> Result<(), AllocError>
     where
         I: Drop,
@@ -128,11 +129,11 @@ impl<
         ensures step { Fetched Id.eq (λ _ _. ⊤) self.old.sources self.new.sources id.now result }
         ensures naming { (q : Id) → Some (Id.name q) ≡ Some (Id.name q) }
 
-        // The function is not called for an id that is held.
+        // For an id with a source the function is not called.
         ensures rests { IsSome (held Id.eq self.old.sources id.now) →
             self.new.function ≡ self.old.function }
 
-        // For another it is called once, and what it returns decides.
+        // For any other id the function is called once, and the result decides.
         ensures called { held Id.eq self.old.sources id.now ≡ None →
             (r : Result I E) × CalledAt F.FnMut self.old.function id.now r self.new.function
             × Answers I.text r (held Id.eq self.new.sources id.now) result }

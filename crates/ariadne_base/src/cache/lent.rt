@@ -1,4 +1,4 @@
-//! Caches behind a reference or in a box: they are what they lead to.
+//! Caches behind a reference or in a box: each is the cache behind.
 
 use crate::cache::{Cache, FetchError};
 use crate::source::Source;

@@ -1,4 +1,4 @@
-//! A cache whose sources are all given at the start.
+//! A cache with all sources from the start.
 
 ghost use Rattle.std.specs.Prelude.{◌≡◌, List, Some, IfOk, reverse};
 ghost use Rattle.std.specs.Iterator.{IsFinite, Drains};
@@ -15,7 +15,12 @@ use std::collections::HashMap;
 use std::hash::Hash;
 use std::marker::Model;
 
-/// Sources that were all given at the start. Of another id every fetch is refused.
+/// Sources given at the start, each under an id. A fetch of any other id returns an error.
+///
+/// ```rust
+/// let mut files = sources(alloc, [("pie", "aple + 1"), ("fruit", "apple")])?;
+/// report.write(&mut files, &mut bytes)?;
+/// ```
 #[derive(Debug, Drop)]
 pub struct SourceMap<Id: SourceName + Hash + Clone, I: SourceText> {
     sources: HashMap<Id, Source<I>>,
@@ -31,7 +36,7 @@ impl<Id: SourceName + Hash + Clone, I: SourceText> Model for SourceMap<Id, I> {
     ghost view = { λ a. a.sources.entries };
 }
 
-/// The sources of these pairs of id and text. The last pair of an id counts.
+/// The sources of pairs of an id and a text. If an id occurs twice, the last pair counts.
 ///
 /// Two sources, as a field of a cache:
 ///
@@ -39,7 +44,7 @@ impl<Id: SourceName + Hash + Clone, I: SourceText> Model for SourceMap<Id, I> {
 /// map: sources(alloc, [("-", "use pear"), ("fruit", "apple")])?,
 /// ```
 ///
-/// On `Err` there was no memory for them, and the pairs that are left are dropped.
+/// On `Err` memory ran out, and the remaining pairs are dropped.
 pub fn sources<
     Id: SourceName + Hash + Clone,
     I: SourceText + Drop,

@@ -1,4 +1,4 @@
-//! Ids that have names, a source under one such id, and the error for every other.
+//! Ids with names, a source under one such id, and the error for other ids.
 
 ghost use Rattle.std.specs.Prelude.{◌≡◌, ℕ, List, [], ◌∷◌, ◌++◌, true, string_bytes, Some, IfOk};
 ghost use Rattle.std.specs.Prelude.{IsOk, IfErr, ◌↔◌, codes};
@@ -14,11 +14,15 @@ use std::error::Error;
 use std::fmt;
 use std::marker::Model;
 
-/// Ids that have names. Equal ids have equal names.
+/// Ids with names. Equal ids have equal names.
+///
+/// ```rust
+/// assert_eq!(rt; "stock.sql".name(), "stock.sql");
+/// ```
 pub trait SourceName: Eq {
     ghost name: { Self → List ℕ };
 
-    /// The name, fixed by the id. It takes no memory.
+    /// The name, fixed by the id. Takes no memory.
     fn name(&self) -> &str
         ensures { result.now ≡ name self.now };
 
@@ -45,7 +49,14 @@ impl<'s> SourceName for &'s str {
     }
 }
 
-/// The error of a cache that lacks the source asked for. It keeps the name of the id.
+/// The error of a cache without the requested source. The error has the name of the id.
+///
+/// ```rust
+/// let missing = match &left.reason {
+///     Reason::Unfetched(unknown) => Some(unknown.name()),
+///     Reason::PastSource | Reason::CutsCharacter => None,
+/// };
+/// ```
 #[derive(Debug, Drop)]
 pub struct UnknownSource {
     name: String,
@@ -60,7 +71,7 @@ impl Model for UnknownSource {
 }
 
 impl UnknownSource {
-    /// The error for an id of this name.
+    /// The error for an id with this name.
     pub(crate) fn new(alloc: Global, name: &str) -> Result<UnknownSource, AllocError>
         ensures { IfOk result (λ e. e ≡ name.now) }
     {
@@ -69,7 +80,7 @@ impl UnknownSource {
         })
     }
 
-    /// The name that was asked for.
+    /// The name of the requested id.
     pub fn name(&self) -> &str
         ensures { result.now ≡ self.now }
     {
@@ -87,7 +98,7 @@ impl fmt::Display for UnknownSource {
 
 impl Error for UnknownSource {}
 
-/// What a fetch of an id of this name returns where its source is not held.
+/// The result of a fetch of an id without a source, by the id's name.
 pub(crate) fn unknown(alloc: Global, name: &str) -> FetchError<UnknownSource>
     ensures { Refuses (λ n e. e ≡ n) name.now result }
 {
@@ -97,7 +108,7 @@ pub(crate) fn unknown(alloc: Global, name: &str) -> FetchError<UnknownSource>
     }
 }
 
-/// What a fetch of an id returns where one id alone is held.
+/// The result of a fetch of an id, if only one id has a source.
 fn ensure_only<Id: SourceName>(
     held: &Id,
     id: &Id,

@@ -1,4 +1,4 @@
-//! How a text becomes a source that is held under an id.
+//! Texts become sources, held under an id.
 
 ghost use Rattle.std.specs.Prelude.{Some, OnOk, OnErr};
 ghost use Rattle.std.specs.HashMap.{IsUnchanged, Updates};
@@ -11,7 +11,7 @@ use std::alloc::{AllocError, Global};
 use std::collections::HashMap;
 use std::hash::Hash;
 
-/// Holds a text as the source of an id, in place of one that was held under it.
+/// Holds a text as the source of an id. An older source of the id is dropped.
 pub(super) fn put<Id: SourceName + Hash + Clone, I: SourceText + Drop>(
     sources: &mut HashMap<Id, Source<I>>,
     alloc: Global,

@@ -1,4 +1,4 @@
-//! A source as a cache of its own: its only id is `()`, and no name is shown for it.
+//! A source as a cache: the only id is `()`, and the source has no name.
 
 ghost use Rattle.std.specs.Prelude.{[], ◌∷◌, None, refl};
 

@@ -14,7 +14,7 @@ use std::error::Error;
 use std::fmt;
 use std::marker::Model;
 
-/// A source, and the name that headers show for it.
+/// A source with the name shown in headers.
 #[derive(Debug, Drop)]
 struct Named<I: SourceText> {
     name: String,
@@ -30,8 +30,8 @@ impl<I: SourceText> Model for Named<I> {
     ghost view = { λ a. record { name = string_bytes a.name; source = a.source } };
 }
 
-/// Sources by number: the first that is added is 0, the next one 1, and so on. A number that no
-/// source has is refused by every fetch.
+/// Sources by number, in the order of `add`: the first is 0, the next is 1, and so on. A fetch of
+/// any other number returns an error.
 ///
 /// ```rust
 /// let mut table = SourceTable::new(alloc);
@@ -64,10 +64,10 @@ impl<I: SourceText> SourceTable<I> {
         }
     }
 
-    /// Adds a text as a source with this name, and returns its number: how many sources were added
-    /// before it. Several may have one name.
+    /// Adds a text as a source with this name, and returns the source's number: the number of
+    /// sources before. Several sources may have one name.
     ///
-    /// On `Err` there was no memory for it: the text is dropped, and the table is as it was.
+    /// On `Err` memory ran out: the text is dropped, and the table is unchanged.
     pub fn add(&mut self, name: &str, text: I) -> Result<usize, AllocError>
     where
         I: Drop,
@@ -83,10 +83,17 @@ impl<I: SourceText> SourceTable<I> {
     }
 }
 
-/// The error of a table that has no source of the number asked for.
+/// The error of a table without a source of the requested number.
+///
+/// ```rust
+/// let missing = match &left.reason {
+///     Reason::Unfetched(unknown) => Some(unknown.number),
+///     Reason::PastSource | Reason::CutsCharacter => None,
+/// };
+/// ```
 #[derive(Clone, Copy, Debug, PartialEq, Eq)]
 pub struct UnknownNumber {
-    /// The number that was asked for.
+    /// The requested number.
     pub number: usize,
 }
 

@@ -1,11 +1,11 @@
-//! The search for the line of an offset, by halving.
+//! The binary search for the line of an offset.
 
 ghost use Rattle.std.specs.Prelude.{◌≡◌, ◌≤◌, true, false, length, nat_le};
 ghost use Rattle.std.specs.List.Sorted.{IsNonDecreasingBy, IsPartitionPoint};
 
 use super::start::Start;
 
-/// How many lines begin at an offset in characters or before it.
+/// The number of lines beginning at an offset in characters or before.
 pub(super) fn begun_at(starts: &[Start], offset: usize) -> usize
     requires { IsNonDecreasingBy (λ s. s.chars) starts.now }
     ensures bound { result ≤ length starts.now }
@@ -15,7 +15,7 @@ pub(super) fn begun_at(starts: &[Start], offset: usize) -> usize
     starts.partition_point(|start| start.chars <= offset)
 }
 
-/// How many lines begin at an offset in bytes or before it.
+/// The number of lines beginning at an offset in bytes or before.
 pub(super) fn begun_at_byte(starts: &[Start], offset: usize) -> usize
     requires { IsNonDecreasingBy (λ s. s.bytes) starts.now }
     ensures bound { result ≤ length starts.now }

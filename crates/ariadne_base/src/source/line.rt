@@ -1,14 +1,19 @@
-//! A line of a source: where it begins and how long it is, in characters and in bytes.
+//! A line of a source: the start and the length, in characters and in bytes.
 
 ghost use Rattle.std.specs.Prelude.{◌≡◌, ◌+◌, ◌<◌, ◌↔◌, IsTrue};
 
 use std::marker::Model;
 use std::ops::Range;
 
-/// A line of a [`Source`](crate::Source), its terminator included.
+/// A line of a [`Source`](crate::Source), with the line's end.
 ///
-/// Its calls count characters, from 0 at the start of the source. It keeps its place in bytes too,
-/// by which its text is cut from the source that it came from.
+/// The calls count characters, from 0 at the start of the source. The line's bytes are kept too:
+/// the source cuts the text of the line by these.
+///
+/// ```rust
+/// let source = Source::from(alloc, "one\ntwo\n")?;
+/// let second = source.line(1).and_then(|line| source.get_line_text(line));
+/// ```
 #[derive(Clone, Copy, Debug, PartialEq, Eq, Hash)]
 pub struct Line {
     pub(super) offset: usize,
@@ -48,21 +53,22 @@ impl Line {
         self.offset
     }
 
-    /// The number of characters of this line, its terminator included.
+    /// The number of characters of this line, with the line's end.
     pub fn len(&self) -> usize
         ensures { result ≡ self.now.len }
     {
         self.len
     }
 
-    /// Whether this line has no characters, which only the one line of an empty source has.
+    /// Whether this line has no characters: only the line of an empty source.
     pub fn is_empty(&self) -> bool
         ensures { IsTrue result ↔ (self.now.len ≡ 0) }
     {
         self.len == 0
     }
 
-    /// The characters of the source that this line takes: from its offset, its length long.
+    /// The characters of this line in the source: from the line's offset, as many as the line's
+    /// length.
     pub fn span(&self) -> Range<usize>
         ensures start { result.start ≡ self.now.offset }
         ensures end { result.end ≡ self.now.offset + self.now.len }

@@ -10,10 +10,16 @@ use std::marker::Model;
 
 /// An iterator over the [`Line`]s of a source, from the first to the last.
 ///
-/// Its length is known at each step, and after the last line it returns `None` for good.
+/// The length is known at each step. After the last line the iterator returns only `None`.
+///
+/// ```rust
+/// for line in source.lines() {
+///     longest = longest.max(line.len());
+/// }
+/// ```
 #[derive(Debug, Drop)]
 pub struct SourceLines<'a> {
-    // where each of them begins, and where the last one ends
+    // the start of each line, and the end of the last
     pub(super) rest: &'a [Start],
 }
 
@@ -30,7 +36,7 @@ impl<'a> Model for SourceLines<'a> {
 }
 
 impl<'a> SourceLines<'a> {
-    /// The number of lines that are left.
+    /// The number of remaining lines.
     fn left(&self) -> usize
         ensures { result ≡ length self.now }
     {

@@ -10,7 +10,7 @@ use super::start::Start;
 use crate::blocks::run::plain_run;
 use std::alloc::{AllocError, Global};
 
-/// How many starts there is room for at first: those of seven lines, and the end of the last.
+/// The first number of starts with room: those of seven lines, and the end of the last line.
 const ROOM: usize = 8;
 
 /// Whether a character ends a line.
@@ -32,14 +32,14 @@ fn begins_with_line_feed(text: &str) -> bool
     text.starts_with('\n')
 }
 
-/// Whether a character, before the rest of its text, is the last of its line.
+/// Whether a character, before the rest of the text, is the last of a line.
 fn ends_line(c: char, rest: &str) -> bool
     ensures { result ≡ is_last_of_line c (chars rest.now) }
 {
     is_separator(c) && !(c == '\r' && begins_with_line_feed(rest))
 }
 
-/// Where each line of a text begins and the text ends, in one pass over the text.
+/// The start of each line of a text, and the end of the text, in one pass.
 pub(super) fn line_starts_of(alloc: Global, text: &str) -> Result<Vec<Start>, AllocError>
     ensures { IfOk result (λ v. v.items ≡ line_starts (lines_of (chars text.now))) }
 {

@@ -1,11 +1,12 @@
-//! Where a line of a source begins.
+//! The start of a line of a source.
 
 ghost use Rattle.std.specs.Prelude.{◌≡◌, ◌≤◌};
 ghost use Rattle.ariadne_base.specs.Starts.{extent};
 
 use super::line::Line;
 
-/// A place where a line begins or the text ends: how many characters and bytes are before it.
+/// The start of a line, or the end of the text: the number of characters before, and the number of
+/// bytes before.
 #[derive(Clone, Copy, Debug)]
 pub(super) struct Start {
     pub(super) chars: usize,
@@ -16,7 +17,7 @@ impl Start {
     /// The start of each text.
     pub(super) const FIRST: Start = Start { chars: 0, bytes: 0 };
 
-    /// The line that begins here, of which `end` is the end.
+    /// The line from here to `end`.
     pub(super) fn line_to(self, end: Start) -> Line
         requires chars { self.chars ≤ end.chars }
         requires bytes { self.bytes ≤ end.bytes }

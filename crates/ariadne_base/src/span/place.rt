@@ -1,14 +1,13 @@
-//! Places: spans that never run backwards.
+//! Places: spans with ordered ends.
 
 ghost use Rattle.std.specs.Prelude.{◌≡◌, ◌≤◌, ◌↔◌, IsSome, IfSome, max, min};
 
 use crate::span::Span;
 
-/// A piece of a source that never runs backwards, so that a label over it needs no proof.
+/// A part of a source with ordered ends. So you need no proof for a label over a place.
 ///
-/// Its offsets count from 0, in characters of the source, or in bytes of its text where the report's
-/// index type says so. Alone it lies in the only source there is, and paired with an id in the
-/// source of that id.
+/// The offsets count from 0: characters, or bytes if the report's index type is `Byte`. A place
+/// alone is in the only source. Paired with an id, a place is in the source of the id.
 ///
 /// ```rust
 /// let name = Place::at(4).to(Place::at(9));
@@ -19,13 +18,13 @@ use crate::span::Span;
 pub struct Place {
     /// The first offset.
     pub start: usize,
-    /// One past the last offset.
+    /// The end: one past the last offset.
     pub end: usize,
     pub ghost forward: { start ≤ end },
 }
 
 impl Place {
-    /// The place from `start` to before `end`, or `None` where that would run backwards.
+    /// The place from `start` to `end`, exclusive, or `None` if `end` is before `start`.
     pub fn new(start: usize, end: usize) -> Option<Place>
         ensures forward { IsSome result ↔ (start ≤ end) }
         ensures start { IfSome result (λ place. place.start ≡ start) }
@@ -38,7 +37,7 @@ impl Place {
         }
     }
 
-    /// The empty place at an offset. A label over it points at the character there.
+    /// The empty place at an offset. A label over the place points at the character there.
     pub fn at(offset: usize) -> Place
         ensures start { result.start ≡ offset }
         ensures end { result.end ≡ offset }
@@ -49,8 +48,8 @@ impl Place {
         }
     }
 
-    /// The shortest place that has this one and the other: from where the first of them starts to
-    /// where the last one ends, in whichever order they stand.
+    /// The shortest place with both places inside, in either order: from the smaller start to the
+    /// greater end.
     pub fn to(self, other: Place) -> Place
         ensures start { result.start ≡ min self.start other.start }
         ensures end { result.end ≡ max self.end other.end }
@@ -62,7 +61,7 @@ impl Place {
     }
 }
 
-/// A span of the only source there is.
+/// A span of the only source.
 impl Span for Place {
     type SourceId = ();
 
@@ -85,7 +84,7 @@ impl Span for Place {
     }
 }
 
-/// A span of the source with the id that it is paired with.
+/// A span of the source with the paired id.
 impl<Id: Eq> Span for (Id, Place) {
     type SourceId = Id;
 

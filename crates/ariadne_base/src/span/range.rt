@@ -1,9 +1,9 @@
-//! Spans that end before an offset.
+//! Spans with an exclusive end.
 
 use crate::span::Span;
 use std::ops::Range;
 
-/// A span of the only source there is.
+/// A span of the only source.
 impl Span for Range<usize> {
     type SourceId = ();
 
@@ -26,7 +26,7 @@ impl Span for Range<usize> {
     }
 }
 
-/// A span of the source with the id that it is paired with.
+/// A span of the source with the paired id.
 impl<Id: Eq> Span for (Id, Range<usize>) {
     type SourceId = Id;
 

@@ -1,4 +1,4 @@
-//! Spans that end with an offset.
+//! Spans with an inclusive end.
 
 ghost use Rattle.std.specs.Prelude.{◌+◌, ◌-◌, ◌^◌, min};
 ghost use Rattle.std.specs.Range.{range_inclusive_end, range_inclusive_start};
@@ -6,8 +6,8 @@ ghost use Rattle.std.specs.Range.{range_inclusive_end, range_inclusive_start};
 use crate::span::Span;
 use std::ops::RangeInclusive;
 
-/// A span of the only source there is. Its end is the last offset plus one, or `usize::MAX` where
-/// that has no successor.
+/// A span of the only source. The end is the last offset plus one, and `usize::MAX` if this
+/// overflows.
 impl Span for RangeInclusive<usize> {
     type SourceId = ();
 
@@ -30,8 +30,7 @@ impl Span for RangeInclusive<usize> {
     }
 }
 
-/// A span of the source with the id that it is paired with. Its end saturates as that of the range
-/// alone.
+/// A span of the source with the paired id. The end is as for the range alone.
 impl<Id: Eq> Span for (Id, RangeInclusive<usize>) {
     type SourceId = Id;
 
