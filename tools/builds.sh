@@ -191,7 +191,8 @@ build_unproved() {
     copy "$made/clone" $(for crate; do below "$crate"; done | awk '!seen[$0]++') &&
         "$root/tools/gathered.py" "$made/clone" "$@" && mkdir "$made/kept" ||
         refuse 'the sources could not be copied'
-    if ! run_rt "$made/clone/crates/gathered_programs" try -- "$made/kept" || ! [ -s "$made/kept/started" ]; then
+    if ! run env -C "$made/clone/crates/gathered_programs" "PATH=$root/tools/unchecked:$PATH" rt try -- "$made/kept" \
+        >> "$lines" 2>&1 || ! [ -s "$made/kept/started" ]; then
         cat "$lines" >&2
         refuse 'could not be built: rt says why above'
     fi
