@@ -3,7 +3,8 @@ use Rattle.std.proofs.Common.{◌≡◌, ◌∙◌, List, [], ◌∷◌, ◌++�
 use Rattle.std.proofs.lemmas.List.{map-append}
 use Rattle.std.specs.Prelude.{map}
 use Rattle.serde_json.specs.Data.{Data}
-use Rattle.ariadne_told.specs.Gcc.{gcc_behind, last_with, read, Read}
+use Rattle.ariadne_told.specs.Gcc.{gcc_behind, last_with}
+use Rattle.ariadne_told.specs.Read.{read, Read}
 use Rattle.ariadne_told.specs.declared.diagnostic.Diagnostic.{Diagnostic}
 
 -- those in front of the last stay

@@ -1,6 +1,8 @@
+pub mod Calls
 pub mod Characters
-pub mod Children
+pub mod Contained
 pub mod Depths
+pub mod Feeds
 pub mod GccLists
 pub mod Handed
 pub mod Outcomes

@@ -1,43 +1,45 @@
--- What spans say, part by part.
-use Rattle.std.proofs.Common.{◌≡◌, ◌∙◌, ap, sym, subst, ℕ, ◌+◌, ◌<◌, ◌≤◌, List, [], ◌∷◌, ◌++◌, drop, length, get_or, append_assoc, Option, None}
-use Rattle.std.proofs.lemmas.List.{append-nil, at_drop_all, at_drop_more}
-use Rattle.serde_json.specs.Data.{Items, item}
-use Rattle.serde_json.specs.View.{items_view, view}
-use Rattle.serde_json.specs.declared.value.Value.{Value}
-use Rattle.ariadne_told.specs.Suggested.{next, none_left, AddsPart, SayParts}
+-- What a span says, behind what is said.
+use Rattle.std.proofs.Common.{◌≡◌, ◌∙◌, ap, refl, sym, ℕ, List, [], ◌++◌, append_assoc, codes}
+use Rattle.std.proofs.lemmas.List.{append-nil}
+use Rattle.std.specs.Prelude.{Option, Some, None, option_map, unwrap_or}
+use Rattle.std.specs.Option.{option_or}
+use Rattle.serde_json.specs.Data.{Data}
+use Rattle.ariadne_told.specs.Fixes.{joint_words}
+use Rattle.ariadne_told.specs.Members.{span_start, text_at}
+use Rattle.ariadne_told.specs.Suggested.{first_behind, part_behind, part_words, said_behind}
 use Rattle.ariadne_told.specs.declared.diagnostic.Spot.{Spot}
 
--- what has been said goes on with what a span adds
-pub parts_past : (spans : List Value) (i : ℕ) (v : Value) → i < length spans → v ≡ get_or spans i v
-    → (first now : Option Spot) (said more after : List ℕ) → AddsPart (view v) first now more → after ≡ said ++ more
-    → ((rest : List ℕ) → SayParts first (items_view (drop i spans)) rest → SayParts None (items_view spans) (said ++ rest))
-    → (rest : List ℕ) → SayParts now (items_view (drop (i + 1) spans)) rest → SayParts None (items_view spans) (after ++ rest)
-parts_past spans i v lt is first now said more after adds push so_far rest say =
-    let behind : Items = items_view (drop (i + 1) spans) in
-    let here : items_view (drop i spans) ≡ item (view v) behind =
-    at_drop_more (λ xs. items_view xs) spans i v lt
-    ∙ ap (λ x. items_view (x ∷ drop (i + 1) spans)) (sym is) in
-    let P : Items → Type 0 = λ items. SayParts first items (more ++ rest) in
-    let Q : List ℕ → Type 0 = λ text. SayParts None (items_view spans) text in
-    subst Q (sym (ap (λ xs. xs ++ rest) push ∙ append_assoc said more rest))
-    (so_far (more ++ rest) (subst P (sym here) (next first now (view v) behind more rest adds say)))
+-- ---- one that puts in no text
 
--- all is said behind the last
-pub parts_end : (spans : List Value) (i : ℕ) (first : Option Spot) (said : List ℕ) → length spans ≤ i
-    → ((rest : List ℕ) → SayParts first (items_view (drop i spans)) rest → SayParts None (items_view spans) (said ++ rest))
-    → SayParts None (items_view spans) said
-parts_end spans i first said end so_far =
-    let P : Items → Type 0 = λ items. SayParts first items [] in
-    let Q : List ℕ → Type 0 = λ text. SayParts None (items_view spans) text in
-    subst Q (append-nil said)
-    (so_far [] (subst P (sym (at_drop_all (λ xs. items_view xs) spans i end)) (none_left first)))
+pub says_nothing : (first : Option Spot) (d : Data) (said : List ℕ) → text_at (codes "suggested_replacement") d ≡ None
+    → said ≡ said ++ said_behind first d
+says_nothing first d said none =
+    sym (ap (λ (o : Option (List ℕ)). said ++ unwrap_or (option_map (part_behind first d) o) []) none ∙ append-nil said)
 
--- a joint and what a part says were pushed
-pub pushed_part : (said joint words text bytes middle after : List ℕ) → middle ≡ said ++ joint → after ≡ middle ++ text
-    → joint ≡ words → text ≡ bytes → after ≡ said ++ (words ++ bytes)
-pushed_part said joint words text bytes middle after e f g h =
+or_none : (o : Option Spot) → option_or o None ≡ o
+or_none None = refl
+or_none (Some at) = refl
+
+pub first_stays : (first : Option Spot) (d : Data) → text_at (codes "suggested_replacement") d ≡ None
+    → first ≡ first_behind first d
+first_stays first d none =
+    sym (ap (λ (o : Option (List ℕ)). option_or first (option_map (λ text. span_start d) o)) none ∙ or_none first)
+
+-- ---- one that does
+
+-- a joint and what the part says were pushed
+pub says_part : (first : Option Spot) (d : Data) (text said joint part middle after : List ℕ)
+    → text_at (codes "suggested_replacement") d ≡ Some text → joint ≡ joint_words first (span_start d) → part ≡ part_words d text
+    → middle ≡ said ++ joint → after ≡ middle ++ part → after ≡ said ++ said_behind first d
+says_part first d text said joint part middle after is as_joint as_part e f =
     f
-    ∙ ap (λ xs. xs ++ text) e
-    ∙ append_assoc said joint text
-    ∙ ap (λ xs. said ++ (xs ++ text)) g
-    ∙ ap (λ xs. said ++ (words ++ xs)) h
+    ∙ ap (λ xs. xs ++ part) e
+    ∙ append_assoc said joint part
+    ∙ ap (λ xs. said ++ (xs ++ part)) as_joint
+    ∙ ap (λ xs. said ++ (joint_words first (span_start d) ++ xs)) as_part
+    ∙ ap (λ (o : Option (List ℕ)). said ++ unwrap_or (option_map (part_behind first d) o) []) (sym is)
+
+pub first_begins : (first : Option Spot) (d : Data) (text : List ℕ) → text_at (codes "suggested_replacement") d ≡ Some text
+    → option_or first (Some (span_start d)) ≡ first_behind first d
+first_begins first d text is =
+    ap (λ (o : Option (List ℕ)). option_or first (option_map (λ text. span_start d) o)) (sym is)

@@ -9,7 +9,7 @@ use Rattle.serde_json.specs.View.{items_view, view}
 use Rattle.serde_json.specs.declared.value.Value.{Value}
 use Rattle.std.specs.List.{cons_option, filter_map}
 use Rattle.ariadne_told.specs.GccFixes.{change_of, changes_of}
-use Rattle.ariadne_told.specs.Members.{all_items, has_none}
+use Rattle.ariadne_told.specs.Members.{all_items, any_item, has_none}
 use Rattle.ariadne_told.specs.Proposed.{changes_by, Filed}
 use Rattle.ariadne_told.specs.Reports.{color_mixed, has_primary, is_primary, texts_in}
 use Rattle.ariadne_told.specs.Told.{is_gcc, is_gcc_list}
@@ -19,6 +19,12 @@ pub all_view : (test : Data → Bool) (values : List Value)
     → all_items test (items_view values) ≡ list_all (λ v. test (view v)) values
 all_view test [] = refl
 all_view test (v ∷ values) = ap (λ b. test (view v) && b) (all_view test values)
+
+-- one of them does where one of its values does
+pub any_view : (test : Data → Bool) (values : List Value)
+    → any_item test (items_view values) ≡ list_any (λ v. test (view v)) values
+any_view test [] = refl
+any_view test (v ∷ values) = ap (λ b. test (view v) || b) (any_view test values)
 
 -- there are no items where there are no values
 pub none_view : (values : List Value) → (length values == 0) ≡ has_none (items_view values)

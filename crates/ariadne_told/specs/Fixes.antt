@@ -7,15 +7,26 @@ use Rattle.ariadne_told.specs.declared.diagnostic.Spot.{Spot}
 use Rattle.ariadne_told.specs.declared.fixes.Covered.{Covered}
 use Rattle.ariadne_told.specs.declared.fixes.Covered.TheVariants.{Unnamed, Text, UpTo}
 
+-- what stands at a place before it is changed, with its text in place of what holds this
+pub data Standing : Type 0 where
+  unnamed : Standing
+  worded : List ℕ → Standing
+  up_to : Spot → Standing
+
+abbrev pub standing : Covered → Standing
+standing Unnamed = unnamed
+standing (Text text) = worded text.now
+standing (UpTo end) = up_to end
+
 -- a line and a column, which is the first where there is none
 abbrev pub place_words : Spot → List ℕ
 place_words at = decimal at.line ++ codes ":" ++ decimal (unwrap_or at.column 1)
 
 -- what stands at a place: by its text, or by where it ends, or by the place alone
-abbrev pub there_words : Spot → Covered → List ℕ
-there_words at Unnamed = codes "what stands at " ++ place_words at
-there_words at (Text text) = codes "`" ++ text.now ++ codes "` at " ++ place_words at
-there_words at (UpTo end) = codes "what stands from " ++ place_words at ++ codes " to " ++ place_words end
+abbrev pub there_words : Spot → Standing → List ℕ
+there_words at unnamed = codes "what stands at " ++ place_words at
+there_words at (worded text) = codes "`" ++ text ++ codes "` at " ++ place_words at
+there_words at (up_to end) = codes "what stands from " ++ place_words at ++ codes " to " ++ place_words end
 
 -- a text is put in
 abbrev pub fix_words : Spot → List ℕ → List ℕ
@@ -25,15 +36,15 @@ fix_words at text = codes "put `" ++ text ++ codes "` at " ++ place_words at
 abbrev pub in_place_words : List ℕ → List ℕ → List ℕ
 in_place_words text there = codes "put `" ++ text ++ codes "` in place of " ++ there
 
-abbrev pub put_words : Spot → Covered → List ℕ → List ℕ
-put_words at Unnamed text = fix_words at text
-put_words at (Text old) text = in_place_words text (there_words at (Text old))
-put_words at (UpTo end) text = in_place_words text (there_words at (UpTo end))
+abbrev pub put_words : Spot → Standing → List ℕ → List ℕ
+put_words at unnamed text = fix_words at text
+put_words at (worded old) text = in_place_words text (there_words at (worded old))
+put_words at (up_to end) text = in_place_words text (there_words at (up_to end))
 
 -- where the text is empty, what stands there is removed
-abbrev pub change_words : Spot → Covered → List ℕ → List ℕ
-change_words at covered text =
-    if length text == 0 then codes "remove " ++ there_words at covered else put_words at covered text
+abbrev pub change_words : Spot → Standing → List ℕ → List ℕ
+change_words at old text =
+    if length text == 0 then codes "remove " ++ there_words at old else put_words at old text
 
 -- a text is put in as a line
 abbrev pub line_words : ℕ → List ℕ → List ℕ

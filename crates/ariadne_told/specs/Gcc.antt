@@ -1,55 +1,22 @@
 -- What a list of gcc's becomes: its diagnostics, each with the notes behind it.
 use Rattle.std.specs.Prelude.{ℕ, ◌+◌, ◌==◌, Bool, true, false, not, ◌&&◌, ◌||◌, if◌then◌else◌}
-use Rattle.std.specs.Prelude.{List, [], ◌∷◌, ◌++◌, codes, decimal, length, map, string_bytes, unwrap_or}
+use Rattle.std.specs.Prelude.{List, [], ◌∷◌, ◌++◌, codes, decimal, length, unwrap_or}
 use Rattle.std.specs.Prelude.{Option, Some, None, is_some, option_and_then, option_map}
 use Rattle.std.specs.List.{cons_option}
 use Rattle.std.specs.Option.{option_to_list}
 use Rattle.std.specs.Str.{trim_start}
 use Rattle.serde_json.specs.Data.{Data, Items, no_items, item}
 use Rattle.serde_json.specs.Find.{get}
-use Rattle.ariadne_color.specs.declared.color.Color.{Color}
 use Rattle.ariadne_columns.specs.declared.unit.Unit.TheVariants.{Byte}
 use Rattle.ariadne_told.specs.GccFixes.{gcc_changes, gcc_note_helps}
 use Rattle.ariadne_told.specs.Members.{gcc_place, gcc_spot, gcc_spot_at, is_gcc_more, is_gcc_note, is_text, items_in}
 use Rattle.ariadne_told.specs.Members.{list_at, severity_at, text_at, words_at}
-use Rattle.ariadne_told.specs.Places.{named, place_of, seen, Seen}
-use Rattle.ariadne_told.specs.Proposed.{fixits_of, gcc_note_proposed, gcc_proposed, proposed, Proposed}
-use Rattle.ariadne_told.specs.declared.diagnostic.Diagnostic.{Diagnostic}
+use Rattle.ariadne_told.specs.Places.{place_of, Seen}
+use Rattle.ariadne_told.specs.Proposed.{fixits_of, gcc_note_proposed, gcc_proposed}
+use Rattle.ariadne_told.specs.Read.{Read}
 use Rattle.ariadne_told.specs.declared.diagnostic.End.TheVariants.{OfWord}
-use Rattle.ariadne_told.specs.declared.diagnostic.QuotedLine.{QuotedLine}
 use Rattle.ariadne_told.specs.declared.diagnostic.Severity.{Severity}
 use Rattle.ariadne_told.specs.declared.diagnostic.Spot.{Spot}
-
--- ---- diagnostics as they are read
-
--- a diagnostic, with its texts in place of what holds these
-pub record Read : Type 0 where
-  pub severity : Severity
-  pub own_kind : Option (List ℕ × Option Color)
-  pub code : Option (List ℕ)
-  pub message : List ℕ
-  pub places : List Seen
-  pub notes : List (List ℕ)
-  pub helps : List (List ℕ)
-  pub proposals : List Proposed
-  pub quoted : List QuotedLine
-  pub manifest : Option (List ℕ)
-  pub is_sum : Bool
-
-abbrev pub read : Diagnostic → Read
-read told = record {
-  severity = told.severity;
-  own_kind = option_map named told.own_kind;
-  code = option_map string_bytes told.code;
-  message = string_bytes told.message;
-  places = map seen told.places.items;
-  notes = map string_bytes told.notes.items;
-  helps = map string_bytes told.helps.items;
-  proposals = map proposed told.proposals.items;
-  quoted = told.quoted.items;
-  manifest = option_map string_bytes told.manifest;
-  is_sum = told.is_sum;
-}
 
 -- ---- the places of a diagnostic
 

@@ -5,12 +5,11 @@ use Rattle.std.specs.Prelude.{Option, Some, None, option_and_then, option_map, u
 use Rattle.std.specs.List.{cons_option}
 use Rattle.std.specs.Str.{trim_start}
 use Rattle.serde_json.specs.Data.{Data, Items, no_items, item}
-use Rattle.ariadne_told.specs.Fixes.{change_words, line_words, reasoned}
+use Rattle.ariadne_told.specs.Fixes.{change_words, line_words, reasoned, unnamed}
 use Rattle.ariadne_told.specs.Members.{gcc_spot_at, items_in, list_at, text_at, words_at}
 use Rattle.ariadne_told.specs.Pieces.{in_front_of}
 use Rattle.ariadne_told.specs.Places.{is_same_spot}
 use Rattle.ariadne_told.specs.declared.diagnostic.Spot.{Spot}
-use Rattle.ariadne_told.specs.declared.fixes.Covered.TheVariants.{Unnamed}
 
 -- a fix takes the place of nothing, in front of a line: it goes on where it begins, in the first column
 abbrev pub is_in_front_by : Spot → Option Spot → Bool
@@ -25,7 +24,7 @@ abbrev pub line_in : Data → Spot → List ℕ → Option (List ℕ)
 line_in d at text = if is_in_front d at then in_front_of 10 text else None
 
 abbrev pub put_words_by : Spot → List ℕ → Option (List ℕ) → List ℕ
-put_words_by at text None = change_words at Unnamed text
+put_words_by at text None = change_words at unnamed text
 put_words_by at text (Some line) = line_words at.line line
 
 abbrev pub put_words : Data → Spot → List ℕ → List ℕ

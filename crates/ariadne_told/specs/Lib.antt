@@ -13,7 +13,9 @@ pub mod Noted
 pub mod Pieces
 pub mod Places
 pub mod Proposed
+pub mod Read
 pub mod Reports
+pub mod Rustc
 pub mod Sent
 pub mod Severities
 pub mod Sgr

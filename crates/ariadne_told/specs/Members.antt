@@ -1,16 +1,15 @@
--- What the members of a value become that a tool writes for one diagnostic: its severity, its code and what it
--- says. The forms are those of rustc, of gcc and of reports.
-use Rattle.std.specs.Prelude.{ℕ, ◌≡◌, Bool, true, false, ◌&&◌, ◌||◌, List, [], codes, string_bytes}
+-- What the members of a value become that a tool writes for one diagnostic: its texts, its numbers and its places.
+-- The forms are those of rustc, of gcc and of reports.
+use Rattle.std.specs.Prelude.{ℕ, ◌==◌, Bool, true, false, ◌&&◌, ◌||◌, List, [], ◌++◌, codes}
 use Rattle.std.specs.Prelude.{Option, Some, None, option_and_then, option_map}
 use Rattle.std.specs.Option.{option_or, unwrap_or}
 use Rattle.std.specs.Str.{bytes_eq}
 use Rattle.serde_json.specs.Data.{Data, Items, no_items, item}
 use Rattle.serde_json.specs.Find.{as_array, as_bool, as_number, as_str, as_u64, get}
-use Rattle.ariadne_told.specs.Pieces.{begins_with, closes_with}
+use Rattle.ariadne_told.specs.Pieces.{begins_with}
 use Rattle.ariadne_told.specs.Severities.{severity_of}
 use Rattle.ariadne_told.specs.Places.{place_of, Seen}
-use Rattle.ariadne_columns.specs.declared.unit.Unit.TheVariants.{Byte, Char}
-use Rattle.ariadne_told.specs.declared.diagnostic.Diagnostic.{Diagnostic}
+use Rattle.ariadne_columns.specs.declared.unit.Unit.TheVariants.{Byte}
 use Rattle.ariadne_told.specs.declared.diagnostic.End.{End}
 use Rattle.ariadne_told.specs.declared.diagnostic.End.TheVariants.{Before, Behind, OfWord}
 use Rattle.ariadne_told.specs.declared.diagnostic.Spot.{Spot}
@@ -37,6 +36,21 @@ abbrev pub all_items : (Data → Bool) → Items → Bool
 all_items test no_items = true
 all_items test (item d items) = test d && all_items test items
 
+-- one of them does
+abbrev pub any_item : (Data → Bool) → Items → Bool
+any_item test no_items = false
+any_item test (item d items) = test d || any_item test items
+
+-- there are none
+abbrev pub has_none : Items → Bool
+has_none no_items = true
+has_none (item d items) = false
+
+-- what they become, one behind the other
+abbrev pub flat_items : {A : Type 0} → (Data → List A) → Items → List A
+flat_items become no_items = []
+flat_items become (item d items) = become d ++ flat_items become items
+
 -- a whole number that is not negative
 abbrev pub number_of : Data → Option ℕ
 number_of d = option_and_then as_u64 (as_number d)
@@ -62,6 +76,14 @@ severity_at name d = unwrap_or (option_and_then severity_of (text_at name d)) Er
 abbrev pub number_at : List ℕ → Data → Option ℕ
 number_at name d = option_and_then number_of (get name d)
 
+-- a member is this number
+abbrev pub is_number : ℕ → Option ℕ → Bool
+is_number n None = false
+is_number n (Some found) = found == n
+
+abbrev pub has_number : List ℕ → ℕ → Data → Bool
+has_number name n d = is_number n (number_at name d)
+
 -- a member is `true`
 abbrev pub is_true_at : List ℕ → Data → Bool
 is_true_at name d = unwrap_or (option_and_then as_bool (get name d)) false
@@ -75,56 +97,16 @@ is_same_severity _ _ = false
 
 -- ---- rustc
 
--- its code stands in an object of its own, of that name
-abbrev pub rustc_code : Data → Option (List ℕ)
-rustc_code d = option_and_then (text_at (codes "code")) (get (codes "code") d)
-
--- there are no items
-abbrev pub has_none : Items → Bool
-has_none no_items = true
-has_none (item d items) = false
-
--- a message without a place that says where to read more, or sums up others
-abbrev pub is_sum_by : Data → Bool
-is_sum_by d =
-    has_words (codes "level") (codes "failure-note") d
-    || begins_with (codes "aborting due to ") (words_at (codes "message") d)
-    || closes_with (codes " emitted") (words_at (codes "message") d)
-
-abbrev pub is_rustc_sum : Data → Bool
-is_rustc_sum d = has_none (items_in (list_at (codes "spans") d)) && is_sum_by d
-
--- a diagnostic is what a value of rustc's tells: the level is its severity
-pub record IsOfRustc (d : Data) (told : Diagnostic) : Type 0 where
-  pub severity : told.severity ≡ severity_at (codes "level") d
-  pub own_kind : told.own_kind ≡ None
-  pub code : option_map string_bytes told.code ≡ rustc_code d
-  pub message : string_bytes told.message ≡ words_at (codes "message") d
-  pub is_sum : told.is_sum ≡ is_rustc_sum d
-
 -- a spot whose line and column are members
 abbrev pub spot_at : List ℕ → List ℕ → Data → Option Spot
 spot_at line column d = option_map (λ l. record { line = l; column = number_at column d }) (number_at line d)
 
--- a span ends in front of the character at its end
+-- a place ends in front of the character at its end; one that names none is the word there
 abbrev pub end_before : Option Spot → End
 end_before None = OfWord
 end_before (Some end) = Before end
 
-abbrev pub rustc_end : Data → End
-rustc_end d = end_before (spot_at (codes "line_end") (codes "column_end") d)
-
--- the place of a span of which this is said: its columns count characters
-abbrev pub rustc_place : List ℕ → Bool → Data → Option Seen
-rustc_place said is_primary d =
-    option_map
-    (λ start. record (place_of (words_at (codes "file_name") d) start (rustc_end d) Char) {
-      text = said;
-      is_primary = is_primary;
-    })
-    (spot_at (codes "line_start") (codes "column_start") d)
-
--- where the span of a suggestion begins and ends; its line is 0 where it has none
+-- where a span begins and ends; its line is 0 where it has none
 abbrev pub span_start : Data → Spot
 span_start d = record {
   line = unwrap_or (number_at (codes "line_start") d) 0;

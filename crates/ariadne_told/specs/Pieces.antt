@@ -25,6 +25,11 @@ begins_with words text = starts_with (λ a b. a == b) text words
 abbrev pub closes_with : List ℕ → List ℕ → Bool
 closes_with words text = ends_with (λ a b. a == b) text words
 
+-- words stand in a text
+abbrev pub contains : List ℕ → List ℕ → Bool
+contains words [] = begins_with words []
+contains words (c ∷ text) = begins_with words (c ∷ text) || contains words text
+
 -- what stands behind words that a text begins with
 unfoldable pub behind_text : List ℕ → List ℕ → Option (List ℕ)
 behind_text words text = if begins_with words text then Some (drop (length words) text) else None

@@ -1,9 +1,8 @@
 -- What a tool proposes: changes of one file, in one or several ways, and which helps say the same in words.
-use Rattle.std.specs.Prelude.{ℕ, ◌+◌, ◌≤◌, ◌≡◌, if◌then◌else◌, Bool, true, false}
+use Rattle.std.specs.Prelude.{ℕ, if◌then◌else◌, Bool, true, false}
 use Rattle.std.specs.Prelude.{List, [], ◌∷◌, ◌++◌, codes, map, string_bytes, Vec}
 use Rattle.std.specs.Prelude.{Option, Some, None, is_some, option_and_then, option_map}
 use Rattle.std.specs.List.{cons_option, fold, list_all}
-use Rattle.std.specs.Option.{option_to_list}
 use Rattle.std.specs.Str.{bytes_eq, trim_start}
 use Rattle.std.specs.declared.alloc.Global.{Global}
 use Rattle.serde_json.specs.Data.{Data, Items, no_items, item}
@@ -120,27 +119,6 @@ rustc_proposed_by helps why changes =
       ways = ways_of changes;
     })
     (one_file changes)
-
--- what a child proposes that is the help with this number
-abbrev pub rustc_proposed : ℕ → Data → Option Proposed
-rustc_proposed help d = rustc_proposed_by (help, help + 1) (words_at (codes "message") d) (rustc_changes d)
-
--- where so many helps stand in front of a child, so many stand there behind it: if it suggests a change, it is one
-abbrev pub AddsHelps : ℕ → List Filed → ℕ → Type 0
-AddsHelps helps [] now = helps ≤ now
-AddsHelps helps (change ∷ changes) now = now ≡ helps + 1
-
--- what children propose, where so many helps stand in front of the first, and so many are there behind the last
-pub data AreProposed : ℕ → Items → ℕ → List Proposed → Type 0 where
-  none_left : (helps : ℕ) → AreProposed helps no_items helps []
-  next : (helps now last : ℕ) (child : Data) (children : Items) (others : List Proposed)
-      → AddsHelps helps (rustc_changes child) now → AreProposed now children last others
-      → AreProposed helps (item child children) last (option_to_list (rustc_proposed helps child) ++ others)
-
--- what is proposed beside a diagnostic of rustc's, which has so many helps
-abbrev pub AreProposedBeside : Data → ℕ → List Proposal → Type 0
-AreProposedBeside d helps all =
-    AreProposed 0 (items_in (list_at (codes "children") d)) helps (map proposed all)
 
 -- ---- gcc
 

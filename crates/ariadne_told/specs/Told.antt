@@ -5,7 +5,7 @@ use Rattle.std.specs.Prelude.{ℕ, ◌≡◌, ◌<◌, ◌==◌, Bool, true, fal
 use Rattle.std.specs.Prelude.{if◌then◌else◌}
 use Rattle.std.specs.Prelude.{List, [], ◌∷◌, codes, map, slice_index}
 use Rattle.std.specs.Prelude.{Option, Some, None, is_some, option_and_then, option_map}
-use Rattle.std.specs.Prelude.{length, slice_get, Vec, string_bytes, vec_len}
+use Rattle.std.specs.Prelude.{length, slice_get, Vec, string_bytes}
 use Rattle.std.specs.List.{ends_with, filter, find}
 use Rattle.std.specs.Option.{option_or}
 use Rattle.std.specs.declared.alloc.Global.{Global}
@@ -15,12 +15,13 @@ use Rattle.serde_json.specs.Find.{get, as_array}
 use Rattle.ariadne_json.specs.Reading.{value_in as value_of}
 use Rattle.ariadne_columns.specs.declared.unit.Unit.{Unit}
 use Rattle.ariadne_columns.specs.declared.unit.Unit.TheVariants.{Char}
-use Rattle.ariadne_told.specs.Gcc.{gcc_list, read}
+use Rattle.ariadne_told.specs.Gcc.{gcc_list}
 use Rattle.ariadne_told.specs.Heads.{head_of_line, is_among, ranges_in, Head}
-use Rattle.ariadne_told.specs.Members.{all_items, items_in, list_at, text_at, IsOfRustc}
+use Rattle.ariadne_told.specs.Members.{all_items, items_in, list_at, text_at}
 use Rattle.ariadne_told.specs.Places.{is_same_spot, named, place_of, seen, Seen}
-use Rattle.ariadne_told.specs.Proposed.{AreProposedBeside}
+use Rattle.ariadne_told.specs.Read.{read}
 use Rattle.ariadne_told.specs.Reports.{label_spot, IsOfReport}
+use Rattle.ariadne_told.specs.Rustc.{rustc_read}
 use Rattle.ariadne_told.specs.Sent.{IsHeldNow, WasSent}
 use Rattle.ariadne_told.specs.Severities.{severity_of}
 use Rattle.ariadne_told.specs.declared.diagnostic.Diagnostic.{Diagnostic}
@@ -247,14 +248,11 @@ IsHeldIfAny (Some message) first last = IsHeldNow first last message
 abbrev pub IsAlone : (Diagnostic → Type 0) → List Diagnostic → Type 0
 IsAlone is all = (one : Diagnostic) × (all ≡ one ∷ []) × is one
 
--- a diagnostic is what a value of rustc's tells, and proposes what the value's children do
-abbrev pub IsToldByRustc : Data → Diagnostic → Type 0
-IsToldByRustc d told = IsOfRustc d told × AreProposedBeside d (vec_len told.helps) told.proposals.items
-
--- diagnostics that a value tells: that of rustc's which it is or hands on, those of a list of gcc's, one at least,
--- or that of a report
+-- diagnostics that a value tells: that of rustc's which it is or hands on, with the manifest that it names; those of a
+-- list of gcc's, one at least; or that of a report
 pub data AreTold (d : Data) (all : List Diagnostic) : Type 0 where
-  of_rustc : (message : Data) → rustc_in d ≡ Some message → IsAlone (IsToldByRustc message) all → AreTold d all
+  of_rustc : (message : Data) → rustc_in d ≡ Some message
+      → map read all ≡ rustc_read (text_at (codes "manifest_path") d) message ∷ [] → AreTold d all
   of_gcc : (items : Items) → as_array d ≡ Some items → tells_gcc d ≡ true → map read all ≡ gcc_list [] items
       → 0 < length all → AreTold d all
   of_report : is_report d ≡ true → IsAlone (IsOfReport d) all → AreTold d all

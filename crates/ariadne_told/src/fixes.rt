@@ -2,7 +2,7 @@
 
 ghost use Rattle.std.specs.Prelude.{◌≡◌, ◌++◌, map, string_bytes, IfOk, OnOk};
 ghost use Rattle.ariadne_told.specs.Fixes.{change_words, further_words, fix_words, line_words, place_words};
-ghost use Rattle.ariadne_told.specs.Fixes.{put_words, reasoned, reasoned_words, there_words};
+ghost use Rattle.ariadne_told.specs.Fixes.{put_words, reasoned, reasoned_words, standing, there_words};
 
 use crate::diagnostic::Spot;
 use std::alloc::{AllocError, Global};
@@ -26,7 +26,7 @@ pub(crate) fn change_text(
     covered: &Covered<'_>,
     put_in: &str,
 ) -> Result<String, AllocError>
-    ensures { IfOk result (λ text. string_bytes text ≡ change_words at covered.now put_in.now) }
+    ensures { IfOk result (λ text. string_bytes text ≡ change_words at (standing covered.now) put_in.now) }
 {
     if put_in.is_empty() {
         let there = there_text(alloc, at, covered)?;
@@ -42,7 +42,7 @@ fn put_text(
     covered: &Covered<'_>,
     put_in: &str,
 ) -> Result<String, AllocError>
-    ensures { IfOk result (λ text. string_bytes text ≡ put_words at covered.now put_in.now) }
+    ensures { IfOk result (λ text. string_bytes text ≡ put_words at (standing covered.now) put_in.now) }
 {
     match covered {
         Covered::Unnamed => fix_text(alloc, at, put_in),
@@ -70,7 +70,7 @@ pub(crate) fn line_text(alloc: Global, line: usize, put_in: &str) -> Result<Stri
 
 /// What stands at a place, and where that is.
 fn there_text(alloc: Global, at: Spot, covered: &Covered<'_>) -> Result<String, AllocError>
-    ensures { IfOk result (λ text. string_bytes text ≡ there_words at covered.now) }
+    ensures { IfOk result (λ text. string_bytes text ≡ there_words at (standing covered.now)) }
 {
     let place = place_text(alloc, at)?;
     match covered {

@@ -13,13 +13,14 @@ ghost use Rattle.ariadne_told.specs.Gcc.{is_away as is_away_from, is_caret_of as
 ghost use Rattle.ariadne_told.specs.Gcc.{is_column as is_same_column, is_elsewhere as is_elsewhere_than};
 ghost use Rattle.ariadne_told.specs.Gcc.{is_label as is_said_there, is_part as is_part_of, is_spot as is_that_spot};
 ghost use Rattle.ariadne_told.specs.Gcc.{location_places, note_beside, noted_place as place_noted, own_location};
-ghost use Rattle.ariadne_told.specs.Gcc.{read, says_something as something_said, with_note_said, with_noted};
+ghost use Rattle.ariadne_told.specs.Gcc.{says_something as something_said, with_note_said, with_noted};
 ghost use Rattle.ariadne_told.specs.GccFixes as fixes;
 ghost use Rattle.ariadne_told.specs.Told.{is_gcc, is_gcc_list, tells_gcc};
 ghost use Rattle.ariadne_told.specs.Members.{gcc_end, gcc_place, gcc_spot, gcc_spot_at, is_gcc_more, is_gcc_note};
 ghost use Rattle.ariadne_told.specs.Members.{items_in, list_at};
 ghost use Rattle.ariadne_told.specs.Places.{seen};
 ghost use Rattle.ariadne_told.specs.Proposed.{gcc_proposed, proposed};
+ghost use Rattle.ariadne_told.specs.Read.{read};
 
 use crate::diagnostic::{Diagnostic, End, Place, Severity, Spot};
 use crate::fixes::{Covered, change_text, line_text, push_reasoned};

@@ -3,7 +3,7 @@
 ghost use Rattle.std.specs.Prelude.{◌≡◌, is_some, option_map, string_bytes, IfOk};
 ghost use Rattle.serde_json.specs.View.{items_view, view};
 ghost use Rattle.ariadne_told.specs.Members.{has_words as has_words_at, is_true_at, number_at, severity_at, words_at};
-ghost use Rattle.ariadne_told.specs.Members.{items_in, list_at, number_of, text_at};
+ghost use Rattle.ariadne_told.specs.Members.{has_none, has_number as has_number_at, items_in, list_at, number_of, text_at};
 
 use crate::diagnostic::Severity;
 use serde_json::Value;
@@ -63,6 +63,16 @@ pub(crate) fn number(value: &Value, name: &str) -> Option<usize>
     usize_of(value.get(name)?)
 }
 
+/// Whether a member is this number.
+pub(crate) fn has_number(value: &Value, name: &str, wanted: usize) -> bool
+    ensures { result ≡ has_number_at name.now wanted (view value.now) }
+{
+    match number(value, name) {
+        Some(found) => found == wanted,
+        None => false,
+    }
+}
+
 /// A number of this machine.
 pub(crate) fn usize_of(value: &Value) -> Option<usize>
     ensures { result ≡ number_of (view value.now) }
@@ -101,4 +111,12 @@ pub(crate) fn items<'v>(value: &'v Value, name: &str) -> &'v [Value]
         },
         None => &[],
     }
+}
+
+/// Whether a list of values is empty.
+#[tactic(auto, using(crate::proofs::Values::none_view))]
+pub(crate) fn has_no_items(values: &[Value]) -> bool
+    ensures { result ≡ has_none (items_view values.now) }
+{
+    values.is_empty()
 }

@@ -35,6 +35,13 @@ pub(crate) fn closes_with(text: &str, words: &str) -> bool
     text.ends_with(words)
 }
 
+/// Whether these words stand in a text.
+pub(crate) fn contains(text: &str, words: &str) -> bool
+    ensures { result ≡ pieces.contains words.now text.now }
+{
+    text.contains(words)
+}
+
 /// What stands behind these words, if a text begins with them.
 pub(crate) fn behind_text<'t>(text: &'t str, words: &str) -> Option<&'t str>
     ensures { option_map (λ rest. rest.now) result ≡ pieces.behind_text words.now text.now }

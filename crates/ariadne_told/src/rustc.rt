@@ -1,32 +1,27 @@
 //! Diagnostics of `rustc --error-format=json`, and of `cargo --message-format=json`.
 
-ghost use Rattle.std.specs.Prelude.{◌≡◌, ◌≤◌, ◌+◌, ◌++◌, is_some, map, option_map, string_bytes, vec_len};
-ghost use Rattle.std.specs.Prelude.{IfOk, OnOk};
-ghost use Rattle.std.specs.Option.{option_to_list};
+ghost use Rattle.std.specs.Prelude.{◌≡◌, map, option_map, string_bytes, IfOk, OnOk};
+ghost use Rattle.std.specs.List.{list_any};
 ghost use Rattle.serde_json.specs.View.{items_view, view};
-ghost use Rattle.ariadne_told.specs.Members.{has_none, is_rustc_sum, is_sum_by as sums_up, rustc_code, rustc_end};
-ghost use Rattle.ariadne_told.specs.Members.{rustc_place, spot_at, IsOfRustc};
-ghost use Rattle.ariadne_told.specs.Places.{seen};
-ghost use Rattle.ariadne_told.specs.Proposed.{filed, proposed, rustc_changes, rustc_proposed, rustc_proposed_by};
-ghost use Rattle.ariadne_told.specs.Proposed.{AddsHelps, AreProposedBeside};
+ghost use Rattle.ariadne_told.specs.Members.{any_item};
+ghost use Rattle.ariadne_told.specs.Proposed.{filed};
+ghost use Rattle.ariadne_told.specs.Read.{read};
+ghost use Rattle.ariadne_told.specs.Rustc as rustc;
+ghost use Rattle.ariadne_told.specs.Rustc.{as_said};
 ghost use Rattle.ariadne_told.specs.Told.{is_rustc as is_of_rustc, rustc_in};
 
-use crate::diagnostic::{Diagnostic, End, Place, Proposal, QuotedLine, Spot};
-use crate::heads::place;
+use crate::diagnostic::{Diagnostic, Proposal};
 use crate::json::{
-    copied_text, has_list, has_words, is_true, items, number, severity, text, words,
+    copied_text, has_list, has_no_items, has_words, is_true, items, severity, text, words,
 };
+use crate::labels::{Label, places_of, push_noted as push_noted_labels, push_spans, quoted_of};
 use crate::noted::{named_place, push_row};
 use crate::pieces::{begins_with, closes_with};
 use crate::proposals::FileChange;
-use crate::spots::is_among;
-use crate::suggested::{changes_of, end_of, proposal, quoted_text, start_of, suggestion};
-use ariadne_columns::Unit;
+use crate::spans::{is_dummy, is_shown, own_span, spot};
+use crate::suggested::{changes_of, proposal, suggestion};
 use serde_json::Value;
 use std::alloc::{AllocError, Global};
-
-/// How many expansions of macros are followed to a file of the user's.
-const EXPANSIONS: u8 = 64;
 
 /// The diagnostic that a value is, or, as cargo writes it, hands on: an object with a message, a level
 /// and spans.
@@ -52,26 +47,17 @@ fn is_rustc(value: &Value) -> bool
     text(value, "message").is_some() && text(value, "level").is_some() && has_list(value, "spans")
 }
 
-/// What rustc shows of files.
+/// What rustc says beside the message of a diagnostic.
 #[derive(Drop)]
-struct Shown {
-    /// The places.
-    places: Vec<Place>,
-    /// The lines of files that it quotes.
-    quoted: Vec<QuotedLine>,
-}
-
-/// What rustc says of its places, and beside its message.
-#[derive(Drop)]
-struct Beside {
-    /// What it shows.
-    shown: Shown,
+pub(crate) struct Beside<'v> {
+    /// Its labels, which become places, and lines that rustc quotes.
+    pub(crate) labels: Vec<Label<'v>>,
     /// Its notes.
-    notes: Vec<String>,
+    pub(crate) notes: Vec<String>,
     /// Its helps.
-    helps: Vec<String>,
+    pub(crate) helps: Vec<String>,
     /// What it proposes, as changes of files.
-    proposals: Vec<Proposal>,
+    pub(crate) proposals: Vec<Proposal>,
 }
 
 /// The diagnostic of a value that is one, about a package of which this is the manifest.
@@ -80,12 +66,11 @@ pub(crate) fn told_by_rustc(
     value: &Value,
     manifest: Option<String>,
 ) -> Result<Diagnostic, AllocError>
-    ensures told { IfOk result (λ told. IsOfRustc (view value.now) told) }
-    ensures proposals { IfOk result (λ told.
-        AreProposedBeside (view value.now) (vec_len told.helps) told.proposals.items) }
+    ensures { IfOk result (λ told.
+        read told ≡ rustc.rustc_read (option_map string_bytes manifest) (view value.now)) }
 {
     let Beside {
-        shown,
+        labels,
         notes,
         helps,
         proposals,
@@ -95,11 +80,11 @@ pub(crate) fn told_by_rustc(
         own_kind: None,
         code: code(alloc, value)?,
         message: String::from_str(alloc, words(value, "message"))?,
-        places: shown.places,
+        places: places_of(alloc, labels.as_slice())?,
         notes,
         helps,
         proposals,
-        quoted: shown.quoted,
+        quoted: quoted_of(alloc, labels.as_slice())?,
         manifest,
         is_sum: is_sum(value),
     })
@@ -107,7 +92,7 @@ pub(crate) fn told_by_rustc(
 
 /// The code of a diagnostic, which stands in an object of its own.
 fn code(alloc: Global, value: &Value) -> Result<Option<String>, AllocError>
-    ensures { IfOk result (λ code. option_map string_bytes code ≡ rustc_code (view value.now)) }
+    ensures { IfOk result (λ code. option_map string_bytes code ≡ rustc.rustc_code (view value.now)) }
 {
     match value.get("code") {
         Some(code) => copied_text(alloc, code, "code"),
@@ -115,232 +100,57 @@ fn code(alloc: Global, value: &Value) -> Result<Option<String>, AllocError>
     }
 }
 
-/// What rustc says beside the message of a diagnostic.
-fn said_beside(alloc: Global, value: &Value) -> Result<Beside, AllocError>
-    ensures { IfOk result (λ told.
-        AreProposedBeside (view value.now) (vec_len told.helps) told.proposals.items) }
-{
-    let mut told = Beside {
-        shown: Shown {
-            places: Vec::new(alloc),
-            quoted: Vec::new(alloc),
-        },
-        notes: Vec::new(alloc),
-        helps: Vec::new(alloc),
-        proposals: Vec::new(alloc),
-    };
-    push_spans(alloc, &mut told.shown, items(value, "spans"))?;
-    let children = items(value, "children");
-    for child in children {
-        push_child(alloc, &mut told, child)?;
-    }
-    Ok(told)
-}
-
-/// Adds the places of spans, and those of the macro calls that made them.
-fn push_spans(alloc: Global, shown: &mut Shown, spans: &[Value]) -> Result<(), AllocError> {
-    for span in spans.iter().filter(|span| !is_dummy(span)) {
-        let own_text = words(span, "label");
-        push_place(alloc, shown, span, own_text, is_true(span, "is_primary"))?;
-        push_macro_call(alloc, shown, span)?;
-    }
-    Ok(())
-}
-
-/// Whether a span stands for no place: that of a message about a whole crate, which rustc's text leaves out. It
-/// covers nothing at the start of the first file, quotes nothing and says nothing.
-fn is_dummy(span: &Value) -> bool {
-    number(span, "byte_start") == Some(0)
-        && number(span, "byte_end") == Some(0)
-        && items(span, "text").is_empty()
-        && text(span, "label").is_none()
-}
-
 /// Whether a diagnostic has no place, and sums up others or says where to read more.
 fn is_sum(value: &Value) -> bool
-    ensures { result ≡ is_rustc_sum (view value.now) }
+    ensures { result ≡ rustc.is_rustc_sum (view value.now) }
 {
     has_no_items(items(value, "spans")) && is_sum_by(value)
 }
 
-/// Whether a list of values is empty.
-#[tactic(auto, using(crate::proofs::Values::none_view))]
-fn has_no_items(values: &[Value]) -> bool
-    ensures { result ≡ has_none (items_view values.now) }
-{
-    values.is_empty()
-}
-
 /// Whether a diagnostic says where to read more, or sums up others.
 fn is_sum_by(value: &Value) -> bool
-    ensures { result ≡ sums_up (view value.now) }
+    ensures { result ≡ rustc.is_sum_by (view value.now) }
 {
     has_words(value, "level", "failure-note")
         || begins_with(words(value, "message"), "aborting due to ")
         || closes_with(words(value, "message"), " emitted")
 }
 
-/// Whether a span lies in a file of the user's: in none that a macro made, and none of std, which is
-/// where rustup or Debian puts it, or is told by a path of the machine that built it.
-fn is_own(span: &Value) -> bool {
-    text(span, "file_name").is_some_and(|name| {
-        !name.starts_with('<')
-            && !name.starts_with("/rustc/")
-            && !name.starts_with("/usr/src/rustc-")
-            && !name.contains("/rustlib/src/rust/")
-    })
-}
-
-/// The span itself, or that of the macro call that made it, where that is the user's own.
-fn own_span(span: &Value) -> &Value {
-    let mut at = span;
-    for _ in 0..EXPANSIONS {
-        if is_own(at) {
-            break;
-        }
-        match at.get("expansion").and_then(|it| it.get("span")) {
-            Some(outer) => at = outer,
-            None => break,
-        }
-    }
-    at
-}
-
-/// One end of a span.
-fn spot(span: &Value, line: &str, column: &str) -> Option<Spot>
-    ensures { result ≡ spot_at line.now column.now (view span.now) }
+/// What rustc says beside the message of a diagnostic.
+#[tactic(auto, unfolding(crate::specs::Rustc::said_in))]
+fn said_beside(alloc: Global, value: &Value) -> Result<Beside<'_>, AllocError>
+    ensures { IfOk result (λ told. as_said told ≡ rustc.said_in (view value.now)) }
 {
-    Some(Spot {
-        line: number(span, line)?,
-        column: number(span, column),
-    })
-}
-
-/// Where a span ends.
-fn end(span: &Value) -> End
-    ensures { result ≡ rustc_end (view span.now) }
-{
-    match spot(span, "line_end", "column_end") {
-        Some(end) => End::Before(end),
-        None => End::OfWord,
-    }
-}
-
-/// Adds the place of a span, and what is said of it.
-fn push_place(
-    alloc: Global,
-    shown: &mut Shown,
-    span: &Value,
-    said: &str,
-    is_primary: bool,
-) -> Result<(), AllocError> {
-    let own = own_span(span);
-    let Some(place) = span_place(alloc, own, said, is_primary)? else {
-        return Ok(());
+    let mut told = Beside {
+        labels: Vec::new(alloc),
+        notes: Vec::new(alloc),
+        helps: Vec::new(alloc),
+        proposals: Vec::new(alloc),
     };
-    push_quoted(
-        alloc,
-        &mut shown.quoted,
-        place.file.as_str(),
-        place.start.line,
-        items(own, "text"),
-    )?;
-    shown.places.push(place)?;
-    Ok(())
+    push_spans(&mut told.labels, items(value, "spans"))?;
+    push_children(alloc, &mut told, items(value, "children"))?;
+    Ok(told)
 }
 
-/// The place of a span, and what is said of it. A span without a line has none.
-fn span_place(
+/// Adds the children of a diagnostic, in their order.
+fn push_children<'v>(
     alloc: Global,
-    span: &Value,
-    said: &str,
-    is_primary: bool,
-) -> Result<Option<Place>, AllocError>
-    ensures { IfOk result (λ place. option_map seen place ≡ rustc_place said.now is_primary (view span.now)) }
+    told: &mut Beside<'v>,
+    children: &'v [Value],
+) -> Result<(), AllocError>
+    ensures { OnOk result (as_said told.new ≡ rustc.with_children (as_said told.old) (items_view children.now)) }
 {
-    let Some(start) = spot(span, "line_start", "column_start") else {
-        return Ok(None);
-    };
-    let mut place = place(
-        alloc,
-        words(span, "file_name"),
-        start,
-        end(span),
-        Unit::Char,
-    )?;
-    place.text = String::from_str(alloc, said)?;
-    place.is_primary = is_primary;
-    Ok(Some(place))
-}
-
-/// Adds the lines that a span quotes of its file, of which this is the first.
-fn push_quoted(
-    alloc: Global,
-    quoted: &mut Vec<QuotedLine>,
-    file: &str,
-    first: usize,
-    lines: &[Value],
-) -> Result<(), AllocError> {
-    for (number, line) in lines.iter().enumerate() {
-        quoted.push(QuotedLine {
-            file: String::from_str(alloc, file)?,
-            line: first.saturating_add(number),
-            text: String::from_str(alloc, quoted_text(line))?,
-        })?;
+    for child in children {
+        push_child(alloc, told, child)?;
     }
     Ok(())
-}
-
-/// Adds the place of the outermost macro call that a span of the user's was made by, where it isn't a part of
-/// that.
-fn push_macro_call(alloc: Global, shown: &mut Shown, span: &Value) -> Result<(), AllocError> {
-    let own = own_span(span);
-    match macro_call(own) {
-        Some(call) if is_own(own) && is_own(call) && !is_part(own, call) => {
-            push_place(alloc, shown, call, "in this macro invocation", false)
-        }
-        _ => Ok(()),
-    }
-}
-
-/// Whether a span begins within another one.
-fn is_part(span: &Value, whole: &Value) -> bool {
-    text(span, "file_name") == text(whole, "file_name")
-        && is_among(start_of(span), start_of(whole), end_of(whole))
-}
-
-/// The span of the outermost macro call that a span was made by. What the compiler itself writes in other
-/// words, as a `for` loop, calls none.
-fn macro_call(span: &Value) -> Option<&Value> {
-    let mut call = None;
-    let mut at = span;
-    for _ in 0..EXPANSIONS {
-        let Some(outer) = at.get("expansion").and_then(|it| it.get("span")) else {
-            break;
-        };
-        if is_by_macro(at) {
-            call = Some(outer);
-        }
-        at = outer;
-    }
-    call
-}
-
-/// Whether it is a macro that a span was made by.
-fn is_by_macro(span: &Value) -> bool {
-    span.get("expansion")
-        .and_then(|it| text(it, "macro_decl_name"))
-        .is_some_and(|name| !name.starts_with("desugaring of "))
 }
 
 /// Adds a note or a help: with what it puts in, or as labels where its places can be shown, and else as a
 /// text.
-fn push_child(alloc: Global, told: &mut Beside, child: &Value) -> Result<(), AllocError>
-    ensures proposals { OnOk result (map proposed told.new.proposals.items
-        ≡ map proposed told.old.proposals.items
-        ++ option_to_list (rustc_proposed (vec_len told.old.helps) (view child.now))) }
-    ensures helps { OnOk result
-        (AddsHelps (vec_len told.old.helps) (rustc_changes (view child.now)) (vec_len told.new.helps)) }
+#[tactic(auto, unfolding(crate::specs::Rustc::with_child))]
+fn push_child<'v>(alloc: Global, told: &mut Beside<'v>, child: &'v Value) -> Result<(), AllocError>
+    ensures { OnOk result (as_said told.new ≡ rustc.with_child (as_said told.old) (view child.now)) }
 {
     let spans = items(child, "spans");
     let changes = changes_of(alloc, spans)?;
@@ -357,17 +167,16 @@ fn push_child(alloc: Global, told: &mut Beside, child: &Value) -> Result<(), All
 }
 
 /// Adds the help of a child whose spans put something in, and these changes as what it proposes.
+#[tactic(auto, unfolding(crate::specs::Rustc::with_suggested))]
 fn push_suggestion(
     alloc: Global,
-    told: &mut Beside,
+    told: &mut Beside<'_>,
     message: &str,
     spans: &[Value],
     changes: &[FileChange<'_>],
 ) -> Result<(), AllocError>
-    ensures proposals { OnOk result (map proposed told.new.proposals.items
-        ≡ map proposed told.old.proposals.items ++ option_to_list (rustc_proposed_by
-        (vec_len told.old.helps, vec_len told.old.helps + 1) message.now (map filed changes.now))) }
-    ensures helps { OnOk result (vec_len told.new.helps ≡ vec_len told.old.helps + 1) }
+    ensures { OnOk result (as_said told.new ≡ rustc.with_suggested (as_said told.old) message.now
+        (items_view spans.now) (map filed changes.now)) }
 {
     let first = told.helps.len();
     let put_in = suggestion(alloc, spans)?;
@@ -379,80 +188,98 @@ fn push_suggestion(
 }
 
 /// Adds a child that puts nothing in: as labels where its places can be shown, and else as a text.
-fn push_noted(alloc: Global, told: &mut Beside, child: &Value) -> Result<(), AllocError>
-    ensures proposals { OnOk result (told.new.proposals ≡ told.old.proposals) }
-    ensures helps { OnOk result (vec_len told.old.helps ≤ vec_len told.new.helps) }
+#[tactic(auto, unfolding(crate::specs::Rustc::with_noted))]
+fn push_noted<'v>(alloc: Global, told: &mut Beside<'v>, child: &'v Value) -> Result<(), AllocError>
+    ensures { OnOk result (as_said told.new ≡ rustc.with_noted (as_said told.old) (view child.now)) }
 {
     let message = words(child, "message");
     let spans = items(child, "spans");
-    push_noted_places(alloc, &mut told.shown, spans, message)?;
-    let said = noted_text(alloc, spans, message)?;
-    if !spans.is_empty() && said.is_empty() {
+    push_noted_labels(&mut told.labels, spans, message)?;
+    push_text(told, child, noted_text(alloc, spans, message)?)
+}
+
+/// Adds what a child says beside its labels, as a help or as a note; nothing, where it has places, and these say
+/// all.
+fn push_text(told: &mut Beside<'_>, child: &Value, text: String) -> Result<(), AllocError>
+    ensures { OnOk result
+        (as_said told.new ≡ rustc.with_text (as_said told.old) (view child.now) (string_bytes text)) }
+{
+    if text.is_empty() && !has_no_items(items(child, "spans")) {
         return Ok(());
     }
     if has_words(child, "level", "help") {
-        told.helps.push(said)?;
+        told.helps.push(text)?;
     } else {
-        told.notes.push(said)?;
-    }
-    Ok(())
-}
-
-/// Adds those places of a note that can be shown: the primary ones say the note, the others what they say
-/// themselves.
-fn push_noted_places(
-    alloc: Global,
-    shown: &mut Shown,
-    spans: &[Value],
-    message: &str,
-) -> Result<(), AllocError> {
-    for span in spans.iter().filter(|span| is_shown(own_span(span))) {
-        let said = match text(span, "label") {
-            Some(label) => label,
-            None if is_true(span, "is_primary") => message,
-            None => "",
-        };
-        push_place(alloc, shown, span, said, false)?;
+        told.notes.push(text)?;
     }
     Ok(())
 }
 
 /// What a note says beside its labels: its message, where none of them says it, and the places that can't
 /// be shown.
-fn noted_text(alloc: Global, spans: &[Value], message: &str) -> Result<String, AllocError> {
-    let said = if spans.iter().any(says_note) {
-        ""
-    } else {
-        message
-    };
-    let mut text = String::from_str(alloc, said)?;
-    for span in spans.iter().filter(|span| is_elsewhere(span)) {
-        push_named_place(alloc, &mut text, span)?;
-    }
+#[tactic(auto, unfolding(crate::specs::Rustc::noted_text))]
+fn noted_text(alloc: Global, spans: &[Value], message: &str) -> Result<String, AllocError>
+    ensures { IfOk result (λ text. string_bytes text ≡ rustc.noted_text message.now (items_view spans.now)) }
+{
+    let beside = if is_said(spans) { "" } else { message };
+    let mut text = String::from_str(alloc, beside)?;
+    push_elsewhere(alloc, &mut text, spans)?;
     Ok(text)
 }
 
+/// Whether one of these spans says the note.
+fn is_said(spans: &[Value]) -> bool
+    ensures { result ≡ any_item rustc.says_note (items_view spans.now) }
+{
+    any_says_note(spans)
+}
+
+/// Whether any of these values is a span that says the note.
+fn any_says_note(spans: &[Value]) -> bool
+    ensures { result ≡ list_any (λ v. rustc.says_note (view v)) spans.now }
+{
+    spans.iter().any(|span| says_note(span))
+}
+
 /// Whether a span of a note is shown, and its label says the note.
-fn says_note(span: &Value) -> bool {
+#[tactic(auto, unfolding(crate::specs::Rustc::says_note))]
+fn says_note(span: &Value) -> bool
+    ensures { result ≡ rustc.says_note (view span.now) }
+{
     is_shown(own_span(span)) && is_true(span, "is_primary") && text(span, "label").is_none()
 }
 
-/// Whether a place can be shown: it lies in a file of the user's, or rustc quotes it.
-fn is_shown(span: &Value) -> bool {
-    !is_dummy(span) && (is_own(span) || !items(span, "text").is_empty())
+/// Has a text go on with a row for each span that stands for a place that can't be shown.
+fn push_elsewhere(alloc: Global, text: &mut String, spans: &[Value]) -> Result<(), AllocError>
+    ensures { OnOk result
+        (string_bytes text.new ≡ rustc.with_rows (string_bytes text.old) (items_view spans.now)) }
+{
+    for span in spans {
+        if let Some(row) = elsewhere_row(alloc, span)? {
+            push_row(text, row.as_str())?;
+        }
+    }
+    Ok(())
+}
+
+/// Where a span is whose place can't be shown, and what is said of it.
+fn elsewhere_row(alloc: Global, span: &Value) -> Result<Option<String>, AllocError>
+    ensures { IfOk result (λ row. option_map string_bytes row ≡ rustc.elsewhere_row (view span.now)) }
+{
+    if !is_elsewhere(span) {
+        return Ok(None);
+    }
+    let Some(start) = spot(span, "line_start", "column_start") else {
+        return Ok(None);
+    };
+    let row = named_place(alloc, words(span, "file_name"), start, words(span, "label"))?;
+    Ok(Some(row))
 }
 
 /// Whether a span stands for a place that can't be shown.
-fn is_elsewhere(span: &Value) -> bool {
+#[tactic(auto, unfolding(crate::specs::Rustc::is_elsewhere))]
+fn is_elsewhere(span: &Value) -> bool
+    ensures { result ≡ rustc.is_elsewhere (view span.now) }
+{
     !is_dummy(span) && !is_shown(own_span(span))
-}
-
-/// Has a text go on with where a span is, and what is said of it.
-fn push_named_place(alloc: Global, said: &mut String, span: &Value) -> Result<(), AllocError> {
-    let Some(start) = spot(span, "line_start", "column_start") else {
-        return Ok(());
-    };
-    let file = words(span, "file_name");
-    let label = words(span, "label");
-    push_row(said, named_place(alloc, file, start, label)?.as_str())
 }

@@ -1,21 +1,18 @@
 //! What rustc's JSON suggests: spans that say what is to be put where.
 
-ghost use Rattle.std.specs.Prelude.{◌≡◌, ◌++◌, length, map, option_map, string_bytes, take};
-ghost use Rattle.std.specs.Prelude.{IfOk, IfSome, List, None, OnOk, ℕ};
-ghost use Rattle.std.specs.Str.{trim_end};
+ghost use Rattle.std.specs.Prelude.{◌≡◌, ◌++◌, map, option_map, string_bytes, IfOk, None, OnOk};
+ghost use Rattle.std.specs.List.{list_any};
 ghost use Rattle.serde_json.specs.View.{items_view, view};
-ghost use Rattle.ariadne_told.specs.Fixes.{joint_words};
-ghost use Rattle.ariadne_told.specs.Members.{span_end, span_start};
+ghost use Rattle.ariadne_told.specs.Fixes.{joint_words, standing};
+ghost use Rattle.ariadne_told.specs.Members.{any_item, span_end, span_start};
 ghost use Rattle.ariadne_told.specs.Proposed.{changes_by, filed, proposed, rustc_change, rustc_proposed_by};
 ghost use Rattle.ariadne_told.specs.Suggested as suggested;
-ghost use Rattle.ariadne_told.specs.Suggested.{behind_chars, chars_before, front_chars, from_span, quoted_line};
-ghost use Rattle.ariadne_told.specs.Suggested.{AddsPart, IsCovered, SayParts, SaysPart};
 
 use crate::diagnostic::{Proposal, Spot};
 use crate::fixes::{Covered, change_text, line_text};
 use crate::heads::is_same;
-use crate::json::{items, number, text, words};
-use crate::pieces::{in_front_of_text, split_once};
+use crate::json::{has_number, items, number, text, words};
+use crate::pieces::{closes_with, in_front_of_text, split_once};
 use crate::proposals::{FileChange, one_file, ways_of};
 use ariadne_columns::Unit;
 use serde_json::Value;
@@ -27,7 +24,7 @@ use std::ops::Range;
 /// rustc lists the parts of all suggestions of a help one behind the other. A part that begins where the
 /// first one does begins another suggestion.
 pub(crate) fn suggestion(alloc: Global, spans: &[Value]) -> Result<String, AllocError>
-    ensures { IfOk result (λ text. SayParts None (items_view spans.now) (string_bytes text)) }
+    ensures { IfOk result (λ text. string_bytes text ≡ suggested.parts_behind None (items_view spans.now)) }
 {
     let mut said = String::new(alloc);
     let mut first = None;
@@ -99,8 +96,9 @@ fn push_part(
     first: &mut Option<Spot>,
     span: &Value,
 ) -> Result<(), AllocError>
-    ensures { OnOk result ((more : List ℕ) × AddsPart (view span.now) first.old first.new more
-        × (string_bytes said.new ≡ string_bytes said.old ++ more)) }
+    ensures said { OnOk result (string_bytes said.new
+        ≡ string_bytes said.old ++ suggested.said_behind first.old (view span.now)) }
+    ensures first { OnOk result (first.new ≡ suggested.first_behind first.old (view span.now)) }
 {
     let Some(put_in) = text(span, "suggested_replacement") else {
         return Ok(());
@@ -125,13 +123,15 @@ fn joint(first: Option<Spot>, start: Spot) -> &'static str
 }
 
 /// What one part says.
+#[tactic(auto, unfolding(crate::specs::Suggested::part_words))]
 fn part_text(alloc: Global, span: &Value, put_in: &str) -> Result<String, AllocError>
-    ensures { IfOk result (λ text. SaysPart (view span.now) put_in.now (string_bytes text)) }
+    ensures { IfOk result (λ text. string_bytes text ≡ suggested.part_words (view span.now) put_in.now) }
 {
     let start = start_of(span);
-    match line_put_in(span, put_in) {
-        Some(line) => line_text(alloc, start.line, line),
-        None => change_text(alloc, start, &covered(span), without_line_feeds(put_in)),
+    if is_line_put(span, put_in) {
+        line_text(alloc, start.line, put_in.trim_end())
+    } else {
+        change_text(alloc, start, &covered(span), kept_text(put_in))
     }
 }
 
@@ -155,53 +155,89 @@ pub(crate) fn end_of(span: &Value) -> Spot
     }
 }
 
-/// The line that a span puts in, if it does: the text ends its line, nothing but blanks stands in front of
-/// it, and it takes the place of nothing.
-fn line_put_in<'t>(span: &Value, put_in: &'t str) -> Option<&'t str>
-    ensures { IfSome result (λ line. line.now ≡ trim_end put_in.now) }
+/// Whether a span puts in a line: the text ends its line, nothing but blanks stands in front of it, and it takes
+/// the place of nothing.
+fn is_line_put(span: &Value, put_in: &str) -> bool
+    ensures { result ≡ suggested.is_line_put (view span.now) put_in.now }
 {
-    if put_in.ends_with('\n') && start_of(span) == end_of(span) && is_first(span) {
-        Some(put_in.trim_end())
-    } else {
-        None
-    }
+    closes_with(put_in, "\n") && is_same(start_of(span), end_of(span)) && is_first(span)
 }
 
 /// Whether nothing but blanks stands in front of a span in its line.
-fn is_first(span: &Value) -> bool {
-    number(span, "column_start") == Some(1)
-        || items(span, "text")
-            .first()
-            .is_some_and(|line| in_front(line).trim().is_empty())
+#[tactic(auto, unfolding(crate::specs::Suggested::is_first))]
+fn is_first(span: &Value) -> bool
+    ensures { result ≡ suggested.is_first (view span.now) }
+{
+    has_number(span, "column_start", 1) || is_blank_before(items(span, "text"))
 }
 
-/// A text without the line feeds at its end, but for one of these alone.
-fn without_line_feeds(put_in: &str) -> &str
-    ensures { result.now ≡ take (length result.now) put_in.now }
+/// Whether the first of these quoted lines has nothing but blanks in front of its span.
+fn is_blank_before(lines: &[Value]) -> bool
+    ensures { result ≡ suggested.is_blank_before (items_view lines.now) }
 {
-    match put_in.trim_end_matches('\n') {
-        "" => put_in,
-        rest => rest,
+    match lines.first() {
+        Some(line) => in_front(line).trim_start().is_empty(),
+        None => false,
     }
 }
 
+/// A text without the line feeds at its end; these stay where it has nothing else.
+fn kept_text(put_in: &str) -> &str
+    ensures { result.now ≡ suggested.put_text put_in.now }
+{
+    let rest = before_feeds(put_in);
+    if rest.is_empty() { put_in } else { rest }
+}
+
+/// What stands in front of the line feeds at the end of a text.
+fn before_feeds(text: &str) -> &str
+    ensures { result.now ≡ suggested.before_feeds text.now }
+{
+    text.trim_end_matches('\n')
+}
+
 /// What a span covers, as far as rustc quotes it.
+#[tactic(auto, unfolding(crate::specs::Suggested::covered))]
 fn covered(span: &Value) -> Covered<'_>
-    ensures { IsCovered (view span.now) result }
+    ensures { standing result ≡ suggested.covered (view span.now) }
 {
     let Some((first, others)) = items(span, "text").split_first() else {
         return Covered::Unnamed;
     };
-    if others.iter().any(|line| !highlighted(line).is_empty()) {
-        return Covered::UpTo(end_of(span));
-    }
-    match highlighted(first) {
-        "" => Covered::Unnamed,
-        text => Covered::Text(text),
+    if is_any_highlighted(others) {
+        Covered::UpTo(end_of(span))
+    } else {
+        covered_text(highlighted(first))
     }
 }
 
+/// What stands where a line is covered so far.
+fn covered_text(text: &str) -> Covered<'_>
+    ensures { standing result ≡ suggested.standing_text text.now }
+{
+    if text.is_empty() {
+        Covered::Unnamed
+    } else {
+        Covered::Text(text)
+    }
+}
+
+/// Whether a span covers some of one of these lines.
+fn is_any_highlighted(lines: &[Value]) -> bool
+    ensures { result ≡ any_item suggested.is_highlighted (items_view lines.now) }
+{
+    any_is_highlighted(lines)
+}
+
+/// Whether any of these values is a line of which its span covers some.
+fn any_is_highlighted(lines: &[Value]) -> bool
+    ensures { result ≡ list_any (λ v. suggested.is_highlighted (view v)) lines.now }
+{
+    lines.iter().any(|line| !highlighted(line).is_empty())
+}
+
 /// The part of a quoted line that its span covers.
+#[tactic(auto, unfolding(crate::specs::Suggested::highlighted))]
 fn highlighted(line: &Value) -> &str
     ensures { result.now ≡ suggested.highlighted (view line.now) }
 {
@@ -211,21 +247,21 @@ fn highlighted(line: &Value) -> &str
 
 /// The part of a quoted line in front of what its span covers.
 fn in_front(line: &Value) -> &str
-    ensures { result.now ≡ front_chars (chars_before (view line.now)) (quoted_line (view line.now)) }
+    ensures { result.now ≡ suggested.before_span (view line.now) }
 {
     front_characters(quoted_text(line), before(line))
 }
 
 /// A quoted line from where its span begins.
 fn from_start(line: &Value) -> &str
-    ensures { result.now ≡ from_span (view line.now) }
+    ensures { result.now ≡ suggested.from_span (view line.now) }
 {
     behind_characters(quoted_text(line), before(line))
 }
 
 /// How many characters of a quoted line stand in front of its span.
 fn before(line: &Value) -> usize
-    ensures { result ≡ chars_before (view line.now) }
+    ensures { result ≡ suggested.chars_before (view line.now) }
 {
     number(line, "highlight_start")
         .unwrap_or(1)
@@ -234,7 +270,7 @@ fn before(line: &Value) -> usize
 
 /// A line that rustc quotes, without what ends it.
 pub(crate) fn quoted_text(line: &Value) -> &str
-    ensures { result.now ≡ quoted_line (view line.now) }
+    ensures { result.now ≡ suggested.quoted_line (view line.now) }
 {
     let text = words(line, "text");
     match split_once(text, '\n') {
@@ -245,7 +281,7 @@ pub(crate) fn quoted_text(line: &Value) -> &str
 
 /// The first characters of a text.
 fn front_characters(text: &str, count: usize) -> &str
-    ensures { result.now ≡ front_chars count text.now }
+    ensures { result.now ≡ suggested.front_chars count text.now }
 {
     match in_front_of_text(text, behind_characters(text, count)) {
         Some(front) => front,
@@ -255,7 +291,7 @@ fn front_characters(text: &str, count: usize) -> &str
 
 /// What stands behind so many characters of a text.
 fn behind_characters(text: &str, count: usize) -> &str
-    ensures { result.now ≡ behind_chars count text.now }
+    ensures { result.now ≡ suggested.behind_chars count text.now }
 {
     let mut rest = text.chars();
     for turn in 0..count {

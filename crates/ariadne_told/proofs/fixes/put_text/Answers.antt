@@ -1,7 +1,7 @@
 use Rattle.std.proofs.Common.{◌≡◌, ◌∙◌, List, ℕ, ◌++◌, ap, append_assoc, inl, inr, sym}
 use Rattle.std.specs.Prelude.{codes}
 use Rattle.std.proofs.lemmas.Result.{IfOk-weaker}
-use Rattle.ariadne_told.specs.Fixes.{in_place_words, put_words, there_words}
+use Rattle.ariadne_told.specs.Fixes.{in_place_words, put_words, standing, there_words}
 use Rattle.ariadne_told.specs.declared.fixes.Covered.{Covered}
 use Rattle.ariadne_told.proofs.fixes.put_text.Goals as goal
 
@@ -14,13 +14,13 @@ put_parts text there words e = rw e (simp append_assoc)
 pub returns-in_ok-there-in-Text : goal.returns-in_ok-there-in-Text
 returns-in_ok-there-in-Text c =
     let at = c.args.at in
-    let put : Covered → List ℕ = λ k. put_words at k c.args.put_in.now in
+    let put : Covered → List ℕ = λ k. put_words at (standing k) c.args.put_in.now in
     let there = c.in_ok-there-in-Text.ensures in
     IfOk-weaker c.format.result _ _
     (λ text e.
     e
     ∙ (elim c.in-Text.is [
-      | inl named ↦ put_parts _ _ _ (there ∙ ap (there_words at) named.1) ∙ ap put (sym named.1)
-      | inr named ↦ put_parts _ _ _ (there ∙ ap (there_words at) named.1) ∙ ap put (sym named.1)
+      | inl named ↦ put_parts _ _ _ (there ∙ ap (λ k. there_words at (standing k)) named.1) ∙ ap put (sym named.1)
+      | inr named ↦ put_parts _ _ _ (there ∙ ap (λ k. there_words at (standing k)) named.1) ∙ ap put (sym named.1)
     ]))
     c.format.ensures.ok

@@ -1,6 +1,7 @@
 use Rattle.std.specs.Prelude.{◌≡◌, ◌<◌, drop, map, vec_len}
 use Rattle.serde_json.specs.View.{items_view}
-use Rattle.ariadne_told.specs.Gcc.{gcc_all, read}
+use Rattle.ariadne_told.specs.Gcc.{gcc_all}
+use Rattle.ariadne_told.specs.Read.{read}
 use Rattle.ariadne_told.proofs.gcc.push_children.Given as goal
 
 -- the diagnostics so far, with the children that are still to come behind them, are all; what was there stays

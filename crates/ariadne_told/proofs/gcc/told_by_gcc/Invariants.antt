@@ -1,6 +1,7 @@
 use Rattle.std.specs.Prelude.{◌≡◌, ◌<◌, [], drop, map, vec_len}
 use Rattle.serde_json.specs.View.{items_view}
-use Rattle.ariadne_told.specs.Gcc.{gcc_list, read}
+use Rattle.ariadne_told.specs.Gcc.{gcc_list}
+use Rattle.ariadne_told.specs.Read.{read}
 use Rattle.ariadne_told.proofs.gcc.told_by_gcc.Given as goal
 
 -- the diagnostics so far, with the values that are still to come behind them, are all; after the first value

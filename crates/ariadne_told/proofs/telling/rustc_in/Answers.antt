@@ -1,9 +1,16 @@
-use Rattle.std.proofs.Common.{sym}
+use Rattle.std.proofs.Common.{◌∙◌, ◌∷◌, [], ap, map, sym}
+use Rattle.std.specs.Prelude.{List, Option, ℕ}
 use Rattle.serde_json.specs.View.{view}
+use Rattle.ariadne_told.specs.Read.{read, Read}
+use Rattle.ariadne_told.specs.Rustc.{rustc_read}
 use Rattle.ariadne_told.specs.Told.{of_rustc}
 use Rattle.ariadne_told.proofs.telling.rustc_in.Goals as goal
 
--- the diagnostic that the value is, or hands on
+-- the diagnostic that the value is, or hands on, with the manifest that it names
 pub returns-clause-all : goal.returns-clause-all
 returns-clause-all c =
-    of_rustc (view c.in-Some.message.now) (sym c.in-Some.ensures) (c.in_ok-told.told, c.in_ok-one.ensures, (c.in_ok-told.ensures.told, c.in_ok-told.ensures.proposals))
+    let message = view c.in-Some.message.now in
+    of_rustc message (sym c.in-Some.ensures)
+    (ap (map read) c.in_ok-one.ensures
+    ∙ ap (λ (told : Read). told ∷ [])
+    (c.in_ok-told.ensures ∙ ap (λ (manifest : Option (List ℕ)). rustc_read manifest message) c.in_ok-manifest.ensures))
