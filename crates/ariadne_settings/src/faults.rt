@@ -4,12 +4,41 @@ use ariadne::Place;
 use std::alloc::{AllocError, Global};
 use std::collections::HashMap;
 
-/// A fault: what it is, what is said of its place, and where the same name was set before. Places are
-/// told by the bytes of the text.
+/// What a setting has to be, and what a report says if it isn't.
 #[derive(Clone, Copy)]
-pub(crate) struct Fault {
+pub(crate) struct Rule {
+    pub(crate) code: &'static str,
     pub(crate) message: &'static str,
     pub(crate) hint: &'static str,
+    pub(crate) note: &'static str,
+}
+
+const IS_SETTING: Rule = Rule {
+    code: "S01",
+    message: "no setting",
+    hint: "`=` is missing",
+    note: "a setting is a name, `=` and a number",
+};
+
+const IS_NUMBER: Rule = Rule {
+    code: "S02",
+    message: "no number",
+    hint: "not a number",
+    note: "a value is a number from 0 to 4294967295",
+};
+
+const IS_SET_ONCE: Rule = Rule {
+    code: "S03",
+    message: "set twice",
+    hint: "set once more",
+    note: "a name is set once",
+};
+
+/// A fault: the broken rule, the place, and the place of the setting before if a name is set twice.
+/// Places count bytes of the text.
+#[derive(Clone, Copy)]
+pub(crate) struct Fault {
+    pub(crate) rule: Rule,
     pub(crate) place: Place,
     pub(crate) before: Option<Place>,
 }
@@ -38,16 +67,16 @@ fn add_faults<'t>(
 ) -> Result<(), AllocError> {
     let Some((name, value)) = line.split_once('=') else {
         let place = place_of(line, start);
-        return push(faults, "no setting", "`=` is missing", place, None);
+        return push(faults, IS_SETTING, place, None);
     };
     let (name, place) = trimmed(name, start);
     let behind = start.saturating_add(line.len().saturating_sub(value.len()));
     let (value, value_place) = trimmed(value, behind);
     if value.parse::<u32>().is_err() {
-        push(faults, "no number", "not a number", value_place, None)?;
+        push(faults, IS_NUMBER, value_place, None)?;
     }
     if let Some(before) = names.insert(name, place)? {
-        push(faults, "set twice", "set once more", place, Some(before))?;
+        push(faults, IS_SET_ONCE, place, Some(before))?;
     }
     Ok(())
 }
@@ -68,14 +97,12 @@ fn place_of(piece: &str, start: usize) -> Place {
 /// Adds a fault.
 fn push(
     faults: &mut Vec<Fault>,
-    message: &'static str,
-    hint: &'static str,
+    rule: Rule,
     place: Place,
     before: Option<Place>,
 ) -> Result<(), AllocError> {
     faults.push(Fault {
-        message,
-        hint,
+        rule,
         place,
         before,
     })?;

@@ -35,11 +35,13 @@ fn report<'p>(
 ) -> Result<FileReport<'p>, AllocError> {
     let mut builder = Report::build(alloc, ReportKind::Error, (path, fault.place))
         .with_config(config)
-        .with_message(fault.message)?;
+        .with_code_text(fault.rule.code)?
+        .with_message(fault.rule.message)?
+        .with_note(fault.rule.note)?;
     if let Some(before) = fault.before {
         builder.add_label(Label::new((path, before)).with_message(alloc, "set here before")?)?;
     }
-    builder.add_label(Label::new((path, fault.place)).with_message(alloc, fault.hint)?)?;
+    builder.add_label(Label::new((path, fault.place)).with_message(alloc, fault.rule.hint)?)?;
     Ok(builder.finish())
 }
 
