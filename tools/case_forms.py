@@ -5,6 +5,7 @@ import re
 from dataclasses import dataclass
 from typing import Callable
 
+import settings
 from cases import LARGEST, LAST_OFFSET, given_sources
 from report_model import Source
 
@@ -116,22 +117,16 @@ CASE = {
     "fails": words("Io", "Memory"),
     "picture": TEXT,
 }
-# They are the settings of `Config`.
-SETTINGS = {
-    "cross_gap": SWITCH,
-    "label_attach": words("Start", "Middle", "End"),
-    "compact": SWITCH,
-    "underlines": SWITCH,
-    "lone_underlines": SWITCH,
-    "multiline_arrows": SWITCH,
-    "color": SWITCH,
-    "context_lines": COUNT,
-    "width": COUNT,
-    "tab_width": WIDTH,
-    "width": COUNT,
-    "char_set": words("Unicode", "Ascii"),
-    "index_type": words("Char", "Byte"),
-}
+
+
+def form_of(setting):
+    """The form of a setting of `Config`."""
+    if setting.values:
+        return words(*setting.values)
+    return {0: COUNT, 1: WIDTH}[setting.least] if setting.is_number else SWITCH
+
+
+SETTINGS = {it.name: form_of(it) for it in settings.SETTINGS}
 EDIT = {"at": TEXT, "text": TEXT}
 SOURCE = {"id": TEXT, "text": TEXT, "line_offset": COUNT}
 LABEL = {"at": WHERE, "id": TEXT, "message": TEXT, "color": COLOR, "order": NUMBER, "priority": NUMBER}

@@ -5,6 +5,8 @@ import re
 import tomllib
 from pathlib import Path
 
+import settings
+
 DATA = Path(__file__).resolve().parent.parent / "crates/ariadne_replay/data"
 # Escapes that TOML has since 1.1, which tomllib doesn't read, and the backslash's own.
 NEW_ESCAPE = re.compile(r"\\(?:\\|e|x[0-9a-fA-F]{2})")
@@ -13,22 +15,7 @@ NOT_PLAIN = re.compile(r'["\\]|[^ -~]')
 LARGEST = 2**63 - 1
 LAST_OFFSET = 2**64 - 1
 # The settings of a case that tells none.
-SETTINGS = {
-    "cross_gap": True,
-    "label_attach": "Middle",
-    "compact": False,
-    "underlines": True,
-    "lone_underlines": False,
-    "multiline_arrows": True,
-    "color": False,
-    "context_lines": 0,
-    "tab_width": 4,
-    "width": 0,
-    "char_set": "Ascii",
-    "index_type": "Char",
-}
-# Those that are numbers. One that is past TOML's is a text of its digits.
-NUMBERS = ("context_lines", "width", "tab_width")
+SETTINGS = {it.name: it.in_cases for it in settings.SETTINGS}
 # What the model of reports has no words for.
 NOT_RECKONED = {"painted", "safe", "takes", "fails"}
 
@@ -182,7 +169,8 @@ def report_of(case):
         start, end = ends_of(label["at"])
         labels.append({"id": first, "message": None, "color": None, "order": 0, "priority": 0, **label})
         labels[-1].update(start=start, end=end)
-    settings = {**SETTINGS, **case.get("settings", {})}
+    # (A number that is past TOML's is a text of its digits.)
+    told = {**SETTINGS, **case.get("settings", {})}
     return {
         "kind": case.get("kind", "Error"),
         "kind_color": case.get("kind_color"),
@@ -192,7 +180,7 @@ def report_of(case):
         "labels": labels,
         "helps": case.get("helps", []),
         "notes": case.get("notes", []),
-        "config": {**settings, **{name: int(settings[name]) for name in NUMBERS}},
+        "config": {**told, **{it.name: int(told[it.name]) for it in settings.NUMBERS}},
         "cache": "source" if "source" in case else "custom" if "hidden" in case else "sources",
         "sources": sources,
         "hidden": [case["hidden"]] if "hidden" in case else [],

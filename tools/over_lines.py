@@ -8,6 +8,7 @@ change no picture, but where more lines are shown near others than these.
 import random
 from itertools import count
 
+import settings
 from cases import LAST_OFFSET, SETTINGS, members_told
 from many import MANY
 from report_model import Model, Source, sources_of
@@ -18,20 +19,7 @@ CONTEXT_LINES = (0, 0, 0, 1, 1, 3, 3, LAST_OFFSET)
 FEW_CONTEXT_LINES = 3
 LAST_LINES = "y\n" * FEW_CONTEXT_LINES
 # A value of each setting that changes some pictures.
-OTHER_VALUES = {
-    "cross_gap": False,
-    "label_attach": "Start",
-    "compact": False,
-    "underlines": False,
-    "lone_underlines": False,
-    "multiline_arrows": False,
-    "color": False,
-    "context_lines": 0,
-    "width": 0,
-    "tab_width": 1,
-    "char_set": "Ascii",
-    "index_type": "Byte",
-}
+OTHER_VALUES = {it.name: it.other for it in settings.SETTINGS}
 
 
 def random_source(chance, source_id):

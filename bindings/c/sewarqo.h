@@ -90,15 +90,16 @@ enum { SEWARQO_ERROR = 0, SEWARQO_WARNING = 1, SEWARQO_ADVICE = 2, SEWARQO_CUSTO
 
 /* Flags, which may be joined by |. */
 enum {
-    SEWARQO_PLAIN = 1,               /* no colours */
-    SEWARQO_ASCII = 2,               /* strokes of ASCII */
-    SEWARQO_COMPACT = 4,             /* no rows between */
-    SEWARQO_BYTE_OFFSETS = 8,        /* offsets count bytes, not characters */
+    SEWARQO_PLAIN = 1,             /* no colours */
+    SEWARQO_ASCII = 2,             /* strokes of ASCII */
+    SEWARQO_COMPACT = 4,           /* no rows between */
+    SEWARQO_BYTE_OFFSETS = 8,      /* offsets count bytes, not characters */
     SEWARQO_NO_UNDERLINES = 16,
     SEWARQO_NO_MULTILINE_ARROWS = 32,
-    SEWARQO_NO_CROSS_GAP = 64,       /* a crossing where strokes cross, and no gap */
-    SEWARQO_RAW = 128,               /* texts are drawn as they are, with the escapes that they hold */
-    SEWARQO_LONE_UNDERLINES = 256    /* underlines also where no label of a line has a message */
+    SEWARQO_NO_CROSS_GAP = 64,     /* a crossing where strokes cross, and no gap */
+    SEWARQO_RAW = 128,             /* texts are drawn as they are, with the escapes that they hold */
+    SEWARQO_LONE_UNDERLINES = 256, /* underlines also where no label of a line has a message */
+    SEWARQO_ALL_FLAGS = 511        /* all of these */
 };
 
 /* Where the stroke of a label within a line is attached. */

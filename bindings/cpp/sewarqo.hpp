@@ -116,8 +116,8 @@ struct Config {
     bool multiline_arrows = true;
     bool cross_gap = true;
     Attach attach = Attach::middle;
-    std::size_t tab_width = 4; // in columns; 0 is 4 too
-    bool safe = true;          // without it texts are drawn as they are, with the escapes that they hold
+    std::size_t tab_width = 4; // in columns; 0 is the usual 4
+    bool safe = true; // without it texts are drawn as they are, with the escapes that they hold
     bool lone_underlines = false; // underlines also where no label of a line has a message
     std::size_t context_lines = 0; // lines that are shown above and below each line with a label
     std::size_t width = 0; // in columns: of the text of a line, which is cut where it is longer. 0 is any

@@ -126,7 +126,7 @@ static void refusals(void) {
     call.report.kind_color = SEWARQO_BLUE;
     call.report.kind_name = BAD;
     refuse("the name of a kind", SEWARQO_ERR_KIND_NAME, 0);
-    call.report.flags = 512;
+    call.report.flags = SEWARQO_ALL_FLAGS + 1;
     refuse("no flag", SEWARQO_ERR_FLAGS, 0);
     call.report.attach = 3;
     refuse("attached nowhere", SEWARQO_ERR_ATTACH, 0);
@@ -364,7 +364,7 @@ static void suggest_text(const char *what, const char *text) {
 static void suggestions(void) {
     prepare_suggestion();
     suggest_text("in characters", "42 -     g(d\xc3\xa9j);\n42 +     g(&d\xc3\xa9x);");
-    suggestion.asked.flags = 511;
+    suggestion.asked.flags = SEWARQO_ALL_FLAGS;
     suggestion.edits[0] = (sewarqo_edit){18, 19, sewarqo_str("x")};
     suggest_text("in bytes", "42 -     g(d\xc3\xa9j);\n42 +     g(&d\xc3\xa9x);");
     suggestion.asked.edits_len = 1;
@@ -395,7 +395,7 @@ static void suggestions(void) {
 }
 
 static void suggestions_refused(void) {
-    suggestion.asked.flags = 512;
+    suggestion.asked.flags = SEWARQO_ALL_FLAGS + 1;
     suggestion.asked.source.text = BAD;
     suggest_none("no flag", SEWARQO_ERR_FLAGS, 0);
     suggestion.asked.source.text = BAD;

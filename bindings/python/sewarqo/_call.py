@@ -9,6 +9,7 @@ from ._excerpt import excerpt
 from ._errors import LabelError, ReportError, SourceError
 from ._library import LARGEST, CLabel, CLeftOut, COptional, CReport, CSource, CText, library, size
 from ._parts import Config, Edit, Label, LeftOut, Picture, Source, Sources, Text
+from ._settings import NUMBERS, SWITCHES
 
 if TYPE_CHECKING:
     from ._report import Report
@@ -139,8 +140,7 @@ class Call:
 
     def report_of(self, config: Config) -> CReport:
         report = self.report
-        labels = self.given_labels()
-        tab_width, context_lines, width = sizes(config)
+        labels, numbers = self.given_labels(), sizes(config)
         kind_color = integer(report.kind_color, "kind_color")
         if not 0 < kind_color < 2**32:
             raise ReportError("the colour of the kind is none", "kind_color")
@@ -154,7 +154,7 @@ class Call:
             _part(report.message, "message"), source, start,
             (CLabel * len(labels))(*labels), len(labels),
             (CText * len(helps))(*helps), len(helps), (CText * len(notes))(*notes), len(notes),
-            self.flags, _ATTACH[config.attach], tab_width, context_lines, width,
+            self.flags, _ATTACH[config.attach], *numbers,
         )
 
     def drawn(self) -> Picture:
@@ -274,32 +274,23 @@ def _counts_bytes(given: Iterable[_Given]) -> bool:
 # ---- settings
 
 
-def sizes(config: Config) -> Tuple[int, int, int]:
+def sizes(config: Config) -> List[int]:
     """The settings that are numbers. One that is none is refused, and so is another `attach`."""
     if config.attach not in list(_ATTACH):
         raise ReportError(f"attach: {config.attach!r} is not 'start', 'middle' or 'end'", "config")
-    tab_width = integer(config.tab_width, "tab_width")
-    if not 1 <= tab_width <= LARGEST:
-        raise ReportError(f"tab_width: {tab_width} is no width", "config")
-    context_lines = integer(config.context_lines, "context_lines")
-    if not 0 <= context_lines <= LARGEST:
-        raise ReportError(f"context_lines: {context_lines} is no number of lines", "config")
-    width = integer(config.width, "width")
-    if not 0 <= width <= LARGEST:
-        raise ReportError(f"width: {width} is no number of columns", "config")
-    return tab_width, context_lines, width
+    return [_size(config, *it) for it in NUMBERS]
 
 
-# The settings that are on or off, with the bit that each sets, and whether it sets that where it is on.
-_SWITCHES = [
-    ("color", 1, False), ("ascii", 2, True), ("compact", 4, True), ("underlines", 16, False),
-    ("multiline_arrows", 32, False), ("cross_gap", 64, False), ("safe", 128, False), ("lone_underlines", 256, True), ("excerpts", 0, True),
-]
+def _size(config: Config, name: str, least: int, counts: str) -> int:
+    size = integer(getattr(config, name), name)
+    if not least <= size <= LARGEST:
+        raise ReportError(f"{name}: {size} is no {counts}", "config")
+    return size
 
 
 def flags_of(config: Config) -> int:
     flags = 0
-    for name, bit, is_set in _SWITCHES:
+    for name, bit, is_set in SWITCHES:
         value = getattr(config, name)
         if value not in (True, False):
             raise wrong(name, value, "bool")

@@ -5,6 +5,8 @@ import ctypes.util
 import os
 from typing import Optional
 
+from ._settings import NUMBERS
+
 size = ctypes.c_size_t
 u32 = ctypes.c_uint32
 i32 = ctypes.c_int32
@@ -37,8 +39,7 @@ class CReport(ctypes.Structure):
         ("labels", ctypes.POINTER(CLabel)), ("labels_len", size),
         ("helps", ctypes.POINTER(CText)), ("helps_len", size),
         ("notes", ctypes.POINTER(CText)), ("notes_len", size),
-        ("flags", u32), ("attach", u32), ("tab_width", size), ("context_lines", size),
-        ("width", size),
+        ("flags", u32), ("attach", u32), *((name, size) for name, _, _ in NUMBERS),
     ]
 
 

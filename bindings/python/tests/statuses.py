@@ -8,6 +8,7 @@ import resource
 
 from sewarqo import Color, Config, Edit, EditError, Label, LabelError, Report, ReportError, Source, SourceError
 from sewarqo._library import CEdit, CLabel, COptional, CReport, CSource, CSuggestion, CText, library
+from sewarqo._settings import ALL_FLAGS
 
 LARGEST = 2**64 - 1
 LONE = "a\ud800"
@@ -51,7 +52,7 @@ STATUSES = [
     (4, 0, lambda it: set_field(it.report, "kind", 4)),
     (5, 0, lambda it: set_field(it.report, "kind", 3)),
     (6, 0, lambda it: set_kind_name(it.report)),
-    (7, 0, lambda it: set_field(it.report, "flags", 512)),
+    (7, 0, lambda it: set_field(it.report, "flags", ALL_FLAGS + 1)),
     (8, 0, lambda it: set_field(it.report, "attach", 3)),
     (9, 0, lambda it: set_field(it.report, "code", NO_OPTIONAL)),
     (10, 0, lambda it: set_field(it.report, "message", NO_TEXT)),
@@ -85,7 +86,7 @@ EDITS = [
 SUGGESTIONS = [
     (0, 0, lambda it: None),
     (2, 0, lambda it: set_field(it, "room", 3)),
-    (7, 0, lambda it: set_field(it.asked, "flags", 512)),
+    (7, 0, lambda it: set_field(it.asked, "flags", ALL_FLAGS + 1)),
     (18, 0, lambda it: set_field(it.asked.source, "text", NO_TEXT)),
     (19, 0, lambda it: set_field(it.asked.source, "line_offset", LARGEST)),
     (20, 1, lambda it: set_field(it.edits[1], "text", NO_TEXT)),

@@ -17,6 +17,7 @@ use Rattle.ariadne_calls.specs.declared.given.GivenLabel.{GivenLabel}
 use Rattle.ariadne_calls.specs.declared.given.GivenReport.{GivenReport}
 use Rattle.ariadne_calls.specs.declared.given.Text.{Text}
 use Rattle.ariadne_calls.specs.Colors.{color_of}
+use Rattle.ariadne_calls.specs.Flag as flag
 use Rattle.ariadne_calls.specs.Given.{given_text}
 
 -- a bit of the flags is set
@@ -25,7 +26,7 @@ has flags bit = (flags / bit) % 2 == 1
 
 -- its texts are drawn as they are, and not by signs
 abbrev pub is_as_it_is : GivenReport → Bool
-is_as_it_is r = has r.flags 128
+is_as_it_is r = has r.flags flag.raw
 
 -- where strokes are attached
 abbrev pub attach_of : ℕ → LabelAttach
@@ -33,11 +34,11 @@ attach_of attach = if attach == 1 then Start else (if attach == 2 then End else 
 
 -- what offsets count
 abbrev pub index_type_of : ℕ → IndexType
-index_type_of flags = if has flags 8 then Byte else Char
+index_type_of flags = if has flags flag.byte_offsets then Byte else Char
 
 -- the characters that strokes and marks are drawn with
 abbrev pub char_set_of : ℕ → CharSet
-char_set_of flags = if has flags 2 then Ascii else Unicode
+char_set_of flags = if has flags flag.ascii then Ascii else Unicode
 
 -- how many columns stand from one tab stop to the next
 abbrev pub columns_of_tab : ℕ → ℕ
@@ -46,13 +47,13 @@ columns_of_tab tab_width = if tab_width == 0 then 4 else tab_width
 -- the configuration of flags, an attachment, a tab width, a number of context lines and a width
 abbrev pub config_with : ℕ → ℕ → ℕ → ℕ → ℕ → ConfigFields
 config_with flags attach tab_width context_lines width = record {
-  cross_gap = not (has flags 64);
+  cross_gap = not (has flags flag.no_cross_gap);
   label_attach = attach_of attach;
-  compact = has flags 4;
-  underlines = not (has flags 16);
-  lone_underlines = has flags 256;
-  multiline_arrows = not (has flags 32);
-  color = not (has flags 1);
+  compact = has flags flag.compact;
+  underlines = not (has flags flag.no_underlines);
+  lone_underlines = has flags flag.lone_underlines;
+  multiline_arrows = not (has flags flag.no_multiline_arrows);
+  color = not (has flags flag.plain);
   tab_width = columns_of_tab tab_width;
   context_lines = context_lines;
   width = width;

@@ -16,6 +16,7 @@ use Rattle.ariadne_calls.specs.declared.ending.Refusal.{Refusal}
 use Rattle.ariadne_calls.specs.declared.ending.Refusal.TheVariants.{NoMemory, Faulty}
 use Rattle.ariadne_calls.specs.Asked.{is_as_it_is}
 use Rattle.ariadne_calls.specs.Colors.{is_color}
+use Rattle.ariadne_calls.specs.Flag as flag
 use Rattle.ariadne_calls.specs.Given.{listing_of, shown_listing}
 
 -- the fault, where this is so
@@ -47,7 +48,7 @@ kind_faults r =
 
 -- those of the settings
 abbrev pub settings_faults : GivenReport → List Fault
-settings_faults r = when (nat_lt 511 r.flags) fault.Flags ++ when (nat_lt 2 r.attach) fault.Attach
+settings_faults r = when (nat_lt flag.all r.flags) fault.Flags ++ when (nat_lt 2 r.attach) fault.Attach
 
 -- those of what stands in front of the labels
 abbrev pub head_faults : GivenReport → List Fault

@@ -1,5 +1,6 @@
 pub mod Colors
 pub mod Given
+pub mod Flag
 pub mod Asked
 pub mod Safe
 pub mod Faults

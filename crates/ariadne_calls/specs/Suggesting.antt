@@ -19,6 +19,7 @@ use Rattle.ariadne_calls.specs.declared.suggestion.Suggested.TheVariants.{Told, 
 use Rattle.ariadne_calls.specs.declared.suggestion.Unsuggested.{Unsuggested}
 use Rattle.ariadne_calls.specs.declared.suggestion.Unsuggested.TheVariants.{NoMemory, Faulty}
 use Rattle.ariadne_calls.specs.Asked.{char_set_of, columns_of_tab, index_type_of}
+use Rattle.ariadne_calls.specs.Flag as flag
 use Rattle.ariadne_calls.specs.Given.{listing_of}
 
 -- ---- the edits
@@ -44,7 +45,7 @@ first_unread k (e ∷ es) = if is_utf8 e.text.bytes.now then first_unread (k + 1
 -- what is wrong with the fields and the texts: with the first of them with which something is
 abbrev pub misgiven : GivenSuggestion → Option Misgiven
 misgiven s =
-    if nat_lt 511 s.flags then Some Flags
+    if nat_lt flag.all s.flags then Some Flags
     else (if not (is_utf8 s.source.text.bytes.now) then Some SourceText
     else (if nat_le (2 ^ 64) (s.source.line_offset + length (listed_lines (listing_of s.source)))
     then Some SourceLines

@@ -7,14 +7,12 @@ ghost use Rattle.ariadne_calls.specs.Faults.{IsFirst, faults};
 ghost use Rattle.ariadne_calls.specs.Shown.{IsDrawn};
 
 use crate::ending::{Ending, Refusal};
+use crate::flag;
 use crate::given::{GivenReport, GivenSource, ToldLeftOut};
 use crate::pictures::{Picture, picture_as_it_is};
 use crate::safe::safe_picture;
 use crate::settings::has;
 use std::alloc::Global;
-
-/// The flag of texts that are drawn as they are.
-const AS_IS: u32 = 128;
 
 /// Draws a report over sources into `out`, and tells in `left` which labels are left out.
 pub fn draw(
@@ -52,7 +50,7 @@ fn picture_of(
     ensures sound { OnOk result (faults report.now sources.now ≡ []) }
     ensures err { IfErr result (IsFirst (faults report.now sources.now)) }
 {
-    if has(report.flags, AS_IS) {
+    if has(report.flags, flag::RAW) {
         picture_as_it_is(alloc, report, sources)
     } else {
         safe_picture(alloc, report, sources)

@@ -7,6 +7,7 @@
 mod call;
 mod colors;
 pub mod ending;
+mod flag;
 pub mod given;
 mod labels;
 mod pictures;

@@ -8,6 +8,7 @@ ghost use Rattle.ariadne_calls.specs.Faults.{IsFirst, custom_faults, kind_faults
 
 use crate::colors::color_of;
 use crate::ending::{Fault, Refusal};
+use crate::flag;
 use crate::given::GivenReport;
 use crate::texts::text;
 use ariadne::{CharSet, Config, IndexType, LabelAttach, ReportKind};
@@ -48,7 +49,7 @@ pub fn config_of(given: &GivenReport<'_>) -> Result<Config, Refusal>
     ensures sound { OnOk result (settings_faults given.now ≡ []) }
     ensures err { IfErr result (IsFirst (settings_faults given.now)) }
 {
-    if given.flags > 511 {
+    if given.flags > flag::ALL {
         return Err(Refusal::Faulty(Fault::Flags));
     }
     if given.attach > 2 {
@@ -77,14 +78,14 @@ fn config_with(flags: u32, tab_width: usize) -> Config
     ensures { result ≡ config_with flags 0 tab_width 0 0 }
 {
     Config::new()
-        .with_color(!has(flags, 1))
+        .with_color(!has(flags, flag::PLAIN))
         .with_char_set(char_set_of(flags))
-        .with_compact(has(flags, 4))
+        .with_compact(has(flags, flag::COMPACT))
         .with_index_type(index_type_of(flags))
-        .with_underlines(!has(flags, 16))
-        .with_lone_underlines(has(flags, 256))
-        .with_multiline_arrows(!has(flags, 32))
-        .with_cross_gap(!has(flags, 64))
+        .with_underlines(!has(flags, flag::NO_UNDERLINES))
+        .with_lone_underlines(has(flags, flag::LONE_UNDERLINES))
+        .with_multiline_arrows(!has(flags, flag::NO_MULTILINE_ARROWS))
+        .with_cross_gap(!has(flags, flag::NO_CROSS_GAP))
         .with_tab_width(columns_of_tab(tab_width))
 }
 
@@ -92,7 +93,7 @@ fn config_with(flags: u32, tab_width: usize) -> Config
 pub fn char_set_of(flags: u32) -> CharSet
     ensures { result ≡ char_set_of flags }
 {
-    if has(flags, 2) {
+    if has(flags, flag::ASCII) {
         CharSet::Ascii
     } else {
         CharSet::Unicode
@@ -103,7 +104,7 @@ pub fn char_set_of(flags: u32) -> CharSet
 pub fn index_type_of(flags: u32) -> IndexType
     ensures { result ≡ index_type_of flags }
 {
-    if has(flags, 8) {
+    if has(flags, flag::BYTE_OFFSETS) {
         IndexType::Byte
     } else {
         IndexType::Char

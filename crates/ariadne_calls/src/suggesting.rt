@@ -4,6 +4,7 @@ ghost use Rattle.std.specs.Prelude.{◌≡◌, ◌≤◌, IfOk, OnOk, IfErr, Non
 ghost use Rattle.ariadne_calls.specs.Suggesting.{AreAsked, asked_edit, first_unread, Gives, IsRefusal};
 ghost use Rattle.ariadne_calls.specs.Suggesting.{IsTold, IsUnread, made_edit, misgiven, view_of};
 
+use crate::flag;
 use crate::given::{GivenEdit, GivenSuggestion};
 use crate::settings::{char_set_of, columns_of_tab, index_type_of};
 use crate::suggestion::{Misgiven, Suggested, Unsuggested};
@@ -34,7 +35,7 @@ fn text_of(alloc: Global, given: &GivenSuggestion<'_>) -> Result<String, Unsugge
     ensures sound { OnOk result (misgiven given.now ≡ None) }
     ensures err { IfErr result (IsRefusal given.now) }
 {
-    if given.flags > 511 {
+    if given.flags > flag::ALL {
         return Err(Unsuggested::Faulty(Misgiven::Flags));
     }
     let Some(text) = decoded(given.source.text.bytes) else {

@@ -66,8 +66,6 @@ fn switched(told: &Value) -> Config {
         .with_context_lines(context_lines)
         .with_width(width)
         .with_tab_width(tab_width.max(1))
-        .with_context_lines(count(told, "context_lines").unwrap_or(0) as usize)
-        .with_width(count(told, "width").unwrap_or(0) as usize)
 }
 
 /// The settings of a case. Where it tells nothing else they are in ASCII. (A case has no members of
