@@ -96,7 +96,7 @@ impl<I: AsRef<str>, Id: Display + Eq> Cache<Id> for (Id, &'_ Source<I>) {
 
 /// What is said of an id that has no source.
 fn not_there<Id: Display>(id: &Id) -> String {
-    format!("there is no source '{id}'")
+    format!("Failed to fetch source '{id}'")
 }
 
 /// A cache of files, whose ids are their paths. A file is read once.

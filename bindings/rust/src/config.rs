@@ -1,5 +1,7 @@
 //! How a report is drawn.
 
+use std::fmt::{self, Debug, Formatter};
+
 /// Where the arrow of a label within a line is attached to it.
 #[derive(Clone, Copy, Debug, PartialEq, Eq)]
 pub enum LabelAttach {
@@ -30,7 +32,7 @@ pub enum IndexType {
 }
 
 /// How a report is drawn.
-#[derive(Clone, Copy, Debug, PartialEq, Eq)]
+#[derive(Clone, Copy, PartialEq, Eq)]
 pub struct Config {
     pub(crate) cross_gap: bool,
     pub(crate) label_attach: LabelAttach,
@@ -172,5 +174,48 @@ impl Config {
 impl Default for Config {
     fn default() -> Config {
         Config::new()
+    }
+}
+
+/// The text is that of `ariadne` 0.6.0. Behind it stand those settings that it lacks and that are not the usual ones.
+impl Debug for Config {
+    fn fmt(&self, f: &mut Formatter<'_>) -> fmt::Result {
+        let mut fields = f.debug_struct("Config");
+        fields
+            .field("cross_gap", &self.cross_gap)
+            .field("label_attach", &self.label_attach)
+            .field("compact", &self.compact)
+            .field("underlines", &self.underlines)
+            .field("multiline_arrows", &self.multiline_arrows)
+            .field("color", &self.color)
+            .field("tab_width", &self.tab_width)
+            .field("char_set", &self.char_set)
+            .field("index_type", &self.index_type);
+        let further: [(&str, &dyn Debug, bool); 4] = [
+            ("lone_underlines", &self.lone_underlines, self.lone_underlines),
+            ("context_lines", &self.context_lines, self.context_lines != 0),
+            ("width", &self.width, self.width != 0),
+            ("safe", &self.safe, self.safe),
+        ];
+        for (name, value, is_told) in further {
+            if is_told {
+                fields.field(name, value);
+            }
+        }
+        fields.finish()
+    }
+}
+
+#[cfg(test)]
+mod tests {
+    use super::Config;
+
+    #[test]
+    fn further_settings_are_told_behind_the_originals() {
+        let usual = format!("{:?}", Config::new());
+        assert!(usual.ends_with("index_type: Char }"));
+        let further = Config::new().with_lone_underlines(true).with_context_lines(1).with_width(80).with_safe(true);
+        let told = "index_type: Char, lone_underlines: true, context_lines: 1, width: 80, safe: true }";
+        assert_eq!(format!("{further:?}"), usual.replace("index_type: Char }", told));
     }
 }

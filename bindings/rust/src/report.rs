@@ -34,7 +34,6 @@ impl Display for ReportKind<'_> {
 }
 
 /// What a report says, but for its labels and its span.
-#[derive(Debug)]
 pub(crate) struct Content<'a> {
     pub(crate) kind: ReportKind<'a>,
     pub(crate) code: Option<String>,
@@ -42,6 +41,20 @@ pub(crate) struct Content<'a> {
     pub(crate) notes: Vec<String>,
     pub(crate) helps: Vec<String>,
     pub(crate) config: Config,
+}
+
+impl Content<'_> {
+    /// Writes the debug text that `ariadne` 0.6.0 has of a value of this type.
+    fn write_debug(&self, name: &str, f: &mut Formatter<'_>) -> fmt::Result {
+        f.debug_struct(name)
+            .field("kind", &self.kind)
+            .field("code", &self.code)
+            .field("msg", &self.message)
+            .field("notes", &self.notes)
+            .field("help", &self.helps)
+            .field("config", &self.config)
+            .finish()
+    }
 }
 
 /// A report that is ready to be written.
@@ -78,7 +91,7 @@ impl<S: Span> Report<'_, S> {
 
 impl<S: Span> Debug for Report<'_, S> {
     fn fmt(&self, f: &mut Formatter<'_>) -> fmt::Result {
-        f.debug_struct("Report").field("content", &self.content).finish_non_exhaustive()
+        self.content.write_debug("Report", f)
     }
 }
 
@@ -186,6 +199,27 @@ impl<'a, S: Span> ReportBuilder<'a, S> {
 
 impl<S: Span> Debug for ReportBuilder<'_, S> {
     fn fmt(&self, f: &mut Formatter<'_>) -> fmt::Result {
-        f.debug_struct("ReportBuilder").field("content", &self.content).finish_non_exhaustive()
+        self.content.write_debug("ReportBuilder", f)
+    }
+}
+
+#[cfg(test)]
+mod tests {
+    use super::{Report, ReportKind};
+    use crate::{Color, Config, Label};
+
+    #[test]
+    fn debug_texts_are_those_of_ariadne() {
+        let config = "Config { cross_gap: true, label_attach: Middle, compact: false, underlines: true, \
+            multiline_arrows: true, color: false, tab_width: 4, char_set: Unicode, index_type: Char }";
+        let builder = Report::build(ReportKind::Custom("Hint", Color::Red), 0..1)
+            .with_config(Config::new().with_color(false))
+            .with_code(3)
+            .with_message("m")
+            .with_note("n")
+            .with_label(Label::new(0..1));
+        let fields = "kind: Custom(\"Hint\", Red), code: Some(\"03\"), msg: Some(\"m\"), notes: [\"n\"], help: []";
+        assert_eq!(format!("{builder:?}"), format!("ReportBuilder {{ {fields}, config: {config} }}"));
+        assert_eq!(format!("{:?}", builder.finish()), format!("Report {{ {fields}, config: {config} }}"));
     }
 }

@@ -2,13 +2,14 @@
 
 use crate::blocks;
 use crate::span::Span;
+use std::fmt::{self, Debug, Formatter};
 use std::ops::{Range, RangeInclusive};
 
 /// A line of a source.
 #[derive(Clone, Copy, Debug, Hash, PartialEq, Eq)]
 pub struct Line {
     offset: usize,
-    len: usize,
+    char_len: usize,
     byte_offset: usize,
     byte_len: usize,
 }
@@ -21,17 +22,17 @@ impl Line {
 
     /// How many characters it has, its end counted.
     pub fn len(&self) -> usize {
-        self.len
+        self.char_len
     }
 
     /// Whether it has no characters.
     pub fn is_empty(&self) -> bool {
-        self.len == 0
+        self.char_len == 0
     }
 
     /// Its characters, as offsets into the source.
     pub fn span(&self) -> Range<usize> {
-        self.offset..self.offset + self.len
+        self.offset..self.offset + self.char_len
     }
 
     /// Its bytes, as offsets into the source.
@@ -41,12 +42,13 @@ impl Line {
 
     /// The place behind it, as a line that has no characters yet.
     fn behind(&self) -> Line {
-        Line { offset: self.offset + self.len, len: 0, byte_offset: self.byte_offset + self.byte_len, byte_len: 0 }
+        let (offset, byte_offset) = (self.offset + self.char_len, self.byte_offset + self.byte_len);
+        Line { offset, char_len: 0, byte_offset, byte_len: 0 }
     }
 }
 
 /// A text with lines.
-#[derive(Clone, Debug, Hash, PartialEq, Eq)]
+#[derive(Clone, Hash, PartialEq, Eq)]
 pub struct Source<I: AsRef<str> = String> {
     text: I,
     lines: Vec<Line>,
@@ -71,12 +73,12 @@ fn lines_of(text: &str) -> Vec<Line> {
         }
         if let Some((bytes, chars)) = end_of(&text.as_bytes()[place.bytes..]) {
             let (past, past_byte) = (place.chars + chars, place.bytes + bytes);
-            lines.push(Line { offset, len: past - offset, byte_offset, byte_len: past_byte - byte_offset });
+            lines.push(Line { offset, char_len: past - offset, byte_offset, byte_len: past_byte - byte_offset });
             (offset, byte_offset) = (past, past_byte);
         }
     });
     if lines.is_empty() || byte_offset < text.len() {
-        lines.push(Line { offset, len: chars - offset, byte_offset, byte_len: text.len() - byte_offset });
+        lines.push(Line { offset, char_len: chars - offset, byte_offset, byte_len: text.len() - byte_offset });
     }
     lines
 }
@@ -90,6 +92,19 @@ fn end_of(bytes: &[u8]) -> Option<(usize, usize)> {
         [0xc2, 0x85, ..] => Some((2, 1)),
         [0xe2, 0x80, 0xa8 | 0xa9, ..] => Some((3, 1)),
         _ => None,
+    }
+}
+
+/// The fields are those of `ariadne` 0.6.0.
+impl<I: AsRef<str> + Debug> Debug for Source<I> {
+    fn fmt(&self, f: &mut Formatter<'_>) -> fmt::Result {
+        f.debug_struct("Source")
+            .field("text", &self.text)
+            .field("lines", &self.lines)
+            .field("len", &self.len())
+            .field("byte_len", &self.text().len())
+            .field("display_line_offset", &self.display_line_offset)
+            .finish()
     }
 }
 
@@ -112,7 +127,7 @@ impl<I: AsRef<str>> Source<I> {
 
     /// How many characters the text has.
     pub fn len(&self) -> usize {
-        self.lines.last().map_or(0, |line| line.offset + line.len)
+        self.lines.last().map_or(0, |line| line.offset + line.char_len)
     }
 
     /// Whether it has none.
@@ -210,10 +225,10 @@ mod tests {
     /// The lines of a text, character by character.
     fn lines_one_by_one(text: &str) -> Vec<Line> {
         let mut lines = Vec::new();
-        let mut line = Line { offset: 0, len: 0, byte_offset: 0, byte_len: 0 };
+        let mut line = Line { offset: 0, char_len: 0, byte_offset: 0, byte_len: 0 };
         let mut characters = text.chars().peekable();
         while let Some(character) = characters.next() {
-            line.len += 1;
+            line.char_len += 1;
             line.byte_len += character.len_utf8();
             let is_within = character == '\r' && characters.peek() == Some(&'\n');
             if SEPARATORS.contains(&character) && !is_within {
@@ -221,10 +236,21 @@ mod tests {
                 line = line.behind();
             }
         }
-        if lines.is_empty() || line.len > 0 {
+        if lines.is_empty() || line.char_len > 0 {
             lines.push(line);
         }
         lines
+    }
+
+    #[test]
+    fn debug_texts_are_those_of_ariadne() {
+        let source = Source::from("\u{e9}\nb").with_display_line_offset(7);
+        assert_eq!(
+            format!("{source:?}"),
+            "Source { text: \"\u{e9}\\nb\", lines: [Line { offset: 0, char_len: 2, byte_offset: 0, byte_len: 3 }, \
+             Line { offset: 2, char_len: 1, byte_offset: 3, byte_len: 1 }], len: 3, byte_len: 4, \
+             display_line_offset: 7 }"
+        );
     }
 
     #[test]

@@ -133,7 +133,7 @@ impl<'a> Fetched<'a> {
                 let excerpt = self.place_in(report, first, source);
                 self.sources.push(Named { name, excerpt });
             }
-            Err(error) => eprintln!("no source '{}': {error:?}", name.as_deref().unwrap_or("<unknown>")),
+            Err(error) => eprintln!("Unable to fetch source '{}': {error:?}", name.unwrap_or_default()),
         }
     }
 
@@ -177,14 +177,15 @@ impl<'a> Fetched<'a> {
 
 /// A label whose source is not fetched yet.
 fn label_without_source<S>(label: &Label<S>) -> GivenLabel<'_> {
+    let said = &label.display_info;
     GivenLabel {
         source: NO_SOURCE,
         start: 0,
         end: 0,
-        message: OptionalText::from(label.message.as_deref()),
-        color: label.color.map_or(0, color_number),
-        order: label.order,
-        priority: label.priority,
+        message: OptionalText::from(said.msg.as_deref()),
+        color: said.color.map_or(0, color_number),
+        order: said.order,
+        priority: said.priority,
     }
 }
 
