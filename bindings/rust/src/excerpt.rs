@@ -53,7 +53,7 @@ struct End {
 impl End {
     /// The line, and those of a source that are at most so far away.
     fn lines_near<I: AsRef<str>>(&self, source: &Source<I>, context_lines: usize) -> RangeInclusive<usize> {
-        let last = self.line.saturating_add(context_lines).min(source.lines().len() - 1);
+        let last = self.line.saturating_add(context_lines).min(source.last_line());
         self.line.saturating_sub(context_lines)..=last
     }
 }
@@ -91,7 +91,7 @@ impl Excerpt {
         if last - first > FEW_LINES * spans.len() {
             return Excerpt::of_lines_apart(source, spans, config);
         }
-        let past = last.saturating_add(config.context_lines).min(source.lines().len() - 1);
+        let past = last.saturating_add(config.context_lines).min(source.last_line());
         Excerpt::of_lines(source, first.saturating_sub(config.context_lines)..=past, spans, in_bytes)
     }
 

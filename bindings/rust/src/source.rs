@@ -1,6 +1,6 @@
 //! Texts, and their lines.
 
-use crate::blocks;
+use crate::blocks::{starts_of, Start};
 use crate::span::Span;
 use std::fmt::{self, Debug, Formatter};
 use std::ops::{Range, RangeInclusive};
@@ -27,7 +27,7 @@ impl Line {
 
     /// Whether it has no characters.
     pub fn is_empty(&self) -> bool {
-        self.char_len == 0
+        self.len() == 0
     }
 
     /// Its characters, as offsets into the source.
@@ -40,10 +40,14 @@ impl Line {
         self.byte_offset..self.byte_offset + self.byte_len
     }
 
-    /// The place behind it, as a line that has no characters yet.
-    fn behind(&self) -> Line {
-        let (offset, byte_offset) = (self.offset + self.char_len, self.byte_offset + self.byte_len);
-        Line { offset, char_len: 0, byte_offset, byte_len: 0 }
+    /// The line between two places.
+    fn between(start: Start, past: Start) -> Line {
+        Line {
+            offset: start.chars,
+            char_len: past.chars - start.chars,
+            byte_offset: start.bytes,
+            byte_len: past.bytes - start.bytes,
+        }
     }
 }
 
@@ -51,47 +55,16 @@ impl Line {
 #[derive(Clone, Hash, PartialEq, Eq)]
 pub struct Source<I: AsRef<str> = String> {
     text: I,
-    lines: Vec<Line>,
+    /// Where each line begins, and where the last one ends.
+    starts: Vec<Start>,
     display_line_offset: usize,
 }
 
 impl<I: AsRef<str>> From<I> for Source<I> {
     /// The source of a text, in one pass over it.
     fn from(text: I) -> Source<I> {
-        let lines = lines_of(text.as_ref());
-        Source { text, lines, display_line_offset: 0 }
-    }
-}
-
-/// The lines of a text. An empty text has one.
-fn lines_of(text: &str) -> Vec<Line> {
-    let mut lines = Vec::new();
-    let (mut offset, mut byte_offset) = (0, 0);
-    let chars = blocks::each_end(text, |place| {
-        if place.bytes < byte_offset {
-            return; // (the line feed of a CR LF)
-        }
-        if let Some((bytes, chars)) = end_of(&text.as_bytes()[place.bytes..]) {
-            let (past, past_byte) = (place.chars + chars, place.bytes + bytes);
-            lines.push(Line { offset, char_len: past - offset, byte_offset, byte_len: past_byte - byte_offset });
-            (offset, byte_offset) = (past, past_byte);
-        }
-    });
-    if lines.is_empty() || byte_offset < text.len() {
-        lines.push(Line { offset, char_len: chars - offset, byte_offset, byte_len: text.len() - byte_offset });
-    }
-    lines
-}
-
-/// How many bytes and characters the end of a line has that begins here, if one does.
-fn end_of(bytes: &[u8]) -> Option<(usize, usize)> {
-    match bytes {
-        [b'\n' | b'\x0b' | b'\x0c', ..] => Some((1, 1)),
-        [b'\r', b'\n', ..] => Some((2, 2)),
-        [b'\r', ..] => Some((1, 1)),
-        [0xc2, 0x85, ..] => Some((2, 1)),
-        [0xe2, 0x80, 0xa8 | 0xa9, ..] => Some((3, 1)),
-        _ => None,
+        let starts = starts_of(text.as_ref());
+        Source { text, starts, display_line_offset: 0 }
     }
 }
 
@@ -100,7 +73,7 @@ impl<I: AsRef<str> + Debug> Debug for Source<I> {
     fn fmt(&self, f: &mut Formatter<'_>) -> fmt::Result {
         f.debug_struct("Source")
             .field("text", &self.text)
-            .field("lines", &self.lines)
+            .field("lines", &self.lines().collect::<Vec<Line>>())
             .field("len", &self.len())
             .field("byte_len", &self.text().len())
             .field("display_line_offset", &self.display_line_offset)
@@ -127,7 +100,7 @@ impl<I: AsRef<str>> Source<I> {
 
     /// How many characters the text has.
     pub fn len(&self) -> usize {
-        self.lines.last().map_or(0, |line| line.offset + line.char_len)
+        self.starts.last().map_or(0, |end| end.chars)
     }
 
     /// Whether it has none.
@@ -142,70 +115,80 @@ impl<I: AsRef<str>> Source<I> {
 
     /// The line of this number, from 0.
     pub fn line(&self, idx: usize) -> Option<Line> {
-        self.lines.get(idx).copied()
+        let [start, past] = self.starts.get(idx..)?.first_chunk::<2>()?;
+        Some(Line::between(*start, *past))
     }
 
     /// All lines.
     pub fn lines(&self) -> impl ExactSizeIterator<Item = Line> + '_ {
-        self.lines.iter().copied()
+        self.starts.windows(2).map(|ends| Line::between(ends[0], ends[1]))
     }
 
     /// The line that an offset in characters is on, its number, and the column, both from 0. The offset of
     /// the end is on the last line; a greater one is on none.
     pub fn get_offset_line(&self, offset: usize) -> Option<(Line, usize, usize)> {
-        (offset <= self.len()).then(|| self.place(offset, |line| line.offset))
+        let number = (offset <= self.len()).then(|| self.number_of(offset, |start| start.chars))?;
+        let line = self.line(number)?;
+        Some((line, number, offset - line.offset))
     }
 
     /// The same of an offset in bytes, with the column in bytes.
     pub fn get_byte_line(&self, byte_offset: usize) -> Option<(Line, usize, usize)> {
-        (byte_offset <= self.text().len()).then(|| self.place(byte_offset, |line| line.byte_offset))
+        let number = (byte_offset <= self.text().len()).then(|| self.number_of(byte_offset, |start| start.bytes))?;
+        let line = self.line(number)?;
+        Some((line, number, byte_offset - line.byte_offset))
+    }
+
+    /// The number of the last line, from 0.
+    pub(crate) fn last_line(&self) -> usize {
+        self.starts.len() - 2
+    }
+
+    /// The number of the last line that starts at most at an offset.
+    fn number_of(&self, offset: usize, of: impl Fn(&Start) -> usize) -> usize {
+        let lines = &self.starts[..=self.last_line()];
+        lines.partition_point(|start| of(start) <= offset).saturating_sub(1)
     }
 
     /// The number of the line that an offset is on, in bytes or in characters. One past the end is on the last.
     /// It is looked for at the line `near` first.
     pub(crate) fn line_number(&self, offset: usize, in_bytes: bool, near: usize) -> usize {
-        let start = |line: &Line| if in_bytes { line.byte_offset } else { line.offset };
-        let is_before = |number: usize| self.lines.get(number).is_some_and(|line| start(line) <= offset);
+        let of = |start: &Start| if in_bytes { start.bytes } else { start.chars };
+        let is_before = |number: usize| number <= self.last_line() && of(&self.starts[number]) <= offset;
         if is_before(near) && !is_before(near + 1) {
             return near;
         }
-        self.place(offset, start).1
+        self.number_of(offset, of)
     }
 
     /// Where the first of these lines starts, and how long they are together, both in bytes or in characters,
     /// and their text. There is one at least.
     pub(crate) fn lines_with_text(&self, numbers: RangeInclusive<usize>, in_bytes: bool) -> (usize, usize, &str) {
-        let (first, past) = (self.lines[*numbers.start()], self.lines[*numbers.end()].behind());
-        let text = &self.text()[first.byte_offset..past.byte_offset];
+        let (first, past) = (self.starts[*numbers.start()], self.starts[numbers.end() + 1]);
+        let text = &self.text()[first.bytes..past.bytes];
         if in_bytes {
-            (first.byte_offset, text.len(), text)
+            (first.bytes, text.len(), text)
         } else {
-            (first.offset, past.offset - first.offset, text)
+            (first.chars, past.chars - first.chars, text)
         }
     }
 
     /// How many characters these lines have together. There is one at least.
     pub(crate) fn len_of(&self, numbers: RangeInclusive<usize>) -> usize {
-        self.lines[*numbers.end()].behind().offset - self.lines[*numbers.start()].offset
+        self.starts[numbers.end() + 1].chars - self.starts[*numbers.start()].chars
     }
 
     /// How many bytes the longest of these lines has.
     pub(crate) fn longest_of(&self, numbers: RangeInclusive<usize>) -> usize {
-        self.lines[numbers].iter().map(|line| line.byte_len).max().unwrap_or(0)
-    }
-
-    /// The last line that starts at most at an offset, its number, and how far the offset is behind its start.
-    fn place(&self, offset: usize, start: impl Fn(&Line) -> usize) -> (Line, usize, usize) {
-        let number = self.lines.partition_point(|line| start(line) <= offset).saturating_sub(1);
-        let line = self.lines[number];
-        (line, number, offset - start(&line))
+        let ends = &self.starts[*numbers.start()..numbers.end() + 2];
+        ends.windows(2).map(|ends| ends[1].bytes - ends[0].bytes).max().unwrap_or(0)
     }
 
     /// The numbers of the lines that a span is on, each of which the source has.
     pub fn get_line_range<S: Span>(&self, span: &S) -> Range<usize> {
         let last = span.end().saturating_sub(1).max(span.start());
         let first_line = self.get_offset_line(span.start()).map_or(0, |(_, number, _)| number);
-        let past_line = self.get_offset_line(last).map_or(self.lines.len(), |(_, number, _)| number + 1);
+        let past_line = self.get_offset_line(last).map_or(self.last_line() + 1, |(_, number, _)| number + 1);
         first_line..past_line
     }
 
@@ -217,30 +200,7 @@ impl<I: AsRef<str>> Source<I> {
 
 #[cfg(test)]
 mod tests {
-    use super::{Line, Source};
-
-    /// What ends a line; of CR LF both are one end.
-    const SEPARATORS: [char; 7] = ['\r', '\n', '\x0b', '\x0c', '\u{85}', '\u{2028}', '\u{2029}'];
-
-    /// The lines of a text, character by character.
-    fn lines_one_by_one(text: &str) -> Vec<Line> {
-        let mut lines = Vec::new();
-        let mut line = Line { offset: 0, char_len: 0, byte_offset: 0, byte_len: 0 };
-        let mut characters = text.chars().peekable();
-        while let Some(character) = characters.next() {
-            line.char_len += 1;
-            line.byte_len += character.len_utf8();
-            let is_within = character == '\r' && characters.peek() == Some(&'\n');
-            if SEPARATORS.contains(&character) && !is_within {
-                lines.push(line);
-                line = line.behind();
-            }
-        }
-        if lines.is_empty() || line.char_len > 0 {
-            lines.push(line);
-        }
-        lines
-    }
+    use super::Source;
 
     #[test]
     fn debug_texts_are_those_of_ariadne() {
@@ -251,23 +211,5 @@ mod tests {
              Line { offset: 2, char_len: 1, byte_offset: 3, byte_len: 1 }], len: 3, byte_len: 4, \
              display_line_offset: 7 }"
         );
-    }
-
-    #[test]
-    fn lines_are_those_found_one_by_one() {
-        // (Beside the separators: bytes that theirs begin with, and neighbours of them.)
-        let others = "a\t\x0e\u{84}\u{b0}\u{e9}\u{2026}\u{202a}\u{6f22}\u{1f600}";
-        let characters: Vec<char> = SEPARATORS.into_iter().chain(others.chars()).collect();
-        let mut seed: usize = 1;
-        for len in 0..2000 {
-            let text: String = (0..len % 40)
-                .map(|_| {
-                    seed = seed.wrapping_mul(6364136223846793005).wrapping_add(1442695040888963407);
-                    let place = (seed >> 33) % (3 * characters.len());
-                    characters.get(place).copied().unwrap_or('b')
-                })
-                .collect();
-            assert_eq!(Source::from(text.as_str()).lines, lines_one_by_one(&text), "{text:?}");
-        }
     }
 }
