@@ -6,7 +6,8 @@ none. A choice has its `values`; any other setting is a switch or a number, as i
 
 In C a switch is a flag: a `bit` by the name of `flag`, which is set if the value is `flagged`. `field` is the name in C,
 C++ and Python, if it isn't that of `Config`. `about` and `flag_about` are the comments there. `counts` says what a
-number of Python counts, `python` is a type that isn't the usual one.
+number of Python counts, `python` is a type that isn't the usual one. `rust` is the default of the Rust crate, if it
+isn't the usual one.
 """
 
 import tomllib
@@ -33,6 +34,7 @@ class Setting(NamedTuple):
     about: str = ""
     counts: str = ""
     python: str = ""
+    rust: object = None
 
     @property
     def is_number(self):
