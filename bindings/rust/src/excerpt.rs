@@ -4,25 +4,27 @@
 //! begins or ends on, those that are shown near them, and the header's. Each line keeps its number: those in
 //! front are counted by the line offset, and for each one between stands an empty one. And each label keeps its
 //! length, since the gutter and the colours go by it: where a label runs over hidden lines, blanks stand for
-//! their characters. Where the lines of all spans are few they are lent as they are.
+//! their characters. Where the lines of all spans are few they are lent as they are, without a copy.
 
 use crate::config::{Config, IndexType};
 use crate::source::Source;
+use crate::span::Span;
+use std::borrow::Cow;
 use std::ops::RangeInclusive;
 
 /// An empty line. (Its end joins no character beside it, as a line feed would join a carriage return.)
 const EMPTY_LINE: &str = "\x0c";
 
+/// What stands for a character of a hidden line. (It is one byte, so it counts as one in bytes too.)
+const BLANK: &str = " ";
+
 /// Lines for each span that are lent whole, also where nothing is shown of some. To read them takes less than to
 /// find which these are.
 const FEW_LINES: usize = 2;
 
-/// What stands for a character of a hidden line. (It is one byte, so it counts as one in bytes too.)
-const BLANK: &str = " ";
-
 /// What is lent of a source.
-pub(crate) struct Excerpt {
-    pub(crate) text: String,
+pub(crate) struct Excerpt<'s> {
+    pub(crate) text: Cow<'s, str>,
     pub(crate) line_offset: usize,
     pub(crate) shape: Shape,
 }
@@ -38,8 +40,32 @@ pub(crate) struct Shape {
     pub(crate) over: usize,
 }
 
-/// The offsets of a span's first and last character, in a source or in what is lent of it.
+/// The offsets of the first and the last character of a span, in a source or in what is lent of it.
 pub(crate) type Ends = [usize; 2];
+
+/// The ends of a span. One that has no character has its start as both.
+pub(crate) fn ends_of_span<S: Span>(span: &S) -> Ends {
+    let start = span.start();
+    [start, span.end().saturating_sub(1).max(start)]
+}
+
+/// The spans of a report that are in one source. There is a label at least.
+pub(crate) struct Spans {
+    /// The labels' spans, and behind them the place that the header names, if it is in this source.
+    pub(crate) ends: Vec<Ends>,
+    pub(crate) has_place: bool,
+}
+
+impl Spans {
+    pub(crate) fn labels(&self) -> &[Ends] {
+        &self.ends[..self.ends.len() - usize::from(self.has_place)]
+    }
+
+    /// The header's place, as both ends.
+    pub(crate) fn place(&self) -> Option<&Ends> {
+        self.ends.last().filter(|_| self.has_place)
+    }
+}
 
 /// A line that a span begins or ends on, and the last line of that span.
 struct End {
@@ -48,14 +74,6 @@ struct End {
     /// The number of the span, and which of its ends are on this line.
     span: usize,
     sides: RangeInclusive<usize>,
-}
-
-impl End {
-    /// The line, and those of a source that are at most so far away.
-    fn lines_near<I: AsRef<str>>(&self, source: &Source<I>, context_lines: usize) -> RangeInclusive<usize> {
-        let last = self.line.saturating_add(context_lines).min(source.last_line());
-        self.line.saturating_sub(context_lines)..=last
-    }
 }
 
 /// The lines that these spans begin or end on, in their order. A line is there as often as one does.
@@ -79,16 +97,49 @@ fn ends_of<I: AsRef<str>>(source: &Source<I>, spans: &[Ends], in_bytes: bool) ->
     ends
 }
 
-impl Excerpt {
-    /// What these spans need, of which there is one at least. They become those in what is lent.
-    pub(crate) fn new<I: AsRef<str>>(source: &Source<I>, spans: &mut [Ends], config: &Config) -> Excerpt {
-        let (first, last) = spans.iter().fold((usize::MAX, 0), |(first, last), [start, end]| {
+/// Lines that are lent, and stand one behind another.
+struct Run {
+    first: usize,
+    last: usize,
+    /// How many of the ends are on these lines.
+    ends: usize,
+    /// Whether a span runs over the hidden lines in front.
+    is_within: bool,
+}
+
+/// The lines that these ends are on, and those that are shown near them, of a source with this last line.
+fn runs_of(ends: &[End], context_lines: usize, last_line: usize) -> Vec<Run> {
+    let mut runs: Vec<Run> = Vec::new();
+    let mut reached = 0; // the last line of the spans that begin in front
+    for end in ends {
+        let first = end.line.saturating_sub(context_lines);
+        let last = end.line.saturating_add(context_lines).min(last_line);
+        match runs.last_mut() {
+            Some(run) if first <= run.last + 1 => {
+                run.last = last;
+                run.ends += 1;
+            }
+            _ => runs.push(Run { first, last, ends: 1, is_within: end.line <= reached }),
+        }
+        reached = reached.max(end.last_line);
+    }
+    runs
+}
+
+impl<'s> Excerpt<'s> {
+    /// What these spans of a source need. They are moved to what is lent.
+    pub(crate) fn new<I: AsRef<str>>(
+        source: &'s Source<I>,
+        spans: &mut Spans,
+        config: &Config,
+    ) -> Excerpt<'s> {
+        let (first, last) = spans.ends.iter().fold((usize::MAX, 0), |(first, last), [start, end]| {
             (first.min(*start), last.max(*end))
         });
         let in_bytes = config.index_type == IndexType::Byte;
         let first = source.line_number(first, in_bytes, 0);
         let last = source.line_number(last, in_bytes, first);
-        if last - first > FEW_LINES * spans.len() {
+        if last - first > FEW_LINES * spans.ends.len() {
             return Excerpt::of_lines_apart(source, spans, config);
         }
         let past = last.saturating_add(config.context_lines).min(source.last_line());
@@ -97,91 +148,100 @@ impl Excerpt {
 
     /// All these lines, in which the spans are.
     fn of_lines<I: AsRef<str>>(
-        source: &Source<I>,
+        source: &'s Source<I>,
         lines: RangeInclusive<usize>,
-        spans: &mut [Ends],
+        spans: &mut Spans,
         in_bytes: bool,
-    ) -> Excerpt {
+    ) -> Excerpt<'s> {
         let line_offset = source.display_line_offset().saturating_add(*lines.start());
-        let mut excerpt = Excerpt { text: String::new(), line_offset, shape: Shape::default() };
-        let (start, _) = excerpt.lend(source, lines, in_bytes);
-        for span in spans {
-            *span = span.map(|offset| offset - start);
-            excerpt.shape.over += usize::from(span[1] - span[0] >= excerpt.shape.longest);
+        let (start, _, text) = source.lines_with_text(lines.clone(), in_bytes);
+        let mut shape = Shape { lines: lines.end() - lines.start() + 1, longest: source.longest_of(lines), over: 0 };
+        for [first, last] in &mut spans.ends {
+            *first -= start;
+            *last -= start;
+            shape.over += usize::from(*last - *first >= shape.longest);
         }
-        excerpt
+        Excerpt { text: Cow::Borrowed(text), line_offset, shape }
     }
 
     /// The lines that these spans begin or end on, those near them, and what stands for those between.
-    fn of_lines_apart<I: AsRef<str>>(source: &Source<I>, spans: &mut [Ends], config: &Config) -> Excerpt {
-        let in_bytes = config.index_type == IndexType::Byte;
-        let ends = ends_of(source, spans, in_bytes);
-        let mut next = ends.first().map_or(0, |end| end.line.saturating_sub(config.context_lines));
-        let line_offset = source.display_line_offset().saturating_add(next);
-        let mut excerpt = Excerpt { text: String::new(), line_offset, shape: Shape::default() };
-        let (mut reached, mut len) = (next, 0);
-        let mut run = [0; 2]; // where the lines begin that were lent last, in the source and here
-        for end in ends {
-            let near = end.lines_near(source, config.context_lines);
-            let is_apart = next < *near.start();
-            if is_apart {
-                len += excerpt.hide(source, next..=near.start() - 1, end.line <= reached);
-            }
-            let lent = next.max(*near.start())..=*near.end();
-            if !lent.is_empty() {
-                let (start, lent_len) = excerpt.lend(source, lent, in_bytes);
-                if is_apart || len == 0 {
-                    run = [start, len];
-                }
-                len += lent_len;
-            }
-            for side in end.sides {
-                spans[end.span][side] = run[1] + (spans[end.span][side] - run[0]);
-            }
-            next = next.max(near.end() + 1);
-            reached = reached.max(end.last_line);
-            excerpt.shape.over += usize::from(end.line < end.last_line);
-        }
-        excerpt
-    }
-
-    /// Appends what stands for these lines: empty lines, and where a span runs over them blanks for all their
-    /// other characters. Returns how many characters that are, each of one byte.
-    fn hide<I: AsRef<str>>(
-        &mut self,
+    fn of_lines_apart<I: AsRef<str>>(
         source: &Source<I>,
-        lines: RangeInclusive<usize>,
-        is_within: bool,
-    ) -> usize {
-        let count = lines.end() - lines.start() + 1;
-        let len = if is_within { source.len_of(lines) } else { count };
-        if count < len {
-            self.text.push_str(&BLANK.repeat(len - count));
+        spans: &mut Spans,
+        config: &Config,
+    ) -> Excerpt<'static> {
+        let in_bytes = config.index_type == IndexType::Byte;
+        let ends = ends_of(source, &spans.ends, in_bytes);
+        let runs = runs_of(&ends, config.context_lines, source.last_line());
+        let mut lent = Lent::default();
+        let mut rest = ends.as_slice();
+        for (at, run) in runs.iter().enumerate() {
+            if at > 0 {
+                lent.hide(source, runs[at - 1].last, run);
+            }
+            let (here, behind) = rest.split_at(run.ends);
+            lent.lend(source, run, here, spans, in_bytes);
+            rest = behind;
         }
-        self.text.push_str(&EMPTY_LINE.repeat(count));
-        len
+        let line_offset = source.display_line_offset().saturating_add(runs[0].first);
+        Excerpt { text: Cow::Owned(lent.text), line_offset, shape: lent.shape }
     }
 
-    /// Appends these lines. Returns where the first of them starts in the source, and how long they are.
+    /// The same with a copy of the text.
+    pub(crate) fn kept(self) -> Excerpt<'static> {
+        let Excerpt { text, line_offset, shape } = self;
+        Excerpt { text: Cow::Owned(text.into_owned()), line_offset, shape }
+    }
+}
+
+/// What is lent of lines apart, as far as it is there.
+#[derive(Default)]
+struct Lent {
+    text: String,
+    /// How long it is, in characters or in bytes.
+    len: usize,
+    shape: Shape,
+}
+
+impl Lent {
+    /// Appends what stands for the lines between two: an empty line for each, and where a span runs over them
+    /// blanks for all their other characters.
+    fn hide<I: AsRef<str>>(&mut self, source: &Source<I>, line: usize, run: &Run) {
+        let lines = run.first - line - 1;
+        let len = if run.is_within { source.len_between(line, run.first) } else { lines };
+        self.text.push_str(&BLANK.repeat(len - lines));
+        self.text.push_str(&EMPTY_LINE.repeat(lines));
+        self.len += len;
+    }
+
+    /// Appends these lines, and moves the ends that are on them.
     fn lend<I: AsRef<str>>(
         &mut self,
         source: &Source<I>,
-        lines: RangeInclusive<usize>,
+        run: &Run,
+        ends: &[End],
+        spans: &mut Spans,
         in_bytes: bool,
-    ) -> (usize, usize) {
-        self.shape.lines += lines.end() - lines.start() + 1;
-        self.shape.longest = self.shape.longest.max(source.longest_of(lines.clone()));
-        let (start, len, text) = source.lines_with_text(lines, in_bytes);
+    ) {
+        let (start, len, text) = source.lines_with_text(run.first..=run.last, in_bytes);
+        for End { line, last_line, span, sides } in ends {
+            for side in sides.clone() {
+                spans.ends[*span][side] = self.len + (spans.ends[*span][side] - start);
+            }
+            self.shape.over += usize::from(line < last_line);
+        }
         self.text.push_str(text);
-        (start, len)
+        self.len += len;
+        self.shape.lines += run.last - run.first + 1;
+        self.shape.longest = self.shape.longest.max(source.longest_of(run.first..=run.last));
     }
 }
 
 #[cfg(test)]
 mod tests {
-    use super::{Excerpt, Shape};
-    use crate::write::touched;
-    use crate::{CharSet, Color, Config, IndexType, Label, Report, ReportKind, Source};
+    use super::{ends_of_span, Excerpt, Shape, Spans};
+        use crate::{CharSet, Color, Config, IndexType, Label, LabelAttach, Report, ReportKind, Source};
+    use std::borrow::Cow;
     use std::ops::Range;
 
     const PLAIN: Config = Config::new().with_char_set(CharSet::Ascii);
@@ -190,33 +250,34 @@ mod tests {
     const TEXT: &str =
         "ab\r\n\u{e9}c\n\nd\r\re\u{2028}f\x0bg\u{6f22}\u{e9}ggggggggggggh\x0ci\u{85}j\n\r\nk\u{6f22}l\nm";
 
-    /// A report of two labels. Without a word the first only marks.
-    fn report(word: Option<&str>, spans: &[Range<usize>; 2], at: usize, config: Config) -> Report<'static> {
-        let mut first = Label::new(spans[0].clone()).with_color(Color::Red);
-        if let Some(word) = word {
-            first = first.with_message(word);
-        }
-        Report::build(ReportKind::Error, at..at)
-            .with_config(config)
-            .with_label(first)
-            .with_label(Label::new(spans[1].clone()).with_message("y").with_color(Color::Blue))
-            .finish()
+    /// The spans of labels with these first and last characters, and no place of a header.
+    fn labels(ends: &[[usize; 2]]) -> Spans {
+        Spans { ends: ends.to_vec(), has_place: false }
     }
 
-    /// Asserts that a report is drawn over a text with a line offset as it is where that is lent whole: as it is
-    /// written, and where lines apart are lent.
-    fn assert_draws_alike(text: &str, word: Option<&str>, spans: &[Range<usize>; 2], at: usize, config: Config) {
-        let source = Source::from(text).with_display_line_offset(7);
-        let whole = Excerpt { text: text.to_string(), line_offset: 7, shape: Shape::default() };
-        let want = report(word, spans, at, config).picture_over(whole);
+    /// A label over these characters. Without a word it only marks.
+    fn label(span: Range<usize>, word: Option<&str>) -> Label {
+        let label = Label::new(span).with_color(Color::Red);
+        match word {
+            Some(word) => label.with_message(word),
+            None => label,
+        }
+    }
+
+    /// Asserts that a report is drawn as over the whole source: as it is written, and where lines apart are lent.
+    fn assert_draws_alike(source: &Source<String>, labels: Vec<Label>, at: usize, config: Config) {
+        let told = format!("{labels:?} at {at}, {config:?}");
+        let ends = labels.iter().map(|label| ends_of_span(&label.span)).chain([[at; 2]]).collect();
+        let mut spans = Spans { ends, has_place: true };
+        let report = Report::build(ReportKind::Error, at..at).with_config(config).with_labels(labels).finish();
+        let line_offset = source.display_line_offset();
+        let whole = Excerpt { text: Cow::Borrowed(source.text()), line_offset, shape: Shape::default() };
+        let want = report.picture_over(whole, &spans);
         let mut out = Vec::new();
-        report(word, spans, at, config).write(&source, &mut out).unwrap();
-        assert_eq!(String::from_utf8(out).unwrap(), want, "{spans:?} at {at}, {config:?}");
-        let mut ends = [touched(&spans[0]), touched(&spans[1]), [at; 2]];
-        let apart = Excerpt::of_lines_apart(&source, &mut ends, &config);
-        let moved = [0, 1].map(|it| ends[it][0]..ends[it][1] + usize::from(!spans[it].is_empty()));
-        let got = report(word, &moved, ends[2][0], config).picture_over(apart);
-        assert_eq!(got, want, "{spans:?} at {at}, {config:?}");
+        report.write(source, &mut out).unwrap();
+        assert_eq!(String::from_utf8(out).unwrap(), want, "{told}");
+        let apart = Excerpt::of_lines_apart(source, &mut spans, &config);
+        assert_eq!(report.picture_over(apart, &spans), want, "{told}");
     }
 
     #[test]
@@ -224,10 +285,10 @@ mod tests {
         let source = Source::from("ab\ncd\u{e9}fg\nij\n");
         for (index, last) in [(IndexType::Char, 9), (IndexType::Byte, 10)] {
             let config = PLAIN.with_index_type(index);
-            let apart = Excerpt::of_lines_apart(&source, &mut [[0, 1], [last, last]], &config);
-            assert_eq!(apart.text, "ab\n\x0cij\n");
-            let over = Excerpt::of_lines_apart(&source, &mut [[0, last]], &config);
-            assert_eq!(over.text, "ab\n     \x0cij\n");
+            assert_eq!(Excerpt::of_lines_apart(&source, &mut labels(&[[0, 1], [last, last]]), &config).text, "ab\n\x0cij\n");
+            let mut over = labels(&[[0, last]]);
+            assert_eq!(Excerpt::of_lines_apart(&source, &mut over, &config).text, "ab\n     \x0cij\n");
+            assert_eq!(over.ends, [[0, 9]]);
         }
     }
 
@@ -241,37 +302,38 @@ mod tests {
             (usize::MAX, source.text(), source.text()),
         ] {
             let config = PLAIN.with_context_lines(context_lines);
-            assert_eq!(Excerpt::of_lines_apart(&source, &mut [[0, 1]], &config).text, first);
-            assert_eq!(Excerpt::of_lines_apart(&source, &mut [[0, 1], [12, 13]], &config).text, both);
+            assert_eq!(Excerpt::of_lines_apart(&source, &mut labels(&[[0, 1]]), &config).text, first);
+            assert_eq!(Excerpt::of_lines_apart(&source, &mut labels(&[[0, 1], [12, 13]]), &config).text, both);
         }
-        let mut spans = [[9, 9]];
+        let mut spans = Spans { ends: vec![[9, 9], [9, 9]], has_place: true };
         let middle = Excerpt::of_lines_apart(&source, &mut spans, &PLAIN.with_context_lines(1));
-        assert_eq!((middle.text.as_str(), middle.line_offset, spans), ("ef\ngh\nij\n", 2, [[3, 3]]));
+        assert_eq!((&*middle.text, middle.line_offset), ("ef\ngh\nij\n", 2));
+        assert_eq!(spans.ends, [[3, 3], [3, 3]]);
     }
 
     #[test]
     fn lines_that_are_few_are_lent_as_they_are() {
         let source = Source::from("ab\ncd\nef\ngh\nij\nkl\nmn\n");
-        let mut spans = [[4, 4], [16, 16]];
+        let mut spans = labels(&[[4, 4], [16, 16]]);
         let excerpt = Excerpt::new(&source, &mut spans, &PLAIN);
-        assert_eq!((excerpt.text.as_str(), excerpt.line_offset), ("cd\nef\ngh\nij\nkl\n", 1));
-        assert_eq!(spans, [[1, 1], [13, 13]]);
-        let excerpt = Excerpt::new(&source, &mut [[1, 1], [19, 19]], &PLAIN);
+        assert_eq!((&*excerpt.text, excerpt.line_offset), ("cd\nef\ngh\nij\nkl\n", 1));
+        assert!(matches!(excerpt.text, Cow::Borrowed(_)));
+        assert_eq!(spans.ends, [[1, 1], [13, 13]]);
+        let excerpt = Excerpt::new(&source, &mut labels(&[[1, 1], [19, 19]]), &PLAIN);
         assert_eq!(excerpt.text, "ab\n\x0c\x0c\x0c\x0c\x0cmn\n");
     }
 
     #[test]
     fn an_excerpt_draws_as_its_source() {
-        for (index, len) in [(IndexType::Char, TEXT.chars().count()), (IndexType::Byte, TEXT.len())] {
+        let source = Source::from(TEXT.to_string()).with_display_line_offset(7);
+        for (index, len) in [(IndexType::Char, source.len()), (IndexType::Byte, TEXT.len())] {
             let (past, half) = (len + 3, len / 2);
-            for start in 0..past {
-                for end in start..past {
-                    let config = PLAIN.with_index_type(index).with_context_lines(end % 3);
-                    for other in [half..half + 2, 0..half, 4..len] {
-                        for word in [Some("x"), None] {
-                            let spans = [start..end, other.clone()];
-                            assert_draws_alike(TEXT, word, &spans, end / 3, config);
-                        }
+            for (start, end) in (0..past).flat_map(|start| (start..past).map(move |end| (start, end))) {
+                let config = PLAIN.with_index_type(index).with_context_lines(end % 3);
+                for other in [half..half + 2, 0..half, 4..len] {
+                    for word in [Some("x"), None] {
+                        let labels = vec![label(start..end, word), label(other.clone(), Some("y"))];
+                        assert_draws_alike(&source, labels, end / 3, config);
                     }
                 }
             }
@@ -281,8 +343,86 @@ mod tests {
     #[test]
     fn lines_behind_change_no_picture() {
         let text = "aa\nbbbbbbbb\ncc\ndddd\nee\n".to_string() + &"z\n".repeat(1 << 15);
-        for (word, spans) in [(Some("x"), [0..4, 11..16]), (None, [0..8, 6..16])] {
-            assert_draws_alike(&text, word, &spans, 0, PLAIN);
+        let source = Source::from(text);
+        for (word, [one, two]) in [(Some("x"), [0..4, 11..16]), (None, [0..8, 6..16])] {
+            assert_draws_alike(&source, vec![label(one, word), label(two, Some("y"))], 0, PLAIN);
+        }
+    }
+
+    /// Numbers that look random.
+    struct Random(u64);
+
+    impl Random {
+        /// A number below this one.
+        fn below(&mut self, bound: usize) -> usize {
+            self.0 = self.0.wrapping_mul(6364136223846793005).wrapping_add(1442695040888963407);
+            (self.0 >> 33) as usize % bound
+        }
+
+        /// One of some values.
+        fn one_of<T: Clone>(&mut self, values: &[T]) -> T {
+            values[self.below(values.len())].clone()
+        }
+
+        fn bool(&mut self) -> bool {
+            self.below(2) == 0
+        }
+
+        /// A source in whose text the other one stands often, and between lines of one character. And where it does,
+        /// in characters or in bytes, and at last the end.
+        fn source(&mut self, in_bytes: bool) -> (Source<String>, Vec<usize>) {
+            let (mut text, mut places) = (String::new(), Vec::new());
+            let len = |text: &str| if in_bytes { text.len() } else { text.chars().count() };
+            for _ in 0..2 + self.below(3) {
+                places.push(len(&text));
+                text += TEXT;
+                text.push('\n');
+                text += &"z\n".repeat(self.below(3000));
+            }
+            places.push(len(&text) - 1);
+            (Source::from(text).with_display_line_offset(self.one_of(&[0, 7, 85, 990, 9_990, 12_345_678])), places)
+        }
+
+        /// A label that starts and ends near some places.
+        fn label(&mut self, places: &[usize]) -> Label {
+            let ends = [0; 2].map(|_| self.one_of(places) + self.below(TEXT.len()));
+            let (start, end) = match self.below(4) {
+                0 => (ends[0].min(ends[1]), ends[0].max(ends[1])),
+                1 => (ends[0], ends[0] + self.below(TEXT.len())),
+                _ => (ends[0], ends[0] + self.below(3)),
+            };
+            let word = self.one_of(&[None, Some("x"), Some(":1000:1 ]"), Some("x\n 1000 | y")]);
+            let color = self.one_of(&[Color::Red, Color::Blue]);
+            label(start..end, word).with_color(color).with_order(self.below(3) as i32).with_priority(self.below(3) as i32)
+        }
+
+        fn config(&mut self, index: IndexType) -> Config {
+            Config::new()
+                .with_index_type(index)
+                .with_char_set(self.one_of(&[CharSet::Ascii, CharSet::Unicode]))
+                .with_color(self.bool())
+                .with_compact(self.bool())
+                .with_safe(self.bool())
+                .with_cross_gap(self.bool())
+                .with_underlines(self.bool())
+                .with_lone_underlines(self.bool())
+                .with_multiline_arrows(self.bool())
+                .with_label_attach(self.one_of(&[LabelAttach::Start, LabelAttach::Middle, LabelAttach::End]))
+                .with_context_lines(self.one_of(&[0, 0, 1, 2, 400]))
+                .with_width(self.one_of(&[0, 0, 5, 12]))
+        }
+    }
+
+    #[test]
+    fn random_reports_over_lines_far_apart_are_drawn_as_over_the_source() {
+        let mut random = Random(1);
+        for _ in 0..3000 {
+            let index = random.one_of(&[IndexType::Char, IndexType::Byte]);
+            let (source, places) = random.source(index == IndexType::Byte);
+            let labels: Vec<Label> = (0..1 + random.below(5)).map(|_| random.label(&places)).collect();
+            let at = random.one_of(&places) + random.below(TEXT.len());
+            let config = random.config(index);
+            assert_draws_alike(&source, labels, at, config);
         }
     }
 }

@@ -173,9 +173,9 @@ impl<I: AsRef<str>> Source<I> {
         }
     }
 
-    /// How many characters these lines have together. There is one at least.
-    pub(crate) fn len_of(&self, numbers: RangeInclusive<usize>) -> usize {
-        self.starts[numbers.end() + 1].chars - self.starts[*numbers.start()].chars
+    /// How many characters the lines between two have together. The first stands in front of the second.
+    pub(crate) fn len_between(&self, line: usize, other: usize) -> usize {
+        self.starts[other].chars - self.starts[line + 1].chars
     }
 
     /// How many bytes the longest of these lines has.

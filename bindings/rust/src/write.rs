@@ -4,12 +4,13 @@ use crate::cache::Cache;
 use crate::call::{draw, GivenLabel, GivenReport, GivenSource, Lent, OptionalText, Refusal, Text, NO_MEMORY};
 use crate::color::Color;
 use crate::config::{CharSet, Config, IndexType, LabelAttach};
-use crate::excerpt::{Ends, Excerpt, Shape};
+use crate::excerpt::{ends_of_span, Ends, Excerpt, Shape, Spans};
 use crate::label::Label;
-use crate::report::{Report, ReportKind};
+use crate::report::{Content, Report, ReportKind};
 use crate::source::Source;
 use crate::span::Span;
 use std::io::{self, Write};
+use std::mem;
 
 impl<S: Span> Report<'_, S> {
     /// Writes the picture, over the sources of a cache.
@@ -22,8 +23,7 @@ impl<S: Span> Report<'_, S> {
     /// of kind `OutOfMemory` or `InvalidInput`, and then nothing was written: the line numbers of a source
     /// must fit `usize`.
     pub fn write<C: Cache<S::SourceId>, W: Write>(&self, cache: C, mut w: W) -> io::Result<()> {
-        let fetched = Fetched::new(self, cache);
-        let picture = self.picture(&fetched).map_err(error_of)?;
+        let picture = self.picture(cache).map_err(error_of)?;
         w.write_all(&picture)
     }
 
@@ -32,13 +32,138 @@ impl<S: Span> Report<'_, S> {
         self.write(cache, w)
     }
 
-    /// The picture over these sources.
-    fn picture(&self, fetched: &Fetched<'_>) -> Result<Vec<u8>, Refusal> {
-        let content = &self.content;
+    /// The picture over the sources of a cache. One that can't be had is told on standard error.
+    fn picture<C: Cache<S::SourceId>>(&self, mut cache: C) -> Result<Vec<u8>, Refusal> {
+        let mut lending = Lending::new(self);
+        let mut kept = Vec::new();
+        for (number, label) in self.labels.iter().enumerate() {
+            if lending.labels[number].source != NO_SOURCE {
+                continue;
+            }
+            let id = label.span.source();
+            let name = cache.display(id).map(|name| name.to_string());
+            match cache.fetch(id) {
+                Ok(source) => {
+                    let named = Named { name, excerpt: lending.place_in(number, source) };
+                    // (The cache lends one source at a time. So those in front of the last are copied.)
+                    if lending.is_placed() {
+                        return lending.picture(&kept, Some(&named));
+                    }
+                    kept.push(named.kept());
+                }
+                Err(error) => eprintln!("Unable to fetch source '{}': {error:?}", name.unwrap_or_default()),
+            }
+        }
+        lending.labels.retain(|label| label.source != NO_SOURCE);
+        lending.picture(&kept, None)
+    }
+}
+
+/// The room of a picture without labels, and the greatest that strokes are given.
+const LEAST_ROOM: usize = 256;
+const MOST_ROOM: usize = 1 << 24;
+
+/// A source that was fetched.
+struct Named<'s> {
+    name: Option<String>,
+    excerpt: Excerpt<'s>,
+}
+
+impl Named<'_> {
+    /// The source as the library is lent it.
+    fn given(&self) -> GivenSource<'_> {
+        GivenSource {
+            name: OptionalText::from(self.name.as_deref()),
+            text: Text::from(&*self.excerpt.text),
+            line_offset: self.excerpt.line_offset,
+        }
+    }
+
+    /// The source with a copy of what is lent of it.
+    fn kept(self) -> Named<'static> {
+        Named { name: self.name, excerpt: self.excerpt.kept() }
+    }
+}
+
+/// What the library is lent of a report beside its sources.
+struct Lending<'a, S: Span> {
+    report: &'a Report<'a, S>,
+    /// All labels. One whose source was not fetched has no source.
+    labels: Vec<GivenLabel<'a>>,
+    /// The number of the source that the header's place is in, and where. It is in none before that was fetched.
+    place: (usize, usize),
+    /// How many sources were fetched, and how many labels are in these.
+    sources: usize,
+    placed: usize,
+    /// Room for the spans in a source.
+    ends: Vec<Ends>,
+}
+
+/// The number of no source.
+const NO_SOURCE: usize = usize::MAX;
+
+impl<'a, S: Span> Lending<'a, S> {
+    /// A report none of whose sources was fetched.
+    fn new(report: &'a Report<'a, S>) -> Lending<'a, S> {
+        Lending {
+            report,
+            labels: report.labels.iter().map(label_without_source).collect(),
+            place: (NO_SOURCE, 0),
+            sources: 0,
+            placed: 0,
+            ends: Vec::with_capacity(report.labels.len() + 1),
+        }
+    }
+
+    /// Whether the source of each label was fetched.
+    fn is_placed(&self) -> bool {
+        self.placed == self.labels.len()
+    }
+
+    /// What is lent of a label's source, which is that of others behind it too. All spans of the report that are in
+    /// it get their places.
+    fn place_in<'s, I: AsRef<str>>(&mut self, first: usize, source: &'s Source<I>) -> Excerpt<'s> {
+        let Report { labels, span, content } = self.report;
+        let id = labels[first].span.source();
+        let mut spans = Spans { ends: mem::take(&mut self.ends), has_place: span.source() == id };
+        spans.ends.clear();
+        for (given, label) in self.labels[first..].iter_mut().zip(&labels[first..]) {
+            if given.source == NO_SOURCE && label.span.source() == id {
+                given.source = self.sources;
+                spans.ends.push(ends_of_span(&label.span));
+            }
+        }
+        spans.ends.extend(spans.has_place.then(|| [span.start(); 2]));
+        let excerpt = Excerpt::new(source, &mut spans, &content.config);
+        self.place(first, &spans);
+        self.ends = spans.ends;
+        excerpt
+    }
+
+    /// Gives the labels that are in the next source, of which this is the first, and the header's place, if it is
+    /// there, the places of these spans.
+    fn place(&mut self, first: usize, spans: &Spans) {
+        let number = self.sources;
+        let behind = self.labels[first..].iter_mut().zip(&self.report.labels[first..]);
+        let members = behind.filter(|(given, _)| given.source == number);
+        for ([start, last], (given, label)) in spans.labels().iter().zip(members) {
+            given.start = *start;
+            given.end = last.saturating_add(usize::from(!label.span.is_empty()));
+        }
+        if let Some([place, _]) = spans.place() {
+            self.place = (number, *place);
+        }
+        self.sources += 1;
+        self.placed += spans.labels().len();
+    }
+
+    /// The picture over these sources, of which the last may stand apart.
+    fn picture(&self, kept: &[Named<'_>], last: Option<&Named<'_>>) -> Result<Vec<u8>, Refusal> {
+        let content = &self.report.content;
         let helps: Vec<Text<'_>> = content.helps.iter().map(|it| Text::from(it.as_str())).collect();
         let notes: Vec<Text<'_>> = content.notes.iter().map(|it| Text::from(it.as_str())).collect();
         let (kind, kind_name, kind_color) = kind_of(content.kind);
-        let (source, start) = fetched.place.unwrap_or((NO_SOURCE, 0));
+        let (source, start) = self.place;
         let report = GivenReport {
             kind,
             kind_color,
@@ -47,7 +172,7 @@ impl<S: Span> Report<'_, S> {
             message: Text::from(content.message.as_deref().unwrap_or("")),
             source,
             start,
-            labels: Lent::from(fetched.labels.as_slice()),
+            labels: Lent::from(self.labels.as_slice()),
             helps: Lent::from(helps.as_slice()),
             notes: Lent::from(notes.as_slice()),
             flags: flags_of(&content.config),
@@ -56,15 +181,22 @@ impl<S: Span> Report<'_, S> {
             context_lines: content.config.context_lines,
             width: content.config.width,
         };
-        draw(&report, &fetched.given(), self.room(fetched))
+        let room = self.room(kept.iter().chain(last).map(|source| source.excerpt.shape));
+        match (kept, last) {
+            ([], Some(source)) => draw(&report, &[source.given()], room),
+            _ => {
+                let given: Vec<GivenSource<'_>> = kept.iter().chain(last).map(Named::given).collect();
+                draw(&report, &given, room)
+            }
+        }
     }
 
-    /// Bytes that most pictures fit. They take memory only as far as the picture is written there.
-    fn room(&self, fetched: &Fetched<'_>) -> usize {
-        let Config { char_set, color, .. } = self.content.config;
-        let stroke = if char_set == CharSet::Ascii { 1 } else { 3 };
-        let painted = if color { 4 * stroke } else { stroke };
-        let shapes = fetched.sources.iter().map(|source| source.excerpt.shape);
+    /// Bytes that most pictures fit: strokes for each row and column, and what is said. They take memory only as far as
+    /// the picture is written there.
+    fn room(&self, shapes: impl Iterator<Item = Shape>) -> usize {
+        let Content { config, code, message, notes, helps, .. } = &self.report.content;
+        let stroke = if config.char_set == CharSet::Ascii { 1 } else { 3 };
+        let painted = if config.color { 4 * stroke } else { stroke };
         let all = shapes.fold(Shape::default(), |all, it| Shape {
             lines: all.lines + it.lines,
             longest: all.longest.max(it.longest),
@@ -73,105 +205,9 @@ impl<S: Span> Report<'_, S> {
         let rows = all.lines + 3 * self.labels.len();
         let columns = 64 + all.longest + 4 * all.over;
         let strokes = rows.saturating_mul(columns).saturating_mul(painted);
-        strokes.min(MOST_ROOM).max(4096 + 2048 * self.labels.len())
-    }
-}
-
-/// The greatest room that strokes are given.
-const MOST_ROOM: usize = 1 << 24;
-
-/// A source that was fetched.
-struct Named {
-    name: Option<String>,
-    excerpt: Excerpt,
-}
-
-impl Named {
-    /// The source as the library is lent it.
-    fn given(&self) -> GivenSource<'_> {
-        GivenSource {
-            name: OptionalText::from(self.name.as_deref()),
-            text: Text::from(self.excerpt.text.as_str()),
-            line_offset: self.excerpt.line_offset,
-        }
-    }
-}
-
-/// The sources of a report's labels, as far as it needs them, and where its spans are in them.
-struct Fetched<'a> {
-    sources: Vec<Named>,
-    /// All labels. One whose source was not fetched has no source.
-    labels: Vec<GivenLabel<'a>>,
-    /// The number of the source that the header's place is in, and where, if it was fetched.
-    place: Option<(usize, usize)>,
-}
-
-/// The number of no source.
-const NO_SOURCE: usize = usize::MAX;
-
-impl<'a> Fetched<'a> {
-    /// Fetches the source of each label.
-    fn new<S: Span, C: Cache<S::SourceId>>(report: &'a Report<'_, S>, mut cache: C) -> Fetched<'a> {
-        let labels = report.labels.iter().map(label_without_source).collect();
-        let mut fetched = Fetched { sources: Vec::new(), labels, place: None };
-        for number in 0..report.labels.len() {
-            if fetched.labels[number].source == NO_SOURCE {
-                fetched.fetch(report, number, &mut cache);
-            }
-        }
-        fetched.labels.retain(|label| label.source != NO_SOURCE);
-        fetched
-    }
-
-    /// Fetches the source of a label, which is that of others behind it too. One that can't be had is told on
-    /// standard error.
-    fn fetch<S: Span, C: Cache<S::SourceId>>(&mut self, report: &Report<'_, S>, first: usize, cache: &mut C) {
-        let id = report.labels[first].span.source();
-        let name = cache.display(id).map(|name| name.to_string());
-        match cache.fetch(id) {
-            Ok(source) => {
-                let excerpt = self.place_in(report, first, source);
-                self.sources.push(Named { name, excerpt });
-            }
-            Err(error) => eprintln!("Unable to fetch source '{}': {error:?}", name.unwrap_or_default()),
-        }
-    }
-
-    /// What is lent of a label's source, in which the spans of the report that are in it get their places.
-    fn place_in<S: Span, I: AsRef<str>>(
-        &mut self,
-        report: &Report<'_, S>,
-        first: usize,
-        source: &Source<I>,
-    ) -> Excerpt {
-        let id = report.labels[first].span.source();
-        let number = self.sources.len();
-        let mut spans = Vec::new();
-        for (label, given) in self.labels[first..].iter_mut().zip(&report.labels[first..]) {
-            if label.source == NO_SOURCE && given.span.source() == id {
-                label.source = number;
-                spans.push(touched(&given.span));
-            }
-        }
-        let count = spans.len();
-        let has_place = report.span.source() == id;
-        spans.extend(has_place.then(|| [report.span.start(); 2]));
-        let excerpt = Excerpt::new(source, &mut spans, &report.content.config);
-        let behind = self.labels[first..].iter_mut().zip(&report.labels[first..]);
-        let members = behind.filter(|(label, _)| label.source == number);
-        for ([start, last], (label, given)) in spans[..count].iter().zip(members) {
-            label.start = *start;
-            label.end = last.saturating_add(usize::from(!given.span.is_empty()));
-        }
-        if has_place {
-            self.place = Some((number, spans[count][0]));
-        }
-        excerpt
-    }
-
-    /// All sources as the library is lent them.
-    fn given(&self) -> Vec<GivenSource<'_>> {
-        self.sources.iter().map(Named::given).collect()
+        let messages = self.report.labels.iter().filter_map(|label| label.display_info.msg.as_ref());
+        let texts = code.iter().chain(message).chain(notes).chain(helps).chain(messages);
+        LEAST_ROOM + strokes.min(MOST_ROOM) + texts.map(String::len).sum::<usize>()
     }
 }
 
@@ -187,11 +223,6 @@ fn label_without_source<S>(label: &Label<S>) -> GivenLabel<'_> {
         order: said.order,
         priority: said.priority,
     }
-}
-
-/// The offsets of a span's first and last character.
-pub(crate) fn touched<S: Span>(span: &S) -> Ends {
-    [span.start(), span.end().saturating_sub(1).max(span.start())]
 }
 
 /// A kind by its number, its name and the number of its colour.
@@ -248,17 +279,14 @@ fn error_of(Refusal(status): Refusal) -> io::Error {
 
 #[cfg(test)]
 impl Report<'_> {
-    /// The picture over a source without a name that is lent so, in which offsets are those of the report.
-    pub(crate) fn picture_over(&self, excerpt: Excerpt) -> String {
-        let placed = self.labels.iter().map(|label| {
-            GivenLabel { source: 0, start: label.span.start, end: label.span.end, ..label_without_source(label) }
-        });
-        let fetched = Fetched {
-            sources: vec![Named { name: None, excerpt }],
-            labels: placed.collect(),
-            place: Some((0, self.span.start)),
-        };
-        let picture = self.picture(&fetched).unwrap_or_else(|Refusal(status)| panic!("status {status}"));
-        String::from_utf8(picture).unwrap()
+    /// The picture over a source without a name that is lent so, in which these are the spans of labels and the place.
+    pub(crate) fn picture_over(&self, excerpt: Excerpt<'_>, spans: &Spans) -> String {
+        let mut lending = Lending::new(self);
+        for ((label, given), [start, last]) in lending.labels.iter_mut().zip(&self.labels).zip(&spans.ends) {
+            (label.source, label.start, label.end) = (0, *start, last + usize::from(!Span::is_empty(&given.span)));
+        }
+        lending.place = (0, spans.ends[self.labels.len()][0]);
+        let picture = lending.picture(&[], Some(&Named { name: None, excerpt }));
+        String::from_utf8(picture.unwrap_or_else(|Refusal(status)| panic!("status {status}"))).unwrap()
     }
 }
