@@ -1,12 +1,16 @@
 //! What the library is lent of a source.
 //!
 //! It reads a source from its beginning to its end, to find its lines. So it is lent only the lines that a label
-//! begins or ends on, those that are shown near them, and the header's. Each line keeps its number: those in
-//! front are counted by the line offset, and for each one between stands an empty one. And each label keeps its
-//! length, since the gutter and the colours go by it: where a label runs over hidden lines, blanks stand for
-//! their characters. Where the lines of all spans are few they are lent as they are, without a copy.
+//! begins or ends on, those that are shown near them, and the header's. The lines in front are counted by the line
+//! offset. Where the lines of all spans are few they are lent as they are, without a copy.
+//!
+//! Lines between are hidden. Where they are few, an empty one stands for each, so that all lines keep their numbers.
+//! Where they are many, one stands for those between two that are lent, and the numbers have stand-ins (`numbers.rs`).
+//! Each label keeps its length, since the gutter and the colours go by it: where a label runs over hidden lines, blanks
+//! stand for their characters.
 
 use crate::config::{Config, IndexType};
+use crate::numbers::Numbers;
 use crate::source::Source;
 use crate::span::Span;
 use std::borrow::Cow;
@@ -22,10 +26,14 @@ const BLANK: &str = " ";
 /// find which these are.
 const FEW_LINES: usize = 2;
 
+/// Hidden lines for each span that have an empty one each. To read these takes less than to draw a second time.
+const FEW_HIDDEN_LINES: usize = 256;
+
 /// What is lent of a source.
 pub(crate) struct Excerpt<'s> {
     pub(crate) text: Cow<'s, str>,
-    pub(crate) line_offset: usize,
+    /// Those of a first and a second drawing. They are one where no number has a stand-in.
+    pub(crate) line_offsets: [usize; 2],
     pub(crate) shape: Shape,
 }
 
@@ -107,6 +115,12 @@ struct Run {
     is_within: bool,
 }
 
+impl Run {
+    fn lines(&self) -> usize {
+        self.last - self.first + 1
+    }
+}
+
 /// The lines that these ends are on, and those that are shown near them, of a source with this last line.
 fn runs_of(ends: &[End], context_lines: usize, last_line: usize) -> Vec<Run> {
     let mut runs: Vec<Run> = Vec::new();
@@ -131,6 +145,7 @@ impl<'s> Excerpt<'s> {
     pub(crate) fn new<I: AsRef<str>>(
         source: &'s Source<I>,
         spans: &mut Spans,
+        numbers: &mut Numbers,
         config: &Config,
     ) -> Excerpt<'s> {
         let (first, last) = spans.ends.iter().fold((usize::MAX, 0), |(first, last), [start, end]| {
@@ -140,7 +155,7 @@ impl<'s> Excerpt<'s> {
         let first = source.line_number(first, in_bytes, 0);
         let last = source.line_number(last, in_bytes, first);
         if last - first > FEW_LINES * spans.ends.len() {
-            return Excerpt::of_lines_apart(source, spans, config);
+            return Excerpt::of_lines_apart(source, spans, numbers, config);
         }
         let past = last.saturating_add(config.context_lines).min(source.last_line());
         Excerpt::of_lines(source, first.saturating_sub(config.context_lines)..=past, spans, in_bytes)
@@ -161,37 +176,70 @@ impl<'s> Excerpt<'s> {
             *last -= start;
             shape.over += usize::from(*last - *first >= shape.longest);
         }
-        Excerpt { text: Cow::Borrowed(text), line_offset, shape }
+        Excerpt { text: Cow::Borrowed(text), line_offsets: [line_offset; 2], shape }
     }
 
     /// The lines that these spans begin or end on, those near them, and what stands for those between.
     fn of_lines_apart<I: AsRef<str>>(
         source: &Source<I>,
         spans: &mut Spans,
+        numbers: &mut Numbers,
         config: &Config,
     ) -> Excerpt<'static> {
         let in_bytes = config.index_type == IndexType::Byte;
         let ends = ends_of(source, &spans.ends, in_bytes);
         let runs = runs_of(&ends, config.context_lines, source.last_line());
+        let stand_ins = stand_ins(source, spans, &runs, numbers, config);
         let mut lent = Lent::default();
         let mut rest = ends.as_slice();
         for (at, run) in runs.iter().enumerate() {
             if at > 0 {
-                lent.hide(source, runs[at - 1].last, run);
+                lent.hide(source, runs[at - 1].last, run, stand_ins.is_some());
+            }
+            if let Some([first, _]) = stand_ins {
+                numbers.tell(first + lent.lines, source.display_line_offset() + run.first + 1);
             }
             let (here, behind) = rest.split_at(run.ends);
             lent.lend(source, run, here, spans, in_bytes);
             rest = behind;
         }
-        let line_offset = source.display_line_offset().saturating_add(runs[0].first);
-        Excerpt { text: Cow::Owned(lent.text), line_offset, shape: lent.shape }
+        let in_front = source.display_line_offset().saturating_add(runs[0].first);
+        let line_offsets = stand_ins.map_or([in_front; 2], |numbers| numbers.map(|number| number - 1));
+        Excerpt { text: Cow::Owned(lent.text), line_offsets, shape: lent.shape }
     }
 
     /// The same with a copy of the text.
     pub(crate) fn kept(self) -> Excerpt<'static> {
-        let Excerpt { text, line_offset, shape } = self;
-        Excerpt { text: Cow::Owned(text.into_owned()), line_offset, shape }
+        let Excerpt { text, line_offsets, shape } = self;
+        Excerpt { text: Cow::Owned(text.into_owned()), line_offsets, shape }
     }
+}
+
+/// The stand-ins for the number of the first line that is lent, in both drawings, where so many lines between are
+/// hidden that numbers have some.
+fn stand_ins<I: AsRef<str>>(
+    source: &Source<I>,
+    spans: &Spans,
+    runs: &[Run],
+    numbers: &mut Numbers,
+    config: &Config,
+) -> Option<[usize; 2]> {
+    let (first, last) = (runs.first()?.first, runs.last()?.last);
+    let lent: usize = runs.iter().map(Run::lines).sum();
+    if last - first + 1 - lent <= FEW_HIDDEN_LINES * spans.ends.len() {
+        return None;
+    }
+    // (Margins have room for the numbers of the labels that are drawn. So each one has to be.)
+    let in_bytes = config.index_type == IndexType::Byte;
+    if !spans.labels().iter().all(|ends| source.has(ends, in_bytes)) {
+        return None;
+    }
+    source.display_line_offset().checked_add(last + 1)?;
+    let last_offset = spans.labels().iter().map(|ends| ends[1]).max()?;
+    let last_line = source.line_number(last_offset, in_bytes, last);
+    let last_shown = last_line.saturating_add(config.context_lines).min(source.last_line());
+    let greatest = source.display_line_offset() + last_shown + 1;
+    numbers.take(lent + runs.len() - 1, greatest.ilog10() + 1)
 }
 
 /// What is lent of lines apart, as far as it is there.
@@ -200,18 +248,21 @@ struct Lent {
     text: String,
     /// How long it is, in characters or in bytes.
     len: usize,
+    /// How many lines it has, with those that stand for others.
+    lines: usize,
     shape: Shape,
 }
 
 impl Lent {
-    /// Appends what stands for the lines between two: an empty line for each, and where a span runs over them
-    /// blanks for all their other characters.
-    fn hide<I: AsRef<str>>(&mut self, source: &Source<I>, line: usize, run: &Run) {
-        let lines = run.first - line - 1;
+    /// Appends what stands for the lines between two: an empty line for each or for all, and where a span runs
+    /// over them blanks for all their other characters.
+    fn hide<I: AsRef<str>>(&mut self, source: &Source<I>, line: usize, run: &Run, as_one: bool) {
+        let lines = if as_one { 1 } else { run.first - line - 1 };
         let len = if run.is_within { source.len_between(line, run.first) } else { lines };
         self.text.push_str(&BLANK.repeat(len - lines));
         self.text.push_str(&EMPTY_LINE.repeat(lines));
         self.len += len;
+        self.lines += lines;
     }
 
     /// Appends these lines, and moves the ends that are on them.
@@ -232,7 +283,8 @@ impl Lent {
         }
         self.text.push_str(text);
         self.len += len;
-        self.shape.lines += run.last - run.first + 1;
+        self.lines += run.lines();
+        self.shape.lines += run.lines();
         self.shape.longest = self.shape.longest.max(source.longest_of(run.first..=run.last));
     }
 }
@@ -240,7 +292,8 @@ impl Lent {
 #[cfg(test)]
 mod tests {
     use super::{ends_of_span, Excerpt, Shape, Spans};
-        use crate::{CharSet, Color, Config, IndexType, Label, LabelAttach, Report, ReportKind, Source};
+    use crate::numbers::Numbers;
+    use crate::{CharSet, Color, Config, IndexType, Label, LabelAttach, Report, ReportKind, Source};
     use std::borrow::Cow;
     use std::ops::Range;
 
@@ -255,6 +308,11 @@ mod tests {
         Spans { ends: ends.to_vec(), has_place: false }
     }
 
+    /// What is lent of lines apart.
+    fn apart(source: &Source<&str>, spans: &mut Spans, config: &Config) -> Excerpt<'static> {
+        Excerpt::of_lines_apart(source, spans, &mut Numbers::default(), config)
+    }
+
     /// A label over these characters. Without a word it only marks.
     fn label(span: Range<usize>, word: Option<&str>) -> Label {
         let label = Label::new(span).with_color(Color::Red);
@@ -265,19 +323,23 @@ mod tests {
     }
 
     /// Asserts that a report is drawn as over the whole source: as it is written, and where lines apart are lent.
-    fn assert_draws_alike(source: &Source<String>, labels: Vec<Label>, at: usize, config: Config) {
+    /// Returns whether numbers have stand-ins then.
+    fn assert_draws_alike(source: &Source<String>, labels: Vec<Label>, at: usize, config: Config) -> bool {
         let told = format!("{labels:?} at {at}, {config:?}");
         let ends = labels.iter().map(|label| ends_of_span(&label.span)).chain([[at; 2]]).collect();
         let mut spans = Spans { ends, has_place: true };
         let report = Report::build(ReportKind::Error, at..at).with_config(config).with_labels(labels).finish();
-        let line_offset = source.display_line_offset();
-        let whole = Excerpt { text: Cow::Borrowed(source.text()), line_offset, shape: Shape::default() };
-        let want = report.picture_over(whole, &spans);
+        let line_offsets = [source.display_line_offset(); 2];
+        let whole = Excerpt { text: Cow::Borrowed(source.text()), line_offsets, shape: Shape::default() };
+        let want = report.picture_over(whole, &spans, Numbers::default());
         let mut out = Vec::new();
         report.write(source, &mut out).unwrap();
         assert_eq!(String::from_utf8(out).unwrap(), want, "{told}");
-        let apart = Excerpt::of_lines_apart(source, &mut spans, &config);
-        assert_eq!(report.picture_over(apart, &spans), want, "{told}");
+        let mut numbers = Numbers::default();
+        let apart = Excerpt::of_lines_apart(source, &mut spans, &mut numbers, &config);
+        let has_stand_ins = apart.line_offsets[0] != apart.line_offsets[1];
+        assert_eq!(report.picture_over(apart, &spans, numbers), want, "{told}");
+        has_stand_ins
     }
 
     #[test]
@@ -285,9 +347,9 @@ mod tests {
         let source = Source::from("ab\ncd\u{e9}fg\nij\n");
         for (index, last) in [(IndexType::Char, 9), (IndexType::Byte, 10)] {
             let config = PLAIN.with_index_type(index);
-            assert_eq!(Excerpt::of_lines_apart(&source, &mut labels(&[[0, 1], [last, last]]), &config).text, "ab\n\x0cij\n");
+            assert_eq!(apart(&source, &mut labels(&[[0, 1], [last, last]]), &config).text, "ab\n\x0cij\n");
             let mut over = labels(&[[0, last]]);
-            assert_eq!(Excerpt::of_lines_apart(&source, &mut over, &config).text, "ab\n     \x0cij\n");
+            assert_eq!(apart(&source, &mut over, &config).text, "ab\n     \x0cij\n");
             assert_eq!(over.ends, [[0, 9]]);
         }
     }
@@ -302,12 +364,12 @@ mod tests {
             (usize::MAX, source.text(), source.text()),
         ] {
             let config = PLAIN.with_context_lines(context_lines);
-            assert_eq!(Excerpt::of_lines_apart(&source, &mut labels(&[[0, 1]]), &config).text, first);
-            assert_eq!(Excerpt::of_lines_apart(&source, &mut labels(&[[0, 1], [12, 13]]), &config).text, both);
+            assert_eq!(apart(&source, &mut labels(&[[0, 1]]), &config).text, first);
+            assert_eq!(apart(&source, &mut labels(&[[0, 1], [12, 13]]), &config).text, both);
         }
         let mut spans = Spans { ends: vec![[9, 9], [9, 9]], has_place: true };
-        let middle = Excerpt::of_lines_apart(&source, &mut spans, &PLAIN.with_context_lines(1));
-        assert_eq!((&*middle.text, middle.line_offset), ("ef\ngh\nij\n", 2));
+        let middle = apart(&source, &mut spans, &PLAIN.with_context_lines(1));
+        assert_eq!((&*middle.text, middle.line_offsets), ("ef\ngh\nij\n", [2; 2]));
         assert_eq!(spans.ends, [[3, 3], [3, 3]]);
     }
 
@@ -315,12 +377,43 @@ mod tests {
     fn lines_that_are_few_are_lent_as_they_are() {
         let source = Source::from("ab\ncd\nef\ngh\nij\nkl\nmn\n");
         let mut spans = labels(&[[4, 4], [16, 16]]);
-        let excerpt = Excerpt::new(&source, &mut spans, &PLAIN);
-        assert_eq!((&*excerpt.text, excerpt.line_offset), ("cd\nef\ngh\nij\nkl\n", 1));
+        let excerpt = Excerpt::new(&source, &mut spans, &mut Numbers::default(), &PLAIN);
+        assert_eq!((&*excerpt.text, excerpt.line_offsets), ("cd\nef\ngh\nij\nkl\n", [1; 2]));
         assert!(matches!(excerpt.text, Cow::Borrowed(_)));
         assert_eq!(spans.ends, [[1, 1], [13, 13]]);
-        let excerpt = Excerpt::new(&source, &mut labels(&[[1, 1], [19, 19]]), &PLAIN);
+        let excerpt = Excerpt::new(&source, &mut labels(&[[1, 1], [19, 19]]), &mut Numbers::default(), &PLAIN);
         assert_eq!(excerpt.text, "ab\n\x0c\x0c\x0c\x0c\x0cmn\n");
+    }
+
+    #[test]
+    fn one_line_stands_for_many() {
+        let text = "z\n".repeat(1000) + "b\n" + &"z\n".repeat(1000);
+        let source = Source::from(text.as_str()).with_display_line_offset(20);
+        let mut spans = Spans { ends: vec![[2, 2], [2000, 2000], [3990, 3990]], has_place: true };
+        let mut numbers = Numbers::default();
+        let excerpt = Excerpt::new(&source, &mut spans, &mut numbers, &PLAIN);
+        // (The numbers are 22, 1021 and 2016; those of labels have four digits at the most.)
+        assert_eq!((&*excerpt.text, excerpt.line_offsets), ("z\n\x0cb\n\x0cz\n", [999, 3221]));
+        assert_eq!(spans.ends, [[0, 0], [3, 3], [6, 6]]);
+        assert_eq!(numbers.put_into(b" 1000\n 1002\n:1004 ", b" 3222\n 3224\n:3226 "), b"   22\n 1021\n:2016 ");
+    }
+
+    #[test]
+    fn labels_that_are_left_out_keep_all_lines() {
+        let text = "\u{e9}\n".repeat(1000);
+        let source = Source::from(text.as_str());
+        for (index, last, keeps_all) in [
+            (IndexType::Char, 2000, false), // ("One past the end" is drawn.)
+            (IndexType::Char, 2001, true),
+            (IndexType::Byte, 2998, false),
+            (IndexType::Byte, 2997, true), // (It ends inside of a character.)
+            (IndexType::Byte, 3000, false),
+            (IndexType::Byte, 3001, true),
+        ] {
+            let config = PLAIN.with_index_type(index);
+            let excerpt = Excerpt::new(&source, &mut labels(&[[0, 1], [6, last]]), &mut Numbers::default(), &config);
+            assert_eq!(excerpt.line_offsets == [0; 2], keeps_all, "{index:?} {last}");
+        }
     }
 
     #[test]
@@ -393,7 +486,8 @@ mod tests {
             };
             let word = self.one_of(&[None, Some("x"), Some(":1000:1 ]"), Some("x\n 1000 | y")]);
             let color = self.one_of(&[Color::Red, Color::Blue]);
-            label(start..end, word).with_color(color).with_order(self.below(3) as i32).with_priority(self.below(3) as i32)
+            let [order, priority] = [0; 2].map(|_| self.below(3) as i32);
+            label(start..end, word).with_color(color).with_order(order).with_priority(priority)
         }
 
         fn config(&mut self, index: IndexType) -> Config {
@@ -416,13 +510,15 @@ mod tests {
     #[test]
     fn random_reports_over_lines_far_apart_are_drawn_as_over_the_source() {
         let mut random = Random(1);
+        let mut with_stand_ins = 0;
         for _ in 0..3000 {
             let index = random.one_of(&[IndexType::Char, IndexType::Byte]);
             let (source, places) = random.source(index == IndexType::Byte);
             let labels: Vec<Label> = (0..1 + random.below(5)).map(|_| random.label(&places)).collect();
             let at = random.one_of(&places) + random.below(TEXT.len());
             let config = random.config(index);
-            assert_draws_alike(&source, labels, at, config);
+            with_stand_ins += usize::from(assert_draws_alike(&source, labels, at, config));
         }
+        assert!(with_stand_ins > 500, "{with_stand_ins}");
     }
 }

@@ -39,6 +39,7 @@ mod config;
 mod edit;
 mod excerpt;
 mod label;
+mod numbers;
 mod paint;
 mod report;
 mod source;

@@ -184,6 +184,16 @@ impl<I: AsRef<str>> Source<I> {
         ends.windows(2).map(|ends| ends[1].bytes - ends[0].bytes).max().unwrap_or(0)
     }
 
+    /// Whether a label with these first and last characters is drawn for sure: it reaches past the text by one at most
+    /// and, in bytes, cuts no character.
+    pub(crate) fn has(&self, [first, last]: &[usize; 2], in_bytes: bool) -> bool {
+        if !in_bytes {
+            return *last <= self.len();
+        }
+        let text = self.text();
+        text.is_char_boundary(*first) && (*last == text.len() || text.is_char_boundary(last.saturating_add(1)))
+    }
+
     /// The numbers of the lines that a span is on, each of which the source has.
     pub fn get_line_range<S: Span>(&self, span: &S) -> Range<usize> {
         let last = span.end().saturating_sub(1).max(span.start());

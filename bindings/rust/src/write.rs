@@ -6,6 +6,7 @@ use crate::color::Color;
 use crate::config::{CharSet, Config, IndexType, LabelAttach};
 use crate::excerpt::{ends_of_span, Ends, Excerpt, Shape, Spans};
 use crate::label::Label;
+use crate::numbers::Numbers;
 use crate::report::{Content, Report, ReportKind};
 use crate::source::Source;
 use crate::span::Span;
@@ -70,12 +71,12 @@ struct Named<'s> {
 }
 
 impl Named<'_> {
-    /// The source as the library is lent it.
-    fn given(&self) -> GivenSource<'_> {
+    /// The source as the library is lent it for a first or a second drawing.
+    fn given(&self, turn: usize) -> GivenSource<'_> {
         GivenSource {
             name: OptionalText::from(self.name.as_deref()),
             text: Text::from(&*self.excerpt.text),
-            line_offset: self.excerpt.line_offset,
+            line_offset: self.excerpt.line_offsets[turn],
         }
     }
 
@@ -95,6 +96,7 @@ struct Lending<'a, S: Span> {
     /// How many sources were fetched, and how many labels are in these.
     sources: usize,
     placed: usize,
+    numbers: Numbers,
     /// Room for the spans in a source.
     ends: Vec<Ends>,
 }
@@ -111,6 +113,7 @@ impl<'a, S: Span> Lending<'a, S> {
             place: (NO_SOURCE, 0),
             sources: 0,
             placed: 0,
+            numbers: Numbers::default(),
             ends: Vec::with_capacity(report.labels.len() + 1),
         }
     }
@@ -134,7 +137,7 @@ impl<'a, S: Span> Lending<'a, S> {
             }
         }
         spans.ends.extend(spans.has_place.then(|| [span.start(); 2]));
-        let excerpt = Excerpt::new(source, &mut spans, &content.config);
+        let excerpt = Excerpt::new(source, &mut spans, &mut self.numbers, &content.config);
         self.place(first, &spans);
         self.ends = spans.ends;
         excerpt
@@ -158,7 +161,17 @@ impl<'a, S: Span> Lending<'a, S> {
     }
 
     /// The picture over these sources, of which the last may stand apart.
-    fn picture(&self, kept: &[Named<'_>], last: Option<&Named<'_>>) -> Result<Vec<u8>, Refusal> {
+    fn picture(mut self, kept: &[Named<'_>], last: Option<&Named<'_>>) -> Result<Vec<u8>, Refusal> {
+        let picture = self.drawn(kept, last, 0)?;
+        if kept.iter().chain(last).all(|it| it.excerpt.line_offsets[0] == it.excerpt.line_offsets[1]) {
+            return Ok(picture);
+        }
+        let other = self.drawn(kept, last, 1)?;
+        Ok(self.numbers.put_into(&picture, &other))
+    }
+
+    /// A first or a second drawing.
+    fn drawn(&self, kept: &[Named<'_>], last: Option<&Named<'_>>, turn: usize) -> Result<Vec<u8>, Refusal> {
         let content = &self.report.content;
         let helps: Vec<Text<'_>> = content.helps.iter().map(|it| Text::from(it.as_str())).collect();
         let notes: Vec<Text<'_>> = content.notes.iter().map(|it| Text::from(it.as_str())).collect();
@@ -183,9 +196,9 @@ impl<'a, S: Span> Lending<'a, S> {
         };
         let room = self.room(kept.iter().chain(last).map(|source| source.excerpt.shape));
         match (kept, last) {
-            ([], Some(source)) => draw(&report, &[source.given()], room),
+            ([], Some(source)) => draw(&report, &[source.given(turn)], room),
             _ => {
-                let given: Vec<GivenSource<'_>> = kept.iter().chain(last).map(Named::given).collect();
+                let given: Vec<GivenSource<'_>> = kept.iter().chain(last).map(|it| it.given(turn)).collect();
                 draw(&report, &given, room)
             }
         }
@@ -280,13 +293,64 @@ fn error_of(Refusal(status): Refusal) -> io::Error {
 #[cfg(test)]
 impl Report<'_> {
     /// The picture over a source without a name that is lent so, in which these are the spans of labels and the place.
-    pub(crate) fn picture_over(&self, excerpt: Excerpt<'_>, spans: &Spans) -> String {
+    pub(crate) fn picture_over(&self, excerpt: Excerpt<'_>, spans: &Spans, numbers: Numbers) -> String {
         let mut lending = Lending::new(self);
         for ((label, given), [start, last]) in lending.labels.iter_mut().zip(&self.labels).zip(&spans.ends) {
             (label.source, label.start, label.end) = (0, *start, last + usize::from(!Span::is_empty(&given.span)));
         }
         lending.place = (0, spans.ends[self.labels.len()][0]);
+        lending.numbers = numbers;
         let picture = lending.picture(&[], Some(&Named { name: None, excerpt }));
         String::from_utf8(picture.unwrap_or_else(|Refusal(status)| panic!("status {status}"))).unwrap()
+    }
+}
+
+#[cfg(test)]
+mod tests {
+    use crate::{CharSet, Config, FnCache, Label, Report, ReportKind, Source};
+    use std::collections::HashMap;
+
+    #[test]
+    fn lines_far_apart_in_two_sources_have_their_numbers() {
+        let texts = ["z\n".repeat(1200), "z\n".repeat(2000) + "y\n"];
+        let held = HashMap::from([
+            ("a", Source::from(texts[0].as_str())),
+            ("b", Source::from(texts[1].as_str()).with_display_line_offset(9000)),
+        ]);
+        let cache = FnCache::new(|id: &&str| -> Result<&str, String> { Err(id.to_string()) }).with_sources(held);
+        let label = |id, start, word: &str| Label::new((id, start..start + 1)).with_message(word);
+        let mut picture = Vec::new();
+        Report::build(ReportKind::Error, ("b", 4000..4000))
+            .with_config(Config::new().with_color(false).with_char_set(CharSet::Ascii))
+            .with_message("m")
+            .with_labels([label("a", 0, "p"), label("a", 2398, "q"), label("b", 0, "r"), label("b", 3998, "s")])
+            .finish()
+            .write(cache, &mut picture)
+            .unwrap();
+        let rows = [
+            "Error: m",
+            "       ,-[ a:1:1 ]",
+            "       |",
+            "     1 | z",
+            "       | |  ",
+            "       | `-- p",
+            "       | ",
+            "  1200 | z",
+            "       | |  ",
+            "       | `-- q",
+            "       |",
+            "       |-[ b:11001:1 ]",
+            "       |",
+            "  9001 | z",
+            "       | |  ",
+            "       | `-- r",
+            "       | ",
+            " 11000 | z",
+            "       | |  ",
+            "       | `-- s",
+            "-------'",
+            "",
+        ];
+        assert_eq!(String::from_utf8(picture).unwrap(), rows.join("\n"));
     }
 }
