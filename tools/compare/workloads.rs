@@ -196,6 +196,11 @@ fn numbered(title: &str, count: usize, text: String, place: impl Fn(usize) -> (u
     plain(title, text, (0..count).map(at))
 }
 
+/// A label in the middle of a text of 60,000 bytes.
+fn file() -> Job {
+    numbered("file", 1, narrow(1200), |_| (30_014, 30_019), "m")
+}
+
 /// From the last line to the first.
 fn falling(count: usize) -> Job {
     let mut job = numbered("falling", count, narrow(count), |it| (50 * it + 14, 50 * it + 19), "m");
@@ -261,6 +266,7 @@ pub fn job(name: &str) -> Option<Job> {
         "two" => two(),
         "two-colour" => Job { is_colored: true, ..two() },
         "nested" => nested(1),
+        "file" => file(),
         "nested-colour" => Job { is_colored: true, ..nested(1) },
         "wide" => side_by_side(200, words(200)),
         "large" | "index" => large(false),

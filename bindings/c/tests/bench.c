@@ -1,6 +1,6 @@
 /* Draws a workload of docs/dev/SPEED.md again and again: bench NAME N, which prints NAME N BYTES CHECKSUM NANOSECONDS.
-   A name is `two` or `nested`, or `long` with `-end`, `-escapes` and `-excerpt` or without; behind them `-safe` has the
-   texts drawn safely. Each call has the report and the source anew, and finds the lines. `edits-LINES` suggests an
+   A name is `two` or `nested`, or `long` with `-start` or `-end`, `-escapes` and `-excerpt` or without; behind them
+   `-safe` has the texts drawn safely. Each call has the report and the source anew, and finds the lines. `edits-LINES` suggests an
    edit in each of so many lines. */
 #define _POSIX_C_SOURCE 199309L
 #include "sewarqo_excerpt.h"
@@ -53,9 +53,10 @@ static const char *nested(void) {
     return "nested";
 }
 
-/* A label in the middle of a long text or at its end, and an escape character in each hundredth line or in none. */
+/* A label in the middle of a long text, at its start or at its end, and an escape character in each hundredth line or
+   in none. */
 static const char *long_text(const char *name) {
-    size_t labelled = strstr(name, "-end") ? LONG - 1 : LONG / 2;
+    size_t labelled = strstr(name, "-start") ? 0 : strstr(name, "-end") ? LONG - 1 : LONG / 2;
     for (size_t line = 0; line < LONG; line++) {
         write_line(line);
         if (line % 100 == 0 && strstr(name, "-escapes"))
