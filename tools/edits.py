@@ -129,12 +129,24 @@ def copies_of(edits, texts):
         if not is_in_a_body(edit, texts):
             single.append([edit])
             continue
-        copy = next((it for it in shared if all(other.function() != edit.function() for other in it)), None)
+        copy = next((it for it in shared if go_together([*it, edit], texts)), None)
         if copy is None:
             shared.append([edit])
         else:
             copy.append(edit)
     return shared + single
+
+
+def go_together(edits, texts):
+    """Whether one copy can have these edits: each is of another function, and none writes what another one replaces."""
+    if len({edit.function() for edit in edits}) < len(edits):
+        return False
+    try:
+        for edit in edits:
+            texts = made(edit, texts)
+    except BadEdit:
+        return False
+    return True
 
 
 def copied(edits, texts, are_made=True):
