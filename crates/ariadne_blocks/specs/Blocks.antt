@@ -6,8 +6,8 @@ use Rattle.std.specs.Prelude.{ℕ, ◌≡◌, ◌==◌, Bool, true, false, not, 
 use Rattle.std.specs.Prelude.{List, [], ◌∷◌, ◌++◌, chars, codes, fold, length, map, reverse, slice_get}
 use Rattle.std.specs.Prelude.{Option, None, Some, is_some, option_map, string_bytes}
 use Rattle.std.specs.Str.{bytes_eq}
-use Rattle.ariadne_columns.specs.declared.unit.Unit.{Unit as ColumnUnit}
-use Rattle.ariadne_columns.specs.declared.unit.Unit.TheVariants.{Byte}
+use Rattle.ariadne_told.specs.declared.unit.Unit.{Unit as ColumnUnit}
+use Rattle.ariadne_told.specs.declared.unit.Unit.TheVariants.{Byte}
 use Rattle.ariadne_snippets.specs.Snippets.{number_quoted, HasEnded, IsUnread, QuotesNext, TellsOf}
 use Rattle.ariadne_snippets.specs.declared.snippet.Snippet.{Snippet}
 use Rattle.ariadne_snippets.specs.declared.taken.Fix.{Fix}

@@ -4,8 +4,8 @@
 use Rattle.std.specs.Prelude.{ℕ, ◌==◌, Bool, true, false, not, ◌&&◌, if◌then◌else◌, pos, ◌+◌, ◌-◌, ◌^◌, min}
 use Rattle.std.specs.Prelude.{List, [], ◌∷◌, ◌++◌, length, map, slice_get, slice_set}
 use Rattle.std.specs.Prelude.{Option, None, Some, fold, is_some}
-use Rattle.ariadne_columns.specs.declared.unit.Unit.{Unit}
-use Rattle.ariadne_columns.specs.declared.unit.Unit.TheVariants.{Byte, Char, Display}
+use Rattle.ariadne_told.specs.declared.unit.Unit.{Unit}
+use Rattle.ariadne_told.specs.declared.unit.Unit.TheVariants.{Byte, Char, Display}
 use Rattle.ariadne_snippets.specs.declared.taken.Label.{Label}
 use Rattle.ariadne_snippets.specs.declared.taken.Mark.{Mark}
 use Rattle.ariadne_snippets.specs.declared.taken.Point.{Point}

@@ -4,8 +4,8 @@ use Rattle.std.specs.Prelude.{◌-◌, Bool, true, false, not, ◌&&◌, if◌th
 use Rattle.std.specs.Prelude.{Option, None, Some}
 use Rattle.std.specs.List.{list_any}
 use Rattle.std.specs.Str.{bytes_eq}
-use Rattle.ariadne_columns.specs.declared.unit.Unit.{Unit}
-use Rattle.ariadne_columns.specs.declared.unit.Unit.TheVariants.{Byte, Char, Display}
+use Rattle.ariadne_told.specs.declared.unit.Unit.{Unit}
+use Rattle.ariadne_told.specs.declared.unit.Unit.TheVariants.{Byte, Char, Display}
 use Rattle.ariadne_told.specs.Places.{Seen}
 use Rattle.ariadne_told.specs.declared.diagnostic.End.{End}
 use Rattle.ariadne_told.specs.declared.diagnostic.End.TheVariants.{Before, Behind, OfWord}

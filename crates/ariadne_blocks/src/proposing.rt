@@ -13,8 +13,7 @@ ghost use Rattle.ariadne_blocks.specs.Proposed.{any_in_line, edit_with, way_of};
 
 use crate::block::Block;
 use crate::fix_rows::{ToldChange, change_of};
-use ariadne_columns::Unit;
-use ariadne_told::{Change, FixRow, Proposal};
+use ariadne_told::{Change, FixRow, Proposal, Unit};
 use std::alloc::{AllocError, Global};
 use std::ops::Range;
 

@@ -2,9 +2,9 @@
 use Rattle.std.specs.Prelude.{ℕ, ◌+◌, ◌-◌, min, if◌then◌else◌, List, ◌++◌, length, drop, take}
 use Rattle.std.specs.Prelude.{Option, Some, None, is_some, option_and_then, option_map}
 use Rattle.std.specs.Prelude.{position, string_bytes, unwrap_or}
-use Rattle.ariadne_columns.specs.Columns.{column_at, line_at}
-use Rattle.ariadne_columns.specs.declared.unit.Unit.{Unit}
-use Rattle.ariadne_columns.specs.declared.unit.Unit.TheVariants.{Char}
+use Rattle.ariadne_told.specs.Columns.{column_at, line_at}
+use Rattle.ariadne_told.specs.declared.unit.Unit.{Unit}
+use Rattle.ariadne_told.specs.declared.unit.Unit.TheVariants.{Char}
 use Rattle.ariadne_told.specs.declared.diagnostic.Place.{Place}
 use Rattle.ariadne_told.specs.declared.diagnostic.Spot.{Spot}
 use Rattle.ariadne_outputs.specs.Located.{Location}

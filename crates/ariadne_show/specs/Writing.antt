@@ -6,8 +6,8 @@ use Rattle.std.specs.Prelude.{Option}
 use Rattle.std.specs.Io.BufRead.{ends_with_byte}
 use Rattle.std.specs.Io.KnownBytes.{Appends}
 use Rattle.serde_json.specs.Written.{compact_text}
-use Rattle.ariadne_columns.specs.declared.unit.Unit.{Unit}
-use Rattle.ariadne_columns.specs.declared.unit.Unit.TheVariants.{Byte, Char}
+use Rattle.ariadne_told.specs.declared.unit.Unit.{Unit}
+use Rattle.ariadne_told.specs.declared.unit.Unit.TheVariants.{Byte, Char}
 use Rattle.ariadne_outputs.specs.Github.{github_commands, without_command}
 use Rattle.ariadne_outputs.specs.Located.{Location}
 use Rattle.ariadne_outputs.specs.Passing.{passed_line}

@@ -9,9 +9,8 @@ ghost use Rattle.ariadne_show.specs.Quoted.{quoted_line as line_quoted, quoted_l
 ghost use Rattle.ariadne_show.specs.Read.{IsNotQuoted, IsQuotedBehind};
 
 use crate::held::Held;
-use ariadne_columns::Columns;
 use ariadne_safe::{LineEnds, SafeSource, SafeSources};
-use ariadne_told::QuotedLine;
+use ariadne_told::{Columns, QuotedLine};
 use std::alloc::{AllocError, Global};
 
 /// How far from the first line that is quoted others are held.

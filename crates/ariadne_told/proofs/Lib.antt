@@ -5,7 +5,10 @@ pub mod Depths
 pub mod Feeds
 pub mod GccLists
 pub mod Handed
+pub mod LineBegins
+pub mod OffsetLines
 pub mod Outcomes
+pub mod Passing
 pub mod Ranges
 pub mod Splits
 pub mod Suggests

@@ -4,7 +4,7 @@ use Rattle.std.proofs.lemmas.List.{append-nil, append_assoc, map-append}
 use Rattle.std.specs.Prelude.{ℕ, zero, suc, ◌+◌, ◌-◌, ◌<◌, Bool, true, false}
 use Rattle.std.specs.Prelude.{List, [], ◌∷◌, ◌++◌, map, Option, Some, None}
 use Rattle.std.specs.List.{find}
-use Rattle.ariadne_columns.specs.declared.unit.Unit.{Unit}
+use Rattle.ariadne_told.specs.declared.unit.Unit.{Unit}
 use Rattle.ariadne_told.specs.Heads.{range_in, range_onto, ranges_in, Head}
 use Rattle.ariadne_told.specs.Places.{seen, Seen}
 use Rattle.ariadne_told.specs.Told.{is_own_range, others_among, own_range_of, range_place}

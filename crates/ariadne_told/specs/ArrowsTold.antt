@@ -1,6 +1,6 @@
 -- What is held of a kind and a place in lines of their own while they are read, and what they tell.
 use Rattle.std.specs.Prelude.{ℕ, ◌≡◌, Bool, false, not, List, [], Option, None, option_map, string_bytes}
-use Rattle.ariadne_columns.specs.declared.unit.Unit.TheVariants.{Char}
+use Rattle.ariadne_told.specs.declared.unit.Unit.TheVariants.{Char}
 use Rattle.ariadne_told.specs.Kinds.{Kind}
 use Rattle.ariadne_told.specs.Places.{named, place_of, Seen}
 use Rattle.ariadne_told.specs.declared.arrows.Arrow.{Arrow}

@@ -1,5 +1,5 @@
 -- What is held of a line in front of a diagnostic while it is read, and the place that it tells.
-use Rattle.ariadne_columns.specs.declared.unit.Unit.TheVariants as unit
+use Rattle.ariadne_told.specs.declared.unit.Unit.TheVariants as unit
 use Rattle.ariadne_told.specs.Fronts as fronts
 use Rattle.ariadne_told.specs.Places.{place_of, Seen}
 use Rattle.ariadne_told.specs.declared.diagnostic.End.TheVariants.{OfWord}

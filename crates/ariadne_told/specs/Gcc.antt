@@ -7,7 +7,7 @@ use Rattle.std.specs.Option.{option_to_list}
 use Rattle.std.specs.Str.{trim_start}
 use Rattle.serde_json.specs.Data.{Data, Items, no_items, item}
 use Rattle.serde_json.specs.Find.{get}
-use Rattle.ariadne_columns.specs.declared.unit.Unit.TheVariants.{Byte}
+use Rattle.ariadne_told.specs.declared.unit.Unit.TheVariants.{Byte}
 use Rattle.ariadne_told.specs.GccFixes.{gcc_changes, gcc_note_helps}
 use Rattle.ariadne_told.specs.Members.{gcc_place, gcc_spot, gcc_spot_at, is_gcc_more, is_gcc_note, is_text, items_in}
 use Rattle.ariadne_told.specs.Members.{list_at, severity_at, text_at, words_at}

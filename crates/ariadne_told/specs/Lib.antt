@@ -1,5 +1,6 @@
 pub mod Arrows
 pub mod ArrowsTold
+pub mod Columns
 pub mod FixRows
 pub mod Fixes
 pub mod Fronts

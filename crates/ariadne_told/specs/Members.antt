@@ -9,7 +9,7 @@ use Rattle.serde_json.specs.Find.{as_array, as_bool, as_number, as_str, as_u64, 
 use Rattle.ariadne_told.specs.Pieces.{begins_with}
 use Rattle.ariadne_told.specs.Severities.{severity_of}
 use Rattle.ariadne_told.specs.Places.{place_of, Seen}
-use Rattle.ariadne_columns.specs.declared.unit.Unit.TheVariants.{Byte}
+use Rattle.ariadne_told.specs.declared.unit.Unit.TheVariants.{Byte}
 use Rattle.ariadne_told.specs.declared.diagnostic.End.{End}
 use Rattle.ariadne_told.specs.declared.diagnostic.End.TheVariants.{Before, Behind, OfWord}
 use Rattle.ariadne_told.specs.declared.diagnostic.Spot.{Spot}

@@ -1,7 +1,7 @@
 -- Places of a diagnostic and kinds of its own, with their texts in place of what holds these.
 use Rattle.std.specs.Prelude.{ℕ, ◌==◌, pos, Bool, false, ◌&&◌, List, [], Option, None, string_bytes, unwrap_or}
 use Rattle.ariadne_color.specs.declared.color.Color.{Color}
-use Rattle.ariadne_columns.specs.declared.unit.Unit.{Unit}
+use Rattle.ariadne_told.specs.declared.unit.Unit.{Unit}
 use Rattle.ariadne_told.specs.declared.diagnostic.End.{End}
 use Rattle.ariadne_told.specs.declared.diagnostic.Look.{Look}
 use Rattle.ariadne_told.specs.declared.diagnostic.OwnKind.{OwnKind}

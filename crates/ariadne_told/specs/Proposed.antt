@@ -7,8 +7,8 @@ use Rattle.std.specs.Str.{bytes_eq, trim_start}
 use Rattle.std.specs.declared.alloc.Global.{Global}
 use Rattle.serde_json.specs.Data.{Data, Items, no_items, item}
 use Rattle.serde_json.specs.Find.{get}
-use Rattle.ariadne_columns.specs.declared.unit.Unit.{Unit}
-use Rattle.ariadne_columns.specs.declared.unit.Unit.TheVariants.{Byte, Char}
+use Rattle.ariadne_told.specs.declared.unit.Unit.{Unit}
+use Rattle.ariadne_told.specs.declared.unit.Unit.TheVariants.{Byte, Char}
 use Rattle.ariadne_told.specs.Members.{all_items, gcc_spot_at, items_in, list_at, span_end, span_start, text_at, words_at}
 use Rattle.ariadne_told.specs.Places.{is_same_spot}
 use Rattle.ariadne_told.specs.declared.diagnostic.Change.{Change}

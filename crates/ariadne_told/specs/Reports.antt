@@ -10,8 +10,8 @@ use Rattle.ariadne_color.specs.declared.color.Color.{Color}
 use Rattle.ariadne_color.specs.declared.color.Color.TheVariants.{Fixed, Rgb}
 use Rattle.ariadne_color.specs.declared.color.Color.TheVariants.{Primary, Black, Red, Green, Yellow, Blue, Magenta, Cyan, White}
 use Rattle.ariadne_color.specs.declared.color.Color.TheVariants.{BrightBlack, BrightRed, BrightGreen, BrightYellow, BrightBlue, BrightMagenta, BrightCyan, BrightWhite}
-use Rattle.ariadne_columns.specs.declared.unit.Unit.{Unit}
-use Rattle.ariadne_columns.specs.declared.unit.Unit.TheVariants.{Byte, Char, Display}
+use Rattle.ariadne_told.specs.declared.unit.Unit.{Unit}
+use Rattle.ariadne_told.specs.declared.unit.Unit.TheVariants.{Byte, Char, Display}
 use Rattle.ariadne_told.specs.Members.{end_before, is_true_at, items_in, list_at, number_of, severity_at, text_at, words_at}
 use Rattle.ariadne_told.specs.Places.{named, place_of, seen, Seen}
 use Rattle.ariadne_told.specs.declared.diagnostic.Diagnostic.{Diagnostic}

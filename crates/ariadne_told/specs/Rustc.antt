@@ -8,7 +8,7 @@ use Rattle.std.specs.Option.{option_or, option_to_list}
 use Rattle.serde_json.specs.Data.{Data, Items, no_items, item}
 use Rattle.serde_json.specs.Find.{get}
 use Rattle.serde_json.specs.View.{view}
-use Rattle.ariadne_columns.specs.declared.unit.Unit.TheVariants.{Char}
+use Rattle.ariadne_told.specs.declared.unit.Unit.TheVariants.{Char}
 use Rattle.ariadne_told.specs.Heads.{is_among}
 use Rattle.ariadne_told.specs.Members.{any_item, end_before, flat_items, has_none, has_number, has_words, is_true_at}
 use Rattle.ariadne_told.specs.Members.{items_in, list_at, number_at, severity_at, span_end, span_start, spot_at, text_at, words_at}

@@ -13,8 +13,8 @@ use Rattle.std.specs.Str.{bytes_eq}
 use Rattle.serde_json.specs.Data.{Data, Items, no_items, item}
 use Rattle.serde_json.specs.Find.{get, as_array}
 use Rattle.ariadne_json.specs.Reading.{value_in as value_of}
-use Rattle.ariadne_columns.specs.declared.unit.Unit.{Unit}
-use Rattle.ariadne_columns.specs.declared.unit.Unit.TheVariants.{Char}
+use Rattle.ariadne_told.specs.declared.unit.Unit.{Unit}
+use Rattle.ariadne_told.specs.declared.unit.Unit.TheVariants.{Char}
 use Rattle.ariadne_told.specs.Gcc.{gcc_list}
 use Rattle.ariadne_told.specs.Heads.{head_of_line, is_among, ranges_in, Head}
 use Rattle.ariadne_told.specs.Members.{all_items, items_in, list_at, text_at}

@@ -14,7 +14,7 @@ use crate::fronts::place_at_end;
 use crate::heads::{copied, own_kind, place as place_of_file};
 use crate::kinds::sure_kind;
 use crate::pieces::{behind_text, in_front_of, past_blanks};
-use ariadne_columns::Unit;
+use crate::unit::Unit;
 use std::alloc::{AllocError, Global};
 
 /// What a line says that names a kind and no place, in pieces of it.

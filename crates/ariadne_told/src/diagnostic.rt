@@ -7,8 +7,8 @@ ghost use Rattle.ariadne_told.specs.Told.{main_of};
 ghost use Rattle.ariadne_told.specs.Told.{first_primary as first_primary_of};
 
 use crate::names::{is_error, is_note, is_warning};
+use crate::unit::Unit;
 use ariadne_color::Color;
-use ariadne_columns::Unit;
 use std::alloc::{AllocError, Global};
 use std::ops::Range;
 

@@ -10,7 +10,7 @@ use crate::diagnostic::Proposal;
 use crate::gcc::spot_of;
 use crate::json::text;
 use crate::proposals::{FileChange, one_file, way_of_all};
-use ariadne_columns::Unit;
+use crate::unit::Unit;
 use serde_json::Value;
 use std::alloc::{AllocError, Global};
 use std::ops::Range;

@@ -15,7 +15,7 @@ use crate::pieces::{
     split_at_last, split_once, whole_number,
 };
 use crate::spots::place;
-use ariadne_columns::Unit;
+use crate::unit::Unit;
 use std::alloc::{AllocError, Global};
 
 /// What a line in front of a diagnostic tells, in pieces of it.

@@ -28,7 +28,7 @@ use crate::fixits::proposal;
 use crate::heads::{is_same, place};
 use crate::json::{copied_text, has_words, items, number, severity as severity_of, text, words};
 use crate::pieces::{begins_with, in_front_of};
-use ariadne_columns::Unit;
+use crate::unit::Unit;
 use serde_json::Value;
 use std::alloc::{AllocError, Global};
 

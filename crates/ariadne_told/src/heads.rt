@@ -11,7 +11,7 @@ ghost use Rattle.ariadne_told.specs.ToldLines.{head_told};
 use crate::diagnostic::{Diagnostic, End, Look, OwnKind, Place, Spot};
 use crate::lines::ToldLine;
 use crate::spots::{RANGES, is_among, range};
-use ariadne_columns::Unit;
+use crate::unit::Unit;
 use std::alloc::{AllocError, Global};
 
 /// The diagnostic of a line, whose columns count this.

@@ -14,7 +14,7 @@ use crate::heads::place;
 use crate::json::{is_true, items, number, text, words};
 use crate::spans::{is_dummy, is_shown, own_span, shown_call, spot};
 use crate::suggested::quoted_text;
-use ariadne_columns::Unit;
+use crate::unit::Unit;
 use serde_json::Value;
 use std::alloc::{AllocError, Global};
 

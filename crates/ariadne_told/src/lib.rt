@@ -1,10 +1,11 @@
 //! What compilers and linters print, as diagnostics: the lines of their output that tell one, and what
-//! these tell.
+//! these tell. `columns` has what their columns count, and the characters of a text that they mean.
 #![tactic(auto)]
 
 pub mod arrows;
 mod cargo;
 mod colors;
+pub mod columns;
 pub mod diagnostic;
 pub mod fix_rows;
 mod fixes;
@@ -15,6 +16,7 @@ mod heads;
 mod json;
 mod kinds;
 mod labels;
+pub mod laws;
 pub mod lines;
 mod names;
 mod noted;
@@ -29,9 +31,10 @@ pub mod spots;
 mod suggested;
 pub mod tally;
 pub mod telling;
+pub mod unit;
 
-pub use ariadne_columns::Unit;
 pub use arrows::{Arrow, BareHead, arrow_of, bare_head_of};
+pub use columns::Columns;
 pub use diagnostic::{
     Change, Diagnostic, End, Look, OwnKind, Place, Proposal, QuotedLine, Severity, Spot,
 };
@@ -43,3 +46,4 @@ pub use sent::Sent;
 pub use sgr::{has_escape, without_sgr};
 pub use tally::is_tally;
 pub use telling::{Answer, Format, Reading, told};
+pub use unit::Unit;

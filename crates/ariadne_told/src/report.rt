@@ -15,7 +15,7 @@ use crate::colors::color;
 use crate::diagnostic::{Diagnostic, End, Look, OwnKind, Place, Severity, Spot};
 use crate::heads::place;
 use crate::json::{copied_text, has_list, is_true, items, severity, text, usize_of, words};
-use ariadne_columns::Unit;
+use crate::unit::Unit;
 use serde_json::Value;
 use std::alloc::{AllocError, Global};
 

@@ -14,7 +14,7 @@ use crate::heads::is_same;
 use crate::json::{has_number, items, number, text, words};
 use crate::pieces::{closes_with, in_front_of_text, split_once};
 use crate::proposals::{FileChange, one_file, ways_of};
-use ariadne_columns::Unit;
+use crate::unit::Unit;
 use serde_json::Value;
 use std::alloc::{AllocError, Global};
 use std::ops::Range;

@@ -23,7 +23,7 @@ use crate::lines::{ToldLine, line_told};
 use crate::report::{is_report, told_by_report};
 use crate::rustc::{rustc_message, told_by_rustc};
 use crate::sent::Sent;
-use ariadne_columns::Unit;
+use crate::unit::Unit;
 use ariadne_json::read_value;
 use serde_json::Value;
 use std::alloc::{AllocError, Global};

@@ -1,7 +1,7 @@
 use Rattle.std.proofs.Common.{◌≡◌, ◌∙◌, if◌then◌else◌, Option, ap, subst}
 use Rattle.std.specs.Prelude.{Bool}
 use Rattle.ariadne_told.specs.Heads.{Head}
-use Rattle.ariadne_columns.specs.declared.unit.Unit.{Unit}
+use Rattle.ariadne_told.specs.declared.unit.Unit.{Unit}
 use Rattle.ariadne_told.specs.Told.{is_note, IsOfHead, IsToldOfHead}
 use Rattle.ariadne_told.specs.ToldLines.{head_told}
 use Rattle.ariadne_told.specs.declared.telling.Answer.{Answer}
