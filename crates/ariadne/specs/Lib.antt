@@ -70,9 +70,9 @@ pub use Rattle.ariadne_accept.specs.Drawn
 pub use Rattle.ariadne_accept.specs.Judging
 pub use Rattle.ariadne_accept.specs.declared.accept.LeftOut
 pub use Rattle.ariadne_accept.specs.declared.accept.Reason
-pub use Rattle.ariadne_send.specs.declared.send.SendError
-pub use Rattle.ariadne_send.specs.declared.retry.RetryInterrupted
-pub use Rattle.ariadne_send.specs.Retrying
-pub use Rattle.ariadne_send.specs.Sent as Sending
+pub use Rattle.ariadne.specs.declared.send.SendError
+pub use Rattle.ariadne.specs.declared.retry.RetryInterrupted
+pub mod Retrying
+pub mod Sending
 pub mod WriteErrors
 pub mod Written

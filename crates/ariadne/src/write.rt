@@ -7,13 +7,13 @@ ghost use Rattle.ariadne.specs.Written.{IsPicture, Written};
 ghost use Rattle.ariadne.specs.WriteErrors.{TellsFailure};
 
 use crate::report::Report;
+use crate::send::{send, send_to};
+use crate::sink::Sink;
 pub use crate::write_error::WriteError;
 use ariadne_accept::accept::accept;
 pub use ariadne_accept::accept::{LeftOut, Reason};
 use ariadne_base::{Cache, Span};
 use ariadne_drawing::drawing::draw;
-use ariadne_send::send::{send, send_to};
-use ariadne_send::sink::Sink;
 use std::alloc::AllocError;
 use std::io;
 use std::io::{Stderr, Write};

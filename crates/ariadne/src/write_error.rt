@@ -3,7 +3,7 @@
 ghost use Rattle.std.specs.Prelude.{Some};
 ghost use Rattle.ariadne.specs.WriteErrors.{shown_error, IsFaultOf};
 
-use ariadne_send::send::SendError;
+use crate::send::SendError;
 use std::alloc::AllocError;
 use std::error::Error;
 use std::{fmt, io};

@@ -4,7 +4,7 @@ ghost use Rattle.std.specs.Prelude.{◌≡◌, map, string_bytes};
 ghost use Rattle.ariadne_draw.specs.Pages.{page_asked, page_text, IsShown};
 
 use super::fault::{Fault, Status, tell_fault};
-use ariadne_send::send::send;
+use ariadne::send::send;
 use std::io::Write;
 
 /// The text of `--help`. The program renders its two pictures for the arguments above, without the

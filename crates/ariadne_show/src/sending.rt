@@ -6,7 +6,7 @@ ghost use Rattle.ariadne_show.specs.Faults.{IsOfWriting};
 ghost use Rattle.ariadne_show.specs.Streams.{IsCut};
 
 use crate::fault::Fault;
-use ariadne_send::send::send as send_all;
+use ariadne::send::send as send_all;
 use std::io::Write;
 
 /// Sends all bytes, and stops where the writer fails or takes nothing: it has then taken the first ones.

@@ -1,6 +1,7 @@
-//! Sending a picture that is whole.
+//! Sending a picture that is whole. This is public for the programs over `ariadne`, and no part of its
+//! interface.
 
-ghost use Rattle.ariadne_send.specs.Sent.{GoesOn, Sends, TellsStop};
+ghost use Rattle.ariadne.specs.Sending.{GoesOn, Sends, TellsStop};
 
 use crate::sink::Sink;
 use std::io;

@@ -1,6 +1,6 @@
 use Rattle.std.specs.Io.KnownBytes.{Keeps}
-use Rattle.ariadne_send.specs.Retrying.{writer_of}
-use Rattle.ariadne_send.proofs.retry.RetryInterruptedWrite.write.Given as goal
+use Rattle.ariadne.specs.Retrying.{writer_of}
+use Rattle.ariadne.proofs.retry.RetryInterruptedWrite.write.Given as goal
 
 abbrev pub invariant-loop : goal.invariant-loop
 invariant-loop g l = Keeps (g.W.Write.contents (writer_of l.initial.self)) (g.W.Write.contents (writer_of l.self))

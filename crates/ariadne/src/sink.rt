@@ -3,7 +3,7 @@
 ghost use Rattle.std.specs.Prelude.{◌≡◌, ℕ, Bool, List, Option};
 ghost use Rattle.std.specs.Io.{WritesAtMost};
 ghost use Rattle.std.specs.Io.KnownBytes.{WriteAppends};
-ghost use Rattle.ariadne_send.specs.Sent.{TellsFault};
+ghost use Rattle.ariadne.specs.Sending.{TellsFault};
 
 use std::io;
 

@@ -5,7 +5,7 @@ ghost use Rattle.std.specs.Io.{WritesAtMost};
 ghost use Rattle.std.specs.Io.KnownBytes.{Keeps, WriteAppends};
 ghost use Rattle.std.specs.IoError.{error_kind};
 ghost use Rattle.std.specs.declared.io.ErrorKind.TheVariants.{Interrupted};
-ghost use Rattle.ariadne_send.specs.Retrying.{writer_of};
+ghost use Rattle.ariadne.specs.Retrying.{writer_of};
 
 use std::io;
 use std::io::{ErrorKind, Write};

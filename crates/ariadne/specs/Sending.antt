@@ -2,7 +2,7 @@
 use Rattle.std.specs.Prelude.{ℕ, ◌<◌, ◌≡◌, ◌==◌, ◌&&◌, ◌||◌, Bool, true, not, List, length, take}
 use Rattle.std.specs.Prelude.{Option, Result, Ok, Err, MatchResult, IfOk}
 use Rattle.std.specs.Io.KnownBytes.{Appends}
-use Rattle.ariadne_send.specs.declared.send.SendError.{SendError}
+use Rattle.ariadne.specs.declared.send.SendError.{SendError}
 
 -- what sending these bytes leaves, by its result
 abbrev pub Sends : Option (List ℕ) → Option (List ℕ) → List ℕ → Result Unit SendError → Type 0

@@ -1,8 +1,8 @@
 -- A turn appends what the writer took.
 use Rattle.std.proofs.Common.{arith, length-take, length-drop}
 use Rattle.std.proofs.lemmas.List.{take_rest}
-use Rattle.ariadne_send.proofs.Sending.{Appends-more}
-use Rattle.ariadne_send.proofs.send.send.Goals as goal
+use Rattle.ariadne.proofs.Sending.{Appends-more}
+use Rattle.ariadne.proofs.send.send.Goals as goal
 
 pub loop-sent-preserved : goal.loop-sent-preserved
 loop-sent-preserved g c =

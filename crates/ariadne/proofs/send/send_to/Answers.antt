@@ -1,8 +1,8 @@
 -- A turn appends what the sink took, and leaves it as one that has not failed.
 use Rattle.std.proofs.Common.{◌∙◌, arith, length-take, length-drop}
 use Rattle.std.proofs.lemmas.List.{take_rest}
-use Rattle.ariadne_send.proofs.Sending.{Appends-more, stays}
-use Rattle.ariadne_send.proofs.send.send_to.Goals as goal
+use Rattle.ariadne.proofs.Sending.{Appends-more, stays}
+use Rattle.ariadne.proofs.send.send_to.Goals as goal
 
 pub loop-sent-preserved : goal.loop-sent-preserved
 loop-sent-preserved g c =
