@@ -5,7 +5,7 @@ use Rattle.std.specs.declared.alloc.Global.{Global}
 use Rattle.std.specs.declared.ops.Range.{Range}
 use Rattle.ariadne.specs.LeftOut.{LeftOut}
 use Rattle.ariadne.specs.Report.{Kind, ReportFields}
-use Rattle.ariadne_visible.specs.Pictures.{GotNothingHidden, HidesNothing}
+use Rattle.ariadne_safe.specs.Pictures.{GotNothingHidden, HidesNothing}
 use Rattle.ariadne_safe.specs.Reports.{WrittenFor}
 use Rattle.ariadne_safe.specs.declared.sources.NoSource.{NoSource}
 use Rattle.ariadne_safe.specs.declared.sources.SafeSource.{SafeSource}

@@ -4,8 +4,8 @@ use Rattle.std.specs.Prelude.{None, slice_get}
 use Rattle.std.specs.List.{enumerate_from}
 use Rattle.std.specs.Option.{option_copied, option_and_then}
 use Rattle.ariadne.specs.Listing.{Listing}
-use Rattle.ariadne_visible.specs.Visible.{visible_bytes}
-use Rattle.ariadne_visible.specs.declared.text.TextKind.TheVariants.{Lines}
+use Rattle.ariadne_safe.specs.Visible.{visible_bytes}
+use Rattle.ariadne_safe.specs.declared.text.TextKind.TheVariants.{Lines}
 use Rattle.ariadne_calls.specs.declared.given.GivenSource.{GivenSource}
 use Rattle.ariadne_calls.specs.declared.given.OptionalText.{OptionalText}
 use Rattle.ariadne_calls.specs.declared.sources.Named.{Named}

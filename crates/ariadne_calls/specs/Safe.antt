@@ -6,8 +6,8 @@ use Rattle.std.specs.declared.ops.Range.{Range}
 use Rattle.ariadne.specs.Building.{filled_code}
 use Rattle.ariadne.specs.Canvas.{kind_name}
 use Rattle.ariadne.specs.Report.{Kind, ReportFields, error, warning, advice, custom}
-use Rattle.ariadne_visible.specs.Visible.{visible_bytes}
-use Rattle.ariadne_visible.specs.declared.text.TextKind.TheVariants.{Aside, OneRow}
+use Rattle.ariadne_safe.specs.Visible.{visible_bytes}
+use Rattle.ariadne_safe.specs.declared.text.TextKind.TheVariants.{Aside, OneRow}
 use Rattle.ariadne_safe.specs.declared.sources.LineEnds.TheVariants.{All}
 use Rattle.ariadne_safe.specs.declared.sources.SafeSource.{SafeSource}
 use Rattle.ariadne_safe.specs.Sources.{given_of, line_ends_of, listing_of as listing_in, name_of as name_in}

@@ -12,7 +12,7 @@ use Rattle.ariadne.specs.Reason.TheVariants.{Unfetched, PastSource}
 use Rattle.ariadne.specs.Reason.TheVariants.{CutsCharacter}
 use Rattle.ariadne.specs.Report.{World}
 use Rattle.ariadne.specs.Written.{IsWritten}
-use Rattle.ariadne_visible.specs.Pictures.{HidesNothing}
+use Rattle.ariadne_safe.specs.Pictures.{HidesNothing}
 use Rattle.ariadne_safe.specs.declared.sources.NoSource.{NoSource}
 use Rattle.ariadne_safe.specs.declared.sources.SafeSource.{SafeSource}
 use Rattle.ariadne_safe.specs.Reports.{WrittenFor}

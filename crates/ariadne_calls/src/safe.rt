@@ -4,8 +4,8 @@ ghost use Rattle.std.specs.Prelude.{◌≡◌, ◌++◌, [], true, map, None, op
 ghost use Rattle.std.specs.Prelude.{IfOk, OnOk, IfErr};
 ghost use Rattle.ariadne.specs.Building.{filled_code};
 ghost use Rattle.ariadne.specs.Kinds as kinds;
-ghost use Rattle.ariadne_visible.specs.Visible.{is_shown, visible_bytes};
-ghost use Rattle.ariadne_visible.specs.declared.text.TextKind.TheVariants.{Aside, OneRow};
+ghost use Rattle.ariadne_safe.specs.Visible.{is_shown, visible_bytes};
+ghost use Rattle.ariadne_safe.specs.declared.text.TextKind.TheVariants.{Aside, OneRow};
 ghost use Rattle.ariadne_safe.specs.Building.{kind_in, made_of, report_of as report_in};
 ghost use Rattle.ariadne_safe.specs.Building.{sources_below, sources_under};
 ghost use Rattle.ariadne_safe.specs.Reports.{shown_label};

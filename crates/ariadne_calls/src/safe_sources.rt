@@ -2,8 +2,8 @@
 
 ghost use Rattle.std.specs.Prelude.{◌≡◌, [], None, option_map, IfOk, OnOk, IfErr};
 ghost use Rattle.std.specs.Option.{option_copied};
-ghost use Rattle.ariadne_visible.specs.Visible.{visible_bytes};
-ghost use Rattle.ariadne_visible.specs.declared.text.TextKind.TheVariants.{OneRow};
+ghost use Rattle.ariadne_safe.specs.Visible.{visible_bytes};
+ghost use Rattle.ariadne_safe.specs.declared.text.TextKind.TheVariants.{OneRow};
 ghost use Rattle.ariadne_safe.specs.Sources.{given_of, line_ends_of, listing_of, name_of};
 ghost use Rattle.ariadne_safe.specs.Sources.{sources_of};
 ghost use Rattle.ariadne_calls.specs.Faults.{IsFirst, faults_from, source_faults};

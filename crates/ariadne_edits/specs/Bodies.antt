@@ -4,8 +4,8 @@ use Rattle.std.specs.Prelude.{map, replicate}
 use Rattle.std.specs.Char.{is_whitespace}
 use Rattle.ariadne_base.specs.Lines.{is_separator}
 use Rattle.ariadne_picture.specs.Columns.{char_columns}
-use Rattle.ariadne_visible.specs.Visible.{shown_code}
-use Rattle.ariadne_visible.specs.declared.text.TextKind.TheVariants.{OneRow}
+use Rattle.ariadne_safe.specs.Visible.{shown_code}
+use Rattle.ariadne_safe.specs.declared.text.TextKind.TheVariants.{OneRow}
 use Rattle.ariadne_edits.specs.declared.rows.Blanks.{Blanks}
 use Rattle.ariadne_edits.specs.declared.rows.Blanks.TheVariants.{Plain, Marked}
 

@@ -7,7 +7,7 @@ ghost use Rattle.ariadne_edits.specs.Bodies.{body, columns_at, mark_of as mark, 
 
 use crate::line::is_separator;
 use crate::rows::Blanks;
-use ariadne_visible::text::{TextKind, shown_char};
+use ariadne_safe::text::{TextKind, shown_char};
 use std::alloc::AllocError;
 use unicode_width::UnicodeWidthChar;
 

@@ -1,9 +1,9 @@
 -- What stands for a character of a line hides nothing.
 use Rattle.std.proofs.Common.{◌≡◌, ◌∙◌, ℕ, Bool, true, false, not, ◌&&◌, ◌||◌, eqb, List, [], ◌∷◌, map, refl, ap, sym, subst}
 use Rattle.std.proofs.lemmas.Bool.{and_from, and_parts, both_ways, cond_both, cond-true, ne_eqb, not_from_false, or_left, or_right}
-use Rattle.ariadne_visible.specs.Visible.{is_hidden, shown_code, symbol_of}
-use Rattle.ariadne_visible.specs.declared.text.TextKind.TheVariants.{OneRow}
-use Rattle.ariadne_visible.proofs.Signs.{not_hidden, shown_is_seen}
+use Rattle.ariadne_safe.specs.Visible.{is_hidden, shown_code, symbol_of}
+use Rattle.ariadne_safe.specs.declared.text.TextKind.TheVariants.{OneRow}
+use Rattle.ariadne_safe.proofs.Signs.{not_hidden, shown_is_seen}
 use Rattle.ariadne_outputs.specs.Passing.{hides_nothing, line_code}
 
 -- a character that is not hidden, or a tab

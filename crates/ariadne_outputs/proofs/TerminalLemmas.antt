@@ -6,7 +6,7 @@ use Rattle.std.specs.Str.Parse.{digits_value_after}
 use Rattle.std.proofs.lemmas.Bool.{and_parts, and_from, both_ways, cond-false, cond-true, cond_both, eqb-true}
 use Rattle.std.proofs.lemmas.List.Splits.{length-slice_split}
 use Rattle.std.proofs.lemmas.List.Sums.{fold-append}
-use Rattle.ariadne_visible.specs.Visible.{is_hidden}
+use Rattle.ariadne_safe.specs.Visible.{is_hidden}
 use Rattle.ariadne_outputs.specs.Passing.{line_code}
 use Rattle.ariadne_outputs.specs.Sequences.{are_kept, awaited_behind, is_of_parameters, is_reset, number_in, parts_of}
 use Rattle.ariadne_outputs.specs.Terminal.{Terminal, reads_text, reads_parameters, look_behind, plain, step}

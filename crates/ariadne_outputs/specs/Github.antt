@@ -7,8 +7,8 @@ use Rattle.std.specs.Prelude.{String, ◌-◌, drop, fold, string_bytes, take, u
 use Rattle.std.specs.List.{ends_with, flat_map, starts_with}
 use Rattle.std.specs.Str.{trim_start}
 use Rattle.std.specs.declared.alloc.Global.{Global}
-use Rattle.ariadne_visible.specs.Visible.{shown_code}
-use Rattle.ariadne_visible.specs.declared.text.TextKind.TheVariants.{OneRow}
+use Rattle.ariadne_safe.specs.Visible.{shown_code}
+use Rattle.ariadne_safe.specs.declared.text.TextKind.TheVariants.{OneRow}
 use Rattle.ariadne_told.specs.declared.diagnostic.Diagnostic.{Diagnostic}
 use Rattle.ariadne_told.specs.declared.diagnostic.Severity.{Severity}
 use Rattle.ariadne_told.specs.declared.diagnostic.Severity.TheVariants.{Error, Warning, Note}

@@ -8,8 +8,8 @@ use Rattle.std.specs.Prelude.{◌∷◌, ◌++◌, map, chars, codes, encode_utf
 use Rattle.std.specs.Io.BufRead.{ends_with_byte, strip_last}
 use Rattle.std.specs.List.{flat_map, list_all, slice_split}
 use Rattle.std.specs.Str.Lossy.{utf8_lossy}
-use Rattle.ariadne_visible.specs.Visible.{is_hidden, shown_code}
-use Rattle.ariadne_visible.specs.declared.text.TextKind.TheVariants.{OneRow}
+use Rattle.ariadne_safe.specs.Visible.{is_hidden, shown_code}
+use Rattle.ariadne_safe.specs.declared.text.TextKind.TheVariants.{OneRow}
 use Rattle.ariadne_outputs.specs.Sequences.{Sequence, behind_charset, is_kept, is_reset, sequence_in}
 
 -- ---- pieces

@@ -6,7 +6,7 @@ use Rattle.std.specs.Prelude.{◌∷◌, take, drop, Option, Some, None, option_
 use Rattle.std.specs.Char.{is_ascii_digit}
 use Rattle.std.specs.List.{list_all, prefix_len, slice_split}
 use Rattle.std.specs.Str.Parse.{digits_value}
-use Rattle.ariadne_visible.specs.Visible.{is_between}
+use Rattle.ariadne_safe.specs.Visible.{is_between}
 use Rattle.ariadne_outputs.specs.declared.sequence.Awaited.{Awaited}
 use Rattle.ariadne_outputs.specs.declared.sequence.Awaited.TheVariants.{Attribute, Form, Index, Red}
 use Rattle.ariadne_outputs.specs.declared.sequence.Awaited.TheVariants.{Green, Blue}

@@ -5,7 +5,7 @@
 use Rattle.std.specs.Prelude.{ℕ, ◌==◌, Bool, true, false, not, ◌&&◌, if◌then◌else◌, List, []}
 use Rattle.std.specs.Prelude.{◌∷◌, ◌++◌, Some, option_and_then, unwrap_or}
 use Rattle.std.specs.List.{fold}
-use Rattle.ariadne_visible.specs.Visible.{is_hidden}
+use Rattle.ariadne_safe.specs.Visible.{is_hidden}
 use Rattle.ariadne_outputs.specs.Sequences.{are_kept, awaited_behind, is_of_parameters, is_whole}
 use Rattle.ariadne_outputs.specs.Sequences.{number_in, parts_of}
 use Rattle.ariadne_outputs.specs.declared.sequence.Awaited.{Awaited}

@@ -9,8 +9,8 @@ ghost use Rattle.ariadne_outputs.specs.Passing.{passed_line, passing_text, piece
 ghost use Rattle.ariadne_outputs.specs.Sequences.{behind_charset as charset_behind, is_reset};
 
 use crate::sequence::{Sequence, behind_charset, first_sequence};
-use ariadne_visible::TextKind;
-use ariadne_visible::text::shown_char;
+use ariadne_safe::TextKind;
+use ariadne_safe::text::shown_char;
 use std::alloc::{AllocError, Global};
 
 /// The character that begins a sequence of a terminal.

@@ -1,3 +1,10 @@
+pub mod PlainBytes
+pub mod Signs
+pub mod SeenTexts
+pub mod SafePictures
+pub mod VisibleLaws
+pub mod KeptTexts
+pub mod SafeReports
 pub mod Numbers
 pub mod Offsets
 pub mod ShownReports

@@ -8,9 +8,9 @@ use Rattle.std.proofs.lemmas.Option.{slice_get-map}
 use Rattle.ariadne.specs.Cache.{held}
 use Rattle.ariadne.specs.Listing.{Listing}
 use Rattle.ariadne_safe.specs.declared.sources.SafeSource.{SafeSource}
-use Rattle.ariadne_visible.specs.declared.text.TextKind.TheVariants.{Lines}
-use Rattle.ariadne_visible.specs.Visible.{is_shown}
-use Rattle.ariadne_visible.specs.Pictures.{is_shown_if_any}
+use Rattle.ariadne_safe.specs.declared.text.TextKind.TheVariants.{Lines}
+use Rattle.ariadne_safe.specs.Visible.{is_shown}
+use Rattle.ariadne_safe.specs.Pictures.{is_shown_if_any}
 use Rattle.ariadne_safe.specs.Sources.{numbered, name_of, name_at}
 
 -- the element at a number is held under it

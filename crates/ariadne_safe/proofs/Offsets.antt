@@ -8,8 +8,8 @@ use Rattle.std.proofs.lemmas.Bool.{cond-true, cond-false, lt-ltb, le-ltb}
 use Rattle.std.proofs.lemmas.List.{nil_from_length}
 use Rattle.std.proofs.lemmas.Str.{chars_past_char, IsUtf8-past_char, chars-nil}
 use Rattle.ariadne.specs.Lines.{begins_with_line_feed}
-use Rattle.ariadne_visible.specs.declared.text.TextKind.{TextKind}
-use Rattle.ariadne_visible.specs.Visible.{shown_code}
+use Rattle.ariadne_safe.specs.declared.text.TextKind.{TextKind}
+use Rattle.ariadne_safe.specs.Visible.{shown_code}
 use Rattle.ariadne_safe.specs.Sources.{shown_offset}
 
 -- what is left of an offset stands in the signs of the rest, behind those so far

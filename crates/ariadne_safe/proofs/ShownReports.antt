@@ -22,11 +22,11 @@ use Rattle.ariadne_safe.specs.declared.sources.SafeSource.{SafeSource}
 use Rattle.ariadne_safe.specs.declared.sources.NoSource.{NoSource}
 use Rattle.ariadne_safe.specs.Reports.{over, says_number}
 use Rattle.ariadne_safe.proofs.Numbers.{names_are_shown, sources_are_shown}
-use Rattle.ariadne_visible.specs.declared.text.TextKind.TheVariants.{OneRow}
-use Rattle.ariadne_visible.specs.Visible.{is_hidden, is_seen_in, is_shown}
-use Rattle.ariadne_visible.specs.Pictures.{is_shown_report, HideNothing, IsDrawnSafely, GotNothingHidden}
-use Rattle.ariadne_visible.proofs.SafePictures.{parts_shown, report_shown, pictures_hide_nothing}
-use Rattle.ariadne_visible.proofs.SafeReports.{drawn_safely}
+use Rattle.ariadne_safe.specs.declared.text.TextKind.TheVariants.{OneRow}
+use Rattle.ariadne_safe.specs.Visible.{is_hidden, is_seen_in, is_shown}
+use Rattle.ariadne_safe.specs.Pictures.{is_shown_report, HideNothing, IsDrawnSafely, GotNothingHidden}
+use Rattle.ariadne_safe.proofs.SafePictures.{parts_shown, report_shown, pictures_hide_nothing}
+use Rattle.ariadne_safe.proofs.SafeReports.{drawn_safely}
 
 -- ---- kinds
 

@@ -1,3 +1,6 @@
+pub mod Visible
+pub mod Kept
+pub mod Pictures
 pub mod Sources
 pub mod Reports
 pub mod Building

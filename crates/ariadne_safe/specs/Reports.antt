@@ -11,11 +11,11 @@ use Rattle.ariadne.specs.IndexType.{IndexType}
 use Rattle.ariadne.specs.Report.{LabelFields, ReportFields, World}
 use Rattle.ariadne.specs.declared.write_error.WriteError.{WriteError}
 use Rattle.ariadne.specs.Written.{HasMargin, Written}
-use Rattle.ariadne_visible.specs.declared.text.TextKind.TheVariants.{OneRow}
+use Rattle.ariadne_safe.specs.declared.text.TextKind.TheVariants.{OneRow}
 use Rattle.ariadne_safe.specs.declared.sources.SafeSource.{SafeSource}
 use Rattle.ariadne_safe.specs.declared.sources.NoSource.{NoSource}
-use Rattle.ariadne_visible.specs.Visible.{visible_bytes}
-use Rattle.ariadne_visible.specs.Pictures.{IsDrawnSafely}
+use Rattle.ariadne_safe.specs.Visible.{visible_bytes}
+use Rattle.ariadne_safe.specs.Pictures.{IsDrawnSafely}
 use Rattle.ariadne_safe.specs.Sources.{numbered, name_at, offset_in}
 
 -- ---- labels

@@ -13,9 +13,9 @@ use Rattle.ariadne_safe.specs.declared.sources.LineEnds.{LineEnds}
 use Rattle.ariadne_safe.specs.declared.sources.LineEnds.TheVariants.{All, LineFeeds}
 use Rattle.ariadne_safe.specs.declared.sources.SafeSource.{SafeSource}
 use Rattle.ariadne_safe.specs.declared.sources.SafeSources.{SafeSources}
-use Rattle.ariadne_visible.specs.declared.text.TextKind.{TextKind}
-use Rattle.ariadne_visible.specs.declared.text.TextKind.TheVariants.{Lines, CompilerLines}
-use Rattle.ariadne_visible.specs.Visible.{shown_code}
+use Rattle.ariadne_safe.specs.declared.text.TextKind.{TextKind}
+use Rattle.ariadne_safe.specs.declared.text.TextKind.TheVariants.{Lines, CompilerLines}
+use Rattle.ariadne_safe.specs.Visible.{shown_code}
 
 -- what ends a line of a source
 abbrev pub kind_of : LineEnds → TextKind

@@ -1,14 +1,14 @@
 //! Labels and places of given texts, over the texts that are shown.
 
 ghost use Rattle.std.specs.Prelude.{◌≡◌, ◌≤◌, true, None, IfOk};
-ghost use Rattle.ariadne_visible.specs.Pictures.{is_shown_if_any};
+ghost use Rattle.ariadne_safe.specs.Pictures.{is_shown_if_any};
 ghost use Rattle.ariadne_safe.specs.Sources.{sources_of};
 ghost use Rattle.ariadne_safe.specs.Reports.{offset_at as offset_of, shown_place as place_of};
 ghost use Rattle.ariadne_safe.specs.Reports.{shown_label as label_of};
 
 use crate::sources::SafeSources;
+use crate::text::{TextKind, visible};
 use ariadne::{Color, IndexType, Label};
-use ariadne_visible::text::{TextKind, visible};
 use std::alloc::{AllocError, Global};
 use std::ops::Range;
 

@@ -5,14 +5,14 @@ ghost use Rattle.std.specs.Prelude.{IfOk, IfSome, OnOk};
 ghost use Rattle.ariadne.specs.Kinds.{kind_of, shown_kind};
 ghost use Rattle.ariadne.specs.Report.{new_report};
 ghost use Rattle.ariadne.specs.Building.{filled_code};
-ghost use Rattle.ariadne_visible.specs.Visible.{is_shown, visible_bytes};
-ghost use Rattle.ariadne_visible.specs.Pictures.{is_shown_report, GotNothingHidden};
-ghost use Rattle.ariadne_visible.specs.declared.text.TextKind.TheVariants.{OneRow, Aside};
+ghost use Rattle.ariadne_safe.specs.Visible.{is_shown, visible_bytes};
+ghost use Rattle.ariadne_safe.specs.Pictures.{is_shown_report, GotNothingHidden};
+ghost use Rattle.ariadne_safe.specs.declared.text.TextKind.TheVariants.{OneRow, Aside};
 
 use crate::places::{shown_label, shown_place};
 use crate::sources::{NoSource, SafeSources};
+use crate::text::{TextKind, is_seen, visible};
 use ariadne::{Config, IndexType, Label, LeftOut, Report, ReportBuilder, ReportKind, WriteError};
-use ariadne_visible::text::{TextKind, is_seen, visible};
 use std::alloc::{AllocError, Global};
 use std::io::Write;
 use std::ops::Range;

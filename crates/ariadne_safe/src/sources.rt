@@ -6,14 +6,14 @@ ghost use Rattle.std.specs.Prelude.{option_map, string_bytes, unwrap_or, length,
 ghost use Rattle.std.specs.Prelude.{codes, decimal};
 ghost use Rattle.std.specs.Option.{option_copied};
 ghost use Rattle.ariadne.specs.Listing.{listed_lines};
-ghost use Rattle.ariadne_visible.specs.Visible.{is_shown, visible_bytes};
-ghost use Rattle.ariadne_visible.specs.Pictures.{is_shown_if_any};
-ghost use Rattle.ariadne_visible.specs.declared.text.TextKind.TheVariants.{Lines, OneRow};
+ghost use Rattle.ariadne_safe.specs.Visible.{is_shown, visible_bytes};
+ghost use Rattle.ariadne_safe.specs.Pictures.{is_shown_if_any};
+ghost use Rattle.ariadne_safe.specs.declared.text.TextKind.TheVariants.{Lines, OneRow};
 
 mod offsets;
 
+use crate::text::{TextKind, visible};
 use ariadne::{Cache, FetchError, IndexType, Source};
-use ariadne_visible::text::{TextKind, visible};
 use offsets::shown_offset;
 use std::alloc::{AllocError, Global};
 use std::error::Error;

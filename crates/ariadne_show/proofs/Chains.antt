@@ -3,8 +3,8 @@ use Rattle.std.proofs.Common.{◌≡◌, ◌∙◌, ap, subst, sym}
 use Rattle.std.specs.Prelude.{ℕ, List, Option, Some, None, Result, Ok, Err, OnOk}
 use Rattle.std.specs.declared.ops.Range.{Range}
 use Rattle.ariadne.specs.Report.{ConfigFields, Kind, ReportFields, new_report}
-use Rattle.ariadne_visible.specs.Visible.{visible_bytes}
-use Rattle.ariadne_visible.specs.declared.text.TextKind.TheVariants.{OneRow}
+use Rattle.ariadne_safe.specs.Visible.{visible_bytes}
+use Rattle.ariadne_safe.specs.declared.text.TextKind.TheVariants.{OneRow}
 use Rattle.ariadne_safe.specs.declared.sources.SafeSource.{SafeSource}
 use Rattle.ariadne_told.specs.declared.diagnostic.Diagnostic.{Diagnostic}
 use Rattle.ariadne_told.specs.declared.diagnostic.Severity.TheVariants.{Note}

@@ -7,8 +7,8 @@ use Rattle.std.specs.Prelude.{Option, Some, None, String, string_bytes, codes, d
 use Rattle.std.specs.declared.alloc.Global.{Global}
 use Rattle.std.specs.declared.ops.Range.{Range}
 use Rattle.ariadne.specs.Report.{ReportFields}
-use Rattle.ariadne_visible.specs.Visible.{visible_bytes}
-use Rattle.ariadne_visible.specs.declared.text.TextKind.TheVariants.{Aside}
+use Rattle.ariadne_safe.specs.Visible.{visible_bytes}
+use Rattle.ariadne_safe.specs.declared.text.TextKind.TheVariants.{Aside}
 use Rattle.ariadne_told.specs.declared.diagnostic.Diagnostic.{Diagnostic}
 use Rattle.ariadne_told.specs.declared.diagnostic.Place.{Place}
 use Rattle.ariadne_show.specs.Found.{Files, is_found}

@@ -12,9 +12,9 @@ use Rattle.ariadne.specs.CharSet.TheVariants.{Ascii, Unicode}
 use Rattle.ariadne.specs.LeftOut.{LeftOut}
 use Rattle.ariadne.specs.Report.{ConfigFields, Kind, ReportFields, custom, default_config}
 use Rattle.ariadne.specs.Report.{error, warning}
-use Rattle.ariadne_visible.specs.Pictures.{GotNothingHidden}
-use Rattle.ariadne_visible.specs.Visible.{visible_bytes}
-use Rattle.ariadne_visible.specs.declared.text.TextKind.TheVariants.{OneRow}
+use Rattle.ariadne_safe.specs.Pictures.{GotNothingHidden}
+use Rattle.ariadne_safe.specs.Visible.{visible_bytes}
+use Rattle.ariadne_safe.specs.declared.text.TextKind.TheVariants.{OneRow}
 use Rattle.ariadne_safe.specs.Reports.{WrittenFor}
 use Rattle.ariadne_safe.specs.declared.sources.SafeSource.{SafeSource}
 use Rattle.ariadne_safe.specs.declared.sources.NoSource.{NoSource}

@@ -2,8 +2,8 @@
 use Rattle.std.specs.Prelude.{◌≡◌, true, ⊤, string_bytes}
 use Rattle.std.specs.declared.io.ErrorKind.{ErrorKind}
 use Rattle.std.specs.declared.io.ErrorKind.TheVariants as kind
-use Rattle.ariadne_visible.specs.Visible.{is_shown}
-use Rattle.ariadne_visible.specs.declared.text.TextKind.TheVariants.{Aside}
+use Rattle.ariadne_safe.specs.Visible.{is_shown}
+use Rattle.ariadne_safe.specs.declared.text.TextKind.TheVariants.{Aside}
 use Rattle.ariadne_show.specs.declared.fault.Fault.{Fault}
 use Rattle.ariadne_show.specs.declared.fault.Fault.TheVariants.{NoText, Words, Unread, UnreadFile}
 use Rattle.ariadne_show.specs.declared.fault.Fault.TheVariants.{Writer, BrokenPipe, Memory}

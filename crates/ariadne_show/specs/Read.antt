@@ -3,8 +3,8 @@ use Rattle.std.specs.Prelude.{ℕ, ◌≡◌, ◌≤◌, ◌+◌, ◌^◌, Bool,
 use Rattle.std.specs.Prelude.{nat_eq, Option, Some, None, is_some, unwrap_or, chars, string_bytes}
 use Rattle.std.specs.List.{All, AllZip, find, list_all, starts_with, take_while}
 use Rattle.std.specs.Str.{is_utf8}
-use Rattle.ariadne_visible.specs.Visible.{visible_bytes}
-use Rattle.ariadne_visible.specs.declared.text.TextKind.TheVariants.{CompilerLines, OneRow}
+use Rattle.ariadne_safe.specs.Visible.{visible_bytes}
+use Rattle.ariadne_safe.specs.declared.text.TextKind.TheVariants.{CompilerLines, OneRow}
 use Rattle.ariadne.specs.Listing.{Listing, listed_lines}
 use Rattle.ariadne_safe.specs.Sources.{given_of, listing_of, name_of, sources_of}
 use Rattle.ariadne_safe.specs.declared.sources.SafeSource.{SafeSource}

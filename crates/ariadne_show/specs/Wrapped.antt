@@ -7,8 +7,8 @@ use Rattle.std.specs.Prelude.{List, [], ◌∷◌, ◌++◌, map}
 use Rattle.std.specs.List.{list_all, slice_split}
 use Rattle.ariadne.specs.Columns.{text_columns}
 use Rattle.ariadne.specs.Lists.{joined}
-use Rattle.ariadne_visible.specs.Visible.{visible_bytes}
-use Rattle.ariadne_visible.specs.declared.text.TextKind.TheVariants.{Aside}
+use Rattle.ariadne_safe.specs.Visible.{visible_bytes}
+use Rattle.ariadne_safe.specs.declared.text.TextKind.TheVariants.{Aside}
 
 -- the lines of a text, and the words of a line: what stands between its blanks
 abbrev pub lines_in : List ℕ → List (List ℕ)

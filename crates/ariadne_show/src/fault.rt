@@ -8,7 +8,7 @@ ghost use Rattle.ariadne_show.specs.declared.fault.Fault.TheVariants.{Unread};
 ghost use Rattle.ariadne_show.specs.declared.fault.Status.TheVariants.{Failed};
 
 use ariadne::WriteError;
-use ariadne_visible::{TextKind, visible};
+use ariadne_safe::{TextKind, visible};
 use std::alloc::{AllocError, AllocFailed, Global};
 use std::io;
 use std::io::{ErrorKind, Write};

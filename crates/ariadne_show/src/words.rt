@@ -14,7 +14,7 @@ use crate::entries::{inputs_of, options_of, width_of, width_text};
 use crate::fault::Fault;
 use crate::options::{Input, Options};
 use crate::pages::{HELP, Page, VERSION};
-use ariadne_visible::{TextKind, visible};
+use ariadne_safe::{TextKind, visible};
 use clap::builder::ValueParser;
 use clap::error::ErrorKind;
 use clap::{Arg, ArgAction, ArgMatches, Command, Error, value_parser};

@@ -6,7 +6,7 @@ ghost use Rattle.ariadne_show.specs.Wrapped.{aside_columns as columns_left, fits
 ghost use Rattle.ariadne_show.specs.Wrapped.{behind_words, in_one_line, lines_in, word_columns, wrapped_line, wrapped_lines};
 ghost use Rattle.ariadne_show.specs.Wrapped.{wrapped as wrapped_text};
 
-use ariadne_visible::{TextKind, visible};
+use ariadne_safe::{TextKind, visible};
 use std::alloc::{AllocError, Global};
 use unicode_width::UnicodeWidthChar;
 

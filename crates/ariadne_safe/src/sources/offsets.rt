@@ -3,7 +3,7 @@
 ghost use Rattle.std.specs.Prelude.{◌≡◌, ◌-◌, ◌^◌, min, chars};
 ghost use Rattle.ariadne_safe.specs.Sources.{shown_offset as offset_of};
 
-use ariadne_visible::text::{TextKind, shown_char};
+use crate::text::{TextKind, shown_char};
 
 /// Where an offset in bytes of a text stands among the bytes that are shown of it.
 ///

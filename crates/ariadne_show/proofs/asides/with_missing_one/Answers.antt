@@ -2,8 +2,8 @@ use Rattle.std.proofs.Common.{◌≡◌, ◌∙◌, ◌∷◌, [], List, ap, ref
 use Rattle.std.specs.Prelude.{ℕ, is_some, IfOk}
 use Rattle.ariadne_safe.specs.Building.{made_of}
 use Rattle.ariadne_safe.specs.declared.report.SafeBuilder.{SafeBuilder}
-use Rattle.ariadne_visible.specs.Visible.{visible_bytes}
-use Rattle.ariadne_visible.specs.declared.text.TextKind.TheVariants.{Aside}
+use Rattle.ariadne_safe.specs.Visible.{visible_bytes}
+use Rattle.ariadne_safe.specs.declared.text.TextKind.TheVariants.{Aside}
 use Rattle.ariadne_show.specs.Asides.{missing_notes, spot_text, with_notes}
 use Rattle.ariadne_show.specs.Found.{files_of}
 use Rattle.ariadne_show.specs.Wrapped.{wrapped}

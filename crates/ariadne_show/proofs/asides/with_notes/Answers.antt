@@ -2,8 +2,8 @@ use Rattle.std.proofs.Common.{◌≡◌, ◌∙◌, ◌+◌, ◌++◌, ◌∷◌
 use Rattle.std.proofs.lemmas.List.{take_more}
 use Rattle.std.specs.Prelude.{ℕ}
 use Rattle.ariadne_safe.specs.Building.{made_of}
-use Rattle.ariadne_visible.specs.Visible.{visible_bytes}
-use Rattle.ariadne_visible.specs.declared.text.TextKind.TheVariants.{Aside}
+use Rattle.ariadne_safe.specs.Visible.{visible_bytes}
+use Rattle.ariadne_safe.specs.declared.text.TextKind.TheVariants.{Aside}
 use Rattle.ariadne_show.specs.Asides.{aside_notes, with_notes}
 use Rattle.ariadne_show.specs.Wrapped.{wrapped}
 use Rattle.ariadne_show.proofs.Notes.{no_notes, notes_more, texts_more}

@@ -1,8 +1,8 @@
 use Rattle.std.proofs.Common.{◌≡◌, take}
 use Rattle.std.specs.Prelude.{map, string_bytes}
 use Rattle.ariadne_safe.specs.Building.{made_of, sources_under}
-use Rattle.ariadne_visible.specs.Visible.{visible_bytes}
-use Rattle.ariadne_visible.specs.declared.text.TextKind.TheVariants.{Aside}
+use Rattle.ariadne_safe.specs.Visible.{visible_bytes}
+use Rattle.ariadne_safe.specs.declared.text.TextKind.TheVariants.{Aside}
 use Rattle.ariadne_show.specs.Asides.{with_helps}
 use Rattle.ariadne_show.proofs.asides.with_texts.Given as goal
 

@@ -1,8 +1,8 @@
 use Rattle.std.proofs.Common.{◌≡◌, ◌∙◌, refl, sym, true, true≢false}
 use Rattle.std.specs.Prelude.{codes}
 use Rattle.std.specs.Str.{chars, is_utf8}
-use Rattle.ariadne_visible.specs.Visible.{is_hidden, is_shown}
-use Rattle.ariadne_visible.specs.declared.text.TextKind.TheVariants.{OneRow}
+use Rattle.ariadne_safe.specs.Visible.{is_hidden, is_shown}
+use Rattle.ariadne_safe.specs.declared.text.TextKind.TheVariants.{OneRow}
 use Rattle.ariadne_show.proofs.drawing.note_kind.Goals as goal
 
 -- the name of notes can be shown

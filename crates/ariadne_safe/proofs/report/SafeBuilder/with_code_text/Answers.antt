@@ -1,6 +1,6 @@
 -- Blanks behind a code hide nothing.
 use Rattle.std.proofs.Common.{◌≡◌, ◌∙◌, true, ap, sym, subst}
-use Rattle.ariadne_visible.specs.Pictures.{is_shown_report}
+use Rattle.ariadne_safe.specs.Pictures.{is_shown_report}
 use Rattle.ariadne_safe.proofs.ShownReports.{coded_shown}
 use Rattle.ariadne_safe.proofs.report.SafeBuilder.with_code_text.Goals as goal
 

@@ -2,7 +2,7 @@
 use Rattle.std.proofs.Common.{rules, ap, ◌∙◌}
 use Rattle.std.specs.Str.{chars}
 use Rattle.ariadne.specs.Lines.{begins_with_line_feed}
-use Rattle.ariadne_visible.specs.Visible.{shown_code}
+use Rattle.ariadne_safe.specs.Visible.{shown_code}
 use Rattle.ariadne_safe.proofs.Offsets.{found_first, found_next, found_inside, found_past}
 use Rattle.ariadne_safe.proofs.sources.offsets.shown_offset.Goals as goal
 

@@ -1,6 +1,0 @@
--- Byte by byte.
-use Rattle.ariadne_visible.proofs.VisibleLaws.{no_control}
-use Rattle.ariadne_visible.proofs.laws.such_bytes_have_no_control.Goals as goal
-
-pub returns : goal.returns
-returns c picture h = no_control picture h

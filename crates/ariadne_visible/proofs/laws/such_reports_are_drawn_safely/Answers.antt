@@ -1,6 +1,0 @@
--- By its cells and its texts.
-use Rattle.ariadne_visible.proofs.SafeReports.{drawn_safely}
-use Rattle.ariadne_visible.proofs.laws.such_reports_are_drawn_safely.Goals as goal
-
-pub returns : goal.returns
-returns g c w r h = drawn_safely w r h

@@ -1,6 +1,0 @@
--- A symbol gives its character back.
-use Rattle.ariadne_visible.proofs.VisibleLaws.{symbols_tell}
-use Rattle.ariadne_visible.proofs.laws.symbols_tell_characters_apart.Goals as goal
-
-pub returns : goal.returns
-returns c a b e n = symbols_tell a b e n

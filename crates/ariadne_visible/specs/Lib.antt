@@ -1,3 +1,0 @@
-pub mod Visible
-pub mod Kept
-pub mod Pictures
