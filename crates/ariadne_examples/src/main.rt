@@ -1,11 +1,47 @@
-//! A whole program: it checks a file of settings, as `width = 80` a line, and draws each fault to
-//! standard error, in colours only where that is a terminal. Status 0: the file has no fault; 1: it has
-//! some; 2: no file is named, or it can't be read; 3: a report could not be drawn.
+//! Examples to copy, each whole in a file of its own, over the public calls and contracts of
+//! `ariadne` alone. The head of each file says what it shows and what to copy.
 //!
-//! Copy this file whole, and put a search of your own in place of `faults`.
+//! - `simple`: a report with a label, a code and a help.
+//! - `files`: labels in several files.
+//! - `lexer`: offsets in bytes, and places that ask for no proof.
+//! - `numbers`: files by number.
+//! - `caches`: a cache of your own.
+//! - `errors`: an enum of errors that become reports.
+//! - `one_line`: a report as one line of text.
+//! - `arithmetic`: a parser that runs out of input.
+//! - `calling`: what a caller can prove of the picture that it writes.
+//! - `pictures`: how tests compare pictures.
+//! - `sinks`: a buffer of your own that takes the picture.
+//!
+//! The program itself is a whole one: it checks a file of settings, as `width = 80` a line, and draws
+//! each fault to standard error, in colours only where that is a terminal. Status 0: the file has no
+//! fault; 1: it has some; 2: no file is named, or it can't be read; 3: a report could not be drawn. Copy
+//! this file without the modules of the other examples, and put a search of your own in place of
+//! `faults`.
 #![tactic(auto)]
 
+#[cfg(test)]
+mod arithmetic;
+#[cfg(test)]
+mod caches;
+pub mod calling;
+#[cfg(test)]
+mod errors;
 mod faults;
+#[cfg(test)]
+mod files;
+#[cfg(test)]
+mod lexer;
+#[cfg(test)]
+mod numbers;
+#[cfg(test)]
+mod one_line;
+#[cfg(test)]
+mod pictures;
+#[cfg(test)]
+mod simple;
+#[cfg(test)]
+mod sinks;
 
 use ariadne::{CharSet, Config, IndexType, Label, Place, Report, ReportKind, Source, WriteError};
 use faults::{Fault, faults_of};
