@@ -22,7 +22,7 @@ SPEED, PROOFS, TRY_SAFE = "docs/dev/SPEED.md", "docs/dev/PROOFS.md", "tools/try-
 CRATE_MINUTES = re.compile(r"^\|`(\w+)`\|([\d.]*)\|[\d.]*\|[\d.]*\|([\d.]*)\|[\d.]*\|$", re.M)
 GATE_MINUTES = re.compile(r"^\|`[\w-]+`\|\w+\|[\d-]+\|(\d+)\|$", re.M)
 PROGRAMS = {
-    "ariadne-draw": "ariadne_programs", "ariadne-brackets": "ariadne_brackets_program",
+    "ariadne-draw": "ariadne_draw_program", "ariadne-brackets": "ariadne_brackets_program",
     "ariadne-show": "ariadne_show_program",
 }
 LIBRARY = ("sewarqo_c",)
