@@ -200,7 +200,7 @@ def of_readme():
 
 
 def original_version():
-    return found("crates/ariadne_draw/src/pages.rt", r"port of the Rust crate ariadne ([\d.]+)$")
+    return found("crates/ariadne_commands/src/pages.rt", r"port of the Rust crate ariadne ([\d.]+)$")
 
 
 def filtered():
@@ -356,10 +356,10 @@ def of_gallery():
     yield "There are {} kinds.", word(count("crates/ariadne_labels/src/kind.rt", r"^    [A-Z]\w*(?:\(.*\))?,$"))
     yield "What compilers say: {} errors", word(section_of(text_of(GALLERY), "What compilers say").count("and rendered"))
     yield "Here are {} errors, each as", word(section_of(text_of(GALLERY), "What compilers say").count("and rendered"))
-    yield "The exit status is {} if all brackets are balanced", status("ariadne_brackets", "Clean")
-    yield "and {} if some are not", status("ariadne_brackets", "Offences")
-    yield "Status {}: there is no path", status("ariadne_brackets", "BadInput")
-    yield "Status {}: the writer failed", status("ariadne_brackets", "Failed")
+    yield "The exit status is {} if all brackets are balanced", status("ariadne_commands", "Clean")
+    yield "and {} if some are not", status("ariadne_commands", "Findings")
+    yield "Status {}: there is no path", status("ariadne_commands", "BadInput")
+    yield "Status {}: the writer failed", status("ariadne_commands", "Failed")
 
 
 FACTS_OF = {

@@ -2,10 +2,8 @@
 #![tactic(auto)]
 
 use ariadne::RetryInterrupted;
-use ariadne_brackets::{Fault, lint, tell_fault};
-use std::alloc::AllocError;
+use ariadne_commands::{BRACKETS_USAGE, Fault, lint, tell_fault};
 use std::env;
-use std::io::ErrorKind;
 use std::process::ExitCode;
 use std::rt::Env;
 
@@ -13,10 +11,7 @@ use std::rt::Env;
 fn given_words<R: Env + AllocGlobal>(rt: &R) -> Result<Vec<String>, Fault> {
     match env::args(rt) {
         Ok(args) => Ok(args.skip(1).collect(rt.alloc())?),
-        Err(error) => match error.kind() {
-            ErrorKind::OutOfMemory => Err(Fault::Memory(AllocError)),
-            _ => Err(Fault::Usage),
-        },
+        Err(error) => Err(Fault::of_error(&error, Fault::Usage(BRACKETS_USAGE))),
     }
 }
 

@@ -2,7 +2,7 @@
 #![tactic(auto)]
 
 use ariadne::RetryInterrupted;
-use ariadne_draw::{Fault, Watched, draw, tell_fault, without_colors};
+use ariadne_commands::{DRAW_USAGE, Fault, Watched, draw, tell_fault, without_colors};
 use std::alloc::AllocError;
 use std::env;
 use std::env::VarError;
@@ -14,7 +14,7 @@ use std::rt::Env;
 fn given_words<R: Env + AllocGlobal>(rt: &R) -> Result<Vec<String>, Fault> {
     let words = match env::args(rt) {
         Ok(args) => args.skip(1).collect(rt.alloc())?,
-        Err(error) => return Err(Fault::of_error(&error, Fault::Usage)),
+        Err(error) => return Err(Fault::of_error(&error, Fault::Usage(DRAW_USAGE))),
     };
     if is_colorless(rt)? {
         return Ok(without_colors(rt.alloc(), words)?);

@@ -3,7 +3,7 @@
 ghost use Rattle.std.specs.Prelude.{◌<◌};
 
 use crate::outcome::Outcome;
-use ariadne_draw::{Page, Status, Watched, draw};
+use ariadne_commands::{Page, Status, Watched, draw};
 use ariadne_fakes::{Given, Taker, refuse, texts};
 use std::io::ErrorKind;
 use std::process::Abort;

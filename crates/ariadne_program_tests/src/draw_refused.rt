@@ -4,7 +4,7 @@ ghost use Rattle.std.specs.Prelude.{◌<◌};
 
 use crate::draw::{TEXT, run};
 use crate::outcome::is_served;
-use ariadne_draw::{Status, without_colors};
+use ariadne_commands::{Status, without_colors};
 use ariadne_fakes::{Given, Taker, refuse, texts, was_refused};
 use std::process::Abort;
 use std::rt::Files;
@@ -23,7 +23,7 @@ fn is_drawn(rt: &(impl Files + AllocGlobal + Abort), nth: usize) -> bool
         outcome.assert_is(rt, Status::Failed, b"", b"no memory\n");
         return false;
     }
-    outcome.assert_status(rt, Status::Drawn);
+    outcome.assert_status(rt, Status::Clean);
     true
 }
 

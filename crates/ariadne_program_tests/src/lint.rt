@@ -4,7 +4,7 @@ ghost use Rattle.std.specs.Prelude.{◌<◌};
 
 use crate::comparing::assert_same_of;
 use crate::outcome::Outcome;
-use ariadne_brackets::{Offence, Status, first_offence, lint, texts_have_one_first_offence};
+use ariadne_commands::{Offence, Status, first_offence, lint, texts_have_one_first_offence};
 use ariadne_fakes::{Folder, Taker, refuse, texts};
 use std::alloc::{AllocError, Global};
 use std::io::ErrorKind;

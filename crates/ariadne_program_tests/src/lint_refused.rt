@@ -4,7 +4,7 @@ ghost use Rattle.std.specs.Prelude.{◌<◌};
 
 use crate::lint::{FIRST, SECOND, both, run};
 use crate::outcome::is_served;
-use ariadne_brackets::{Offence, Status, first_offence};
+use ariadne_commands::{Offence, Status, first_offence};
 use ariadne_fakes::{Folder, Taker, refuse, was_refused};
 use std::process::Abort;
 use std::rt::Files;
@@ -52,7 +52,7 @@ fn is_drawn(
         outcome.assert_is(rt, Status::Failed, b"", b"no memory\n");
         return false;
     }
-    outcome.assert_is(rt, Status::Offences, picture, b"");
+    outcome.assert_is(rt, Status::Findings, picture, b"");
     true
 }
 

@@ -1,5 +1,0 @@
-use Rattle.ariadne_brackets.proofs.OneOffence.{same_offence}
-use Rattle.ariadne_brackets.proofs.offence.texts_have_one_first_offence.Goals as goal
-
-pub returns : goal.returns
-returns c = same_offence

@@ -1,0 +1,10 @@
+pub mod Words
+pub mod Asked
+pub mod Watching
+pub mod Faults
+pub mod Pages
+pub mod Drawn
+pub mod Brackets
+pub mod Outcomes
+pub mod Linted
+pub mod Linting
