@@ -32,7 +32,7 @@ filter-filter p q (x ∷ xs) =
     ]
 
 -- the gutter labels are as many as the labels that own a column
-pub gutter_labels_count : (s : Sheet) → length (gutter_labels s) ≡ length (filter owns_column s.labels)
+pub gutter_labels_count : (s : Sheet) → length (gutter_labels s.labels) ≡ length (filter owns_column s.labels)
 unfolding gutter_labels multi_line_labels
 gutter_labels_count s =
     let told = λ (a : LabelInfo). a.has_message in
@@ -58,16 +58,16 @@ module _ (labels : List LabelInfo) (i : ℕ) (d : LabelInfo) (less : i < length 
 
 -- the labels that own a column are the gutter labels
 pub owners_all : (labels : List LabelInfo) (n i : ℕ) → length labels ≤ i → n ≡ length (filter owns_column (take i labels))
-    → (s : Sheet) → s.labels ≡ labels → n ≡ length (gutter_labels s)
+    → (s : Sheet) → s.labels ≡ labels → n ≡ length (gutter_labels s.labels)
 owners_all labels n i past all s same =
     all ∙ ap (λ xs. length (filter owns_column xs)) (take_all i labels past ∙ sym same) ∙ sym (gutter_labels_count s)
 
 -- so many gutter columns are there
-pub gutter_none : (s : Sheet) → 0 ≡ length (gutter_labels s) → 0 ≡ gutter_len s
+pub gutter_none : (s : Sheet) → 0 ≡ length (gutter_labels s.labels) → 0 ≡ gutter_len s
 unfolding gutter_len
 gutter_none s e = rw (← e) refl
 
-pub gutter_some : (s : Sheet) (n : ℕ) → n ≡ length (gutter_labels s) → 0 < n → n + 1 ≡ gutter_len s
+pub gutter_some : (s : Sheet) (n : ℕ) → n ≡ length (gutter_labels s.labels) → 0 < n → n + 1 ≡ gutter_len s
 unfolding gutter_len
 gutter_some s n e some = rw (← e) (sym (cond-false (n == 0) 0 (n + 1) (ne_eqb n 0 (λ z. omega arith))))
 

@@ -169,7 +169,7 @@ module _ {S Id : Type 0} (w : World S Id) (r : ReportFields S) where
 
     -- a gutter of its gutter labels is its own
     pub section_gutter : (gutter : GutterFields) → gutter.page.switches ≡ switches_of r.config → (shown : List LabelInfo)
-        → ((s : Sheet) → s.labels ≡ labels → shown ≡ gutter_labels s) → gutter.positions ≡ map (λ (a : LabelInfo). a.position) shown
+        → ((s : Sheet) → s.labels ≡ labels → shown ≡ gutter_labels s.labels) → gutter.positions ≡ map (λ (a : LabelInfo). a.position) shown
         → IsOfSheet (section_of w r n (k, labels)).sheet gutter
     section_gutter gutter e shown is at = record {
       switches = e ∙ sym section_switches;

@@ -90,8 +90,8 @@ inside-told t g switches source labels h over group l offset o extent result at 
     (subst (λ ls. 0 < length (line_text ls l)) (sym lines) some) (holders-touch g.sheet l (drawn-over t g switches source labels h over))
 
 -- a hidden line has no margin label
-pub hidden-none : (s : Sheet) (l : ℕ) → is_hidden s l ≡ true → margin_label s l ≡ None
-hidden-none s l h = none (margin_label s l) (hidden-margin s l h)
+pub hidden-none : (s : Sheet) (l : ℕ) → is_hidden s l ≡ true → margin_label s.labels l ≡ None
+hidden-none s l h = none (margin_label s.labels l) (hidden-margin s l h)
   where
     none : (o : Option LineLabel) → is_some o ≡ false → o ≡ None
     none None e = refl

@@ -75,13 +75,13 @@ len-is ls n = refl
 
 -- the labels of the events that are on it
 pub labels-there : (s : Sheet) (l from to : ℕ) → slice_range (events_of s) from to ≡ events_at s l
-    → labels_of s (slice_range (events_of s) from to) ≡ ends_at s l ++ inline_labels s l
+    → labels_of s (slice_range (events_of s) from to) ≡ ends_at s.labels l ++ inline_labels s.labels l
 labels-there s l from to e = ap (labels_of s) e ∙ labels-at s l
 
 -- the layout of a line, by its parts
 pub layout-is : (s : Sheet) (l : ℕ) (y : Layout) (margin : Option LineLabel) (labels : List LineLabel) (offset : ℕ) (text : List ℕ) (sights : List Sight)
-    → y ≡ record { margin = margin; labels = labels; offset = offset; text = text; sights = sights } → margin ≡ margin_label s l
-    → labels ≡ line_labels s l → offset ≡ line_offset length s.lines l → text ≡ line_text s.lines l
+    → y ≡ record { margin = margin; labels = labels; offset = offset; text = text; sights = sights } → margin ≡ margin_label s.labels l
+    → labels ≡ line_labels s.labels l → offset ≡ line_offset length s.lines l → text ≡ line_text s.lines l
     → sights ≡ sights_of s.switches offset (option_to_list margin ++ labels) (drop_trailing_whitespace text) → y ≡ layout_of s l
 unfolding layout_of
 layout-is s l y margin labels offset text sights e m n o t cut =
@@ -89,17 +89,17 @@ layout-is s l y margin labels offset text sights e m n o t cut =
     e ∙ (λ i. record { margin = m i; labels = n i; offset = o i; text = t i; sights = seen i })
 
 -- what holds of each label of a group holds of the labels of a line
-pub line-label-infos : (P : LabelInfo → Type 0) (s : Sheet) (l : ℕ) → AllByRecursion P s.labels → AllByRecursion (λ x. P x.info) (line_labels s l)
+pub line-label-infos : (P : LabelInfo → Type 0) (s : Sheet) (l : ℕ) → AllByRecursion P s.labels → AllByRecursion (λ x. P x.info) (line_labels s.labels l)
 unfolding line_labels inline_labels
 line-label-infos P s l h =
     let Q : LineLabel → Type 0 = λ x. P x.info in
-    let t : LineLabel → Bool = λ x. not (is_start x.side && is_margin (margin_label s l) x) in
+    let t : LineLabel → Bool = λ x. not (is_start x.side && is_margin (margin_label s.labels l) x) in
     let ins : List LabelInfo = filter (λ a. is_on_one_line a && (a.start_line == l)) s.labels in
     let make : LabelInfo → LineLabel = λ a. record { info = a; side = Inline; gutter_column = 0; place = a.attach } in
-    all-in_order Q is_before (filter t (ends_at s l) ++ map make ins)
-    (all-append Q (filter t (ends_at s l)) (map make ins)
-    (all-filter Q t (ends_at s l)
-    (all-weaker (IsEndAt s l) Q (ends_at s l) (λ x e. all-at P (gutter_labels s) x.gutter_column x.info e.owned (all-gutter-labels P s h))
+    all-in_order Q is_before (filter t (ends_at s.labels l) ++ map make ins)
+    (all-append Q (filter t (ends_at s.labels l)) (map make ins)
+    (all-filter Q t (ends_at s.labels l)
+    (all-weaker (IsEndAt s l) Q (ends_at s.labels l) (λ x e. all-at P (gutter_labels s.labels) x.gutter_column x.info e.owned (all-gutter-labels P s h))
     (ends-are s l)))
     (all-map Q make ins (all-filter P (λ a. is_on_one_line a && (a.start_line == l)) s.labels h)))
 
@@ -145,15 +145,15 @@ places-fit switches s l y text utf8 small own over less e =
 -- ---- the bars beside it
 
 -- the margin label has a column
-pub margin-column : (s : Sheet) (l : ℕ) (g : GutterFields) (o : Option LineLabel) → o ≡ margin_label s l → IsBeside s l g
+pub margin-column : (s : Sheet) (l : ℕ) (g : GutterFields) (o : Option LineLabel) → o ≡ margin_label s.labels l → IsBeside s l g
     → IfSome o (λ m. m.gutter_column < length g.bars)
 margin-column s l g None e b = tt
 margin-column s l g (Some m) e b = margin-column-within s l m g b (sym e)
 
 -- gutter labels are a matter of labels alone
-gutter-same : (s t : Sheet) → s.labels ≡ t.labels → gutter_labels t ≡ gutter_labels s
+gutter-same : (s t : Sheet) → s.labels ≡ t.labels → gutter_labels t.labels ≡ gutter_labels s.labels
 unfolding gutter_labels multi_line_labels
-gutter-same s t e = ap (λ ls. gutter_labels (record { switches = s.switches; lines = s.lines; labels = ls })) (sym e)
+gutter-same s t e = ap (λ ls. gutter_labels (record { switches = s.switches; lines = s.lines; labels = ls }).labels) (sym e)
 
 -- so are the bars
 pub beside-same : (s t : Sheet) (l : ℕ) (g : GutterFields) → s.labels ≡ t.labels → s.switches ≡ t.switches → IsBeside t l g → IsBeside s l g

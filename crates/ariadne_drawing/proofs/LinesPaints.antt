@@ -43,10 +43,10 @@ shown-shorter (c ∷ cs) =
     (λ _. omega arith) (λ _. omega arith)
 
 -- the numbers of the labels that touch a line are numbers of multi-line labels
-touching-within : (s : Sheet) (l : ℕ) → AllByRecursion (λ i. i < length (multi_line_labels s)) (touching s l)
+touching-within : (s : Sheet) (l : ℕ) → AllByRecursion (λ i. i < length (multi_line_labels s.labels)) (touching s l)
 unfolding touching
 touching-within s l =
-    let labels : List LabelInfo = multi_line_labels s in
+    let labels : List LabelInfo = multi_line_labels s.labels in
     all-map (λ i. i < length labels) (λ (e : ℕ × LabelInfo). e.0) (filter (λ (e : ℕ × LabelInfo). touches l e.1) (enumerate_from 0 labels))
     (all-filter (λ (e : ℕ × LabelInfo). e.0 < length labels) (λ e. touches l e.1) (enumerate_from 0 labels)
     (all-numbered (λ (e : ℕ × LabelInfo). e.0 < length labels) labels (λ k a there. slice_get_within labels k a there)))
@@ -55,18 +55,18 @@ touching-within s l =
 touching-rise : (s : Sheet) (l : ℕ) → IsStrictlyIncreasing (touching s l)
 unfolding touching
 touching-rise s l = λ k less.
-    increasing-pairs (λ i j. i < j) (touching s l) (kept-rise (λ (e : ℕ × LabelInfo). touches l e.1) 0 (multi_line_labels s)).1 k (k + 1) 0
+    increasing-pairs (λ i j. i < j) (touching s l) (kept-rise (λ (e : ℕ × LabelInfo). touches l e.1) 0 (multi_line_labels s.labels)).1 k (k + 1) 0
     (omega arith) less
 
 module _ (labels : List LabelInfo) (l : ℕ) (y : Layout) (h : IsLaidOut labels l y) (group : GroupFields) (multi : List LabelInfo) (numbers : List ℕ)
-    (at : group ≡ record { labels = labels; line = l }) (m : (s : Sheet) → s.labels ≡ group.labels → multi ≡ multi_line_labels s)
+    (at : group ≡ record { labels = labels; line = l }) (m : (s : Sheet) → s.labels ≡ group.labels → multi ≡ multi_line_labels s.labels)
     (t : (s : Sheet) → s.labels ≡ group.labels → numbers ≡ touching s group.line) where
   -- the labels of the layout are those of the group
   own : h.sheet.labels ≡ group.labels
   own = h.same_labels ∙ ap (λ (v : GroupFields). v.labels) (sym at)
 
   -- so its multi-line labels are
-  multi-is : multi ≡ multi_line_labels h.sheet
+  multi-is : multi ≡ multi_line_labels h.sheet.labels
   multi-is = m h.sheet own
 
   -- and the numbers are those of the labels that touch the line

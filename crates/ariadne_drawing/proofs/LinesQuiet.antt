@@ -46,12 +46,12 @@ quiet-rows compact l n (x ∷ xs) e =
 
 -- the bars stay
 pub quiet-bars : (s : Sheet) (l k : ℕ) (g : GutterFields) → AllByRecursion EndsNoEarlier s.labels → IsBelow s l 0 g
-    → list_any (λ x. x.info.has_message) (line_labels s l) ≡ false → k ≤ length (line_labels s l) → IsBelow s l k g
+    → list_any (λ x. x.info.has_message) (line_labels s.labels l) ≡ false → k ≤ length (line_labels s.labels l) → IsBelow s l k g
 quiet-bars s l zero g rise b e h = b
 quiet-bars s l (suc k) g rise b e h =
     let before = quiet-bars s l k g rise b e (omega arith) in
-    let some = some-label (line_labels s l) k (omega arith) in
-    let quiet = quiet-at (line_labels s l) k some.0 e some.1 in
+    let some = some-label (line_labels s.labels l) k (omega arith) in
+    let quiet = quiet-at (line_labels s.labels l) k some.0 e some.1 in
     let inline : is_inline some.0.side ≡ true = elim (cases_Bool (is_inline some.0.side)) [
       | inl t ↦ t
       | inr f ↦ absurd (true≢false (sym (end-message s l k some.0 some.1 f) ∙ quiet))
@@ -60,7 +60,7 @@ quiet-bars s l (suc k) g rise b e h =
     subst (λ n. IsBelow s l n g) next (below-next_inline s l k some.0 g rise before some.1 inline)
 
 -- the labels of a layout are those of its line
-pub layout-labels : (s : Sheet) (l : ℕ) (y : Layout) → y ≡ layout_of s l → y.labels ≡ line_labels s l
+pub layout-labels : (s : Sheet) (l : ℕ) (y : Layout) → y ≡ layout_of s l → y.labels ≡ line_labels s.labels l
 unfolding layout_of
 layout-labels s l y e = ap (λ (z : Layout). z.labels) e
 
@@ -100,13 +100,13 @@ quiet-table switches y r table e h = record {
 -- ---- the row with its underlines alone
 
 -- it is there, or not
-pub lone-row : (s : Sheet) (l : ℕ) → is_lone s l ≡ true → lone_rows s l ≡ alternate l (length (line_labels s l)) ∷ []
+pub lone-row : (s : Sheet) (l : ℕ) → is_lone s l ≡ true → lone_rows s l ≡ alternate l (length (line_labels s.labels l)) ∷ []
 unfolding lone_rows
-lone-row s l on = cond-true (is_lone s l) (alternate l (length (line_labels s l)) ∷ []) [] on
+lone-row s l on = cond-true (is_lone s l) (alternate l (length (line_labels s.labels l)) ∷ []) [] on
 
 pub no-lone-row : (s : Sheet) (l : ℕ) → is_lone s l ≡ false → lone_rows s l ≡ []
 unfolding lone_rows
-no-lone-row s l off = cond-false (is_lone s l) (alternate l (length (line_labels s l)) ∷ []) [] off
+no-lone-row s l off = cond-false (is_lone s l) (alternate l (length (line_labels s.labels l)) ∷ []) [] off
 
 -- as the code asks
 pub lone-asked : (s : Sheet) (l : ℕ) (asked : Switches) (y : Layout) → s.switches ≡ asked → y ≡ layout_of s l
@@ -115,5 +115,5 @@ unfolding is_lone
 lone-asked s l asked y same e = rw (layout-labels s l y e, ← same) refl
 
 -- a line with a message has none
-pub messages-not-lone : (s : Sheet) (l : ℕ) → list_any (λ x. x.info.has_message) (line_labels s l) ≡ true → is_lone s l ≡ false
+pub messages-not-lone : (s : Sheet) (l : ℕ) → list_any (λ x. x.info.has_message) (line_labels s.labels l) ≡ true → is_lone s l ≡ false
 messages-not-lone s l h = not-lone s l h

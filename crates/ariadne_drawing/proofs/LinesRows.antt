@@ -41,12 +41,12 @@ label-two l r x e = rw e refl
 module _ (t : Texts) (g : Section) (page : PageFields) (l r : ℕ) (y : Layout) (gutter : GutterFields) (table : LineTable)
     (h : IsBelowLine t g page l r y gutter table) where
   -- the labels of the layout are those of the line
-  pub labels-of : y.labels ≡ line_labels g.sheet l
+  pub labels-of : y.labels ≡ line_labels g.sheet.labels l
   unfolding layout_of
   labels-of = ap (λ (z : Layout). z.labels) h.layout
 
   -- so a label of the layout is one of the line
-  pub label-there : (x : LineLabel) → slice_get y.labels r ≡ Some x → slice_get (line_labels g.sheet l) r ≡ Some x
+  pub label-there : (x : LineLabel) → slice_get y.labels r ≡ Some x → slice_get (line_labels g.sheet.labels l) r ≡ Some x
   label-there x e = ap (λ xs. slice_get xs r) (sym labels-of) ∙ e
 
   -- the table is that of the line
@@ -62,7 +62,7 @@ module _ (t : Texts) (g : Section) (page : PageFields) (l r : ℕ) (y : Layout) 
   bars-arrow = below-arrow g.sheet l r gutter h.rise h.bars
 
   -- the margin label is that of the line
-  pub margin-of : y.margin ≡ margin_label g.sheet l
+  pub margin-of : y.margin ≡ margin_label g.sheet.labels l
   unfolding layout_of
   margin-of = ap (λ (z : Layout). z.margin) h.layout
 
@@ -104,7 +104,7 @@ label-at y xs r d e h =
 -- among those of the line
 pub line-label-at : (t : Texts) (g : Section) (page : PageFields) (l r : ℕ) (y : Layout) (gutter : GutterFields) (table : LineTable)
     → IsBelowLine t g page l r y gutter table → (xs : List LineLabel) (d : LineLabel) → xs ≡ y.labels → r < length y.labels
-    → slice_get (line_labels g.sheet l) r ≡ Some (get_or xs r d)
+    → slice_get (line_labels g.sheet.labels l) r ≡ Some (get_or xs r d)
 line-label-at t g page l r y gutter table h xs d e less = label-there t g page l r y gutter table h (get_or xs r d) (label-at y xs r d e less)
 
 -- its column, where it has one
@@ -155,6 +155,6 @@ row-page a b x d = ap (λ (q : PenFields). q.page) d
 
 -- a line that is shown has its source row and the rows of its labels
 pub line-shown : (s : Sheet) (l : ℕ) → is_hidden s l ≡ false
-    → source l ∷ (joined (label_rows s.switches.compact l) (enumerate_from 0 (line_labels s l)) ++ lone_rows s l) ≡ line_rows s l
+    → source l ∷ (joined (label_rows s.switches.compact l) (enumerate_from 0 (line_labels s.labels l)) ++ lone_rows s l) ≡ line_rows s l
 unfolding line_rows
 line-shown s l e = sym (rw e refl)

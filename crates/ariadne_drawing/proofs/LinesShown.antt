@@ -60,11 +60,11 @@ within-shown s l k a there starts ends hidden =
     (eq-eqb a.start_line l starts) in
     let make : LabelInfo → LineLabel = λ a. record { info = a; side = Inline; gutter_column = 0; place = a.attach } in
     let kept = has-filter test s.labels k a there passes in
-    let made : Has (inline_labels s l) (make a) = has-map make (filter test s.labels) kept.place a kept.there in
-    let more = has-some (inline_labels s l) (make a) made in
-    let few : length (ends_at s l ++ inline_labels s l) ≡ 0 =
+    let made : Has (inline_labels s.labels l) (make a) = has-map make (filter test s.labels) kept.place a kept.there in
+    let more = has-some (inline_labels s.labels l) (make a) made in
+    let few : length (ends_at s.labels l ++ inline_labels s.labels l) ≡ 0 =
     ap length (sym (labels-at s l) ∙ ap (labels_of s) (unlabelled-no_event s l (hidden-bare s l hidden)) ∙ no-labels s) in
-    let sum = length-append (ends_at s l) (inline_labels s l) in
+    let sum = length-append (ends_at s.labels l) (inline_labels s.labels l) in
     omega arith
 
 -- so where a text has but one line, no line is hidden

@@ -98,7 +98,7 @@ pub record IsWalked (s : Sheet) (size l n k : ℕ) (g : GutterFields) : Type 0 w
   pub begins : begins_run s l ≡ true
   pub up : l ≤ n
   pub near : (j : ℕ) → l ≤ j → j < n → is_hidden s j ≡ false
-  pub far : (j m : ℕ) → n ≤ j → j < size → m < l → is_unlabelled s m ≡ false → m + s.switches.context_lines < j
+  pub far : (j m : ℕ) → n ≤ j → j < size → m < l → is_unlabelled s.labels m ≡ false → m + s.switches.context_lines < j
   pub beside : IsBeside s l g
 
 -- the lines of a group from l to before m, of which those before n are near a label above them, and those from `far` on near one below them
@@ -125,14 +125,14 @@ begins-behind s l shown =
 
 -- lines without labels, of which those from `far` on are shown, and those before it have none near below them
 module _ (s : Sheet) (size l n k far m : ℕ) (g : GutterFields) (w : IsWalked s size l n k g) (fits : m ≤ size) (up : l ≤ m) (short : far ≤ m)
-    (bare : (j : ℕ) → l ≤ j → j < m → is_unlabelled s j ≡ true)
+    (bare : (j : ℕ) → l ≤ j → j < m → is_unlabelled s.labels j ≡ true)
     (below : (j : ℕ) → l ≤ j → far ≤ j → j < m → is_hidden s j ≡ false)
-    (lone : (j i : ℕ) → j < far → l ≤ i → i ≤ j + s.switches.context_lines → is_unlabelled s i ≡ true) where
+    (lone : (j i : ℕ) → j < far → l ≤ i → i ≤ j + s.switches.context_lines → is_unlabelled s.labels i ≡ true) where
   -- a line that is near none is hidden
   far-hidden : (j : ℕ) → n ≤ j → l ≤ j → j < far → is_hidden s j ≡ true
   far-hidden j past low less = hidden-far s j (λ i from to. elim (cases_lt i l) [
     | inr behind ↦ lone j i less behind to
-    | inl above ↦ elim (cases_Bool (is_unlabelled s i)) [
+    | inl above ↦ elim (cases_Bool (is_unlabelled s.labels i)) [
       | inl is ↦ is
       | inr some ↦ let apart = w.far j i past (omega (arith, less, short, fits)) above some in absurd (omega (arith, apart, from))
     ]
@@ -172,7 +172,7 @@ module _ (s : Sheet) (size l n k far m : ℕ) (g : GutterFields) (w : IsWalked s
 
 module _ (s : Sheet) (size : ℕ) (rise : AllByRecursion EndsNoEarlier s.labels) where
   -- none is written
-  pub walk-start : (g : GutterFields) → 0 < length s.labels → IsOfSheet s g → g.bars ≡ replicate (length (gutter_labels s)) false
+  pub walk-start : (g : GutterFields) → 0 < length s.labels → IsOfSheet s g → g.bars ≡ replicate (length (gutter_labels s.labels)) false
       → IsWalked s size (first_line s) (first_line s) 0 g
   unfolding begins_run
   walk-start g some sheet bars =
@@ -206,7 +206,7 @@ module _ (s : Sheet) (size : ℕ) (rise : AllByRecursion EndsNoEarlier s.labels)
     same-event P h x at = let same : m ≡ x.line = cc in subst P same h
 
     -- the lines above it have no labels
-    lines-bare : (j : ℕ) → l ≤ j → j < m → is_unlabelled s j ≡ true
+    lines-bare : (j : ℕ) → l ≤ j → j < m → is_unlabelled s.labels j ≡ true
     lines-bare j low less = no_event-unlabelled s j (none-between s l j k w.events low (λ x at. same-event (λ i. j < i) less x at))
 
     -- so the events before it are above its line
@@ -214,8 +214,8 @@ module _ (s : Sheet) (size : ℕ) (rise : AllByRecursion EndsNoEarlier s.labels)
     events-above = let up = event-within.0 in still-above s l m k w.events up (λ x at. same-event (λ i. m ≤ i) (omega arith) x at)
 
     -- its line has labels
-    line-labelled : is_unlabelled s m ≡ false
-    line-labelled = ap (is_unlabelled s) (sym on) ∙ event-labelled s k e there
+    line-labelled : is_unlabelled s.labels m ≡ false
+    line-labelled = ap (is_unlabelled s.labels) (sym on) ∙ event-labelled s k e there
 
     -- the lines above it are near it, or not
     above-apart : AreApart s l n (m - s.switches.context_lines) m
@@ -268,7 +268,7 @@ module _ (s : Sheet) (size : ℕ) (rise : AllByRecursion EndsNoEarlier s.labels)
       → o ≡ option_map (λ e. e.line) (slice_get (events_of s) k) → o ≡ None → AreApart s l n m m
   walk-end l n k m g o w up fits read is =
       let none = event-none (slice_get (events_of s) k) (sym read ∙ is) in
-      let bare : (j : ℕ) → l ≤ j → is_unlabelled s j ≡ true =
+      let bare : (j : ℕ) → l ≤ j → is_unlabelled s.labels j ≡ true =
       λ j low. no_event-unlabelled s j (none-between s l j k w.events low (λ x at. absurd (none≢some x (sym none ∙ at)))) in
       lines-apart s size l n k m m g w fits up (omega arith) (λ j low less. bare j low)
       (λ j low past less. absurd (omega (arith, past, less))) (λ j i less low to. bare i low)

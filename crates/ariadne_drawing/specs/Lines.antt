@@ -83,7 +83,7 @@ begins_run s l = not (nat_lt (first_line s) l && is_hidden s (l - 1))
 
 -- no label has anything at the lines from `first` to before `behind`, and each of them is shown
 pub record AreContext (s : Sheet) (first behind : ℕ) : Type 0 where
-  pub unlabelled : (l : ℕ) → first ≤ l → l < behind → is_unlabelled s l ≡ true
+  pub unlabelled : (l : ℕ) → first ≤ l → l < behind → is_unlabelled s.labels l ≡ true
   pub shown : (l : ℕ) → first ≤ l → l < behind → is_hidden s l ≡ false
 
 -- no label has anything at these lines of a group; those of `run` are hidden, the first of them begins

@@ -152,7 +152,7 @@ pub(crate) fn start_margin(
     ensures page { OnOk result (gutter.new.page ≡ gutter.old.page) }
     ensures positions { OnOk result (gutter.new.positions ≡ gutter.old.positions) }
     ensures below { (s : Sheet) (l : ℕ) → AllByRecursion EndsNoEarlier s.labels →
-        IsBeside s l gutter.old → margin_label s l ≡ margin →
+        IsBeside s l gutter.old → margin_label s.labels l ≡ margin →
         OnOk result (IsBelow s l 0 gutter.new) }
 {
     match margin {
@@ -174,7 +174,7 @@ fn pass_bar(gutter: &mut Gutter<'_>, label: &LineLabel) -> Result<(), AllocError
     ensures page { OnOk result (gutter.new.page ≡ gutter.old.page) }
     ensures positions { OnOk result (gutter.new.positions ≡ gutter.old.positions) }
     ensures below { (s : Sheet) (l r : ℕ) → AllByRecursion EndsNoEarlier s.labels →
-        IsBelow s l r gutter.old → slice_get (line_labels s l) r ≡ Some label.now →
+        IsBelow s l r gutter.old → slice_get (line_labels s.labels l) r ≡ Some label.now →
         OnOk result (IsBelow s l (r + 1) gutter.new) }
 {
     if label.side.is_inline() {

@@ -90,8 +90,8 @@ pub(crate) fn push_lines<S: Span, I: SourceText>(
     requires labels { 0 < length lists.old.sheet.labels }
     requires over { AreOverLines (listed_lines source.now) lists.old.sheet.labels }
     requires gutter { (s : Sheet) → s.labels ≡ lists.old.sheet.labels →
-        (lists.old.gutter.positions ≡ map (λ a. a.position) (gutter_labels s))
-        × (lists.old.gutter.bars ≡ replicate (length (gutter_labels s)) false) }
+        (lists.old.gutter.positions ≡ map (λ a. a.position) (gutter_labels s.labels))
+        × (lists.old.gutter.bars ≡ replicate (length (gutter_labels s.labels)) false) }
     requires known { IsRemembered (listed_lines source.now) lists.old.long_line }
     ensures known { OnOk result (IsRemembered (listed_lines source.now) lists.new.long_line) }
     ensures page { OnOk result (lists.new.gutter.page ≡ lists.old.gutter.page) }
@@ -427,7 +427,7 @@ fn find_paints(
     ensures onward { OnOk result (sheet.new.line ≤ line) }
     ensures paints { (s : Sheet) → s.labels ≡ sheet.old.labels →
         pen.now.page.palette.is_on ≡ true →
-        OnOk result (ArePaints (multi_line_labels s) layout.now table.new.paints.items) }
+        OnOk result (ArePaints (multi_line_labels s.labels) layout.now table.new.paints.items) }
 {
     if !pen.page().is_colored() {
         return Ok(());

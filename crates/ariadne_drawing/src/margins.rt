@@ -107,7 +107,7 @@ fn gutter_len(group: &[LabelInfo]) -> usize
 
 /// How many labels of a group own a gutter column: those over several lines that have a message.
 fn number_of_gutter_labels(group: &[LabelInfo]) -> usize
-    ensures number { (s : Sheet) → s.labels ≡ group.now → result ≡ length (gutter_labels s) }
+    ensures number { (s : Sheet) → s.labels ≡ group.now → result ≡ length (gutter_labels s.labels) }
     ensures within { result ≤ length group.now }
 {
     let mut number = 0;

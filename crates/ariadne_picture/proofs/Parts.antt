@@ -54,7 +54,7 @@ place_pieces switches multi_line y k =
 -- row n has the head or the message of a gutter label before i
 abbrev pub is_crossed_in : List (List Cell) → List Section → Placing → ℕ → Section → ℕ → ℕ → Bool
 is_crossed_in canvas sections p g s i n =
-    any_numbered (λ m a. nat_lt m i && ((p.head_row g m == n) || (p.message_row a.position == n))) (gutter_labels s.sheet)
+    any_numbered (λ m a. nat_lt m i && ((p.head_row g m == n) || (p.message_row a.position == n))) (gutter_labels s.sheet.labels)
 
 module _ {S Id : Type 0} (w : World S Id) (r : ReportFields S) where
   -- what the source of a group is called in its header

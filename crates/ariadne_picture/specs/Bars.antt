@@ -21,20 +21,20 @@ EndsNoEarlier a = a.start_line ≤ a.end_line
 
 -- a is gutter label i, and ends no earlier than it starts
 pub record IsGutterLabel (h : Sheet) (i : ℕ) (a : LabelInfo) : Type 0 where
-  pub owned : slice_get (gutter_labels h) i ≡ Some a
+  pub owned : slice_get (gutter_labels h.labels) i ≡ Some a
   pub rises : EndsNoEarlier a
 
 -- the start, or the end, of gutter label i is the margin label of line l
 pub record IsMarginLabel (h : Sheet) (l : ℕ) (side : Side) (i : ℕ) : Type 0 where
   pub label : LineLabel
-  pub there : margin_label h l ≡ Some label
+  pub there : margin_label h.labels l ≡ Some label
   pub same_side : label.side ≡ side
   pub same_gutter_column : label.gutter_column ≡ i
 
 -- the start, or the end, of gutter label i is the line label of rank n of line l
 pub record IsLineLabel (h : Sheet) (l : ℕ) (side : Side) (i n : ℕ) : Type 0 where
   pub label : LineLabel
-  pub there : slice_get (line_labels h l) n ≡ Some label
+  pub there : slice_get (line_labels h.labels l) n ≡ Some label
   pub same_side : label.side ≡ side
   pub same_gutter_column : label.gutter_column ≡ i
 

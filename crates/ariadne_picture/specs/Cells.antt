@@ -111,7 +111,7 @@ arrow_place switches y r (Some x) k = arrow_ink switches r x (spot_of y.margin x
 
 -- the colour of gutter label i
 unfoldable pub gutter_label_paint : Sheet → ℕ → Paint
-gutter_label_paint h i = unwrap_or (option_map paint_of (slice_get (gutter_labels h) i)) Plain
+gutter_label_paint h i = unwrap_or (option_map paint_of (slice_get (gutter_labels h.labels) i)) Plain
 
 -- where the margin label leaves or enters its column
 unfoldable pub margin_glyph : Side → Glyph
@@ -138,7 +138,7 @@ margin_ink n i (Some m) =
 unfoldable pub beside_ink : Sheet → Row → ℕ → ℕ → Glyph → Ink
 beside_ink h row l i bar =
     if bar_at h row i then ink bar (gutter_label_paint h i) Blank Plain
-    else margin_ink (length (gutter_labels h)) i (margin_label h l)
+    else margin_ink (length (gutter_labels h.labels)) i (margin_label h.labels l)
 
 -- column i of a row below a line: its bar, or blanks
 unfoldable pub below_ink : Sheet → Row → ℕ → Ink
@@ -160,5 +160,5 @@ unfoldable pub column_ink : Sheet → Row → ℕ → Ink
 column_ink h (source l) i = beside_ink h (source l) l i Vbar
 column_ink h (gap l) i = beside_ink h (gap l) l i VbarGap
 column_ink h (alternate l r) i = below_ink h (alternate l r) i
-column_ink h (arrow l r) i = turn_ink h (arrow l r) i (slice_get (line_labels h l) r)
+column_ink h (arrow l r) i = turn_ink h (arrow l r) i (slice_get (line_labels h.labels l) r)
 column_ink h row i = blanks

@@ -179,11 +179,11 @@ layout_of h l =
     let offset = line_offset length h.lines l in
     let text = line_text h.lines l in
     record {
-      margin = margin_label h l;
-      labels = line_labels h l;
+      margin = margin_label h.labels l;
+      labels = line_labels h.labels l;
       offset = offset;
       text = text;
-      sights = sights_of h.switches offset (option_to_list (margin_label h l) ++ line_labels h l)
+      sights = sights_of h.switches offset (option_to_list (margin_label h.labels l) ++ line_labels h.labels l)
           (drop_trailing_whitespace text);
     }
 

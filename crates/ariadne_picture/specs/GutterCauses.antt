@@ -52,7 +52,7 @@ module _ (canvas : List (List Cell)) (sections : List Section) (p : Placing) whe
     -- such a cell is blank, or shows a stroke that some gutter label has there
     unfoldable pub has_gutter_cause : ℕ → ℕ → Bool → Cell → Bool
     has_gutter_cause n j is_first c =
-        is_blank c || any_numbered (is_gutter_stroke_of n j is_first c) (gutter_labels s.sheet)
+        is_blank c || any_numbered (is_gutter_stroke_of n j is_first c) (gutter_labels s.sheet.labels)
 
     -- so do both cells of column j of row n; a compact picture has one
     unfoldable pub is_gutter_column_caused : ℕ → ℕ → Bool

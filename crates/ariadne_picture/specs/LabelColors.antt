@@ -128,4 +128,4 @@ module _ (canvas : List (List Cell)) (sections : List Section) (p : Placing)
   has_label_colors =
       all_numbered (λ g s.
       list_all (λ a. not (is_on_one_line a) || is_inline_colored g s a) (messages_of s)
-      && all_numbered (is_gutter_label_colored g s) (gutter_labels s.sheet)) sections
+      && all_numbered (is_gutter_label_colored g s) (gutter_labels s.sheet.labels)) sections

@@ -153,7 +153,7 @@ column_size switches = if switches.compact then 1 else 2
 
 -- the number of gutter columns: one for each gutter label and one for arrow heads
 unfoldable pub gutter_len : Sheet → ℕ
-gutter_len h = if length (gutter_labels h) == 0 then 0 else length (gutter_labels h) + 1
+gutter_len h = if length (gutter_labels h.labels) == 0 then 0 else length (gutter_labels h.labels) + 1
 
 -- the gutter of a row, column by column
 unfoldable pub gutter_pieces : Sheet → Row → List Piece
@@ -251,7 +251,7 @@ aside_pieces t a k (suc n) =
 
 -- what follows the gutter
 unfoldable pub text_pieces : Texts → Section → Row → List Piece
-text_pieces t s (source l) = shown_pieces t.switches (multi_line_labels s.sheet) (layout_of s.sheet l)
+text_pieces t s (source l) = shown_pieces t.switches (multi_line_labels s.sheet.labels) (layout_of s.sheet l)
 text_pieces t s (alternate l r) =
     let y = layout_of s.sheet l in area_pieces t.switches y (alternate_place t.switches y r)
 text_pieces t s (arrow l r) =

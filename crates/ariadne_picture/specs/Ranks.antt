@@ -63,13 +63,13 @@ unfoldable pub is_on_one_line : LabelInfo → Bool
 is_on_one_line a = a.start_line == a.end_line
 
 -- the multi-line labels, by falling length
-unfoldable pub multi_line_labels : Sheet → List LabelInfo
-multi_line_labels h =
-    in_order (λ a b. nat_lt (span_len b) (span_len a)) (filter (λ a. not (is_on_one_line a)) h.labels)
+unfoldable pub multi_line_labels : List LabelInfo → List LabelInfo
+multi_line_labels labels =
+    in_order (λ a b. nat_lt (span_len b) (span_len a)) (filter (λ a. not (is_on_one_line a)) labels)
 
 -- gutter label i owns gutter column i
-unfoldable pub gutter_labels : Sheet → List LabelInfo
-gutter_labels h = filter (λ a. a.has_message) (multi_line_labels h)
+unfoldable pub gutter_labels : List LabelInfo → List LabelInfo
+gutter_labels labels = filter (λ a. a.has_message) (multi_line_labels labels)
 
 -- ---- at a line
 
@@ -81,8 +81,8 @@ gutter_label_ends l i a =
     (if a.start_line == l then first ∷ [] else []) ++ (if a.end_line == l then last ∷ [] else [])
 
 -- the starts and ends of all gutter labels at line l
-unfoldable pub ends_at : Sheet → ℕ → List LineLabel
-ends_at h l = joined_numbered (gutter_label_ends l) (gutter_labels h)
+unfoldable pub ends_at : List LabelInfo → ℕ → List LineLabel
+ends_at labels l = joined_numbered (gutter_label_ends l) (gutter_labels labels)
 
 -- the least column, then the greater start
 unfoldable pub is_nearer_margin : LineLabel → LineLabel → Bool
@@ -90,8 +90,8 @@ is_nearer_margin a b =
     nat_lt a.place b.place || ((a.place == b.place) && nat_lt b.info.start a.info.start)
 
 -- the one whose arrow leaves the gutter beside the source row
-unfoldable pub margin_label : Sheet → ℕ → Option LineLabel
-margin_label h l = best is_nearer_margin (ends_at h l)
+unfoldable pub margin_label : List LabelInfo → ℕ → Option LineLabel
+margin_label labels l = best is_nearer_margin (ends_at labels l)
 
 -- it is a start or an end of gutter label i
 unfoldable pub is_of_gutter_label : Option LineLabel → ℕ → Bool
@@ -103,10 +103,10 @@ unfoldable pub is_margin : Option LineLabel → LineLabel → Bool
 is_margin margin x = not (is_inline x.side) && is_of_gutter_label margin x.gutter_column
 
 -- the labels that lie within line l
-unfoldable pub inline_labels : Sheet → ℕ → List LineLabel
-inline_labels h l =
+unfoldable pub inline_labels : List LabelInfo → ℕ → List LineLabel
+inline_labels labels l =
     map (λ a. record { info = a; side = Inline; gutter_column = 0; place = a.attach })
-    (filter (λ a. is_on_one_line a && (a.start_line == l)) h.labels)
+    (filter (λ a. is_on_one_line a && (a.start_line == l)) labels)
 
 -- by order, then by column, then the greater start first
 unfoldable pub is_before : LineLabel → LineLabel → Bool
@@ -115,14 +115,14 @@ is_before a b =
     || (not (int_lt b.info.order a.info.order) && is_nearer_margin a b)
 
 -- the margin label where it starts has no rows of its own
-unfoldable pub line_labels : Sheet → ℕ → List LineLabel
-line_labels h l =
-    in_order is_before (filter (λ x. not (is_start x.side && is_margin (margin_label h l) x))
-    (ends_at h l) ++ inline_labels h l)
+unfoldable pub line_labels : List LabelInfo → ℕ → List LineLabel
+line_labels labels l =
+    in_order is_before (filter (λ x. not (is_start x.side && is_margin (margin_label labels l) x))
+    (ends_at labels l) ++ inline_labels labels l)
 
 -- whether no label of the group has anything at a line
-unfoldable pub is_unlabelled : Sheet → ℕ → Bool
-is_unlabelled h l = (length (line_labels h l) == 0) && not (is_some (margin_label h l))
+unfoldable pub is_unlabelled : List LabelInfo → ℕ → Bool
+is_unlabelled labels l = (length (line_labels labels l) == 0) && not (is_some (margin_label labels l))
 
 -- a line with the n lines before it and the n behind it
 unfoldable pub lines_near : ℕ → ℕ → List ℕ
@@ -130,4 +130,4 @@ lines_near n l = range_with_len (l - n) (l + n + 1 - (l - n))
 
 -- whether a line is not shown: no label of the group has anything at it or near it
 unfoldable pub is_hidden : Sheet → ℕ → Bool
-is_hidden h l = list_all (is_unlabelled h) (lines_near h.switches.context_lines l)
+is_hidden h l = list_all (is_unlabelled h.labels) (lines_near h.switches.context_lines l)

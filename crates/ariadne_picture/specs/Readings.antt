@@ -18,13 +18,13 @@ AgreeOnLines groups p q =
 abbrev pub AgreeOnHeads : List Section → Placing → Placing → Type 0
 AgreeOnHeads groups p q =
     (g : ℕ) (s : Section) (i : ℕ) (a : LabelInfo) → slice_get groups g ≡ Some s
-    → slice_get (gutter_labels s.sheet) i ≡ Some a → p.head_row g i ≡ q.head_row g i
+    → slice_get (gutter_labels s.sheet.labels) i ≡ Some a → p.head_row g i ≡ q.head_row g i
 
 -- and for the message of each
 abbrev pub AgreeOnEnds : List Section → Placing → Placing → Type 0
 AgreeOnEnds groups p q =
     (g : ℕ) (s : Section) (i : ℕ) (a : LabelInfo) → slice_get groups g ≡ Some s
-    → slice_get (gutter_labels s.sheet) i ≡ Some a
+    → slice_get (gutter_labels s.sheet.labels) i ≡ Some a
     → p.message_row a.position ≡ q.message_row a.position
 
 -- the column where a label within one line is attached

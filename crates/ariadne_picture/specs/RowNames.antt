@@ -26,14 +26,14 @@ pub record BeginsHidden (h : Sheet) (l : ℕ) : Type 0 where
 pub record HasMessage (h : Sheet) (l r : ℕ) : Type 0 where
   pub line : HasLine h l
   pub label : LineLabel
-  pub there : slice_get (line_labels h l) r ≡ Some label
+  pub there : slice_get (line_labels h.labels l) r ≡ Some label
   pub message : label.info.has_message ≡ true
 
 -- line l has a row of underlines alone, and n, as many labels as it has, is its rank
 pub record HasUnderlines (h : Sheet) (l n : ℕ) : Type 0 where
   pub line : HasLine h l
   pub lone : is_lone h l ≡ true
-  pub behind : n ≡ length (line_labels h l)
+  pub behind : n ≡ length (line_labels h.labels l)
 
 module _ (h : Sheet) (is_last : Bool) (helps notes : List (List ℕ)) where
   -- the group has help or note number k

@@ -79,11 +79,11 @@ are_lone switches labels =
 
 -- so do those of line l
 unfoldable pub is_lone : Sheet → ℕ → Bool
-is_lone h l = are_lone h.switches (line_labels h l)
+is_lone h l = are_lone h.switches (line_labels h.labels l)
 
 -- that row, behind those of all ranks
 unfoldable pub lone_rows : Sheet → ℕ → List Row
-lone_rows h l = if is_lone h l then alternate l (length (line_labels h l)) ∷ [] else []
+lone_rows h l = if is_lone h l then alternate l (length (line_labels h.labels l)) ∷ [] else []
 
 -- whether the first character of line l lies inside a multi-line label
 unfoldable pub is_inside : Sheet → ℕ → Bool
@@ -99,7 +99,7 @@ line_rows h l =
     else if is_inside h l then gap l ∷ []
     else if h.switches.compact then [] else bare l ∷ [])
     else source l
-    ∷ joined (label_rows h.switches.compact l) (enumerate_from 0 (line_labels h l)) ++ lone_rows h l
+    ∷ joined (label_rows h.switches.compact l) (enumerate_from 0 (line_labels h.labels l)) ++ lone_rows h l
 
 -- the rows of a help or a note
 unfoldable pub aside_rows : Bool → Aside → ℕ × List ℕ → List Row

@@ -75,11 +75,11 @@ underline_at switches y r k =
 
 -- gutter label i starts or ends at line l as its margin label
 abbrev pub is_at_margin : Sheet → ℕ → ℕ → Bool
-is_at_margin h l i = is_of_gutter_label (margin_label h l) i
+is_at_margin h l i = is_of_gutter_label (margin_label h.labels l) i
 
 -- the rank that its start, or its end, has among the line labels of line l
 unfoldable pub rank_at : Sheet → (Side → Bool) → ℕ → ℕ → ℕ
-rank_at h is_side l i = position_or_len (λ x. is_side x.side && (x.gutter_column == i)) (line_labels h l)
+rank_at h is_side l i = position_or_len (λ x. is_side x.side && (x.gutter_column == i)) (line_labels h.labels l)
 
 -- the row of its head
 unfoldable pub first_row : Sheet → ℕ → LabelInfo → Row
@@ -100,4 +100,4 @@ has_tee h a i row = false
 unfoldable pub bar_at : Sheet → Row → ℕ → Bool
 bar_at h row i =
     option_map_or (λ a. before (first_row h i a) row && before row (last_row h i a) && not (has_tee h a i row))
-    (slice_get (gutter_labels h) i) false
+    (slice_get (gutter_labels h.labels) i) false

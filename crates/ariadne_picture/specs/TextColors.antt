@@ -26,7 +26,7 @@ module _ (canvas : List (List Cell)) (sections : List Section) (p : Placing)
     -- the characters of line l have the colours of the labels that are chosen for them
     unfoldable pub are_characters_colored : Bool
     are_characters_colored =
-        let pieces = shown_pieces s.sheet.switches (multi_line_labels s.sheet) (layout_of s.sheet l) in
+        let pieces = shown_pieces s.sheet.switches (multi_line_labels s.sheet.labels) (layout_of s.sheet l) in
         pointwise is_color (map (λ c. c.color) (text_cells canvas s (p.source_row g l)))
         (map (λ q. color_of_paint q.paint) pieces)
 

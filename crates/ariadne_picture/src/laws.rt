@@ -121,7 +121,7 @@ pub fn labels_end_no_earlier<S, Id>()
         (s : Sheet) (k i : ℕ) (a : LabelInfo)
         → All EndsNoEarlier labels
         → slice_get (groups_of same_source (ordered labels)) k ≡ Some s.labels
-        → slice_get (gutter_labels s) i ≡ Some a → IsGutterLabel s i a }
+        → slice_get (gutter_labels s.labels) i ≡ Some a → IsGutterLabel s i a }
 {}
 
 /// The rows of a group stand in the order of their names, each before every later one; so none
@@ -213,7 +213,7 @@ pub fn gutter_columns_show_their_strokes()
 
 /// The column of arrow heads has no bar: each row shows nothing there, a horizontal, or a head.
 pub fn the_last_gutter_column_has_no_bar()
-    ensures { (s : Sheet) (x : Row) → let last = length (gutter_labels s) in
+    ensures { (s : Sheet) (x : Row) → let last = length (gutter_labels s.labels) in
         Shows s x last Blank ⊎ Shows s x last Hbar ⊎ Shows s x last Rarrow }
 {}
 
@@ -362,7 +362,7 @@ pub fn pictures_are_read_in_one_way<S, Id>()
 /// message, and of its margin label.
 pub fn strokes_lead_to_what_is_seen()
     ensures { (s : Sheet) (l k : ℕ) (x : LineLabel)
-        → slice_get (option_to_list (margin_label s l) ++ line_labels s l) k ≡ Some x
+        → slice_get (option_to_list (margin_label s.labels l) ++ line_labels s.labels l) k ≡ Some x
         → x.info.has_message ≡ true → sight_of (layout_of s l) x.place ≡ Seen }
 {}
 

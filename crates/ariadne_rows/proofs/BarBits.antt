@@ -25,7 +25,7 @@ use Rattle.ariadne_rows.specs.Gutters.{is_beside, is_below, is_own_column, owns_
 -- ---- where a gutter label starts and ends
 
 -- a start of gutter label i at line l is on a's first line, where a is gutter label i
-starts-there : (s : Sheet) (l i : ℕ) (a : LabelInfo) (x : LineLabel) → slice_get (gutter_labels s) i ≡ Some a → IsEndAt s l x → x.gutter_column ≡ i
+starts-there : (s : Sheet) (l i : ℕ) (a : LabelInfo) (x : LineLabel) → slice_get (gutter_labels s.labels) i ≡ Some a → IsEndAt s l x → x.gutter_column ≡ i
     → x.side ≡ Starts → a.start_line ≡ l
 starts-there s l i a x e h own side = elim h.there [
   | inl is ↦ ap (λ b. b.start_line) (sym (same-info s l i a x e h own)) ∙ is.1
@@ -33,7 +33,7 @@ starts-there s l i a x e h own side = elim h.there [
 ]
 
 -- and an end on its last one
-ends-there : (s : Sheet) (l i : ℕ) (a : LabelInfo) (x : LineLabel) → slice_get (gutter_labels s) i ≡ Some a → IsEndAt s l x → x.gutter_column ≡ i
+ends-there : (s : Sheet) (l i : ℕ) (a : LabelInfo) (x : LineLabel) → slice_get (gutter_labels s.labels) i ≡ Some a → IsEndAt s l x → x.gutter_column ≡ i
     → x.side ≡ Ends → a.end_line ≡ l
 ends-there s l i a x e h own side = elim h.there [
   | inl is ↦ let other = is.0 in absurd (cc)
@@ -41,9 +41,9 @@ ends-there s l i a x e h own side = elim h.there [
 ]
 
 -- a line label that is a start or an end is one of a gutter label
-pub label-end : (s : Sheet) (l r : ℕ) (x : LineLabel) → slice_get (line_labels s l) r ≡ Some x → is_inline x.side ≡ false → IsEndAt s l x
+pub label-end : (s : Sheet) (l r : ℕ) (x : LineLabel) → slice_get (line_labels s.labels l) r ≡ Some x → is_inline x.side ≡ false → IsEndAt s l x
 unfolding is_inline
-label-end s l r x e out = elim (all-at (λ x. IsEndAt s l x ⊎ (x.side ≡ Inline)) (line_labels s l) r x e (line-labels-are s l)) [
+label-end s l r x e out = elim (all-at (λ x. IsEndAt s l x ⊎ (x.side ≡ Inline)) (line_labels s.labels l) r x e (line-labels-are s l)) [
   | inl is ↦ is
   | inr side ↦ absurd (true≢false (sym (ap is_inline side) ∙ out))
 ]
@@ -82,12 +82,12 @@ module _ (s : Sheet) (l i : ℕ) (a : LabelInfo) (m : IsGutterLabel s i a) where
   end-there e = subst (λ k. IsLineLabel s k Ends i (rank_at s is_end k i)) e (numbered-end s i a m.owned)
 
   -- so the rank of its start is that of a line label
-  start-rank : a.start_line ≡ l → is_at_margin s l i ≡ false → rank_at s is_start l i < length (line_labels s l)
-  start-rank e off = let h = start-there e off in slice_get_within (line_labels s l) (rank_at s is_start l i) h.label h.there
+  start-rank : a.start_line ≡ l → is_at_margin s l i ≡ false → rank_at s is_start l i < length (line_labels s.labels l)
+  start-rank e off = let h = start-there e off in slice_get_within (line_labels s.labels l) (rank_at s is_start l i) h.label h.there
 
   -- and so is that of its end
-  end-rank : a.end_line ≡ l → rank_at s is_end l i < length (line_labels s l)
-  end-rank e = let h = end-there e in slice_get_within (line_labels s l) (rank_at s is_end l i) h.label h.there
+  end-rank : a.end_line ≡ l → rank_at s is_end l i < length (line_labels s.labels l)
+  end-rank e = let h = end-there e in slice_get_within (line_labels s.labels l) (rank_at s is_end l i) h.label h.there
 
   -- but not that of a line label with another column or with none
   start-off : (r : ℕ) → owns_column s (arrow l r) i ≡ false → a.start_line ≡ l → is_at_margin s l i ≡ false → rank_at s is_start l i ≢ r
@@ -215,7 +215,7 @@ module _ (s : Sheet) (l i : ℕ) (a : LabelInfo) (m : IsGutterLabel s i a) where
   own-bar r Ends h out = sym (ended-bar r h)
 
   -- below the last line label it stands as beside the next line
-  pub next-line-bar : is_below s l (length (line_labels s l)) i a ≡ is_beside (l + 1) a
+  pub next-line-bar : is_below s l (length (line_labels s.labels l)) i a ≡ is_beside (l + 1) a
   unfolding is_below is_beside
   next-line-bar =
       let up = rises s i a m in
@@ -224,11 +224,11 @@ module _ (s : Sheet) (l i : ℕ) (a : LabelInfo) (m : IsGutterLabel s i a) where
       grind (arith, nat_tests)
 
   -- beside a line without labels too, since that has no line label and no margin label
-  pub unlabelled-bar : is_unlabelled s l ≡ true → is_beside l a ≡ is_beside (l + 1) a
+  pub unlabelled-bar : is_unlabelled s.labels l ≡ true → is_beside l a ≡ is_beside (l + 1) a
   unfolding is_beside is_unlabelled
   unlabelled-bar bare =
       let off = unlabelled-off-margin s l i bare in
-      let none = eqb-true (length (line_labels s l)) 0 (and_parts (length (line_labels s l) == 0) (not (is_some (margin_label s l))) bare).0 in
+      let none = eqb-true (length (line_labels s.labels l)) 0 (and_parts (length (line_labels s.labels l) == 0) (not (is_some (margin_label s.labels l))) bare).0 in
       let start = start-rank in
       let end = end-rank in
       grind (arith, nat_tests)

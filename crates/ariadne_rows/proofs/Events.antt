@@ -63,7 +63,7 @@ none (x ∷ xs) e = absurd (omega arith)
 pub events-rise : (s : Sheet) → RisesBy (λ e. e.line) (events_of s)
 unfolding events_of
 events-rise s =
-    in_order-rises (λ e. e.line) (joined gutter_events (enumerate_from 0 (gutter_labels s)) ++ joined inline_events (enumerate_from 0 s.labels))
+    in_order-rises (λ e. e.line) (joined gutter_events (enumerate_from 0 (gutter_labels s.labels)) ++ joined inline_events (enumerate_from 0 s.labels))
 
 -- ---- the events of a line are its labels
 
@@ -97,7 +97,7 @@ module _ (s : Sheet) (l : ℕ) where
   labels e = option_to_list (event_label s e.side e.index)
 
   -- of gutter label i those of its two ends that are on the line
-  gutter-label-at : (e : ℕ × LabelInfo) → slice_get (gutter_labels s) e.0 ≡ Some e.1
+  gutter-label-at : (e : ℕ × LabelInfo) → slice_get (gutter_labels s.labels) e.0 ≡ Some e.1
       → joined labels (filter on_line (gutter_events e)) ≡ gutter_label_ends l e.0 e.1
   unfolding joined gutter_label_ends event_label
   gutter-label-at e there =
@@ -121,13 +121,13 @@ module _ (s : Sheet) (l : ℕ) where
       ]
 
   -- so the events of gutter labels are the ends at the line
-  gutter-at : joined labels (filter on_line (joined gutter_events (enumerate_from 0 (gutter_labels s)))) ≡ ends_at s l
+  gutter-at : joined labels (filter on_line (joined gutter_events (enumerate_from 0 (gutter_labels s.labels)))) ≡ ends_at s.labels l
   unfolding ends_at
   gutter-at =
-      ap (joined labels) (filter-joined on_line gutter_events (enumerate_from 0 (gutter_labels s)))
-      ∙ joined-joined labels (λ (e : ℕ × LabelInfo). filter on_line (gutter_events e)) (enumerate_from 0 (gutter_labels s))
-      ∙ joined-alike (λ (e : ℕ × LabelInfo). slice_get (gutter_labels s) e.0 ≡ Some e.1) (λ e. joined labels (filter on_line (gutter_events e)))
-      (λ e. gutter_label_ends l e.0 e.1) gutter-label-at (enumerate_from 0 (gutter_labels s)) (numbered (gutter_labels s))
+      ap (joined labels) (filter-joined on_line gutter_events (enumerate_from 0 (gutter_labels s.labels)))
+      ∙ joined-joined labels (λ (e : ℕ × LabelInfo). filter on_line (gutter_events e)) (enumerate_from 0 (gutter_labels s.labels))
+      ∙ joined-alike (λ (e : ℕ × LabelInfo). slice_get (gutter_labels s.labels) e.0 ≡ Some e.1) (λ e. joined labels (filter on_line (gutter_events e)))
+      (λ e. gutter_label_ends l e.0 e.1) gutter-label-at (enumerate_from 0 (gutter_labels s.labels)) (numbered (gutter_labels s.labels))
 
   -- a label within the line as it stands there
   abbrev inline_label : LabelInfo → LineLabel
@@ -151,7 +151,7 @@ module _ (s : Sheet) (l : ℕ) where
       ]
 
   -- so the other events are the labels within the line
-  inline-at : joined labels (filter on_line (joined inline_events (enumerate_from 0 s.labels))) ≡ inline_labels s l
+  inline-at : joined labels (filter on_line (joined inline_events (enumerate_from 0 s.labels))) ≡ inline_labels s.labels l
   unfolding inline_labels
   inline-at =
       let test : LabelInfo → Bool = λ a. is_on_one_line a && (a.start_line == l) in
@@ -162,10 +162,10 @@ module _ (s : Sheet) (l : ℕ) where
       ∙ joined-tested test inline_label 0 s.labels
 
   -- the labels of the events of a line: the ends of gutter labels, then the labels within it
-  pub labels-at : labels_of s (events_at s l) ≡ ends_at s l ++ inline_labels s l
+  pub labels-at : labels_of s (events_at s l) ≡ ends_at s.labels l ++ inline_labels s.labels l
   unfolding labels_of events_at events_of
   labels-at =
-      let ends : List Event = joined gutter_events (enumerate_from 0 (gutter_labels s)) in
+      let ends : List Event = joined gutter_events (enumerate_from 0 (gutter_labels s.labels)) in
       let inlines : List Event = joined inline_events (enumerate_from 0 s.labels) in
       ap (joined labels) (kept-order l (ends ++ inlines) ∙ filter-append on_line ends inlines)
       ∙ joined-append labels (filter on_line ends) (filter on_line inlines) ∙ (λ i. gutter-at i ++ inline-at i)
@@ -177,7 +177,7 @@ abbrev HasLabel : Sheet → Event → Type 0
 HasLabel s e = is_some (event_label s e.side e.index) ≡ true
 
 -- so it is for both ends of a gutter label
-gutter-labelled : (s : Sheet) (e : ℕ × LabelInfo) → slice_get (gutter_labels s) e.0 ≡ Some e.1 → AllByRecursion (HasLabel s) (gutter_events e)
+gutter-labelled : (s : Sheet) (e : ℕ × LabelInfo) → slice_get (gutter_labels s.labels) e.0 ≡ Some e.1 → AllByRecursion (HasLabel s) (gutter_events e)
 unfolding event_label
 gutter-labelled s e there = (rw there refl, (rw there refl, tt))
 
@@ -191,12 +191,12 @@ inline-labelled s e there =
 pub events-labelled : (s : Sheet) → AllByRecursion (HasLabel s) (events_of s)
 unfolding events_of
 events-labelled s =
-    let ends : List Event = joined gutter_events (enumerate_from 0 (gutter_labels s)) in
+    let ends : List Event = joined gutter_events (enumerate_from 0 (gutter_labels s.labels)) in
     let inlines : List Event = joined inline_events (enumerate_from 0 s.labels) in
     all-in_order (HasLabel s) (λ a b. nat_lt a.line b.line) (ends ++ inlines)
     (all-append (HasLabel s) ends inlines
-    (all-joined (HasLabel s) (λ e. slice_get (gutter_labels s) e.0 ≡ Some e.1) gutter_events (enumerate_from 0 (gutter_labels s)) (gutter-labelled s)
-    (numbered (gutter_labels s)))
+    (all-joined (HasLabel s) (λ e. slice_get (gutter_labels s.labels) e.0 ≡ Some e.1) gutter_events (enumerate_from 0 (gutter_labels s.labels)) (gutter-labelled s)
+    (numbered (gutter_labels s.labels)))
     (all-joined (HasLabel s) (λ e. slice_get s.labels e.0 ≡ Some e.1) inline_events (enumerate_from 0 s.labels) (inline-labelled s)
     (numbered s.labels)))
 
@@ -212,27 +212,27 @@ none-labelled s (x ∷ xs) a e = elim (event_label s x.side x.index) as (λ o. i
 -- ---- a line without an event has no labels
 
 -- no label has anything at a line that no event is on
-pub no_event-unlabelled : (s : Sheet) (l : ℕ) → events_at s l ≡ [] → is_unlabelled s l ≡ true
+pub no_event-unlabelled : (s : Sheet) (l : ℕ) → events_at s l ≡ [] → is_unlabelled s.labels l ≡ true
 unfolding is_unlabelled line_labels margin_label labels_of joined best in_order
 no_event-unlabelled s l e =
-    let both : ends_at s l ++ inline_labels s l ≡ [] = sym (labels-at s l) ∙ ap (labels_of s) e in
-    let few : length (ends_at s l) + length (inline_labels s l) ≡ 0 = sym (length-append (ends_at s l) (inline_labels s l)) ∙ ap length both in
-    let no_ends : ends_at s l ≡ [] = none (ends_at s l) (omega arith) in
-    let no_inlines : inline_labels s l ≡ [] = none (inline_labels s l) (omega arith) in
+    let both : ends_at s.labels l ++ inline_labels s.labels l ≡ [] = sym (labels-at s l) ∙ ap (labels_of s) e in
+    let few : length (ends_at s.labels l) + length (inline_labels s.labels l) ≡ 0 = sym (length-append (ends_at s.labels l) (inline_labels s.labels l)) ∙ ap length both in
+    let no_ends : ends_at s.labels l ≡ [] = none (ends_at s.labels l) (omega arith) in
+    let no_inlines : inline_labels s.labels l ≡ [] = none (inline_labels s.labels l) (omega arith) in
     rw (no_ends, no_inlines) refl
 
 -- and no event is on a line where none has
-pub unlabelled-no_event : (s : Sheet) (l : ℕ) → is_unlabelled s l ≡ true → events_at s l ≡ []
+pub unlabelled-no_event : (s : Sheet) (l : ℕ) → is_unlabelled s.labels l ≡ true → events_at s l ≡ []
 unfolding is_unlabelled line_labels margin_label events_at
 unlabelled-no_event s l h =
-    let t : LineLabel → Bool = λ x. not (is_start x.side && is_margin (margin_label s l) x) in
-    let all : List LineLabel = filter t (ends_at s l) ++ inline_labels s l in
-    let parts = and_parts (length (line_labels s l) == 0) (not (is_some (margin_label s l))) h in
-    let few : length all ≡ 0 = sym (length-in_order is_before all) ∙ eqb-true (length (line_labels s l)) 0 parts.0 in
-    let shorter = length-append (filter t (ends_at s l)) (inline_labels s l) in
-    let no_inlines : inline_labels s l ≡ [] = none (inline_labels s l) (omega arith) in
-    let no_margin : margin_label s l ≡ None = is_none (margin_label s l) (not-true (is_some (margin_label s l)) parts.1) in
-    let no_ends : ends_at s l ≡ [] = best-none is_nearer_margin (ends_at s l) no_margin in
+    let t : LineLabel → Bool = λ x. not (is_start x.side && is_margin (margin_label s.labels l) x) in
+    let all : List LineLabel = filter t (ends_at s.labels l) ++ inline_labels s.labels l in
+    let parts = and_parts (length (line_labels s.labels l) == 0) (not (is_some (margin_label s.labels l))) h in
+    let few : length all ≡ 0 = sym (length-in_order is_before all) ∙ eqb-true (length (line_labels s.labels l)) 0 parts.0 in
+    let shorter = length-append (filter t (ends_at s.labels l)) (inline_labels s.labels l) in
+    let no_inlines : inline_labels s.labels l ≡ [] = none (inline_labels s.labels l) (omega arith) in
+    let no_margin : margin_label s.labels l ≡ None = is_none (margin_label s.labels l) (not-true (is_some (margin_label s.labels l)) parts.1) in
+    let no_ends : ends_at s.labels l ≡ [] = best-none is_nearer_margin (ends_at s.labels l) no_margin in
     none-labelled s (events_at s l) (all-filter (HasLabel s) (λ e. e.line == l) (events_of s) (events-labelled s))
     (labels-at s l ∙ (λ i. no_ends i ++ no_inlines i))
   where
@@ -241,9 +241,9 @@ unlabelled-no_event s l h =
     is_none (Some x) e = absurd (true≢false e)
 
 -- so the line of an event has some
-pub event-labelled : (s : Sheet) (k : ℕ) (e : Event) → slice_get (events_of s) k ≡ Some e → is_unlabelled s e.line ≡ false
+pub event-labelled : (s : Sheet) (k : ℕ) (e : Event) → slice_get (events_of s) k ≡ Some e → is_unlabelled s.labels e.line ≡ false
 unfolding events_at
-event-labelled s k e there = elim (cases_Bool (is_unlabelled s e.line)) [
+event-labelled s k e there = elim (cases_Bool (is_unlabelled s.labels e.line)) [
   | inr f ↦ f
   | inl t ↦
       let gone = unlabelled-no_event s e.line t in
@@ -275,13 +275,13 @@ unfolding events_of
 event-lines s up =
     let P : Event → Type 0 = λ e. IsGroupLine s e.line in
     let Q : LabelInfo → Type 0 = λ a. IsGroupLine s a.start_line × IsGroupLine s a.end_line in
-    let ends : List Event = joined gutter_events (enumerate_from 0 (gutter_labels s)) in
+    let ends : List Event = joined gutter_events (enumerate_from 0 (gutter_labels s.labels)) in
     let inlines : List Event = joined inline_events (enumerate_from 0 s.labels) in
     let within = label-lines s up in
     all-in_order P (λ a b. nat_lt a.line b.line) (ends ++ inlines)
     (all-append P ends inlines
-    (all-joined P (λ e. Q e.1) gutter_events (enumerate_from 0 (gutter_labels s)) (λ e h. (h.0, (h.1, tt)))
-    (all-numbered (λ e. Q e.1) (gutter_labels s) (λ k a e. all-at Q (gutter_labels s) k a e (all-gutter-labels Q s within))))
+    (all-joined P (λ e. Q e.1) gutter_events (enumerate_from 0 (gutter_labels s.labels)) (λ e h. (h.0, (h.1, tt)))
+    (all-numbered (λ e. Q e.1) (gutter_labels s.labels) (λ k a e. all-at Q (gutter_labels s.labels) k a e (all-gutter-labels Q s within))))
     (all-joined P (λ e. Q e.1) inline_events (enumerate_from 0 s.labels)
     (λ e h. cond_both (is_on_one_line e.1) _ [] (AllByRecursion P) (λ _. (h.0, tt)) (λ _. tt))
     (all-numbered (λ e. Q e.1) s.labels (λ k a e. all-at Q s.labels k a e within))))

@@ -34,20 +34,20 @@ use Rattle.ariadne_rows.proofs.GutterText.{joined-range_same}
 -- ---- a row by its columns
 
 -- the gutter has a column more than gutter labels, at most
-gutter-few : (s : Sheet) → gutter_len s ≤ length (gutter_labels s) + 1
+gutter-few : (s : Sheet) → gutter_len s ≤ length (gutter_labels s.labels) + 1
 unfolding gutter_len
 gutter-few s =
-    let n = length (gutter_labels s) in
+    let n = length (gutter_labels s.labels) in
     cond_both (n == 0) 0 (n + 1) (λ k. k ≤ n + 1) (λ e. omega arith) (λ e. omega arith)
 
 -- it has as many as the group's
-pub same-columns : (s : Sheet) (g : GutterFields) → length g.bars ≡ length (gutter_labels s) → gutter_len s ≡ columns g
+pub same-columns : (s : Sheet) (g : GutterFields) → length g.bars ≡ length (gutter_labels s.labels) → gutter_len s ≡ columns g
 unfolding columns gutter_len
 same-columns s g e = ap (λ n. if n == 0 then 0 else n + 1) (sym e)
 
 -- a row is written column by column
-pub row-bytes : (s : Sheet) (x : Row) (g : GutterFields) (ink_at : ℕ → Ink) → IsOfSheet s g → length g.bars ≡ length (gutter_labels s)
-    → ((i : ℕ) → i ≤ length (gutter_labels s) → column_ink s x i ≡ ink_at i)
+pub row-bytes : (s : Sheet) (x : Row) (g : GutterFields) (ink_at : ℕ → Ink) → IsOfSheet s g → length g.bars ≡ length (gutter_labels s.labels)
+    → ((i : ℕ) → i ≤ length (gutter_labels s.labels) → column_ink s x i ≡ ink_at i)
     → pieces_bytes g.page.palette (gutter_pieces s x) ≡ columns_bytes g.page ink_at (columns g)
 unfolding gutter_pieces columns_bytes column_bytes
 row-bytes s x g ink_at of len same =
@@ -70,32 +70,32 @@ paint-at (x ∷ xs) zero h = refl
 paint-at (x ∷ xs) (suc i) h = paint-at xs i (omega arith)
 
 -- a column with a bar of the group, or without, is one of the gutter
-bar-ink : (s : Sheet) (g : GutterFields) (glyph : Glyph) (i : ℕ) (b : Bool) → IsOfSheet s g → length g.bars ≡ length (gutter_labels s)
+bar-ink : (s : Sheet) (g : GutterFields) (glyph : Glyph) (i : ℕ) (b : Bool) → IsOfSheet s g → length g.bars ≡ length (gutter_labels s.labels)
     → bar_in g.bars i ≡ b → (if b then ink glyph (gutter_label_paint s i) Blank Plain else blanks) ≡ bars_ink glyph g i
 unfolding bars_ink bar_ink bar_of bar_in gutter_label_paint
 bar-ink s g glyph i true of len on =
-    let inside : i < length (gutter_labels s) = elim (cases_lt i (length g.bars)) [
+    let inside : i < length (gutter_labels s.labels) = elim (cases_lt i (length g.bars)) [
       | inl less ↦ omega arith
       | inr more ↦ absurd (true≢false (sym on ∙ get_or_past g.bars i false more))
     ] in
     rw on (ap (λ p. ink glyph p Blank Plain)
-    (paint-at (gutter_labels s) i inside ∙ ap (λ t. Label (get_or t i 0)) (sym of.positions)))
+    (paint-at (gutter_labels s.labels) i inside ∙ ap (λ t. Label (get_or t i 0)) (sym of.positions)))
 bar-ink s g glyph i false of len off = rw off refl
 
 -- bars of the group stand where those of the gutter do, but in the row's own column
-bar-agrees : (s : Sheet) (x : Row) (g : GutterFields) → HasBarsOf s x g → (i : ℕ) → i ≤ length (gutter_labels s) → owns_column s x i ≡ false
+bar-agrees : (s : Sheet) (x : Row) (g : GutterFields) → HasBarsOf s x g → (i : ℕ) → i ≤ length (gutter_labels s.labels) → owns_column s x i ≡ false
     → bar_at s x i ≡ bar_in g.bars i
 unfolding bar_in
-bar-agrees s x g h i within other = elim (cases_lt i (length (gutter_labels s))) [
+bar-agrees s x g h i within other = elim (cases_lt i (length (gutter_labels s.labels))) [
   | inl less ↦ sym (h.bars i less other)
   | inr more ↦
-      let e : i ≡ length (gutter_labels s) = omega arith in
+      let e : i ≡ length (gutter_labels s.labels) = omega arith in
       let len = h.len in
       ap (bar_at s x) e ∙ no-bar-last s x ∙ sym (get_or_past g.bars i false (omega arith))
 ]
 
 -- so a column that shows its bar, or blanks, does so here
-bar-column : (s : Sheet) (x : Row) (g : GutterFields) (glyph : Glyph) → HasBarsOf s x g → (i : ℕ) → i ≤ length (gutter_labels s)
+bar-column : (s : Sheet) (x : Row) (g : GutterFields) (glyph : Glyph) → HasBarsOf s x g → (i : ℕ) → i ≤ length (gutter_labels s.labels)
     → owns_column s x i ≡ false → (if bar_at s x i then ink glyph (gutter_label_paint s i) Blank Plain else blanks) ≡ bars_ink glyph g i
 bar-column s x g glyph h i within other =
     bar-ink s g glyph i (bar_at s x i) h.sheet h.len (sym (bar-agrees s x g h i within other))
@@ -110,7 +110,7 @@ alternate-bytes s l r g h =
     row-bytes s (alternate l r) g (bars_ink Vbar g) h.sheet h.len (λ i within. bar-column s (alternate l r) g Vbar h i within refl)
 
 -- the arrow row of a label within the line
-pub inline-bytes : (s : Sheet) (l r : ℕ) (x : LineLabel) (g : GutterFields) → HasBarsOf s (arrow l r) g → slice_get (line_labels s l) r ≡ Some x
+pub inline-bytes : (s : Sheet) (l r : ℕ) (x : LineLabel) (g : GutterFields) → HasBarsOf s (arrow l r) g → slice_get (line_labels s.labels l) r ≡ Some x
     → is_inline x.side ≡ true → pieces_bytes g.page.palette (gutter_pieces s (arrow l r)) ≡ columns_bytes g.page (bars_ink Vbar g) (columns g)
 unfolding column_ink turn_ink below_ink owns_column is_own_column
 inline-bytes s l r x g h there inline =
@@ -118,7 +118,7 @@ inline-bytes s l r x g h there inline =
     (λ i within. rw (there, inline) (bar-column s (arrow l r) g Vbar h i within (rw (there, inline) refl)))
 
 -- a source row without margin label
-pub source-bytes : (s : Sheet) (l : ℕ) (g : GutterFields) → HasBarsOf s (source l) g → margin_label s l ≡ None
+pub source-bytes : (s : Sheet) (l : ℕ) (g : GutterFields) → HasBarsOf s (source l) g → margin_label s.labels l ≡ None
     → pieces_bytes g.page.palette (gutter_pieces s (source l)) ≡ columns_bytes g.page (bars_ink Vbar g) (columns g)
 unfolding column_ink beside_ink margin_ink owns_column is_of_gutter_label
 source-bytes s l g h none =
@@ -126,7 +126,7 @@ source-bytes s l g h none =
     (λ i within. rw none (bar-column s (source l) g Vbar h i within (rw none refl)))
 
 -- a row in place of hidden lines
-pub gap-bytes : (s : Sheet) (l : ℕ) (g : GutterFields) → HasBarsOf s (gap l) g → margin_label s l ≡ None
+pub gap-bytes : (s : Sheet) (l : ℕ) (g : GutterFields) → HasBarsOf s (gap l) g → margin_label s.labels l ≡ None
     → pieces_bytes g.page.palette (gutter_pieces s (gap l)) ≡ columns_bytes g.page (bars_ink VbarGap g) (columns g)
 unfolding column_ink beside_ink margin_ink owns_column
 gap-bytes s l g h none =
@@ -141,8 +141,8 @@ pub blank-bytes : (s : Sheet) (x : Row) (g : GutterFields) → IsOfSheet s g →
     → pieces_bytes g.page.palette (gutter_pieces s x) ≡ spaces (columns g * column_size g.page.switches)
 unfolding columns_bytes
 blank-bytes s x g of same free =
-    let len : length g.bars ≡ length (gutter_labels s) =
-    sym same ∙ ap length of.positions ∙ length-map (gutter_labels s) (λ (a : LabelInfo). a.position) in
+    let len : length g.bars ≡ length (gutter_labels s.labels) =
+    sym same ∙ ap length of.positions ∙ length-map (gutter_labels s.labels) (λ (a : LabelInfo). a.position) in
     row-bytes s x g (λ i. blanks) of len (λ i within. free i) ∙ blank-columns g.page 0 (columns g)
 
 -- above a help or a note
@@ -158,7 +158,7 @@ piece-ink s a k p i = refl
 -- ---- the source row of a line with a margin label
 
 -- no bar of a gutter label stands where its own stroke leaves or enters the margin
-no-bar-own : (s : Sheet) (l : ℕ) (m : LineLabel) → margin_label s l ≡ Some m → bar_at s (source l) m.gutter_column ≡ false
+no-bar-own : (s : Sheet) (l : ℕ) (m : LineLabel) → margin_label s.labels l ≡ Some m → bar_at s (source l) m.gutter_column ≡ false
 unfolding first_row has_tee is_of_gutter_label
 no-bar-own s l m there =
     let i = m.gutter_column in
@@ -177,8 +177,8 @@ no-bar-own s l m there =
     ])
 
 -- its columns
-margin-column : (s : Sheet) (l : ℕ) (m : LineLabel) (g : GutterFields) → HasBarsOf s (source l) g → margin_label s l ≡ Some m
-    → (i : ℕ) → i ≤ length (gutter_labels s) → column_ink s (source l) i ≡ margin_row_ink g m i
+margin-column : (s : Sheet) (l : ℕ) (m : LineLabel) (g : GutterFields) → HasBarsOf s (source l) g → margin_label s.labels l ≡ Some m
+    → (i : ℕ) → i ≤ length (gutter_labels s.labels) → column_ink s (source l) i ≡ margin_row_ink g m i
 unfolding column_ink beside_ink margin_row_ink owns_column is_of_gutter_label
 margin-column s l m g h there i within =
     let e = ap (λ n. margin_ink n i (Some m)) (sym h.len) in
@@ -199,20 +199,20 @@ margin-column s l m g h there i within =
     ]
 
 -- the row
-pub margin-bytes : (s : Sheet) (l : ℕ) (m : LineLabel) (g : GutterFields) → HasBarsOf s (source l) g → margin_label s l ≡ Some m
+pub margin-bytes : (s : Sheet) (l : ℕ) (m : LineLabel) (g : GutterFields) → HasBarsOf s (source l) g → margin_label s.labels l ≡ Some m
     → pieces_bytes g.page.palette (gutter_pieces s (source l)) ≡ columns_bytes g.page (margin_row_ink g m) (columns g)
 margin-bytes s l m g h there =
     row-bytes s (source l) g (margin_row_ink g m) h.sheet h.len (λ i within. margin-column s l m g h there i within)
 
 -- its margin label is a gutter label's
-pub margin-within : (s : Sheet) (l : ℕ) (m : LineLabel) → margin_label s l ≡ Some m → m.gutter_column < length (gutter_labels s)
-margin-within s l m there = slice_get_within (gutter_labels s) m.gutter_column m.info (margin-is s l m there).owned
+pub margin-within : (s : Sheet) (l : ℕ) (m : LineLabel) → margin_label s.labels l ≡ Some m → m.gutter_column < length (gutter_labels s.labels)
+margin-within s l m there = slice_get_within (gutter_labels s.labels) m.gutter_column m.info (margin-is s l m there).owned
 
 -- ---- the arrow row of the start or the end of a gutter label
 
 -- its columns
-turn-column : (s : Sheet) (l r : ℕ) (x : LineLabel) (g : GutterFields) → HasBarsOf s (arrow l r) g → slice_get (line_labels s l) r ≡ Some x
-    → is_inline x.side ≡ false → (i : ℕ) → i ≤ length (gutter_labels s) → column_ink s (arrow l r) i ≡ turn_row_ink g x i
+turn-column : (s : Sheet) (l r : ℕ) (x : LineLabel) (g : GutterFields) → HasBarsOf s (arrow l r) g → slice_get (line_labels s.labels l) r ≡ Some x
+    → is_inline x.side ≡ false → (i : ℕ) → i ≤ length (gutter_labels s.labels) → column_ink s (arrow l r) i ≡ turn_row_ink g x i
 unfolding column_ink turn_ink below_ink turn_row_ink owns_column is_own_column
 turn-column s l r x g h there out i within = elim (cases_Bool (x.gutter_column == i)) [
   | inl same ↦ rw (there, out, same) refl
@@ -227,17 +227,17 @@ turn-column s l r x g h there out i within = elim (cases_Bool (x.gutter_column =
 ]
 
 -- the row
-pub turn-bytes : (s : Sheet) (l r : ℕ) (x : LineLabel) (g : GutterFields) → HasBarsOf s (arrow l r) g → slice_get (line_labels s l) r ≡ Some x
+pub turn-bytes : (s : Sheet) (l r : ℕ) (x : LineLabel) (g : GutterFields) → HasBarsOf s (arrow l r) g → slice_get (line_labels s.labels l) r ≡ Some x
     → is_inline x.side ≡ false → pieces_bytes g.page.palette (gutter_pieces s (arrow l r)) ≡ columns_bytes g.page (turn_row_ink g x) (columns g)
 turn-bytes s l r x g h there out =
     row-bytes s (arrow l r) g (turn_row_ink g x) h.sheet h.len (λ i within. turn-column s l r x g h there out i within)
 
 -- its line label is a gutter label's
-pub turn-within : (s : Sheet) (l r : ℕ) (x : LineLabel) → slice_get (line_labels s l) r ≡ Some x → is_inline x.side ≡ false
-    → x.gutter_column < length (gutter_labels s)
+pub turn-within : (s : Sheet) (l r : ℕ) (x : LineLabel) → slice_get (line_labels s.labels l) r ≡ Some x → is_inline x.side ≡ false
+    → x.gutter_column < length (gutter_labels s.labels)
 unfolding is_inline
-turn-within s l r x there out = elim (all-at (IsHere s l) (line_labels s l) r x there (labels-here s l)) [
-  | inl b ↦ slice_get_within (gutter_labels s) x.gutter_column x.info b.owned
-  | inr (inl b) ↦ slice_get_within (gutter_labels s) x.gutter_column x.info b.owned
+turn-within s l r x there out = elim (all-at (IsHere s l) (line_labels s.labels l) r x there (labels-here s l)) [
+  | inl b ↦ slice_get_within (gutter_labels s.labels) x.gutter_column x.info b.owned
+  | inr (inl b) ↦ slice_get_within (gutter_labels s.labels) x.gutter_column x.info b.owned
   | inr (inr b) ↦ absurd (true≢false (ap is_inline (sym b.side) ∙ out))
 ]

@@ -49,7 +49,7 @@ any-alike P p q e (x ∷ xs) a = λ i. e x a.0 i || any-alike P p q e xs a.1 i
 module _ (s : Sheet) (l : ℕ) (h : HoldersTouch s l) (o : ℕ) (low : line_offset length s.lines l ≤ o)
     (high : o < line_offset length s.lines l + length (line_text s.lines l)) where
   -- each multi-line label that holds it touches the line
-  holders-touch : AllByRecursion (λ a. holds a o ≡ true → touches l a ≡ true) (multi_line_labels s)
+  holders-touch : AllByRecursion (λ a. holds a o ≡ true → touches l a ≡ true) (multi_line_labels s.labels)
   unfolding multi_line_labels
   holders-touch =
       let P : LabelInfo → Type 0 = λ a. holds a o ≡ true → touches l a ≡ true in
@@ -57,24 +57,24 @@ module _ (s : Sheet) (l : ℕ) (h : HoldersTouch s l) (o : ℕ) (low : line_offs
       (all-filter P (λ a. not (is_on_one_line a)) s.labels (h o low high))
 
   -- one that does not touch it does not hold it
-  untouched : (i : ℕ) (a : LabelInfo) → slice_get (multi_line_labels s) i ≡ Some a → touches l a ≡ false → holds a o ≡ false
+  untouched : (i : ℕ) (a : LabelInfo) → slice_get (multi_line_labels s.labels) i ≡ Some a → touches l a ≡ false → holds a o ≡ false
   untouched i a e f = elim (cases_Bool (holds a o)) [
     | inr n ↦ n
-    | inl t ↦ absurd (true≢false (sym (all-at (λ a. holds a o ≡ true → touches l a ≡ true) (multi_line_labels s) i a e holders-touch t) ∙ f))
+    | inl t ↦ absurd (true≢false (sym (all-at (λ a. holds a o ≡ true → touches l a ≡ true) (multi_line_labels s.labels) i a e holders-touch t) ∙ f))
   ]
 
 -- the number of a multi-line label that touches line l is among those that do
-touching-has : (s : Sheet) (l i : ℕ) (a : LabelInfo) → slice_get (multi_line_labels s) i ≡ Some a → touches l a ≡ true → Has (touching s l) i
+touching-has : (s : Sheet) (l i : ℕ) (a : LabelInfo) → slice_get (multi_line_labels s.labels) i ≡ Some a → touches l a ≡ true → Has (touching s l) i
 unfolding touching
 touching-has s l i a e t =
     let z : 0 + i ≡ i = omega arith in
-    let there : slice_get (enumerate_from 0 (multi_line_labels s)) i ≡ Some (i, a) =
-    enumerated-at 0 i (multi_line_labels s) a e ∙ ap (λ n. Some (n, a)) z in
-    let kept = has-filter (λ (e : ℕ × LabelInfo). touches l e.1) (enumerate_from 0 (multi_line_labels s)) i (i, a) there t in
-    has-map (λ (e : ℕ × LabelInfo). e.0) (filter (λ (e : ℕ × LabelInfo). touches l e.1) (enumerate_from 0 (multi_line_labels s))) kept.place (i, a) kept.there
+    let there : slice_get (enumerate_from 0 (multi_line_labels s.labels)) i ≡ Some (i, a) =
+    enumerated-at 0 i (multi_line_labels s.labels) a e ∙ ap (λ n. Some (n, a)) z in
+    let kept = has-filter (λ (e : ℕ × LabelInfo). touches l e.1) (enumerate_from 0 (multi_line_labels s.labels)) i (i, a) there t in
+    has-map (λ (e : ℕ × LabelInfo). e.0) (filter (λ (e : ℕ × LabelInfo). touches l e.1) (enumerate_from 0 (multi_line_labels s.labels))) kept.place (i, a) kept.there
 
 -- so a label whose number is not among those holds no character of the line
-pub left-out : (s : Sheet) (l : ℕ) → HoldersTouch s l → (i : ℕ) (a : LabelInfo) → slice_get (multi_line_labels s) i ≡ Some a
+pub left-out : (s : Sheet) (l : ℕ) → HoldersTouch s l → (i : ℕ) (a : LabelInfo) → slice_get (multi_line_labels s.labels) i ≡ Some a
     → (Has (touching s l) i → ⊥) → (k : ℕ) → k < length (line_text s.lines l) → holds a (line_offset length s.lines l + k) ≡ false
 left-out s l h i a e out k less =
     untouched s l h (line_offset length s.lines l + k) (omega arith) (omega arith) i a e
@@ -84,10 +84,10 @@ left-out s l h i a e out k less =
 
 -- a test of the labels of numbers that touch the line
 found-touching : (s : Sheet) (l o : ℕ)
-    → list_any (holds_at (multi_line_labels s) o) (touching s l) ≡ list_any (λ a. touches l a && holds a o) (multi_line_labels s)
+    → list_any (holds_at (multi_line_labels s.labels) o) (touching s l) ≡ list_any (λ a. touches l a && holds a o) (multi_line_labels s.labels)
 unfolding touching
 found-touching s l o =
-    let labels : List LabelInfo = multi_line_labels s in
+    let labels : List LabelInfo = multi_line_labels s.labels in
     let es : List (ℕ × LabelInfo) = enumerate_from 0 labels in
     let t : ℕ × LabelInfo → Bool = λ e. touches l e.1 in
     any-map (holds_at labels o) (λ (e : ℕ × LabelInfo). e.0) (filter t es) ∙ any-filter (λ (e : ℕ × LabelInfo). holds_at labels o e.0) t es
@@ -96,7 +96,7 @@ found-touching s l o =
     ∙ any-numbered (λ a. touches l a && holds a o) 0 labels
 
 -- a test of the multi-line labels is one of all labels
-found-multi-line : (s : Sheet) (p : LabelInfo → Bool) → list_any p (multi_line_labels s) ≡ list_any (λ a. not (is_on_one_line a) && p a) s.labels
+found-multi-line : (s : Sheet) (p : LabelInfo → Bool) → list_any p (multi_line_labels s.labels) ≡ list_any (λ a. not (is_on_one_line a) && p a) s.labels
 unfolding multi_line_labels
 found-multi-line s p =
     let longer : LabelInfo → LabelInfo → Bool = λ a b. nat_lt (span_len b) (span_len a) in
@@ -106,13 +106,13 @@ found-multi-line s p =
 
 -- the start of a line lies inside a label if one of those that touch the line holds it
 pub inside-found : (s : Sheet) (l o : ℕ) → o ≡ line_offset length s.lines l → 0 < length (line_text s.lines l) → HoldersTouch s l
-    → list_any (holds_at (multi_line_labels s) o) (touching s l) ≡ is_inside s l
+    → list_any (holds_at (multi_line_labels s.labels) o) (touching s l) ≡ is_inside s l
 unfolding is_inside holds
 inside-found s l o e some h =
     let o' : ℕ = line_offset length s.lines l in
-    ap (λ o. list_any (holds_at (multi_line_labels s) o) (touching s l)) e ∙ found-touching s l o'
+    ap (λ o. list_any (holds_at (multi_line_labels s.labels) o) (touching s l)) e ∙ found-touching s l o'
     ∙ any-alike (λ a. holds a o' ≡ true → touches l a ≡ true) (λ a. touches l a && holds a o') (λ a. holds a o')
-    (λ a t. holder (touches l a) (holds a o') t) (multi_line_labels s) (holders-touch s l h o' (omega arith) (omega arith))
+    (λ a t. holder (touches l a) (holds a o') t) (multi_line_labels s.labels) (holders-touch s l h o' (omega arith) (omega arith))
     ∙ found-multi-line s (λ a. holds a o')
     ∙ any-alike (λ a. Unit {0}) (λ a. not (is_on_one_line a) && holds a o') (λ a. not (is_on_one_line a) && nat_le a.start o' && nat_lt o' a.end)
     (λ a _. grouped (not (is_on_one_line a)) (nat_le a.start o') (nat_lt o' a.end)) s.labels (all-every (λ a. Unit {0}) (λ a. tt) s.labels)

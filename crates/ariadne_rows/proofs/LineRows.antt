@@ -56,12 +56,12 @@ two_parts : (a b c d : PenFields) (row xs ys : List Piece) → row ≡ xs ++ ys 
 two_parts a b c d row xs ys e x y end = subst (DrawsRow a d) (sym e) (draws_row_ended a c d (xs ++ ys) (draws-append a b c xs ys x y) end)
 
 -- the margin label of a line's layout is that of the line
-pub layout_margin : (s : Sheet) (l : ℕ) (x : LineLabel) (b : Bool) → is_margin (margin_label s l) x ≡ b → is_margin (layout_of s l).margin x ≡ b
+pub layout_margin : (s : Sheet) (l : ℕ) (x : LineLabel) (b : Bool) → is_margin (margin_label s.labels l) x ≡ b → is_margin (layout_of s l).margin x ≡ b
 unfolding layout_of
 layout_margin s l x b e = e
 
 -- so is that of the line itself
-pub source_margin : (y : Layout) (s : Sheet) (l : ℕ) (m : Option LineLabel) → y ≡ layout_of s l → m ≡ y.margin → margin_label s l ≡ m
+pub source_margin : (y : Layout) (s : Sheet) (l : ℕ) (m : Option LineLabel) → y ≡ layout_of s l → m ≡ y.margin → margin_label s.labels l ≡ m
 unfolding layout_of
 source_margin y s l m e found = sym (found ∙ ap (λ (t : Layout). t.margin) e)
 
@@ -101,7 +101,7 @@ module _ (a : PenFields) (t : Texts) (g : Section) (on : IsOnPage t g a.page) wh
       m (draws-append b c d _ _ gutter area) end
 
   -- an arrow, and its message
-  pub draws_arrow : (b c d e f : PenFields) (l r : ℕ) (x : Option LineLabel) → slice_get (line_labels g.sheet l) r ≡ x
+  pub draws_arrow : (b c d e f : PenFields) (l r : ℕ) (x : Option LineLabel) → slice_get (line_labels g.sheet.labels l) r ≡ x
       → Draws a b (margin_pieces a.page.switches a.page.number_width 0 (bare 0))
       → Draws b c (gutter_pieces g.sheet (arrow l r))
       → Draws c d (area_pieces a.page.switches (layout_of g.sheet l) (arrow_place a.page.switches (layout_of g.sheet l) r x))
@@ -119,12 +119,12 @@ module _ (a : PenFields) (t : Texts) (g : Section) (on : IsOnPage t g a.page) wh
   -- the text of a line
   pub draws_source : (b c d e : PenFields) (l : ℕ) → Draws a b (margin_pieces a.page.switches a.page.number_width g.display_offset (source l))
       → Draws b c (gutter_pieces g.sheet (source l))
-      → Draws c d (shown_pieces a.page.switches (multi_line_labels g.sheet) (layout_of g.sheet l))
+      → Draws c d (shown_pieces a.page.switches (multi_line_labels g.sheet.labels) (layout_of g.sheet l))
       → Adds d e (10 ∷ []) → DrawsRow a e (row_pieces t a.page.number_width g (source l))
   unfolding row_pieces rest_pieces text_pieces
   draws_source b c d e l m gutter text end =
       two_parts a b d e _ (margin_pieces a.page.switches a.page.number_width g.display_offset (source l))
-      (gutter_pieces g.sheet (source l) ++ shown_pieces a.page.switches (multi_line_labels g.sheet) (layout_of g.sheet l))
+      (gutter_pieces g.sheet (source l) ++ shown_pieces a.page.switches (multi_line_labels g.sheet.labels) (layout_of g.sheet l))
       (λ i. margin_pieces (on.sheet i) a.page.number_width g.display_offset (source l)
-      ++ (gutter_pieces g.sheet (source l) ++ shown_pieces (on.texts i) (multi_line_labels g.sheet) (layout_of g.sheet l)))
+      ++ (gutter_pieces g.sheet (source l) ++ shown_pieces (on.texts i) (multi_line_labels g.sheet.labels) (layout_of g.sheet l)))
       m (draws-append b c d _ _ gutter text) end

@@ -94,45 +94,45 @@ best-passed beats t xs i d now h e fail =
 -- ---- the labels of the events of a line: ends of gutter labels, and labels within it
 
 -- the first do not lie within the line
-ends-side : (s : Sheet) (l : ℕ) → AllByRecursion (λ x. is_inline x.side ≡ false) (ends_at s l)
+ends-side : (s : Sheet) (l : ℕ) → AllByRecursion (λ x. is_inline x.side ≡ false) (ends_at s.labels l)
 unfolding is_inline
 ends-side s l =
-    all-weaker (IsEndAt s l) (λ x. is_inline x.side ≡ false) (ends_at s l)
+    all-weaker (IsEndAt s l) (λ x. is_inline x.side ≡ false) (ends_at s.labels l)
     (λ x h. elim h.there [ inl start ↦ ap is_inline start.0 | inr end ↦ ap is_inline end.0 ]) (ends-are s l)
 
 -- the others do
-inlines-side : (s : Sheet) (l : ℕ) → AllByRecursion (λ x. x.side ≡ Inline) (inline_labels s l)
+inlines-side : (s : Sheet) (l : ℕ) → AllByRecursion (λ x. x.side ≡ Inline) (inline_labels s.labels l)
 unfolding inline_labels
 inlines-side s l =
     all-map (λ x. x.side ≡ Inline) (λ (a : LabelInfo). record { info = a; side = Inline; gutter_column = 0; place = a.attach }) _
     (all-every (λ (a : LabelInfo). Inline ≡ Inline) (λ a. refl) _)
 
 -- so the margin label is the nearest of those that do not
-pub margin-found : (s : Sheet) (l : ℕ) (all : List LineLabel) → all ≡ ends_at s l ++ inline_labels s l
-    → best is_nearer_margin (filter (λ x. not (is_inline x.side)) all) ≡ margin_label s l
+pub margin-found : (s : Sheet) (l : ℕ) (all : List LineLabel) → all ≡ ends_at s.labels l ++ inline_labels s.labels l
+    → best is_nearer_margin (filter (λ x. not (is_inline x.side)) all) ≡ margin_label s.labels l
 unfolding margin_label is_inline
 margin-found s l all e =
     let test : LineLabel → Bool = λ x. not (is_inline x.side) in
-    let ends : filter test (ends_at s l) ≡ ends_at s l =
-    filter-all test (ends_at s l) (all-weaker (λ x. is_inline x.side ≡ false) (λ x. test x ≡ true) (ends_at s l) (λ x h. ap not h) (ends-side s l)) in
-    let inlines : filter test (inline_labels s l) ≡ [] =
-    filter-none test (inline_labels s l) (all-weaker (λ x. x.side ≡ Inline) (λ x. test x ≡ false) (inline_labels s l) (λ x h. ap (λ t. not (is_inline t)) h) (inlines-side s l)) in
+    let ends : filter test (ends_at s.labels l) ≡ ends_at s.labels l =
+    filter-all test (ends_at s.labels l) (all-weaker (λ x. is_inline x.side ≡ false) (λ x. test x ≡ true) (ends_at s.labels l) (λ x h. ap not h) (ends-side s l)) in
+    let inlines : filter test (inline_labels s.labels l) ≡ [] =
+    filter-none test (inline_labels s.labels l) (all-weaker (λ x. x.side ≡ Inline) (λ x. test x ≡ false) (inline_labels s.labels l) (λ x h. ap (λ t. not (is_inline t)) h) (inlines-side s l)) in
     ap (best is_nearer_margin)
-    (ap (filter test) e ∙ filter-append test (ends_at s l) (inline_labels s l) ∙ (λ i. ends i ++ inlines i) ∙ append-nil (ends_at s l))
+    (ap (filter test) e ∙ filter-append test (ends_at s.labels l) (inline_labels s.labels l) ∙ (λ i. ends i ++ inlines i) ∙ append-nil (ends_at s.labels l))
 
 -- and the line labels are all but the margin label where it starts, in order
-pub labels-found : (s : Sheet) (l : ℕ) (all : List LineLabel) (margin : Option LineLabel) → all ≡ ends_at s l ++ inline_labels s l
-    → margin ≡ margin_label s l → in_order is_before (filter (λ x. not (is_start x.side && is_margin margin x)) all) ≡ line_labels s l
+pub labels-found : (s : Sheet) (l : ℕ) (all : List LineLabel) (margin : Option LineLabel) → all ≡ ends_at s.labels l ++ inline_labels s.labels l
+    → margin ≡ margin_label s.labels l → in_order is_before (filter (λ x. not (is_start x.side && is_margin margin x)) all) ≡ line_labels s.labels l
 unfolding line_labels is_start
 labels-found s l all margin e m =
-    let test : LineLabel → Bool = λ x. not (is_start x.side && is_margin (margin_label s l) x) in
-    let inlines : filter test (inline_labels s l) ≡ inline_labels s l =
-    filter-all test (inline_labels s l) (all-weaker (λ x. x.side ≡ Inline) (λ x. test x ≡ true) (inline_labels s l)
-    (λ x h. not_from_false (is_start x.side && is_margin (margin_label s l) x) (and_left (is_start x.side) (is_margin (margin_label s l) x) (ap is_start h)))
+    let test : LineLabel → Bool = λ x. not (is_start x.side && is_margin (margin_label s.labels l) x) in
+    let inlines : filter test (inline_labels s.labels l) ≡ inline_labels s.labels l =
+    filter-all test (inline_labels s.labels l) (all-weaker (λ x. x.side ≡ Inline) (λ x. test x ≡ true) (inline_labels s.labels l)
+    (λ x h. not_from_false (is_start x.side && is_margin (margin_label s.labels l) x) (and_left (is_start x.side) (is_margin (margin_label s.labels l) x) (ap is_start h)))
     (inlines-side s l)) in
     ap (in_order is_before)
-    ((λ i. filter (λ x. not (is_start x.side && is_margin (m i) x)) (e i)) ∙ filter-append test (ends_at s l) (inline_labels s l)
-    ∙ ap (λ t. filter test (ends_at s l) ++ t) inlines)
+    ((λ i. filter (λ x. not (is_start x.side && is_margin (m i) x)) (e i)) ∙ filter-append test (ends_at s.labels l) (inline_labels s.labels l)
+    ∙ ap (λ t. filter test (ends_at s.labels l) ++ t) inlines)
 
 -- ---- results and options
 

@@ -91,7 +91,7 @@ numbers-rise p n (x ∷ xs) =
 pub reaching-rises : (s : Sheet) (b m : ℕ) → Rises (reaching s b m)
 unfolding reaching
 reaching-rises s b m =
-    numbers-rise (λ (e : ℕ × LabelInfo). nat_lt e.1.start_line b && nat_le m e.1.end_line) 0 (multi_line_labels s)
+    numbers-rise (λ (e : ℕ × LabelInfo). nat_lt e.1.start_line b && nat_le m e.1.end_line) 0 (multi_line_labels s.labels)
 
 -- ---- sums
 
@@ -189,12 +189,12 @@ two-tests false q = refl
 -- the begins of a group rise by line
 pub begins-rise : (s : Sheet) → RisesBy (λ b. b.line) (begins_of s)
 unfolding begins_of
-begins-rise s = in_order-rises (λ b. b.line) (mapped_numbered (λ i a. record { line = a.start_line; number = i }) (multi_line_labels s))
+begins-rise s = in_order-rises (λ b. b.line) (mapped_numbered (λ i a. record { line = a.start_line; number = i }) (multi_line_labels s.labels))
 
 module _ (s : Sheet) (b m l : ℕ) (h : b ≤ l + 1) (k : m ≤ l) where
   -- the numbered labels
   abbrev numbered : List (ℕ × LabelInfo)
-  numbered = enumerate_from 0 (multi_line_labels s)
+  numbered = enumerate_from 0 (multi_line_labels s.labels)
 
   -- the start of a label
   abbrev begin_of : ℕ × LabelInfo → Begin
@@ -218,27 +218,27 @@ module _ (s : Sheet) (b m l : ℕ) (h : b ≤ l + 1) (k : m ≤ l) where
 
   -- how often it is among those that start there and end on line l or below
   starting-count : (w : ℕ)
-      → occurrences (λ (x : Begin). ends_from (multi_line_labels s) l x.number && (x.number == w)) (filter starts_there (begins_of s))
-      ≡ total (λ (e : ℕ × LabelInfo). cond (starts_there (begin_of e)) (cond (ends_from (multi_line_labels s) l e.0) (is_number w e.0) 0) 0) numbered
+      → occurrences (λ (x : Begin). ends_from (multi_line_labels s.labels) l x.number && (x.number == w)) (filter starts_there (begins_of s))
+      ≡ total (λ (e : ℕ × LabelInfo). cond (starts_there (begin_of e)) (cond (ends_from (multi_line_labels s.labels) l e.0) (is_number w e.0) 0) 0) numbered
   unfolding begins_of
   starting-count w =
-      let g : Begin → ℕ = λ x. cond (ends_from (multi_line_labels s) l x.number && (x.number == w)) 1 0 in
+      let g : Begin → ℕ = λ x. cond (ends_from (multi_line_labels s.labels) l x.number && (x.number == w)) 1 0 in
       let f : Begin → ℕ = λ x. cond (starts_there x) (g x) 0 in
       let starts : List Begin = map begin_of numbered in
       total-kept g starts_there (in_order (λ a b. nat_lt a.line b.line) starts) ∙ total-in_order f (λ a b. nat_lt a.line b.line) starts
       ∙ total-map f begin_of numbered ∙ total-same (λ e. f (begin_of e))
-      (λ e. cond (starts_there (begin_of e)) (cond (ends_from (multi_line_labels s) l e.0) (is_number w e.0) 0) 0)
-      (λ e. ap (λ n. cond (starts_there (begin_of e)) n 0) (two-tests (ends_from (multi_line_labels s) l e.0) (e.0 == w))) numbered
+      (λ e. cond (starts_there (begin_of e)) (cond (ends_from (multi_line_labels s.labels) l e.0) (is_number w e.0) 0) 0)
+      (λ e. ap (λ n. cond (starts_there (begin_of e)) n 0) (two-tests (ends_from (multi_line_labels s.labels) l e.0) (e.0 == w))) numbered
 
   -- the numbers of labels that reached line b and end on line l or below, and of those that start there
   abbrev moved_on : List ℕ
   moved_on =
-      fold (taken_in (multi_line_labels s) l) (filter (ends_from (multi_line_labels s) l) (reaching s b m)) (filter starts_there (begins_of s))
+      fold (taken_in (multi_line_labels s.labels) l) (filter (ends_from (multi_line_labels s.labels) l) (reaching s b m)) (filter starts_there (begins_of s))
 
   -- each is among them as often as among those that touch line l
   moved-count : (w : ℕ) → occurrences (λ n. n == w) moved_on ≡ occurrences (λ n. n == w) (reaching s (l + 1) l)
   moved-count w =
-      let labels : List LabelInfo = multi_line_labels s in
+      let labels : List LabelInfo = multi_line_labels s.labels in
       let kept = total-kept (is_number w) (ends_from labels l) (reaching s b m) in
       let old = reaching-count (λ n. cond (ends_from labels l n) (is_number w n) 0) b m in
       let new = starting-count w in
@@ -258,19 +258,19 @@ module _ (s : Sheet) (b m l : ℕ) (h : b ≤ l + 1) (k : m ≤ l) where
   moved-same : moved_on ≡ reaching s (l + 1) l
   moved-same =
       same-numbers moved_on (reaching s (l + 1) l)
-      (all-taken_in-rises (multi_line_labels s) l (filter (ends_from (multi_line_labels s) l) (reaching s b m)) (filter starts_there (begins_of s))
-      (filter-rises (λ n. n) (ends_from (multi_line_labels s) l) (reaching s b m) (reaching-rises s b m)))
+      (all-taken_in-rises (multi_line_labels s.labels) l (filter (ends_from (multi_line_labels s.labels) l) (reaching s b m)) (filter starts_there (begins_of s))
+      (filter-rises (λ n. n) (ends_from (multi_line_labels s.labels) l) (reaching s b m) (reaching-rises s b m)))
       (reaching-rises s (l + 1) l) moved-count
 
   -- after those that end above line l are dropped, and those that start up to it are taken in, the numbers are those that touch it
   pub moved : (first last : ℕ) → first ≡ length (filter (λ x. nat_lt x.line b) (begins_of s))
       → last ≡ length (filter (λ x. nat_lt x.line (l + 1)) (begins_of s))
-      → fold (taken_in (multi_line_labels s) l) (filter (ends_from (multi_line_labels s) l) (reaching s b m))
+      → fold (taken_in (multi_line_labels s.labels) l) (filter (ends_from (multi_line_labels s.labels) l) (reaching s b m))
       (slice_range (begins_of s) first last) ≡ reaching s (l + 1) l
   moved first last e f =
       let there : slice_range (begins_of s) first last ≡ filter starts_there (begins_of s) =
       (λ i. slice_range (begins_of s) (e i) (f i)) ∙ part-between (λ (x : Begin). x.line) b (l + 1) (begins_of s) h (begins-rise s) in
-      ap (fold (taken_in (multi_line_labels s) l) (filter (ends_from (multi_line_labels s) l) (reaching s b m))) there ∙ moved-same
+      ap (fold (taken_in (multi_line_labels s.labels) l) (filter (ends_from (multi_line_labels s.labels) l) (reaching s b m))) there ∙ moved-same
 
 -- ---- what the numbers are, where a line was gone to
 
@@ -281,7 +281,7 @@ reaching-touching s l =
     ap (map (λ (e : ℕ × LabelInfo). e.0))
     (filter_agree (λ (e : ℕ × LabelInfo). nat_lt e.1.start_line (l + 1) && nat_le l e.1.end_line)
     (λ e. nat_le e.1.start_line l && nat_le l e.1.end_line) (λ e. ap (λ t. t && nat_le l e.1.end_line) (up-to e.1.start_line))
-    (enumerate_from 0 (multi_line_labels s)))
+    (enumerate_from 0 (multi_line_labels s.labels)))
   where
     up-to : (n : ℕ) → nat_lt n (l + 1) ≡ nat_le n l
     up-to n = elim (cases_lt l n) [

@@ -14,7 +14,7 @@ use Rattle.ariadne_rows.specs.Sheets.{events_of}
 unfoldable pub begins_of : Sheet → List Begin
 begins_of s =
     in_order (λ a b. nat_lt a.line b.line)
-    (mapped_numbered (λ i a. record { line = a.start_line; number = i }) (multi_line_labels s))
+    (mapped_numbered (λ i a. record { line = a.start_line; number = i }) (multi_line_labels s.labels))
 
 -- label number i of these ends on line l or below it
 abbrev pub ends_from : List LabelInfo → ℕ → ℕ → Bool
@@ -27,13 +27,13 @@ unfoldable pub reaching : Sheet → ℕ → ℕ → List ℕ
 reaching s below from =
     map (λ e. e.0)
     (filter (λ e. nat_lt e.1.start_line below && nat_le from e.1.end_line)
-    (enumerate_from 0 (multi_line_labels s)))
+    (enumerate_from 0 (multi_line_labels s.labels)))
 
 -- the lists of the group s: of its labels those that start above line `below` are taken in, and
 -- those that end above line `from` are dropped. Where line l was gone to these are l + 1 and l
 pub record AreLists (s : Sheet) (below from : ℕ) (lists : GroupLists) : Type 0 where
-  pub multi_line : lists.multi_line.items ≡ multi_line_labels s
-  pub gutter_labels : lists.gutter_labels.items ≡ gutter_labels s
+  pub multi_line : lists.multi_line.items ≡ multi_line_labels s.labels
+  pub gutter_labels : lists.gutter_labels.items ≡ gutter_labels s.labels
   pub events : lists.events.items ≡ events_of s
   pub begins : lists.begins.items ≡ begins_of s
   pub begun : lists.begun ≡ length (filter (λ b. nat_lt b.line below) (begins_of s))

@@ -49,17 +49,17 @@ is_below s l r i a =
 -- it is drawn with the group's switches, for the group's gutter labels
 pub record IsOfSheet (s : Sheet) (g : GutterFields) : Type 0 where
   pub switches : g.page.switches ≡ s.switches
-  pub positions : g.positions ≡ map (λ a. a.position) (gutter_labels s)
+  pub positions : g.positions ≡ map (λ a. a.position) (gutter_labels s.labels)
 
 -- as the rows of line l begin
 pub record IsBeside (s : Sheet) (l : ℕ) (g : GutterFields) : Type 0 where
   pub sheet : IsOfSheet s g
-  pub bars : g.bars ≡ map (is_beside l) (gutter_labels s)
+  pub bars : g.bars ≡ map (is_beside l) (gutter_labels s.labels)
 
 -- as the rows of rank r of line l begin
 pub record IsBelow (s : Sheet) (l r : ℕ) (g : GutterFields) : Type 0 where
   pub sheet : IsOfSheet s g
-  pub bars : g.bars ≡ mapped_numbered (is_below s l r) (gutter_labels s)
+  pub bars : g.bars ≡ mapped_numbered (is_below s l r) (gutter_labels s.labels)
 
 -- ---- what a row asks of it
 
@@ -71,14 +71,14 @@ is_own_column (Some x) i = not (is_inline x.side) && (x.gutter_column == i)
 -- the row's own label has column i
 unfoldable pub owns_column : Sheet → Row → ℕ → Bool
 owns_column s (source l) i = is_at_margin s l i
-owns_column s (arrow l r) i = is_own_column (slice_get (line_labels s l) r) i
+owns_column s (arrow l r) i = is_own_column (slice_get (line_labels s.labels l) r) i
 owns_column s x i = false
 
 -- the bars of row x, in the columns that are not those of its own label
 pub record HasBarsOf (s : Sheet) (x : Row) (g : GutterFields) : Type 0 where
   pub sheet : IsOfSheet s g
-  pub len : length g.bars ≡ length (gutter_labels s)
-  pub bars : (i : ℕ) → i < length (gutter_labels s) → owns_column s x i ≡ false
+  pub len : length g.bars ≡ length (gutter_labels s.labels)
+  pub bars : (i : ℕ) → i < length (gutter_labels s.labels) → owns_column s x i ≡ false
       → bar_in g.bars i ≡ bar_at s x i
 
 -- ---- what its columns show, by its bars alone

@@ -38,7 +38,7 @@ inline_events e =
 unfoldable pub events_of : Sheet → List Event
 events_of s =
     in_order (λ a b. nat_lt a.line b.line)
-    (joined gutter_events (enumerate_from 0 (gutter_labels s))
+    (joined gutter_events (enumerate_from 0 (gutter_labels s.labels))
     ++ joined inline_events (enumerate_from 0 s.labels))
 
 -- the label of an event as it stands at its line
@@ -48,10 +48,10 @@ event_label s Inline i =
     (slice_get s.labels i)
 event_label s Starts i =
     option_map (λ a. record { info = a; side = Starts; gutter_column = i; place = a.start_place })
-    (slice_get (gutter_labels s) i)
+    (slice_get (gutter_labels s.labels) i)
 event_label s Ends i =
     option_map (λ a. record { info = a; side = Ends; gutter_column = i; place = a.end_place })
-    (slice_get (gutter_labels s) i)
+    (slice_get (gutter_labels s.labels) i)
 
 -- those of some events
 unfoldable pub labels_of : Sheet → List Event → List LineLabel
@@ -79,7 +79,7 @@ touches l a = nat_le a.start_line l && nat_le l a.end_line
 -- the numbers of the multi-line labels that touch line l
 unfoldable pub touching : Sheet → ℕ → List ℕ
 touching s l =
-    map (λ e. e.0) (filter (λ e. touches l e.1) (enumerate_from 0 (multi_line_labels s)))
+    map (λ e. e.0) (filter (λ e. touches l e.1) (enumerate_from 0 (multi_line_labels s.labels)))
 
 -- label number i of these holds the character at offset o
 abbrev pub holds_at : List LabelInfo → ℕ → ℕ → Bool

@@ -148,7 +148,7 @@ impl<'a> Gutter<'a> {
     pub fn push_arrow(&self, pen: &mut Pen<'_>, own: &LineLabel) -> Result<(), AllocError>
         requires page { self.now.page ≡ pen.old.page }
         ensures { (s : Sheet) (l r : ℕ) → HasBarsOf s (arrow l r) self.now →
-            slice_get (line_labels s l) r ≡ Some own.now →
+            slice_get (line_labels s.labels l) r ≡ Some own.now →
             OnOk result (Draws pen.old pen.new (gutter_pieces s (arrow l r))) }
     {
         // Each start and each end has a column, so the second test fails.
@@ -171,7 +171,7 @@ impl<'a> Gutter<'a> {
         requires page { self.now.page ≡ pen.old.page }
         ensures page { OnOk result (pen.new.page ≡ pen.old.page) }
         ensures drawn { (s : Sheet) (l : ℕ) → HasBarsOf s (source l) self.now →
-            margin_label s l ≡ margin →
+            margin_label s.labels l ≡ margin →
             OnOk result (Draws pen.old pen.new (gutter_pieces s (source l))) }
     {
         let Some(margin) = margin else {
@@ -191,7 +191,7 @@ impl<'a> Gutter<'a> {
     /// ```
     pub fn push_gap(&self, pen: &mut Pen<'_>) -> Result<(), AllocError>
         requires page { self.now.page ≡ pen.old.page }
-        ensures { (s : Sheet) (l : ℕ) → HasBarsOf s (gap l) self.now → margin_label s l ≡ None →
+        ensures { (s : Sheet) (l : ℕ) → HasBarsOf s (gap l) self.now → margin_label s.labels l ≡ None →
             OnOk result (Draws pen.old pen.new (gutter_pieces s (gap l))) }
     {
         let page = self.page;

@@ -54,7 +54,7 @@ pub fn push_source_row(
         IsOnPage t g page → layout.now ≡ layout_of g.sheet l →
         number ≡ printed_number g.display_offset l → HasBarsOf g.sheet (source l) gutter.now →
         (page.palette.is_on ≡ true
-        → ArePaints (multi_line_labels g.sheet) layout.now paints.now) →
+        → ArePaints (multi_line_labels g.sheet.labels) layout.now paints.now) →
         OnOk result (DrawsRow pen.old pen.new (row_pieces t page.number_width g (source l))) }
     ensures tabs { OnOk result (tab_columns pen.old.page.switches layout.now < 2 ^ 63) }
 {
@@ -108,8 +108,8 @@ pub fn push_arrow_row(
     ensures { let page = pen.old.page in (t : Texts) (g : Section) (l : ℕ) →
         IsOnPage t g page → IsTable page.switches (layout_of g.sheet l) rank table.now →
         HasBarsOf g.sheet (arrow l rank) gutter.now →
-        slice_get (line_labels g.sheet l) rank ≡ Some own.now →
-        is_margin (margin_label g.sheet l) own.now ≡ at_margin →
+        slice_get (line_labels g.sheet.labels l) rank ≡ Some own.now →
+        is_margin (margin_label g.sheet.labels l) own.now ≡ at_margin →
         t.message_of own.now.info.position ≡ message.now →
         OnOk result (DrawsRow pen.old pen.new (row_pieces t page.number_width g (arrow l rank))) }
 {
@@ -144,7 +144,7 @@ pub fn push_gap_row(pen: &mut Pen<'_>, gutter: &Gutter<'_>) -> Result<(), AllocE
     requires page { gutter.now.page ≡ pen.old.page }
     ensures { let page = pen.old.page in (t : Texts) (g : Section) (l : ℕ) →
         IsOnPage t g page → HasBarsOf g.sheet (gap l) gutter.now →
-        margin_label g.sheet l ≡ None →
+        margin_label g.sheet.labels l ≡ None →
         OnOk result (DrawsRow pen.old pen.new (row_pieces t page.number_width g (gap l))) }
 {
     pen.push_gap_margin()?;

@@ -107,7 +107,7 @@ impl<'a> GroupSheet<'a> {
 
     /// The labels over several lines, by falling length.
     pub fn multi_line(&self) -> &[LabelInfo]
-        ensures { (s : Sheet) → s.labels ≡ self.now.labels → result.now ≡ multi_line_labels s }
+        ensures { (s : Sheet) → s.labels ≡ self.now.labels → result.now ≡ multi_line_labels s.labels }
     {
         &self.lists.multi_line
     }
@@ -115,7 +115,7 @@ impl<'a> GroupSheet<'a> {
     /// The labels over several lines that have a message: number i of these gutter labels owns gutter
     /// column i.
     pub fn gutter_labels(&self) -> &[LabelInfo]
-        ensures { (s : Sheet) → s.labels ≡ self.now.labels → result.now ≡ gutter_labels s }
+        ensures { (s : Sheet) → s.labels ≡ self.now.labels → result.now ≡ gutter_labels s.labels }
     {
         &self.lists.gutter_labels
     }
@@ -175,11 +175,11 @@ impl<'a> GroupSheet<'a> {
         requires range { from ≤ to }
         requires within { (s : Sheet) → s.labels ≡ self.now.labels → to ≤ length (events_of s) }
         ensures margin { (s : Sheet) (l : ℕ) → s.labels ≡ self.now.labels →
-            labels_of s (slice_range (events_of s) from to) ≡ ends_at s l ++ inline_labels s l →
-            IfOk result (λ margin. margin ≡ margin_label s l) }
+            labels_of s (slice_range (events_of s) from to) ≡ ends_at s.labels l ++ inline_labels s.labels l →
+            IfOk result (λ margin. margin ≡ margin_label s.labels l) }
         ensures labels { (s : Sheet) (l : ℕ) → s.labels ≡ self.now.labels →
-            labels_of s (slice_range (events_of s) from to) ≡ ends_at s l ++ inline_labels s l →
-            OnOk result (labels.new.items ≡ line_labels s l) }
+            labels_of s (slice_range (events_of s) from to) ≡ ends_at s.labels l ++ inline_labels s.labels l →
+            OnOk result (labels.new.items ≡ line_labels s.labels l) }
     {
         self.list_labels(from, to, labels)?;
         let margin = nearest_margin(labels);

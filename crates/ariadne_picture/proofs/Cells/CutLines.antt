@@ -269,7 +269,7 @@ module _ (switches : Switches) (o : ℕ) (labels : List LineLabel) (text : List 
 -- ---- the laws
 
 abbrev all_labels : Sheet → ℕ → List LineLabel
-all_labels s l = option_to_list (margin_label s l) ++ line_labels s l
+all_labels s l = option_to_list (margin_label s.labels l) ++ line_labels s.labels l
 
 abbrev shown_line : Sheet → ℕ → List ℕ
 shown_line s l = drop_trailing_whitespace (line_text s.lines l)

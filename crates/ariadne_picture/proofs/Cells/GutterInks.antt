@@ -28,18 +28,18 @@ not-less b c most = false_from_ne_true (nat_lt b c) (λ t. let less = ltb-true b
 module _ (s : Sheet) where
   -- how many gutter labels there are; this is the number of the column of arrow heads
   abbrev last : ℕ
-  last = length (gutter_labels s)
+  last = length (gutter_labels s.labels)
 
   -- where there is a gutter label, the gutter has a column more than gutter labels
-  pub gutter-some : (i : ℕ) (a : LabelInfo) → slice_get (gutter_labels s) i ≡ Some a → gutter_len s ≡ last + 1
+  pub gutter-some : (i : ℕ) (a : LabelInfo) → slice_get (gutter_labels s.labels) i ≡ Some a → gutter_len s ≡ last + 1
   unfolding gutter_len
   gutter-some i a e =
-      let few = slice_get_within (gutter_labels s) i a e in cond-false (last == 0) _ _ (ne_eqb last 0 (omega arith))
+      let few = slice_get_within (gutter_labels s.labels) i a e in cond-false (last == 0) _ _ (ne_eqb last 0 (omega arith))
 
   -- no bar stands in the column of arrow heads, which is no gutter label's
   pub no-bar-last : (x : Row) → bar_at s x last ≡ false
   unfolding bar_at
-  no-bar-last x = ap (has_bar s last x) (slice_get_past (gutter_labels s) last (omega arith))
+  no-bar-last x = ap (has_bar s last x) (slice_get_past (gutter_labels s.labels) last (omega arith))
 
   -- ---- beside a source row
 
@@ -50,20 +50,20 @@ module _ (s : Sheet) where
     bar-beside bar = rw bar refl
 
     -- without bar the margin label's stroke is there
-    pub no-bar-beside : (m : LineLabel) → bar_at s (source l) i ≡ false → margin_label s l ≡ Some m
+    pub no-bar-beside : (m : LineLabel) → bar_at s (source l) i ≡ false → margin_label s.labels l ≡ Some m
         → column_ink s (source l) i ≡ margin_ink last i (Some m)
     unfolding column_ink beside_ink
     no-bar-beside m no_bar e = rw no_bar (ap (margin_ink last i) e)
 
     -- it leaves or enters its column
-    pub leave-beside : (m : LineLabel) → bar_at s (source l) i ≡ false → margin_label s l ≡ Some m → i < last → m.gutter_column ≡ i
+    pub leave-beside : (m : LineLabel) → bar_at s (source l) i ≡ false → margin_label s.labels l ≡ Some m → i < last → m.gutter_column ≡ i
         → (column_ink s (source l) i).first ≡ margin_glyph m.side
     unfolding margin_ink
     leave-beside m no_bar e less same =
         rw (no-bar-beside m no_bar e) (rw (ne_eqb i last (λ z. omega arith), eq-eqb m.gutter_column i same) refl)
 
     -- and crosses the columns behind it
-    pub cross-beside : (m : LineLabel) → bar_at s (source l) i ≡ false → margin_label s l ≡ Some m → i < last → m.gutter_column < i
+    pub cross-beside : (m : LineLabel) → bar_at s (source l) i ≡ false → margin_label s.labels l ≡ Some m → i < last → m.gutter_column < i
         → (column_ink s (source l) i).first ≡ Hbar
     unfolding margin_ink
     cross-beside m no_bar e less more =
@@ -71,7 +71,7 @@ module _ (s : Sheet) where
         (rw (ne_eqb i last (λ z. omega arith), ne_eqb m.gutter_column i (λ z. omega arith), lt-ltb m.gutter_column i more) refl)
 
     -- from its column on it is level behind the first cell
-    pub level-beside : (m : LineLabel) → bar_at s (source l) i ≡ false → margin_label s l ≡ Some m → i < last → m.gutter_column ≤ i
+    pub level-beside : (m : LineLabel) → bar_at s (source l) i ≡ false → margin_label s.labels l ≡ Some m → i < last → m.gutter_column ≤ i
         → (column_ink s (source l) i).rest ≡ Hbar
     unfolding margin_ink
     level-beside m no_bar e less from =
@@ -82,7 +82,7 @@ module _ (s : Sheet) where
         ])
 
     -- so without bar and without margin label of its own a column is free
-    pub free-beside : (m : Option LineLabel) → margin_label s l ≡ m → bar_at s (source l) i ≡ false → i < last
+    pub free-beside : (m : Option LineLabel) → margin_label s.labels l ≡ m → bar_at s (source l) i ≡ false → i < last
         → ((x : LineLabel) → m ≡ Some x → x.gutter_column ≡ i → ⊥) → IsFree (column_ink s (source l) i)
     unfolding column_ink beside_ink margin_ink
     free-beside None e no_bar less other = inl (rw no_bar (rw e refl))
@@ -94,13 +94,13 @@ module _ (s : Sheet) where
     ]
 
   -- the last column has the arrow head, if there is a margin label
-  pub head-beside : (l : ℕ) (m : LineLabel) → margin_label s l ≡ Some m → (column_ink s (source l) last).first ≡ Rarrow
+  pub head-beside : (l : ℕ) (m : LineLabel) → margin_label s.labels l ≡ Some m → (column_ink s (source l) last).first ≡ Rarrow
   unfolding margin_ink
   head-beside l m e =
       rw (no-bar-beside l last m (no-bar-last (source l)) e) (rw (eq-eqb last last refl) refl)
 
   -- and is free where there is none
-  pub last-beside : (l : ℕ) (m : Option LineLabel) → margin_label s l ≡ m
+  pub last-beside : (l : ℕ) (m : Option LineLabel) → margin_label s.labels l ≡ m
       → IsFree (column_ink s (source l) last) ⊎ ((column_ink s (source l) last).first ≡ Rarrow)
   unfolding column_ink beside_ink margin_ink
   last-beside l None e = inl (inl (rw (no-bar-last (source l)) (rw e refl)))
@@ -114,7 +114,7 @@ module _ (s : Sheet) where
   bar-gap l i bar = rw bar refl
 
   -- without bar the column is blank
-  pub free-gap : (l i : ℕ) (m : Option LineLabel) → margin_label s l ≡ m → is_some m ≡ false → bar_at s (gap l) i ≡ false
+  pub free-gap : (l i : ℕ) (m : Option LineLabel) → margin_label s.labels l ≡ m → is_some m ≡ false → bar_at s (gap l) i ≡ false
       → (column_ink s (gap l) i).first ≡ Blank
   unfolding column_ink beside_ink margin_ink
   free-gap l i None e n no_bar = rw no_bar (rw e refl)
@@ -133,7 +133,7 @@ module _ (s : Sheet) where
     unfolding column_ink below_ink
     free-alternate no_bar = rw no_bar refl
 
-    module _ (x : LineLabel) (e : slice_get (line_labels s l) r ≡ Some x) where
+    module _ (x : LineLabel) (e : slice_get (line_labels s.labels l) r ≡ Some x) where
       -- the arrow row of a start or an end turns in its own column
       pub own-arrow : is_inline x.side ≡ false → x.gutter_column ≡ i → column_ink s (arrow l r) i ≡ ink_of (turn_glyph x.side) Hbar x.info
       unfolding column_ink turn_ink

@@ -29,7 +29,7 @@ not-both x y h k = true≢false (sym (before-chain x y x h k) ∙ before-irrefle
 
 -- a line label that is not within its line is a start or an end, and these are of the gutter label of their number
 pub turn-owned : (s : Sheet) (l : ℕ) (x : LineLabel) → IsHere s l x → is_inline x.side ≡ false
-    → slice_get (gutter_labels s) x.gutter_column ≡ Some x.info
+    → slice_get (gutter_labels s.labels) x.gutter_column ≡ Some x.info
 unfolding is_inline
 turn-owned s l x (inl h) out = h.owned
 turn-owned s l x (inr (inl h)) out = h.owned
@@ -41,19 +41,19 @@ unfolding column_ink beside_ink
 gap-beside s l i broken whole = rw (broken, whole) refl
 
 -- without bar an arrow row without line label is blank, as only a line label's stroke could cross it
-none-arrow : (s : Sheet) (l r i : ℕ) → slice_get (line_labels s l) r ≡ None → bar_at s (arrow l r) i ≡ false → Shows s (arrow l r) i Blank
+none-arrow : (s : Sheet) (l r i : ℕ) → slice_get (line_labels s.labels l) r ≡ None → bar_at s (arrow l r) i ≡ false → Shows s (arrow l r) i Blank
 unfolding column_ink turn_ink below_ink
 none-arrow s l r i none no_bar = rw none (rw no_bar refl)
 
 -- and with a bar it shows that bar
-bar-none : (s : Sheet) (l r i : ℕ) → slice_get (line_labels s l) r ≡ None → bar_at s (arrow l r) i ≡ true → Shows s (arrow l r) i Vbar
+bar-none : (s : Sheet) (l r i : ℕ) → slice_get (line_labels s.labels l) r ≡ None → bar_at s (arrow l r) i ≡ true → Shows s (arrow l r) i Vbar
 unfolding column_ink turn_ink below_ink
 bar-none s l r i none bar = rw none (rw bar refl)
 
 module _ (s : Sheet) (i : ℕ) (a : LabelInfo) (m : IsGutterLabel s i a) where
   -- its column is not that of arrow heads, as it is the number of one of the gutter labels
-  few : i < length (gutter_labels s)
-  few = slice_get_within (gutter_labels s) i a m.owned
+  few : i < length (gutter_labels s.labels)
+  few = slice_get_within (gutter_labels s.labels) i a m.owned
 
   -- no bar stands on its first row, as that row does not stand before itself
   first-no-bar : bar_at s (first_row s i a) i ≡ false
@@ -61,7 +61,7 @@ module _ (s : Sheet) (i : ℕ) (a : LabelInfo) (m : IsGutterLabel s i a) where
       true≢false (sym (bar-between s (first_row s i a) i a m.owned on).after ∙ before-irreflexive (first_row s i a)))
 
   -- where the margin label is of its number and no bar stands, it turns there as its side does
-  margin-turns : (l : ℕ) (x : LineLabel) → bar_at s (source l) i ≡ false → margin_label s l ≡ Some x → x.gutter_column ≡ i
+  margin-turns : (l : ℕ) (x : LineLabel) → bar_at s (source l) i ≡ false → margin_label s.labels l ≡ Some x → x.gutter_column ≡ i
       → Shows s (source l) i (margin_glyph x.side)
   margin-turns l x no_bar there same = leave-beside s l i x no_bar there few same
 
@@ -93,15 +93,15 @@ module _ (s : Sheet) (i : ℕ) (a : LabelInfo) (m : IsGutterLabel s i a) where
       ∙ ap turn_glyph x.same_side)
 
   -- the arrow row of its start is its first row, and that of its end its last one
-  own-row : (l r : ℕ) (x : LineLabel) → slice_get (line_labels s l) r ≡ Some x → is_inline x.side ≡ false → x.gutter_column ≡ i
+  own-row : (l r : ℕ) (x : LineLabel) → slice_get (line_labels s.labels l) r ≡ Some x → is_inline x.side ≡ false → x.gutter_column ≡ i
       → (first_row s i a ≡ arrow l r) ⊎ (last_row s i a ≡ arrow l r)
   unfolding is_inline
-  own-row l r x e out same = go (all-at (IsHere s l) (line_labels s l) r x e (labels-here s l))
+  own-row l r x e out same = go (all-at (IsHere s l) (line_labels s.labels l) r x e (labels-here s l))
     where
-      info : slice_get (gutter_labels s) x.gutter_column ≡ Some x.info → x.info ≡ a
+      info : slice_get (gutter_labels s.labels) x.gutter_column ≡ Some x.info → x.info ≡ a
       info owned = let mine = m.owned in cc
 
-      there : {n : ℕ} → n ≡ l → slice_get (line_labels s n) r ≡ Some x
+      there : {n : ℕ} → n ≡ l → slice_get (line_labels s.labels n) r ≡ Some x
       there line = cc
 
       go : IsHere s l x → (first_row s i a ≡ arrow l r) ⊎ (last_row s i a ≡ arrow l r)
@@ -155,7 +155,7 @@ module _ (s : Sheet) (i : ℕ) (a : LabelInfo) (m : IsGutterLabel s i a) where
   shows-alternate l r within = bar-alternate s l r i (inside-bar (alternate l r) within (no-tee-alternate s i a m l r))
 
   -- in an arrow row it has its bar too, but the arrows of columns before its own cross it
-  arrow-shows : (l r : ℕ) (o : Option LineLabel) → slice_get (line_labels s l) r ≡ o → IsInside s i a (arrow l r)
+  arrow-shows : (l r : ℕ) (o : Option LineLabel) → slice_get (line_labels s.labels l) r ≡ o → IsInside s i a (arrow l r)
       → Shows s (arrow l r) i Vbar ⊎ IsLevel (column_ink s (arrow l r) i).first
   arrow-shows l r None e within = inl (bar-none s l r i e (inside-bar (arrow l r) within (no-tee-arrow s i a m l r)))
   arrow-shows l r (Some x) e within = elim (cases_Bool (is_inline x.side)) [
@@ -174,7 +174,7 @@ module _ (s : Sheet) (i : ℕ) (a : LabelInfo) (m : IsGutterLabel s i a) where
 
   -- so whatever its line label is
   pub shows-arrow : (l r : ℕ) → IsInside s i a (arrow l r) → Shows s (arrow l r) i Vbar ⊎ Shows s (arrow l r) i Hbar ⊎ Shows s (arrow l r) i Xbar
-  shows-arrow l r within = arrow-shows l r (slice_get (line_labels s l) r) refl within
+  shows-arrow l r within = arrow-shows l r (slice_get (line_labels s.labels l) r) refl within
 
   -- ---- outside them
 
@@ -192,7 +192,7 @@ module _ (s : Sheet) (i : ℕ) (a : LabelInfo) (m : IsGutterLabel s i a) where
   own-not-outside x (inr h) (inr e) = true≢false (sym h ∙ ap (λ y. before y x) e ∙ before-irreflexive x)
 
   -- the source row whose margin label it is stands from its first row to its last, so it is not outside
-  margin-not-outside : (l : ℕ) (x : LineLabel) → IsOutside s i a (source l) → margin_label s l ≡ Some x → x.gutter_column ≡ i → ⊥
+  margin-not-outside : (l : ℕ) (x : LineLabel) → IsOutside s i a (source l) → margin_label s.labels l ≡ Some x → x.gutter_column ≡ i → ⊥
   unfolding is_of_gutter_label
   margin-not-outside l x out there same =
       let at = at-margin s l i a m.owned (ap (λ o. is_of_gutter_label o i) there ∙ eq-eqb x.gutter_column i same) in
@@ -218,7 +218,7 @@ module _ (s : Sheet) (i : ℕ) (a : LabelInfo) (m : IsGutterLabel s i a) where
   -- so the source row outside is free
   outside-source : (l : ℕ) → IsOutside s i a (source l) → IsFree (column_ink s (source l) i)
   outside-source l out =
-      free-beside s l i (margin_label s l) refl (outside-no-bar (source l) out) few (λ x there same. margin-not-outside l x out there same)
+      free-beside s l i (margin_label s.labels l) refl (outside-no-bar (source l) out) few (λ x there same. margin-not-outside l x out there same)
 
   -- and so is the row in place of hidden lines, which stands where the source row would
   outside-gap : (l : ℕ) → IsOutside s i a (gap l) → IsFree (column_ink s (gap l) i)
@@ -227,7 +227,7 @@ module _ (s : Sheet) (i : ℕ) (a : LabelInfo) (m : IsGutterLabel s i a) where
       rw (gap-beside s l i (outside-no-bar (gap l) out) (outside-no-bar (source l) out)) (outside-source l out)
 
   -- the arrow row outside is none of its own, and so free
-  outside-arrow : (l r : ℕ) (o : Option LineLabel) → slice_get (line_labels s l) r ≡ o → IsOutside s i a (arrow l r)
+  outside-arrow : (l r : ℕ) (o : Option LineLabel) → slice_get (line_labels s.labels l) r ≡ o → IsOutside s i a (arrow l r)
       → IsFree (column_ink s (arrow l r) i)
   outside-arrow l r None e out = inl (none-arrow s l r i e (outside-no-bar (arrow l r) out))
   outside-arrow l r (Some x) e out =
@@ -239,7 +239,7 @@ module _ (s : Sheet) (i : ℕ) (a : LabelInfo) (m : IsGutterLabel s i a) where
   shows-outside (source l) out = outside-source l out
   shows-outside (gap l) out = outside-gap l out
   shows-outside (alternate l r) out = inl (free-alternate s l r i (outside-no-bar (alternate l r) out))
-  shows-outside (arrow l r) out = outside-arrow l r (slice_get (line_labels s l) r) refl out
+  shows-outside (arrow l r) out = outside-arrow l r (slice_get (line_labels s.labels l) r) refl out
   shows-outside x out = inl refl
 
 -- ---- the column of arrow heads
@@ -247,25 +247,25 @@ module _ (s : Sheet) (i : ℕ) (a : LabelInfo) (m : IsGutterLabel s i a) where
 module _ (s : Sheet) where
   -- how many gutter labels there are, whose columns stand before it
   abbrev last : ℕ
-  last = length (gutter_labels s)
+  last = length (gutter_labels s.labels)
 
   -- its number is no gutter label's
   past : (l : ℕ) (x : LineLabel) → IsHere s l x → is_inline x.side ≡ false → x.gutter_column ≡ last → ⊥
-  past l x h out same = let less = slice_get_within (gutter_labels s) x.gutter_column x.info (turn-owned s l x h out) in omega arith
+  past l x h out same = let less = slice_get_within (gutter_labels s.labels) x.gutter_column x.info (turn-owned s l x h out) in omega arith
 
   -- so in an arrow row it is free
-  last-arrow : (l r : ℕ) (o : Option LineLabel) → slice_get (line_labels s l) r ≡ o → IsFree (column_ink s (arrow l r) last)
+  last-arrow : (l r : ℕ) (o : Option LineLabel) → slice_get (line_labels s.labels l) r ≡ o → IsFree (column_ink s (arrow l r) last)
   last-arrow l r None e = inl (none-arrow s l r last e (no-bar-last s (arrow l r)))
   last-arrow l r (Some x) e =
-      free-arrow s l r last x e (no-bar-last s (arrow l r)) (past l x (all-at (IsHere s l) (line_labels s l) r x e (labels-here s l)))
+      free-arrow s l r last x e (no-bar-last s (arrow l r)) (past l x (all-at (IsHere s l) (line_labels s.labels l) r x e (labels-here s l)))
 
   -- it has no bar: beside a line the arrow head may stand there, and elsewhere it is blank or level
   last-free : (x : Row) → IsFree (column_ink s x last) ⊎ Shows s x last Rarrow
   unfolding column_ink
-  last-free (source l) = last-beside s l (margin_label s l) refl
-  last-free (gap l) = rw (gap-beside s l last (no-bar-last s (gap l)) (no-bar-last s (source l))) (last-beside s l (margin_label s l) refl)
+  last-free (source l) = last-beside s l (margin_label s.labels l) refl
+  last-free (gap l) = rw (gap-beside s l last (no-bar-last s (gap l)) (no-bar-last s (source l))) (last-beside s l (margin_label s.labels l) refl)
   last-free (alternate l r) = inl (inl (free-alternate s l r last (no-bar-last s (alternate l r))))
-  last-free (arrow l r) = inl (last-arrow l r (slice_get (line_labels s l) r) refl)
+  last-free (arrow l r) = inl (last-arrow l r (slice_get (line_labels s.labels l) r) refl)
   last-free x = inl (inl refl)
 
   -- the same, case by case

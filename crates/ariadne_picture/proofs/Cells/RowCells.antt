@@ -216,11 +216,11 @@ module _ (canvas : List (List Cell)) (ss : List Section) (p : Placing) where
 
 -- the pieces of the three kinds of row that a shown line has
 pub source-parts : (t : Texts) (w : ℕ) (s : Section) (l : ℕ) → row_pieces t w s (source l) ≡ front_pieces w s (source l)
-    ++ shown_pieces t.switches (multi_line_labels s.sheet) (layout_of s.sheet l)
+    ++ shown_pieces t.switches (multi_line_labels s.sheet.labels) (layout_of s.sheet l)
 unfolding row_pieces rest_pieces text_pieces
 source-parts t w s l =
     sym (append_assoc (margin_pieces s.sheet.switches w s.display_offset (source l)) (gutter_pieces s.sheet (source l))
-    (shown_pieces t.switches (multi_line_labels s.sheet) (layout_of s.sheet l)))
+    (shown_pieces t.switches (multi_line_labels s.sheet.labels) (layout_of s.sheet l)))
 
 pub alternate-parts : (t : Texts) (w : ℕ) (s : Section) (l r : ℕ) → row_pieces t w s (alternate l r) ≡ front_pieces w s (alternate l r)
     ++ area_pieces t.switches (layout_of s.sheet l) (alternate_place t.switches (layout_of s.sheet l) r)

@@ -118,9 +118,9 @@ pub row-columns : (t : Texts) (w l : ℕ) (s : Section) → t.switches ≡ s.she
 row-columns t w l s same =
     let y = layout_of s.sheet l in
     ap (total columns) (source-parts t w s l)
-    ∙ total-append columns (front_pieces w s (source l)) (shown_pieces t.switches (multi_line_labels s.sheet) y)
+    ∙ total-append columns (front_pieces w s (source l)) (shown_pieces t.switches (multi_line_labels s.sheet.labels) y)
     ∙ (λ i. front-columns w s (source l) i
-    + (shown-total t.switches (multi_line_labels s.sheet) y ∙ ap (λ switches. column_of switches y (length (shown y))) same) i)
+    + (shown-total t.switches (multi_line_labels s.sheet.labels) y ∙ ap (λ switches. column_of switches y (length (shown y))) same) i)
 
 -- a line with these labels, of which this is seen
 module _ (switches : Switches) (labels : List LineLabel) (y : Layout) (is : y.sights ≡ sights_of switches y.offset labels (shown y)) where

@@ -110,19 +110,19 @@ groups-rise same_source infos h =
     (all-in_order EndsNoEarlier (λ a b. Rattle.std.specs.Prelude.int_lt a.order b.order) infos (recursion_from_All EndsNoEarlier infos h)))
 
 -- and so does each gutter label of such a group
-gutter-labels-rise : (s : Sheet) → AllRise s.labels → AllRise (gutter_labels s)
+gutter-labels-rise : (s : Sheet) → AllRise s.labels → AllRise (gutter_labels s.labels)
 unfolding gutter_labels multi_line_labels
 gutter-labels-rise s h =
-    all-filter EndsNoEarlier (λ a. a.has_message) (multi_line_labels s)
+    all-filter EndsNoEarlier (λ a. a.has_message) (multi_line_labels s.labels)
     (all-in_order EndsNoEarlier (λ a b. nat_lt (span_len b) (span_len a)) (filter (λ a. Rattle.std.specs.Prelude.not (is_on_one_line a)) s.labels)
     (all-filter EndsNoEarlier (λ a. Rattle.std.specs.Prelude.not (is_on_one_line a)) s.labels h))
 
 -- what owns a column of a group of labels that end no earlier than they start is a gutter label in the full sense
 pub group-gutter-label : (same_source : ℕ → ℕ → Bool) (infos : List LabelInfo) (k : ℕ) (s : Sheet) (i : ℕ) (a : LabelInfo) → All EndsNoEarlier infos
-    → slice_get (groups_of same_source (ordered infos)) k ≡ Some s.labels → slice_get (gutter_labels s) i ≡ Some a → IsGutterLabel s i a
+    → slice_get (groups_of same_source (ordered infos)) k ≡ Some s.labels → slice_get (gutter_labels s.labels) i ≡ Some a → IsGutterLabel s i a
 group-gutter-label same_source infos k s i a h here e = record {
   owned = e;
   rises =
-      all-at EndsNoEarlier (gutter_labels s) i a e (gutter-labels-rise s
+      all-at EndsNoEarlier (gutter_labels s.labels) i a e (gutter-labels-rise s
       (all-at AllRise (groups_of same_source (ordered infos)) k s.labels here (groups-rise same_source infos h)));
 }

@@ -24,14 +24,14 @@ use Rattle.ariadne_picture.proofs.Rows.RowsThere.{all-gutter-labels, enumerated-
 -- the start of a gutter label
 pub record IsStartHere (s : Sheet) (l : ℕ) (x : LineLabel) : Type 0 where
   pub side : x.side ≡ Starts
-  pub owned : slice_get (gutter_labels s) x.gutter_column ≡ Some x.info
+  pub owned : slice_get (gutter_labels s.labels) x.gutter_column ≡ Some x.info
   pub line : x.info.start_line ≡ l
   pub place : x.place ≡ x.info.start_place
 
 -- its end
 pub record IsEndHere (s : Sheet) (l : ℕ) (x : LineLabel) : Type 0 where
   pub side : x.side ≡ Ends
-  pub owned : slice_get (gutter_labels s) x.gutter_column ≡ Some x.info
+  pub owned : slice_get (gutter_labels s.labels) x.gutter_column ≡ Some x.info
   pub line : x.info.end_line ≡ l
   pub place : x.place ≡ x.info.end_place
 
@@ -47,14 +47,14 @@ abbrev pub IsHere : Sheet → ℕ → LineLabel → Type 0
 IsHere s l x = IsStartHere s l x ⊎ (IsEndHere s l x ⊎ IsInlineHere s l x)
 
 -- the starts and ends of gutter labels are
-pub ends-here : (s : Sheet) (l : ℕ) → AllByRecursion (IsHere s l) (ends_at s l)
+pub ends-here : (s : Sheet) (l : ℕ) → AllByRecursion (IsHere s l) (ends_at s.labels l)
 unfolding ends_at gutter_label_ends
 ends-here s l =
-    all-joined (IsHere s l) (λ e. slice_get (gutter_labels s) e.0 ≡ Some e.1) (λ e. gutter_label_ends l e.0 e.1) (enumerate_from 0 (gutter_labels s))
+    all-joined (IsHere s l) (λ e. slice_get (gutter_labels s.labels) e.0 ≡ Some e.1) (λ e. gutter_label_ends l e.0 e.1) (enumerate_from 0 (gutter_labels s.labels))
     (λ e h. two e.0 e.1 h)
-    (all-numbered (λ e. slice_get (gutter_labels s) e.0 ≡ Some e.1) (gutter_labels s) (λ k x e. e))
+    (all-numbered (λ e. slice_get (gutter_labels s.labels) e.0 ≡ Some e.1) (gutter_labels s.labels) (λ k x e. e))
   where
-    two : (i : ℕ) (a : LabelInfo) → slice_get (gutter_labels s) i ≡ Some a → AllByRecursion (IsHere s l) (gutter_label_ends l i a)
+    two : (i : ℕ) (a : LabelInfo) → slice_get (gutter_labels s.labels) i ≡ Some a → AllByRecursion (IsHere s l) (gutter_label_ends l i a)
     two i a e =
         let first : LineLabel = record { info = a; side = Starts; gutter_column = i; place = a.start_place } in
         let last : LineLabel = record { info = a; side = Ends; gutter_column = i; place = a.end_place } in
@@ -66,7 +66,7 @@ ends-here s l =
         (λ h. (inr (inl (record { side = refl; owned = e; line = eqb-true a.end_line l h; place = refl })), tt)) (λ _. tt))
 
 -- and the labels within the line
-inlines-here : (s : Sheet) (l : ℕ) → AllByRecursion (IsHere s l) (inline_labels s l)
+inlines-here : (s : Sheet) (l : ℕ) → AllByRecursion (IsHere s l) (inline_labels s.labels l)
 unfolding inline_labels
 inlines-here s l =
     let make : LabelInfo → LineLabel = λ a. record { info = a; side = Inline; gutter_column = 0; place = a.attach } in
@@ -88,22 +88,22 @@ inlines-here s l =
     two-true false c h = absurd (true≢false (sym h))
 
 -- so all line labels are
-pub labels-here : (s : Sheet) (l : ℕ) → AllByRecursion (IsHere s l) (line_labels s l)
+pub labels-here : (s : Sheet) (l : ℕ) → AllByRecursion (IsHere s l) (line_labels s.labels l)
 unfolding line_labels
 labels-here s l =
-    let t : LineLabel → Bool = λ x. not (is_start x.side && is_margin (margin_label s l) x) in
-    all-in_order (IsHere s l) is_before (filter t (ends_at s l) ++ inline_labels s l)
-    (all-append (IsHere s l) (filter t (ends_at s l)) (inline_labels s l) (all-filter (IsHere s l) t (ends_at s l) (ends-here s l))
+    let t : LineLabel → Bool = λ x. not (is_start x.side && is_margin (margin_label s.labels l) x) in
+    all-in_order (IsHere s l) is_before (filter t (ends_at s.labels l) ++ inline_labels s.labels l)
+    (all-append (IsHere s l) (filter t (ends_at s.labels l)) (inline_labels s.labels l) (all-filter (IsHere s l) t (ends_at s.labels l) (ends-here s l))
     (inlines-here s l))
 
 -- gutter labels are labels of their group
-pub gutter-labels-owned : (s : Sheet) → AllByRecursion (Has s.labels) (gutter_labels s)
+pub gutter-labels-owned : (s : Sheet) → AllByRecursion (Has s.labels) (gutter_labels s.labels)
 gutter-labels-owned s = all-gutter-labels (Has s.labels) s (all-from (Has s.labels) s.labels (λ k x e. record { place = k; there = e }))
 
 -- the label of a line label is one of its group
 pub label-owned : (s : Sheet) (l : ℕ) (x : LineLabel) → IsHere s l x → Has s.labels x.info
-label-owned s l x (inl h) = all-at (Has s.labels) (gutter_labels s) x.gutter_column x.info h.owned (gutter-labels-owned s)
-label-owned s l x (inr (inl h)) = all-at (Has s.labels) (gutter_labels s) x.gutter_column x.info h.owned (gutter-labels-owned s)
+label-owned s l x (inl h) = all-at (Has s.labels) (gutter_labels s.labels) x.gutter_column x.info h.owned (gutter-labels-owned s)
+label-owned s l x (inr (inl h)) = all-at (Has s.labels) (gutter_labels s.labels) x.gutter_column x.info h.owned (gutter-labels-owned s)
 label-owned s l x (inr (inr h)) = h.owned
 
 -- one that is no start ends at the line
@@ -122,49 +122,49 @@ pub record Shows (a : LabelInfo) (x : LineLabel) : Type 0 where
 
 -- a label over several lines with a message is a gutter label
 pub gutter-label-there : (s : Sheet) (k : ℕ) (a : LabelInfo) → slice_get s.labels k ≡ Some a → a.has_message ≡ true → is_on_one_line a ≡ false
-    → Has (gutter_labels s) a
+    → Has (gutter_labels s.labels) a
 unfolding gutter_labels multi_line_labels
 gutter-label-there s k a e m n =
     let several = has-filter (λ a. not (is_on_one_line a)) s.labels k a e (ap not n) in
     let sorted = has-in_order (λ a b. Rattle.std.proofs.Common.nat_lt (span_len b) (span_len a))
     (filter (λ a. not (is_on_one_line a)) s.labels) several.place a several.there in
-    has-filter (λ a. a.has_message) (multi_line_labels s) sorted.place a sorted.there m
+    has-filter (λ a. a.has_message) (multi_line_labels s.labels) sorted.place a sorted.there m
 
 -- the end of a gutter label is a line label
-end-there : (s : Sheet) (i : ℕ) (a : LabelInfo) → slice_get (gutter_labels s) i ≡ Some a
-    → Has (line_labels s a.end_line) (record { info = a; side = Ends; gutter_column = i; place = a.end_place })
+end-there : (s : Sheet) (i : ℕ) (a : LabelInfo) → slice_get (gutter_labels s.labels) i ≡ Some a
+    → Has (line_labels s.labels a.end_line) (record { info = a; side = Ends; gutter_column = i; place = a.end_place })
 unfolding line_labels ends_at gutter_label_ends is_start
 end-there s i a e =
     let last : LineLabel = record { info = a; side = Ends; gutter_column = i; place = a.end_place } in
-    let t : LineLabel → Bool = λ x. not (is_start x.side && is_margin (margin_label s a.end_line) x) in
+    let t : LineLabel → Bool = λ x. not (is_start x.side && is_margin (margin_label s.labels a.end_line) x) in
     let z : 0 + i ≡ i = omega arith in
-    let there : slice_get (enumerate_from 0 (gutter_labels s)) i ≡ Some (i, a) = enumerated-at 0 i (gutter_labels s) a e ∙ ap (λ k. Some (k, a)) z in
+    let there : slice_get (enumerate_from 0 (gutter_labels s.labels)) i ≡ Some (i, a) = enumerated-at 0 i (gutter_labels s.labels) a e ∙ ap (λ k. Some (k, a)) z in
     let one : Has (gutter_label_ends a.end_line i a) last = has-back
     (if a.start_line == a.end_line then record { info = a; side = Starts; gutter_column = i; place = a.start_place } ∷ [] else [])
     (if a.end_line == a.end_line then last ∷ [] else []) last
     (subst (λ xs. Has xs last) (sym (cond-true (a.end_line == a.end_line) (last ∷ []) [] (eq-eqb a.end_line a.end_line refl))) (has-first last [])) in
-    let end = has-joined (λ e. gutter_label_ends a.end_line e.0 e.1) (enumerate_from 0 (gutter_labels s)) i (i, a) last there one in
-    let kept = has-filter t (ends_at s a.end_line) end.place last end.there refl in
-    let all = has-front (filter t (ends_at s a.end_line)) (inline_labels s a.end_line) last kept in
-    has-in_order is_before (filter t (ends_at s a.end_line) ++ inline_labels s a.end_line) all.place last all.there
+    let end = has-joined (λ e. gutter_label_ends a.end_line e.0 e.1) (enumerate_from 0 (gutter_labels s.labels)) i (i, a) last there one in
+    let kept = has-filter t (ends_at s.labels a.end_line) end.place last end.there refl in
+    let all = has-front (filter t (ends_at s.labels a.end_line)) (inline_labels s.labels a.end_line) last kept in
+    has-in_order is_before (filter t (ends_at s.labels a.end_line) ++ inline_labels s.labels a.end_line) all.place last all.there
 
 -- a label within a line is a line label
 inline-there : (s : Sheet) (k : ℕ) (a : LabelInfo) → slice_get s.labels k ≡ Some a → is_on_one_line a ≡ true
-    → Has (line_labels s a.end_line) (record { info = a; side = Inline; gutter_column = 0; place = a.attach })
+    → Has (line_labels s.labels a.end_line) (record { info = a; side = Inline; gutter_column = 0; place = a.attach })
 unfolding line_labels inline_labels is_on_one_line
 inline-there s k a e one =
     let x : LineLabel = record { info = a; side = Inline; gutter_column = 0; place = a.attach } in
-    let t : LineLabel → Bool = λ x. not (is_start x.side && is_margin (margin_label s a.end_line) x) in
+    let t : LineLabel → Bool = λ x. not (is_start x.side && is_margin (margin_label s.labels a.end_line) x) in
     let test : LabelInfo → Bool = λ b. is_on_one_line b && (b.start_line == a.end_line) in
     let within = has-filter test s.labels k a e (both-true (a.start_line == a.end_line) (a.start_line == a.end_line) one one) in
     let make : LabelInfo → LineLabel = λ a. record { info = a; side = Inline; gutter_column = 0; place = a.attach } in
     let made = has-map make (filter test s.labels) within.place a within.there in
-    let all = has-back (filter t (ends_at s a.end_line)) (inline_labels s a.end_line) x made in
-    has-in_order is_before (filter t (ends_at s a.end_line) ++ inline_labels s a.end_line) all.place x all.there
+    let all = has-back (filter t (ends_at s.labels a.end_line)) (inline_labels s.labels a.end_line) x made in
+    has-in_order is_before (filter t (ends_at s.labels a.end_line) ++ inline_labels s.labels a.end_line) all.place x all.there
 
 -- so a label with a message is shown by a line label of the line where it ends
 pub shown-by : (s : Sheet) (k : ℕ) (a : LabelInfo) → slice_get s.labels k ≡ Some a → a.has_message ≡ true → (x : LineLabel)
-    × Has (line_labels s a.end_line) x × Shows a x
+    × Has (line_labels s.labels a.end_line) x × Shows a x
 unfolding is_start
 shown-by s k a e m = elim (cases_Bool (is_on_one_line a)) [
   | inl one ↦ (
@@ -238,24 +238,24 @@ gutter-label-shows k l i a =
     (λ _. omega arith))
 
 -- as many line labels show a number as labels have it, at most
-pub shows-few : (s : Sheet) (l k : ℕ) → occurrences (shows_number k) (line_labels s l) ≤ occurrences (has_number k) s.labels
+pub shows-few : (s : Sheet) (l k : ℕ) → occurrences (shows_number k) (line_labels s.labels l) ≤ occurrences (has_number k) s.labels
 unfolding line_labels ends_at inline_labels is_start gutter_labels multi_line_labels
 shows-few s l k =
     let g : LineLabel → ℕ = λ x. cond (shows_number k x) 1 0 in
     let f : LabelInfo → ℕ = λ a. cond (has_number k a) 1 0 in
-    let t : LineLabel → Bool = λ x. not (is_start x.side && is_margin (margin_label s l) x) in
+    let t : LineLabel → Bool = λ x. not (is_start x.side && is_margin (margin_label s.labels l) x) in
     let make : LabelInfo → LineLabel = λ a. record { info = a; side = Inline; gutter_column = 0; place = a.attach } in
     let ins : List LabelInfo = filter (λ a. is_on_one_line a && (a.start_line == l)) s.labels in
     let longer : LabelInfo → LabelInfo → Bool = λ a b. Rattle.std.proofs.Common.nat_lt (span_len b) (span_len a) in
     let several : List LabelInfo = filter (λ a. not (is_on_one_line a)) s.labels in
-    let sorted = total-in_order g is_before (filter t (ends_at s l) ++ map make ins) in
-    let two = total-append g (filter t (ends_at s l)) (map make ins) in
-    let kept = total-filter g t (ends_at s l) in
-    let parts = total-joined g (λ (e : ℕ × LabelInfo). gutter_label_ends l e.0 e.1) (enumerate_from 0 (gutter_labels s)) in
+    let sorted = total-in_order g is_before (filter t (ends_at s.labels l) ++ map make ins) in
+    let two = total-append g (filter t (ends_at s.labels l)) (map make ins) in
+    let kept = total-filter g t (ends_at s.labels l) in
+    let parts = total-joined g (λ (e : ℕ × LabelInfo). gutter_label_ends l e.0 e.1) (enumerate_from 0 (gutter_labels s.labels)) in
     let each = total-le (λ (e : ℕ × LabelInfo). total g (gutter_label_ends l e.0 e.1)) (λ (e : ℕ × LabelInfo). f e.1)
-    (enumerate_from 0 (gutter_labels s)) (λ e. gutter-label-shows k l e.0 e.1) in
-    let all = total-numbered f 0 (gutter_labels s) in
-    let owned = total-filter f (λ a. a.has_message) (multi_line_labels s) in
+    (enumerate_from 0 (gutter_labels s.labels)) (λ e. gutter-label-shows k l e.0 e.1) in
+    let all = total-numbered f 0 (gutter_labels s.labels) in
+    let owned = total-filter f (λ a. a.has_message) (multi_line_labels s.labels) in
     let ranked = total-in_order f longer several in
     let within : total g (map make ins) ≤ total f ins = total-mapped g make f (λ a. omega arith) ins in
     let fewer = total-fewer f is_on_one_line (λ a. a.start_line == l) s.labels in
@@ -264,12 +264,12 @@ shows-few s l k =
 
 -- where a number stands once, only one line label of a line shows it
 pub shows-once : (s : Sheet) (l k : ℕ) (m n : ℕ) (x y : LineLabel) → occurrences (has_number k) s.labels ≤ 1
-    → slice_get (line_labels s l) m ≡ Some x → slice_get (line_labels s l) n ≡ Some y → shows_number k x ≡ true → shows_number k y ≡ true → m ≡ n
+    → slice_get (line_labels s.labels l) m ≡ Some x → slice_get (line_labels s.labels l) n ≡ Some y → shows_number k x ≡ true → shows_number k y ≡ true → m ≡ n
 shows-once s l k m n x y once e f h i =
     let few = shows-few s l k in
-    let one : occurrences (shows_number k) (line_labels s l) ≤ 1 = omega arith in
-    sym (only-passes (shows_number k) (line_labels s l) m (record { item = x; there = e; passes = h }) one)
-    ∙ only-passes (shows_number k) (line_labels s l) n (record { item = y; there = f; passes = i }) one
+    let one : occurrences (shows_number k) (line_labels s.labels l) ≤ 1 = omega arith in
+    sym (only-passes (shows_number k) (line_labels s.labels l) m (record { item = x; there = e; passes = h }) one)
+    ∙ only-passes (shows_number k) (line_labels s.labels l) n (record { item = y; there = f; passes = i }) one
 
 -- ---- numbers that differ
 

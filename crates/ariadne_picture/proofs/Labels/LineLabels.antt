@@ -22,19 +22,19 @@ use Rattle.ariadne_picture.proofs.Parts.{is_end_of_gutter_label}
 -- ---- a gutter label spans lines
 
 -- a gutter label is kept by the test for labels over several lines
-pub multi-line : (s : Sheet) (i : ℕ) (a : LabelInfo) → slice_get (gutter_labels s) i ≡ Some a → is_on_one_line a ≡ false
+pub multi-line : (s : Sheet) (i : ℕ) (a : LabelInfo) → slice_get (gutter_labels s.labels) i ≡ Some a → is_on_one_line a ≡ false
 unfolding gutter_labels multi_line_labels
 multi-line s i a e =
     let P : LabelInfo → Type 0 = λ a. is_on_one_line a ≡ false in
     let longs : List LabelInfo = filter (λ a. not (is_on_one_line a)) s.labels in
-    all-at P (gutter_labels s) i a e
-    (all-filter P (λ a. a.has_message) (multi_line_labels s)
+    all-at P (gutter_labels s.labels) i a e
+    (all-filter P (λ a. a.has_message) (multi_line_labels s.labels)
     (all-in_order P (λ a b. Rattle.std.specs.Prelude.nat_lt (span_len b) (span_len a)) longs
     (all-weaker (λ a. not (is_on_one_line a) ≡ true) P longs (λ a t. not-true (is_on_one_line a) t)
     (all-kept (λ a. not (is_on_one_line a)) s.labels))))
 
 -- so its start line is not its end line
-pub two-lines : (s : Sheet) (i : ℕ) (a : LabelInfo) → slice_get (gutter_labels s) i ≡ Some a → a.start_line ≢ a.end_line
+pub two-lines : (s : Sheet) (i : ℕ) (a : LabelInfo) → slice_get (gutter_labels s.labels) i ≡ Some a → a.start_line ≢ a.end_line
 unfolding is_on_one_line
 two-lines s i a e h = true≢false (sym (eq-eqb a.start_line a.end_line h) ∙ multi-line s i a e)
 
@@ -42,11 +42,11 @@ two-lines s i a e h = true≢false (sym (eq-eqb a.start_line a.end_line h) ∙ m
 
 -- a start or end of a gutter label at line l
 pub record IsEndAt (s : Sheet) (l : ℕ) (x : LineLabel) : Type 0 where
-  pub owned : slice_get (gutter_labels s) x.gutter_column ≡ Some x.info
+  pub owned : slice_get (gutter_labels s.labels) x.gutter_column ≡ Some x.info
   pub there : (x.side ≡ Starts) × (x.info.start_line ≡ l) ⊎ (x.side ≡ Ends) × (x.info.end_line ≡ l)
 
 -- both of one gutter label are
-pub gutter-label-ends-are : (s : Sheet) (l i : ℕ) (a : LabelInfo) → slice_get (gutter_labels s) i ≡ Some a
+pub gutter-label-ends-are : (s : Sheet) (l i : ℕ) (a : LabelInfo) → slice_get (gutter_labels s.labels) i ≡ Some a
     → AllByRecursion (IsEndAt s l) (gutter_label_ends l i a)
 unfolding gutter_label_ends
 gutter-label-ends-are s l i a e =
@@ -58,23 +58,23 @@ gutter-label-ends-are s l i a e =
     (cond_both (a.end_line == l) (last ∷ []) [] P (λ t. (record { owned = e; there = inr (refl, eqb-true a.end_line l t) }, tt)) (λ _. tt))
 
 -- each start or end at a line is one of a gutter label
-pub ends-are : (s : Sheet) (l : ℕ) → AllByRecursion (IsEndAt s l) (ends_at s l)
+pub ends-are : (s : Sheet) (l : ℕ) → AllByRecursion (IsEndAt s l) (ends_at s.labels l)
 unfolding ends_at
 ends-are s l =
-    all-joined (IsEndAt s l) (λ e. slice_get (gutter_labels s) e.0 ≡ Some e.1) (λ e. gutter_label_ends l e.0 e.1) (enumerate_from 0 (gutter_labels s))
+    all-joined (IsEndAt s l) (λ e. slice_get (gutter_labels s.labels) e.0 ≡ Some e.1) (λ e. gutter_label_ends l e.0 e.1) (enumerate_from 0 (gutter_labels s.labels))
     (λ e h. gutter-label-ends-are s l e.0 e.1 h)
-    (all-enumerated (gutter_labels s) 0 (gutter_labels s) (λ k. let z : k ≡ 0 + k = omega arith in ap (slice_get (gutter_labels s)) z))
+    (all-enumerated (gutter_labels s.labels) 0 (gutter_labels s.labels) (λ k. let z : k ≡ 0 + k = omega arith in ap (slice_get (gutter_labels s.labels)) z))
 
 -- the margin label is one of them
-pub margin-is : (s : Sheet) (l : ℕ) (x : LineLabel) → margin_label s l ≡ Some x → IsEndAt s l x
+pub margin-is : (s : Sheet) (l : ℕ) (x : LineLabel) → margin_label s.labels l ≡ Some x → IsEndAt s l x
 unfolding margin_label
-margin-is s l x e = all-best (IsEndAt s l) is_nearer_margin (ends_at s l) x e (ends-are s l)
+margin-is s l x e = all-best (IsEndAt s l) is_nearer_margin (ends_at s.labels l) x e (ends-are s l)
 
 -- an end of gutter label i is one of a, where a is gutter label i
-pub same-info : (s : Sheet) (l i : ℕ) (a : LabelInfo) (x : LineLabel) → slice_get (gutter_labels s) i ≡ Some a → IsEndAt s l x → x.gutter_column ≡ i
+pub same-info : (s : Sheet) (l i : ℕ) (a : LabelInfo) (x : LineLabel) → slice_get (gutter_labels s.labels) i ≡ Some a → IsEndAt s l x → x.gutter_column ≡ i
     → x.info ≡ a
 same-info s l i a x e h same =
-    let there : slice_get (gutter_labels s) i ≡ Some x.info = subst (λ k. slice_get (gutter_labels s) k ≡ Some x.info) same h.owned in cc
+    let there : slice_get (gutter_labels s.labels) i ≡ Some x.info = subst (λ k. slice_get (gutter_labels s.labels) k ≡ Some x.info) same h.owned in cc
 
 -- ---- each stands once among the line labels
 
@@ -127,34 +127,34 @@ gutter-label-ends-once is_side h l i j a = elim h.one [
         (λ _. omega arith)
 
 -- so each stands at most once among all starts and ends of a line
-pub ends-once : (is_side : Side → Bool) → IsOneSide is_side → (s : Sheet) (l i : ℕ) → occurrences (is_end_of_gutter_label is_side i) (ends_at s l) ≤ 1
+pub ends-once : (is_side : Side → Bool) → IsOneSide is_side → (s : Sheet) (l i : ℕ) → occurrences (is_end_of_gutter_label is_side i) (ends_at s.labels l) ≤ 1
 unfolding ends_at
 ends-once is_side h s l i =
     let g : LineLabel → ℕ = λ x. cond (is_end_of_gutter_label is_side i x) 1 0 in
     let f : ℕ × LabelInfo → List LineLabel = λ e. gutter_label_ends l e.0 e.1 in
-    let es : List (ℕ × LabelInfo) = enumerate_from 0 (gutter_labels s) in
+    let es : List (ℕ × LabelInfo) = enumerate_from 0 (gutter_labels s.labels) in
     let sums : total g (joined f es) ≡ total (λ e. total g (f e)) es = total-joined g f es in
     let each : total (λ e. total g (f e)) es ≤ total (λ (e : ℕ × LabelInfo). cond (e.0 == i) 1 0) es = total-le (λ e. total g (f e))
     (λ e. cond (e.0 == i) 1 0) es (λ e. gutter-label-ends-once is_side h l i e.0 e.1) in
-    let once = numbered-once i 0 (gutter_labels s) in
+    let once = numbered-once i 0 (gutter_labels s.labels) in
     omega arith
 
 -- a gutter label starts at most once among the line labels of a line, and ends at most once
 pub labels-once : (is_side : Side → Bool) → IsOneSide is_side → (s : Sheet) (l i : ℕ)
-    → occurrences (is_end_of_gutter_label is_side i) (line_labels s l) ≤ 1
+    → occurrences (is_end_of_gutter_label is_side i) (line_labels s.labels l) ≤ 1
 unfolding line_labels inline_labels
 labels-once is_side h s l i =
     let g : LineLabel → ℕ = λ x. cond (is_end_of_gutter_label is_side i x) 1 0 in
-    let t : LineLabel → Bool = λ x. not (is_start x.side && is_margin (margin_label s l) x) in
+    let t : LineLabel → Bool = λ x. not (is_start x.side && is_margin (margin_label s.labels l) x) in
     let make : LabelInfo → LineLabel = λ a. record { info = a; side = Inline; gutter_column = 0; place = a.attach } in
     let ins : List LabelInfo = filter (λ a. is_on_one_line a && (a.start_line == l)) s.labels in
-    let sort : total g (in_order is_before (filter t (ends_at s l) ++ map make ins)) ≡ total g
-    (filter t (ends_at s l) ++ map make ins) = total-in_order g is_before (filter t (ends_at s l) ++ map make ins) in
-    let parts : total g (filter t (ends_at s l) ++ map make ins) ≡ total g (filter t (ends_at s l)) + total g (map make ins) = total-append g
-    (filter t (ends_at s l)) (map make ins) in
-    let kept : total g (filter t (ends_at s l)) ≤ total g (ends_at s l) = total-filter g t (ends_at s l) in
+    let sort : total g (in_order is_before (filter t (ends_at s.labels l) ++ map make ins)) ≡ total g
+    (filter t (ends_at s.labels l) ++ map make ins) = total-in_order g is_before (filter t (ends_at s.labels l) ++ map make ins) in
+    let parts : total g (filter t (ends_at s.labels l) ++ map make ins) ≡ total g (filter t (ends_at s.labels l)) + total g (map make ins) = total-append g
+    (filter t (ends_at s.labels l)) (map make ins) in
+    let kept : total g (filter t (ends_at s.labels l)) ≤ total g (ends_at s.labels l) = total-filter g t (ends_at s.labels l) in
     let none : total g (map make ins) ≡ 0 = total-zero g make ins (λ a. rw h.never_inline) in
-    let once : total g (ends_at s l) ≤ 1 = ends-once is_side h s l i in
+    let once : total g (ends_at s.labels l) ≤ 1 = ends-once is_side h s l i in
     omega arith
 
 -- ---- and each does, but a start that is the margin label
@@ -171,42 +171,42 @@ unfolding gutter_label_ends is_end total
 end-occurs l i a n e = rw (ne_eqb a.start_line l n, eq-eqb a.end_line l e, eq-eqb i i refl) (omega arith)
 
 -- the starts and ends of one gutter label are among those of all
-pub among-ends : (is_side : Side → Bool) (s : Sheet) (l i : ℕ) (a : LabelInfo) → slice_get (gutter_labels s) i ≡ Some a
-    → 1 ≤ occurrences (is_end_of_gutter_label is_side i) (gutter_label_ends l i a) → 1 ≤ occurrences (is_end_of_gutter_label is_side i) (ends_at s l)
+pub among-ends : (is_side : Side → Bool) (s : Sheet) (l i : ℕ) (a : LabelInfo) → slice_get (gutter_labels s.labels) i ≡ Some a
+    → 1 ≤ occurrences (is_end_of_gutter_label is_side i) (gutter_label_ends l i a) → 1 ≤ occurrences (is_end_of_gutter_label is_side i) (ends_at s.labels l)
 unfolding ends_at
 among-ends is_side s l i a e h =
     let g : LineLabel → ℕ = λ x. cond (is_end_of_gutter_label is_side i x) 1 0 in
     let f : ℕ × LabelInfo → List LineLabel = λ e. gutter_label_ends l e.0 e.1 in
-    let sums : total g (joined f (enumerate_from 0 (gutter_labels s))) ≡ total (λ e. total g (f e))
-    (enumerate_from 0 (gutter_labels s)) = total-joined g f (enumerate_from 0 (gutter_labels s)) in
-    let some : total g (gutter_label_ends l (0 + i) a) ≤ total (λ e. total g (f e)) (enumerate_from 0 (gutter_labels s)) = total-part
-    (λ e. total g (f e)) 0 i a (gutter_labels s) e in
+    let sums : total g (joined f (enumerate_from 0 (gutter_labels s.labels))) ≡ total (λ e. total g (f e))
+    (enumerate_from 0 (gutter_labels s.labels)) = total-joined g f (enumerate_from 0 (gutter_labels s.labels)) in
+    let some : total g (gutter_label_ends l (0 + i) a) ≤ total (λ e. total g (f e)) (enumerate_from 0 (gutter_labels s.labels)) = total-part
+    (λ e. total g (f e)) 0 i a (gutter_labels s.labels) e in
     let z : 0 + i ≡ i = omega arith in
     let same : total g (gutter_label_ends l (0 + i) a) ≡ total g (gutter_label_ends l i a) = ap (λ k. total g (gutter_label_ends l k a)) z in
     omega arith
 
 -- what the line labels leave out is a start that is the margin label
 pub among-labels : (is_side : Side → Bool) (s : Sheet) (l i : ℕ)
-    → ((x : LineLabel) → is_end_of_gutter_label is_side i x ≡ true → not (is_start x.side && is_margin (margin_label s l) x) ≡ true)
-    → 1 ≤ occurrences (is_end_of_gutter_label is_side i) (ends_at s l) → 1 ≤ occurrences (is_end_of_gutter_label is_side i) (line_labels s l)
+    → ((x : LineLabel) → is_end_of_gutter_label is_side i x ≡ true → not (is_start x.side && is_margin (margin_label s.labels l) x) ≡ true)
+    → 1 ≤ occurrences (is_end_of_gutter_label is_side i) (ends_at s.labels l) → 1 ≤ occurrences (is_end_of_gutter_label is_side i) (line_labels s.labels l)
 unfolding line_labels
 among-labels is_side s l i k h =
     let g : LineLabel → ℕ = λ x. cond (is_end_of_gutter_label is_side i x) 1 0 in
-    let t : LineLabel → Bool = λ x. not (is_start x.side && is_margin (margin_label s l) x) in
-    let sort : total g (in_order is_before (filter t (ends_at s l) ++ inline_labels s l)) ≡ total g
-    (filter t (ends_at s l) ++ inline_labels s l) = total-in_order g is_before (filter t (ends_at s l) ++ inline_labels s l) in
-    let parts : total g (filter t (ends_at s l) ++ inline_labels s l) ≡ total g (filter t (ends_at s l)) + total g
-    (inline_labels s l) = total-append g (filter t (ends_at s l)) (inline_labels s l) in
-    let kept : total g (filter t (ends_at s l)) ≡ total g (ends_at s l) = occurrences-kept (is_end_of_gutter_label is_side i) t (ends_at s l) k in
+    let t : LineLabel → Bool = λ x. not (is_start x.side && is_margin (margin_label s.labels l) x) in
+    let sort : total g (in_order is_before (filter t (ends_at s.labels l) ++ inline_labels s.labels l)) ≡ total g
+    (filter t (ends_at s.labels l) ++ inline_labels s.labels l) = total-in_order g is_before (filter t (ends_at s.labels l) ++ inline_labels s.labels l) in
+    let parts : total g (filter t (ends_at s.labels l) ++ inline_labels s.labels l) ≡ total g (filter t (ends_at s.labels l)) + total g
+    (inline_labels s.labels l) = total-append g (filter t (ends_at s.labels l)) (inline_labels s.labels l) in
+    let kept : total g (filter t (ends_at s.labels l)) ≡ total g (ends_at s.labels l) = occurrences-kept (is_end_of_gutter_label is_side i) t (ends_at s.labels l) k in
     omega arith
 
 -- so a start that is not the margin label is kept
 pub keeps-start : (s : Sheet) (l i : ℕ) → is_at_margin s l i ≡ false → (x : LineLabel) → is_end_of_gutter_label is_start i x ≡ true
-    → not (is_start x.side && is_margin (margin_label s l) x) ≡ true
+    → not (is_start x.side && is_margin (margin_label s.labels l) x) ≡ true
 unfolding is_margin
 keeps-start s l i off x h =
     let parts = and_parts (is_start x.side) (x.gutter_column == i) h in
-    let none : is_of_gutter_label (margin_label s l) x.gutter_column ≡ false = ap (is_of_gutter_label (margin_label s l))
+    let none : is_of_gutter_label (margin_label s.labels l) x.gutter_column ≡ false = ap (is_of_gutter_label (margin_label s.labels l))
     (eqb-true x.gutter_column i parts.1) ∙ off in
     rw (parts.0, none) (both (is_inline x.side))
   where
@@ -223,21 +223,21 @@ end-no-start Ends h = refl
 
 -- so an end is kept
 pub keeps-end : (s : Sheet) (l i : ℕ) (x : LineLabel) → is_end_of_gutter_label is_end i x ≡ true
-    → not (is_start x.side && is_margin (margin_label s l) x) ≡ true
+    → not (is_start x.side && is_margin (margin_label s.labels l) x) ≡ true
 keeps-end s l i x h =
-    not_from_false (is_start x.side && is_margin (margin_label s l) x)
-    (and_left (is_start x.side) (is_margin (margin_label s l) x) (end-no-start x.side (and_parts (is_end x.side) (x.gutter_column == i) h).0))
+    not_from_false (is_start x.side && is_margin (margin_label s.labels l) x)
+    (and_left (is_start x.side) (is_margin (margin_label s.labels l) x) (end-no-start x.side (and_parts (is_end x.side) (x.gutter_column == i) h).0))
 
 -- a gutter label that starts at a line is a line label there, unless it is the margin label
-pub start-label : (s : Sheet) (i : ℕ) (a : LabelInfo) → slice_get (gutter_labels s) i ≡ Some a → is_at_margin s a.start_line i ≡ false
-    → 1 ≤ occurrences (is_end_of_gutter_label is_start i) (line_labels s a.start_line)
+pub start-label : (s : Sheet) (i : ℕ) (a : LabelInfo) → slice_get (gutter_labels s.labels) i ≡ Some a → is_at_margin s a.start_line i ≡ false
+    → 1 ≤ occurrences (is_end_of_gutter_label is_start i) (line_labels s.labels a.start_line)
 start-label s i a e off =
     among-labels is_start s a.start_line i (keeps-start s a.start_line i off)
     (among-ends is_start s a.start_line i a e (start-occurs a.start_line i a refl))
 
 -- a gutter label that ends at a line is a line label there
-pub end-label : (s : Sheet) (i : ℕ) (a : LabelInfo) → slice_get (gutter_labels s) i ≡ Some a
-    → 1 ≤ occurrences (is_end_of_gutter_label is_end i) (line_labels s a.end_line)
+pub end-label : (s : Sheet) (i : ℕ) (a : LabelInfo) → slice_get (gutter_labels s.labels) i ≡ Some a
+    → 1 ≤ occurrences (is_end_of_gutter_label is_end i) (line_labels s.labels a.end_line)
 end-label s i a e =
     among-labels is_end s a.end_line i (keeps-end s a.end_line i)
     (among-ends is_end s a.end_line i a e (end-occurs a.end_line i a (two-lines s i a e) refl))
@@ -245,14 +245,14 @@ end-label s i a e =
 -- ---- a line label is a start or end of a gutter label, or lies within the line
 
 -- the line labels are those kept of the starts and ends, and the labels within the line
-pub line-labels-are : (s : Sheet) (l : ℕ) → AllByRecursion (λ x. IsEndAt s l x ⊎ (x.side ≡ Inline)) (line_labels s l)
+pub line-labels-are : (s : Sheet) (l : ℕ) → AllByRecursion (λ x. IsEndAt s l x ⊎ (x.side ≡ Inline)) (line_labels s.labels l)
 unfolding line_labels inline_labels
 line-labels-are s l =
     let P : LineLabel → Type 0 = λ x. IsEndAt s l x ⊎ (x.side ≡ Inline) in
-    let t : LineLabel → Bool = λ x. not (is_start x.side && is_margin (margin_label s l) x) in
+    let t : LineLabel → Bool = λ x. not (is_start x.side && is_margin (margin_label s.labels l) x) in
     let ins : List LabelInfo = filter (λ a. is_on_one_line a && (a.start_line == l)) s.labels in
     let make : LabelInfo → LineLabel = λ a. record { info = a; side = Inline; gutter_column = 0; place = a.attach } in
-    all-in_order P is_before (filter t (ends_at s l) ++ map make ins)
-    (all-append P (filter t (ends_at s l)) (map make ins)
-    (all-filter P t (ends_at s l) (all-weaker (IsEndAt s l) P (ends_at s l) (λ x h. inl h) (ends-are s l)))
+    all-in_order P is_before (filter t (ends_at s.labels l) ++ map make ins)
+    (all-append P (filter t (ends_at s.labels l)) (map make ins)
+    (all-filter P t (ends_at s.labels l) (all-weaker (IsEndAt s l) P (ends_at s.labels l) (λ x h. inl h) (ends-are s l)))
     (all-map P make ins (all-every _ (λ a. inr refl) ins)))

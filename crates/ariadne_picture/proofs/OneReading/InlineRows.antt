@@ -208,7 +208,7 @@ stroke-kind set t n k c e = elim (or-cases _ _ e) [
 pub passes-at : {X : Type 0} (test : X → Bool) (xs : List X) (k : ℕ) (x : X) → list_all test xs ≡ true → slice_get xs k ≡ Some x → test x ≡ true
 passes-at test xs k x e there = all-at (λ x. test x ≡ true) xs k x there (list_all-from test xs e)
 
-pub gutter-label-has : (s : Section) (i : ℕ) (a : LabelInfo) → slice_get (gutter_labels s.sheet) i ≡ Some a → Has (messages_of s) a
+pub gutter-label-has : (s : Section) (i : ℕ) (a : LabelInfo) → slice_get (gutter_labels s.sheet.labels) i ≡ Some a → Has (messages_of s) a
 unfolding messages_of
 gutter-label-has s i a owned =
     let own = all-at (Has s.sheet.labels) _ i a owned (gutter-labels-owned s.sheet) in

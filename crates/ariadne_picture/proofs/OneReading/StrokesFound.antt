@@ -89,7 +89,7 @@ data Turn (s : Sheet) (l r i : ℕ) (x : LineLabel) : Type 0 where
   level : ((column_ink s (arrow l r) i).first ≡ Hbar) ⊎ ((column_ink s (arrow l r) i).first ≡ Xbar) → is_inline x.side ≡ false → Turn s l r i x
   turned : is_inline x.side ≡ false → x.gutter_column ≡ i → (column_ink s (arrow l r) i).first ≡ turn_glyph x.side → Turn s l r i x
 
-arrow-turn : (s : Sheet) (l r i : ℕ) (x : LineLabel) → slice_get (line_labels s l) r ≡ Some x → Turn s l r i x
+arrow-turn : (s : Sheet) (l r i : ℕ) (x : LineLabel) → slice_get (line_labels s.labels l) r ≡ Some x → Turn s l r i x
 unfolding column_ink turn_ink
 arrow-turn s l r i x e = elim (cases_Bool (is_inline x.side)) [
   | inl within ↦ bar (rw (e, within) (below-bar s (arrow l r) i))
@@ -240,7 +240,7 @@ module _ (v : Picture) (p : Placing) (h : IsReadBy (rows_of v) v.sections v.text
   unfolding has_ends_of_gutter_traces is_end_traced is_start_traced
   ends-traced g s i a o =
       let group = each-group _ v.sections g s h.or_to_both_ends_of_the_gutter_column o.group in
-      let label = each-numbered _ (gutter_labels s.sheet) i a group o.owned in
+      let label = each-numbered _ (gutter_labels s.sheet.labels) i a group o.owned in
       let two = two-true _ _ label in
       let both = two-true (is_end_traced (rows_of v) v.sections p g s i a) (is_start_traced (rows_of v) v.sections p g s i a) two.0 in
       let x = two-true _ _ both.0 in
@@ -262,7 +262,7 @@ module _ (v : Picture) (p : Placing) (h : IsReadBy (rows_of v) v.sections v.text
       let y = two-true _ _ x.0 in
       let group = each-group (is_group_placed (rows_of v) v.sections p) v.sections g s y.1 o.group in
       let z = two-true _ _ group in
-      each-numbered (is_gutter_label_placed (rows_of v) v.sections p g s) (gutter_labels s.sheet) i a z.1 o.owned
+      each-numbered (is_gutter_label_placed (rows_of v) v.sections p g s) (gutter_labels s.sheet.labels) i a z.1 o.owned
 
   -- it stands where the rows' names say
   pub head-found : (g : ℕ) (s : Section) (i : ℕ) (a : LabelInfo) → IsGutterLabelOf v g s i a → p.head_row g i ≡ head_row v g i
@@ -318,7 +318,7 @@ module _ (v : Picture) (p : Placing) (h : IsReadBy (rows_of v) v.sections v.text
           let mine = t.arrow_row.there in
           let here = m.arrow_row.there in
           let label : t.label ≡ m.label = cc in
-          let own : slice_get (gutter_labels s.sheet) i ≡ Some t.label.info = rw t.same_column at x.owned in
+          let own : slice_get (gutter_labels s.sheet.labels) i ≡ Some t.label.info = rw t.same_column at x.owned in
           let a_own = o.owned in
           cc
       of-end t one (inr (inr x)) = absurd (let z : Ends ≡ Inline = sym t.same_side ∙ x.side in cc)

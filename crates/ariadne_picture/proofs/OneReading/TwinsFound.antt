@@ -76,7 +76,7 @@ module _ (v : Picture) (placed : ArePlaced v) (p : Placing) (h : IsReadBy (rows_
   module _ (g : ℕ) (s : Section) (a : LabelInfo) (there : slice_get v.sections g ≡ Some s) (has : Has (messages_of s) a)
       (one : is_on_one_line a ≡ true) where
     -- no label over several lines has its message in that row
-    not-several : (i : ℕ) (b : LabelInfo) → slice_get (gutter_labels s.sheet) i ≡ Some b → p.message_row a.position ≡ p.message_row b.position → ⊥
+    not-several : (i : ℕ) (b : LabelInfo) → slice_get (gutter_labels s.sheet.labels) i ≡ Some b → p.message_row a.position ≡ p.message_row b.position → ⊥
     not-several i b owned same =
         let mine : a ≡ b = rows-apart v p h g s a b there has (gutter-label-has s i b owned) same in
         true≢false (sym one ∙ ap is_on_one_line mine ∙ multi-line s.sheet i b owned)
@@ -231,7 +231,7 @@ module _ (v : Picture) (placed : ArePlaced v) (p : Placing) (h : IsReadBy (rows_
           let own = number-at v (arrow-at v m.arrow_row) in
           let src = source-at v m.line in
           let row = m.row in
-          let labels = line_labels s.sheet a.end_line in
+          let labels = line_labels s.sheet.labels a.end_line in
           let first = block-first s.sheet a.end_line open_form on.1 in
           let top : m.arrow_row.index ≡ 0 = omega (arith, here, line, own, src, row) in
           let same : Some (alternate a.end_line (silent labels)) ≡ Some (arrow a.end_line m.rank) =
@@ -239,7 +239,7 @@ module _ (v : Picture) (placed : ArePlaced v) (p : Placing) (h : IsReadBy (rows_
           cc
 
       -- a head of another label stands in the row of that label
-      no-head : (i : ℕ) (b : LabelInfo) → slice_get (gutter_labels s.sheet) i ≡ Some b → b.start_line ≡ a.end_line
+      no-head : (i : ℕ) (b : LabelInfo) → slice_get (gutter_labels s.sheet.labels) i ≡ Some b → b.start_line ≡ a.end_line
           → is_at_margin s.sheet b.start_line i ≡ false → p.message_row a.position ≡ p.head_row g i → ⊥
       no-head i b owned line off same =
           let o : IsGutterLabelOf v g s i b = record { group = there; owned = owned } in
@@ -289,7 +289,7 @@ module _ (v : Picture) (placed : ArePlaced v) (p : Placing) (h : IsReadBy (rows_
             go (corner place row on) = let same = mine row in absurd (omega (arith, left, place, same))
             go (level row reaches on) = let same = mine row in let low = leb-true b.attach k reaches in absurd (omega (arith, left, low, same))
 
-        none-end : (l i : ℕ) (b : LabelInfo) → slice_get (gutter_labels s.sheet) i ≡ Some b → IsNone (end_trace (rows_of v) v.sections p s l i b)
+        none-end : (l i : ℕ) (b : LabelInfo) → slice_get (gutter_labels s.sheet.labels) i ≡ Some b → IsNone (end_trace (rows_of v) v.sections p s l i b)
         unfolding end_trace
         none-end l i b owned e = go (stroke-kind _ _ _ _ _ e)
           where
@@ -298,7 +298,7 @@ module _ (v : Picture) (placed : ArePlaced v) (p : Placing) (h : IsReadBy (rows_
             go (corner place row on) = not-several i b owned row
             go (level row reaches on) = not-several i b owned row
 
-        none-start : (i : ℕ) (b : LabelInfo) → slice_get (gutter_labels s.sheet) i ≡ Some b → b.start_line ≡ a.end_line
+        none-start : (i : ℕ) (b : LabelInfo) → slice_get (gutter_labels s.sheet.labels) i ≡ Some b → b.start_line ≡ a.end_line
             → is_at_margin s.sheet b.start_line i ≡ false → IsNone (start_trace (rows_of v) v.sections p g i b)
         unfolding start_trace
         none-start i b owned line off e = go (stroke-kind _ _ _ _ _ e)
@@ -308,7 +308,7 @@ module _ (v : Picture) (placed : ArePlaced v) (p : Placing) (h : IsReadBy (rows_
             go (corner place row on) = no-head i b owned line off row
             go (level row reaches on) = no-head i b owned line off row
 
-        none-gutter : (i : ℕ) (b : LabelInfo) → slice_get (gutter_labels s.sheet) i ≡ Some b
+        none-gutter : (i : ℕ) (b : LabelInfo) → slice_get (gutter_labels s.sheet.labels) i ≡ Some b
             → AllByRecursion IsNone (gutter_traces (rows_of v) v.sections p g s a.end_line i b)
         unfolding gutter_traces
         none-gutter i b owned =
@@ -331,9 +331,9 @@ module _ (v : Picture) (placed : ArePlaced v) (p : Placing) (h : IsReadBy (rows_
             (all-map IsNone (inline_trace (rows_of v) v.sections p) (filter test (messages_of s))
             (all-filtered (λ b. IsNone (inline_trace (rows_of v) v.sections p b)) test (messages_of s)
             (all-from _ (messages_of s) (λ j b at on. none-inline b (record { place = j; there = at })))))
-            (all-joined IsNone (λ e. slice_get (gutter_labels s.sheet) e.0 ≡ Some e.1) (λ e. gutter_traces (rows_of v) v.sections p g s a.end_line e.0 e.1)
-            (enumerate_from 0 (gutter_labels s.sheet)) (λ e owned. none-gutter e.0 e.1 owned)
-            (all-numbered (λ e. slice_get (gutter_labels s.sheet) e.0 ≡ Some e.1) (gutter_labels s.sheet) (λ i b owned. owned)))
+            (all-joined IsNone (λ e. slice_get (gutter_labels s.sheet.labels) e.0 ≡ Some e.1) (λ e. gutter_traces (rows_of v) v.sections p g s a.end_line e.0 e.1)
+            (enumerate_from 0 (gutter_labels s.sheet.labels)) (λ e owned. none-gutter e.0 e.1 owned)
+            (all-numbered (λ e. slice_get (gutter_labels s.sheet.labels) e.0 ≡ Some e.1) (gutter_labels s.sheet.labels) (λ i b owned. owned)))
 
         no-cause : has_cause (rows_of v) v.sections p g s a.end_line (p.message_row a.position) k true c ≡ true → ⊥
         unfolding has_cause

@@ -84,7 +84,7 @@ module _ (v : Picture) where
     source-aligned =
         ap (λ n. map cell_columns (text_cells (rows_of v) s n)) (source-is v h)
         ∙ ap (map cell_columns) (text-cells v (source-text v (source-row-is v h))) ∙ map-map cell_columns (cell_of v.palette) _
-        ∙ shown-columns v.texts.switches (multi_line_labels s.sheet) (layout_of s.sheet l)
+        ∙ shown-columns v.texts.switches (multi_line_labels s.sheet.labels) (layout_of s.sheet l)
         ∙ ap (λ (switches : Switches). map columns (plain_cells switches (layout_of s.sheet l))) (sym (v.drawn.same_switches g s h.group))
 
     -- so the rows of the line stand below its characters

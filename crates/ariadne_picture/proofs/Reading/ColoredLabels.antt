@@ -78,7 +78,7 @@ IsBarOrOf a ink = ((ink.first ≡ Vbar) × (ink.rest ≡ Blank)) ⊎ IsInkOf a i
 abbrev IsSteepOf : LabelInfo → Ink → Type 0
 IsSteepOf a ink = (ink.first ≡ Blank) ⊎ (IsLevel ink.first ⊎ (ink.first_paint ≡ paint_of a))
 
-module _ (s : Sheet) (i : ℕ) (a : LabelInfo) (owned : slice_get (gutter_labels s) i ≡ Some a) (few : i < length (gutter_labels s)) where
+module _ (s : Sheet) (i : ℕ) (a : LabelInfo) (owned : slice_get (gutter_labels s.labels) i ≡ Some a) (few : i < length (gutter_labels s.labels)) where
   -- beside a line whose margin label it is
   margin-beside : (l j : ℕ) → is_at_margin s l i ≡ true → i ≤ j → IsBarOrOf a (column_ink s (source l) j)
   unfolding column_ink beside_ink
@@ -89,7 +89,7 @@ module _ (s : Sheet) (i : ℕ) (a : LabelInfo) (owned : slice_get (gutter_labels
         | inl bar ↦ inl (rw bar (refl, refl))
         | inr no_bar ↦
             inr (rw (no-bar-beside s l j m.label no_bar m.there)
-            (subst (λ b. IsInkOf b (margin_ink (length (gutter_labels s)) j (Some m.label))) m.info (margin-own _ j m.label (omega arith))))
+            (subst (λ b. IsInkOf b (margin_ink (length (gutter_labels s.labels)) j (Some m.label))) m.info (margin-own _ j m.label (omega arith))))
       ]
 
   -- its bars have its paint
@@ -101,11 +101,11 @@ module _ (s : Sheet) (i : ℕ) (a : LabelInfo) (owned : slice_get (gutter_labels
   unfolding below_ink
   below-steep x = elim (cases_Bool (bar_at s x i)) [ inl bar ↦ inr (inr (rw bar own-paint)) | inr none ↦ inl (rw none refl) ]
 
-  margin-steep : (l : ℕ) (m : Option LineLabel) → margin_label s l ≡ m → IsSteepOf a (margin_ink (length (gutter_labels s)) i m)
+  margin-steep : (l : ℕ) (m : Option LineLabel) → margin_label s.labels l ≡ m → IsSteepOf a (margin_ink (length (gutter_labels s.labels)) i m)
   unfolding margin_ink Rattle.ariadne_picture.specs.Ranks.is_of_gutter_label
   margin-steep l None e = inl refl
   margin-steep l (Some m) e =
-      let off = ne_eqb i (length (gutter_labels s)) (λ z. omega arith) in
+      let off = ne_eqb i (length (gutter_labels s.labels)) (λ z. omega arith) in
       elim (cases_lt m.gutter_column i) [
         | inl less ↦ rw (off, ne_eqb m.gutter_column i (λ z. omega arith), lt-ltb m.gutter_column i less) (inr (inl (inl refl)))
         | inr least ↦ elim (cases_lt i m.gutter_column) [
@@ -124,10 +124,10 @@ module _ (s : Sheet) (i : ℕ) (a : LabelInfo) (owned : slice_get (gutter_labels
   unfolding beside_ink
   beside-steep x l bar = elim (cases_Bool (bar_at s x i)) [
     | inl on ↦ rw on (inr (inr own-paint))
-    | inr none ↦ rw none (margin-steep l (margin_label s l) refl)
+    | inr none ↦ rw none (margin-steep l (margin_label s.labels l) refl)
   ]
 
-  arrow-steep : (l r : ℕ) (q : LineLabel) → slice_get (line_labels s l) r ≡ Some q → IsSteepOf a (column_ink s (arrow l r) i)
+  arrow-steep : (l r : ℕ) (q : LineLabel) → slice_get (line_labels s.labels l) r ≡ Some q → IsSteepOf a (column_ink s (arrow l r) i)
   unfolding column_ink turn_ink
   arrow-steep l r q e = elim (cases_Bool (is_inline q.side)) [
     | inl within ↦ rw (e, within) (below-steep (arrow l r))
@@ -138,7 +138,7 @@ module _ (s : Sheet) (i : ℕ) (a : LabelInfo) (owned : slice_get (gutter_labels
             rw e (rw (out, ne_eqb q.gutter_column i (λ z. omega arith), le-ltb q.gutter_column i (omega arith)) (below-steep (arrow l r)))
         | inr most ↦
             let same : q.gutter_column ≡ i = omega arith in
-            let its = turn-owned s l q (all-at (IsHere s l) (line_labels s l) r q e (labels-here s l)) out in
+            let its = turn-owned s l q (all-at (IsHere s l) (line_labels s.labels l) r q e (labels-here s l)) out in
             let mine : q.info ≡ a = cc in
             rw (own-arrow s l r i q e out same) (inr (inr (ap paint_of mine)))
       ]
@@ -207,7 +207,7 @@ module _ (v : Picture) (placed : ArePlaced v) where
         let column : a.end_place ≡ x.place = cc in
         let in_range : x.place < places_of s l = column-place s.sheet (placed g s o.group) l h.rank x q.there (inr (inl k.0)) in
         let places = places-are v q.line in
-        let margin : is_margin (margin_label s.sheet l) x ≡ is_at_margin s.sheet l i = its-margin v o l x out k.1 in
+        let margin : is_margin (margin_label s.sheet.labels l) x ≡ is_at_margin s.sheet l i = its-margin v o l x out k.1 in
         let text = arrow-text v (arrow-at v q) in
         (λ j. end_test (column j) (h.row j)) ∙ both_true (both_true
         (columns-colored v text i a (λ j low. subst (λ b. IsInkOf b (column_ink s.sheet (arrow l h.rank) j)) h.shows.info (turn-own v q out j (omega arith))))
@@ -240,7 +240,7 @@ module _ (v : Picture) (placed : ArePlaced v) where
           let out : is_inline x.side ≡ false = ap is_inline h.start.side in
           let column : a.start_place ≡ x.place = cc in
           let in_range : x.place < places_of s l = column-place s.sheet (placed g s o.group) l h.rank x q.there (inl h.start) in
-          let margin : is_margin (margin_label s.sheet l) x ≡ is_at_margin s.sheet l i = its-margin v o l x out h.gutter_column in
+          let margin : is_margin (margin_label s.sheet.labels l) x ≡ is_at_margin s.sheet l i = its-margin v o l x out h.gutter_column in
           let text = arrow-text v (arrow-at v q) in
           right-true (is_at_margin s.sheet a.start_line i) (start_test a.start_place (head_row v g i)) ((λ j. start_test (column j) (h.row j)) ∙ both_true (both_true
           (columns-colored v text i a (λ j low. subst (λ b. IsInkOf b (column_ink s.sheet (arrow l h.rank) j)) h.info (turn-own v q out j (omega arith))))

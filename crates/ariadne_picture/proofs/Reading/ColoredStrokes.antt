@@ -251,11 +251,11 @@ module _ (v : Picture) {g : ℕ} {s : Section} {l r : ℕ} {x : LineLabel} (q : 
   something-seen : (rank : ℕ) → rank ≤ r → vertical_at (layout_of s.sheet l) rank x.place ≡ None → ⊥
   unfolding vertical_at layout_of
   something-seen rank low e =
-      found-some (has_vertical (margin_label s.sheet l) x.place) (drop rank (line_labels s.sheet l)) (r - rank) x
-      (drop-at (line_labels s.sheet l) rank r low ∙ q.there) own-vertical e
+      found-some (has_vertical (margin_label s.sheet.labels l) x.place) (drop rank (line_labels s.sheet.labels l)) (r - rank) x
+      (drop-at (line_labels s.sheet.labels l) rank r low ∙ q.there) own-vertical e
 
   -- the vertical of a label of a lower rank covers it, in rows down to the arrow row of that label
-  covers : (rank j : ℕ) (w : LineLabel) (y : Row) → slice_get (line_labels s.sheet l) rank ≡ Some w
+  covers : (rank j : ℕ) (w : LineLabel) (y : Row) → slice_get (line_labels s.sheet.labels l) rank ≡ Some w
       → has_vertical (layout_of s.sheet l).margin x.place w ≡ true → rank < r → RowAt v g s j y → row_part y ≡ 2 → row_line y ≡ l
       → row_step y ≤ 2 * rank + 2 → read v is_covered (color_at v) g s l x.place (number v g s (arrow l r)) (number v g s y) ≡ true
   unfolding is_covered has_vertical row_key

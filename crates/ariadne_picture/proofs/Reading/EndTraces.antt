@@ -42,11 +42,11 @@ use Rattle.ariadne_picture.proofs.Parts.{has_bar}
 
 -- gutter labels have different positions, as labels have
 gutter-labels-apart : (s : Sheet) → Increasing (λ (a b : LabelInfo). a.position ≢ b.position) s.labels
-    → Increasing (λ (a b : LabelInfo). a.position ≢ b.position) (gutter_labels s)
+    → Increasing (λ (a b : LabelInfo). a.position ≢ b.position) (gutter_labels s.labels)
 unfolding gutter_labels multi_line_labels
 gutter-labels-apart s h =
     let R : LabelInfo → LabelInfo → Type 0 = λ a b. a.position ≢ b.position in
-    increasing-filter R (λ a. a.has_message) (multi_line_labels s)
+    increasing-filter R (λ a. a.has_message) (multi_line_labels s.labels)
     (increasing-in_order R (λ a b. nat_lt (span_len b) (span_len a)) _ (λ a b ne e. ne (sym e))
     (increasing-filter R (λ a. not (is_on_one_line a)) s.labels h))
 
@@ -68,7 +68,7 @@ module _ (v : Picture) {g : ℕ} {s : Section} {i : ℕ} {a : LabelInfo} (o : Is
       go (inl k) = absurd (true≢false (sym (ap is_start k.side) ∙ h.shows.no_start))
       go (inr (inl k)) = (
         k,
-        apart (λ (a : LabelInfo). a.position) (gutter_labels s.sheet) h.label.gutter_column i h.label.info a
+        apart (λ (a : LabelInfo). a.position) (gutter_labels s.sheet.labels) h.label.gutter_column i h.label.info a
             (gutter-labels-apart s.sheet (increasing-part _ (λ (s : Section). s.sheet.labels) v.sections g s v.drawn.numbers o.group))
             k.owned o.owned (cc),
       )
@@ -76,9 +76,9 @@ module _ (v : Picture) {g : ℕ} {s : Section} {i : ℕ} {a : LabelInfo} (o : Is
 
   -- its start or end is the margin label where the margin label is of it
   pub its-margin : (l : ℕ) (x : LineLabel) → is_inline x.side ≡ false → x.gutter_column ≡ i
-      → is_margin (margin_label s.sheet l) x ≡ is_at_margin s.sheet l i
+      → is_margin (margin_label s.sheet.labels l) x ≡ is_at_margin s.sheet l i
   unfolding is_margin
-  its-margin l x out same = rw out (ap (is_of_gutter_label (margin_label s.sheet l)) same)
+  its-margin l x out same = rw out (ap (is_of_gutter_label (margin_label s.sheet.labels l)) same)
 
   -- ---- beside a line whose margin label it is
 
@@ -86,15 +86,15 @@ module _ (v : Picture) {g : ℕ} {s : Section} {i : ℕ} {a : LabelInfo} (o : Is
     -- the arrow head is in the last column
     margin-arrow : column_shows v s (number v g s (source l)) (arrow_column s) Rarrow ≡ true
     margin-arrow =
-        let m = margin-of (margin_label s.sheet l) i at in
+        let m = margin-of (margin_label s.sheet.labels l) i at in
         gutter-glyph v (source-text v (source-row-is v h)) _ (arrow-few o) (head-beside s.sheet l m.0 m.1)
 
     -- its own column has its glyph, where no bar of its own is
     pub margin-leaves : (side : Side) → bar_at s.sheet (source l) i ≡ false
-        → ((m : LineLabel) → margin_label s.sheet l ≡ Some m → m.side ≡ side)
+        → ((m : LineLabel) → margin_label s.sheet.labels l ≡ Some m → m.side ≡ side)
         → column_shows v s (number v g s (source l)) i (margin_glyph side) ≡ true
     margin-leaves side no_bar f =
-        let m = margin-of (margin_label s.sheet l) i at in
+        let m = margin-of (margin_label s.sheet.labels l) i at in
         own-glyph o (source-text v (source-row-is v h))
         (leave-beside s.sheet l i m.0 no_bar m.1 (few o) m.2 ∙ ap margin_glyph (f m.0 m.1))
 
@@ -127,7 +127,7 @@ module _ (v : Picture) {g : ℕ} {s : Section} {i : ℕ} {a : LabelInfo} (o : Is
   tee-no-bar at = ap (has_bar s.sheet i (source a.end_line)) o.owned ∙ (rw (eq-eqb a.end_line a.end_line refl, at) (and-false _))
 
   -- the margin label is its end there, as it does not start at that line
-  pub end-side : is_at_margin s.sheet a.end_line i ≡ true → (m : LineLabel) → margin_label s.sheet a.end_line ≡ Some m → m.side ≡ Ends
+  pub end-side : is_at_margin s.sheet a.end_line i ≡ true → (m : LineLabel) → margin_label s.sheet.labels a.end_line ≡ Some m → m.side ≡ Ends
   end-side at m there =
       let h = at-margin s.sheet a.end_line i a o.owned at in
       elim h.is [
@@ -156,7 +156,7 @@ module _ (v : Picture) {g : ℕ} {s : Section} {i : ℕ} {a : LabelInfo} (o : Is
       let column : a.end_place ≡ x.place = cc in
       let in_range : x.place < places_of s l = column-place s.sheet (placed g s o.group) l h.rank x q.there (inr (inl k.0)) in
       let places = places-are v q.line in
-      let margin : is_margin (margin_label s.sheet l) x ≡ is_at_margin s.sheet l i = its-margin l x out k.1 in
+      let margin : is_margin (margin_label s.sheet.labels l) x ≡ is_at_margin s.sheet l i = its-margin l x out k.1 in
       let crossed : (c : ℕ) → is_crossed x.side x.place c ≡ true = λ c. ap (λ side. is_crossed side x.place c) k.0.side in
       let front = off-corner q out k.1 0 x.place (omega arith) (λ c low high. (λ z. omega arith, crossed c)) in
       let back =
@@ -182,7 +182,7 @@ module _ (v : Picture) {g : ℕ} {s : Section} {i : ℕ} {a : LabelInfo} (o : Is
   head-no-bar at = ap (has_bar s.sheet i (source a.start_line)) o.owned ∙ (rw at (rw (before-irreflexive (source a.start_line)) refl))
 
   -- the margin label is its start there, as it does not end at that line
-  start-side : is_at_margin s.sheet a.start_line i ≡ true → (m : LineLabel) → margin_label s.sheet a.start_line ≡ Some m → m.side ≡ Starts
+  start-side : is_at_margin s.sheet a.start_line i ≡ true → (m : LineLabel) → margin_label s.sheet.labels a.start_line ≡ Some m → m.side ≡ Starts
   start-side at m there =
       let h = at-margin s.sheet a.start_line i a o.owned at in
       elim h.is [
@@ -215,7 +215,7 @@ module _ (v : Picture) {g : ℕ} {s : Section} {i : ℕ} {a : LabelInfo} (o : Is
         let out : is_inline x.side ≡ false = ap is_inline h.start.side in
         let column : a.start_place ≡ x.place = cc in
         let in_range : x.place < places_of s l = column-place s.sheet (placed g s o.group) l h.rank x q.there (inl h.start) in
-        let no_margin : is_margin (margin_label s.sheet l) x ≡ false = its-margin l x out h.gutter_column ∙ off in
+        let no_margin : is_margin (margin_label s.sheet.labels l) x ≡ false = its-margin l x out h.gutter_column ∙ off in
         let front =
         off-corner q out h.gutter_column 0 x.place (omega arith) (λ c low high. (
           λ z. omega arith,
@@ -239,7 +239,7 @@ module _ (v : Picture) {g : ℕ} {s : Section} {i : ℕ} {a : LabelInfo} (o : Is
     on : (j : ℕ) → i ≤ j → j < arrow_column s → bar_at s.sheet (source l) j ≡ false → read v leads_on s (number v g s (source l)) j ≡ true
     unfolding leads_on
     on j more less no_bar =
-        let m = margin-of (margin_label s.sheet l) i at in
+        let m = margin-of (margin_label s.sheet.labels l) i at in
         let own = m.2 in
         let size = arrow-few o in
         elim (cases_Bool s.sheet.switches.compact) [
@@ -253,7 +253,7 @@ module _ (v : Picture) {g : ℕ} {s : Section} {i : ℕ} {a : LabelInfo} (o : Is
     pointed : read v is_pointed g s i l ≡ true
     unfolding is_pointed
     pointed =
-        let m = margin-of (margin_label s.sheet l) i at in
+        let m = margin-of (margin_label s.sheet.labels l) i at in
         let text = source-text v (source-row-is v h) in
         let own = m.2 in
         let size = arrow-few o in

@@ -95,17 +95,17 @@ module _ (v : Picture) {g : ℕ} {s : Section} {i : ℕ} {a : LabelInfo} (o : Is
       n : ℕ
       n = number v g s (arrow l r)
 
-      crossed : (b : LabelInfo) → slice_get (gutter_labels s.sheet) x.gutter_column ≡ Some b
+      crossed : (b : LabelInfo) → slice_get (gutter_labels s.sheet.labels) x.gutter_column ≡ Some b
           → ((head_row v g x.gutter_column == n) || (message_row v b.position == n)) ≡ true
           → read v is_crossed_in g s i n ≡ true
       crossed b owned c =
-          list_any-true _ (enumerate_from 0 (gutter_labels s.sheet)) x.gutter_column (x.gutter_column, b)
+          list_any-true _ (enumerate_from 0 (gutter_labels s.sheet.labels)) x.gutter_column (x.gutter_column, b)
           (numbered-at _ x.gutter_column b owned) (both_true (lt-ltb x.gutter_column i less) c)
 
       go : IsHere s.sheet l x → read v is_crossed_in g s i n ≡ true
       go (inl b) =
           let m : ℕ = x.info.start_line in
-          let there : slice_get (line_labels s.sheet m) r ≡ Some x = cc in
+          let there : slice_get (line_labels s.sheet.labels m) r ≡ Some x = cc in
           let label : IsLineLabel s.sheet m Starts x.gutter_column r =
           record { label = x; there = there; same_side = b.side; same_gutter_column = refl } in
           let other : IsGutterLabelOf v g s x.gutter_column x.info = record { group = o.group; owned = b.owned } in
@@ -139,7 +139,7 @@ module _ (v : Picture) {g : ℕ} {s : Section} {i : ℕ} {a : LabelInfo} (o : Is
         let last = 2 * rank_at s.sheet is_end a.end_line i + 2 in
         let end = precedes-row l a.end_line 0 last (bare l) _ here (last-is s.sheet i a) (in-order v is h.foot high) in
         let q = its-message v o in
-        let label = all-at (Has s.sheet.labels) (gutter_labels s.sheet) i a o.owned (gutter-labels-owned s.sheet) in
+        let label = all-at (Has s.sheet.labels) (gutter_labels s.sheet.labels) i a o.owned (gutter-labels-owned s.sheet) in
         let is_placed = all-at (IsPlaced s.sheet.lines) s.sheet.labels label.place a label.there (placed g s o.group) in
         elim top [
           | inr z ↦ absurd (omega arith)

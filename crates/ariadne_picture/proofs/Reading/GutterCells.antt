@@ -118,7 +118,7 @@ module _ (v : Picture) {g : ℕ} {s : Section} {x : Row} {text : List Piece} (r 
 module _ {v : Picture} {g : ℕ} {s : Section} {i : ℕ} {a : LabelInfo} (o : IsGutterLabelOf v g s i a) where
   -- the column of a gutter label stands before that of arrow heads, which is the gutter's last
   pub few : i < arrow_column s
-  few = slice_get_within (gutter_labels s.sheet) i a o.owned
+  few = slice_get_within (gutter_labels s.sheet.labels) i a o.owned
 
   pub arrow-few : arrow_column s < gutter_len s.sheet
   arrow-few = let size = gutter-some s.sheet i a o.owned in omega (arith, size)

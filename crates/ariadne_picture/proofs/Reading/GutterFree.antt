@@ -56,7 +56,7 @@ module _ (v : Picture) where
     head-above = by-order v h.top h.foot (first-before-last s.sheet i a label)
 
     -- a source row whose margin label it is stands from its head to its corner
-    pub margin-place : (k l : ℕ) (m : LineLabel) → RowAt v g s k (source l) → margin_label s.sheet l ≡ Some m → m.gutter_column ≡ i
+    pub margin-place : (k l : ℕ) (m : LineLabel) → RowAt v g s k (source l) → margin_label s.sheet.labels l ≡ Some m → m.gutter_column ≡ i
         → (h.from ≤ k) × (k ≤ h.to)
     unfolding is_of_gutter_label
     margin-place k l m is there same =
@@ -66,7 +66,7 @@ module _ (v : Picture) where
         elim q.is [
           | inl b ↦
               let row = first-at-source s.sheet i a
-              (record { label = q.label; there = ap (margin_label s.sheet) b.1 ∙ q.there; same_side = b.0; same_gutter_column = q.owner })
+              (record { label = q.label; there = ap (margin_label s.sheet.labels) b.1 ∙ q.there; same_side = b.0; same_gutter_column = q.owner })
               ∙ ap source b.1 in
               let z = same-place v is (rw row at h.top) in
               (omega arith, omega arith)
@@ -93,9 +93,9 @@ module _ (v : Picture) where
       outside-free : (x : Row) → RowAt v g s k x → IsName s.sheet x → IsFree (column_ink s.sheet x i)
       unfolding column_ink
       outside-free (source l) is name =
-          free-beside s.sheet l i (margin_label s.sheet l) refl (no-bar (source l) is) (few o)
+          free-beside s.sheet l i (margin_label s.sheet.labels l) refl (no-bar (source l) is) (few o)
           (λ m there same. outer (margin-place k l m is there same))
-      outside-free (gap l) is name = inl (free-gap s.sheet l i (margin_label s.sheet l) refl (hidden-margin s.sheet l name) (no-bar (gap l) is))
+      outside-free (gap l) is name = inl (free-gap s.sheet l i (margin_label s.sheet.labels l) refl (hidden-margin s.sheet l name) (no-bar (gap l) is))
       outside-free (alternate l r) is name = inl (free-alternate s.sheet l r i (no-bar (alternate l r) is))
       outside-free (arrow l r) is name =
           free-arrow s.sheet l r i name.label name.there (no-bar (arrow l r) is) (λ off same.
@@ -140,15 +140,15 @@ module _ (v : Picture) where
   last-ink : {g : ℕ} {s : Section} {k : ℕ} (x : Row) → RowAt v g s k x → IsName s.sheet x
       → IsFree (column_ink s.sheet x (arrow_column s)) ⊎ ((column_ink s.sheet x (arrow_column s)).first ≡ Rarrow)
   unfolding column_ink is_inline
-  last-ink {s = s} (source l) is name = last-beside s.sheet l (margin_label s.sheet l) refl
+  last-ink {s = s} (source l) is name = last-beside s.sheet l (margin_label s.sheet.labels l) refl
   last-ink {s = s} (gap l) is name =
-      inl (inl (free-gap s.sheet l _ (margin_label s.sheet l) refl (hidden-margin s.sheet l name) (no-bar-last s.sheet (gap l))))
+      inl (inl (free-gap s.sheet l _ (margin_label s.sheet.labels l) refl (hidden-margin s.sheet l name) (no-bar-last s.sheet (gap l))))
   last-ink {s = s} (alternate l r) is name = inl (inl (free-alternate s.sheet l r _ (no-bar-last s.sheet (alternate l r))))
   last-ink {s = s} (arrow l r) is name =
       inl (free-arrow s.sheet l r _ name.label name.there (no-bar-last s.sheet (arrow l r)) (owner (label-here s.sheet l r name.label name.there)))
     where
-      past : (b : LabelInfo) → slice_get (gutter_labels s.sheet) name.label.gutter_column ≡ Some b → name.label.gutter_column ≡ arrow_column s → ⊥
-      past b owned same = let less = slice_get_within (gutter_labels s.sheet) name.label.gutter_column b owned in omega arith
+      past : (b : LabelInfo) → slice_get (gutter_labels s.sheet.labels) name.label.gutter_column ≡ Some b → name.label.gutter_column ≡ arrow_column s → ⊥
+      past b owned same = let less = slice_get_within (gutter_labels s.sheet.labels) name.label.gutter_column b owned in omega arith
 
       owner : IsHere s.sheet l name.label → is_inline name.label.side ≡ false → name.label.gutter_column ≡ arrow_column s → ⊥
       owner (inl h) off same = past _ h.owned same

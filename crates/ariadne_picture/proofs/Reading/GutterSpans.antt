@@ -81,10 +81,10 @@ module _ (v : Picture) {g : ℕ} {s : Section} {i : ℕ} {a : LabelInfo} (o : Is
     unfolding is_inline
     own-place {l} {r} {x} q is out same = go (label-here s.sheet l r x q.there)
       where
-        info : slice_get (gutter_labels s.sheet) x.gutter_column ≡ Some x.info → x.info ≡ a
+        info : slice_get (gutter_labels s.sheet.labels) x.gutter_column ≡ Some x.info → x.info ≡ a
         info owned = cc
 
-        there : {m : ℕ} → m ≡ l → slice_get (line_labels s.sheet m) r ≡ Some x
+        there : {m : ℕ} → m ≡ l → slice_get (line_labels s.sheet.labels m) r ≡ Some x
         there e = cc
 
         go : IsHere s.sheet l x → (k ≡ h.from) ⊎ (k ≡ h.to)

@@ -29,13 +29,13 @@ starts_gutter_label i x = is_start x.side && (x.gutter_column == i)
 -- gutter label i of group g, which is s, is a
 pub record IsGutterLabelOf (v : Picture) (g : ℕ) (s : Section) (i : ℕ) (a : LabelInfo) : Type 0 where
   pub group : slice_get v.sections g ≡ Some s
-  pub owned : slice_get (gutter_labels s.sheet) i ≡ Some a
+  pub owned : slice_get (gutter_labels s.sheet.labels) i ≡ Some a
 
 -- row n is the arrow row of a start of gutter label i at line l
 record IsHeadRow (v : Picture) (g : ℕ) (s : Section) (i l n : ℕ) : Type 0 where
   pub rank : ℕ
   pub label : LineLabel
-  pub there : slice_get (line_labels s.sheet l) rank ≡ Some label
+  pub there : slice_get (line_labels s.sheet.labels l) rank ≡ Some label
   pub starts : starts_gutter_label i label ≡ true
   pub is : n ≡ number v g s (arrow l rank)
 
@@ -74,7 +74,7 @@ module _ (v : Picture) {g : ℕ} {s : Section} {i : ℕ} {a : LabelInfo} (o : Is
   pub margin-line : is_at_margin s.sheet a.start_line i ≡ true → IsShownLine v g s a.start_line
   margin-line at =
       let lines = gutter-label-lines in
-      let m = margin-of (margin_label s.sheet a.start_line) i at in
+      let m = margin-of (margin_label s.sheet.labels a.start_line) i at in
       let up = lines.1 in
       let high = lines.2 in
       record { group = o.group; low = lines.0; high = omega arith; seen = shown-by-margin s.sheet a.start_line m.0 m.1 }

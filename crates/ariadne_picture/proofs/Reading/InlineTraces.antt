@@ -69,15 +69,15 @@ left-of true c h off = refl
 left-of false c h off = absurd (true≢false (sym h ∙ off))
 
 -- so where underlines are drawn the first row of a block is the alternate row that has them
-pub block-first : (s : Sheet) (l : ℕ) → s.switches.compact ≡ false → (list_any speaks (line_labels s l) || is_lone s l) ≡ true
-    → slice_get (shown_rows s l) 0 ≡ Some (alternate l (silent (line_labels s l)))
+pub block-first : (s : Sheet) (l : ℕ) → s.switches.compact ≡ false → (list_any speaks (line_labels s.labels l) || is_lone s l) ≡ true
+    → slice_get (shown_rows s l) 0 ≡ Some (alternate l (silent (line_labels s.labels l)))
 block-first s l loose on = elim (cases_Bool (is_lone s l)) [
   | inl lone ↦ ap (λ t. slice_get t 0) (lone-block s l lone) ∙ ap (λ n. Some (alternate l n)) (sym (lone-rank s l lone))
   | inr off ↦
-      let some = left-of (list_any speaks (line_labels s l)) (is_lone s l) on off in
-      let z : 0 + silent (line_labels s l) ≡ silent (line_labels s l) = omega arith in
-      ap (λ t. slice_get t 0) (label-block s l off) ∙ ap (λ c. slice_get (joined (label_rows c l) (enumerate_from 0 (line_labels s l))) 0) loose
-      ∙ first-alternate l 0 (line_labels s l) some ∙ ap (λ n. Some (alternate l n)) z
+      let some = left-of (list_any speaks (line_labels s.labels l)) (is_lone s l) on off in
+      let z : 0 + silent (line_labels s.labels l) ≡ silent (line_labels s.labels l) = omega arith in
+      ap (λ t. slice_get t 0) (label-block s l off) ∙ ap (λ c. slice_get (joined (label_rows c l) (enumerate_from 0 (line_labels s.labels l))) 0) loose
+      ∙ first-alternate l 0 (line_labels s.labels l) some ∙ ap (λ n. Some (alternate l n)) z
 ]
 
 module _ (v : Picture) (placed : ArePlaced v) where
@@ -88,7 +88,7 @@ module _ (v : Picture) (placed : ArePlaced v) where
       → IsInlineHere s.sheet a.end_line h.label
   shows-inline {g} {s} {a} one h = go (label-here s.sheet a.end_line h.rank h.label h.arrow_row.there)
     where
-      several : slice_get (gutter_labels s.sheet) h.label.gutter_column ≡ Some h.label.info → ⊥
+      several : slice_get (gutter_labels s.sheet.labels) h.label.gutter_column ≡ Some h.label.info → ⊥
       several owned = true≢false (sym one ∙ ap is_on_one_line (sym h.shows.info) ∙ multi-line s.sheet h.label.gutter_column h.label.info owned)
 
       go : IsHere s.sheet a.end_line h.label → IsInlineHere s.sheet a.end_line h.label
@@ -144,7 +144,7 @@ module _ (v : Picture) (placed : ArePlaced v) where
         (λ c. not (is_blank c))
 
     -- each label within the line is underlined in the first row of the block
-    span-seen : has_underlines s l ≡ true → (i : ℕ) (x : LineLabel) → slice_get (line_labels s.sheet l) i ≡ Some x
+    span-seen : has_underlines s l ≡ true → (i : ℕ) (x : LineLabel) → slice_get (line_labels s.sheet.labels l) i ≡ Some x
         → IsInlineHere s.sheet l x → seen_under x ≡ true
     unfolding alternate_place places_to_end layout_of
     span-seen on i x e k =
@@ -173,10 +173,10 @@ module _ (v : Picture) (placed : ArePlaced v) where
     unfolding is_underlined layout_of is_inline
     line-underlined = elim (cases_Bool (has_underlines s l)) [
       | inr off ↦ left-true _ _ (ap not off)
-      | inl on ↦ right-true _ _ (list_all-true _ _ (all-from _ (line_labels s.sheet l) (λ i x e. each on i x e (label-here s.sheet l i x e))))
+      | inl on ↦ right-true _ _ (list_all-true _ _ (all-from _ (line_labels s.sheet.labels l) (λ i x e. each on i x e (label-here s.sheet l i x e))))
     ]
       where
-        each : has_underlines s l ≡ true → (i : ℕ) (x : LineLabel) → slice_get (line_labels s.sheet l) i ≡ Some x → IsHere s.sheet l x
+        each : has_underlines s l ≡ true → (i : ℕ) (x : LineLabel) → slice_get (line_labels s.sheet.labels l) i ≡ Some x → IsHere s.sheet l x
             → (not (is_inline x.side) || seen_under x) ≡ true
         each on i x e (inl k) = left-true _ _ (ap (λ side. not (is_inline side)) k.side)
         each on i x e (inr (inl k)) = left-true _ _ (ap (λ side. not (is_inline side)) k.side)

@@ -182,7 +182,7 @@ module _ (v : Picture) {g : ℕ} {s : Section} {l r : ℕ} {x : LineLabel} (q : 
   end-there : IsEndHere s.sheet l x → Has (read v traces_below g s l) (read v end_trace s l x.gutter_column x.info)
   unfolding traces_below gutter_traces
   end-there h =
-      has-back _ _ _ (has-joined (λ e. read v gutter_traces g s l e.0 e.1) (enumerate_from 0 (gutter_labels s.sheet)) x.gutter_column
+      has-back _ _ _ (has-joined (λ e. read v gutter_traces g s l e.0 e.1) (enumerate_from 0 (gutter_labels s.sheet.labels)) x.gutter_column
       (x.gutter_column, x.info) _ (numbered-at _ x.gutter_column x.info h.owned)
       (rw (eq-eqb x.info.end_line l h.line) (has-first (read v end_trace s l x.gutter_column x.info) _)))
 
@@ -194,7 +194,7 @@ module _ (v : Picture) {g : ℕ} {s : Section} {l r : ℕ} {x : LineLabel} (q : 
       let i = x.gutter_column in
       let here : Has (if (a.start_line == l) && not (is_at_margin s.sheet l i) then read v start_trace g i a ∷ [] else []) (read v start_trace g i a) =
       rw (eq-eqb a.start_line l h.line, off) (has-first (read v start_trace g i a) []) in
-      has-back _ _ _ (has-joined (λ e. read v gutter_traces g s l e.0 e.1) (enumerate_from 0 (gutter_labels s.sheet)) x.gutter_column
+      has-back _ _ _ (has-joined (λ e. read v gutter_traces g s l e.0 e.1) (enumerate_from 0 (gutter_labels s.sheet.labels)) x.gutter_column
       (x.gutter_column, x.info) _ (numbered-at _ x.gutter_column x.info h.owned)
       (has-back (if a.end_line == l then read v end_trace s l i a ∷ [] else []) _ _ here))
 
@@ -215,7 +215,7 @@ module _ (v : Picture) {g : ℕ} {s : Section} {l r : ℕ} {x : LineLabel} (q : 
       (record { label = head.label; there = head.arrow_row.there; same_side = head.start.side; same_gutter_column = head.gutter_column }) in
       let two : first_row s.sheet i a ≡ arrow a.start_line r =
       first-at-arrow s.sheet i r a
-      (record { label = x; there = subst (λ m. slice_get (line_labels s.sheet m) r ≡ Some x) (sym h.line) q.there; same_side = h.side; same_gutter_column = refl }) in
+      (record { label = x; there = subst (λ m. slice_get (line_labels s.sheet.labels m) r ≡ Some x) (sym h.line) q.there; same_side = h.side; same_gutter_column = refl }) in
       let same : head.rank ≡ r = cc in
       let line = h.line in
       cc (head.row)

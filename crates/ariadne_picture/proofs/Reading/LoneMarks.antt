@@ -48,7 +48,7 @@ no-vertical switches n (Some x) = refl
 
 module _ (v : Picture) {g : ℕ} {s : Section} {l : ℕ} (h : IsShownLine v g s l) (on : is_lone s.sheet l ≡ true) where
   abbrev rank : ℕ
-  rank = length (line_labels s.sheet l)
+  rank = length (line_labels s.sheet.labels l)
 
   first : slice_get (shown_rows s.sheet l) 0 ≡ Some (alternate l rank)
   first = ap (λ t. slice_get t 0) (lone-block s.sheet l on)
@@ -58,7 +58,7 @@ module _ (v : Picture) {g : ℕ} {s : Section} {l : ℕ} (h : IsShownLine v g s 
   ink-is k =
       let y = layout_of s.sheet l in
       let switches = s.sheet.switches in
-      let up : vertical_at y rank k ≡ None = ap (λ xs. find (Rattle.ariadne_picture.specs.Strokes.has_vertical y.margin k) xs) (drop-all (line_labels s.sheet l)) in
+      let up : vertical_at y rank k ≡ None = ap (λ xs. find (Rattle.ariadne_picture.specs.Strokes.has_vertical y.margin k) xs) (drop-all (line_labels s.sheet.labels l)) in
       let under : underline_at switches y rank k ≡ holder s l k =
       cond-true (switches.underlines && (rank == underline_row y)) _ _
       (both_true (lone s.sheet l on).underlined (eq-eqb rank (underline_row y) (sym (lone-rank s.sheet l on)))) in

@@ -52,13 +52,13 @@ record IsShowing (v : Picture) (k n : ℕ) : Type 0 where
   pub rank : ℕ
   pub label : LineLabel
   pub here : slice_get v.sections group ≡ Some section
-  pub there : slice_get (line_labels section.sheet line) rank ≡ Some label
+  pub there : slice_get (line_labels section.sheet.labels line) rank ≡ Some label
   pub shows : shows_number k label ≡ true
   pub is : n ≡ number v group section (arrow line rank)
 
 -- a line label is a start, an end or a label within the line
-pub label-here : (s : Sheet) (l r : ℕ) (x : LineLabel) → slice_get (line_labels s l) r ≡ Some x → IsHere s l x
-label-here s l r x there = all-at (IsHere s l) (line_labels s l) r x there (labels-here s l)
+pub label-here : (s : Sheet) (l r : ℕ) (x : LineLabel) → slice_get (line_labels s.labels l) r ≡ Some x → IsHere s l x
+label-here s l r x there = all-at (IsHere s l) (line_labels s.labels l) r x there (labels-here s l)
 
 -- a line label that is no start shows the message of its label
 shows-its : (x : LineLabel) (k : ℕ) → is_start x.side ≡ false → x.info.position ≡ k → shows_number k x ≡ true
@@ -70,17 +70,17 @@ module _ (v : Picture) where
   module _ (g : ℕ) (s : Section) (test : LineLabel → Bool) (l : ℕ) where
     -- they are those of the labels that pass
     pub all-found : (P : ℕ → Type 0)
-        → ((r : ℕ) (x : LineLabel) → slice_get (line_labels s.sheet l) r ≡ Some x → test x ≡ true → P (number v g s (arrow l r)))
+        → ((r : ℕ) (x : LineLabel) → slice_get (line_labels s.sheet.labels l) r ≡ Some x → test x ≡ true → P (number v g s (arrow l r)))
         → AllByRecursion P (rows_of_labels v.texts v.sections g s test l)
     unfolding rows_of_labels
-    all-found P f = all-map P _ _ (all-filtered _ (λ e. test e.1) _ (all-numbered _ (line_labels s.sheet l) f))
+    all-found P f = all-map P _ _ (all-filtered _ (λ e. test e.1) _ (all-numbered _ (line_labels s.sheet.labels l) f))
 
     -- and each of these has its row there
-    pub has-found : (r : ℕ) (x : LineLabel) → slice_get (line_labels s.sheet l) r ≡ Some x → test x ≡ true
+    pub has-found : (r : ℕ) (x : LineLabel) → slice_get (line_labels s.sheet.labels l) r ≡ Some x → test x ≡ true
         → Has (rows_of_labels v.texts v.sections g s test l) (number v g s (arrow l r))
     unfolding rows_of_labels
     has-found r x e passes =
-        let kept = has-filter (λ e. test e.1) (enumerate_from 0 (line_labels s.sheet l)) r (r, x) (numbered-at _ r x e) passes in
+        let kept = has-filter (λ e. test e.1) (enumerate_from 0 (line_labels s.sheet.labels l)) r (r, x) (numbered-at _ r x e) passes in
         has-map (λ e. number v g s (arrow l e.0)) _ kept.place (r, x) kept.there
 
   -- all rows that it finds for a position show that message
@@ -100,7 +100,7 @@ module _ (v : Picture) where
 
   -- and it finds the arrow row of each line label that shows it
   has-showing : (k g : ℕ) (s : Section) (l r : ℕ) (x : LineLabel) → slice_get v.sections g ≡ Some s
-      → first_line s.sheet ≤ l → l ≤ last_line s.sheet → slice_get (line_labels s.sheet l) r ≡ Some x
+      → first_line s.sheet ≤ l → l ≤ last_line s.sheet → slice_get (line_labels s.sheet.labels l) r ≡ Some x
       → shows_number k x ≡ true → Has (message_rows v.texts v.sections k) (number v g s (arrow l r))
   unfolding message_rows
   has-showing k g s l r x h low high e passes =
@@ -151,7 +151,7 @@ module _ (v : Picture) where
       (sym (eqb-true h.label.info.position a.position passes.1)) in
       let label : h.label.info ≡ a = cc in
       let line : h.line ≡ a.end_line = cc (label-ends h.section.sheet h.line h.label is off) in
-      let there : slice_get (line_labels s.sheet a.end_line) h.rank ≡ Some h.label = cc in
+      let there : slice_get (line_labels s.sheet.labels a.end_line) h.rank ≡ Some h.label = cc in
       let within = label-within g m.index s a m.group m.there in
       let seen = shown-by-label s.sheet a.end_line h.rank h.label there in
       record {
@@ -182,7 +182,7 @@ module _ (v : Picture) where
       let owned = label-owned s.sheet l x is in
       let ends = label-ends s.sheet l x is off in
       let h = message-place (record { group = q.line.group; index = owned.place; there = owned.there; message = q.message }) in
-      let there : slice_get (line_labels s.sheet l) h.rank ≡ Some h.label = cc in
+      let there : slice_get (line_labels s.sheet.labels l) h.rank ≡ Some h.label = cc in
       let once =
       has-once x.info.position s.sheet.labels
       (increasing-part _ (λ (s : Section). s.sheet.labels) v.sections g s v.drawn.numbers q.line.group) in

@@ -86,7 +86,7 @@ module _ (v : Picture) {g : ℕ} {s : Section} (e : slice_get v.sections g ≡ S
     by-label : (j : ℕ) (is_first : Bool) (c : Cell) → read v is_gutter_stroke_of g s n j is_first c i a ≡ true → caused j is_first c ≡ true
     unfolding has_gutter_cause
     by-label j is_first c passes =
-        right-true _ _ (list_any-true _ (enumerate_from 0 (gutter_labels s.sheet)) i (i, a) (numbered-at _ i a o.owned) passes)
+        right-true _ _ (list_any-true _ (enumerate_from 0 (gutter_labels s.sheet.labels)) i (i, a) (numbered-at _ i a o.owned) passes)
 
     -- a stroke of its own is
     own-caused : (c : Cell) → read v is_own_gutter_stroke g s i a n c ≡ true → caused i true c ≡ true
@@ -172,7 +172,7 @@ module _ (v : Picture) {g : ℕ} {s : Section} (e : slice_get v.sections g ≡ S
   -- ---- a bar, or nothing
 
   -- a bar is that of a gutter label
-  bar-owner : (j : ℕ) (found : Option LabelInfo) → slice_get (gutter_labels s.sheet) j ≡ found → bar_at s.sheet x j ≡ true
+  bar-owner : (j : ℕ) (found : Option LabelInfo) → slice_get (gutter_labels s.sheet.labels) j ≡ found → bar_at s.sheet x j ≡ true
       → (a : LabelInfo) × IsGutterLabelOf v g s j a
   unfolding bar_at
   bar-owner j None none bar = absurd (false≢true (ap (has_bar s.sheet j x) (sym none) ∙ bar))
@@ -209,7 +209,7 @@ module _ (v : Picture) {g : ℕ} {s : Section} (e : slice_get v.sections g ≡ S
       pub points : read v has_gutter_arrow g s m.gutter_column m.info (number v g s (source l)) ≡ true
       pub own : (paint : Paint) → caused v e is m.gutter_column true (glyph_cell v s (margin_glyph m.side) paint) ≡ true
 
-    margin-facts : (m : LineLabel) → margin_label s.sheet l ≡ Some m → IsMargin m
+    margin-facts : (m : LineLabel) → margin_label s.sheet.labels l ≡ Some m → IsMargin m
     unfolding is_of_gutter_label has_gutter_level has_gutter_arrow margin_glyph
     margin-facts m there =
         let edge = margin-is s.sheet l m there in
@@ -221,7 +221,7 @@ module _ (v : Picture) {g : ℕ} {s : Section} (e : slice_get v.sections g ≡ S
           | inl b ↦
               let row =
               first-at-source s.sheet m.gutter_column m.info
-              (record { label = m; there = ap (margin_label s.sheet) b.1 ∙ there; same_side = b.0; same_gutter_column = refl }) ∙ ap source b.1 in
+              (record { label = m; there = ap (margin_label s.sheet.labels) b.1 ∙ there; same_side = b.0; same_gutter_column = refl }) ∙ ap source b.1 in
               let same : k ≡ h.from = same-place v is (rw row at h.top) in
               record {
                 owner = o;
@@ -246,7 +246,7 @@ module _ (v : Picture) {g : ℕ} {s : Section} (e : slice_get v.sections g ≡ S
         ]
 
     -- so each column without a bar has what the margin label draws there
-    margin-caused : (o : Option LineLabel) → margin_label s.sheet l ≡ o → (j : ℕ) → IsCaused v e is j (margin_ink (arrow_column s) j o)
+    margin-caused : (o : Option LineLabel) → margin_label s.sheet.labels l ≡ o → (j : ℕ) → IsCaused v e is j (margin_ink (arrow_column s) j o)
     unfolding margin_ink
     margin-caused None there j = blanks-caused v e is j
     margin-caused (Some m) there j =
@@ -276,16 +276,16 @@ module _ (v : Picture) {g : ℕ} {s : Section} (e : slice_get v.sections g ≡ S
     unfolding column_ink beside_ink
     source-caused j = elim (cases_Bool (bar_at s.sheet (source l) j)) [
       | inl bar ↦ rw bar (bar-ink v e is j Vbar (inl refl) bar)
-      | inr none ↦ rw none (margin-caused (margin_label s.sheet l) refl j)
+      | inr none ↦ rw none (margin-caused (margin_label s.sheet.labels l) refl j)
     ]
 
   -- in place of hidden lines no margin label is
-  gap-caused : (l : ℕ) (is : RowAt v g s k (gap l)) → is_some (margin_label s.sheet l) ≡ false → (j : ℕ)
+  gap-caused : (l : ℕ) (is : RowAt v g s k (gap l)) → is_some (margin_label s.sheet.labels l) ≡ false → (j : ℕ)
       → IsCaused v e is j (column_ink s.sheet (gap l) j)
   unfolding column_ink beside_ink margin_ink
   gap-caused l is hidden j = elim (cases_Bool (bar_at s.sheet (gap l) j)) [
     | inl bar ↦ rw bar (bar-ink v e is j VbarGap (inr refl) bar)
-    | inr none ↦ rw none (nothing (margin_label s.sheet l) hidden)
+    | inr none ↦ rw none (nothing (margin_label s.sheet.labels l) hidden)
   ]
     where
       nothing : (o : Option LineLabel) → is_some o ≡ false → IsCaused v e is j (margin_ink (arrow_column s) j o)

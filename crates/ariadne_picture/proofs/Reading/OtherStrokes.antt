@@ -134,7 +134,7 @@ module _ (v : Picture) {g : ℕ} {s : Section} {l : ℕ} (h : IsShownLine v g s 
 
   -- ---- alternate rows
 
-  module _ (r : ℕ) (drawn : (list_any speaks (line_labels s.sheet l) || is_lone s.sheet l) ≡ true)
+  module _ (r : ℕ) (drawn : (list_any speaks (line_labels s.sheet.labels l) || is_lone s.sheet l) ≡ true)
       (open_form : s.sheet.switches.compact ≡ false) (j : ℕ) (is : RowAt v g s j (alternate l r)) (k : ℕ) where
     -- the row of the underlines is the first of the block
     first-below : r ≡ underline_row (layout_of s.sheet l) → number v g s (alternate l r) ≡ source_row v g l + 1
@@ -216,9 +216,9 @@ module _ (v : Picture) {g : ℕ} {s : Section} {l : ℕ} (h : IsShownLine v g s 
           → list_all (read v is_place_caused g s l (number v g s y)) (upto ((placing_of v).places g l)) ≡ true
       by-kind j y is (inr b) =
           let at = subst (RowAt v g s (Rattle.ariadne_picture.proofs.Reading.ShownLine.rows_above v h + suc j)) b.1 is in
-          let n : ℕ = length (line_labels s.sheet l) in
+          let n : ℕ = length (line_labels s.sheet.labels l) in
           rw b.1 (row-caused v h (alternate_inks s l n) _ (alternate-text v at)
-          (λ k few. alternate-caused n (right-true (list_any speaks (line_labels s.sheet l)) (is_lone s.sheet l) b.0) (lone s.sheet l b.0).loose _ at k))
+          (λ k few. alternate-caused n (right-true (list_any speaks (line_labels s.sheet.labels l)) (is_lone s.sheet l) b.0) (lone s.sheet l b.0).loose _ at k))
       by-kind j y is (inl b) = elim b.kind [
         | inl e ↦
             let q = arrow-row v b.rank b.label h b.there b.message in
@@ -226,7 +226,7 @@ module _ (v : Picture) {g : ℕ} {s : Section} {l : ℕ} (h : IsShownLine v g s 
         | inr e ↦
             let at = subst (RowAt v g s (Rattle.ariadne_picture.proofs.Reading.ShownLine.rows_above v h + suc j)) e.0 is in
             rw e.0 (row-caused v h (alternate_inks s l b.rank) _ (alternate-text v at)
-            (λ k few. alternate-caused b.rank (left-true _ _ (list_any-true speaks (line_labels s.sheet l) b.rank b.label b.there b.message)) e.1 _ at k))
+            (λ k few. alternate-caused b.rank (left-true _ _ (list_any-true speaks (line_labels s.sheet.labels l) b.rank b.label b.there b.message)) e.1 _ at k))
       ]
 
 -- no picture has another stroke

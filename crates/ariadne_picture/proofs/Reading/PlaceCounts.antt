@@ -44,7 +44,7 @@ module _ (switches : Switches) (y : Layout) (r : ℕ) (x : LineLabel) (e : slice
 
 module _ (s : Sheet) (placed : AllByRecursion (IsPlaced s.lines) s.labels) where
   -- a label within a line ends at a place of it
-  pub inline-end : (l r : ℕ) (x : LineLabel) → slice_get (line_labels s l) r ≡ Some x → IsInlineHere s l x
+  pub inline-end : (l r : ℕ) (x : LineLabel) → slice_get (line_labels s.labels l) r ≡ Some x → IsInlineHere s l x
       → places_to_end (layout_of s l) x < arrow_len s.switches (layout_of s l)
   unfolding layout_of is_on_one_line places_to_end
   inline-end l r x e h =
@@ -54,7 +54,7 @@ module _ (s : Sheet) (placed : AllByRecursion (IsPlaced s.lines) s.labels) where
       (rw one at (last-text s.lines x.info a))
 
   -- where a label of several lines stands each place of the line's text is one
-  text-place : (l r : ℕ) (x : LineLabel) → slice_get (line_labels s l) r ≡ Some x → is_inline x.side ≡ false → (m : ℕ) → m ≡ l
+  text-place : (l r : ℕ) (x : LineLabel) → slice_get (line_labels s.labels l) r ≡ Some x → is_inline x.side ≡ false → (m : ℕ) → m ≡ l
       → x.place ≤ length (line_text s.lines m) → x.place < arrow_len s.switches (layout_of s l)
   unfolding layout_of
   text-place l r x e out m line place =
@@ -63,14 +63,14 @@ module _ (s : Sheet) (placed : AllByRecursion (IsPlaced s.lines) s.labels) where
       omega (arith, size, column)
 
   -- so the column of each line label is a place
-  pub column-place : (l r : ℕ) (x : LineLabel) → slice_get (line_labels s l) r ≡ Some x → IsHere s l x
+  pub column-place : (l r : ℕ) (x : LineLabel) → slice_get (line_labels s.labels l) r ≡ Some x → IsHere s l x
       → x.place < arrow_len s.switches (layout_of s l)
   unfolding layout_of is_inline places_to_end
   column-place l r x e (inl h) =
-      let a = all-at (IsPlaced s.lines) (gutter_labels s) x.gutter_column x.info h.owned (all-gutter-labels _ s placed) in
+      let a = all-at (IsPlaced s.lines) (gutter_labels s.labels) x.gutter_column x.info h.owned (all-gutter-labels _ s placed) in
       text-place l r x e (ap is_inline h.side) x.info.start_line h.line (rw h.place (start-place s.lines x.info a))
   column-place l r x e (inr (inl h)) =
-      let a = all-at (IsPlaced s.lines) (gutter_labels s) x.gutter_column x.info h.owned (all-gutter-labels _ s placed) in
+      let a = all-at (IsPlaced s.lines) (gutter_labels s.labels) x.gutter_column x.info h.owned (all-gutter-labels _ s placed) in
       text-place l r x e (ap is_inline h.side) x.info.end_line h.line (rw h.place (end-place s.lines x.info a))
   column-place l r x e (inr (inr h)) =
       let a = all-at (IsPlaced s.lines) s.labels h.owned.place x.info h.owned.there placed in

@@ -72,7 +72,7 @@ module _ (v : Picture) where
     source-texts =
         ap (map (λ (c : Cell). c.text)) (text-cells v (source-text v (source-row-is v h)))
         ∙ map-map (λ (c : Cell). c.text) (cell_of v.palette) _
-        ∙ shown-texts v.texts.switches (multi_line_labels s.sheet) (layout_of s.sheet l)
+        ∙ shown-texts v.texts.switches (multi_line_labels s.sheet.labels) (layout_of s.sheet l)
         ∙ ap (λ (switches : Switches). map (λ (q : Piece). q.text) (plain_cells switches (layout_of s.sheet l)))
         (sym (v.drawn.same_switches g s h.group))
 
@@ -138,7 +138,7 @@ module _ (v : Picture) where
         rw h.row (in-block h.arrow_row))
 
     -- each head is on its source row or in the block below
-    gutter-label-placed : (i : ℕ) (a : LabelInfo) → slice_get (gutter_labels s.sheet) i ≡ Some a
+    gutter-label-placed : (i : ℕ) (a : LabelInfo) → slice_get (gutter_labels s.sheet.labels) i ≡ Some a
         → read v is_gutter_label_placed g s i a ≡ true
     unfolding is_gutter_label_placed
     gutter-label-placed i a owned =

@@ -26,7 +26,7 @@ pub record IsLabelRow (s : Sheet) (l r : ℕ) : Type 0 where
   pub high : l ≤ last_line s
   pub seen : is_hidden s l ≡ false
   pub label : LineLabel
-  pub there : slice_get (line_labels s l) r ≡ Some label
+  pub there : slice_get (line_labels s.labels l) r ≡ Some label
   pub message : label.info.has_message ≡ true
 
 -- line l is shown, and its block has row x
@@ -71,7 +71,7 @@ module _ (s : Sheet) where
       in-block seen i y x e same = record { low = low; high = high; seen = seen; row = record { place = i; there = e ∙ ap Some same } }
 
       name : is_hidden s l ≡ false → (i : ℕ) (y : Row) → slice_get (shown_rows s l) i ≡ Some y → IsBlockRow s l y ⊎ IsLoneRow s l y → IsName s y
-      name seen i y at (inr b) = rw b.1 (in-block seen i y (alternate l (length (line_labels s l))) at b.1, (lone s l b.0).loose)
+      name seen i y at (inr b) = rw b.1 (in-block seen i y (alternate l (length (line_labels s.labels l))) at b.1, (lone s l b.0).loose)
       name seen i y at (inl b) =
           let is : IsLabelRow s l b.rank =
           record { low = low; high = high; seen = seen; label = b.label; there = b.there; message = b.message } in

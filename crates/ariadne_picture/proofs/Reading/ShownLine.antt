@@ -36,7 +36,7 @@ pub record IsShownLine (v : Picture) (g : ℕ) (s : Section) (l : ℕ) : Type 0 
 -- line label r of a shown line, which is x, has a message, and its arrow row stands at this index of the block
 pub record IsArrowRow (v : Picture) (g : ℕ) (s : Section) (l r : ℕ) (x : LineLabel) : Type 0 where
   pub line : IsShownLine v g s l
-  pub there : slice_get (line_labels s.sheet l) r ≡ Some x
+  pub there : slice_get (line_labels s.sheet.labels l) r ≡ Some x
   pub message : x.info.has_message ≡ true
   pub index : ℕ
   pub row : slice_get (shown_rows s.sheet l) index ≡ Some (arrow l r)
@@ -117,14 +117,14 @@ module _ (v : Picture) where
   -- ---- the block
 
   -- the rows of a label are there if it has a message, and its arrow row is the last of them
-  pub arrow-row : {g : ℕ} {s : Section} {l : ℕ} (r : ℕ) (x : LineLabel) → IsShownLine v g s l → slice_get (line_labels s.sheet l) r ≡ Some x
+  pub arrow-row : {g : ℕ} {s : Section} {l : ℕ} (r : ℕ) (x : LineLabel) → IsShownLine v g s l → slice_get (line_labels s.sheet.labels l) r ≡ Some x
       → x.info.has_message ≡ true → IsArrowRow v g s l r x
   unfolding shown_rows label_rows
   arrow-row {g} {s} {l} r x line e m =
       let others = if s.sheet.switches.compact then [] else alternate l r ∷ [] in
       let here : Has (shown_rows s.sheet l) (arrow l r) =
       has-front (all_label_rows s.sheet l) (lone_rows s.sheet l) (arrow l r)
-      (has-joined (label_rows s.sheet.switches.compact l) (enumerate_from 0 (line_labels s.sheet l)) r (r, x) (arrow l r) (numbered-at _ r x e)
+      (has-joined (label_rows s.sheet.switches.compact l) (enumerate_from 0 (line_labels s.sheet.labels l)) r (r, x) (arrow l r) (numbered-at _ r x e)
       (rw m (has-back others _ _ (has-first (arrow l r) [])))) in
       record { line = line; there = e; message = m; index = here.place; row = here.there }
 

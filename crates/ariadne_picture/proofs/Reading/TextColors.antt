@@ -64,7 +64,7 @@ module _ (v : Picture) {g : ℕ} {s : Section} {l : ℕ} (h : IsShownLine v g s 
       rw (source-is v h) (colors-equal _ _ (ap colors (text-cells v (source-text v (source-row-is v h)))
       ∙ map-map (λ (c : Cell). c.color) (cell_of v.palette) _
       ∙ ap (λ (switches : Switches). map (λ (q : Piece). colors_of v q.paint)
-      (shown_pieces switches (multi_line_labels s.sheet) (layout_of s.sheet l))) (sym (v.drawn.same_switches g s h.group))))
+      (shown_pieces switches (multi_line_labels s.sheet.labels) (layout_of s.sheet l))) (sym (v.drawn.same_switches g s h.group))))
 
   -- where underlines are drawn they stand in the first row below the line
   module _ (on : has_underlines s l ≡ true) where

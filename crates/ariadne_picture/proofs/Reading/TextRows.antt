@@ -51,7 +51,7 @@ module _ (v : Picture) where
   module _ {g : ℕ} {s : Section} {k l : ℕ} where
     -- the pieces of a row are its front and its text, with the switches of the report, which are the group's
     pub source-text : RowAt v g s k (source l)
-        → IsTextRow v g s (source l) (shown_pieces v.texts.switches (multi_line_labels s.sheet) (layout_of s.sheet l))
+        → IsTextRow v g s (source l) (shown_pieces v.texts.switches (multi_line_labels s.sheet.labels) (layout_of s.sheet l))
     source-text is = record { index = k; is = is; parts = source-parts v.texts v.width s l }
 
     -- an arrow row has places, and the message of its label or nothing

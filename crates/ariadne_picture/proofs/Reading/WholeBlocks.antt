@@ -36,9 +36,9 @@ cond_map f false x y = refl
 pub block-rows : (s : Section) (l : ℕ) → length (shown_rows s.sheet l) ≡ block_size s l
 unfolding shown_rows lone_rows block_size layout_of
 block-rows s l =
-    let labels = label-count s.sheet.switches.compact l 0 (line_labels s.sheet l) in
+    let labels = label-count s.sheet.switches.compact l 0 (line_labels s.sheet.labels l) in
     length-append (all_label_rows s.sheet l) (lone_rows s.sheet l)
-    ∙ (λ i. labels i + cond_map length (is_lone s.sheet l) (alternate l (length (line_labels s.sheet l)) ∷ []) [] i)
+    ∙ (λ i. labels i + cond_map length (is_lone s.sheet l) (alternate l (length (line_labels s.sheet.labels l)) ∷ []) [] i)
 
 -- every picture has whole blocks
 pub whole-blocks : (v : Picture) → has_whole_blocks v.sections (placing_of v) ≡ true

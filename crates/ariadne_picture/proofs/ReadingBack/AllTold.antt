@@ -54,7 +54,7 @@ numbered-twice f row tell n (x ∷ xs) a = λ i. a.0 i ∷ numbered-twice f row 
 -- ---- labels that have a message
 
 -- those within one line, and those over several, have the same elements as all
-group-labels : (s : Section) → IsPermutation (messages_of s) (filter is_on_one_line (messages_of s) ++ gutter_labels s.sheet)
+group-labels : (s : Section) → IsPermutation (messages_of s) (filter is_on_one_line (messages_of s) ++ gutter_labels s.sheet.labels)
 unfolding messages_of gutter_labels multi_line_labels
 group-labels s =
     let one : LabelInfo → Bool = is_on_one_line in
@@ -65,7 +65,7 @@ group-labels s =
     IsPermutation-trans (filter some s.sheet.labels) (within ++ filter several (filter some s.sheet.labels)) _
     (IsPermutation-filter_both one several (λ a. refl) (filter some s.sheet.labels))
     (IsPermutation-append_right within (filter several (filter some s.sheet.labels)) _
-    (subst (λ xs. IsPermutation xs (gutter_labels s.sheet)) (filter-twice some several s.sheet.labels) (filter-in_order some less (filter several s.sheet.labels))))
+    (subst (λ xs. IsPermutation xs (gutter_labels s.sheet.labels)) (filter-twice some several s.sheet.labels) (filter-in_order some less (filter several s.sheet.labels))))
 
 -- row y is the arrow row of a label of a line that is no start
 pub record HasMessage (v : Picture) (g : ℕ) (s : Section) (y : Row) : Type 0 where
@@ -149,13 +149,13 @@ module _ (v : Picture) where
       tell = told_by (rows_of v) sources v.texts.switches
 
       abbrev in_groups : Section → List LabelInfo
-      in_groups s = filter is_on_one_line (messages_of s) ++ gutter_labels s.sheet
+      in_groups s = filter is_on_one_line (messages_of s) ++ gutter_labels s.sheet.labels
 
       group-told : (g : ℕ) (s : Section) → slice_get v.sections g ≡ Some s → group_told v.texts.message_of g s ≡ map tell (map row (in_groups s))
       unfolding group_told
       group-told g s e =
           let within : List LabelInfo = filter is_on_one_line (messages_of s) in
-          let over : List LabelInfo = gutter_labels s.sheet in
+          let over : List LabelInfo = gutter_labels s.sheet.labels in
           let first : map (told_within v.texts.message_of g s) within ≡ map tell (map row within) =
           map-twice (told_within v.texts.message_of g s) row tell within
           (all-filtered _ is_on_one_line (messages_of s) (every-message v g s _ e (λ a m one. sym (told-within v sources placed arrow_found m one)))) in

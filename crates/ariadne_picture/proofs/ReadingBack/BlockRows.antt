@@ -51,10 +51,10 @@ paired-rows l a (x ∷ xs) i y e =
 
 pub paired : (s : Sheet) (l i : ℕ) (y : Row) → s.switches.compact ≡ false → slice_get (shown_rows s l) i ≡ Some y → IsPaired i y
 paired s l i y loose e = elim (cases_Bool (is_lone s l)) [
-  | inl on ↦ alone (alternate l (length (line_labels s l))) i refl (subst (λ t. slice_get t i ≡ Some y) (lone-block s l on) e)
+  | inl on ↦ alone (alternate l (length (line_labels s.labels l))) i refl (subst (λ t. slice_get t i ≡ Some y) (lone-block s l on) e)
   | inr off ↦
-      paired-rows l 0 (line_labels s l) i y
-      (subst (λ b. slice_get (joined (label_rows b l) (enumerate_from 0 (line_labels s l))) i ≡ Some y) loose
+      paired-rows l 0 (line_labels s.labels l) i y
+      (subst (λ b. slice_get (joined (label_rows b l) (enumerate_from 0 (line_labels s.labels l))) i ≡ Some y) loose
       (subst (λ t. slice_get t i ≡ Some y) (label-block s l off) e))
 ]
   where

@@ -59,7 +59,7 @@ turn-no-top Starts off e = true≢false off
 turn-no-top Ends off e = cc
 
 -- in the arrow row of a line label no column has it but that of a start
-ink-no-top : (h : Sheet) (l r i : ℕ) (x : LineLabel) → slice_get (line_labels h l) r ≡ Some x → (x.gutter_column ≡ i → is_start x.side ≡ false)
+ink-no-top : (h : Sheet) (l r i : ℕ) (x : LineLabel) → slice_get (line_labels h.labels l) r ≡ Some x → (x.gutter_column ≡ i → is_start x.side ≡ false)
     → IsNoTop (column_ink h (arrow l r) i)
 unfolding column_ink turn_ink
 ink-no-top h l r i x e off =

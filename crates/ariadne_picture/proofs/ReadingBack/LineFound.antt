@@ -179,19 +179,19 @@ module _ (v : Picture) (sources : List Known) (from : AreSources v sources) (pla
         let is : is_too_wide switches (drop_trailing_whitespace (line_text bare.lines l)) ≡ false =
         (λ i. is_too_wide (sym same-switches i) (drop_trailing_whitespace (line_text (lines i) l))) ∙ whole l in
         cells-same switches (layout_of bare l) (layout_of s.sheet l) (ap (λ ls. line_text ls l) lines)
-        (whole-sights switches (line_offset length bare.lines l) (option_to_list (margin_label bare l) ++ line_labels bare l)
+        (whole-sights switches (line_offset length bare.lines l) (option_to_list (margin_label bare.labels l) ++ line_labels bare.labels l)
         (drop_trailing_whitespace (line_text bare.lines l)) is
-        ∙ sym (whole-sights s.sheet.switches (line_offset length s.sheet.lines l) (option_to_list (margin_label s.sheet l) ++ line_labels s.sheet l)
+        ∙ sym (whole-sights s.sheet.switches (line_offset length s.sheet.lines l) (option_to_list (margin_label s.sheet.labels l) ++ line_labels s.sheet.labels l)
         (drop_trailing_whitespace (line_text s.sheet.lines l)) (whole l)))
 
     whole-begin : listing.gutter ≡ None → HasWholeLines s → text_begin (rows_of v) sources switches n ≡ text_cell s
     unfolding text_begin text_begin_by
     whole-begin untold whole =
-        let shown = shown_pieces switches (multi_line_labels s.sheet) (layout_of s.sheet l) in
+        let shown = shown_pieces switches (multi_line_labels s.sheet.labels) (layout_of s.sheet l) in
         let text : Piece → List ℕ = λ q. q.text in
         let long = row-length v (source-text v (source-row-is v h)) in
         let size : length shown ≡ length (plain_cells switches (layout_of s.sheet l)) =
-        sym (length-map shown text) ∙ ap length (shown-texts switches (multi_line_labels s.sheet) (layout_of s.sheet l)) ∙ length-map _ text in
+        sym (length-map shown text) ∙ ap length (shown-texts switches (multi_line_labels s.sheet.labels) (layout_of s.sheet l)) ∙ length-map _ text in
         let cells = ap length (cells-are whole) in
         let same : text_begin (rows_of v) sources switches n
         ≡ length (row_at (rows_of v) top) - length (shown_cells (unlabelled switches listing.listing) l) =

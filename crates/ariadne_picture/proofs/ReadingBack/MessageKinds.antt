@@ -34,7 +34,7 @@ is_no_start (Some x) = not (is_start x.side)
 
 -- the rows of messages, by their names
 abbrev pub names_message : Section → Row → Bool
-names_message s (arrow l r) = is_no_start (slice_get (line_labels s.sheet l) r)
+names_message s (arrow l r) = is_no_start (slice_get (line_labels s.sheet.labels l) r)
 names_message s x = false
 
 -- four tests, of which one fails

@@ -307,7 +307,7 @@ module _ (v : Picture) (sources : List Known) (placed : ArePlaced v)
       let n : ℕ = number v g s (arrow l h.rank) in
       let f = arrow_found g s l h.rank x q in
       let out : is_inline x.side ≡ false = ap is_inline h.start.side in
-      let no_margin : is_margin (margin_label s.sheet l) x ≡ false = its-margin v o l x out h.gutter_column ∙ off in
+      let no_margin : is_margin (margin_label s.sheet.labels l) x ≡ false = its-margin v o l x out h.gutter_column ∙ off in
       let place : x.place ≡ a.start_place = h.start.place ∙ ap (λ (a : LabelInfo). a.start_place) h.info in
       let few = column-place s.sheet (placed g s o.group) l h.rank x q.there (inl h.start) in
       let top = block-line v sources q.line q.index (arrow l h.rank) q.row in
@@ -344,7 +344,7 @@ module _ (v : Picture) (sources : List Known) (placed : ArePlaced v)
       let f = arrow_found g s l h.rank x q in
       let out : is_inline x.side ≡ false = ap is_inline k.0.side in
       let no_start : is_start x.side ≡ false = ap is_start k.0.side in
-      let margin : is_margin (margin_label s.sheet l) x ≡ is_at_margin s.sheet l i = its-margin v o l x out k.1 in
+      let margin : is_margin (margin_label s.sheet.labels l) x ≡ is_at_margin s.sheet l i = its-margin v o l x out k.1 in
       let place : x.place ≡ a.end_place = k.0.place ∙ ap (λ (a : LabelInfo). a.end_place) h.shows.info in
       let few = column-place s.sheet (placed g s o.group) l h.rank x q.there (inr (inl k.0)) in
       let row = row-text v sources q no_start in

@@ -31,12 +31,12 @@ pub record Between (s : Sheet) (x : Row) (i : ℕ) (a : LabelInfo) : Type 0 wher
   pub no_tee : has_tee s a i x ≡ false
 
 -- a bar stands in such a row
-pub between-bar : (s : Sheet) (x : Row) (i : ℕ) (a : LabelInfo) → slice_get (gutter_labels s) i ≡ Some a → Between s x i a → bar_at s x i ≡ true
+pub between-bar : (s : Sheet) (x : Row) (i : ℕ) (a : LabelInfo) → slice_get (gutter_labels s.labels) i ≡ Some a → Between s x i a → bar_at s x i ≡ true
 unfolding bar_at
 between-bar s x i a e b = rw (e, b.after, b.until, b.no_tee)
 
 -- and in no other
-pub bar-between : (s : Sheet) (x : Row) (i : ℕ) (a : LabelInfo) → slice_get (gutter_labels s) i ≡ Some a → bar_at s x i ≡ true → Between s x i a
+pub bar-between : (s : Sheet) (x : Row) (i : ℕ) (a : LabelInfo) → slice_get (gutter_labels s.labels) i ≡ Some a → bar_at s x i ≡ true → Between s x i a
 unfolding bar_at
 bar-between s x i a e h =
     let all : (before (first_row s i a) x && before x (last_row s i a) && not (has_tee s a i x)) ≡ true = subst (λ o. has_bar s i x o ≡ true) e h in
@@ -147,7 +147,7 @@ side-ends x e = rw e
 
 -- a line label that passes is a start or end of the gutter label, and the other way round
 pub label-passes : (is_side : Side → Bool) (side : Side) (s : Sheet) (l i n : ℕ) → ((x : Side) → x ≡ side → is_side x ≡ true)
-    → IsLineLabel s l side i n → PassesAt (is_end_of_gutter_label is_side i) (line_labels s l) n
+    → IsLineLabel s l side i n → PassesAt (is_end_of_gutter_label is_side i) (line_labels s.labels l) n
 label-passes is_side side s l i n f h = record {
   item = h.label;
   there = h.there;
@@ -157,7 +157,7 @@ label-passes is_side side s l i n f h = record {
 
 -- what passes is a line label of that side of the gutter label
 pub passes-label : (is_side : Side → Bool) (side : Side) (s : Sheet) (l i n : ℕ) → ((x : Side) → is_side x ≡ true → x ≡ side)
-    → PassesAt (is_end_of_gutter_label is_side i) (line_labels s l) n → IsLineLabel s l side i n
+    → PassesAt (is_end_of_gutter_label is_side i) (line_labels s.labels l) n → IsLineLabel s l side i n
 passes-label is_side side s l i n f h =
     let parts = and_parts (is_side h.item.side) (h.item.gutter_column == i) h.passes in
     record { label = h.item; there = h.there; same_side = f h.item.side parts.0; same_gutter_column = eqb-true h.item.gutter_column i parts.1 }
@@ -166,43 +166,43 @@ passes-label is_side side s l i n f h =
 pub start-number : (s : Sheet) (l i n : ℕ) → IsLineLabel s l Starts i n → rank_at s is_start l i ≡ n
 unfolding rank_at
 start-number s l i n h =
-    only-passes (is_end_of_gutter_label is_start i) (line_labels s l) n (label-passes is_start Starts s l i n side-starts h)
+    only-passes (is_end_of_gutter_label is_start i) (line_labels s.labels l) n (label-passes is_start Starts s l i n side-starts h)
     (labels-once is_start starting s l i)
 
 -- the number of an end is that of its place
 pub end-number : (s : Sheet) (l i n : ℕ) → IsLineLabel s l Ends i n → rank_at s is_end l i ≡ n
 unfolding rank_at
 end-number s l i n h =
-    only-passes (is_end_of_gutter_label is_end i) (line_labels s l) n (label-passes is_end Ends s l i n side-ends h) (labels-once is_end ending s l i)
+    only-passes (is_end_of_gutter_label is_end i) (line_labels s.labels l) n (label-passes is_end Ends s l i n side-ends h) (labels-once is_end ending s l i)
 
 -- a gutter label that starts at a line, not as its margin label, is the line label of its number there
-pub numbered-start : (s : Sheet) (i : ℕ) (a : LabelInfo) → slice_get (gutter_labels s) i ≡ Some a → is_at_margin s a.start_line i ≡ false
+pub numbered-start : (s : Sheet) (i : ℕ) (a : LabelInfo) → slice_get (gutter_labels s.labels) i ≡ Some a → is_at_margin s a.start_line i ≡ false
     → IsLineLabel s a.start_line Starts i (rank_at s is_start a.start_line i)
 unfolding rank_at
 numbered-start s i a e off =
-    passes-label is_start Starts s a.start_line i (position_or_len (is_end_of_gutter_label is_start i) (line_labels s a.start_line)) start-side
-    (first-passes (is_end_of_gutter_label is_start i) (line_labels s a.start_line) (start-label s i a e off))
+    passes-label is_start Starts s a.start_line i (position_or_len (is_end_of_gutter_label is_start i) (line_labels s.labels a.start_line)) start-side
+    (first-passes (is_end_of_gutter_label is_start i) (line_labels s.labels a.start_line) (start-label s i a e off))
 
 -- a gutter label that ends at a line is the line label of its number there
-pub numbered-end : (s : Sheet) (i : ℕ) (a : LabelInfo) → slice_get (gutter_labels s) i ≡ Some a
+pub numbered-end : (s : Sheet) (i : ℕ) (a : LabelInfo) → slice_get (gutter_labels s.labels) i ≡ Some a
     → IsLineLabel s a.end_line Ends i (rank_at s is_end a.end_line i)
 unfolding rank_at
 numbered-end s i a e =
-    passes-label is_end Ends s a.end_line i (position_or_len (is_end_of_gutter_label is_end i) (line_labels s a.end_line)) end-side
-    (first-passes (is_end_of_gutter_label is_end i) (line_labels s a.end_line) (end-label s i a e))
+    passes-label is_end Ends s a.end_line i (position_or_len (is_end_of_gutter_label is_end i) (line_labels s.labels a.end_line)) end-side
+    (first-passes (is_end_of_gutter_label is_end i) (line_labels s.labels a.end_line) (end-label s i a e))
 
 -- ---- the margin label
 
 -- where the margin label is of gutter label i, it is its start or its end
 pub record AtMargin (s : Sheet) (l i : ℕ) (a : LabelInfo) : Type 0 where
   pub label : LineLabel
-  pub there : margin_label s l ≡ Some label
+  pub there : margin_label s.labels l ≡ Some label
   pub owner : label.gutter_column ≡ i
   pub info : label.info ≡ a
   pub is : (label.side ≡ Starts) × (a.start_line ≡ l) ⊎ (label.side ≡ Ends) × (a.end_line ≡ l)
 
 -- a margin label that is of gutter label i is of a, where a is gutter label i
-pub at-margin-label : (s : Sheet) (l i : ℕ) (a : LabelInfo) → slice_get (gutter_labels s) i ≡ Some a → (o : Option LineLabel) → margin_label s l ≡ o
+pub at-margin-label : (s : Sheet) (l i : ℕ) (a : LabelInfo) → slice_get (gutter_labels s.labels) i ≡ Some a → (o : Option LineLabel) → margin_label s.labels l ≡ o
     → is_of_gutter_label o i ≡ true → AtMargin s l i a
 unfolding is_of_gutter_label
 at-margin-label s l i a e None m t = absurd (true≢false (sym t))
@@ -222,8 +222,8 @@ at-margin-label s l i a e (Some x) m t =
     }
 
 -- the same by the test
-pub at-margin : (s : Sheet) (l i : ℕ) (a : LabelInfo) → slice_get (gutter_labels s) i ≡ Some a → is_at_margin s l i ≡ true → AtMargin s l i a
-at-margin s l i a e t = at-margin-label s l i a e (margin_label s l) refl t
+pub at-margin : (s : Sheet) (l i : ℕ) (a : LabelInfo) → slice_get (gutter_labels s.labels) i ≡ Some a → is_at_margin s l i ≡ true → AtMargin s l i a
+at-margin s l i a e t = at-margin-label s l i a e (margin_label s.labels l) refl t
 
 -- where an end of gutter label i is the margin label, the test says so
 pub margin-at : (s : Sheet) (l i : ℕ) (side : Side) → IsMarginLabel s l side i → is_at_margin s l i ≡ true
@@ -448,13 +448,13 @@ module _ (s : Sheet) (i : ℕ) (a : LabelInfo) (m : IsGutterLabel s i a) where
           between-bar s (gap l) i a m.owned (lines-between l (gap l) (gap-row l) (no-tee-gap l) (omega arith) h.to)
 
 -- a line without labels has no margin label
-unlabelled-margin : (s : Sheet) (l : ℕ) → is_unlabelled s l ≡ true → is_some (margin_label s l) ≡ false
+unlabelled-margin : (s : Sheet) (l : ℕ) → is_unlabelled s.labels l ≡ true → is_some (margin_label s.labels l) ≡ false
 unfolding is_unlabelled
 unlabelled-margin s l h =
-    not-true (is_some (margin_label s l)) (and_parts (length (line_labels s l) == 0) (not (is_some (margin_label s l))) h).1
+    not-true (is_some (margin_label s.labels l)) (and_parts (length (line_labels s.labels l) == 0) (not (is_some (margin_label s.labels l))) h).1
 
 -- so a hidden line has none
-pub hidden-margin : (s : Sheet) (l : ℕ) → is_hidden s l ≡ true → is_some (margin_label s l) ≡ false
+pub hidden-margin : (s : Sheet) (l : ℕ) → is_hidden s l ≡ true → is_some (margin_label s.labels l) ≡ false
 hidden-margin s l h = unlabelled-margin s l (hidden-bare s l h)
 
 -- nothing is of no gutter label
@@ -464,8 +464,8 @@ none-of-gutter-label None i h = refl
 none-of-gutter-label (Some x) i h = absurd (true≢false h)
 
 -- so the margin label of a line without labels is of no gutter label
-pub unlabelled-off-margin : (s : Sheet) (l i : ℕ) → is_unlabelled s l ≡ true → is_at_margin s l i ≡ false
-unlabelled-off-margin s l i h = none-of-gutter-label (margin_label s l) i (unlabelled-margin s l h)
+pub unlabelled-off-margin : (s : Sheet) (l i : ℕ) → is_unlabelled s.labels l ≡ true → is_at_margin s l i ≡ false
+unlabelled-off-margin s l i h = none-of-gutter-label (margin_label s.labels l) i (unlabelled-margin s l h)
 
 -- and that of a hidden line
 pub hidden-off-margin : (s : Sheet) (l i : ℕ) → is_hidden s l ≡ true → is_at_margin s l i ≡ false
@@ -498,9 +498,9 @@ part-between p x q first last (inr h) k = sym h.0 ∙ first
 -- a row with a bar is a row of a line
 pub bars-of-lines : (s : Sheet) (x : Row) (i : ℕ) → bar_at s x i ≡ true → IsOfLine x
 unfolding bar_at
-bars-of-lines s x i t = found (slice_get (gutter_labels s) i) refl
+bars-of-lines s x i t = found (slice_get (gutter_labels s.labels) i) refl
   where
-    found : (o : Option LabelInfo) → slice_get (gutter_labels s) i ≡ o → IsOfLine x
+    found : (o : Option LabelInfo) → slice_get (gutter_labels s.labels) i ≡ o → IsOfLine x
     found None e = absurd (true≢false (sym t ∙ ap (has_bar s i x) e))
     found (Some a) e =
         let b : Between s x i a = bar-between s x i a e t in

@@ -17,21 +17,21 @@ use Rattle.ariadne_picture.proofs.Labels.LineLabels.{IsEndAt, same-info, line-la
 use Rattle.ariadne_picture.proofs.Rows.BarCases.{margin-at, starts-margin, start-number, end-number, numbered-start, numbered-end}
 
 -- no line label is a start that is the margin label
-pub not-margin-start : (s : Sheet) (l : ℕ) → AllByRecursion (λ x. (is_start x.side && is_margin (margin_label s l) x) ≡ false) (line_labels s l)
+pub not-margin-start : (s : Sheet) (l : ℕ) → AllByRecursion (λ x. (is_start x.side && is_margin (margin_label s.labels l) x) ≡ false) (line_labels s.labels l)
 unfolding line_labels inline_labels is_start
 not-margin-start s l =
-    let P : LineLabel → Type 0 = λ x. (is_start x.side && is_margin (margin_label s l) x) ≡ false in
-    let t : LineLabel → Bool = λ x. not (is_start x.side && is_margin (margin_label s l) x) in
+    let P : LineLabel → Type 0 = λ x. (is_start x.side && is_margin (margin_label s.labels l) x) ≡ false in
+    let t : LineLabel → Bool = λ x. not (is_start x.side && is_margin (margin_label s.labels l) x) in
     let ins : List LabelInfo = filter (λ a. is_on_one_line a && (a.start_line == l)) s.labels in
     let make : LabelInfo → LineLabel = λ a. record { info = a; side = Inline; gutter_column = 0; place = a.attach } in
-    all-in_order P is_before (filter t (ends_at s l) ++ map make ins)
-    (all-append P (filter t (ends_at s l)) (map make ins)
-    (all-weaker (λ x. t x ≡ true) P (filter t (ends_at s l)) (λ x h. not-true (is_start x.side && is_margin (margin_label s l) x) h)
-    (all-kept t (ends_at s l)))
+    all-in_order P is_before (filter t (ends_at s.labels l) ++ map make ins)
+    (all-append P (filter t (ends_at s.labels l)) (map make ins)
+    (all-weaker (λ x. t x ≡ true) P (filter t (ends_at s.labels l)) (λ x h. not-true (is_start x.side && is_margin (margin_label s.labels l) x) h)
+    (all-kept t (ends_at s.labels l)))
     (all-map P make ins (all-every _ (λ a. refl) ins)))
 
 -- the same, by the gutter label's number
-pub start-off : (s : Sheet) (l : ℕ) (x : LineLabel) → x.side ≡ Starts → (is_start x.side && is_margin (margin_label s l) x) ≡ false
+pub start-off : (s : Sheet) (l : ℕ) (x : LineLabel) → x.side ≡ Starts → (is_start x.side && is_margin (margin_label s.labels l) x) ≡ false
     → is_at_margin s l x.gutter_column ≡ false
 unfolding is_margin is_start is_inline
 start-off s l x e h = rw e at h
@@ -40,7 +40,7 @@ start-off s l x e h = rw e at h
 pub label-off-margin : (s : Sheet) (l i n : ℕ) → IsLineLabel s l Starts i n → is_at_margin s l i ≡ false
 label-off-margin s l i n h =
     subst (λ k. is_at_margin s l k ≡ false) h.same_gutter_column
-    (start-off s l h.label h.same_side (all-at (λ x. (is_start x.side && is_margin (margin_label s l) x) ≡ false) (line_labels s l) n h.label h.there
+    (start-off s l h.label h.same_side (all-at (λ x. (is_start x.side && is_margin (margin_label s.labels l) x) ≡ false) (line_labels s.labels l) n h.label h.there
     (not-margin-start s l)))
 
 -- ---- where a gutter label starts and ends
@@ -82,9 +82,9 @@ last-at-arrow s i n a h = ap (arrow a.end_line) (end-number s a.end_line i n h)
 -- ---- a line label of a gutter label is its own
 
 -- two labels of one gutter label are of the same info
-pub label-info : (s : Sheet) (l i n : ℕ) (side : Side) (a : LabelInfo) → slice_get (gutter_labels s) i ≡ Some a → side ≢ Inline
+pub label-info : (s : Sheet) (l i n : ℕ) (side : Side) (a : LabelInfo) → slice_get (gutter_labels s.labels) i ≡ Some a → side ≢ Inline
     → (h : IsLineLabel s l side i n) → h.label.info ≡ a
-label-info s l i n side a e out h = elim (all-at (λ x. IsEndAt s l x ⊎ (x.side ≡ Inline)) (line_labels s l) n h.label h.there (line-labels-are s l)) [
+label-info s l i n side a e out h = elim (all-at (λ x. IsEndAt s l x ⊎ (x.side ≡ Inline)) (line_labels s.labels l) n h.label h.there (line-labels-are s l)) [
   | inl is ↦ same-info s l i a h.label e is h.same_gutter_column
   | inr k ↦ absurd (out (sym h.same_side ∙ k))
 ]

@@ -76,24 +76,24 @@ lines-before s l a (suc m) h =
 pub record IsBlockRow (s : Sheet) (l : ℕ) (y : Row) : Type 0 where
   pub rank : ℕ
   pub label : LineLabel
-  pub there : slice_get (line_labels s l) rank ≡ Some label
+  pub there : slice_get (line_labels s.labels l) rank ≡ Some label
   pub message : label.info.has_message ≡ true
   pub kind : (y ≡ arrow l rank) ⊎ ((y ≡ alternate l rank) × (s.switches.compact ≡ false))
 
 -- y is the row with the underlines of line l alone
 abbrev pub IsLoneRow : Sheet → ℕ → Row → Type 0
-IsLoneRow s l y = (is_lone s l ≡ true) × (y ≡ alternate l (length (line_labels s l)))
+IsLoneRow s l y = (is_lone s l ≡ true) × (y ≡ alternate l (length (line_labels s.labels l)))
 
 -- the rows of labels are such rows
 label-rows-are : (s : Sheet) (l : ℕ) → AllByRecursion (IsBlockRow s l) (all_label_rows s l)
 unfolding label_rows
 label-rows-are s l =
-    all-joined (IsBlockRow s l) (λ e. slice_get (line_labels s l) e.0 ≡ Some e.1) (label_rows s.switches.compact l)
-    (enumerate_from 0 (line_labels s l))
-    (λ e h. one e.0 e.1 h) (all-enumerated (line_labels s l) 0 (line_labels s l)
-    (λ k. let z : 0 + k ≡ k = omega arith in sym (ap (slice_get (line_labels s l)) z)))
+    all-joined (IsBlockRow s l) (λ e. slice_get (line_labels s.labels l) e.0 ≡ Some e.1) (label_rows s.switches.compact l)
+    (enumerate_from 0 (line_labels s.labels l))
+    (λ e h. one e.0 e.1 h) (all-enumerated (line_labels s.labels l) 0 (line_labels s.labels l)
+    (λ k. let z : 0 + k ≡ k = omega arith in sym (ap (slice_get (line_labels s.labels l)) z)))
   where
-    two : (compact : Bool) (r : ℕ) (x : LineLabel) → compact ≡ s.switches.compact → slice_get (line_labels s l) r ≡ Some x → x.info.has_message ≡ true
+    two : (compact : Bool) (r : ℕ) (x : LineLabel) → compact ≡ s.switches.compact → slice_get (line_labels s.labels l) r ≡ Some x → x.info.has_message ≡ true
         → AllByRecursion (IsBlockRow s l) ((if compact then [] else alternate l r ∷ []) ++ arrow l r ∷ [])
     two true r x c e m = (record { rank = r; label = x; there = e; message = m; kind = inl refl }, tt)
     two false r x c e m = (
@@ -101,7 +101,7 @@ label-rows-are s l =
       (record { rank = r; label = x; there = e; message = m; kind = inl refl }, tt),
     )
 
-    one : (r : ℕ) (x : LineLabel) → slice_get (line_labels s l) r ≡ Some x → AllByRecursion (IsBlockRow s l) (label_rows s.switches.compact l (r, x))
+    one : (r : ℕ) (x : LineLabel) → slice_get (line_labels s.labels l) r ≡ Some x → AllByRecursion (IsBlockRow s l) (label_rows s.switches.compact l (r, x))
     one r x e =
         cond_both x.info.has_message ((if s.switches.compact then [] else alternate l r ∷ []) ++ arrow l r ∷ []) [] (AllByRecursion (IsBlockRow s l))
         (λ m. two s.switches.compact r x refl e m) (λ _. tt)

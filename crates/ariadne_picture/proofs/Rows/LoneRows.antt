@@ -46,7 +46,7 @@ module _ (s : Sheet) (l : ℕ) where
   pub record IsLone : Type 0 where
     pub underlined : s.switches.underlines ≡ true
     pub loose : s.switches.compact ≡ false
-    pub silent : list_any speaks (line_labels s l) ≡ false
+    pub silent : list_any speaks (line_labels s.labels l) ≡ false
 
   pub lone : is_lone s l ≡ true → IsLone
   unfolding is_lone
@@ -58,35 +58,35 @@ module _ (s : Sheet) (l : ℕ) where
       record { underlined = d.1; loose = not-true _ c.1; silent = not-true _ a.1 }
 
   -- a line with a message is none
-  pub not-lone : list_any speaks (line_labels s l) ≡ true → is_lone s l ≡ false
+  pub not-lone : list_any speaks (line_labels s.labels l) ≡ true → is_lone s l ≡ false
   unfolding is_lone
   not-lone h = and_right _ _ (ap not h)
 
-  pub label-not-lone : (r : ℕ) (x : LineLabel) → slice_get (line_labels s l) r ≡ Some x → x.info.has_message ≡ true → is_lone s l ≡ false
-  label-not-lone r x e m = not-lone (list_any-true speaks (line_labels s l) r x e m)
+  pub label-not-lone : (r : ℕ) (x : LineLabel) → slice_get (line_labels s.labels l) r ≡ Some x → x.info.has_message ≡ true → is_lone s l ≡ false
+  label-not-lone r x e m = not-lone (list_any-true speaks (line_labels s.labels l) r x e m)
 
   -- the two kinds of block
   pub label-block : is_lone s l ≡ false → shown_rows s l ≡ all_label_rows s l
   unfolding shown_rows lone_rows
   label-block off =
-      ap (λ t. all_label_rows s l ++ t) (cond-false (is_lone s l) (alternate l (length (line_labels s l)) ∷ []) [] off)
+      ap (λ t. all_label_rows s l ++ t) (cond-false (is_lone s l) (alternate l (length (line_labels s.labels l)) ∷ []) [] off)
       ∙ append-nil (all_label_rows s l)
 
-  pub lone-block : is_lone s l ≡ true → shown_rows s l ≡ alternate l (length (line_labels s l)) ∷ []
+  pub lone-block : is_lone s l ≡ true → shown_rows s l ≡ alternate l (length (line_labels s.labels l)) ∷ []
   unfolding shown_rows lone_rows
   lone-block on =
-      ap (λ t. t ++ lone_rows s l) (silent-rows s.switches.compact l 0 (line_labels s l) (lone on).silent)
-      ∙ cond-true (is_lone s l) (alternate l (length (line_labels s l)) ∷ []) [] on
+      ap (λ t. t ++ lone_rows s l) (silent-rows s.switches.compact l 0 (line_labels s.labels l) (lone on).silent)
+      ∙ cond-true (is_lone s l) (alternate l (length (line_labels s.labels l)) ∷ []) [] on
 
-  pub lone-rank : is_lone s l ≡ true → position_or_len speaks (line_labels s l) ≡ length (line_labels s l)
-  lone-rank on = silent-length (line_labels s l) (lone on).silent
+  pub lone-rank : is_lone s l ≡ true → position_or_len speaks (line_labels s.labels l) ≡ length (line_labels s.labels l)
+  lone-rank on = silent-length (line_labels s.labels l) (lone on).silent
 
   -- such a line is shown
   pub lone-shown : is_lone s l ≡ true → is_hidden s l ≡ false
   unfolding is_lone is_unlabelled
-  lone-shown h = shown-with s l (some (line_labels s l) (two _ _ (two _ _ h).0).1)
+  lone-shown h = shown-with s l (some (line_labels s.labels l) (two _ _ (two _ _ h).0).1)
     where
       some : (xs : List LineLabel) → list_any (λ (x : LineLabel). nat_lt x.info.start x.info.end) xs ≡ true
-          → ((length xs == 0) && not (is_some (margin_label s l))) ≡ false
+          → ((length xs == 0) && not (is_some (margin_label s.labels l))) ≡ false
       some [] t = absurd (true≢false (sym t))
       some (x ∷ xs) t = and_left _ _ (ne_eqb (length (x ∷ xs)) 0 (λ e. omega arith))

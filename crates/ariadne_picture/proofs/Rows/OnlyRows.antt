@@ -63,7 +63,7 @@ module _ (s : Sheet) (is_last : Bool) (helps notes : List (List ℕ)) where
   abbrev All : List Row → Type 0
   All = AllByRecursion (HasRow s is_last helps notes)
 
-  label-has : (l r : ℕ) (x : LineLabel) → HasLine s l → slice_get (line_labels s l) r ≡ Some x → All (label_rows s.switches.compact l (r, x))
+  label-has : (l r : ℕ) (x : LineLabel) → HasLine s l → slice_get (line_labels s.labels l) r ≡ Some x → All (label_rows s.switches.compact l (r, x))
   unfolding label_rows
   label-has l r x line there =
       let upper = if s.switches.compact then [] else alternate l r ∷ [] in
@@ -77,7 +77,7 @@ module _ (s : Sheet) (is_last : Bool) (helps notes : List (List ℕ)) where
   lone-has : (l : ℕ) → HasLine s l → All (lone_rows s l)
   unfolding lone_rows
   lone-has l line =
-      cond_both (is_lone s l) (alternate l (length (line_labels s l)) ∷ []) [] All
+      cond_both (is_lone s l) (alternate l (length (line_labels s.labels l)) ∷ []) [] All
       (λ on. (inr (record { line = line; lone = on; behind = refl }), tt)) (λ _. tt)
 
   line-has : (l : ℕ) → HasLine s l → All (line_rows s l)
@@ -86,7 +86,7 @@ module _ (s : Sheet) (is_last : Bool) (helps notes : List (List ℕ)) where
       let later : Bool = nat_lt (first_line s) l && is_hidden s (l - 1) in
       let bare_row = if s.switches.compact then [] else bare l ∷ [] in
       let row = if is_inside s l then gap l ∷ [] else bare_row in
-      let block = joined (label_rows s.switches.compact l) (enumerate_from 0 (line_labels s l)) in
+      let block = joined (label_rows s.switches.compact l) (enumerate_from 0 (line_labels s.labels l)) in
       cond_both (is_hidden s l) (if later then [] else row) (source l ∷ block ++ lone_rows s l) All
       (λ hidden. cond_both later [] row All (λ _. tt) (λ first.
       let begins : BeginsHidden s l = record { line = line; hidden = hidden; first = begins-run l line first } in
@@ -95,9 +95,9 @@ module _ (s : Sheet) (is_last : Bool) (helps notes : List (List ℕ)) where
       (λ seen. (
         (line, seen),
         all-append (HasRow s is_last helps notes) block (lone_rows s l)
-            (all-joined (HasRow s is_last helps notes) (λ e. slice_get (line_labels s l) e.0 ≡ Some e.1) (label_rows s.switches.compact l)
-            (enumerate_from 0 (line_labels s l)) (λ e there. label-has l e.0 e.1 line there)
-            (all-numbered (λ e. slice_get (line_labels s l) e.0 ≡ Some e.1) (line_labels s l) (λ k x e. e)))
+            (all-joined (HasRow s is_last helps notes) (λ e. slice_get (line_labels s.labels l) e.0 ≡ Some e.1) (label_rows s.switches.compact l)
+            (enumerate_from 0 (line_labels s.labels l)) (λ e there. label-has l e.0 e.1 line there)
+            (all-numbered (λ e. slice_get (line_labels s.labels l) e.0 ≡ Some e.1) (line_labels s.labels l) (λ k x e. e)))
             (lone-has l line),
       ))
     where
@@ -200,9 +200,9 @@ module _ (s : Sheet) (is_last : Bool) (helps notes : List (List ℕ)) where
       let seen = lone-shown s l h.lone in
       let on = h.lone in
       let same = h.behind in
-      of-line l (alternate l r) h.line (rw (seen, same) (has-later (source l) _ (alternate l (length (line_labels s l)))
-      (has-back (all_label_rows s l) (lone_rows s l) (alternate l (length (line_labels s l)))
-      (rw on (has-first (alternate l (length (line_labels s l))) [])))))
+      of-line l (alternate l r) h.line (rw (seen, same) (has-later (source l) _ (alternate l (length (line_labels s.labels l)))
+      (has-back (all_label_rows s l) (lone_rows s l) (alternate l (length (line_labels s.labels l)))
+      (rw on (has-first (alternate l (length (line_labels s.labels l))) [])))))
 
   row-there : (x : Row) → HasRow s is_last helps notes x → Has (rows s is_last helps notes) x
   unfolding rows line_rows label_rows aside_rows
@@ -216,7 +216,7 @@ module _ (s : Sheet) (is_last : Bool) (helps notes : List (List ℕ)) where
       let seen = shown-by-label s l r m.label m.there in
       let open_form = h.0 in
       let message = m.message in
-      let block = enumerate_from 0 (line_labels s l) in
+      let block = enumerate_from 0 (line_labels s.labels l) in
       let here : Has (label_rows s.switches.compact l (r, m.label)) (alternate l r) = rw (message, open_form) (has-first (alternate l r) _) in
       of-line l (alternate l r) m.line (rw seen (has-later (source l) _ (alternate l r)
       (has-front (all_label_rows s l) (lone_rows s l) (alternate l r)

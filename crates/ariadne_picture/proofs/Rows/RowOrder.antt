@@ -240,7 +240,7 @@ source-first l x h = by-step (source l) x (sym h.part) (sym h.line) h.step
 
 -- the rows of all line labels
 abbrev pub all_label_rows : Sheet → ℕ → List Row
-all_label_rows s l = joined (label_rows s.switches.compact l) (enumerate_from 0 (line_labels s l))
+all_label_rows s l = joined (label_rows s.switches.compact l) (enumerate_from 0 (line_labels s.labels l))
 
 -- and the one with their underlines alone
 unfoldable pub shown_rows : Sheet → ℕ → List Row
@@ -250,21 +250,21 @@ shown_rows s l = all_label_rows s l ++ lone_rows s l
 pub block-from : (s : Sheet) (l : ℕ) → AllByRecursion (FromStep 2 l 1) (shown_rows s l)
 unfolding shown_rows lone_rows row_key
 block-from s l =
-    all-append (FromStep 2 l 1) (all_label_rows s l) (lone_rows s l) (labels-from s.switches.compact l 0 1 (line_labels s l) (omega arith))
-    (cond_both (is_lone s l) (alternate l (length (line_labels s l)) ∷ []) [] (AllByRecursion (FromStep 2 l 1))
+    all-append (FromStep 2 l 1) (all_label_rows s l) (lone_rows s l) (labels-from s.switches.compact l 0 1 (line_labels s.labels l) (omega arith))
+    (cond_both (is_lone s l) (alternate l (length (line_labels s.labels l)) ∷ []) [] (AllByRecursion (FromStep 2 l 1))
     (λ _. (record { part = refl; line = refl; step = omega arith }, tt)) (λ _. tt))
 
 -- and stand in order
 pub block-increasing : (s : Sheet) (l : ℕ) → Increasing IsBefore (shown_rows s l)
 unfolding shown_rows lone_rows row_key
 block-increasing s l =
-    let last : ℕ = 2 * (0 + length (line_labels s l)) in
+    let last : ℕ = 2 * (0 + length (line_labels s.labels l)) in
     increasing-append IsBefore (UpToStep 2 l last) (FromStep 2 l (suc last)) (all_label_rows s l) (lone_rows s l)
-    (step-before 2 l last) (labels-up-to s.switches.compact l 0 (line_labels s l))
-    (cond_both (is_lone s l) (alternate l (length (line_labels s l)) ∷ []) [] (AllByRecursion (FromStep 2 l (suc last)))
+    (step-before 2 l last) (labels-up-to s.switches.compact l 0 (line_labels s.labels l))
+    (cond_both (is_lone s l) (alternate l (length (line_labels s.labels l)) ∷ []) [] (AllByRecursion (FromStep 2 l (suc last)))
     (λ _. (record { part = refl; line = refl; step = omega arith }, tt)) (λ _. tt))
-    (labels-increasing s.switches.compact l 0 (line_labels s l))
-    (cond_both (is_lone s l) (alternate l (length (line_labels s l)) ∷ []) [] (Increasing IsBefore) (λ _. (tt, tt)) (λ _. tt))
+    (labels-increasing s.switches.compact l 0 (line_labels s.labels l))
+    (cond_both (is_lone s l) (alternate l (length (line_labels s.labels l)) ∷ []) [] (Increasing IsBefore) (λ _. (tt, tt)) (λ _. tt))
 
 -- what holds of no rows, of each row in place of hidden lines, and of the rows of a shown line holds of a line's rows
 pub line-rows-case : (P : List Row → Type 0) (s : Sheet) (l : ℕ) → P [] → P (gap l ∷ []) → P (bare l ∷ []) → P (source l ∷ shown_rows s l)
@@ -274,7 +274,7 @@ line-rows-case P s l none broken empty shown =
     cond_both (is_hidden s l)
     (if nat_lt (first_line s) l && is_hidden s (l - 1) then [] else if is_inside s l then gap l ∷ [] else if s.switches.compact then []
     else bare l ∷ [])
-    (source l ∷ joined (label_rows s.switches.compact l) (enumerate_from 0 (line_labels s l)) ++ lone_rows s l) P
+    (source l ∷ joined (label_rows s.switches.compact l) (enumerate_from 0 (line_labels s.labels l)) ++ lone_rows s l) P
     (λ _. cond_both (nat_lt (first_line s) l && is_hidden s (l - 1)) []
     (if is_inside s l then gap l ∷ [] else if s.switches.compact then [] else bare l ∷ []) P (λ _. none)
     (λ _. cond_both (is_inside s l) (gap l ∷ []) (if s.switches.compact then [] else bare l ∷ []) P (λ _. broken)

@@ -64,7 +64,7 @@ module _ (t : Texts) (ss : List Section) where
   -- the rows of the line labels of line l that a test holds of
   unfoldable pub rows_of_labels : ℕ → Section → (LineLabel → Bool) → ℕ → List ℕ
   rows_of_labels g s test l =
-      map (λ e. row_number g s (arrow l e.0)) (filter (λ e. test e.1) (enumerate_from 0 (line_labels s.sheet l)))
+      map (λ e. row_number g s (arrow l e.0)) (filter (λ e. test e.1) (enumerate_from 0 (line_labels s.sheet.labels l)))
 
   unfoldable pub message_rows : ℕ → List ℕ
   message_rows k =
@@ -74,7 +74,7 @@ module _ (t : Texts) (ss : List Section) where
   unfoldable pub first_row : ℕ → Section → ℕ → ℕ × LabelInfo → ℕ
   first_row g s i e =
       let l = e.1.start_line in
-      if is_of_gutter_label (margin_label s.sheet l) i then row_number g s (source l)
+      if is_of_gutter_label (margin_label s.sheet.labels l) i then row_number g s (source l)
       else slice_index_or (rows_of_labels g s (λ x. is_start x.side && (x.gutter_column == i)) l) 0 0
 
   unfoldable pub row_placing : Placing
@@ -84,7 +84,7 @@ module _ (t : Texts) (ss : List Section) where
     block_len = λ g l. of_section g (λ s. block_len s l);
     places = λ g l. of_section g (λ s. arrow_len s.sheet.switches (layout_of s.sheet l));
     message_row = λ k. slice_index_or (message_rows k) 0 0;
-    head_row = λ g i. of_section g (λ s. elim (slice_get (gutter_labels s.sheet) i) [ None ↦ 0 | Some a ↦ first_row g s i (i, a) ]);
+    head_row = λ g i. of_section g (λ s. elim (slice_get (gutter_labels s.sheet.labels) i) [ None ↦ 0 | Some a ↦ first_row g s i (i, a) ]);
   }
 
 unfoldable pub read_by_rows : Unit {0}

@@ -105,54 +105,54 @@ ends-shown s =
 -- ---- a gutter label is a label of the group, with a message
 
 -- what holds of each label of a group holds of each gutter label
-pub all-gutter-labels : (P : LabelInfo → Type 0) (s : Sheet) → AllByRecursion P s.labels → AllByRecursion P (gutter_labels s)
+pub all-gutter-labels : (P : LabelInfo → Type 0) (s : Sheet) → AllByRecursion P s.labels → AllByRecursion P (gutter_labels s.labels)
 unfolding gutter_labels multi_line_labels
 all-gutter-labels P s h =
-    all-filter P (λ a. a.has_message) (multi_line_labels s)
+    all-filter P (λ a. a.has_message) (multi_line_labels s.labels)
     (all-in_order P (λ a b. nat_lt (span_len b) (span_len a)) (filter (λ a. not (is_on_one_line a)) s.labels)
     (all-filter P (λ a. not (is_on_one_line a)) s.labels h))
 
 -- so a gutter label lies within the lines of its group
-pub gutter-label-within : (s : Sheet) (i : ℕ) (a : LabelInfo) → slice_get (gutter_labels s) i ≡ Some a → (first_line s ≤ a.start_line)
+pub gutter-label-within : (s : Sheet) (i : ℕ) (a : LabelInfo) → slice_get (gutter_labels s.labels) i ≡ Some a → (first_line s ≤ a.start_line)
     × (a.end_line ≤ last_line s)
 gutter-label-within s i a e = (
-  all-at (λ a. first_line s ≤ a.start_line) (gutter_labels s) i a e
+  all-at (λ a. first_line s ≤ a.start_line) (gutter_labels s.labels) i a e
       (all-gutter-labels (λ a. first_line s ≤ a.start_line) s (starts-shown s)),
-  all-at (λ a. a.end_line ≤ last_line s) (gutter_labels s) i a e
+  all-at (λ a. a.end_line ≤ last_line s) (gutter_labels s.labels) i a e
       (all-gutter-labels (λ a. a.end_line ≤ last_line s) s (ends-shown s)),
 )
 
 -- and has a message
-pub gutter-label-message : (s : Sheet) (i : ℕ) (a : LabelInfo) → slice_get (gutter_labels s) i ≡ Some a → a.has_message ≡ true
+pub gutter-label-message : (s : Sheet) (i : ℕ) (a : LabelInfo) → slice_get (gutter_labels s.labels) i ≡ Some a → a.has_message ≡ true
 unfolding gutter_labels
-gutter-label-message s i a e = all-at (λ a. a.has_message ≡ true) (gutter_labels s) i a e (all-kept (λ a. a.has_message) (multi_line_labels s))
+gutter-label-message s i a e = all-at (λ a. a.has_message ≡ true) (gutter_labels s.labels) i a e (all-kept (λ a. a.has_message) (multi_line_labels s.labels))
 
 -- ---- rows of a shown line
 
 -- a line that is not hidden has its source row and the rows of its line labels
 pub shown : (s : Sheet) (l : ℕ) → is_hidden s l ≡ false → line_rows s l ≡ source l
-    ∷ joined (label_rows s.switches.compact l) (enumerate_from 0 (line_labels s l)) ++ lone_rows s l
+    ∷ joined (label_rows s.switches.compact l) (enumerate_from 0 (line_labels s.labels l)) ++ lone_rows s l
 unfolding line_rows
 shown s l h = rw h
 
 -- a line with a line label is not hidden
-pub shown-by-label : (s : Sheet) (l n : ℕ) (x : LineLabel) → slice_get (line_labels s l) n ≡ Some x → is_hidden s l ≡ false
+pub shown-by-label : (s : Sheet) (l n : ℕ) (x : LineLabel) → slice_get (line_labels s.labels l) n ≡ Some x → is_hidden s l ≡ false
 unfolding is_unlabelled
 shown-by-label s l n x e =
-    let few = slice_get_within (line_labels s l) n x e in
-    shown-with s l (and_left (length (line_labels s l) == 0) (not (is_some (margin_label s l))) (ne_eqb (length (line_labels s l)) 0 (omega arith)))
+    let few = slice_get_within (line_labels s.labels l) n x e in
+    shown-with s l (and_left (length (line_labels s.labels l) == 0) (not (is_some (margin_label s.labels l))) (ne_eqb (length (line_labels s.labels l)) 0 (omega arith)))
 
 -- nor is one with a margin label
-pub shown-by-margin : (s : Sheet) (l : ℕ) (x : LineLabel) → margin_label s l ≡ Some x → is_hidden s l ≡ false
+pub shown-by-margin : (s : Sheet) (l : ℕ) (x : LineLabel) → margin_label s.labels l ≡ Some x → is_hidden s l ≡ false
 unfolding is_unlabelled
 shown-by-margin s l x e =
-    shown-with s l (and_right (length (line_labels s l) == 0) (not (is_some (margin_label s l))) (not_from_true (is_some (margin_label s l)) (ap is_some e)))
+    shown-with s l (and_right (length (line_labels s.labels l) == 0) (not (is_some (margin_label s.labels l))) (not_from_true (is_some (margin_label s.labels l)) (ap is_some e)))
 
 -- so it has its source row
 pub source-there : (s : Sheet) (l : ℕ) → is_hidden s l ≡ false → Contains (line_rows s l) (source l)
 source-there s l h =
     subst (λ xs. Contains xs (source l)) (sym (shown s l h))
-    (contains-first (source l) (joined (label_rows s.switches.compact l) (enumerate_from 0 (line_labels s l)) ++ lone_rows s l))
+    (contains-first (source l) (joined (label_rows s.switches.compact l) (enumerate_from 0 (line_labels s.labels l)) ++ lone_rows s l))
 
 -- a label with a message has its arrow row
 pub arrow-of-label : (compact : Bool) (l n : ℕ) (x : LineLabel) → x.info.has_message ≡ true → Contains (label_rows compact l (n, x)) (arrow l n)
@@ -160,15 +160,15 @@ unfolding label_rows
 arrow-of-label compact l n x h = rw h (Contains-push (if compact then [] else alternate l n ∷ []) (arrow l n))
 
 -- so the rows of its line have it
-pub arrow-there : (s : Sheet) (l n : ℕ) (x : LineLabel) → slice_get (line_labels s l) n ≡ Some x → x.info.has_message ≡ true
+pub arrow-there : (s : Sheet) (l n : ℕ) (x : LineLabel) → slice_get (line_labels s.labels l) n ≡ Some x → x.info.has_message ≡ true
     → Contains (line_rows s l) (arrow l n)
 arrow-there s l n x e h =
     let z : 0 + n ≡ n = omega arith in
-    let there : slice_get (enumerate_from 0 (line_labels s l)) n ≡ Some (n, x) = enumerated-at 0 n (line_labels s l) x e ∙ ap (λ k. Some (k, x)) z in
+    let there : slice_get (enumerate_from 0 (line_labels s.labels l)) n ≡ Some (n, x) = enumerated-at 0 n (line_labels s.labels l) x e ∙ ap (λ k. Some (k, x)) z in
     subst (λ xs. Contains xs (arrow l n)) (sym (shown s l (shown-by-label s l n x e)))
-    (contains-later (source l) (joined (label_rows s.switches.compact l) (enumerate_from 0 (line_labels s l)) ++ lone_rows s l) (arrow l n)
-    (Contains-append_left (joined (label_rows s.switches.compact l) (enumerate_from 0 (line_labels s l))) (lone_rows s l) (arrow l n)
-    (contains-joined (label_rows s.switches.compact l) (enumerate_from 0 (line_labels s l)) n (n, x) (arrow l n) there
+    (contains-later (source l) (joined (label_rows s.switches.compact l) (enumerate_from 0 (line_labels s.labels l)) ++ lone_rows s l) (arrow l n)
+    (Contains-append_left (joined (label_rows s.switches.compact l) (enumerate_from 0 (line_labels s.labels l))) (lone_rows s l) (arrow l n)
+    (contains-joined (label_rows s.switches.compact l) (enumerate_from 0 (line_labels s.labels l)) n (n, x) (arrow l n) there
     (arrow-of-label s.switches.compact l n x h))))
 
 -- ---- rows of the group

@@ -250,9 +250,9 @@ module _ (t : Texts) (w : ℕ) (g : Section) where
         (λ _. cond_both (is_inside s l) (gap l ∷ []) bare_row HaveRoom (λ _. (tt, tt)) (λ _. one-or-none s.switches.compact (bare l) tt)))
         (λ _. (
           omega (arith, room, rise),
-          all-append (HasRoom w g.display_offset) (joined (label_rows s.switches.compact l) (enumerate_from 0 (line_labels s l))) (lone_rows s l)
-              (all-parts (HasRoom w g.display_offset) (label_rows s.switches.compact l) label (enumerate_from 0 (line_labels s l)))
-              (cond_both (is_lone s l) (alternate l (length (line_labels s l)) ∷ []) [] HaveRoom (λ _. (tt, tt)) (λ _. tt)),
+          all-append (HasRoom w g.display_offset) (joined (label_rows s.switches.compact l) (enumerate_from 0 (line_labels s.labels l))) (lone_rows s l)
+              (all-parts (HasRoom w g.display_offset) (label_rows s.switches.compact l) label (enumerate_from 0 (line_labels s.labels l)))
+              (cond_both (is_lone s l) (alternate l (length (line_labels s.labels l)) ∷ []) [] HaveRoom (λ _. (tt, tt)) (λ _. tt)),
         ))
 
     aside-rooms : (compact : Bool) (a : Aside) (texts : List (List ℕ)) → HaveRoom (asides compact a texts)

@@ -131,9 +131,9 @@ module _ (P : List ℕ → Type 0) (kept : IsKept P) where
 
   -- line number l of a sheet
   clean-source : (switches : Switches) (s : Sheet) (l : ℕ) → AreShownClean P s.lines
-      → AreClean P (shown_pieces switches (multi_line_labels s) (layout_of s l))
+      → AreClean P (shown_pieces switches (multi_line_labels s.labels) (layout_of s l))
   unfolding layout_of
-  clean-source switches s l a = clean-line switches (multi_line_labels s) (layout_of s l) (all-or (AllByRecursion (λ c. P (shown_text c))) s.lines l [] tt a)
+  clean-source switches s l a = clean-line switches (multi_line_labels s.labels) (layout_of s l) (all-or (AllByRecursion (λ c. P (shown_text c))) s.lines l [] tt a)
 
   -- ---- margins, headers and tails
 

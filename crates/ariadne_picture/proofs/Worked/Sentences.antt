@@ -127,7 +127,7 @@ module _ (rows : List (List Cell)) (groups : List Section) (message_of : ℕ →
   one_row_of_a_line : (g : ℕ) (s : Section) (l : ℕ) → slice_get groups g ≡ Some s → Contains (shown_lines s) l → p.source_row g l ≡ q.source_row g l
   one_row_of_a_line = (one p q by_p by_q).lines
 
-  one_row_of_a_head : (g : ℕ) (s : Section) (i : ℕ) (a : LabelInfo) → slice_get groups g ≡ Some s → slice_get (gutter_labels s.sheet) i ≡ Some a
+  one_row_of_a_head : (g : ℕ) (s : Section) (i : ℕ) (a : LabelInfo) → slice_get groups g ≡ Some s → slice_get (gutter_labels s.sheet.labels) i ≡ Some a
       → p.head_row g i ≡ q.head_row g i
   one_row_of_a_head = (one p q by_p by_q).heads
 
@@ -137,7 +137,7 @@ module _ (rows : List (List Cell)) (groups : List Section) (message_of : ℕ →
 
 -- the message of a gutter label has one row in two placings that agree on ends
 one_row_of_an_end : (groups : List Section) (p q : Placing) → AgreeOnEnds groups p q
-    → (g : ℕ) (s : Section) (i : ℕ) (a : LabelInfo) → slice_get groups g ≡ Some s → slice_get (gutter_labels s.sheet) i ≡ Some a
+    → (g : ℕ) (s : Section) (i : ℕ) (a : LabelInfo) → slice_get groups g ≡ Some s → slice_get (gutter_labels s.sheet.labels) i ≡ Some a
     → p.message_row a.position ≡ q.message_row a.position
 one_row_of_an_end groups p q h = h
 

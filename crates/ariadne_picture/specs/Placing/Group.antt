@@ -43,7 +43,7 @@ module _ (s : Section) where
 
   -- the column of arrow heads: the last, behind those of the gutter labels
   abbrev pub arrow_column : ℕ
-  arrow_column = length (gutter_labels s.sheet)
+  arrow_column = length (gutter_labels s.sheet.labels)
 
   -- the first of the text
   unfoldable pub text_cell : ℕ

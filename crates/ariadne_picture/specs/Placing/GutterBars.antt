@@ -47,7 +47,7 @@ module _ (canvas : List (List Cell)) (sections : List Section) (p : Placing) whe
         then is_glyph set Vbar c || is_glyph set Lcross c
         else if is_gap_row set n then is_glyph set VbarGap c
         else is_glyph set Vbar c || (any_numbered (λ m b.
-        nat_lt m i && ((p.head_row g m == n) || (p.message_row b.position == n))) (gutter_labels s.sheet)
+        nat_lt m i && ((p.head_row g m == n) || (p.message_row b.position == n))) (gutter_labels s.sheet.labels)
         && is_level set c)
 
     -- its column has strokes in these rows, and elsewhere blanks, or horizontals of others
@@ -72,4 +72,4 @@ module _ (canvas : List (List Cell)) (sections : List Section) (p : Placing) whe
   unfoldable pub has_gutter_bars : Bool
   has_gutter_bars =
       all_numbered (λ g s.
-      all_numbered (is_column_traced g s) (gutter_labels s.sheet) && is_last_column_free g s) sections
+      all_numbered (is_column_traced g s) (gutter_labels s.sheet.labels) && is_last_column_free g s) sections

@@ -75,4 +75,4 @@ module _ (canvas : List (List Cell)) (sections : List Section) (p : Placing) whe
   unfoldable pub has_ends_of_gutter_traces : Bool
   has_ends_of_gutter_traces =
       all_numbered (λ g s. all_numbered (λ i a. is_end_traced g s i a && is_start_traced g s i a
-      && list_all (is_pointed g s i) (shown_lines s)) (gutter_labels s.sheet)) sections
+      && list_all (is_pointed g s i) (shown_lines s)) (gutter_labels s.sheet.labels)) sections

@@ -68,7 +68,7 @@ module _ (canvas : List (List Cell)) (sections : List Section) (p : Placing) whe
         nat_le (p.start g) (p.start (g + 1)) && all_pairs nat_lt (map (p.source_row g) (shown_lines s))
         && list_all is_line_placed (shown_lines s)
         && list_all (λ a. is_in_block g a.end_line (p.message_row a.position)) (messages_of s)
-        && all_numbered is_gutter_label_placed (gutter_labels s.sheet)
+        && all_numbered is_gutter_label_placed (gutter_labels s.sheet.labels)
 
   -- the groups follow one another and are all rows but the header, and two messages have two rows
   unfoldable pub is_placing : Bool

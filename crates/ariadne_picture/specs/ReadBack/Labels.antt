@@ -42,7 +42,7 @@ module _ (message_of : ℕ → List ℕ) (g : ℕ) (s : Section) where
   -- all labels of the group
   unfoldable pub group_told : List Told
   group_told =
-      map told_within (filter is_on_one_line (messages_of s)) ++ mapped_numbered told_over (gutter_labels s.sheet)
+      map told_within (filter is_on_one_line (messages_of s)) ++ mapped_numbered told_over (gutter_labels s.sheet.labels)
 
 -- what the headers are to say
 unfoldable pub headers_told : Texts → List Section → List (List ℕ)

@@ -35,7 +35,7 @@ returns c = λ t s l h.
     sym (lone-asked s.sheet l c.switches.result.now y (h.on_page.sheet ∙ sym asked) h.layout)
     ∙ sym c.is_lone.ensures ∙ c.if-not-is_lone.false in
     let same = layout-labels s.sheet l y h.layout in
-    let n : length (line_labels s.sheet l) ≡ length c.labels.result.now = ap length (sym same ∙ sym c.labels.ensures) in
+    let n : length (line_labels s.sheet.labels l) ≡ length c.labels.result.now = ap length (sym same ∙ sym c.labels.ensures) in
     let known = lone s.sheet l on in
     let rank = length c.labels.result.now in
     let asked_again : c.switches-2.result.now ≡ page.switches =

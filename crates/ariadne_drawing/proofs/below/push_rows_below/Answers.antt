@@ -33,11 +33,11 @@ pub returns-then-not-has_rows-clause-below : goal.returns-then-not-has_rows-clau
 returns-then-not-has_rows-clause-below g c = λ s l h.
     let labels = c.args.layout.now.labels in
     let t = texts_of c.args.report.now in
-    let same : labels ≡ line_labels s.sheet l = layout-labels s.sheet l c.args.layout.now h.layout in
+    let same : labels ≡ line_labels s.sheet.labels l = layout-labels s.sheet l c.args.layout.now h.layout in
     let quiet : list_any (λ (x : LineLabel). x.info.has_message) labels ≡ false = sym c.has_rows.ensures ∙ c.if-not-has_rows.true in
-    let there : list_any (λ (x : LineLabel). x.info.has_message) (line_labels s.sheet l) ≡ false =
+    let there : list_any (λ (x : LineLabel). x.info.has_message) (line_labels s.sheet.labels l) ≡ false =
     ap (list_any (λ (x : LineLabel). x.info.has_message)) (sym same) ∙ quiet in
-    let n : length labels ≡ length (line_labels s.sheet l) = ap length same in
+    let n : length labels ≡ length (line_labels s.sheet.labels l) = ap length same in
     on_ok_weaker c.push_lone_row.result (λ _. quiet-bars s.sheet l (length labels) c.args.gutter.now h.rise h.bars there (omega arith))
     (c.push_lone_row.ensures t s l h)
 
@@ -48,7 +48,7 @@ returns-clause-drawn g c = λ s l h.
     let page = c.args.pen.now.page in
     let y = c.args.layout.now in
     let loud : list_any (λ (x : LineLabel). x.info.has_message) y.labels ≡ true = sym c.has_rows.ensures ∙ c.if-not-has_rows.false in
-    let there : list_any (λ (x : LineLabel). x.info.has_message) (line_labels s.sheet l) ≡ true =
+    let there : list_any (λ (x : LineLabel). x.info.has_message) (line_labels s.sheet.labels l) ≡ true =
     ap (list_any (λ (x : LineLabel). x.info.has_message)) (sym (layout-labels s.sheet l y h.layout)) ∙ loud in
     let none = no-lone-row s.sheet l (messages-not-lone s.sheet l there) in
     let rows = joined (label_rows page.switches.compact l) (enumerate_from 0 y.labels) in

@@ -173,7 +173,7 @@ source-drawn g c s h layout =
     c.in_ok-push_source_row.ensures.drawn t s l (drawn-page t s page listing labels h) layout
     (ap (λ o. l + 1 + o) (c.display_line_offset-display_offset.ensures.offset ∙ sym h.display_offset))
     (beside-source s.sheet l c.args.lists.now.gutter rise (c.requires.beside s.sheet own same))
-    (λ on. subst (λ ps. ArePaints (multi_line_labels s.sheet) c.new-layout.result ps) (sym c.deref-3.ensures.value)
+    (λ on. subst (λ ps. ArePaints (multi_line_labels s.sheet.labels) c.new-layout.result ps) (sym c.deref-3.ensures.value)
     (c.in_ok-find_paints.ensures.paints s.sheet own on))
 
 -- the layout is that of a group that is drawn
@@ -286,7 +286,7 @@ returns-clause-beside g c = λ s own same.
     let layout = group-layout g (goal.at.returns-clause-beside g c).After-new-layout in
     let kept = source-page g (goal.at.returns-clause-beside g c).In_ok-push_source_row layout in
     let at = at-line g (goal.at.returns-clause-beside g c).In_ok-start_margin kept some.0 some.1 (layout some.0 some.1) in
-    let n : length c.new-layout.result.labels ≡ length (line_labels some.0.sheet l) = ap length
+    let n : length c.new-layout.result.labels ≡ length (line_labels some.0.sheet.labels l) = ap length
     (layout-labels some.0.sheet l c.new-layout.result at.layout) in
     on_ok_weaker c.push_rows_below.result
     (λ below. beside-same s some.0.sheet (l + 1) c.push_rows_below.new.gutter (own ∙ sym (drawn-labels t some.0 page listing labels some.1))
@@ -311,7 +311,7 @@ returns-clause-drawn g c = λ s h shown.
     let at = at-line g (goal.at.returns-clause-drawn g c).In_ok-start_margin kept s h (layout s h) in
     let same : s.sheet.switches ≡ page.switches = drawn-switches t s page listing labels h in
     let rows = λ (switches : Switches) (xs : List LineLabel). joined (label_rows switches.compact l) (enumerate_from 0 xs) ++ lone_rows s.sheet l in
-    let there : rows page.switches y.labels ≡ rows s.sheet.switches (line_labels s.sheet l) =
+    let there : rows page.switches y.labels ≡ rows s.sheet.switches (line_labels s.sheet.labels l) =
     λ i. rows (sym same i) (layout-labels s.sheet l y at.layout i) in
     on_ok_weaker c.push_rows_below.result
     (λ d.

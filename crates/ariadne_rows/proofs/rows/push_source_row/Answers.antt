@@ -15,10 +15,10 @@ push_source-requires c = record { page = c.requires.page ∙ sym c.in_ok-push_li
 pub returns-clause-drawn : goal.returns-clause-drawn
 returns-clause-drawn c = λ t g l on laid numbered bars paints.
     let kept = c.in_ok-push_source.ensures.page ∙ c.in_ok-push_line_margin.ensures.page in
-    let text = c.in_ok-push_shown.ensures.drawn (multi_line_labels g.sheet)
+    let text = c.in_ok-push_shown.ensures.drawn (multi_line_labels g.sheet.labels)
     (λ lit. paints (sym (ap (λ (p : PageFields). p.palette.is_on) kept) ∙ lit)) in
     let shown = subst (Draws c.push_source.new.pen c.push_shown.new.pen)
-    (λ i. shown_pieces ((kept i).switches) (multi_line_labels g.sheet) (laid i)) text in
+    (λ i. shown_pieces ((kept i).switches) (multi_line_labels g.sheet.labels) (laid i)) text in
     on_ok_weaker c.end_row.result
     (draws_source c.args.pen.now t g on c.push_line_margin.new.self c.push_source.new.pen c.push_shown.new.pen c.end_row.new.self l
     (c.in_ok-push_line_margin.ensures.drawn g.display_offset l numbered)

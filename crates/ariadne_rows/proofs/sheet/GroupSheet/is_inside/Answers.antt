@@ -15,4 +15,4 @@ returns c = λ s l e on at some touch.
     any_from_yields_List (holds_at labels o) _ _ c.any.result c.any.ensures.ran (YieldsList-from_slice c.touching.result.now cc)
     (λ x b q k. search rules)
     ∙ (λ i. list_any (holds_at (c.multi_line-labels.ensures s e i) o) (c.touching.ensures s e i))
-    ∙ ap (λ n. list_any (holds_at (multi_line_labels s) o) (touching s n)) on ∙ inside-found s l o at some touch
+    ∙ ap (λ n. list_any (holds_at (multi_line_labels s.labels) o) (touching s n)) on ∙ inside-found s l o at some touch

@@ -17,7 +17,7 @@ pub returns-clause-labels : goal.returns-clause-labels
 returns-clause-labels c = λ s l e h.
     let margin = c.nearest_margin-margin.result in
     let listed = c.in_ok-list_labels.ensures s e ∙ h in
-    let found : margin ≡ margin_label s l =
+    let found : margin ≡ margin_label s.labels l =
     c.nearest_margin-margin.ensures ∙ margin-found s l c.deref.result.now (c.deref.ensures.value ∙ listed) in
     let test : LineLabel → _ = λ x. not (is_start x.side && is_margin margin x) in
     let kept : c.retain.new.self.items ≡ filter test c.list_labels.new.list.items =
