@@ -1,4 +1,4 @@
-//! Which labels of a report are drawn, and why the others are left out.
+//! Which labels of a report are drawn, and why the other labels are skipped.
 
 ghost use Rattle.std.specs.Prelude.{◌≡◌, ◌≤◌, ◌<◌, ◌+◌, ◌++◌, ◌∷◌, [], ℕ, List, Option, Some, IfOk, OnOk};
 ghost use Rattle.std.specs.Prelude.{chars, length, take};
@@ -25,27 +25,27 @@ use ariadne_picture::label_info::LabelInfo;
 use ariadne_picture::verdict::Verdict;
 use std::alloc::AllocError;
 
-/// Why a label is left out of the picture.
+/// Why a label is skipped.
 #[derive(Debug, Drop)]
 pub enum Reason<E> {
-    /// Its source could not be had, for this reason of the cache.
+    /// The cache returned this error for the source.
     Unfetched(E),
-    /// It begins past its source, or ends more than one past it.
+    /// The label starts past the end of the source, or ends more than one past the end.
     PastSource,
-    /// One of its ends lies inside a character.
+    /// The start or the end is inside a character.
     CutsCharacter,
 }
 
-/// A label that is left out of the picture.
+/// A skipped label.
 #[derive(Debug, Drop)]
 pub struct LeftOut<E> {
-    /// Its position among the report's labels, from 0.
+    /// The position among the report's labels, from 0.
     pub label: usize,
-    /// Why it is left out.
+    /// Why the label is skipped.
     pub reason: Reason<E>,
 }
 
-/// The labels of a report: those that are drawn, and those that are left out.
+/// The labels of a report: accepted and skipped.
 #[derive(Drop)]
 pub struct Judged<E> {
     pub infos: Vec<LabelInfo>,
@@ -53,7 +53,7 @@ pub struct Judged<E> {
 }
 
 impl<E: Drop> Judged<E> {
-    /// Leaves the label at a position out. On `Err` there was no memory for it.
+    /// Skips the label at a position. On `Err` memory ran out.
     fn leave_out(&mut self, label: usize, reason: Reason<E>) -> Result<(), AllocError>
         ensures infos { OnOk result (self.new.infos ≡ self.old.infos) }
         ensures left_out { OnOk result (self.new.left_out.items
@@ -64,9 +64,9 @@ impl<E: Drop> Judged<E> {
     }
 }
 
-/// Fetches the source of each label of a report, in their order, and judges the label over it.
+/// Fetches the source of each label of a report, in order, and judges the label over the source.
 ///
-/// On `Err` there was no memory, of the cache or for the labels.
+/// On `Err` memory ran out, in the cache or for the labels.
 pub fn accept<S: Span, C: Cache<S::SourceId>>(
     report: &Content<'_, S>,
     cache: &mut C,
@@ -99,10 +99,11 @@ pub fn accept<S: Span, C: Cache<S::SourceId>>(
     Ok(judged)
 }
 
-/// Fetches the source of the label at `first`, judges it and those behind it of equal ids, and gives
-/// where the next ones begin. Where the source can't be had, that label alone is left out.
+/// Fetches the source of the label at `first`, and judges the label and the next labels with an
+/// equal id. Returns the position after the last judged label. If the cache returns an error, only
+/// the label at `first` is skipped.
 ///
-/// On `Err` there was no memory, of the cache or for the labels.
+/// On `Err` memory ran out, in the cache or for the labels.
 fn judge_fetched<S: Span, C: Cache<S::SourceId>>(
     report: &Content<'_, S>,
     cache: &mut C,
@@ -146,10 +147,10 @@ fn judge_fetched<S: Span, C: Cache<S::SourceId>>(
     judge_alike::<S, C>(report, source, judged, first)
 }
 
-/// Judges the label at `first` and those behind it of equal ids over their source, which is held,
-/// and gives where the next ones begin. Characters are counted on from label to label.
+/// Judges the label at `first` and the next labels with an equal id over their held source. Returns
+/// the position after the last judged label. Characters are counted on from label to label.
 ///
-/// On `Err` there was no memory for the labels.
+/// On `Err` memory for the labels ran out.
 fn judge_alike<S: Span, C: Cache<S::SourceId>>(
     report: &Content<'_, S>,
     source: &Source<C::Storage>,
@@ -185,10 +186,10 @@ fn judge_alike<S: Span, C: Cache<S::SourceId>>(
     }
 }
 
-/// Judges the label at `position` of a report over its source, which is held.
+/// Judges the label at `position` of a report over its held source.
 ///
-/// `size` is the length of that source in what offsets count. `known` is a place of it, and is one
-/// afterwards. On `Err` there was no memory for the label.
+/// `size` is the length of the source in the unit of offsets. `known` is a place of the source,
+/// before and after. On `Err` memory for the label ran out.
 fn judge_held<S: Span, C: Cache<S::SourceId>>(
     report: &Content<'_, S>,
     source: &Source<C::Storage>,
@@ -229,10 +230,10 @@ fn judge_held<S: Span, C: Cache<S::SourceId>>(
     Ok(())
 }
 
-/// Judges the label at `position` of a report, whose source is held and has this size.
+/// Judges the label at `position` of a report over its held source of this size.
 ///
-/// The offset one past the end of the source is taken as its end, since a parser that runs out of
-/// input points there. Characters are counted on from `known`, which is then where the label ends.
+/// An offset one past the end of the source counts as the end, since a parser at the end of its
+/// input points there. Characters are counted on from `known`, afterwards the end of the label.
 fn judge<S: Span, I: SourceText>(
     config: Config,
     source: &Source<I>,
@@ -264,7 +265,7 @@ fn judge<S: Span, I: SourceText>(
     Verdict::Accepted(label_info(attach, source, position, label, start, end))
 }
 
-/// The length of a source in what offsets count.
+/// The length of a source in the unit of offsets.
 fn text_len<I: SourceText>(index_type: IndexType, source: &Source<I>) -> usize
     ensures { result ≡ counted_len index_type (chars source.now.text) }
 {
@@ -274,7 +275,7 @@ fn text_len<I: SourceText>(index_type: IndexType, source: &Source<I>) -> usize
     }
 }
 
-/// An offset in characters, or `None` where it lies inside a character or past the source.
+/// An offset in characters, or `None` inside a character or past the source.
 pub fn offset_in_chars<I: SourceText>(
     index_type: IndexType,
     source: &Source<I>,
@@ -286,8 +287,8 @@ pub fn offset_in_chars<I: SourceText>(
     counted_in_chars(index_type, source, &mut known, offset)
 }
 
-/// An offset in characters, as `offset_in_chars` has it, counted on from a place of the source that
-/// is known.
+/// An offset in characters, equal to `offset_in_chars`, counted on from a known place of the
+/// source.
 fn counted_in_chars<I: SourceText>(
     index_type: IndexType,
     source: &Source<I>,
@@ -304,7 +305,7 @@ fn counted_in_chars<I: SourceText>(
     }
 }
 
-/// A label over characters that the source has.
+/// A label within the characters of its source.
 fn label_info<S: Span, I: SourceText>(
     attach: LabelAttach,
     source: &Source<I>,
@@ -336,8 +337,8 @@ fn label_info<S: Span, I: SourceText>(
     }
 }
 
-/// The number of the line of an offset that is not before `line`, and the offset's place in it.
-/// Where that is `line` itself, whose number is `number`, nothing is searched.
+/// The number of the line of an offset, and the offset's place in the line. The offset is in `line`
+/// or later. In `line`, with the number `number`, nothing is searched.
 fn later_location<I: SourceText>(
     source: &Source<I>,
     line: Line,
@@ -359,7 +360,7 @@ fn later_location<I: SourceText>(
     (number, place)
 }
 
-/// The offset that an arrow is attached to.
+/// The offset of the arrow.
 #[tactic(auto, using(crate::proofs::Accepting::halfway), unfolding(ariadne_picture::specs::Accept::attach_offset))]
 fn attach_offset(attach: LabelAttach, start: usize, end: usize) -> usize
     requires forward { start ≤ end }

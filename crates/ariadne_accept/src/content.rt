@@ -1,4 +1,4 @@
-//! The content of a report, as its builder makes it and as it is judged and drawn.
+//! The content of a report, from the builder to the picture.
 
 ghost use Rattle.std.specs.Prelude.{◌≡◌, map, string_bytes};
 ghost use Rattle.std.specs.Option.{option_copied};
@@ -11,8 +11,8 @@ use std::alloc::Global;
 use std::marker::Model;
 use std::ops::Range;
 
-/// What a report says of which pieces of sources, and the allocator that it is drawn with. The
-/// builder of reports sets its fields; what draws it reads it by its calls.
+/// The content of a report, with the allocator for its picture. The builder of reports sets the
+/// fields. The renderer reads them by calls.
 #[derive(Debug, Drop)]
 pub struct Content<'a, S: Span = Range<usize>> {
     pub kind: ReportKind<'a>,
@@ -48,21 +48,21 @@ impl<'a, S: Span> Model for Content<'a, S> {
 impl<'a, S: Span> Content<'a, S> {
     ghost use Rattle.ariadne_picture.specs.Canvas.{texts_of};
 
-    /// What stands in brackets in front of its kind.
+    /// The code, shown in brackets before the kind.
     pub fn code(&self) -> Option<&str>
         ensures { option_copied result ≡ self.now.code }
     {
         self.code.as_deref()
     }
 
-    /// What its header says.
+    /// The message of the header.
     pub fn message(&self) -> Option<&str>
         ensures { option_copied result ≡ self.now.message }
     {
         self.message.as_deref()
     }
 
-    /// What the label at `position` says, or nothing.
+    /// The message of the label at `position`, or an empty text.
     pub fn message_of(&self, position: usize) -> &str
         ensures { result.now ≡ (texts_of self.now).message_of position }
     {
@@ -75,35 +75,35 @@ impl<'a, S: Span> Content<'a, S> {
         }
     }
 
-    /// Its labels.
+    /// The labels.
     pub fn labels(&self) -> &[Label<S>]
         ensures { result.now ≡ self.now.labels }
     {
         &self.labels
     }
 
-    /// The texts of its helps.
+    /// The texts of the helps.
     pub fn helps(&self) -> &[String]
         ensures { map string_bytes result.now ≡ self.now.helps }
     {
         &self.helps
     }
 
-    /// The texts of its notes.
+    /// The texts of the notes.
     pub fn notes(&self) -> &[String]
         ensures { map string_bytes result.now ≡ self.now.notes }
     {
         &self.notes
     }
 
-    /// The place that its header names.
+    /// The location in the header.
     pub fn span(&self) -> &S
         ensures { result.now ≡ self.now.span }
     {
         &self.span
     }
 
-    /// How it is drawn.
+    /// The settings of the picture.
     pub fn config(&self) -> Config
         ensures { result ≡ self.now.config }
     {

@@ -1,5 +1,4 @@
-//! How many characters of a source are before an offset in bytes, counted on from where that is
-//! known.
+//! The number of characters before an offset in bytes, counted on from a known place.
 
 ghost use Rattle.std.specs.Prelude.{◌≡◌, ℕ, List, chars, length, take};
 ghost use Rattle.std.specs.Str.{IsCharBoundary};
@@ -9,11 +8,10 @@ ghost use Rattle.ariadne_accept.specs.Counting.{IsKnown};
 use ariadne_base::blocks::count::count_chars;
 use ariadne_base::{Source, SourceText};
 
-/// How many bytes are counted before the line of an offset is searched.
+/// The most bytes to count through before a search for the line of an offset.
 const NEAR: usize = 64;
 
-/// A place of a source between two characters: how many bytes and how many characters are before
-/// it.
+/// A place of a source between two characters: the numbers of bytes and of characters before.
 #[derive(Clone, Copy, Debug)]
 pub(crate) struct Known {
     pub(crate) bytes: usize,
@@ -21,10 +19,10 @@ pub(crate) struct Known {
 }
 
 impl Known {
-    /// The start, which is known of each source.
+    /// The start of a source.
     pub(crate) const START: Known = Known { bytes: 0, chars: 0 };
 
-    /// The nearer one of two places to an offset in bytes.
+    /// The place nearer to an offset in bytes.
     fn nearer(self, other: Known, byte_offset: usize) -> Known
         ensures { (text : List ℕ) → IsKnown text self → IsKnown text other → IsKnown text result }
     {
@@ -35,7 +33,7 @@ impl Known {
         }
     }
 
-    /// Moves to an offset in bytes, and tells how many characters of the text are before it.
+    /// Moves to an offset in bytes, and returns the number of characters before.
     fn count_to(&mut self, text: &str, byte_offset: usize) -> usize
         requires known { IsKnown text.now self.old }
         requires whole { IsCharBoundary text.now byte_offset }
@@ -51,12 +49,13 @@ impl Known {
     }
 }
 
-/// How many characters the bytes of a source before `byte_offset` are, or `None` where that offset
-/// lies inside a character or past the source.
+/// The number of characters of a source before `byte_offset`, or `None` inside a character or past
+/// the source.
 ///
-/// Of an offset near `known` this looks at the characters between the two. Of any other it looks at
-/// none on a line with as many bytes as characters, and else at those between the offset and the
-/// start of its line or `known`, whichever is nearer. Where it counts, `known` is then the offset.
+/// For an offset near `known`, the characters between the two are read. For any other, no character
+/// is read on a line with as many bytes as characters. Otherwise the characters up to the start of
+/// the line, or up to `known` if nearer, are read. If characters were counted, `known` is then the
+/// offset.
 pub(crate) fn char_offset<I: SourceText>(
     source: &Source<I>,
     known: &mut Known,
@@ -88,7 +87,7 @@ pub(crate) fn char_offset<I: SourceText>(
     Some(chars)
 }
 
-/// How many characters of a text are before an offset in bytes, counted from a place of it.
+/// The number of characters of a text before an offset in bytes, counted from a place of the text.
 fn count_from(text: &str, known: Known, byte_offset: usize) -> usize
     requires known { IsKnown text.now known }
     requires whole { IsCharBoundary text.now byte_offset }

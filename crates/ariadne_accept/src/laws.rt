@@ -1,5 +1,5 @@
-//! A law of what becomes of the labels of a report. It is the contract of a function that does
-//! nothing: calling it tells the law.
+//! A law of the outcomes of labels. A law is the contract of an empty function: a call of the
+//! function states the law.
 
 ghost use Rattle.std.specs.Prelude.{◌≡◌, ◌≢◌, ⊤, ℕ, Contains, List, Option, Some, map, slice_get};
 ghost use Rattle.ariadne_base.specs.Listing.{Listing};
@@ -11,9 +11,8 @@ ghost use Rattle.ariadne_accept.specs.declared.accept.Reason.{Reason};
 ghost use Rattle.ariadne_accept.specs.Judging.{AreOutcomes, Outcome, drawn_as, drawn_labels};
 ghost use Rattle.ariadne_accept.specs.Judging.{is_drawn, left_out_for};
 
-/// A label that is left out is not drawn, and one that isn't is drawn as what its source accepts.
-/// Which labels are drawn hangs on the positions alone that are left out. So it is whatever errors a
-/// cache returns.
+/// A skipped label is not drawn, and any other label is drawn as accepted by its source. The drawn
+/// labels depend only on the positions of the skipped labels, whatever errors a cache returns.
 pub fn labels_are_drawn_or_listed<S, Id, E>()
     ensures accepted { (before w : World S Id) (r : ReportFields S) (outcomes : List (Outcome E))
         → AreOutcomes (λ (id : Id) (e : E). ⊤) before w r.config r.labels outcomes

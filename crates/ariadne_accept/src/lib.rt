@@ -1,6 +1,5 @@
-//! The content of a report, and which of its labels are drawn. `ariadne` gives out the reasons why a
-//! label is left out, and the law in [`laws`]; what else is public here serves the crates above, and is
-//! no part of its surface.
+//! The content of a report, and which of its labels are drawn. `ariadne` re-exports the reasons to
+//! skip a label, and the law in [`laws`]. Everything else here is public only for the crates above.
 #![tactic(auto)]
 
 pub mod accept;
