@@ -1,28 +1,26 @@
 -- The message of a label by its number.
-use Rattle.std.proofs.Common.{◌≡◌, ℕ, zero, suc, ◌<◌, ◌≤◌, List, [], ◌∷◌, Option, Some, None, length, get_or, refl, sym, ap, ◌∙◌, arith}
-use Rattle.std.specs.Prelude.{slice_get, unwrap_or, option_and_then}
-use Rattle.std.proofs.lemmas.Option.{slice_get-get_or}
+use Rattle.std.proofs.Common.{◌≡◌, ℕ, ◌<◌, ◌≤◌, List, [], Option, length, map, get_or, sym, ap, ◌∙◌, arith}
+use Rattle.std.specs.Prelude.{unwrap_or}
+use Rattle.std.proofs.lemmas.List.{get_or-map, get_or_past, length-map}
 use Rattle.ariadne_picture.specs.Report.{LabelFields, ReportFields}
+use Rattle.ariadne_picture.specs.Pieces.{message_at}
 use Rattle.ariadne_picture.specs.Canvas.{texts_of}
 
--- no element stands past the end
-slice_get-past : {X : Type 0} (xs : List X) (k : ℕ) → length xs ≤ k → slice_get xs k ≡ None
-slice_get-past [] k h = refl
-slice_get-past (x ∷ xs) zero h = absurd (omega arith)
-slice_get-past (x ∷ xs) (suc k) h = slice_get-past xs k (omega arith)
-
 module _ {S : Type 0} (r : ReportFields S) where
+  -- what a label says
+  abbrev message : LabelFields S → List ℕ
+  message label = unwrap_or label.message []
+
   -- a label that is there says what its field says
   pub message_there : (labels : List (LabelFields S)) (k : ℕ) (label : LabelFields S) (m : Option (List ℕ)) → labels ≡ r.labels → k < length labels
-      → label ≡ get_or labels k label → label.message ≡ m → unwrap_or m [] ≡ (texts_of r).message_of k
-  unfolding texts_of
+      → label ≡ get_or labels k label → label.message ≡ m → unwrap_or m [] ≡ message_at (texts_of r) k
+  unfolding texts_of message_at
   message_there labels k label m same here is says =
-      let at : slice_get r.labels k ≡ Some label = ap (λ ls. slice_get ls k) (sym same) ∙ slice_get-get_or labels k label here ∙ ap Some (sym is) in
-      ap (λ o. unwrap_or o []) (sym says) ∙ ap (λ o. unwrap_or (option_and_then (λ (l : LabelFields S). l.message) o) []) (sym at)
+      ap (λ o. unwrap_or o []) (sym says) ∙ ap message is ∙ sym (get_or-map message labels k label [] here) ∙ ap (λ ls. get_or (map message ls) k []) same
 
   -- one that is not says nothing
-  pub message_past : (labels : List (LabelFields S)) (k : ℕ) → labels ≡ r.labels → length labels ≤ k → [] ≡ (texts_of r).message_of k
-  unfolding texts_of
+  pub message_past : (labels : List (LabelFields S)) (k : ℕ) → labels ≡ r.labels → length labels ≤ k → [] ≡ message_at (texts_of r) k
+  unfolding texts_of message_at
   message_past labels k same past =
-      let at : slice_get r.labels k ≡ None = ap (λ ls. slice_get ls k) (sym same) ∙ slice_get-past labels k past in
-      ap (λ o. unwrap_or (option_and_then (λ (l : LabelFields S). l.message) o) []) (sym at)
+      let len = length-map labels message in
+      sym (get_or_past (map message labels) k [] (omega (arith, len, past))) ∙ ap (λ ls. get_or (map message ls) k []) same

@@ -47,6 +47,7 @@ impl<'a, S: Span> Model for Content<'a, S> {
 
 impl<'a, S: Span> Content<'a, S> {
     ghost use Rattle.ariadne_picture.specs.Canvas.{texts_of};
+    ghost use Rattle.ariadne_picture.specs.Pieces.{message_at};
 
     /// The code, shown in brackets before the kind.
     pub fn code(&self) -> Option<&str>
@@ -64,7 +65,7 @@ impl<'a, S: Span> Content<'a, S> {
 
     /// The message of the label at `position`, or an empty text.
     pub fn message_of(&self, position: usize) -> &str
-        ensures { result.now ≡ (texts_of self.now).message_of position }
+        ensures { result.now ≡ message_at (texts_of self.now) position }
     {
         if position >= self.labels.len() {
             return "";

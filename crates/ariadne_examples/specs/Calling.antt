@@ -9,6 +9,7 @@ use Rattle.ariadne.specs.Drawn.{world}
 use Rattle.ariadne.specs.Headline.{CanBeRead}
 use Rattle.ariadne.specs.LabelInfo.{LabelInfo}
 use Rattle.ariadne.specs.Lines.{lines_of}
+use Rattle.ariadne.specs.Pieces.{message_at}
 use Rattle.ariadne.specs.Placing.{has_message_rows}
 use Rattle.ariadne.specs.Print.{printed}
 use Rattle.ariadne.specs.Report.{LabelFields, ReportFields, World, default_config, error, new_label}
@@ -50,4 +51,4 @@ abbrev pub MessagesHaveRows : List ℕ → ReportFields (Range ℕ) → Type 0
 MessagesHaveRows text r =
     CanBeRead (rows text r) (sections (over text) r (all_drawn text r))
     (λ placing. has_message_rows (rows text r) (sections (over text) r (all_drawn text r)) placing
-    (texts_of r).message_of)
+    (message_at (texts_of r)))

@@ -94,7 +94,7 @@ texts_of r = record {
   message = r.message;
   helps = r.helps;
   notes = r.notes;
-  message_of = λ k. unwrap_or (option_and_then (λ label. label.message) (slice_get r.labels k)) [];
+  messages = map (λ label. unwrap_or label.message []) r.labels;
 }
 
 module _ {S Id : Type 0} (w : World S Id) (r : ReportFields S) where

@@ -14,7 +14,7 @@ use Rattle.ariadne_picture.specs.declared.cell.Paint.{Paint}
 use Rattle.ariadne_picture.specs.declared.cell.Paint.TheVariants.{Label}
 use Rattle.ariadne_picture.specs.declared.label_info.LabelInfo.{LabelInfo}
 use Rattle.ariadne_picture.specs.Report.{ReportFields, World}
-use Rattle.ariadne_picture.specs.Pieces.{Section, Texts}
+use Rattle.ariadne_picture.specs.Pieces.{Section, Texts, message_at}
 use Rattle.ariadne_picture.specs.Canvas.{Cell, canvas, color_of, palette_of, sections, texts_of}
 use Rattle.ariadne_picture.specs.Print.{printed}
 use Rattle.ariadne_picture.specs.Sent.{HaveColumnsOfTexts, HaveNoLineFeeds, RowsAreLines}
@@ -57,7 +57,7 @@ pub record IsReadBy (rows : List (List Cell)) (groups : List Section) (message_o
 pub record IsTraced (rows : List (List Cell)) (groups : List Section) (t : Texts)
     (color_of_paint : Paint → Option Color) : Type 0 where
   pub placing : Placing
-  pub reads : IsReadBy rows groups t.message_of placing
+  pub reads : IsReadBy rows groups (message_at t) placing
   pub strokes_have_the_colors_of_their_labels :
       has_label_colors rows groups placing (λ k. color_of_paint (Label k)) ≡ true
   pub lines_without_messages_are_underlined :
@@ -78,7 +78,7 @@ pub record Headline {S Id : Type 0} (w : World S Id) (r : ReportFields S) (infos
   pub they_are_exactly_the_printed_canvas : bytes ≡ printed (canvas w r infos)
   pub each_message_is_traced : IsTraced (canvas w r infos) (sections w r infos)
       (texts_of r) (color_of (palette_of r))
-  pub in_one_way : AreReadInOneWay (canvas w r infos) (sections w r infos) (texts_of r).message_of
+  pub in_one_way : AreReadInOneWay (canvas w r infos) (sections w r infos) (message_at (texts_of r))
   pub and_can_be_read_back : HaveShortNumbers w → HaveWholeLines w r infos → IsReadBack w r infos
   pub by_their_gutters_also_where_lines_are_cut : HaveShortNumbers w → IsReadBackByGutters w r infos
   pub each_cell_takes_the_columns_of_its_text : HaveColumnsOfTexts (canvas w r infos)

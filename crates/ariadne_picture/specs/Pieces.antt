@@ -171,7 +171,7 @@ pub record Texts : Type 0 where
   pub message : Option (List ℕ)
   pub helps : List (List ℕ)
   pub notes : List (List ℕ)
-  pub message_of : ℕ → List ℕ
+  pub messages : List (List ℕ)
 
 -- a group within the picture: its labels and lines, what its source is called, what is added to the
 -- numbers of the lines, the offset that its header names, and where it stands
@@ -217,11 +217,15 @@ tail_pieces set digits false = spacer_pieces set digits
 tail_pieces set digits true =
     painted_text Margin (repeated (digits + 2) (glyph_text set Hbar) ++ glyph_text set Rbot) ∷ []
 
+-- what the label at a position says
+unfoldable pub message_at : Texts → ℕ → List ℕ
+message_at t k = slice_index_or t.messages k []
+
 -- the message that a label shows in its arrow row
 unfoldable pub message_pieces : Texts → Option LineLabel → List Piece
 message_pieces t None = []
 message_pieces t (Some x) =
-    if is_start x.side then [] else blank_piece ∷ plain_text (t.message_of x.info.position) ∷ []
+    if is_start x.side then [] else blank_piece ∷ plain_text (message_at t x.info.position) ∷ []
 
 -- the texts of the helps or of the notes
 unfoldable pub aside_texts : Texts → Aside → List (List ℕ)

@@ -35,7 +35,7 @@ ghost use Rattle.ariadne_picture.specs.LabelColors.{has_label_colors, label_colo
 ghost use Rattle.ariadne_picture.specs.Lists.{best, in_order, total};
 ghost use Rattle.ariadne_picture.specs.LoneLines.{has_lone_underlines};
 ghost use Rattle.ariadne_picture.specs.Margins.{columns_before_text, margin_columns};
-ghost use Rattle.ariadne_picture.specs.Pieces.{Section, Texts, row_pieces};
+ghost use Rattle.ariadne_picture.specs.Pieces.{Section, Texts, row_pieces, message_at};
 ghost use Rattle.ariadne_picture.specs.Placing.{has_ends_of_gutter_traces, has_gutter_bars};
 ghost use Rattle.ariadne_picture.specs.Placing.{has_inline_traces, has_message_rows, is_aligned};
 ghost use Rattle.ariadne_picture.specs.Placing.{Placing, is_placing};
@@ -224,7 +224,7 @@ pub fn messages_have_rows_of_their_own<S, Id>()
         → AreAccepted w r infos → HaveOneSource w → AreForward w r
         → let rows = canvas w r infos in let groups = sections w r infos in
         CanBeRead rows groups (λ placing. has_message_rows rows groups placing
-        (texts_of r).message_of) }
+        (message_at (texts_of r))) }
 {}
 
 /// From the message of a label within one line strokes lead to its attach character.
@@ -338,13 +338,13 @@ pub fn gutter_labels_are_read_in_one_way<S, Id>()
     ensures heads { (w : World S Id) (r : ReportFields S) (infos : List LabelInfo)
         → AreAccepted w r infos → AreForward w r
         → let rows = canvas w r infos in let groups = sections w r infos in
-        let message_of = (texts_of r).message_of in
+        let message_of = message_at (texts_of r) in
         (p q : Placing) → IsReadBy rows groups message_of p → IsReadBy rows groups message_of q
         → AgreeOnHeads groups p q }
     ensures ends { (w : World S Id) (r : ReportFields S) (infos : List LabelInfo)
         → AreAccepted w r infos → AreForward w r
         → let rows = canvas w r infos in let groups = sections w r infos in
-        let message_of = (texts_of r).message_of in
+        let message_of = message_at (texts_of r) in
         (p q : Placing) → IsReadBy rows groups message_of p → IsReadBy rows groups message_of q
         → AgreeOnEnds groups p q }
 {}
@@ -355,7 +355,7 @@ pub fn gutter_labels_are_read_in_one_way<S, Id>()
 pub fn pictures_are_read_in_one_way<S, Id>()
     ensures { (w : World S Id) (r : ReportFields S) (infos : List LabelInfo)
         → AreAccepted w r infos → HaveOneSource w → AreForward w r
-        → AreReadInOneWay (canvas w r infos) (sections w r infos) (texts_of r).message_of }
+        → AreReadInOneWay (canvas w r infos) (sections w r infos) (message_at (texts_of r)) }
 {}
 
 /// Where a line is cut, what strokes lead to is seen: the place of each of its labels that has a

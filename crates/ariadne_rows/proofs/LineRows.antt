@@ -8,7 +8,7 @@ use Rattle.ariadne_picture.specs.declared.switches.Switches.{Switches}
 use Rattle.ariadne_picture.specs.Cells.{alternate_place, arrow_place}
 use Rattle.ariadne_picture.specs.Columns.{Layout, layout_of}
 use Rattle.ariadne_picture.specs.Pieces.{Piece, Section, Texts, area_pieces, blank_piece, gutter_pieces, margin_paint, margin_pieces, margin_text}
-use Rattle.ariadne_picture.specs.Pieces.{message_pieces, plain_text, rest_pieces, row_pieces, shown_pieces, text_pieces}
+use Rattle.ariadne_picture.specs.Pieces.{message_at, message_pieces, plain_text, rest_pieces, row_pieces, shown_pieces, text_pieces}
 use Rattle.ariadne_picture.specs.Ranks.{Sheet, is_margin, is_start, line_labels, margin_label, multi_line_labels}
 use Rattle.ariadne_picture.specs.Rows.{alternate, arrow, bare, gap, source}
 use Rattle.ariadne_cells.specs.Pages.{Adds, Draws, DrawsRow, PenFields}
@@ -20,7 +20,7 @@ use Rattle.ariadne_rows.specs.Headers.{IsOnPage}
 -- where a label starts it shows none
 pub message_none : (t : Texts) (x : LineLabel) → x.side ≡ Starts → message_pieces t (Some x) ≡ []
 unfolding message_pieces is_start
-message_none t x e = ap (λ side. if is_start side then [] else blank_piece ∷ plain_text (t.message_of x.info.position) ∷ []) e
+message_none t x e = ap (λ side. if is_start side then [] else blank_piece ∷ plain_text (message_at t x.info.position) ∷ []) e
 
 -- any other side is no start
 no_start : (side : Side) → (side ≡ Inline) ⊎ (side ≡ Ends) → is_start side ≡ false
@@ -31,15 +31,15 @@ no_start side e = elim e [
 ]
 
 -- elsewhere it stands behind a blank
-message_some : (t : Texts) (x : LineLabel) (text : List ℕ) → (x.side ≡ Inline) ⊎ (x.side ≡ Ends) → t.message_of x.info.position ≡ text
+message_some : (t : Texts) (x : LineLabel) (text : List ℕ) → (x.side ≡ Inline) ⊎ (x.side ≡ Ends) → message_at t x.info.position ≡ text
     → message_pieces t (Some x) ≡ (blank_piece ∷ []) ++ plain_text text ∷ []
 unfolding message_pieces
 message_some t x text n e =
-    ap (λ b. if b then [] else blank_piece ∷ plain_text (t.message_of x.info.position) ∷ []) (no_start x.side n)
+    ap (λ b. if b then [] else blank_piece ∷ plain_text (message_at t x.info.position) ∷ []) (no_start x.side n)
     ∙ ap (λ m. blank_piece ∷ plain_text m ∷ []) e
 
 -- it is drawn so
-pub draws_message : (a b c : PenFields) (t : Texts) (x : LineLabel) (text : List ℕ) → (x.side ≡ Inline) ⊎ (x.side ≡ Ends) → t.message_of x.info.position ≡ text
+pub draws_message : (a b c : PenFields) (t : Texts) (x : LineLabel) (text : List ℕ) → (x.side ≡ Inline) ⊎ (x.side ≡ Ends) → message_at t x.info.position ≡ text
     → Adds a b (32 ∷ []) → Adds b c text → Draws a c (message_pieces t (Some x))
 draws_message a b c t x text n e blank told =
     subst (Draws a c) (sym (message_some t x text n e))

@@ -19,7 +19,7 @@ ghost use Rattle.ariadne_cells.specs.Pages.{Draws, DrawsRow};
 ghost use Rattle.ariadne_cells.specs.Tables.{ArePaints, IsTable, tab_columns};
 ghost use Rattle.ariadne_picture.specs.Columns.{layout_of};
 ghost use Rattle.ariadne_picture.specs.Groups.{printed_number};
-ghost use Rattle.ariadne_picture.specs.Pieces.{Section, Texts, message_pieces, row_pieces};
+ghost use Rattle.ariadne_picture.specs.Pieces.{Section, Texts, message_at, message_pieces, row_pieces};
 ghost use Rattle.ariadne_picture.specs.Ranks.{is_margin, line_labels, margin_label};
 ghost use Rattle.ariadne_picture.specs.Ranks.{multi_line_labels};
 ghost use Rattle.ariadne_picture.specs.Rows.{alternate, arrow, bare, gap, source};
@@ -110,7 +110,7 @@ pub fn push_arrow_row(
         HasBarsOf g.sheet (arrow l rank) gutter.now →
         slice_get (line_labels g.sheet.labels l) rank ≡ Some own.now →
         is_margin (margin_label g.sheet.labels l) own.now ≡ at_margin →
-        t.message_of own.now.info.position ≡ message.now →
+        message_at t own.now.info.position ≡ message.now →
         OnOk result (DrawsRow pen.old pen.new (row_pieces t page.number_width g (arrow l rank))) }
 {
     pen.push_margin()?;
@@ -122,7 +122,7 @@ pub fn push_arrow_row(
 
 /// Writes the message of a label behind its arrow. Where the label starts it shows none.
 fn push_message(pen: &mut Pen<'_>, own: &LineLabel, message: &str) -> Result<(), AllocError>
-    ensures { (t : Texts) → t.message_of own.now.info.position ≡ message.now →
+    ensures { (t : Texts) → message_at t own.now.info.position ≡ message.now →
         OnOk result (Draws pen.old pen.new (message_pieces t (Some own.now))) }
 {
     match own.side {

@@ -15,7 +15,7 @@ use Rattle.ariadne_picture.specs.Lists.{all_numbered}
 use Rattle.ariadne_picture.specs.Ranks.{is_hidden, is_start}
 use Rattle.ariadne_picture.specs.Rows.{Row, source, arrow}
 use Rattle.ariadne_picture.specs.Columns.{layout_of}
-use Rattle.ariadne_picture.specs.Pieces.{Section, blank_piece, plain_text}
+use Rattle.ariadne_picture.specs.Pieces.{Section, blank_piece, plain_text, message_at}
 use Rattle.ariadne_picture.specs.Canvas.{Cell, cell_of}
 use Rattle.ariadne_picture.specs.Placing.Cells.{no_cell}
 use Rattle.ariadne_picture.specs.Placing.Group.{text_cell, shown_lines, messages_of}
@@ -135,7 +135,7 @@ module _ (v : Picture) {g : ℕ} {s : Section} {l : ℕ} (h : IsShownLine v g s 
     bare_end : (n : ℕ) → length (row_at (rows_of v) n) ≡ text_cell s + count → RowEnd n
     message_end : (n r : ℕ) (x : LineLabel) → IsArrowRow v g s l r x → is_start x.side ≡ false → number v g s (arrow l r) ≡ n
         → length (row_at (rows_of v) n) ≡ text_cell s + count + 2
-        → (slice_index_or (row_at (rows_of v) n) (text_cell s + count + 1) no_cell).text ≡ v.texts.message_of x.info.position → RowEnd n
+        → (slice_index_or (row_at (rows_of v) n) (text_cell s + count + 1) no_cell).text ≡ message_at v.texts x.info.position → RowEnd n
 
 module _ (v : Picture) {g : ℕ} {s : Section} {l : ℕ} (h : IsShownLine v g s l) where
   places-end : {x : Row} (ink : ℕ → Ink) → IsTextRow v g s x (area s l ink ++ []) → length (row_at (rows_of v) (number v g s x)) ≡ text_cell s + count v h
@@ -149,7 +149,7 @@ module _ (v : Picture) {g : ℕ} {s : Section} {l : ℕ} (h : IsShownLine v g s 
   unfolding layout_of
   message-size r x q off =
       let places = area s l (arrow_inks s l r) in
-      let message = plain_text (v.texts.message_of x.info.position) in
+      let message = plain_text (message_at v.texts x.info.position) in
       let text : IsTextRow v g s (arrow l r) (places ++ blank_piece ∷ message ∷ []) =
       rw (message-shown v.texts _ x q.there off) at (arrow-text v (arrow-at v q)) in
       let long = area-length v h (arrow_inks s l r) in
@@ -161,7 +161,7 @@ module _ (v : Picture) {g : ℕ} {s : Section} {l : ℕ} (h : IsShownLine v g s 
   unfolding cell_at layout_of
   message-ends r x q off =
       let places = area s l (arrow_inks s l r) in
-      let message = plain_text (v.texts.message_of x.info.position) in
+      let message = plain_text (message_at v.texts x.info.position) in
       let row : List Cell = row_at (rows_of v) (number v g s (arrow l r)) in
       let text : IsTextRow v g s (arrow l r) (places ++ blank_piece ∷ message ∷ []) =
       rw (message-shown v.texts _ x q.there off) at (arrow-text v (arrow-at v q)) in
@@ -199,7 +199,7 @@ module _ (v : Picture) {g : ℕ} {s : Section} {l : ℕ} (h : IsShownLine v g s 
 
 -- ---- row numbers that read a picture
 
-module _ (v : Picture) (p : Placing) (h : IsReadBy (rows_of v) v.sections v.texts.message_of p) where
+module _ (v : Picture) (p : Placing) (h : IsReadBy (rows_of v) v.sections (message_at v.texts) p) where
   -- they find each line where its source row is
   pub line-row : {g : ℕ} {s : Section} (l : ℕ) → IsShownLine v g s l → p.source_row g l ≡ source_row v g l
   line-row {g} {s} l k =
@@ -243,7 +243,7 @@ module _ (v : Picture) (p : Placing) (h : IsReadBy (rows_of v) v.sections v.text
   -- the rows of a block end as they should
   pub record Ends (g : ℕ) (s : Section) (l : ℕ) : Type 0 where
     pub messages : (a : LabelInfo) → Has (messages_of s) a → a.end_line ≡ l
-        → IsMessageRow (rows_of v) v.sections p s (cells g s l) (v.texts.message_of a.position) (p.message_row a.position)
+        → IsMessageRow (rows_of v) v.sections p s (cells g s l) (message_at v.texts a.position) (p.message_row a.position)
     pub others : (n : ℕ) → source_row v g l < n → n ≤ source_row v g l + length (shown_rows s.sheet l)
         → ((a : LabelInfo) × Has (messages_of s) a × (a.end_line ≡ l) × (p.message_row a.position ≡ n))
         ⊎ (length (row_at (rows_of v) n) ≡ text_cell s + cells g s l)
@@ -251,15 +251,15 @@ module _ (v : Picture) (p : Placing) (h : IsReadBy (rows_of v) v.sections v.text
   pub ends-of : (g : ℕ) (s : Section) (l : ℕ) → IsShownLine v g s l → Ends g s l
   unfolding has_message_rows are_block_ends block_rows
   ends-of g s l k =
-      let e = each-line v (are_block_ends (rows_of v) v.sections p v.texts.message_of) g s l h.each_message_has_one_row_of_its_own k in
+      let e = each-line v (are_block_ends (rows_of v) v.sections p (message_at v.texts)) g s l h.each_message_has_one_row_of_its_own k in
       let two = two-true _ _ e in
       let line = line-row l k in
       let size = block-len l k in
       record {
         messages = λ a has end.
             let here = has-filter (λ (a : LabelInfo). a.end_line == l) (messages_of s) has.place a has.there (eq-eqb a.end_line l end) in
-            message-row-from (rows_of v) v.sections p s (cells g s l) (v.texts.message_of a.position) (p.message_row a.position)
-            (all-at (λ (a : LabelInfo). is_message_row (rows_of v) v.sections p s (cells g s l) (v.texts.message_of a.position) (p.message_row a.position) ≡ true)
+            message-row-from (rows_of v) v.sections p s (cells g s l) (message_at v.texts a.position) (p.message_row a.position)
+            (all-at (λ (a : LabelInfo). is_message_row (rows_of v) v.sections p s (cells g s l) (message_at v.texts a.position) (p.message_row a.position) ≡ true)
             (filter (λ (a : LabelInfo). a.end_line == l) (messages_of s)) here.place a here.there (list_all-from _ _ two.0));
         others = λ n low high.
             let ended : List LabelInfo = filter (λ (a : LabelInfo). a.end_line == l) (messages_of s) in
@@ -287,7 +287,7 @@ module _ (v : Picture) (p : Placing) (h : IsReadBy (rows_of v) v.sections v.text
     pub arrow_row : IsArrowRow v g s a.end_line rank label
     pub no_start : is_start label.side ≡ false
     pub row : number v g s (arrow a.end_line rank) ≡ p.message_row a.position
-    pub text : v.texts.message_of a.position ≡ v.texts.message_of label.info.position
+    pub text : message_at v.texts a.position ≡ message_at v.texts label.info.position
     pub same_cells : cells g s a.end_line ≡ count v line
 
   -- the rows of p are those of the picture, whatever the placing
@@ -337,7 +337,7 @@ module _ (v : Picture) (p : Placing) (h : IsReadBy (rows_of v) v.sections v.text
       go g s a k mine end same
     where
       go : (g : ℕ) (s : Section) (a : LabelInfo) (k : IsShownLine v g s a.end_line)
-          → IsMessageRow (rows_of v) v.sections p s (cells g s a.end_line) (v.texts.message_of a.position) (p.message_row a.position)
+          → IsMessageRow (rows_of v) v.sections p s (cells g s a.end_line) (message_at v.texts a.position) (p.message_row a.position)
           → RowEnd v k (p.message_row a.position) → (cells g s a.end_line ≡ count v k) → MessageFound g s a
       go g s a k mine (bare_end n long) same =
           let size = mine.size in let rows = ap length (same-rows n) in absurd (omega (arith, size, long, rows, same))

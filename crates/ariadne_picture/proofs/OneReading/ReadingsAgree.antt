@@ -10,7 +10,7 @@ use Rattle.ariadne_picture.specs.declared.label_info.LineLabel.{LineLabel}
 use Rattle.ariadne_picture.specs.Ranks.{is_on_one_line}
 use Rattle.ariadne_picture.specs.Rows.{arrow}
 use Rattle.ariadne_picture.specs.Columns.{layout_of, column_of}
-use Rattle.ariadne_picture.specs.Pieces.{Section}
+use Rattle.ariadne_picture.specs.Pieces.{Section, message_at}
 use Rattle.ariadne_picture.specs.Placing.Group.{messages_of}
 use Rattle.ariadne_picture.specs.Placing.Rows.{Placing, row_at}
 use Rattle.ariadne_picture.specs.Accept.{AreAccepted}
@@ -36,12 +36,12 @@ use Rattle.ariadne_picture.proofs.OneReading.TwinsFound.{line-is, found-within, 
 
 -- ---- two placings that read the picture
 
-module _ (v : Picture) (placed : ArePlaced v) (p q : Placing) (h : IsReadBy (rows_of v) v.sections v.texts.message_of p)
-    (k : IsReadBy (rows_of v) v.sections v.texts.message_of q) (g : ℕ) (s : Section) (there : slice_get v.sections g ≡ Some s) where
+module _ (v : Picture) (placed : ArePlaced v) (p q : Placing) (h : IsReadBy (rows_of v) v.sections (message_at v.texts) p)
+    (k : IsReadBy (rows_of v) v.sections (message_at v.texts) q) (g : ℕ) (s : Section) (there : slice_get v.sections g ≡ Some s) where
   -- two labels of a line, one for each, whose messages stand in one row
   twins : (a b : LabelInfo) (has : Has (messages_of s) a) (other : Has (messages_of s) b) → is_on_one_line a ≡ true → b.end_line ≡ a.end_line
       → (m : MessageFound v p h g s a) → (n : MessageFound v q k g s b) → p.message_row a.position ≡ q.message_row b.position
-      → AreTwins v.texts.message_of s a b
+      → AreTwins (message_at v.texts) s a b
   unfolding messages_of
   twins a b has other one line m n row =
       let own = subst (λ l. IsArrowRow v g s l n.rank n.label) line n.arrow_row in
@@ -63,7 +63,7 @@ module _ (v : Picture) (placed : ArePlaced v) (p q : Placing) (h : IsReadBy (row
               first_within_a_line = one;
               second_within_a_line = also;
               same_line = from ∙ sym line ∙ sym to;
-              same_message = m.text ∙ ap (λ (a : LabelInfo). v.texts.message_of a.position) info ∙ sym n.text;
+              same_message = m.text ∙ ap (λ (a : LabelInfo). message_at v.texts a.position) info ∙ sym n.text;
               same_column =
                   ap (λ l. column l a) from ∙ first ∙ ap (λ (x : LineLabel). column_of s.sheet.switches (layout_of s.sheet a.end_line) x.place) label
                   ∙ ap (λ l. column_of s.sheet.switches (layout_of s.sheet l) n.label.place) (sym line) ∙ sym second ∙ ap (λ l. column l b) (sym to);
@@ -77,7 +77,7 @@ module _ (v : Picture) (placed : ArePlaced v) (p q : Placing) (h : IsReadBy (row
       ]
 
   -- where p has the message of a label within one line, q has one too
-  inline-row : (a : LabelInfo) (has : Has (messages_of s) a) → is_on_one_line a ≡ true → HasSameRow v.texts.message_of s p q a
+  inline-row : (a : LabelInfo) (has : Has (messages_of s) a) → is_on_one_line a ≡ true → HasSameRow (message_at v.texts) s p q a
   inline-row a has one =
       let m = message-found v p h g s a there has in
       let mine = message-found v q k g s a there has in
@@ -102,7 +102,7 @@ module _ (v : Picture) (placed : ArePlaced v) (p q : Placing) (h : IsReadBy (row
       ]
 
   -- and so of each
-  message-agrees : (a : LabelInfo) → Has (messages_of s) a → HasSameRow v.texts.message_of s p q a
+  message-agrees : (a : LabelInfo) → Has (messages_of s) a → HasSameRow (message_at v.texts) s p q a
   unfolding messages_of
   message-agrees a has = elim (cases_Bool (is_on_one_line a)) [
     | inl one ↦ inline-row a has one
@@ -119,8 +119,8 @@ module _ (v : Picture) (placed : ArePlaced v) (p q : Placing) (h : IsReadBy (row
   ]
 
 -- so they agree
-pub readings-agree : (v : Picture) (placed : ArePlaced v) (p q : Placing) → IsReadBy (rows_of v) v.sections v.texts.message_of p
-    → IsReadBy (rows_of v) v.sections v.texts.message_of q → AgreeOnStrokes v.texts.message_of v.sections p q
+pub readings-agree : (v : Picture) (placed : ArePlaced v) (p q : Placing) → IsReadBy (rows_of v) v.sections (message_at v.texts) p
+    → IsReadBy (rows_of v) v.sections (message_at v.texts) q → AgreeOnStrokes (message_at v.texts) v.sections p q
 readings-agree v placed p q h k = record {
   lines = same-lines v p q h.rows_belong_together k.rows_belong_together;
   heads = λ g s i a there owned.
@@ -132,7 +132,7 @@ readings-agree v placed p q h k = record {
 pub every-agree : {S Id : Type 0} (w : World S Id) (r : ReportFields S) (infos : List LabelInfo) → AreAccepted w r infos
     → (law : (p q : Id) → w.is_same p q ≡ true → w.source_of p ≡ w.source_of q)
     → (forward : AllByRecursion (λ label. w.start_of label.span ≤ w.end_of label.span) r.labels)
-    → AreReadInOneWay (canvas w r infos) (sections w r infos) (texts_of r).message_of
+    → AreReadInOneWay (canvas w r infos) (sections w r infos) (message_at (texts_of r))
 every-agree w r infos accepted law forward p q h k =
     readings-agree (picture_of w r infos (numbered w r infos accepted forward)) (all-placed w r infos accepted forward law) p q
     (read-picture w r infos accepted forward p h) (read-picture w r infos accepted forward q k)

@@ -19,7 +19,7 @@ use Rattle.ariadne_picture.specs.Ranks.{Sheet, is_inline, gutter_labels, line_la
 use Rattle.ariadne_picture.specs.Rows.{Row, alternate, arrow}
 use Rattle.ariadne_picture.specs.Strokes.{bar_at, is_at_margin}
 use Rattle.ariadne_picture.specs.Cells.{glyph_code, turn_glyph, turn_ink, below_ink, column_ink, ink_of}
-use Rattle.ariadne_picture.specs.Pieces.{Section, glyph_text}
+use Rattle.ariadne_picture.specs.Pieces.{Section, glyph_text, message_at}
 use Rattle.ariadne_picture.specs.Canvas.{Cell}
 use Rattle.ariadne_picture.specs.Placing.Cells.{is_text, is_glyph}
 use Rattle.ariadne_picture.specs.Placing.Group.{set_of, messages_of}
@@ -225,7 +225,7 @@ distinct-from (n ∷ ns) e =
 same-element : (xs : List LabelInfo) (i j : ℕ) (a b : LabelInfo) → slice_get xs i ≡ Some a → slice_get xs j ≡ Some b → i ≡ j → a ≡ b
 same-element xs i j a b d e same = let here = ap (slice_get xs) same in cc
 
-module _ (v : Picture) (p : Placing) (h : IsReadBy (rows_of v) v.sections v.texts.message_of p) where
+module _ (v : Picture) (p : Placing) (h : IsReadBy (rows_of v) v.sections (message_at v.texts) p) where
   -- what a cell is does not depend on them
   same-gutter : (s : Section) (n i : ℕ) → gutter_cell (rows_of v) s n i ≡ gutter_cell (rows_of v) s n i
   unfolding cell_at row_at
@@ -342,20 +342,20 @@ module _ {S Id : Type 0} (w : World S Id) (r : ReportFields S) (infos : List Lab
   picture = picture_of w r infos (numbered w r infos accepted forward)
 
   -- row numbers that its canvas is read by read its picture
-  pub read-picture : (p : Placing) → IsReadBy (canvas w r infos) (sections w r infos) (texts_of r).message_of p
-      → IsReadBy (rows_of picture) (sections w r infos) (texts_of r).message_of p
-  read-picture p h = subst (λ c. IsReadBy c (sections w r infos) (texts_of r).message_of p) (canvas-rows w r infos) h
+  pub read-picture : (p : Placing) → IsReadBy (canvas w r infos) (sections w r infos) (message_at (texts_of r)) p
+      → IsReadBy (rows_of picture) (sections w r infos) (message_at (texts_of r)) p
+  read-picture p h = subst (λ c. IsReadBy c (sections w r infos) (message_at (texts_of r)) p) (canvas-rows w r infos) h
 
   -- they agree on heads
-  pub every-head-agrees : (p q : Placing) → IsReadBy (canvas w r infos) (sections w r infos) (texts_of r).message_of p
-      → IsReadBy (canvas w r infos) (sections w r infos) (texts_of r).message_of q → AgreeOnHeads (sections w r infos) p q
+  pub every-head-agrees : (p q : Placing) → IsReadBy (canvas w r infos) (sections w r infos) (message_at (texts_of r)) p
+      → IsReadBy (canvas w r infos) (sections w r infos) (message_at (texts_of r)) q → AgreeOnHeads (sections w r infos) p q
   every-head-agrees p q h k g s i a there owned =
       let o : IsGutterLabelOf picture g s i a = record { group = there; owned = owned } in
       head-found picture p (read-picture p h) g s i a o ∙ sym (head-found picture q (read-picture q k) g s i a o)
 
   -- and on the messages of gutter labels
-  pub every-end-agrees : (p q : Placing) → IsReadBy (canvas w r infos) (sections w r infos) (texts_of r).message_of p
-      → IsReadBy (canvas w r infos) (sections w r infos) (texts_of r).message_of q → AgreeOnEnds (sections w r infos) p q
+  pub every-end-agrees : (p q : Placing) → IsReadBy (canvas w r infos) (sections w r infos) (message_at (texts_of r)) p
+      → IsReadBy (canvas w r infos) (sections w r infos) (message_at (texts_of r)) q → AgreeOnEnds (sections w r infos) p q
   every-end-agrees p q h k g s i a there owned =
       let o : IsGutterLabelOf picture g s i a = record { group = there; owned = owned } in
       end-row picture p (read-picture p h) g s i a o ∙ sym (end-row picture q (read-picture q k) g s i a o)

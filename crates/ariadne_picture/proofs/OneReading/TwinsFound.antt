@@ -13,7 +13,7 @@ use Rattle.ariadne_picture.specs.declared.cell.Glyph.TheVariants.{Vbar, Lbot, Ua
 use Rattle.ariadne_picture.specs.Ranks.{is_start, is_on_one_line, gutter_labels, line_labels}
 use Rattle.ariadne_picture.specs.Rows.{alternate, arrow}
 use Rattle.ariadne_picture.specs.Columns.{layout_of, width, column_of}
-use Rattle.ariadne_picture.specs.Pieces.{Section, glyph_text}
+use Rattle.ariadne_picture.specs.Pieces.{Section, glyph_text, message_at}
 use Rattle.ariadne_picture.specs.Canvas.{Cell}
 use Rattle.ariadne_picture.specs.Placing.Cells.{is_text, is_glyph, is_level}
 use Rattle.ariadne_picture.specs.Placing.Group.{set_of, has_cell, place_cell, messages_of}
@@ -47,7 +47,7 @@ use Rattle.ariadne_picture.specs.Strokes.{is_at_margin}
 
 -- ---- row numbers that read the picture
 
-module _ (v : Picture) (placed : ArePlaced v) (p : Placing) (h : IsReadBy (rows_of v) v.sections v.texts.message_of p) where
+module _ (v : Picture) (placed : ArePlaced v) (p : Placing) (h : IsReadBy (rows_of v) v.sections (message_at v.texts) p) where
   -- the cells of p are those of the picture, whatever the placing
   same-cell : (n c : ℕ) → cell_at (rows_of v) n c ≡ cell_at (rows_of v) n c
   unfolding cell_at row_at

@@ -8,7 +8,7 @@ use Rattle.ariadne_picture.specs.declared.label_info.LabelInfo.{LabelInfo}
 use Rattle.ariadne_picture.specs.Lists.{joined}
 use Rattle.ariadne_picture.specs.Bars.{EndsNoEarlier}
 use Rattle.ariadne_picture.specs.Groups.{ordered}
-use Rattle.ariadne_picture.specs.Pieces.{Section}
+use Rattle.ariadne_picture.specs.Pieces.{Section, message_at}
 use Rattle.ariadne_picture.specs.Canvas.{Cell, cell_of, palette_of, header_pieces, texts_of, section_of, same_source, groups, sections}
 use Rattle.ariadne_picture.specs.Canvas.{canvas}
 use Rattle.ariadne_picture.specs.Placing.Rows.{Placing}
@@ -100,8 +100,8 @@ module _ {S Id : Type 0} (w : World S Id) (r : ReportFields S) (infos : List Lab
 
     -- its messages stand at the ends of their rows
     pub canvas-messages : has_message_rows (canvas w r infos) (sections w r infos) (row_placing (texts_of r) (sections w r infos))
-        (texts_of r).message_of ≡ true
-    canvas-messages = of-canvas (λ rows ss p. has_message_rows rows ss p (texts_of r).message_of) (message-rows (picture_of h))
+        (message_at (texts_of r)) ≡ true
+    canvas-messages = of-canvas (λ rows ss p. has_message_rows rows ss p (message_at (texts_of r))) (message-rows (picture_of h))
 
     -- and the rows below a line stand below its characters
     pub canvas-aligned : is_aligned (canvas w r infos) (sections w r infos) (row_placing (texts_of r) (sections w r infos)) ≡ true

@@ -13,7 +13,7 @@ use Rattle.ariadne_picture.specs.declared.label_info.LineLabel.{LineLabel}
 use Rattle.ariadne_picture.specs.Ranks.{is_start}
 use Rattle.ariadne_picture.specs.Rows.{Row, arrow}
 use Rattle.ariadne_picture.specs.Columns.{layout_of}
-use Rattle.ariadne_picture.specs.Pieces.{Piece, Texts, Section, blank_piece, plain_text, message_pieces}
+use Rattle.ariadne_picture.specs.Pieces.{Piece, Texts, Section, blank_piece, plain_text, message_pieces, message_at}
 use Rattle.ariadne_picture.specs.Canvas.{Cell, Palette, cell_of, color_of, paint_color}
 use Rattle.ariadne_picture.specs.Placing.Cells.{no_cell, is_blank}
 use Rattle.ariadne_picture.specs.Placing.Group.{text_cell, messages_of}
@@ -30,7 +30,7 @@ use Rattle.ariadne_picture.proofs.Lists.ListFacts.{all-filtered}
 
 -- a label that is no start shows its message, behind a blank
 pub message-shown : (t : Texts) (o : Option LineLabel) (x : LineLabel) → o ≡ Some x → is_start x.side ≡ false
-    → message_pieces t o ≡ blank_piece ∷ plain_text (t.message_of x.info.position) ∷ []
+    → message_pieces t o ≡ blank_piece ∷ plain_text (message_at t x.info.position) ∷ []
 unfolding message_pieces
 message-shown t o x e off = ap (message_pieces t) e ∙ (rw off refl)
 
@@ -47,11 +47,11 @@ plain-cell p = cond_both p.is_on None None (λ c. not (is_some c) ≡ true) (λ 
 module _ (v : Picture) where
   -- the arrow row of a line label that is no start ends in a blank and its message
   message-passes : {g : ℕ} {s : Section} {l r : ℕ} {x : LineLabel} → IsArrowRow v g s l r x → is_start x.side ≡ false
-      → read v is_message_row s (cells_of_places (placing_of v) g s l) (v.texts.message_of x.info.position) (number v g s (arrow l r)) ≡ true
+      → read v is_message_row s (cells_of_places (placing_of v) g s l) (message_at v.texts x.info.position) (number v g s (arrow l r)) ≡ true
   unfolding is_message_row cell_at layout_of
   message-passes {g} {s} {l} {r} {x} q off =
       let places = area s l (arrow_inks s l r) in
-      let message = plain_text (v.texts.message_of x.info.position) in
+      let message = plain_text (message_at v.texts x.info.position) in
       let count : ℕ = cells_of_places (placing_of v) g s l in
       let row : List Cell = row_at (rows_of v) (number v g s (arrow l r)) in
       let text : IsTextRow v g s (arrow l r) (places ++ blank_piece ∷ message ∷ []) =
@@ -86,11 +86,11 @@ module _ (v : Picture) where
         list_any (λ (a : LabelInfo). message_row v a.position == n) shown_here || (length (row_at (rows_of v) n) == text_cell s + count)
 
     -- each of their rows passes
-    all-pass : AllByRecursion (λ a. read v is_message_row s count (v.texts.message_of a.position) (message_row v a.position) ≡ true)
+    all-pass : AllByRecursion (λ a. read v is_message_row s count (message_at v.texts a.position) (message_row v a.position) ≡ true)
         shown_here
     all-pass =
         let P : ℕ → ℕ → LabelInfo → Type 0 =
-        λ l n a. read v is_message_row s (cells_of_places (placing_of v) g s l) (v.texts.message_of a.position) n ≡ true in
+        λ l n a. read v is_message_row s (cells_of_places (placing_of v) g s l) (message_at v.texts a.position) n ≡ true in
         all-filtered _ _ (messages_of s) (every-message v g s _ h.group (λ a m end.
         let c = message-place v m in
         subst (λ l. P l (message_row v a.position) a) (eqb-true a.end_line l end)
@@ -126,7 +126,7 @@ module _ (v : Picture) where
     ]
 
     -- so the rows of the line end as they should
-    line-ends : read v are_block_ends v.texts.message_of g s l ≡ true
+    line-ends : read v are_block_ends (message_at v.texts) g s l ≡ true
     unfolding are_block_ends
     line-ends =
         both_true (list_all-true _ shown_here all-pass)
@@ -135,6 +135,6 @@ module _ (v : Picture) where
         (λ k r is. places-end _ (alternate-text v is))))
 
   -- every report's picture has its message rows
-  pub message-rows : read v has_message_rows v.texts.message_of ≡ true
+  pub message-rows : read v has_message_rows (message_at v.texts) ≡ true
   unfolding has_message_rows
-  message-rows = every-shown-line v (read v are_block_ends v.texts.message_of) line-ends
+  message-rows = every-shown-line v (read v are_block_ends (message_at v.texts)) line-ends

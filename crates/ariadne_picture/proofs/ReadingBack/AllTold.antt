@@ -12,7 +12,7 @@ use Rattle.ariadne_picture.specs.declared.label_info.LineLabel.{LineLabel}
 use Rattle.ariadne_picture.specs.Lists.{joined, mapped_numbered}
 use Rattle.ariadne_picture.specs.Ranks.{is_on_one_line, is_start, span_len, multi_line_labels, gutter_labels}
 use Rattle.ariadne_picture.specs.Rows.{Row, source, arrow}
-use Rattle.ariadne_picture.specs.Pieces.{Section}
+use Rattle.ariadne_picture.specs.Pieces.{Section, message_at}
 use Rattle.ariadne_picture.specs.Placing.Group.{messages_of}
 use Rattle.ariadne_picture.specs.Placing.Rows.{between}
 use Rattle.ariadne_picture.specs.Placing.Together.{is_placing}
@@ -151,21 +151,21 @@ module _ (v : Picture) where
       abbrev in_groups : Section → List LabelInfo
       in_groups s = filter is_on_one_line (messages_of s) ++ gutter_labels s.sheet.labels
 
-      group-told : (g : ℕ) (s : Section) → slice_get v.sections g ≡ Some s → group_told v.texts.message_of g s ≡ map tell (map row (in_groups s))
+      group-told : (g : ℕ) (s : Section) → slice_get v.sections g ≡ Some s → group_told (message_at v.texts) g s ≡ map tell (map row (in_groups s))
       unfolding group_told
       group-told g s e =
           let within : List LabelInfo = filter is_on_one_line (messages_of s) in
           let over : List LabelInfo = gutter_labels s.sheet.labels in
-          let first : map (told_within v.texts.message_of g s) within ≡ map tell (map row within) =
-          map-twice (told_within v.texts.message_of g s) row tell within
+          let first : map (told_within (message_at v.texts) g s) within ≡ map tell (map row within) =
+          map-twice (told_within (message_at v.texts) g s) row tell within
           (all-filtered _ is_on_one_line (messages_of s) (every-message v g s _ e (λ a m one. sym (told-within v sources placed arrow_found m one)))) in
-          let second : mapped_numbered (told_over v.texts.message_of g s) over ≡ map tell (map row over) =
-          numbered-twice (λ e. told_over v.texts.message_of g s e.0 e.1) row tell 0 over
+          let second : mapped_numbered (told_over (message_at v.texts) g s) over ≡ map tell (map row over) =
+          numbered-twice (λ e. told_over (message_at v.texts) g s e.0 e.1) row tell 0 over
           (all-numbered _ over (λ i a owned. sym (told v sources placed source_found arrow_found (record { group = e; owned = owned })))) in
           (λ i. first i ++ second i) ∙ sym (map-append tell (map row within) (map row over)) ∙ ap (map tell) (sym (map-append row within over))
 
       groups-told : (n : ℕ) (ss : List Section) → AllByRecursion (λ e. slice_get v.sections e.0 ≡ Some e.1) (enumerate_from n ss)
-          → joined (λ e. group_told v.texts.message_of e.0 e.1) (enumerate_from n ss) ≡ map tell (map row (joined in_groups ss))
+          → joined (λ e. group_told (message_at v.texts) e.0 e.1) (enumerate_from n ss) ≡ map tell (map row (joined in_groups ss))
       unfolding joined
       groups-told n [] a = refl
       groups-told n (s ∷ ss) a =
@@ -174,7 +174,7 @@ module _ (v : Picture) where
           ∙ ap (map tell) (sym (map-append row (in_groups s) (joined in_groups ss)))
 
       -- so the picture tells its labels
-      pub told-back : IsPermutation (read_back (rows_of v) sources v.texts.switches) (labels_told v.texts.message_of v.sections)
+      pub told-back : IsPermutation (read_back (rows_of v) sources v.texts.switches) (labels_told (message_at v.texts) v.sections)
       unfolding read_back labels_told
       told-back =
           let all : List LabelInfo = joined in_groups v.sections in

@@ -6,7 +6,7 @@ use Rattle.std.specs.Prelude.{slice_get}
 use Rattle.std.proofs.lemmas.Bool.{true≢false, not-true}
 use Rattle.ariadne_picture.specs.Ranks.{is_start}
 use Rattle.ariadne_picture.specs.Rows.{Row, arrow}
-use Rattle.ariadne_picture.specs.Pieces.{Section}
+use Rattle.ariadne_picture.specs.Pieces.{Section, message_at}
 use Rattle.ariadne_picture.specs.ReadBack.Answer.{read_back}
 use Rattle.ariadne_picture.specs.ReadBack.Labels.{labels_told}
 use Rattle.ariadne_picture.proofs.Reading.Pictures.{Picture, RowAt, rows_of}
@@ -28,7 +28,7 @@ module _ (v : Picture) (sources : List Known) (from : AreSources v sources) (pla
   message-only g s k y is on = absurd (true≢false (sym on))
 
   -- so the picture tells all its labels and nothing else
-  pub picture-read : IsPermutation (read_back (rows_of v) sources v.texts.switches) (labels_told v.texts.message_of v.sections)
+  pub picture-read : IsPermutation (read_back (rows_of v) sources v.texts.switches) (labels_told (message_at v.texts) v.sections)
   picture-read =
       told-back v sources
       (λ g s l r x q off. is-message v sources from placed (apart g s q.line.group) q off)

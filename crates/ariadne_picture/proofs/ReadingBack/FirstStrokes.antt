@@ -21,7 +21,7 @@ use Rattle.ariadne_picture.specs.Columns.{Layout, layout_of, column_of, width}
 use Rattle.ariadne_picture.specs.Strokes.{is_crossed, vertical_at}
 use Rattle.ariadne_picture.specs.Cells.{glyph_code, corner_glyph, arrow_ink}
 use Rattle.ariadne_picture.specs.Pieces.{Piece, Section, blank_piece, plain_text, spaces, glyph_text, margin_pieces, gutter_pieces}
-use Rattle.ariadne_picture.specs.Pieces.{row_pieces, rest_pieces, text_pieces, aside_pieces, aside_prefix, aside_line, aside_name}
+use Rattle.ariadne_picture.specs.Pieces.{row_pieces, rest_pieces, text_pieces, aside_pieces, aside_prefix, aside_line, aside_name, message_at}
 use Rattle.ariadne_picture.specs.Canvas.{Cell}
 use Rattle.ariadne_picture.specs.Placing.Cells.{no_cell, is_text, is_glyph}
 use Rattle.ariadne_picture.specs.Placing.Group.{set_of, column_cell, text_cell, place_cell, has_cell}
@@ -145,7 +145,7 @@ module _ (v : Picture) {g : ℕ} {s : Section} where
       let switches = s.sheet.switches in
       let y = layout_of s.sheet l in
       let places = area s l (arrow_inks s l r) in
-      let message = plain_text (v.texts.message_of x.info.position) in
+      let message = plain_text (message_at v.texts x.info.position) in
       let n = number v g s (arrow l r) in
       elim (cases_lt 0 (column_of switches y (places_of s l))) [
         | inl some ↦

@@ -11,7 +11,7 @@ use Rattle.ariadne_picture.specs.declared.label_info.LabelInfo.{LabelInfo}
 use Rattle.ariadne_picture.specs.Report.{ReportFields, World, HaveOneSource, AreForward, switches_of}
 use Rattle.ariadne_picture.specs.Accept.{AreAccepted}
 use Rattle.ariadne_picture.specs.Groups.{printed_number}
-use Rattle.ariadne_picture.specs.Pieces.{Section, gutter_len}
+use Rattle.ariadne_picture.specs.Pieces.{Section, gutter_len, message_at}
 use Rattle.ariadne_picture.specs.ReadBack.Rows.{Known}
 use Rattle.ariadne_picture.specs.Canvas.{canvas, group_id, group_source, groups, section_of, sections, texts_of}
 use Rattle.ariadne_picture.specs.ReadBack.Answer.{read_back, read_headers}
@@ -96,10 +96,10 @@ module _ {S Id : Type 0} (w : World S Id) (r : ReportFields S) (infos : List Lab
 
   -- one who knows these sources of its groups is told its labels
   labels-read : (known : List Known) → AreSources picture known
-      → IsPermutation (read_back (canvas w r infos) known (switches_of r.config)) (labels_told (texts_of r).message_of (sections w r infos))
+      → IsPermutation (read_back (canvas w r infos) known (switches_of r.config)) (labels_told (message_at (texts_of r)) (sections w r infos))
   unfolding texts_of
   labels-read known are =
-      subst (λ rows. IsPermutation (read_back rows known (switches_of r.config)) (labels_told (texts_of r).message_of (sections w r infos)))
+      subst (λ rows. IsPermutation (read_back rows known (switches_of r.config)) (labels_told (message_at (texts_of r)) (sections w r infos)))
       (sym (canvas-rows w r infos))
       (picture-read picture known are (all-placed w r infos accepted forward law) (λ g s e.
       let h = shown w r infos g s e in

@@ -21,7 +21,7 @@ use Rattle.ariadne_picture.specs.Rows.{source, arrow}
 use Rattle.ariadne_picture.specs.Columns.{layout_of, width, column_of}
 use Rattle.ariadne_picture.specs.Strokes.{is_at_margin, is_crossed, vertical_at}
 use Rattle.ariadne_picture.specs.Cells.{glyph_code, ink_of, arrow_ink, corner_glyph, turn_ink, column_ink}
-use Rattle.ariadne_picture.specs.Pieces.{Section, glyph_text}
+use Rattle.ariadne_picture.specs.Pieces.{Section, glyph_text, message_at}
 use Rattle.ariadne_picture.specs.Canvas.{Cell, cell_of}
 use Rattle.ariadne_picture.specs.Placing.Cells.{is_text, is_glyph, is_level}
 use Rattle.ariadne_picture.specs.Placing.Group.{set_of, shown_lines, column_cell, has_cell}
@@ -284,7 +284,7 @@ module _ (v : Picture) (sources : List Known) (placed : ArePlaced v)
 
   -- the head of the margin label stands beside its line
   head-beside : is_at_margin s.sheet a.start_line i ≡ true
-      → start_of_head (rows_of v) sources v.texts.switches (head_row v g i) ≡ gutter_end v.texts.message_of g s i a.start_line a.start_place
+      → start_of_head (rows_of v) sources v.texts.switches (head_row v g i) ≡ gutter_end (message_at v.texts) g s i a.start_line a.start_place
   unfolding start_of_head gutter_end
   head-beside at =
       let line = margin-line v o at in
@@ -297,7 +297,7 @@ module _ (v : Picture) (sources : List Known) (placed : ArePlaced v)
 
   -- that of another below it, at its corner
   head-below : is_at_margin s.sheet a.start_line i ≡ false
-      → start_of_head (rows_of v) sources v.texts.switches (head_row v g i) ≡ gutter_end v.texts.message_of g s i a.start_line a.start_place
+      → start_of_head (rows_of v) sources v.texts.switches (head_row v g i) ≡ gutter_end (message_at v.texts) g s i a.start_line a.start_place
   unfolding start_of_head gutter_end is_inline is_start is_crossed corner_glyph layout_of
   head-below off =
       let h = head-place v o off in
@@ -326,13 +326,13 @@ module _ (v : Picture) (sources : List Known) (placed : ArePlaced v)
         column = if sym off j || not (has_cell s l (place j)) then None else Some (column_of s.sheet.switches (layout_of s.sheet l) (place j));
       })
 
-  head-told : start_of_head (rows_of v) sources v.texts.switches (head_row v g i) ≡ gutter_end v.texts.message_of g s i a.start_line a.start_place
+  head-told : start_of_head (rows_of v) sources v.texts.switches (head_row v g i) ≡ gutter_end (message_at v.texts) g s i a.start_line a.start_place
   head-told = elim (cases_Bool (is_at_margin s.sheet a.start_line i)) [ inl at ↦ head-beside at | inr off ↦ head-below off ]
 
   -- ---- its end
 
   -- so the row of its message tells what the label is
-  pub told : told_by (rows_of v) sources v.texts.switches (message_row v a.position) ≡ told_over v.texts.message_of g s i a
+  pub told : told_by (rows_of v) sources v.texts.switches (message_row v a.position) ≡ told_over (message_at v.texts) g s i a
   unfolding told_by told_with told_over gutter_end is_inline is_start is_crossed corner_glyph layout_of
   told =
       let h = its-message v o in
@@ -359,7 +359,7 @@ module _ (v : Picture) (sources : List Known) (placed : ArePlaced v)
       let head : head_of (rows_of v) sources v.texts.switches n (column_cell s i) ≡ head_row v g i =
       ap (λ n. head_of (rows_of v) sources v.texts.switches n (column_cell s i)) (sym h.row) ∙ head-found in
       let start = ap (start_of_head (rows_of v) sources v.texts.switches) head ∙ head-told in
-      let message = message-told v sources q no_start ∙ ap (λ (a : LabelInfo). v.texts.message_of a.position) h.shows.info in
+      let message = message-told v sources q no_start ∙ ap (λ (a : LabelInfo). message_at v.texts a.position) h.shows.info in
       let end = (λ j. first_showing (same-switches j).char_set Mbot (text j)) ∙ column
       ∙ (λ j. if is_at_margin s.sheet l i || not (has_cell s l (place j)) then None else Some (column_of s.sheet.switches (layout_of s.sheet l) (place j))) in
       ap (told_by (rows_of v) sources v.texts.switches) h.row

@@ -18,7 +18,7 @@ use Rattle.ariadne_picture.specs.Rows.{Row, arrow}
 use Rattle.ariadne_picture.specs.Columns.{layout_of, column_of}
 use Rattle.ariadne_picture.specs.Strokes.{bar_at, is_crossed, vertical_at, spot_of}
 use Rattle.ariadne_picture.specs.Cells.{below_ink, turn_ink, column_ink, arrow_ink, arrow_place}
-use Rattle.ariadne_picture.specs.Pieces.{Piece, Section, blank_piece, plain_text}
+use Rattle.ariadne_picture.specs.Pieces.{Piece, Section, blank_piece, plain_text, message_at}
 use Rattle.ariadne_picture.specs.Canvas.{Cell}
 use Rattle.ariadne_picture.specs.Placing.Cells.{is_glyph, is_level}
 use Rattle.ariadne_picture.specs.Placing.Group.{set_of, text_cell}
@@ -103,14 +103,14 @@ module _ (v : Picture) (sources : List Known) {g : ℕ} {s : Section} {l r : ℕ
 
   -- what stands behind them, if the label is no start
   abbrev pub message : List Piece
-  message = blank_piece ∷ plain_text (v.texts.message_of x.info.position) ∷ []
+  message = blank_piece ∷ plain_text (message_at v.texts x.info.position) ∷ []
 
   pub row-text : is_start x.side ≡ false → IsTextRow v g s (arrow l r) (area s l (arrow_inks s l r) ++ message)
   unfolding layout_of
   row-text off = rw (message-shown v.texts _ x q.there off) at (arrow-text v (arrow-at v q))
 
   -- its last cell is its message
-  pub message-told : is_start x.side ≡ false → message_of_row (rows_of v) sources v.texts.switches row ≡ v.texts.message_of x.info.position
+  pub message-told : is_start x.side ≡ false → message_of_row (rows_of v) sources v.texts.switches row ≡ message_at v.texts x.info.position
   unfolding message_of_row
   message-told off =
       let places = area s l (arrow_inks s l r) in
@@ -119,7 +119,7 @@ module _ (v : Picture) (sources : List Known) {g : ℕ} {s : Section} {l r : ℕ
       let two = length-append places message in
       let o : length (row_at (rows_of v) row) - 1 ≡ text_cell s + (length places + 1) = omega (arith, size, two) in
       ap (λ c. (cell_at (rows_of v) row c).text) o
-      ∙ ap (λ (c : Cell). c.text) (text-at v text (length places + 1) (plain_text (v.texts.message_of x.info.position)) (at-back places message 1))
+      ∙ ap (λ (c : Cell). c.text) (text-at v text (length places + 1) (plain_text (message_at v.texts x.info.position)) (at-back places message 1))
 
   -- ---- a label within the line
 
@@ -176,7 +176,7 @@ module _ (v : Picture) (sources : List Known) {g : ℕ} {s : Section} {l r : ℕ
         ∙ (λ i. column_of s.sheet.switches (layout_of s.sheet (sym k.line i)) (k.place i))
 
     -- so the row tells what the label is
-    pub told : told_by (rows_of v) sources v.texts.switches row ≡ told_within v.texts.message_of g s x.info
+    pub told : told_by (rows_of v) sources v.texts.switches row ≡ told_within (message_at v.texts) g s x.info
     unfolding told_by told_with told_within
     told =
         let group = group-is v sources (arrow-at v q) (omega arith) in
@@ -194,9 +194,9 @@ module _ (v : Picture) (sources : List Known) {g : ℕ} {s : Section} {l r : ℕ
 module _ (v : Picture) (sources : List Known) (placed : ArePlaced v)
     (arrow_found : (g : ℕ) (s : Section) (l r : ℕ) (x : LineLabel) → IsArrowRow v g s l r x → IsFound v sources g s l (arrow l r)) where
   pub told-within : {g : ℕ} {s : Section} {a : LabelInfo} → IsMessage v g s a → is_on_one_line a ≡ true
-      → told_by (rows_of v) sources v.texts.switches (message_row v a.position) ≡ told_within v.texts.message_of g s a
+      → told_by (rows_of v) sources v.texts.switches (message_row v a.position) ≡ told_within (message_at v.texts) g s a
   told-within {g} {s} {a} m one =
       let h = message-place v m in
       let f = arrow_found g s a.end_line h.rank h.label h.arrow_row in
       ap (told_by (rows_of v) sources v.texts.switches) h.row
-      ∙ told v sources h.arrow_row placed (shows-inline v placed one h) f.line f.begin ∙ ap (told_within v.texts.message_of g s) h.shows.info
+      ∙ told v sources h.arrow_row placed (shows-inline v placed one h) f.line f.begin ∙ ap (told_within (message_at v.texts) g s) h.shows.info

@@ -8,7 +8,7 @@ use Rattle.ariadne_picture.specs.Lists.{joined, total}
 use Rattle.ariadne_picture.specs.Ranks.{gutter_labels, line_labels, margin_label, is_of_gutter_label, is_start, group_lines}
 use Rattle.ariadne_picture.specs.Rows.{Row, source, arrow, row_key, before, rows}
 use Rattle.ariadne_picture.specs.Columns.{layout_of, arrow_len}
-use Rattle.ariadne_picture.specs.Pieces.{Section, Texts}
+use Rattle.ariadne_picture.specs.Pieces.{Section, Texts, message_at}
 use Rattle.ariadne_picture.specs.Canvas.{Cell}
 use Rattle.ariadne_picture.specs.Placing.Rows.{Placing}
 use Rattle.ariadne_picture.specs.Placing.Together.{is_placing}
@@ -24,7 +24,7 @@ use Rattle.ariadne_picture.specs.GutterCauses.{has_no_other_gutter_strokes}
 -- all clauses of the tracing promise
 unfoldable pub is_read : List (List Cell) → List Section → Texts → Placing → Bool
 is_read cells parts t p =
-    is_placing cells parts p && has_message_rows cells parts p t.message_of && has_inline_traces cells parts p
+    is_placing cells parts p && has_message_rows cells parts p (message_at t) && has_inline_traces cells parts p
     && has_ends_of_gutter_traces cells parts p && has_gutter_bars cells parts p && is_aligned cells parts p
     && has_whole_blocks parts p && has_no_other_strokes cells parts p && has_no_other_gutter_strokes cells parts p
 

@@ -32,7 +32,7 @@ use Rattle.ariadne_picture.specs.Cells.{glyph_code, column_ink}
 use Rattle.ariadne_picture.specs.Pieces.{Piece, plain_text, blank_piece, spaces, stroke, glyph_text, ink_pieces, shown_text, char_pieces}
 use Rattle.ariadne_picture.specs.Pieces.{mark_text, seen_pieces, source_pieces, char_paint, shown_pieces, area_pieces, margin_text, margin_pieces, column_size}
 use Rattle.ariadne_picture.specs.Pieces.{gutter_len, gutter_pieces, Texts, Section, group_header_pieces, spacer_pieces, tail_pieces}
-use Rattle.ariadne_picture.specs.Pieces.{message_pieces, aside_pieces, text_pieces, rest_pieces, row_pieces, section_rows}
+use Rattle.ariadne_picture.specs.Pieces.{message_pieces, aside_pieces, text_pieces, rest_pieces, row_pieces, section_rows, message_at}
 use Rattle.ariadne_picture.specs.Canvas.{sheet_of, cell_of, palette_of, header_pieces, texts_of, group_source, section_of, groups, number_width}
 use Rattle.ariadne_picture.specs.Canvas.{sheet_of, outline, canvas}
 use Rattle.ariadne_picture.proofs.Lists.ListFacts.{none≢some, all-append, all-weaker, all-map, all-every, all-joined}
@@ -195,7 +195,7 @@ module _ (t : Texts) (w : ℕ) (g : Section) where
   unfolding message_pieces
   wide-message Rattle.std.proofs.Common.None = tt
   wide-message (Some x) =
-      cond_both (is_start x.side) [] (blank_piece ∷ plain_text (t.message_of x.info.position) ∷ []) AreWide
+      cond_both (is_start x.side) [] (blank_piece ∷ plain_text (message_at t x.info.position) ∷ []) AreWide
       (λ _. tt) (λ _. (blank-columns, (refl, tt)))
 
   wide-aside : (a : Aside) (k p : ℕ) → AreWide (aside_pieces t a k p)

@@ -24,7 +24,7 @@ use Rattle.ariadne_picture.specs.Cells.{column_ink}
 use Rattle.ariadne_picture.specs.Pieces.{Piece, blank_piece, plain_text, spaces, stroke, glyph_text, ink_pieces, shown_text, char_pieces, char_paint}
 use Rattle.ariadne_picture.specs.Pieces.{seen_pieces, source_pieces, shown_pieces, area_pieces, margin_text, margin_pieces, column_size, gutter_len, gutter_pieces}
 use Rattle.ariadne_picture.specs.Pieces.{Texts, Section, location_text, group_header_pieces, spacer_pieces, repeated, tail_pieces, message_pieces}
-use Rattle.ariadne_picture.specs.Pieces.{aside_texts, aside_name, aside_prefix, aside_line, aside_pieces, rest_pieces, row_pieces, text_pieces}
+use Rattle.ariadne_picture.specs.Pieces.{aside_texts, aside_name, aside_prefix, aside_line, aside_pieces, rest_pieces, row_pieces, text_pieces, message_at}
 use Rattle.ariadne_picture.proofs.Lists.ListFacts.{all-append}
 use Rattle.ariadne_picture.proofs.Cells.RowCells.{all-replicate}
 use Rattle.ariadne_picture.proofs.Variants.CleanTexts.{IsKept, is_plain, kept-nil, kept-spaces, kept-decimal, kept-joined}
@@ -53,7 +53,7 @@ pub record AreCleanTexts (P : List ℕ → Type 0) (t : Texts) : Type 0 where
   pub message : P (unwrap_or t.message [])
   pub helps : HaveCleanLines P t.helps
   pub notes : HaveCleanLines P t.notes
-  pub message_of : (k : ℕ) → P (t.message_of k)
+  pub messages : AllByRecursion P t.messages
 
 -- of the name of a group's source, and of its lines as they are shown
 pub record IsCleanSection (P : List ℕ → Type 0) (g : Section) : Type 0 where
@@ -182,12 +182,13 @@ module _ (P : List ℕ → Type 0) (kept : IsKept P) where
   module _ (t : Texts) (clean : AreCleanTexts P t) where
     -- the message of a label
     clean-message : (x : Option LineLabel) → AreClean P (message_pieces t x)
-    unfolding message_pieces
+    unfolding message_pieces message_at
     clean-message None = tt
     clean-message (Some x) =
-        let message = t.message_of x.info.position in
+        let message = message_at t x.info.position in
+        let says = all-or P t.messages x.info.position [] (kept-nil P kept) clean.messages in
         cond_both (is_start x.side) [] (blank_piece ∷ plain_text message ∷ []) (AreClean P)
-        (λ _. tt) (λ _. (clean-printable (32 ∷ []) refl, (clean.message_of x.info.position, tt)))
+        (λ _. tt) (λ _. (clean-printable (32 ∷ []) refl, (says, tt)))
 
     -- the word in front of a help or a note
     clean-name : (a : Aside) → P (aside_name a)

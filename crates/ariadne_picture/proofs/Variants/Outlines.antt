@@ -7,7 +7,7 @@ use Rattle.std.proofs.lemmas.Option.{slice_get-map}
 use Rattle.ariadne_base.specs.Listing.{listed_lines}
 use Rattle.ariadne_picture.specs.declared.switches.IndexType.{IndexType}
 use Rattle.ariadne_picture.specs.declared.label_info.LabelInfo.{LabelInfo}
-use Rattle.ariadne_picture.specs.Report.{ReportFields, World, switches_of}
+use Rattle.ariadne_picture.specs.Report.{LabelFields, ReportFields, World, switches_of}
 use Rattle.ariadne_picture.specs.Accept.{text_len, offset_in_chars}
 use Rattle.ariadne_picture.specs.Lists.{joined}
 use Rattle.ariadne_picture.specs.Groups.{ordered, groups_of, greatest}
@@ -15,23 +15,13 @@ use Rattle.ariadne_picture.specs.Pieces.{Piece, section_rows}
 use Rattle.ariadne_picture.specs.Canvas.{kind_name, code_text, texts_of, label_id, is_same_id, same_source, group_id, group_source}
 use Rattle.ariadne_picture.specs.Canvas.{header_offset, section_of, groups, number_width, outline, header_pieces}
 use Rattle.ariadne_picture.proofs.Lists.Joined.{joined-enumerated_same}
+use Rattle.ariadne_picture.proofs.Cells.CanvasRows.{map-map}
 use Rattle.ariadne_picture.proofs.Parts.{number_len, outline-is}
 
 -- lists of which f and g read the same, read alike at each place
 same-at : {X Y Z : Type 0} (f : X → Z) (g : Y → Z) (xs : List X) (ys : List Y) → map f xs ≡ map g ys → (k : ℕ)
     → option_map f (slice_get xs k) ≡ option_map g (slice_get ys k)
 same-at f g xs ys e k = sym (slice_get-map f xs k) ∙ ap (λ zs. slice_get zs k) e ∙ slice_get-map g ys k
-
--- a reading that may give nothing is a reading and then what it gives
-and_then-map : {X Z : Type 0} (f : X → Option Z) (o : Option X) → option_and_then f o ≡ option_and_then (λ x. x) (option_map f o)
-and_then-map f None = refl
-and_then-map f (Some x) = refl
-
--- so it is the same at each place too
-same-found : {X Y Z : Type 0} (f : X → Option Z) (g : Y → Option Z) (xs : List X) (ys : List Y) → map f xs ≡ map g ys → (k : ℕ)
-    → option_and_then f (slice_get xs k) ≡ option_and_then g (slice_get ys k)
-same-found f g xs ys e k =
-    and_then-map f (slice_get xs k) ∙ ap (option_and_then (λ x. x)) (same-at f g xs ys e k) ∙ sym (and_then-map g (slice_get ys k))
 
 -- the offset that a header names: an own start that lies in its text, or the start of its first label
 abbrev pub header_start : Bool → IndexType → List ℕ → ℕ → Option ℕ → Option ℕ
@@ -62,6 +52,13 @@ module _ {S T Id : Type 0} (w : World S Id) (v : World T Id) (r : ReportFields S
   NameOneOffset group = header_offset w r group ≡ header_offset v q group
 
   module _ (same : ReadTheSame) where
+    -- so the labels say the same
+    same-messages : map (λ label. unwrap_or label.message []) r.labels ≡ map (λ label. unwrap_or label.message []) q.labels
+    same-messages =
+        let said = λ (m : Option (List ℕ)). unwrap_or m [] in
+        sym (map-map said (λ (label : LabelFields S). label.message) r.labels) ∙ ap (map said) same.label_messages
+        ∙ map-map said (λ (label : LabelFields T). label.message) q.labels
+
     -- the texts are read of fields that are the same
     same-texts : texts_of r ≡ texts_of q
     unfolding texts_of
@@ -71,7 +68,7 @@ module _ {S T Id : Type 0} (w : World S Id) (v : World T Id) (r : ReportFields S
       message = same.message i;
       helps = same.helps i;
       notes = same.notes i;
-      message_of = λ k. unwrap_or (same-found (λ label. label.message) (λ label. label.message) r.labels q.labels same.label_messages k i) [];
+      messages = same-messages i;
     }
 
     -- the ids of the labels are the same at each place

@@ -101,7 +101,10 @@ module _ {S Id : Type 0} (w : World S Id) (r : ReportFields S) where
       message = some-or P r.message [] h.message nil;
       helps = h.helps;
       notes = h.notes;
-      message_of = λ k. all-given P (λ label. label.message) r.labels k [] nil h.labels;
+      messages =
+          let says = λ (label : LabelFields S). some-or P label.message [] in
+          all-map P (λ label. unwrap_or label.message []) r.labels
+          (all-weaker (λ label. IfSome label.message P) (λ label. P (unwrap_or label.message [])) r.labels (λ label given. says label given nil) h.labels);
     }
 
     -- the name of a group's source

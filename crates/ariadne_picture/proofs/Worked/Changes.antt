@@ -16,6 +16,7 @@ use Rattle.ariadne_picture.specs.Placing.Alignment.{is_aligned}
 use Rattle.ariadne_picture.specs.Blocks.{has_whole_blocks}
 use Rattle.ariadne_picture.specs.Causes.{has_no_other_strokes}
 use Rattle.ariadne_picture.specs.GutterCauses.{has_no_other_gutter_strokes}
+use Rattle.ariadne_picture.specs.Pieces.{message_at}
 use Rattle.ariadne_picture.proofs.Rows.RowPlacing.{row_placing}
 use Rattle.ariadne_picture.proofs.Worked.Sample.{Span, Entry, utf8, nameless, silent_label_in, drawn}
 use Rattle.ariadne_picture.proofs.Worked.Readings.{infos, cells_of, parts_of}
@@ -60,7 +61,7 @@ unfoldable pub verdicts_by : Placing → List Entry → ReportFields Span → (R
 verdicts_by p entries r change =
     let cells = change (cells_of entries r) in
     let parts = parts_of entries r in
-    is_placing cells parts p ∷ has_message_rows cells parts p (texts_of r).message_of ∷ has_inline_traces cells parts p
+    is_placing cells parts p ∷ has_message_rows cells parts p (message_at (texts_of r)) ∷ has_inline_traces cells parts p
     ∷ has_ends_of_gutter_traces cells parts p ∷ has_gutter_bars cells parts p ∷ is_aligned cells parts p ∷ []
 
 -- by the placing that the names of the rows give

@@ -5,6 +5,7 @@ use Rattle.std.specs.Str.{chars}
 use Rattle.ariadne_picture.specs.declared.label_info.LabelInfo.{LabelInfo}
 use Rattle.ariadne_picture.specs.Report.{World, ReportFields}
 use Rattle.ariadne_picture.specs.Canvas.{canvas, sections, texts_of}
+use Rattle.ariadne_picture.specs.Pieces.{message_at}
 use Rattle.ariadne_picture.specs.Placing.Cells.{no_cell}
 use Rattle.ariadne_picture.specs.Placing.Together.{is_placing}
 use Rattle.ariadne_picture.specs.Placing.MessageRows.{has_message_rows}
@@ -40,7 +41,7 @@ unfolding drawn held one_id two_labels infos
 placed = refl
 
 messages : has_message_rows (canvas one_id two_labels infos) (sections one_id two_labels infos)
-    (row_placing (texts_of two_labels) (sections one_id two_labels infos)) (texts_of two_labels).message_of ≡ true
+    (row_placing (texts_of two_labels) (sections one_id two_labels infos)) (message_at (texts_of two_labels)) ≡ true
 unfolding drawn held one_id two_labels infos
 messages = refl
 

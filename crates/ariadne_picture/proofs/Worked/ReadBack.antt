@@ -5,7 +5,7 @@ use Prim.Native.String.{String}
 use Rattle.ariadne_base.specs.Listing.{Listing}
 use Rattle.ariadne_picture.specs.Report.{ConfigFields, ReportFields, switches_of}
 use Rattle.ariadne_picture.specs.Canvas.{texts_of}
-use Rattle.ariadne_picture.specs.Pieces.{Section, gutter_len}
+use Rattle.ariadne_picture.specs.Pieces.{Section, gutter_len, message_at}
 use Rattle.ariadne_picture.specs.ReadBack.Rows.{last_before, Known, unlabelled, begins_with_digit, margin_of, is_heading, shows_line, is_below_lines}
 use Rattle.ariadne_picture.specs.ReadBack.Rows.{group_of, source_of, line_row, has_line, has_number, line_of, text_begin_by, text_begin, has_strokes, is_arrow_row}
 use Rattle.ariadne_picture.specs.ReadBack.Answer.{Told, first_showing, gutter_turn, has_message, message_of_row, text_of_row, attach_of_row}
@@ -55,7 +55,7 @@ rows_tell_by_gutters sources entries r change =
 
 -- what its labels are
 unfoldable labels_tell : List Entry → ReportFields Span → List Told
-labels_tell entries r = labels_told (texts_of r).message_of (parts_of entries r)
+labels_tell entries r = labels_told (message_at (texts_of r)) (parts_of entries r)
 
 unfoldable read : Unit {0}
 unfolding judged nested apart wide last_before begins_with_digit untold with_gutters unlabelled margin_of is_heading shows_line is_below_lines group_of source_of line_row

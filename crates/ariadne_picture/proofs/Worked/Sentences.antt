@@ -10,7 +10,7 @@ use Rattle.ariadne_picture.specs.declared.cell.Paint.TheVariants.{Label}
 use Rattle.ariadne_picture.specs.declared.label_info.LabelInfo.{LabelInfo}
 use Rattle.ariadne_picture.specs.declared.verdict.Verdict.TheVariants.{Accepted}
 use Rattle.ariadne_picture.specs.Report.{ReportFields, World, switches_of}
-use Rattle.ariadne_picture.specs.Pieces.{Section, Texts}
+use Rattle.ariadne_picture.specs.Pieces.{Section, Texts, message_at}
 use Rattle.ariadne_picture.specs.Canvas.{Cell, canvas, color_of, palette_of, sections, texts_of}
 use Rattle.ariadne_picture.specs.Print.{printed, erased, unescaped}
 use Rattle.ariadne_picture.specs.Sent.{HaveColumnsOfTexts, HaveNoLineFeeds, RowsAreLines, row_text}
@@ -33,7 +33,7 @@ use Rattle.ariadne_picture.proofs.Worked.Changes.{plain}
 use Rattle.ariadne_picture.proofs.Worked.Premises.{sources, colored, no_text_has_an_escape, no_row_is_cut, lines_have_short_numbers, in_bytes, its_own_start_is_a_boundary}
 
 -- row numbers that a picture is read by meet every clause
-all_clauses : (rows : List (List Cell)) (groups : List Section) (t : Texts) (p : Placing) → IsReadBy rows groups t.message_of p
+all_clauses : (rows : List (List Cell)) (groups : List Section) (t : Texts) (p : Placing) → IsReadBy rows groups (message_at t) p
     → is_read rows groups t p ≡ true
 unfolding is_read
 all_clauses rows groups t p h =
@@ -47,7 +47,7 @@ all_sentences : {S Id : Type 0} (w : World S Id) (r : ReportFields S) (labels : 
     → Headline w r labels bytes
     → (bytes ≡ printed (canvas w r labels))
     × IsTraced (canvas w r labels) (sections w r labels) (texts_of r) (color_of (palette_of r))
-    × AreReadInOneWay (canvas w r labels) (sections w r labels) (texts_of r).message_of
+    × AreReadInOneWay (canvas w r labels) (sections w r labels) (message_at (texts_of r))
     × (HaveShortNumbers w → HaveWholeLines w r labels → IsReadBack w r labels)
     × (HaveShortNumbers w → IsReadBackByGutters w r labels)
     × HaveColumnsOfTexts (canvas w r labels) × (HaveNoEscapes w r → HaveNoLineFeeds w r → RowsAreLines (canvas w r labels))
@@ -77,7 +77,7 @@ told_back : let w = world sources in
     (HaveShortNumbers w → HaveWholeLines w colored labels → IsReadBack w colored labels)
     → HaveWholeLines w colored labels
     → IsPermutation (read_back (canvas w colored labels) (group_sources w colored labels) (switches_of colored.config))
-    (labels_told (texts_of colored).message_of (sections w colored labels))
+    (labels_told (message_at (texts_of colored)) (sections w colored labels))
     × (read_headers (canvas w colored labels) (group_sources w colored labels) (switches_of colored.config)
     ≡ headers_told (texts_of colored) (sections w colored labels))
 told_back h whole = let back = h lines_have_short_numbers whole in (back.labels, back.headers)
@@ -87,7 +87,7 @@ told_back_by_gutters : let w = world sources in
     let labels = infos sources colored in
     (HaveShortNumbers w → IsReadBackByGutters w colored labels)
     → IsPermutation (read_back (canvas w colored labels) (group_sources_and_gutters w colored labels) (switches_of colored.config))
-    (labels_told (texts_of colored).message_of (sections w colored labels))
+    (labels_told (message_at (texts_of colored)) (sections w colored labels))
     × (read_headers (canvas w colored labels) (group_sources_and_gutters w colored labels) (switches_of colored.config)
     ≡ headers_told (texts_of colored) (sections w colored labels))
 told_back_by_gutters h = let back = h lines_have_short_numbers in (back.labels, back.headers)

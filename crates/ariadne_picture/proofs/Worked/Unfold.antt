@@ -20,7 +20,7 @@ use Rattle.ariadne_picture.specs.Cells.{glyph_code, alternate_ink, corner_glyph,
 use Rattle.ariadne_picture.specs.Cells.{margin_glyph, turn_glyph, margin_ink, beside_ink, below_ink, turn_ink, column_ink}
 use Rattle.ariadne_picture.specs.Pieces.{spaces, glyph_text, ink_pieces, painters, char_paint, shown_text, char_pieces, mark_text, seen_pieces, source_pieces}
 use Rattle.ariadne_picture.specs.Pieces.{shown_pieces, area_pieces, margin_text, margin_paint, margin_pieces, column_size, gutter_len, gutter_pieces}
-use Rattle.ariadne_picture.specs.Pieces.{location_text, group_header_pieces, spacer_pieces, repeated, tail_pieces, message_pieces, aside_texts}
+use Rattle.ariadne_picture.specs.Pieces.{location_text, group_header_pieces, spacer_pieces, repeated, tail_pieces, message_at, message_pieces, aside_texts}
 use Rattle.ariadne_picture.specs.Pieces.{aside_name, aside_prefix, aside_line, aside_pieces, text_pieces, rest_pieces, row_pieces, section_rows}
 use Rattle.ariadne_picture.specs.Canvas.{header_pieces, paint_color, color_of, label_id, is_same_id, same_source, texts_of, group_id, group_source}
 use Rattle.ariadne_picture.specs.Canvas.{header_offset, section_of, groups, number_width, outline, sections, canvas}
@@ -55,7 +55,7 @@ unfolding digits is_separator begins_with_line_feed ends_line in_front full_line
     alternate_ink corner_glyph arrow_ink alternate_place arrow_place gutter_label_paint margin_glyph turn_glyph margin_ink beside_ink below_ink
     turn_ink column_ink spaces glyph_text ink_pieces painters char_paint shown_text char_pieces mark_text seen_pieces source_pieces shown_pieces area_pieces
     margin_text margin_paint margin_pieces column_size gutter_len gutter_pieces location_text group_header_pieces spacer_pieces repeated tail_pieces
-    message_pieces aside_texts aside_name aside_prefix aside_line aside_pieces text_pieces rest_pieces row_pieces section_rows header_pieces paint_color color_of
+    message_at message_pieces aside_texts aside_name aside_prefix aside_line aside_pieces text_pieces rest_pieces row_pieces section_rows header_pieces paint_color color_of
     label_id is_same_id same_source texts_of group_id group_source header_offset section_of groups number_width outline sections
     canvas cell_bytes line_bytes printed pieces_bytes is_parameter sequence_len unescaped_after unescaped is_glyph is_level unindented ends_in row_at
     cell_at shown_lines column_cell text_cell place_cell has_cell block_rows holds_at_places is_traced_at is_level_right_of shown_cells

@@ -7,7 +7,7 @@ use Rattle.ariadne_base.specs.Listing.{Listing, listed_lines}
 use Rattle.ariadne_picture.specs.declared.label_info.LabelInfo.{LabelInfo}
 use Rattle.ariadne_picture.specs.Report.{ReportFields, World, switches_of}
 use Rattle.ariadne_picture.specs.Columns.{is_too_wide}
-use Rattle.ariadne_picture.specs.Pieces.{Section, gutter_len}
+use Rattle.ariadne_picture.specs.Pieces.{Section, gutter_len, message_at}
 use Rattle.ariadne_picture.specs.ReadBack.Rows.{Known}
 use Rattle.ariadne_picture.specs.Canvas.{canvas, group_source, groups, sections, sheet_of, texts_of}
 use Rattle.ariadne_picture.specs.ReadBack.Answer.{read_back, read_headers}
@@ -47,7 +47,7 @@ module _ {S Id : Type 0} (w : World S Id) (r : ReportFields S) where
   -- the headers are to say
   pub record IsReadBackBy (infos : List LabelInfo) (known : List Known) : Type 0 where
     pub labels : IsPermutation (read_back (canvas w r infos) known (switches_of r.config))
-        (labels_told (texts_of r).message_of (sections w r infos))
+        (labels_told (message_at (texts_of r)) (sections w r infos))
     pub headers : read_headers (canvas w r infos) known (switches_of r.config)
         ≡ headers_told (texts_of r) (sections w r infos)
 
