@@ -152,8 +152,7 @@ margin-column s l g (Some m) e b = margin-column-within s l m g b (sym e)
 
 -- gutter labels are a matter of labels alone
 gutter-same : (s t : Sheet) → s.labels ≡ t.labels → gutter_labels t.labels ≡ gutter_labels s.labels
-unfolding gutter_labels multi_line_labels
-gutter-same s t e = ap (λ ls. gutter_labels (record { switches = s.switches; lines = s.lines; labels = ls }).labels) (sym e)
+gutter-same s t e = ap gutter_labels (sym e)
 
 -- so are the bars
 pub beside-same : (s t : Sheet) (l : ℕ) (g : GutterFields) → s.labels ≡ t.labels → s.switches ≡ t.switches → IsBeside t l g → IsBeside s l g
