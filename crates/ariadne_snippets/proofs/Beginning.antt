@@ -75,7 +75,7 @@ pub ends_at : (at : ℕ) (line quote : List ℕ) (place : ℕ) → length line �
     → begins_from at (drop place line) (drop at quote)
     ≡ cond (list_all is_white (drop at quote)) (Some (at ∷ [])) None
 unfolding begins_from
-ends_at at.labels line quote place end = at_drop_all (λ line. begins_from at line (drop at quote)) line place end
+ends_at at line quote place end = at_drop_all (λ line. begins_from at line (drop at quote)) line place end
 
 -- all is known there
 pub begun_by : (is_quote : Bool) (start at : ℕ) (line quote before xs after : List ℕ)

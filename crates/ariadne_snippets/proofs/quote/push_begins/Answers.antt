@@ -24,5 +24,5 @@ returns c =
     begun_by c.is_all_white.result c.args.start c.loop-place.at c.args.line.now _ c.args.begins.now.items c.loop-place.begins.items c.push-2.new.self.items
     (c.in_ok-push-2.ensures).items
     (ap (λ b. option_map (λ ys. c.loop-place.begins.items ++ ys) (cond b (Some (c.loop-place.at ∷ [])) None)) (search rules)
-    ∙ ap (λ o. option_map (λ ys. c.loop-place.begins.items ++ ys) o) (sym (ends_at c.loop-place.at.labels c.args.line.now c.args.quote.now c.loop-place.place c.loop-place-test.false))
+    ∙ ap (λ o. option_map (λ ys. c.loop-place.begins.items ++ ys) o) (sym (ends_at c.loop-place.at c.args.line.now c.args.quote.now c.loop-place.place c.loop-place-test.false))
     ∙ c.loop-place.invariant.1)
