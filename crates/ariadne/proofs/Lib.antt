@@ -1,3 +1,2 @@
 pub mod Building
 mod Sending
-pub mod Worked

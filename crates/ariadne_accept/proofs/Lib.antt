@@ -5,4 +5,3 @@ pub mod KnownPlaces
 pub mod Locating
 pub mod Messages
 pub mod Outcomes
-pub mod Worked

@@ -8,4 +8,3 @@ pub mod OneReading
 pub mod ReadingBack
 pub mod Variants
 pub mod Sent
-pub mod Worked
