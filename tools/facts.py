@@ -327,9 +327,9 @@ def of_safe():
 
 
 def of_show():
-    kinds, wrapping = "crates/ariadne_told/src/kinds.rt", "crates/ariadne_show/src/wrapping.rt"
-    byte = str(2 ** int(found("crates/ariadne_told/src/colors.rt", r"Option<u(\d+)>")) - 1)
-    bits = found("crates/ariadne_told/src/report.rt", r"Option<i(\d+)>")
+    kinds, wrapping = "crates/ariadne_parse/src/kinds.rt", "crates/ariadne_show/src/wrapping.rt"
+    byte = str(2 ** int(found("crates/ariadne_parse/src/colors.rt", r"Option<u(\d+)>")) - 1)
+    bits = found("crates/ariadne_parse/src/report.rt", r"Option<i(\d+)>")
     for name, meaning in (
         ("Shown", "everything was shown, and no diagnostic"), ("WithErrors", "everything was shown, and some"),
         ("WrongWords", "the arguments are invalid"), ("Failed", "reading or writing failed"),
@@ -338,8 +338,8 @@ def of_show():
         yield f"| {{}} | {meaning}", status("ariadne_show", name)
     yield "the least severity for exit status {}.", status("ariadne_show", "WithErrors")
     yield "the program ends with status {},", status("ariadne_show", "Failed")
-    yield "There are at most {} ranges", found("crates/ariadne_told/src/spots.rt", r"RANGES: u8 = (\d+);")
-    yield "(of the first {})", word(int(found("crates/ariadne_told/src/lines.rt", r"COLONS: u8 = (\d+);")))
+    yield "There are at most {} ranges", found("crates/ariadne_parse/src/spots.rt", r"RANGES: u8 = (\d+);")
+    yield "(of the first {})", word(int(found("crates/ariadne_parse/src/lines.rt", r"COLONS: u8 = (\d+);")))
     yield "capital letters and {} digits or more", word(int(found(kinds, r"digits\.len\(\) > (\d+)")) + 1)
     yield "one letter, {} digits and a colon", word(int(found(kinds, r"code\.len\(\) == (\d+) &&")) - 1)
     yield "`Fixed`, {} blanks to the right", word(len(found("tools/shown/cargo_short.txt", r"m( +)Fresh\b")))

@@ -10,7 +10,7 @@ use crate::report::Report;
 use ariadne_accept::accept::accept;
 use ariadne_accept::content::Content;
 use ariadne_base::{Cache, Span};
-use ariadne_drawing::margins::margin_columns;
+use ariadne_render::margins::margin_columns;
 use std::alloc::AllocError;
 
 impl<'a, S: Span> Report<'a, S> {

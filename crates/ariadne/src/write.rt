@@ -13,7 +13,7 @@ pub use crate::write_error::WriteError;
 use ariadne_accept::accept::accept;
 pub use ariadne_accept::accept::{LeftOut, Reason};
 use ariadne_base::{Cache, Span};
-use ariadne_drawing::drawing::draw;
+use ariadne_render::drawing::draw;
 use std::alloc::AllocError;
 use std::io;
 use std::io::{Stderr, Write};

@@ -2,7 +2,7 @@
 use Rattle.std.proofs.Common.{◌≡◌, ◌∙◌, ℕ, List, ap, sym}
 use Rattle.std.specs.Prelude.{Bool, true, false, if◌then◌else◌}
 use Rattle.ariadne_snippets.specs.declared.taken.FixKind.{FixKind}
-use Rattle.ariadne_told.specs.FixRows.{FixRow}
+use Rattle.ariadne_parse.specs.FixRows.{FixRow}
 use Rattle.ariadne_blocks.specs.Blocks.{fix_row_help, with_help, with_help_of_row, with_reason, View}
 use Rattle.ariadne_blocks.specs.FixRows.{column_of, is_told_in, kind_of}
 use Rattle.ariadne_blocks.specs.Fixes.{fix_text}

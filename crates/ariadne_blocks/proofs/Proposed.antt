@@ -3,10 +3,10 @@ use Rattle.std.proofs.Common.{◌≡◌, ◌∙◌, List, [], ◌∷◌, ◌++�
 use Rattle.std.specs.Prelude.{ℕ, ◌==◌, ◌&&◌, ◌||◌, map, Vec}
 use Rattle.std.specs.List.{list_all, list_any}
 use Rattle.std.specs.declared.alloc.Global.{Global}
-use Rattle.ariadne_told.specs.Proposed.{edit_of, proposed, Edit, Proposed}
-use Rattle.ariadne_told.specs.Proposed.{way_of as way_told}
-use Rattle.ariadne_told.specs.declared.diagnostic.Change.{Change}
-use Rattle.ariadne_told.specs.declared.diagnostic.Proposal.{Proposal}
+use Rattle.ariadne_parse.specs.Proposed.{edit_of, proposed, Edit, Proposed}
+use Rattle.ariadne_parse.specs.Proposed.{way_of as way_told}
+use Rattle.ariadne_parse.specs.declared.diagnostic.Change.{Change}
+use Rattle.ariadne_parse.specs.declared.diagnostic.Proposal.{Proposal}
 use Rattle.ariadne_blocks.specs.Proposed.{any_in_line, are_in_line, last_with, proposals_with, Way}
 use Rattle.ariadne_blocks.specs.declared.fix_rows.ToldChange.{ToldChange}
 use Rattle.ariadne_blocks.proofs.Lists.{any_mapped, pushed}

@@ -5,8 +5,8 @@ use Rattle.std.specs.List.{find, flat_map}
 use Rattle.std.specs.Option.{option_copied, option_or}
 use Rattle.std.specs.Borrow.{Bor}
 use Rattle.std.proofs.lemmas.List.{flat_map_more, take_all, take_more_set}
-use Rattle.ariadne_told.specs.Places.{seen, Seen}
-use Rattle.ariadne_told.specs.declared.diagnostic.Place.{Place}
+use Rattle.ariadne_parse.specs.Places.{seen, Seen}
+use Rattle.ariadne_parse.specs.declared.diagnostic.Place.{Place}
 use Rattle.std.proofs.lemmas.List.Folds.{find-append}
 use Rattle.ariadne_blocks.specs.declared.drawn.Drawn.{Drawn}
 use Rattle.ariadne_blocks.specs.Drawn.{all_settled, are_at, marks_at, marks_of, settled, with_found, Marks}

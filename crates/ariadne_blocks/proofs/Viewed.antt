@@ -3,8 +3,8 @@ use Rattle.std.proofs.Common.{◌≡◌, ◌∙◌, ℕ, List, refl, ap, sym}
 use Rattle.std.specs.Prelude.{Bool, map, slice_get, is_some, Option, None, Some, option_map}
 use Rattle.std.specs.Option.{option_copied}
 use Rattle.std.specs.Borrow.{Bor}
-use Rattle.ariadne_told.specs.Places.{seen}
-use Rattle.ariadne_told.specs.declared.diagnostic.Place.{Place}
+use Rattle.ariadne_parse.specs.Places.{seen}
+use Rattle.ariadne_parse.specs.declared.diagnostic.Place.{Place}
 use Rattle.ariadne_blocks.specs.Blocks.{first_file, first_line, for_programs, of_file, of_message, of_no_place, of_snippet, IsRow, View}
 use Rattle.ariadne_blocks.specs.Files.{file_at, line_at, File}
 use Rattle.ariadne_blocks.specs.GoingOn.{behind_head}

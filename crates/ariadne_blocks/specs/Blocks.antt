@@ -6,22 +6,22 @@ use Rattle.std.specs.Prelude.{ℕ, ◌≡◌, ◌==◌, Bool, true, false, not, 
 use Rattle.std.specs.Prelude.{List, [], ◌∷◌, ◌++◌, chars, codes, fold, length, map, reverse, slice_get}
 use Rattle.std.specs.Prelude.{Option, None, Some, is_some, option_map, string_bytes}
 use Rattle.std.specs.Str.{bytes_eq}
-use Rattle.ariadne_told.specs.declared.unit.Unit.{Unit as ColumnUnit}
-use Rattle.ariadne_told.specs.declared.unit.Unit.TheVariants.{Byte}
+use Rattle.ariadne_parse.specs.declared.unit.Unit.{Unit as ColumnUnit}
+use Rattle.ariadne_parse.specs.declared.unit.Unit.TheVariants.{Byte}
 use Rattle.ariadne_snippets.specs.Snippets.{number_quoted, HasEnded, IsUnread, QuotesNext, TellsOf}
 use Rattle.ariadne_snippets.specs.declared.snippet.Snippet.{Snippet}
 use Rattle.ariadne_snippets.specs.declared.taken.Fix.{Fix}
 use Rattle.ariadne_snippets.specs.declared.taken.FixKind.{FixKind}
 use Rattle.ariadne_snippets.specs.declared.taken.Taken.{Taken}
 use Rattle.ariadne_snippets.specs.declared.taken.Taken.TheVariants.{NotOfSnippet, Nothing, Ranges, Labels, Begun, Fixes, Note, Help, More, At, Elsewhere}
-use Rattle.ariadne_told.specs.Arrows.{arrow_in}
-use Rattle.ariadne_told.specs.ArrowsTold.{place_of_arrow}
-use Rattle.ariadne_told.specs.FixRows.{fix_row_in, FixRow}
-use Rattle.ariadne_told.specs.Noted.{place_row}
-use Rattle.ariadne_told.specs.Places.{seen, Seen}
-use Rattle.ariadne_told.specs.Proposed.{Edit, Proposed}
-use Rattle.ariadne_told.specs.declared.diagnostic.Diagnostic.{Diagnostic}
-use Rattle.ariadne_told.specs.declared.diagnostic.Place.{Place}
+use Rattle.ariadne_parse.specs.Arrows.{arrow_in}
+use Rattle.ariadne_parse.specs.ArrowsTold.{place_of_arrow}
+use Rattle.ariadne_parse.specs.FixRows.{fix_row_in, FixRow}
+use Rattle.ariadne_parse.specs.Noted.{place_row}
+use Rattle.ariadne_parse.specs.Places.{seen, Seen}
+use Rattle.ariadne_parse.specs.Proposed.{Edit, Proposed}
+use Rattle.ariadne_parse.specs.declared.diagnostic.Diagnostic.{Diagnostic}
+use Rattle.ariadne_parse.specs.declared.diagnostic.Place.{Place}
 use Rattle.ariadne_blocks.specs.Colors.{IsBare}
 use Rattle.ariadne_blocks.specs.Events.{event_in, frame, in_file, quoting, telling as telling_event}
 use Rattle.ariadne_blocks.specs.Files.{File, file_at, line_at, quotes_escape, source_in}

@@ -3,10 +3,10 @@
 use Rattle.std.specs.Prelude.{ℕ, Bool, true, false, ◌&&◌, ◌||◌, ◌==◌, if◌then◌else◌, List, [], ◌∷◌, ◌++◌, find}
 use Rattle.std.specs.Prelude.{Option, None, Some, is_some, not, string_bytes}
 use Rattle.std.specs.Str.{bytes_eq}
-use Rattle.ariadne_told.specs.Places.{Seen}
-use Rattle.ariadne_told.specs.declared.diagnostic.End.{End}
-use Rattle.ariadne_told.specs.declared.diagnostic.End.TheVariants.{Before, Behind, OfWord}
-use Rattle.ariadne_told.specs.declared.diagnostic.Spot.{Spot}
+use Rattle.ariadne_parse.specs.Places.{Seen}
+use Rattle.ariadne_parse.specs.declared.diagnostic.End.{End}
+use Rattle.ariadne_parse.specs.declared.diagnostic.End.TheVariants.{Before, Behind, OfWord}
+use Rattle.ariadne_parse.specs.declared.diagnostic.Spot.{Spot}
 use Rattle.ariadne_blocks.specs.declared.drawn.Drawn.{Drawn}
 
 -- marks in a file, where the tool's head points and where its marks do, and what they cover

@@ -4,13 +4,13 @@ use Rattle.std.specs.Char.{is_ascii_digit}
 use Rattle.std.specs.List.{list_any}
 use Rattle.std.specs.Str.{trim_start}
 use Rattle.std.specs.Prelude.{Option, None, Some, option_and_then, option_map, unwrap_or}
-use Rattle.ariadne_told.specs.Columns.{column_at, line_of, offset_of}
-use Rattle.ariadne_told.specs.declared.unit.Unit.{Unit}
-use Rattle.ariadne_told.specs.declared.unit.Unit.TheVariants.{Byte, Char, Display}
+use Rattle.ariadne_parse.specs.Columns.{column_at, line_of, offset_of}
+use Rattle.ariadne_parse.specs.declared.unit.Unit.{Unit}
+use Rattle.ariadne_parse.specs.declared.unit.Unit.TheVariants.{Byte, Char, Display}
 use Rattle.ariadne_snippets.specs.Snippets.{number_quoted}
 use Rattle.ariadne_snippets.specs.declared.snippet.Snippet.{Snippet}
 use Rattle.ariadne_snippets.specs.declared.taken.Point.{Point}
-use Rattle.ariadne_told.specs.Places.{Seen}
+use Rattle.ariadne_parse.specs.Places.{Seen}
 use Rattle.ariadne_blocks.specs.declared.file.QuotedFile.{QuotedFile}
 
 -- its characters, what a column in bytes counts in it, and how many lines stand above those that are held

@@ -9,8 +9,8 @@ use Rattle.std.specs.Str.Lossy.{utf8_lossy}
 use Rattle.ariadne_snippets.specs.declared.taken.Fix.{Fix}
 use Rattle.ariadne_snippets.specs.declared.taken.FixKind.{FixKind}
 use Rattle.ariadne_snippets.specs.declared.taken.FixKind.TheVariants.{Put, PutLine, Become, Remove}
-use Rattle.ariadne_told.specs.FixRows.{FixRow}
-use Rattle.ariadne_told.specs.Pieces.{in_front_of, in_front_of_text}
+use Rattle.ariadne_parse.specs.FixRows.{FixRow}
+use Rattle.ariadne_parse.specs.Pieces.{in_front_of, in_front_of_text}
 use Rattle.ariadne_blocks.specs.Drawn.{is_same_spot}
 use Rattle.ariadne_blocks.specs.declared.fix_rows.Escape.{Escape}
 use Rattle.ariadne_blocks.specs.declared.fix_rows.Escape.TheVariants.{Closed, Digit, Digits, Open}

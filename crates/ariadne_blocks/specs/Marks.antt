@@ -4,16 +4,16 @@
 use Rattle.std.specs.Prelude.{ℕ, ◌==◌, Bool, true, false, not, ◌&&◌, if◌then◌else◌, pos, ◌+◌, ◌-◌, ◌^◌, min}
 use Rattle.std.specs.Prelude.{List, [], ◌∷◌, ◌++◌, length, map, slice_get, slice_set}
 use Rattle.std.specs.Prelude.{Option, None, Some, fold, is_some}
-use Rattle.ariadne_told.specs.declared.unit.Unit.{Unit}
-use Rattle.ariadne_told.specs.declared.unit.Unit.TheVariants.{Byte, Char, Display}
+use Rattle.ariadne_parse.specs.declared.unit.Unit.{Unit}
+use Rattle.ariadne_parse.specs.declared.unit.Unit.TheVariants.{Byte, Char, Display}
 use Rattle.ariadne_snippets.specs.declared.taken.Label.{Label}
 use Rattle.ariadne_snippets.specs.declared.taken.Mark.{Mark}
 use Rattle.ariadne_snippets.specs.declared.taken.Point.{Point}
-use Rattle.ariadne_told.specs.Places.{Seen, place_of, seen}
-use Rattle.ariadne_told.specs.declared.diagnostic.End.{End}
-use Rattle.ariadne_told.specs.declared.diagnostic.End.TheVariants.{Before, Behind, OfWord}
-use Rattle.ariadne_told.specs.declared.diagnostic.Place.{Place}
-use Rattle.ariadne_told.specs.declared.diagnostic.Spot.{Spot}
+use Rattle.ariadne_parse.specs.Places.{Seen, place_of, seen}
+use Rattle.ariadne_parse.specs.declared.diagnostic.End.{End}
+use Rattle.ariadne_parse.specs.declared.diagnostic.End.TheVariants.{Before, Behind, OfWord}
+use Rattle.ariadne_parse.specs.declared.diagnostic.Place.{Place}
+use Rattle.ariadne_parse.specs.declared.diagnostic.Spot.{Spot}
 use Rattle.ariadne_blocks.specs.Files.{File, char_column, column_in}
 use Rattle.ariadne_blocks.specs.declared.rows.Rows.{Rows}
 

@@ -4,7 +4,7 @@ use Rattle.std.specs.Prelude.{ℕ, suc, ◌-◌, ◌==◌, nat_le, Bool, false, 
 use Rattle.std.specs.Prelude.{if◌then◌else◌, List, [], ◌∷◌, ◌++◌, chars, codes, fold, length, slice_index}
 use Rattle.std.specs.Prelude.{Option, None, Some}
 use Rattle.std.specs.List.{ends_with}
-use Rattle.ariadne_told.specs.Heads.{code_in}
+use Rattle.ariadne_parse.specs.Heads.{code_in}
 use Rattle.ariadne_blocks.specs.Telling.{Telling}
 
 -- a file is one of Python's

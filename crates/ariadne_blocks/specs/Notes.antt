@@ -1,10 +1,10 @@
 -- The places of a note: the first says what the note says, and none is the diagnostic's own. One that has no place
 -- of its own is told by none: another range over all the lines of the diagnostic would show nothing more.
 use Rattle.std.specs.Prelude.{ℕ, ◌==◌, Bool, false, not, ◌&&◌, List, [], ◌∷◌, map, is_some}
-use Rattle.ariadne_told.specs.Places.{Seen}
-use Rattle.ariadne_told.specs.declared.diagnostic.End.{End}
-use Rattle.ariadne_told.specs.declared.diagnostic.End.TheVariants.{Before, Behind, OfWord}
-use Rattle.ariadne_told.specs.declared.diagnostic.Spot.{Spot}
+use Rattle.ariadne_parse.specs.Places.{Seen}
+use Rattle.ariadne_parse.specs.declared.diagnostic.End.{End}
+use Rattle.ariadne_parse.specs.declared.diagnostic.End.TheVariants.{Before, Behind, OfWord}
+use Rattle.ariadne_parse.specs.declared.diagnostic.Spot.{Spot}
 use Rattle.ariadne_blocks.specs.Drawn.{is_same_spot}
 use Rattle.ariadne_blocks.specs.Repeats.{is_same_end}
 

@@ -3,10 +3,10 @@ use Rattle.std.specs.Prelude.{ℕ, ◌==◌, Bool, true, ◌&&◌, if◌then◌e
 use Rattle.std.specs.List.{list_all, list_any}
 use Rattle.std.specs.Str.{bytes_eq}
 use Rattle.std.specs.declared.alloc.Global.{Global}
-use Rattle.ariadne_told.specs.declared.unit.Unit.TheVariants.{Byte}
-use Rattle.ariadne_told.specs.FixRows.{FixRow}
-use Rattle.ariadne_told.specs.Proposed.{gone_on, Edit, Proposed}
-use Rattle.ariadne_told.specs.declared.diagnostic.Change.{Change}
+use Rattle.ariadne_parse.specs.declared.unit.Unit.TheVariants.{Byte}
+use Rattle.ariadne_parse.specs.FixRows.{FixRow}
+use Rattle.ariadne_parse.specs.Proposed.{gone_on, Edit, Proposed}
+use Rattle.ariadne_parse.specs.declared.diagnostic.Change.{Change}
 use Rattle.ariadne_blocks.specs.declared.fix_rows.ToldChange.{ToldChange}
 use Rattle.ariadne_blocks.specs.declared.proposing.Proposing.{Proposing}
 

@@ -4,12 +4,12 @@ use Rattle.std.specs.Prelude.{◌-◌, Bool, true, false, not, ◌&&◌, if◌th
 use Rattle.std.specs.Prelude.{Option, None, Some}
 use Rattle.std.specs.List.{list_any}
 use Rattle.std.specs.Str.{bytes_eq}
-use Rattle.ariadne_told.specs.declared.unit.Unit.{Unit}
-use Rattle.ariadne_told.specs.declared.unit.Unit.TheVariants.{Byte, Char, Display}
-use Rattle.ariadne_told.specs.Places.{Seen}
-use Rattle.ariadne_told.specs.declared.diagnostic.End.{End}
-use Rattle.ariadne_told.specs.declared.diagnostic.End.TheVariants.{Before, Behind, OfWord}
-use Rattle.ariadne_told.specs.declared.diagnostic.Spot.{Spot}
+use Rattle.ariadne_parse.specs.declared.unit.Unit.{Unit}
+use Rattle.ariadne_parse.specs.declared.unit.Unit.TheVariants.{Byte, Char, Display}
+use Rattle.ariadne_parse.specs.Places.{Seen}
+use Rattle.ariadne_parse.specs.declared.diagnostic.End.{End}
+use Rattle.ariadne_parse.specs.declared.diagnostic.End.TheVariants.{Before, Behind, OfWord}
+use Rattle.ariadne_parse.specs.declared.diagnostic.Spot.{Spot}
 use Rattle.ariadne_blocks.specs.Drawn.{is_same_spot}
 
 -- two places end in the same way

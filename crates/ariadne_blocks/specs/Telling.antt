@@ -1,12 +1,12 @@
 -- A diagnostic as it is read: its texts, and not what holds these.
 use Rattle.std.specs.Prelude.{ℕ, Bool, List, map, Option, option_map, String, string_bytes}
 use Rattle.std.specs.declared.alloc.Global.{Global}
-use Rattle.ariadne_told.specs.Places.{seen, Seen}
-use Rattle.ariadne_told.specs.Proposed.{proposed, Proposed}
-use Rattle.ariadne_told.specs.declared.diagnostic.Diagnostic.{Diagnostic}
-use Rattle.ariadne_told.specs.declared.diagnostic.OwnKind.{OwnKind}
-use Rattle.ariadne_told.specs.declared.diagnostic.QuotedLine.{QuotedLine}
-use Rattle.ariadne_told.specs.declared.diagnostic.Severity.{Severity}
+use Rattle.ariadne_parse.specs.Places.{seen, Seen}
+use Rattle.ariadne_parse.specs.Proposed.{proposed, Proposed}
+use Rattle.ariadne_parse.specs.declared.diagnostic.Diagnostic.{Diagnostic}
+use Rattle.ariadne_parse.specs.declared.diagnostic.OwnKind.{OwnKind}
+use Rattle.ariadne_parse.specs.declared.diagnostic.QuotedLine.{QuotedLine}
+use Rattle.ariadne_parse.specs.declared.diagnostic.Severity.{Severity}
 
 -- what a diagnostic tells
 pub record Telling : Type 0 where

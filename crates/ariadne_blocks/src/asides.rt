@@ -1,15 +1,15 @@
 //! Texts beside the message of a block, and the places that rows name for them.
 
 ghost use Rattle.std.specs.Prelude.{◌≡◌, map, option_map, reverse, string_bytes, false, None, OnOk, Some};
-ghost use Rattle.ariadne_told.specs.Arrows.{arrow_in};
-ghost use Rattle.ariadne_told.specs.ArrowsTold.{place_of_arrow};
-ghost use Rattle.ariadne_told.specs.Places.{seen};
+ghost use Rattle.ariadne_parse.specs.Arrows.{arrow_in};
+ghost use Rattle.ariadne_parse.specs.ArrowsTold.{place_of_arrow};
+ghost use Rattle.ariadne_parse.specs.Places.{seen};
 ghost use Rattle.ariadne_blocks.specs.Blocks as blocks;
 ghost use Rattle.ariadne_blocks.specs.Blocks.{view_of, IsNamed, IsQuotedBy};
 ghost use Rattle.ariadne_blocks.specs.declared.block.Aside.TheVariants as aside;
 
 use crate::block::{Aside, Block};
-use ariadne_told::{Place, arrow_of, named_place};
+use ariadne_parse::{Place, arrow_of, named_place};
 use std::alloc::{AllocError, Global};
 
 impl Block {

@@ -11,7 +11,7 @@ use crate::goes_on::GoesOn;
 use crate::message::{MessageLine, is_of_python};
 use crate::places::{are_lines_of, is_line_of, push_note};
 use crate::rows::Rows;
-use ariadne_told::{Diagnostic, Place};
+use ariadne_parse::{Diagnostic, Place};
 use std::alloc::{AllocError, Global};
 
 /// A diagnostic whose lines are being read.

@@ -1,7 +1,7 @@
 //! What is to be changed, by a row of a snippet or one for programs: helps of a block.
 
 ghost use Rattle.std.specs.Prelude.{◌≡◌, option_map, slice_get, string_bytes, true, None, IfOk, OnOk, Some};
-ghost use Rattle.ariadne_told.specs.FixRows.{fix_row_told};
+ghost use Rattle.ariadne_parse.specs.FixRows.{fix_row_told};
 ghost use Rattle.ariadne_blocks.specs.Blocks as blocks;
 ghost use Rattle.ariadne_blocks.specs.Blocks.{view_of};
 ghost use Rattle.ariadne_blocks.specs.Files.{file_of};
@@ -13,7 +13,7 @@ use crate::file::QuotedFile;
 use crate::fix_rows::{ToldChange, column_of, fix_of, is_path_of, is_told, unescaped};
 use crate::fixes::{change_unit, fix_text, fix_words};
 use ariadne_snippets::Fix;
-use ariadne_told::{FixRow, Unit, fix_row_of};
+use ariadne_parse::{FixRow, Unit, fix_row_of};
 use std::alloc::{AllocError, Global};
 
 impl Block {

@@ -3,7 +3,7 @@
 ghost use Rattle.std.specs.Prelude.{◌≡◌, option_map, string_bytes, IfOk};
 ghost use Rattle.std.specs.List.{list_all};
 ghost use Rattle.std.specs.Path.{rsplit_once};
-ghost use Rattle.ariadne_told.specs.Pieces.{behind, in_front_of};
+ghost use Rattle.ariadne_parse.specs.Pieces.{behind, in_front_of};
 ghost use Rattle.ariadne_blocks.specs.Colors.{is_color as is_color_in, is_parameter};
 ghost use Rattle.ariadne_blocks.specs.Colors.{without_last, IsBare};
 

@@ -5,7 +5,7 @@ ghost use Rattle.std.specs.Option.{option_copied};
 ghost use Rattle.ariadne_blocks.specs.Files as files;
 
 use ariadne_snippets::Point;
-use ariadne_told::{Columns, Unit};
+use ariadne_parse::{Columns, Unit};
 
 /// A file whose lines rows quote, as it is held.
 #[derive(Clone, Copy)]

@@ -3,15 +3,15 @@
 
 ghost use Rattle.std.specs.Prelude.{◌≡◌, ◌==◌, ◌++◌, ◌∷◌, ℕ, List, IfOk, option_map, string_bytes};
 ghost use Rattle.std.specs.List.{list_any};
-ghost use Rattle.ariadne_told.specs.FixRows.{fix_row_told};
-ghost use Rattle.ariadne_told.specs.Pieces.{in_front_of, in_front_of_text};
-ghost use Rattle.ariadne_told.specs.Proposed.{edit_of};
+ghost use Rattle.ariadne_parse.specs.FixRows.{fix_row_told};
+ghost use Rattle.ariadne_parse.specs.Pieces.{in_front_of, in_front_of_text};
+ghost use Rattle.ariadne_parse.specs.Proposed.{edit_of};
 ghost use Rattle.ariadne_blocks.specs.FixRows as rows;
 ghost use Rattle.ariadne_blocks.specs.Proposed.{edit_with};
 
 use crate::events::closes_with;
 use ariadne_snippets::{Fix, FixKind, Point};
-use ariadne_told::{Change, FixRow};
+use ariadne_parse::{Change, FixRow};
 use std::alloc::{AllocError, Global};
 
 /// A change that rows below a line have told: in which line it is, and whether that only removes something.

@@ -6,7 +6,7 @@ ghost use Rattle.ariadne_blocks.specs.Fixes.{change_unit as unit_of_change, fix_
 
 use crate::file::{QuotedFile, column_in};
 use ariadne_snippets::{Fix, FixKind};
-use ariadne_told::Unit;
+use ariadne_parse::Unit;
 use std::alloc::{AllocError, Global};
 
 /// What a help says of a change: at its column by what it counts.

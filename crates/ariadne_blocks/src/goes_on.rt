@@ -10,13 +10,13 @@
 ghost use Rattle.std.specs.Prelude.{◌≡◌, ◌==◌, option_map};
 ghost use Rattle.std.specs.List.{list_any, prefix_len};
 ghost use Rattle.std.specs.Option.{option_copied};
-ghost use Rattle.ariadne_told.specs.Pieces.{split_once};
-ghost use Rattle.ariadne_told.specs.Places.{seen};
+ghost use Rattle.ariadne_parse.specs.Pieces.{split_once};
+ghost use Rattle.ariadne_parse.specs.Places.{seen};
 ghost use Rattle.ariadne_blocks.specs.GoingOn as going;
 
 use crate::events::{begins_with, behind_blank, closes_with};
 use crate::message::{had_no_room, is_of_python, width_of};
-use ariadne_told::Place;
+use ariadne_parse::Place;
 
 /// How a message may go on in the next line.
 #[derive(Clone, Copy, Debug)]

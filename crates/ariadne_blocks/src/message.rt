@@ -5,7 +5,7 @@ ghost use Rattle.ariadne_blocks.specs.Blocks.{held_of, text_of};
 ghost use Rattle.ariadne_blocks.specs.Messages as messages;
 ghost use Rattle.ariadne_blocks.specs.Telling.{telling};
 
-use ariadne_told::{Diagnostic, code_in};
+use ariadne_parse::{Diagnostic, code_in};
 use std::alloc::{AllocError, Global};
 
 /// How many characters a line has at most that mypy cuts.

@@ -1,7 +1,7 @@
 //! Places that marks and notes tell.
 
 ghost use Rattle.std.specs.Prelude.{◌≡◌, ◌++◌, map, option_map, string_bytes, IfOk, OnOk};
-ghost use Rattle.ariadne_told.specs.Places.{seen};
+ghost use Rattle.ariadne_parse.specs.Places.{seen};
 ghost use Rattle.ariadne_blocks.specs.Files.{file_of};
 ghost use Rattle.ariadne_blocks.specs.Marks as marks;
 ghost use Rattle.ariadne_blocks.specs.Notes.{are_lines_of as lines_of_place, as_beside};
@@ -11,7 +11,7 @@ ghost use Rattle.ariadne_blocks.specs.Notes.{is_over_lines as goes_over_lines, n
 use crate::file::{QuotedFile, column_in};
 use crate::repeats::is_same_end;
 use ariadne_snippets::{Mark, Point};
-use ariadne_told::{End, Look, Place, Spot, Unit};
+use ariadne_parse::{End, Look, Place, Spot, Unit};
 use std::alloc::AllocError;
 
 /// A point as a spot, whose column counts characters from 1.

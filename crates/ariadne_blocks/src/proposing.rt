@@ -3,9 +3,9 @@
 
 ghost use Rattle.std.specs.Prelude.{◌≡◌, ◌==◌, ◌++◌, ◌∷◌, [], map, IfOk, OnOk};
 ghost use Rattle.std.specs.List.{list_all, list_any};
-ghost use Rattle.ariadne_told.specs.FixRows.{fix_row_told};
-ghost use Rattle.ariadne_told.specs.Proposed as told;
-ghost use Rattle.ariadne_told.specs.Proposed.{edit_of, proposed};
+ghost use Rattle.ariadne_parse.specs.FixRows.{fix_row_told};
+ghost use Rattle.ariadne_parse.specs.Proposed as told;
+ghost use Rattle.ariadne_parse.specs.Proposed.{edit_of, proposed};
 ghost use Rattle.ariadne_blocks.specs.Blocks as blocks;
 ghost use Rattle.ariadne_blocks.specs.Blocks.{view_of};
 ghost use Rattle.ariadne_blocks.specs.Proposed as proposing;
@@ -13,7 +13,7 @@ ghost use Rattle.ariadne_blocks.specs.Proposed.{any_in_line, edit_with, way_of};
 
 use crate::block::Block;
 use crate::fix_rows::{ToldChange, change_of};
-use ariadne_told::{Change, FixRow, Proposal, Unit};
+use ariadne_parse::{Change, FixRow, Proposal, Unit};
 use std::alloc::{AllocError, Global};
 use std::ops::Range;
 

@@ -3,11 +3,11 @@
 
 ghost use Rattle.std.specs.Prelude.{◌≡◌, map, drop, length, ◌-◌, OnOk};
 ghost use Rattle.std.specs.List.{list_any};
-ghost use Rattle.ariadne_told.specs.Places.{seen};
+ghost use Rattle.ariadne_parse.specs.Places.{seen};
 ghost use Rattle.ariadne_blocks.specs.Repeats.{is_repeat as is_repeat_of, is_same_end as ends_are_same};
 ghost use Rattle.ariadne_blocks.specs.Repeats.{is_same_range as ranges_are_same, once, says_same, with_place};
 
-use ariadne_told::{End, Place, Spot};
+use ariadne_parse::{End, Place, Spot};
 use std::alloc::{AllocError, Global};
 use std::mem;
 

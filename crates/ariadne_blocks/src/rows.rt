@@ -5,7 +5,7 @@ ghost use Rattle.std.specs.Prelude.{true, false};
 ghost use Rattle.std.specs.List.{list_any};
 ghost use Rattle.std.specs.Option.{option_copied};
 ghost use Rattle.ariadne_snippets.specs.Snippets.{number_quoted, IsUnread};
-ghost use Rattle.ariadne_told.specs.Places.{seen};
+ghost use Rattle.ariadne_parse.specs.Places.{seen};
 ghost use Rattle.ariadne_blocks.specs.Files.{file_at, file_of, line_at};
 ghost use Rattle.ariadne_blocks.specs.Files.{begins_with_number as begins_with_digit};
 ghost use Rattle.ariadne_blocks.specs.Files.{quotes_escape as quotes_escape_in, source_in};
@@ -18,7 +18,7 @@ use crate::places::{
     begin_at, caret_of, inner_place, is_range_of, marked_place, own_marks, say_at,
 };
 use ariadne_snippets::{Label, Mark, Point, Snippet};
-use ariadne_told::Place;
+use ariadne_parse::Place;
 use std::alloc::{AllocError, Global};
 
 /// The rows below a head or a note, as far as they were read.

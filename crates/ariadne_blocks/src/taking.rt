@@ -13,7 +13,7 @@ use crate::events::{EventRow, event_row, is_events_head};
 use crate::file::QuotedFile;
 use crate::line::Line;
 use ariadne_snippets::Taken;
-use ariadne_told::{Arrow, Spot};
+use ariadne_parse::{Arrow, Spot};
 use std::alloc::{AllocError, Global};
 
 /// The line that stands for a file as a whole.

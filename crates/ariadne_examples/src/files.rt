@@ -4,7 +4,7 @@
 
 use crate::pictures::{assert_rows, plain};
 use ariadne::{FileCache, FileError, Label, LeftOut, Reason, Report, ReportKind, WriteError};
-use ariadne_fakes::Folder;
+use ariadne_testing::Folder;
 use std::alloc::{AllocError, Global};
 use std::io;
 use std::io::Write;

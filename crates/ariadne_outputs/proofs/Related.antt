@@ -12,8 +12,8 @@ use Rattle.serde_json.specs.Data.{Data, Members, array, member, no_members, obje
 use Rattle.serde_json.specs.View.{items_of, view}
 use Rattle.serde_json.specs.Written.{has_float, items_have_float, members_have_float}
 use Rattle.serde_json.specs.declared.value.Value.{Value}
-use Rattle.ariadne_told.specs.declared.diagnostic.Diagnostic.{Diagnostic}
-use Rattle.ariadne_told.specs.declared.diagnostic.Spot.{Spot}
+use Rattle.ariadne_parse.specs.declared.diagnostic.Diagnostic.{Diagnostic}
+use Rattle.ariadne_parse.specs.declared.diagnostic.Spot.{Spot}
 use Rattle.ariadne_outputs.specs.declared.located.Located.{Located}
 use Rattle.ariadne_outputs.specs.Located.{Location, first_of, location_of, locations_of, others_of, said_at, severity_word, whole_of}
 use Rattle.ariadne_outputs.specs.Sarif.{driver_of, file_data, location_members, message_data, number_data, own_data, region_of, related_data, related_datas, result_of, text_data, uri_of, with_column, with_end, with_message, with_region, with_rule, with_spot}

@@ -9,10 +9,10 @@ use Rattle.std.specs.Str.{trim_start}
 use Rattle.std.specs.declared.alloc.Global.{Global}
 use Rattle.ariadne_safe.specs.Visible.{shown_code}
 use Rattle.ariadne_safe.specs.declared.text.TextKind.TheVariants.{OneRow}
-use Rattle.ariadne_told.specs.declared.diagnostic.Diagnostic.{Diagnostic}
-use Rattle.ariadne_told.specs.declared.diagnostic.Severity.{Severity}
-use Rattle.ariadne_told.specs.declared.diagnostic.Severity.TheVariants.{Error, Warning, Note}
-use Rattle.ariadne_told.specs.declared.diagnostic.Spot.{Spot}
+use Rattle.ariadne_parse.specs.declared.diagnostic.Diagnostic.{Diagnostic}
+use Rattle.ariadne_parse.specs.declared.diagnostic.Severity.{Severity}
+use Rattle.ariadne_parse.specs.declared.diagnostic.Severity.TheVariants.{Error, Warning, Note}
+use Rattle.ariadne_parse.specs.declared.diagnostic.Spot.{Spot}
 use Rattle.ariadne_outputs.specs.declared.github.Role.{Role}
 use Rattle.ariadne_outputs.specs.declared.github.Role.TheVariants.{Message, Property}
 use Rattle.ariadne_outputs.specs.Located.{Location, first_of, others_of, said_at, whole_of}

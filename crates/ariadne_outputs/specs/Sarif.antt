@@ -13,8 +13,8 @@ use Rattle.serde_json.specs.View.{items_of}
 use Rattle.percent_encoding.specs.Percent.{percent_encode_byte}
 use Rattle.ariadne_safe.specs.Visible.{visible_bytes}
 use Rattle.ariadne_safe.specs.declared.text.TextKind.TheVariants.{Aside}
-use Rattle.ariadne_told.specs.declared.diagnostic.Diagnostic.{Diagnostic}
-use Rattle.ariadne_told.specs.declared.diagnostic.Spot.{Spot}
+use Rattle.ariadne_parse.specs.declared.diagnostic.Diagnostic.{Diagnostic}
+use Rattle.ariadne_parse.specs.declared.diagnostic.Spot.{Spot}
 use Rattle.ariadne_outputs.specs.Located.{Location, first_of, others_of, said_at, severity_word}
 use Rattle.ariadne_outputs.specs.Located.{whole_of}
 

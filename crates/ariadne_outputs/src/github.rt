@@ -20,7 +20,7 @@ use crate::passing::passing_line;
 use crate::whole::whole_text;
 use ariadne_safe::TextKind;
 use ariadne_safe::text::shown_char;
-use ariadne_told::{Diagnostic, Severity};
+use ariadne_parse::{Diagnostic, Severity};
 use std::alloc::{AllocError, Global};
 
 /// What a text is escaped for.

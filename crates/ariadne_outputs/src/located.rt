@@ -3,7 +3,7 @@
 ghost use Rattle.std.specs.Prelude.{◌≡◌, drop};
 ghost use Rattle.ariadne_outputs.specs.Located.{severity_word as word_of};
 
-use ariadne_told::{Place, Severity, Spot};
+use ariadne_parse::{Place, Severity, Spot};
 
 /// A place of a diagnostic, and where it stands in its file. Lines and columns count from 1; what
 /// columns count is said where it is asked for.

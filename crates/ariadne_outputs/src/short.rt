@@ -11,7 +11,7 @@ ghost use Rattle.ariadne_outputs.specs.Short.{short_rows, spot_at};
 
 use crate::located::{Located, severity_word};
 use ariadne_safe::{TextKind, visible};
-use ariadne_told::Diagnostic;
+use ariadne_parse::Diagnostic;
 use std::alloc::{AllocError, Global};
 
 /// The word for what is said beside a diagnostic.

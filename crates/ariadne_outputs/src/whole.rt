@@ -5,7 +5,7 @@ ghost use Rattle.std.specs.Option.{option_copied};
 ghost use Rattle.ariadne_outputs.specs.Located.{location_of, own_line, said_lines, whole_of};
 
 use crate::located::Located;
-use ariadne_told::Diagnostic;
+use ariadne_parse::Diagnostic;
 use std::alloc::{AllocError, Global};
 
 /// The message of a diagnostic, what its own place says, its notes and its helps, each in a line of its

@@ -3,7 +3,7 @@
 use crate::comparing::assert_text_of;
 use crate::told_proposals::proposals_text;
 use ariadne_blocks::{Block, Line, QuotedFile};
-use ariadne_told::{Answer, Columns, Diagnostic, Format, Reading, Sent, Unit, told};
+use ariadne_parse::{Answer, Columns, Diagnostic, Format, Reading, Sent, Unit, told};
 use std::alloc::{AllocError, Global};
 use std::slice;
 

@@ -4,7 +4,7 @@ ghost use Rattle.std.specs.Prelude.{◌<◌};
 
 use crate::outcome::Outcome;
 use ariadne_commands::{Page, Status, Watched, draw};
-use ariadne_fakes::{Given, Taker, refuse, texts};
+use ariadne_testing::{Given, Taker, refuse, texts};
 use std::io::ErrorKind;
 use std::process::Abort;
 use std::rt::Files;

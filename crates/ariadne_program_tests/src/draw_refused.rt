@@ -5,7 +5,7 @@ ghost use Rattle.std.specs.Prelude.{◌<◌};
 use crate::draw::{TEXT, run};
 use crate::outcome::is_served;
 use ariadne_commands::{Status, without_colors};
-use ariadne_fakes::{Given, Taker, refuse, texts, was_refused};
+use ariadne_testing::{Given, Taker, refuse, texts, was_refused};
 use std::process::Abort;
 use std::rt::Files;
 

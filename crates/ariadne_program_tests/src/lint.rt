@@ -5,7 +5,7 @@ ghost use Rattle.std.specs.Prelude.{◌<◌};
 use crate::comparing::assert_same_of;
 use crate::outcome::Outcome;
 use ariadne_commands::{Offence, Status, first_offence, lint, texts_have_one_first_offence};
-use ariadne_fakes::{Folder, Taker, refuse, texts};
+use ariadne_testing::{Folder, Taker, refuse, texts};
 use std::alloc::{AllocError, Global};
 use std::io::ErrorKind;
 use std::process::Abort;

@@ -5,7 +5,7 @@ ghost use Rattle.std.specs.Prelude.{◌<◌};
 use crate::lint::{FIRST, SECOND, both, run};
 use crate::outcome::is_served;
 use ariadne_commands::{Offence, Status, first_offence};
-use ariadne_fakes::{Folder, Taker, refuse, was_refused};
+use ariadne_testing::{Folder, Taker, refuse, was_refused};
 use std::process::Abort;
 use std::rt::Files;
 

@@ -1,6 +1,6 @@
 //! What runs of the programs came to, and how it is compared.
 
-use ariadne_fakes::was_refused;
+use ariadne_testing::was_refused;
 use std::fmt::Debug;
 use std::process::Abort;
 

@@ -3,7 +3,7 @@
 ghost use Rattle.std.specs.Prelude.{◌<◌};
 
 use crate::outcome::Outcome;
-use ariadne_fakes::{Folder, Given, Taker, refuse, texts};
+use ariadne_testing::{Folder, Given, Taker, refuse, texts};
 use ariadne_show::{
     Asked, FailOn, Fault, Options, Status, Streams, Sum, Width, read_words, show, tell_fault,
 };

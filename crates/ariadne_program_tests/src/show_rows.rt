@@ -2,7 +2,7 @@
 //! to change.
 
 use crate::show::{run, with_path};
-use ariadne_fakes::{Folder, Given, Taker};
+use ariadne_testing::{Folder, Given, Taker};
 use ariadne_show::Status;
 use std::process::Abort;
 use std::rt::Files;

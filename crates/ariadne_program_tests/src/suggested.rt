@@ -1,7 +1,7 @@
 //! Pictures with what tools propose: lines before and after, or words where those can't be drawn.
 
 use crate::show::{run, with_path};
-use ariadne_fakes::{Folder, Given, Taker};
+use ariadne_testing::{Folder, Given, Taker};
 use ariadne_show::Status;
 use std::process::Abort;
 use std::rt::Files;

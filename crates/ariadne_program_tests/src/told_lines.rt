@@ -1,7 +1,7 @@
 //! Lines that tell a diagnostic, as the pages of their tools show them, and what is told of each.
 
 use crate::comparing::assert_text_of;
-use ariadne_told::{Answer, Diagnostic, End, Format, Place, Reading, Sent, Spot, Unit, told};
+use ariadne_parse::{Answer, Diagnostic, End, Format, Place, Reading, Sent, Spot, Unit, told};
 use std::alloc::{AllocError, Global};
 
 /// Lines, and what each tells: its file, where it points and up to where it goes, its severity and

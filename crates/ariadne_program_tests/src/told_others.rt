@@ -2,7 +2,7 @@
 //! each.
 
 use crate::comparing::{assert_same_of, assert_text_of};
-use ariadne_told::{
+use ariadne_parse::{
     Spot, arrow_of, bare_head_of, front_of, has_escape, is_scope_line, is_tally, without_sgr,
 };
 use std::alloc::{AllocError, Global};

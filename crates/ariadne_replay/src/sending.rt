@@ -4,7 +4,7 @@ use crate::making::report_of;
 use crate::members::count;
 use crate::offsets::Placed;
 use ariadne::{Cache, LeftOut, Reason, Report, Span, WriteError};
-use ariadne_fakes::Taker;
+use ariadne_testing::Taker;
 use std::alloc::{AllocError, Global};
 use std::io::ErrorKind;
 use toml::Value;

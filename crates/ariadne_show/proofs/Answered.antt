@@ -4,11 +4,11 @@ use Rattle.std.specs.Prelude.{true, false, Bool, Result, Ok, Err, OnOk, Vec}
 use Rattle.std.specs.declared.alloc.Global.{Global}
 use Rattle.ariadne_blocks.specs.declared.block.Block.{Block}
 use Rattle.ariadne_blocks.specs.declared.line.Line.{Line}
-use Rattle.ariadne_told.specs.Told.{reads_text, IsTold}
-use Rattle.ariadne_told.specs.declared.diagnostic.Diagnostic.{Diagnostic}
-use Rattle.ariadne_told.specs.declared.sent.Sent.{Sent}
-use Rattle.ariadne_told.specs.declared.telling.Answer.{Answer}
-use Rattle.ariadne_told.specs.declared.telling.Answer.TheVariants as answer
+use Rattle.ariadne_parse.specs.Told.{reads_text, IsTold}
+use Rattle.ariadne_parse.specs.declared.diagnostic.Diagnostic.{Diagnostic}
+use Rattle.ariadne_parse.specs.declared.sent.Sent.{Sent}
+use Rattle.ariadne_parse.specs.declared.telling.Answer.{Answer}
+use Rattle.ariadne_parse.specs.declared.telling.Answer.TheVariants as answer
 use Rattle.ariadne_show.specs.Finding.{is_first_held, IsOpened}
 use Rattle.ariadne_show.specs.Fronts.{added_row, bytes_in, IsRoleOf}
 use Rattle.ariadne_show.specs.Known.{is_waited_for, IsAboutNone, IsGivenOut, IsMoreInFront, IsNoMore}

@@ -6,8 +6,8 @@ use Rattle.ariadne.specs.Report.{ConfigFields, Kind, ReportFields, new_report}
 use Rattle.ariadne_safe.specs.Visible.{visible_bytes}
 use Rattle.ariadne_safe.specs.declared.text.TextKind.TheVariants.{OneRow}
 use Rattle.ariadne_safe.specs.declared.sources.SafeSource.{SafeSource}
-use Rattle.ariadne_told.specs.declared.diagnostic.Diagnostic.{Diagnostic}
-use Rattle.ariadne_told.specs.declared.diagnostic.Severity.TheVariants.{Note}
+use Rattle.ariadne_parse.specs.declared.diagnostic.Diagnostic.{Diagnostic}
+use Rattle.ariadne_parse.specs.declared.diagnostic.Severity.TheVariants.{Note}
 use Rattle.ariadne_show.specs.declared.options.Style.{Style}
 use Rattle.ariadne_show.specs.Drawn.{config_of, severity_kind, AreSaid, IsAbout, IsBare, IsHeadDrawn, IsPicture, IsReportOf}
 use Rattle.ariadne_show.specs.Drawn.{IsSaid, IsToldDrawn, in_one, in_lines}

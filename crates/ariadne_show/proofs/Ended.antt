@@ -4,7 +4,7 @@ use Rattle.std.specs.Prelude.{Result, Ok, Err, OnOk, Vec}
 use Rattle.std.specs.declared.alloc.Global.{Global}
 use Rattle.ariadne_blocks.specs.Blocks.{lines_behind, told_of}
 use Rattle.ariadne_blocks.specs.declared.block.Block.{Block}
-use Rattle.ariadne_told.specs.declared.diagnostic.Diagnostic.{Diagnostic}
+use Rattle.ariadne_parse.specs.declared.diagnostic.Diagnostic.{Diagnostic}
 use Rattle.ariadne_show.specs.Finding.{AreChangedFound, IsOpened}
 use Rattle.ariadne_show.specs.Fronts.{passing_of}
 use Rattle.ariadne_show.specs.Known.{AreMarksSettled}

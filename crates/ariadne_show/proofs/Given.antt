@@ -3,7 +3,7 @@ use Rattle.std.proofs.Common.{◌≡◌, ◌∙◌, [], ℕ, List, ap, subst, sy
 use Rattle.std.specs.Prelude.{false, Result, Ok, Err, OnOk, Vec}
 use Rattle.std.specs.declared.alloc.Global.{Global}
 use Rattle.ariadne_blocks.specs.declared.block.Block.{Block}
-use Rattle.ariadne_told.specs.declared.diagnostic.Place.{Place}
+use Rattle.ariadne_parse.specs.declared.diagnostic.Place.{Place}
 use Rattle.ariadne_show.specs.Finding.{is_held, IsPlaceSettled}
 use Rattle.ariadne_show.specs.Fronts.{bytes_in}
 use Rattle.ariadne_show.specs.Shown.{giving, tells_place, At, AreGiven, Giving, HasLineGone}

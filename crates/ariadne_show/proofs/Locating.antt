@@ -4,7 +4,7 @@ use Rattle.std.proofs.lemmas.Bool.{cases_Bool}
 use Rattle.std.proofs.lemmas.List.{drop-drop, length-drop, map-append}
 use Rattle.std.specs.List.{position_or_len}
 use Rattle.std.specs.Prelude.{ℕ, nat_lt, List, [], ◌∷◌, ◌++◌, drop, map, take}
-use Rattle.ariadne_told.specs.declared.diagnostic.Place.{Place}
+use Rattle.ariadne_parse.specs.declared.diagnostic.Place.{Place}
 use Rattle.ariadne_show.specs.Located.{main_first, main_number}
 
 -- the number of its own is that of one of them

@@ -15,8 +15,8 @@ use Rattle.ariadne.specs.IndexType.{IndexType}
 use Rattle.ariadne.specs.Report.{LabelFields, ReportFields}
 use Rattle.ariadne_safe.specs.Reports.{shown_label}
 use Rattle.ariadne_safe.specs.declared.sources.SafeSource.{SafeSource}
-use Rattle.ariadne_told.specs.declared.diagnostic.Place.{Place}
-use Rattle.ariadne_told.specs.declared.diagnostic.Severity.{Severity}
+use Rattle.ariadne_parse.specs.declared.diagnostic.Place.{Place}
+use Rattle.ariadne_parse.specs.declared.diagnostic.Severity.{Severity}
 use Rattle.ariadne_show.specs.declared.found.FoundPlace.{FoundPlace}
 use Rattle.ariadne_show.specs.Found.{Files, Found, found_in, found_of}
 use Rattle.ariadne_show.specs.Labels.{all_found, key_cmp, label_of, labels_of, place_key, AreOrdered, with_labels}

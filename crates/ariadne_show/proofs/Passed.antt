@@ -6,7 +6,7 @@ use Rattle.std.specs.Io.KnownBytes.{Appends}
 use Rattle.std.proofs.lemmas.Grind.{flat_map-append}
 use Rattle.std.proofs.lemmas.List.{map-append}
 use Rattle.ariadne_blocks.specs.declared.message.MessageLine.{MessageLine}
-use Rattle.ariadne_told.specs.declared.diagnostic.Diagnostic.{Diagnostic}
+use Rattle.ariadne_parse.specs.declared.diagnostic.Diagnostic.{Diagnostic}
 use Rattle.ariadne_show.specs.Found.{files_of}
 use Rattle.ariadne_show.specs.Fronts.{bytes_in, bytes_of, lines_of, passing_of}
 use Rattle.ariadne_show.specs.Limits.{drawn_after, is_drawn, limits_of}

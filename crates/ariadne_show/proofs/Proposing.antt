@@ -15,8 +15,8 @@ use Rattle.ariadne.specs.Report.{ReportFields}
 use Rattle.ariadne_search.specs.Search.{candidates}
 use Rattle.ariadne_search.specs.declared.search.Search.{Search}
 use Rattle.ariadne_edits.specs.declared.edit.Edit.{Edit}
-use Rattle.ariadne_told.specs.declared.diagnostic.Change.{Change}
-use Rattle.ariadne_told.specs.declared.diagnostic.Proposal.{Proposal}
+use Rattle.ariadne_parse.specs.declared.diagnostic.Change.{Change}
+use Rattle.ariadne_parse.specs.declared.diagnostic.Proposal.{Proposal}
 use Rattle.ariadne_safe.specs.declared.sources.SafeSource.{SafeSource}
 use Rattle.ariadne_show.specs.Asides.{begins_at, help_texts, helps_from, sketch_texts, texts_at, with_helps}
 use Rattle.ariadne_show.specs.Found.{Files, quoted_in, read_in}

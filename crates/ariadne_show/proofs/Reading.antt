@@ -19,8 +19,8 @@ use Rattle.ariadne_search.specs.Search.{candidates}
 use Rattle.ariadne_search.specs.declared.search.Search.{Search}
 use Rattle.ariadne_safe.specs.Visible.{visible_bytes}
 use Rattle.ariadne_safe.specs.declared.text.TextKind.TheVariants.{OneRow}
-use Rattle.ariadne_told.specs.declared.diagnostic.Place.{Place}
-use Rattle.ariadne_told.specs.declared.diagnostic.QuotedLine.{QuotedLine}
+use Rattle.ariadne_parse.specs.declared.diagnostic.Place.{Place}
+use Rattle.ariadne_parse.specs.declared.diagnostic.QuotedLine.{QuotedLine}
 use Rattle.ariadne_show.specs.Found.{Files, files_of, held_at, quoted_in, read_in, read_or_quoted}
 use Rattle.ariadne.specs.Listing.{Listing}
 use Rattle.ariadne_show.specs.Quoted.{lines_held, text_held, IsQuotedFile}

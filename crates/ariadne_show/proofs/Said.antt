@@ -4,7 +4,7 @@ use Rattle.std.proofs.lemmas.List.{map-append}
 use Rattle.std.proofs.lemmas.List.Elements.{filter-append}
 use Rattle.std.specs.Prelude.{Bool, true, false, not, cond, ◌==◌, List, ◌∷◌, ◌++◌, Option, filter, length, map, take, String, string_bytes}
 use Rattle.std.specs.declared.alloc.Global.{Global}
-use Rattle.ariadne_told.specs.declared.diagnostic.Place.{Place}
+use Rattle.ariadne_parse.specs.declared.diagnostic.Place.{Place}
 use Rattle.ariadne_show.specs.declared.options.Style.{Style}
 use Rattle.ariadne_show.specs.Asides.{spot_text}
 use Rattle.ariadne_show.specs.Drawn.{AreSaid, IsSaid, one_said_more}

@@ -8,9 +8,9 @@ use Rattle.std.specs.declared.alloc.Global.{Global}
 use Rattle.ariadne_blocks.specs.Repeats.{once}
 use Rattle.ariadne_blocks.specs.Drawn.{all_settled, marks_at, marks_of}
 use Rattle.ariadne_blocks.specs.declared.drawn.Drawn.{Drawn}
-use Rattle.ariadne_told.specs.Places.{seen}
-use Rattle.ariadne_told.specs.declared.diagnostic.Diagnostic.{Diagnostic}
-use Rattle.ariadne_told.specs.declared.diagnostic.Place.{Place}
+use Rattle.ariadne_parse.specs.Places.{seen}
+use Rattle.ariadne_parse.specs.declared.diagnostic.Diagnostic.{Diagnostic}
+use Rattle.ariadne_parse.specs.declared.diagnostic.Place.{Place}
 use Rattle.ariadne_show.specs.Known.{AreMarksSettled}
 use Rattle.ariadne_show.specs.declared.known.Known.{Known}
 

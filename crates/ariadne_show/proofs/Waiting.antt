@@ -8,7 +8,7 @@ use Rattle.ariadne_blocks.specs.declared.block.Block.{Block}
 use Rattle.ariadne_blocks.specs.declared.line.Line.{Line}
 use Rattle.ariadne_show.specs.Known.{goes_not_on, has_open_block, has_waiting_lines, not_of_it, IsMoreTaken}
 use Rattle.ariadne_show.specs.Known.{IsPlacedAt, IsPlacedNow, IsRowTaken, IsTriedAsRow}
-use Rattle.ariadne_told.specs.declared.diagnostic.Spot.{Spot}
+use Rattle.ariadne_parse.specs.declared.diagnostic.Spot.{Spot}
 use Rattle.ariadne_show.specs.declared.finder.Finder.{Finder}
 use Rattle.ariadne_show.specs.declared.front.PlacedHead.{PlacedHead}
 use Rattle.ariadne_show.specs.declared.front.WaitingLine.{WaitingLine}

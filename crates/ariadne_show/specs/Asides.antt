@@ -9,8 +9,8 @@ use Rattle.std.specs.declared.ops.Range.{Range}
 use Rattle.ariadne.specs.Report.{ReportFields}
 use Rattle.ariadne_safe.specs.Visible.{visible_bytes}
 use Rattle.ariadne_safe.specs.declared.text.TextKind.TheVariants.{Aside}
-use Rattle.ariadne_told.specs.declared.diagnostic.Diagnostic.{Diagnostic}
-use Rattle.ariadne_told.specs.declared.diagnostic.Place.{Place}
+use Rattle.ariadne_parse.specs.declared.diagnostic.Diagnostic.{Diagnostic}
+use Rattle.ariadne_parse.specs.declared.diagnostic.Place.{Place}
 use Rattle.ariadne_show.specs.Found.{Files, is_found}
 use Rattle.ariadne_show.specs.Wrapped.{wrapped}
 use Rattle.ariadne_show.specs.declared.proposed.Sketch.{Sketch}

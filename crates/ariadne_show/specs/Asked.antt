@@ -7,12 +7,12 @@ use Rattle.std.specs.Str.Parse.{IsNumeral, digits_value, without_leading_plus}
 use Rattle.clap.specs.Words.{IsAmong, Row, all_of, first_of, one_of}
 use Rattle.clap.specs.declared.error.kind.ErrorKind.{ErrorKind}
 use Rattle.clap.specs.declared.error.kind.ErrorKind.TheVariants as kind
-use Rattle.ariadne_told.specs.declared.unit.Unit.{Unit}
-use Rattle.ariadne_told.specs.declared.unit.Unit.TheVariants as unit
-use Rattle.ariadne_told.specs.declared.diagnostic.Severity.{Severity}
-use Rattle.ariadne_told.specs.declared.diagnostic.Severity.TheVariants as severity
-use Rattle.ariadne_told.specs.declared.telling.Format.{Format}
-use Rattle.ariadne_told.specs.declared.telling.Format.TheVariants as format
+use Rattle.ariadne_parse.specs.declared.unit.Unit.{Unit}
+use Rattle.ariadne_parse.specs.declared.unit.Unit.TheVariants as unit
+use Rattle.ariadne_parse.specs.declared.diagnostic.Severity.{Severity}
+use Rattle.ariadne_parse.specs.declared.diagnostic.Severity.TheVariants as severity
+use Rattle.ariadne_parse.specs.declared.telling.Format.{Format}
+use Rattle.ariadne_parse.specs.declared.telling.Format.TheVariants as format
 use Rattle.ariadne_show.specs.Faults.{TellsWords}
 use Rattle.ariadne_show.specs.Words.{Names, entries, refusals, ForNames}
 use Rattle.ariadne_show.specs.declared.fault.Fault.{Fault}

@@ -18,10 +18,10 @@ use Rattle.ariadne_safe.specs.declared.text.TextKind.TheVariants.{OneRow}
 use Rattle.ariadne_safe.specs.Reports.{WrittenFor}
 use Rattle.ariadne_safe.specs.declared.sources.SafeSource.{SafeSource}
 use Rattle.ariadne_safe.specs.declared.sources.NoSource.{NoSource}
-use Rattle.ariadne_told.specs.declared.diagnostic.Diagnostic.{Diagnostic}
-use Rattle.ariadne_told.specs.declared.diagnostic.OwnKind.{OwnKind}
-use Rattle.ariadne_told.specs.declared.diagnostic.Severity.{Severity}
-use Rattle.ariadne_told.specs.declared.diagnostic.Severity.TheVariants.{Error, Warning, Note}
+use Rattle.ariadne_parse.specs.declared.diagnostic.Diagnostic.{Diagnostic}
+use Rattle.ariadne_parse.specs.declared.diagnostic.OwnKind.{OwnKind}
+use Rattle.ariadne_parse.specs.declared.diagnostic.Severity.{Severity}
+use Rattle.ariadne_parse.specs.declared.diagnostic.Severity.TheVariants.{Error, Warning, Note}
 use Rattle.ariadne_show.specs.declared.options.Style.{Style}
 use Rattle.ariadne_show.specs.declared.proposed.Room.{Room}
 use Rattle.ariadne_show.specs.declared.proposed.Sketch.{Sketch}

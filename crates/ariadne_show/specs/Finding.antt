@@ -2,12 +2,12 @@
 use Rattle.std.specs.Prelude.{ℕ, ◌≡◌, ◌↔◌, Bool, false, List, [], ◌∷◌, Option, None, is_some, option_and_then, option_map}
 use Rattle.std.specs.Prelude.{slice_get, IsTrue, string_bytes}
 use Rattle.ariadne_blocks.specs.Files.{File}
-use Rattle.ariadne_told.specs.declared.unit.Unit.TheVariants.{Byte}
+use Rattle.ariadne_parse.specs.declared.unit.Unit.TheVariants.{Byte}
 use Rattle.ariadne_search.specs.Folders.{entered_in}
 use Rattle.ariadne_search.specs.Search.{texts_of, outer_of, IsElsewhere}
 use Rattle.ariadne_search.specs.declared.search.Search.{Search}
-use Rattle.ariadne_told.specs.declared.diagnostic.Diagnostic.{Diagnostic}
-use Rattle.ariadne_told.specs.declared.diagnostic.Place.{Place}
+use Rattle.ariadne_parse.specs.declared.diagnostic.Diagnostic.{Diagnostic}
+use Rattle.ariadne_parse.specs.declared.diagnostic.Place.{Place}
 use Rattle.ariadne_show.specs.Found.{files_of, held_at, unit_in}
 use Rattle.ariadne_show.specs.Located.{caret_in_line}
 use Rattle.ariadne_show.specs.Read.{AreFilesSettled, AreOpened, IsSettledNow}

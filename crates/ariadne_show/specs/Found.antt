@@ -6,13 +6,13 @@ use Rattle.std.specs.Prelude.{Option, Some, None, is_some, option_map, option_an
 use Rattle.std.specs.HashMap.{get_by_text}
 use Rattle.std.specs.Prelude.{string_bytes}
 use Rattle.std.specs.declared.ops.Range.{Range}
-use Rattle.ariadne_told.specs.Columns.{offset_of, word_end}
-use Rattle.ariadne_told.specs.declared.unit.Unit.{Unit}
-use Rattle.ariadne_told.specs.declared.unit.Unit.TheVariants.{Byte, Char, Display}
-use Rattle.ariadne_told.specs.declared.diagnostic.End.{End}
-use Rattle.ariadne_told.specs.declared.diagnostic.End.TheVariants.{Before, Behind, OfWord}
-use Rattle.ariadne_told.specs.declared.diagnostic.Place.{Place}
-use Rattle.ariadne_told.specs.declared.diagnostic.Spot.{Spot}
+use Rattle.ariadne_parse.specs.Columns.{offset_of, word_end}
+use Rattle.ariadne_parse.specs.declared.unit.Unit.{Unit}
+use Rattle.ariadne_parse.specs.declared.unit.Unit.TheVariants.{Byte, Char, Display}
+use Rattle.ariadne_parse.specs.declared.diagnostic.End.{End}
+use Rattle.ariadne_parse.specs.declared.diagnostic.End.TheVariants.{Before, Behind, OfWord}
+use Rattle.ariadne_parse.specs.declared.diagnostic.Place.{Place}
+use Rattle.ariadne_parse.specs.declared.diagnostic.Spot.{Spot}
 use Rattle.ariadne_show.specs.declared.found.FoundPlace.{FoundPlace}
 use Rattle.ariadne_show.specs.declared.held.Held.{Held}
 use Rattle.ariadne_show.specs.declared.shelf.Shelf.{Shelf}

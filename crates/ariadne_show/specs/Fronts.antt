@@ -8,12 +8,12 @@ use Rattle.std.specs.List.{flat_map, prefix_len}
 use Rattle.std.specs.Option.{option_map_or}
 use Rattle.std.specs.declared.alloc.Global.{Global}
 use Rattle.ariadne_blocks.specs.declared.message.MessageLine.{MessageLine}
-use Rattle.ariadne_told.specs.Arrows.{bare_head_in}
-use Rattle.ariadne_told.specs.ArrowsTold.{Bare, bare_of, IsOfBareHead}
-use Rattle.ariadne_told.specs.Fronts.{Front, front_in, is_scope_line}
-use Rattle.ariadne_told.specs.FrontsTold.{place_of_front}
-use Rattle.ariadne_told.specs.Places.{seen}
-use Rattle.ariadne_told.specs.declared.diagnostic.Place.{Place}
+use Rattle.ariadne_parse.specs.Arrows.{bare_head_in}
+use Rattle.ariadne_parse.specs.ArrowsTold.{Bare, bare_of, IsOfBareHead}
+use Rattle.ariadne_parse.specs.Fronts.{Front, front_in, is_scope_line}
+use Rattle.ariadne_parse.specs.FrontsTold.{place_of_front}
+use Rattle.ariadne_parse.specs.Places.{seen}
+use Rattle.ariadne_parse.specs.declared.diagnostic.Place.{Place}
 use Rattle.ariadne_show.specs.declared.front.Role.{Role}
 use Rattle.ariadne_show.specs.declared.front.Role.TheVariants as role
 use Rattle.ariadne_show.specs.declared.front.WaitingHead.{WaitingHead}

@@ -8,13 +8,13 @@ use Rattle.ariadne_blocks.specs.Drawn.{all_settled, marks_at, marks_of}
 use Rattle.ariadne_blocks.specs.Repeats.{once}
 use Rattle.ariadne_blocks.specs.declared.block.Block.{Block}
 use Rattle.ariadne_blocks.specs.declared.line.Line.{Line}
-use Rattle.ariadne_told.specs.Arrows.{arrow_in}
-use Rattle.ariadne_told.specs.ArrowsTold.{place_of_arrow}
-use Rattle.ariadne_told.specs.Places.{seen}
-use Rattle.ariadne_told.specs.Sent.{has_text}
-use Rattle.ariadne_told.specs.declared.diagnostic.Diagnostic.{Diagnostic}
-use Rattle.ariadne_told.specs.declared.diagnostic.Place.{Place}
-use Rattle.ariadne_told.specs.declared.diagnostic.Spot.{Spot}
+use Rattle.ariadne_parse.specs.Arrows.{arrow_in}
+use Rattle.ariadne_parse.specs.ArrowsTold.{place_of_arrow}
+use Rattle.ariadne_parse.specs.Places.{seen}
+use Rattle.ariadne_parse.specs.Sent.{has_text}
+use Rattle.ariadne_parse.specs.declared.diagnostic.Diagnostic.{Diagnostic}
+use Rattle.ariadne_parse.specs.declared.diagnostic.Place.{Place}
+use Rattle.ariadne_parse.specs.declared.diagnostic.Spot.{Spot}
 use Rattle.ariadne_show.specs.Finding.{file_at, is_held, IsNewFinder, IsPlaceSettled}
 use Rattle.ariadne_show.specs.Fronts.{added_row, ends_in_head, lines_of, HasRow, IsRoleOf}
 use Rattle.ariadne_show.specs.declared.finder.Finder.{Finder}

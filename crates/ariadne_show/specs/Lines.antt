@@ -4,7 +4,7 @@ use Rattle.std.specs.Io.BufRead.{strip_last, take_through}
 use Rattle.std.specs.Io.KnownBytes.{Consumes}
 use Rattle.std.specs.Str.Lossy.{utf8_lossy}
 use Rattle.ariadne_blocks.specs.declared.line.Line.{Line}
-use Rattle.ariadne_told.specs.Sgr.{bare_line}
+use Rattle.ariadne_parse.specs.Sgr.{bare_line}
 
 -- the next line of an input, with the line feed that ends it, was read
 pub record ReadsLine (before after : Option (List ℕ)) (line : List ℕ) : Type 0 where

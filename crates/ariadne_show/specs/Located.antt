@@ -2,11 +2,11 @@
 use Rattle.std.specs.Prelude.{ℕ, ◌+◌, ◌-◌, min, if◌then◌else◌, List, ◌++◌, length, drop, take}
 use Rattle.std.specs.Prelude.{Option, Some, None, is_some, option_and_then, option_map}
 use Rattle.std.specs.Prelude.{position, string_bytes, unwrap_or}
-use Rattle.ariadne_told.specs.Columns.{column_at, line_at}
-use Rattle.ariadne_told.specs.declared.unit.Unit.{Unit}
-use Rattle.ariadne_told.specs.declared.unit.Unit.TheVariants.{Char}
-use Rattle.ariadne_told.specs.declared.diagnostic.Place.{Place}
-use Rattle.ariadne_told.specs.declared.diagnostic.Spot.{Spot}
+use Rattle.ariadne_parse.specs.Columns.{column_at, line_at}
+use Rattle.ariadne_parse.specs.declared.unit.Unit.{Unit}
+use Rattle.ariadne_parse.specs.declared.unit.Unit.TheVariants.{Char}
+use Rattle.ariadne_parse.specs.declared.diagnostic.Place.{Place}
+use Rattle.ariadne_parse.specs.declared.diagnostic.Spot.{Spot}
 use Rattle.ariadne_outputs.specs.Located.{Location}
 use Rattle.ariadne_show.specs.Found.{Files, Found, caret_in, found_in, held_at, unit_in}
 use Rattle.ariadne_show.specs.declared.held.Held.{Held}

@@ -6,7 +6,7 @@ use Rattle.std.specs.Prelude.{chars, string_bytes}
 use Rattle.std.specs.Int.{abs_diff}
 use Rattle.std.specs.List.{find, flat_map, range_with_len}
 use Rattle.std.specs.Str.{bytes_eq}
-use Rattle.ariadne_told.specs.declared.diagnostic.QuotedLine.{QuotedLine}
+use Rattle.ariadne_parse.specs.declared.diagnostic.QuotedLine.{QuotedLine}
 use Rattle.ariadne_show.specs.declared.held.Held.{Held}
 
 -- ---- which lines are held

@@ -10,9 +10,9 @@ use Rattle.ariadne_safe.specs.Sources.{given_of, listing_of, name_of, sources_of
 use Rattle.ariadne_safe.specs.declared.sources.SafeSource.{SafeSource}
 use Rattle.ariadne_search.specs.Search.{candidates}
 use Rattle.ariadne_search.specs.declared.search.Search.{Search}
-use Rattle.ariadne_told.specs.declared.diagnostic.Place.{Place}
-use Rattle.ariadne_told.specs.declared.diagnostic.Proposal.{Proposal}
-use Rattle.ariadne_told.specs.declared.diagnostic.QuotedLine.{QuotedLine}
+use Rattle.ariadne_parse.specs.declared.diagnostic.Place.{Place}
+use Rattle.ariadne_parse.specs.declared.diagnostic.Proposal.{Proposal}
+use Rattle.ariadne_parse.specs.declared.diagnostic.QuotedLine.{QuotedLine}
 use Rattle.ariadne_show.specs.Found.{Files, files_of, held_at, quoted_in, read_in}
 use Rattle.ariadne_show.specs.Quoted.{lines_held, text_held, IsQuotedFile}
 use Rattle.ariadne_show.specs.declared.held.FileText.{FileText}

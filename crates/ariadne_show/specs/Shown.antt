@@ -17,12 +17,12 @@ use Rattle.ariadne_outputs.specs.Sarif.{driver_of}
 use Rattle.ariadne_outputs.specs.declared.sarif.TheConstants.{BEHIND, FRONT, SARIF_TAIL}
 use Rattle.ariadne_search.specs.Folders.{entered_in, followed}
 use Rattle.ariadne_search.specs.Make.{move_in}
-use Rattle.ariadne_told.specs.Places.{seen}
-use Rattle.ariadne_told.specs.Told.{reads_text, IsTold}
-use Rattle.ariadne_told.specs.declared.diagnostic.Diagnostic.{Diagnostic}
-use Rattle.ariadne_told.specs.declared.diagnostic.Place.{Place}
-use Rattle.ariadne_told.specs.declared.telling.Answer.{Answer}
-use Rattle.ariadne_told.specs.declared.telling.Answer.TheVariants as answer
+use Rattle.ariadne_parse.specs.Places.{seen}
+use Rattle.ariadne_parse.specs.Told.{reads_text, IsTold}
+use Rattle.ariadne_parse.specs.declared.diagnostic.Diagnostic.{Diagnostic}
+use Rattle.ariadne_parse.specs.declared.diagnostic.Place.{Place}
+use Rattle.ariadne_parse.specs.declared.telling.Answer.{Answer}
+use Rattle.ariadne_parse.specs.declared.telling.Answer.TheVariants as answer
 use Rattle.ariadne_show.specs.Finding.{AreChangedFound, caret_at, is_first_held, is_held, IsOpened, IsPlaceSettled}
 use Rattle.ariadne_show.specs.Fronts.{bytes_in, lines_of, passing_of}
 use Rattle.ariadne_show.specs.Known.{is_note_of, AreMarksSettled, IsMoreInFront, IsNew, IsNoRowInFront, IsPlacedBy}

@@ -1,9 +1,9 @@
 -- The sum that ends what is shown: how many errors, warnings and notes there were.
 use Rattle.std.specs.Prelude.{ℕ, ◌+◌, ◌-◌, ◌^◌, ◌==◌, min, Bool, ◌&&◌, not, if◌then◌else◌}
 use Rattle.std.specs.Prelude.{List, [], ◌∷◌, ◌++◌, length, codes, decimal}
-use Rattle.ariadne_told.specs.declared.diagnostic.Diagnostic.{Diagnostic}
-use Rattle.ariadne_told.specs.declared.diagnostic.Severity.{Severity}
-use Rattle.ariadne_told.specs.declared.diagnostic.Severity.TheVariants.{Error, Warning, Note}
+use Rattle.ariadne_parse.specs.declared.diagnostic.Diagnostic.{Diagnostic}
+use Rattle.ariadne_parse.specs.declared.diagnostic.Severity.{Severity}
+use Rattle.ariadne_parse.specs.declared.diagnostic.Severity.TheVariants.{Error, Warning, Note}
 use Rattle.ariadne_show.specs.declared.sum.Sum.{Sum}
 use Rattle.ariadne_show.specs.declared.options.FailOn.{FailOn}
 use Rattle.ariadne_show.specs.declared.options.FailOn.TheVariants as fail_on

@@ -1,7 +1,7 @@
 -- Lines in which a tool counts what it told. They stand behind its last diagnostic, one or several: javac counts
 -- errors and warnings each in a line of its own. The program has a sum of its own, and drops them.
 use Rattle.std.specs.Prelude.{ℕ, Bool, not, ◌&&◌, ◌||◌, List, is_some}
-use Rattle.ariadne_told.specs.Tallies.{is_tally_line}
+use Rattle.ariadne_parse.specs.Tallies.{is_tally_line}
 use Rattle.ariadne_show.specs.Known.{has_waiting_lines}
 use Rattle.ariadne_show.specs.declared.known.Known.{Known}
 use Rattle.ariadne_show.specs.declared.writing.Shown.{Shown}

@@ -6,15 +6,15 @@ use Rattle.std.specs.Prelude.{Option}
 use Rattle.std.specs.Io.BufRead.{ends_with_byte}
 use Rattle.std.specs.Io.KnownBytes.{Appends}
 use Rattle.serde_json.specs.Written.{compact_text}
-use Rattle.ariadne_told.specs.declared.unit.Unit.{Unit}
-use Rattle.ariadne_told.specs.declared.unit.Unit.TheVariants.{Byte, Char}
+use Rattle.ariadne_parse.specs.declared.unit.Unit.{Unit}
+use Rattle.ariadne_parse.specs.declared.unit.Unit.TheVariants.{Byte, Char}
 use Rattle.ariadne_outputs.specs.Github.{github_commands, without_command}
 use Rattle.ariadne_outputs.specs.Located.{Location}
 use Rattle.ariadne_outputs.specs.Passing.{passed_line}
 use Rattle.ariadne_outputs.specs.Sarif.{result_of}
 use Rattle.ariadne_outputs.specs.Short.{short_rows}
 use Rattle.ariadne_safe.specs.declared.sources.SafeSource.{SafeSource}
-use Rattle.ariadne_told.specs.declared.diagnostic.Diagnostic.{Diagnostic}
+use Rattle.ariadne_parse.specs.declared.diagnostic.Diagnostic.{Diagnostic}
 use Rattle.ariadne_show.specs.Drawn.{IsToldDrawn}
 use Rattle.ariadne_show.specs.Found.{files_of, Files}
 use Rattle.ariadne_show.specs.Limits.{drawn_after, is_drawn, limits_of}

@@ -12,7 +12,7 @@ use crate::run::Run;
 use crate::streams::Streams;
 use crate::task::Task;
 use ariadne_blocks::Line;
-use ariadne_told::{Answer, Diagnostic, told};
+use ariadne_parse::{Answer, Diagnostic, told};
 use std::io::Write;
 use std::rt::Files;
 

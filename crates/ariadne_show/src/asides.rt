@@ -18,7 +18,7 @@ use crate::proposed::Sketch;
 use crate::shelf::Shelf;
 use crate::wrapping::wrapped;
 use ariadne_safe::SafeBuilder;
-use ariadne_told::{Diagnostic, Place};
+use ariadne_parse::{Diagnostic, Place};
 use std::alloc::{AllocError, Global};
 
 /// The report with the notes and helps, and before them a note for each place that can't be drawn, in

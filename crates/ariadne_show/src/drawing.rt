@@ -4,7 +4,7 @@ ghost use Rattle.std.specs.Prelude.{◌≡◌, true, map, string_bytes, IfOk, On
 ghost use Rattle.ariadne.specs.Kinds.{kind_of as kind_of_fields};
 ghost use Rattle.ariadne_safe.specs.Visible.{is_shown, visible_bytes};
 ghost use Rattle.ariadne_safe.specs.declared.text.TextKind.TheVariants.{OneRow};
-ghost use Rattle.ariadne_told.specs.declared.diagnostic.Severity.TheVariants.{Note};
+ghost use Rattle.ariadne_parse.specs.declared.diagnostic.Severity.TheVariants.{Note};
 ghost use Rattle.ariadne_safe.specs.Building.{kind_in, made_of, report_of as report_in};
 ghost use Rattle.ariadne_safe.specs.Building.{sources_below, sources_under};
 ghost use Rattle.ariadne_show.specs.Drawn.{char_set_of as strokes_of, coded, config_of as config_fields};
@@ -30,7 +30,7 @@ use crate::shelf::Shelf;
 use crate::texts::line_texts;
 use ariadne::{CharSet, Color, Config, Label, ReportKind};
 use ariadne_safe::{SafeBuilder, SafeKind, SafeReport, TextKind, visible};
-use ariadne_told::{Diagnostic, End, Place, Severity};
+use ariadne_parse::{Diagnostic, End, Place, Severity};
 use std::alloc::{AllocError, Global};
 use std::io::Write;
 use std::ops::Range;

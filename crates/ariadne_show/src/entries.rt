@@ -9,7 +9,7 @@ ghost use Rattle.ariadne_show.specs.Asked.{output_of as output_named, unit_of as
 ghost use Rattle.ariadne_show.specs.Asked.{AreInputsOf, AreOptionsOf, IsCountIn, IsNumberIn, IsWidthIn};
 
 use crate::options::{Colors, FailOn, Input, Options, Output, Style, Width};
-use ariadne_told::{Format, Reading, Severity, Unit};
+use ariadne_parse::{Format, Reading, Severity, Unit};
 use clap::ArgMatches;
 use std::alloc::{AllocError, Global};
 

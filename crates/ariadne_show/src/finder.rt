@@ -9,7 +9,7 @@ use crate::bounds::Bounds;
 use crate::options::Options;
 use crate::shelf::Shelf;
 use ariadne_search::{Folders, Origin};
-use ariadne_told::{Diagnostic, Place};
+use ariadne_parse::{Diagnostic, Place};
 use std::alloc::{AllocError, Global};
 use std::rt::Files;
 

@@ -6,7 +6,7 @@ ghost use Rattle.ariadne_show.specs.Found.{files_of, found_in, found_of};
 ghost use Rattle.ariadne_show.specs.Labels.{all_found, main_in, AreOrdered};
 
 use crate::shelf::Shelf;
-use ariadne_told::{Diagnostic, Place};
+use ariadne_parse::{Diagnostic, Place};
 use std::alloc::{AllocError, Global};
 
 /// A place that a file has.

@@ -13,7 +13,7 @@ use crate::run::Run;
 use crate::streams::Streams;
 use crate::task::Task;
 use ariadne_blocks::Block;
-use ariadne_told::{Diagnostic, Place};
+use ariadne_parse::{Diagnostic, Place};
 use std::io::Write;
 use std::mem;
 use std::rt::Files;

@@ -7,7 +7,7 @@ ghost use Rattle.ariadne_show.specs.Found.{is_sure as is_sure_in, marked_in, own
 ghost use Rattle.ariadne_show.specs.Proposed.{span_of};
 ghost use Rattle.ariadne_show.specs.Read.{IsTextOf};
 
-use ariadne_told::{Change, Columns, End, Place, Proposal, Spot, Unit};
+use ariadne_parse::{Change, Columns, End, Place, Proposal, Spot, Unit};
 use std::alloc::{AllocError, Global};
 use std::ops::Range;
 

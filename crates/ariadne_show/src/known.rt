@@ -2,7 +2,7 @@
 //! that wait.
 
 ghost use Rattle.std.specs.Prelude.{◌≡◌, true, IfOk, OnOk};
-ghost use Rattle.ariadne_told.specs.ArrowsTold.{arrow_told};
+ghost use Rattle.ariadne_parse.specs.ArrowsTold.{arrow_told};
 ghost use Rattle.ariadne_show.specs.Fronts.{ends_in_head as is_head_last, is_head as is_head_line};
 ghost use Rattle.ariadne_show.specs.Known.{has_waiting_lines, is_note_of, is_waited_for as is_waiting};
 ghost use Rattle.ariadne_show.specs.Known.{AreMarksSettled, IsBlockTaken, IsMoreTaken, IsNamedQuoted, IsNew};
@@ -13,7 +13,7 @@ use crate::finder::Finder;
 use crate::front::{PlacedHead, Role, WaitingHead, WaitingLine, added_row, ends_in_head, role_of};
 use crate::options::Options;
 use ariadne_blocks::{Block, Drawn, Line, drop_repeats, settle_marks};
-use ariadne_told::{Arrow, Diagnostic, Sent, arrow_of};
+use ariadne_parse::{Arrow, Diagnostic, Sent, arrow_of};
 use std::alloc::{AllocError, Global};
 use std::rt::Files;
 

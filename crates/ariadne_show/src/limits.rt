@@ -3,7 +3,7 @@
 ghost use Rattle.std.specs.Prelude.{◌≡◌, IfOk, string_bytes};
 ghost use Rattle.ariadne_show.specs.Limits.{drawn_after, is_drawn, is_reached, more_text};
 
-use ariadne_told::{Diagnostic, Severity};
+use ariadne_parse::{Diagnostic, Severity};
 use std::alloc::{AllocError, Global};
 
 /// Which diagnostics are drawn. The others are counted alone.

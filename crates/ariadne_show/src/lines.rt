@@ -3,12 +3,12 @@
 ghost use Rattle.std.specs.Prelude.{◌≡◌, [], false, option_map, unwrap_or, IfOk, OnOk, string_bytes};
 ghost use Rattle.std.specs.Io.BufRead.{ends_with_byte, strip_last};
 ghost use Rattle.std.specs.Io.KnownBytes.{IsAtEnd};
-ghost use Rattle.ariadne_told.specs.Sgr.{bare_line};
+ghost use Rattle.ariadne_parse.specs.Sgr.{bare_line};
 ghost use Rattle.ariadne_show.specs.Lines.{whole_text as text_of_line, ReadsLine};
 
 use crate::fault::Fault;
 pub use ariadne_blocks::Line;
-use ariadne_told::{has_escape, without_sgr};
+use ariadne_parse::{has_escape, without_sgr};
 use std::alloc::{AllocError, Global};
 use std::io::BufRead;
 

@@ -9,7 +9,7 @@ use crate::found::found_place;
 use crate::held::Held;
 use crate::shelf::Shelf;
 use ariadne_outputs::Located;
-use ariadne_told::{Diagnostic, Place, Spot, Unit};
+use ariadne_parse::{Diagnostic, Place, Spot, Unit};
 use std::alloc::{AllocError, Global};
 
 /// Where the places of a diagnostic stand, in columns of a unit: its own first, and then the others, as

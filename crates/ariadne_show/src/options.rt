@@ -1,6 +1,6 @@
 //! What the words of the command line can ask for.
 
-use ariadne_told::{Reading, Severity};
+use ariadne_parse::{Reading, Severity};
 
 /// `--color`: when there are colours.
 #[derive(Clone, Copy, PartialEq, Eq)]

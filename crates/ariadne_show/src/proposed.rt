@@ -15,7 +15,7 @@ use crate::wrapping::{aside_columns, fits, wrapped};
 use ariadne::{CharSet, IndexType};
 use ariadne_edits::{Edit, EditError, View, suggestion};
 use ariadne_safe::SafeSource;
-use ariadne_told::{Change, Proposal};
+use ariadne_parse::{Change, Proposal};
 use std::alloc::{AllocError, Global};
 use std::ops::Range;
 

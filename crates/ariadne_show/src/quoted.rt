@@ -10,7 +10,7 @@ ghost use Rattle.ariadne_show.specs.Read.{IsNotQuoted, IsQuotedBehind};
 
 use crate::held::Held;
 use ariadne_safe::{LineEnds, SafeSource, SafeSources};
-use ariadne_told::{Columns, QuotedLine};
+use ariadne_parse::{Columns, QuotedLine};
 use std::alloc::{AllocError, Global};
 
 /// How far from the first line that is quoted others are held.

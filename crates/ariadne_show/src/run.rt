@@ -9,7 +9,7 @@ ghost use Rattle.ariadne_show.specs.Writing.{nothing_shown};
 use crate::known::Known;
 use crate::options::Options;
 use crate::writing::Shown;
-use ariadne_told::is_tally;
+use ariadne_parse::is_tally;
 use std::alloc::{AllocError, Global};
 use std::rt::Files;
 

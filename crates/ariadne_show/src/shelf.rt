@@ -20,7 +20,7 @@ use crate::quoted::hold_quoted;
 use ariadne_blocks::QuotedFile;
 use ariadne_safe::{LineEnds, SafeSource, SafeSources};
 use ariadne_search::{Search, candidates};
-use ariadne_told::{Columns, Place, Proposal, QuotedLine, Unit};
+use ariadne_parse::{Columns, Place, Proposal, QuotedLine, Unit};
 use std::alloc::{AllocError, Global};
 use std::collections::HashMap;
 use std::rt::Files;

@@ -5,7 +5,7 @@ ghost use Rattle.ariadne_show.specs.Sums.{counted, status_after, sum_text, with_
 
 use crate::fault::Status;
 use crate::options::FailOn;
-use ariadne_told::{Diagnostic, Severity};
+use ariadne_parse::{Diagnostic, Severity};
 use std::alloc::{AllocError, Global};
 
 /// How many diagnostics of each severity were told.

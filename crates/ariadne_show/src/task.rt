@@ -11,7 +11,7 @@ use crate::options::Options;
 use crate::run::Run;
 use crate::streams::Streams;
 use crate::writing::{pass, pass_lines, show_one};
-use ariadne_told::Diagnostic;
+use ariadne_parse::Diagnostic;
 use std::alloc::Global;
 use std::io::Write;
 use std::rt::Files;

@@ -8,7 +8,7 @@ ghost use Rattle.ariadne_show.specs.Said.{missing_text as text_of_missing};
 
 use crate::asides::spot_text;
 use crate::shelf::Shelf;
-use ariadne_told::{Diagnostic, Place};
+use ariadne_parse::{Diagnostic, Place};
 use std::alloc::{AllocError, Global};
 
 /// What the places of a diagnostic say, its notes and its helps, and why its own place can't be drawn.

@@ -9,7 +9,7 @@ use crate::run::Run;
 use crate::streams::Streams;
 use crate::task::Task;
 use ariadne_blocks::drop_repeats;
-use ariadne_told::Diagnostic;
+use ariadne_parse::Diagnostic;
 use std::io::Write;
 use std::rt::Files;
 

@@ -27,7 +27,7 @@ use ariadne_blocks::MessageLine;
 use ariadne_outputs::{
     Located, SARIF_COMMA, github_line, github_text, passing_line, sarif_result, short_text,
 };
-use ariadne_told::{Diagnostic, Unit};
+use ariadne_parse::{Diagnostic, Unit};
 use std::alloc::{AllocError, Global};
 use std::io::Write;
 

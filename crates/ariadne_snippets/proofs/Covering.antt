@@ -5,8 +5,8 @@ use Rattle.std.proofs.Math.ListN.{set}
 use Rattle.std.specs.List.{prefix_len, AllZip}
 use Rattle.std.proofs.lemmas.Bool.{le-leb, leb-true}
 use Rattle.std.proofs.lemmas.List.Sums.{prefix_len-le-length}
-use Rattle.ariadne_told.specs.Columns.{columns_of}
-use Rattle.ariadne_told.specs.declared.unit.Unit.{Unit}
+use Rattle.ariadne_parse.specs.Columns.{columns_of}
+use Rattle.ariadne_parse.specs.declared.unit.Unit.{Unit}
 use Rattle.ariadne_snippets.specs.Marks.{char_in, place_in, IsNear}
 use Rattle.ariadne_snippets.specs.Snippets.{char_at, covered, extent_of, line_length, point_at, point_behind, in_line, in_line_above, in_front, itself, Covers, IsBefore, IsMarkOf, IsUpTo}
 use Rattle.ariadne_snippets.specs.declared.quoted.Quoted.{Quoted}

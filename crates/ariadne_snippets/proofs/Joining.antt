@@ -7,8 +7,8 @@ use Rattle.std.specs.List.{All, AllByRecursion}
 use Rattle.std.proofs.lemmas.Bool.{and_parts}
 use Rattle.std.proofs.lemmas.List.{at_drop_more, at_drop_all}
 use Rattle.std.proofs.lemmas.List.Elements.{All-cons, All-nil}
-use Rattle.ariadne_told.specs.declared.unit.Unit.{Unit}
-use Rattle.ariadne_told.specs.declared.unit.Unit.TheVariants.{Byte, Char, Display}
+use Rattle.ariadne_parse.specs.declared.unit.Unit.{Unit}
+use Rattle.ariadne_parse.specs.declared.unit.Unit.TheVariants.{Byte, Char, Display}
 use Rattle.ariadne_snippets.specs.Marks.{goes_on, in_front, is_mark, joined, run_of, runs_from, width_of, with_last, IsNear}
 use Rattle.ariadne_snippets.specs.declared.run.Run.{Run}
 

@@ -4,9 +4,9 @@ use Rattle.std.specs.Prelude.{max, min}
 use Rattle.std.specs.List.{range_with_len}
 use Rattle.std.proofs.lemmas.List.FromFn.{map-range_with_len_more}
 use Rattle.std.proofs.lemmas.List.Sums.{fold_more}
-use Rattle.ariadne_told.specs.Columns.{columns_of}
-use Rattle.ariadne_told.specs.declared.unit.Unit.{Unit}
-use Rattle.ariadne_told.specs.declared.unit.Unit.TheVariants.{Display}
+use Rattle.ariadne_parse.specs.Columns.{columns_of}
+use Rattle.ariadne_parse.specs.declared.unit.Unit.{Unit}
+use Rattle.ariadne_parse.specs.declared.unit.Unit.TheVariants.{Display}
 use Rattle.ariadne_snippets.specs.Quotes.{lead_begin}
 use Rattle.ariadne_snippets.specs.Rows.{column_past}
 

@@ -5,9 +5,9 @@ use Rattle.std.specs.Str.{IsUtf8}
 use Rattle.std.proofs.lemmas.List.{append-nil, at_drop_all, at_drop_more, map-append, nil_from_length, take-append-drop}
 use Rattle.std.proofs.lemmas.List.Sums.{fold-append}
 use Rattle.std.proofs.lemmas.Str.{chars-append, chars-nil, chars_past_char, IsUtf8-append, IsUtf8-nil, IsUtf8-past_char}
-use Rattle.ariadne_told.specs.Columns.{columns_of}
-use Rattle.ariadne_told.specs.declared.unit.Unit.{Unit}
-use Rattle.ariadne_told.specs.declared.unit.Unit.TheVariants.{Char}
+use Rattle.ariadne_parse.specs.Columns.{columns_of}
+use Rattle.ariadne_parse.specs.declared.unit.Unit.{Unit}
+use Rattle.ariadne_parse.specs.declared.unit.Unit.TheVariants.{Char}
 use Rattle.ariadne_snippets.specs.Marks.{runs_from}
 use Rattle.ariadne_snippets.specs.Rows.{column_behind}
 use Rattle.ariadne_snippets.specs.Snippets.{covered, extent_of, runs_of, IsPartOf}

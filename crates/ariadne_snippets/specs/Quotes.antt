@@ -7,7 +7,7 @@ use Rattle.std.specs.Prelude.{List, [], ◌∷◌, ◌++◌, drop, length, map, 
 use Rattle.std.specs.Prelude.{Option, Some, None, option_map}
 use Rattle.std.specs.Char.{is_ascii_graphic, is_ascii_hexdigit}
 use Rattle.std.specs.List.{list_all, prefix_len, range_with_len, starts_with}
-use Rattle.ariadne_told.specs.declared.unit.Unit.TheVariants.{Display}
+use Rattle.ariadne_parse.specs.declared.unit.Unit.TheVariants.{Display}
 use Rattle.ariadne_snippets.specs.Rows.{column_past}
 use Rattle.ariadne_snippets.specs.Units.{in_units, unit_begins}
 use Rattle.ariadne_snippets.specs.declared.units.Units.TheVariants.{Bytes}

@@ -2,8 +2,8 @@
 -- `-`, 94 `^`, 95 the stroke `_`, 124 the bar.
 use Rattle.std.specs.Prelude.{ℕ, ◌+◌, ◌-◌, ◌^◌, ◌==◌, min, nat_le, nat_lt, Bool, ◌&&◌, ◌||◌, List, Option, chars, fold}
 use Rattle.std.specs.List.{list_all, list_any, position, prefix_len}
-use Rattle.ariadne_told.specs.Columns.{columns_of}
-use Rattle.ariadne_told.specs.declared.unit.Unit.{Unit}
+use Rattle.ariadne_parse.specs.Columns.{columns_of}
+use Rattle.ariadne_parse.specs.declared.unit.Unit.{Unit}
 use Rattle.ariadne_snippets.specs.Marks.{is_mark}
 use Rattle.ariadne_snippets.specs.declared.run.Run.{Run}
 

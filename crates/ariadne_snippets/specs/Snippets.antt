@@ -5,8 +5,8 @@ use Rattle.std.specs.Prelude.{ℕ, ◌+◌, ◌-◌, ◌^◌, ◌≡◌, ◌≢�
 use Rattle.std.specs.Prelude.{Option, Some, None, IsSomeAnd, is_some, option_and_then, option_map}
 use Rattle.std.specs.List.{range_with_len, AllZip}
 use Rattle.std.specs.Str.{trim}
-use Rattle.ariadne_told.specs.declared.unit.Unit.{Unit as ColumnUnit}
-use Rattle.ariadne_told.specs.declared.unit.Unit.TheVariants.{Char}
+use Rattle.ariadne_parse.specs.declared.unit.Unit.{Unit as ColumnUnit}
+use Rattle.ariadne_parse.specs.declared.unit.Unit.TheVariants.{Char}
 use Rattle.ariadne_snippets.specs.Ends.{IsEnd}
 use Rattle.ariadne_snippets.specs.Gutters.{gutter_in, GutterIn}
 use Rattle.ariadne_snippets.specs.Marks.{char_in, mark_runs, place_in, runs_from}

@@ -24,7 +24,7 @@ use crate::strokes::{
     Stroke, behind_stroke, is_corner, marks_joined, opens, stroke_of, text_column,
 };
 use crate::taken::{Fix, FixKind, Mark, Point, Taken};
-use ariadne_told::Unit;
+use ariadne_parse::Unit;
 use std::alloc::{AllocError, Global};
 
 /// How many ranges over lines are drawn beside a line.

@@ -13,7 +13,7 @@ use crate::quoted::Quoted;
 use crate::rows::{is_bars, is_dashes, is_marks, pieces};
 use crate::snippet::{Snippet, one_fix};
 use crate::taken::{FixKind, Mark, Taken};
-use ariadne_told::Unit;
+use ariadne_parse::Unit;
 use std::alloc::{AllocError, Global};
 
 #[tactic(auto, using(crate::proofs::Nexts::stays, crate::proofs::Nexts::quoted_further, crate::proofs::Telling::row_tells, crate::proofs::Telling::not_ended))]

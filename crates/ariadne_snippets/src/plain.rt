@@ -10,8 +10,8 @@ use crate::quoted::Quoted;
 use crate::rows::{has_caret, is_bars, is_blank, is_marks, pieces};
 use crate::snippet::{Snippet, Stage};
 use crate::taken::{Mark, Taken};
-use ariadne_told::Unit;
-use ariadne_told::unit::columns_of;
+use ariadne_parse::Unit;
+use ariadne_parse::unit::columns_of;
 use std::alloc::{AllocError, Global};
 
 /// What mypy writes in front of a line that it quotes.

@@ -25,8 +25,8 @@ ghost use Rattle.ariadne_snippets.specs.Rows.{column_past};
 
 use crate::cut::cut_begins;
 use crate::units::{Units, byte_begins, in_units};
-use ariadne_told::Unit;
-use ariadne_told::unit::columns_of;
+use ariadne_parse::Unit;
+use ariadne_parse::unit::columns_of;
 use std::alloc::{AllocError, Global};
 
 /// How far white space is looked at, to find the blanks that a tab stands for.

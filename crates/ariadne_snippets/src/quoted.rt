@@ -19,7 +19,7 @@ use crate::rows::{
 use crate::run::Run;
 use crate::runs::{caret_column, runs_in};
 use crate::taken::{Fix, FixKind, Label, Mark, Point};
-use ariadne_told::Unit;
+use ariadne_parse::Unit;
 use std::alloc::{AllocError, Global};
 
 /// How long an operator is at most.

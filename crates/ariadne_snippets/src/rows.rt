@@ -13,8 +13,8 @@ ghost use Rattle.ariadne_snippets.specs.Snippets.{ArePiecesIn, IsPartOf};
 use crate::pieces::past_blanks;
 use crate::run::Run;
 use crate::runs::is_mark;
-use ariadne_told::Unit;
-use ariadne_told::unit::columns_of;
+use ariadne_parse::Unit;
+use ariadne_parse::unit::columns_of;
 use std::alloc::{AllocError, Global};
 
 /// What parts texts of a row.

@@ -7,7 +7,7 @@ ghost use Rattle.ariadne_snippets.specs.Marks.{run_of as run_of_mark, width_of};
 ghost use Rattle.ariadne_snippets.specs.Marks.{with_last, IsNear};
 
 use crate::run::Run;
-use ariadne_told::Unit;
+use ariadne_parse::Unit;
 use std::alloc::{AllocError, Global};
 
 /// How far tabs of a terminal stand from each other.

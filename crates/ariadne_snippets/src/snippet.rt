@@ -17,7 +17,7 @@ use crate::quoted::Quoted;
 use crate::rows::{is_blank, is_marks};
 use crate::strokes::Stroke;
 use crate::taken::{Fix, FixKind, Point, Taken};
-use ariadne_told::Unit;
+use ariadne_parse::Unit;
 use std::alloc::{AllocError, Global};
 
 /// How the lines of a snippet are written.

@@ -3,7 +3,7 @@
 use crate::asserts::Why;
 use crate::caches::{assert_over, one_label};
 use ariadne::{FileCache, Report};
-use ariadne_fakes::Folder;
+use ariadne_testing::Folder;
 use std::fs;
 use std::ops::Range;
 use std::process::Abort;

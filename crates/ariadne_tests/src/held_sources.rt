@@ -4,7 +4,7 @@
 use crate::caches::{map_of, owned, source};
 use crate::comparing::{assert_same, assert_same_of, assert_text, assert_text_of};
 use ariadne::{Cache, FetchError, FileCache, FileError, FnCache, Source, SourceTable};
-use ariadne_fakes::Folder;
+use ariadne_testing::Folder;
 use std::alloc::AllocError;
 use std::collections::HashMap;
 use std::fs;

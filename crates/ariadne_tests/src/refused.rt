@@ -2,7 +2,7 @@
 
 use crate::asserts::{assert_picture, plain_error};
 use ariadne::{Label, Report, ReportBuilder};
-use ariadne_fakes::{refuse, was_refused};
+use ariadne_testing::{refuse, was_refused};
 use std::alloc::{AllocError, Global};
 use std::process::Abort;
 

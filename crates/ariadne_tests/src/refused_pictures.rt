@@ -9,7 +9,7 @@ use ariadne::{
     Cache, Color, Config, FnCache, Label, LeftOut, Report, ReportBuilder, ReportKind, Sink,
     WriteError,
 };
-use ariadne_fakes::Taker;
+use ariadne_testing::Taker;
 use std::alloc::{AllocError, Global};
 use std::io::Stderr;
 use std::process::Abort;

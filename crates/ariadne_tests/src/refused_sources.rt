@@ -3,7 +3,7 @@
 use crate::asserts::source_of;
 use crate::refused::{At, MOST_REQUESTS, assert_at, assert_refused, refuse_at};
 use ariadne::{Cache, FetchError, FileCache, FnCache, Source, SourceTable, SourceText, sources};
-use ariadne_fakes::{Folder, texts};
+use ariadne_testing::{Folder, texts};
 use std::alloc::{AllocError, Global};
 use std::cell::Cell;
 use std::collections::HashMap;

@@ -8,7 +8,7 @@ use crate::asserts::{
 };
 use crate::comparing::{assert_same, assert_text};
 use ariadne::{LeftOut, Report, RetryInterrupted, Sink, Source, WriteError};
-use ariadne_fakes::Taker;
+use ariadne_testing::Taker;
 use std::alloc::AllocError;
 use std::io;
 use std::io::{ErrorKind, Stderr, Write};

@@ -5,7 +5,7 @@ ghost use Rattle.std.specs.Prelude.{◌<◌, ◌≤◌};
 use crate::comparing::{assert_same, assert_same_of};
 use ariadne::{CharSet, IndexType, Source};
 use ariadne_edits::{BadEdit, Edit, EditError, View, edited, suggestion};
-use ariadne_fakes::{refuse, was_refused};
+use ariadne_testing::{refuse, was_refused};
 use std::process::Abort;
 
 /// More than one suggestion takes.

@@ -3,7 +3,7 @@
 ghost use Rattle.std.specs.Prelude.{◌<◌};
 
 use crate::comparing::{assert_same, assert_text};
-use ariadne_fakes::{refuse, was_refused};
+use ariadne_testing::{refuse, was_refused};
 use ariadne_safe::{TextKind, is_seen, visible};
 use std::alloc::AllocError;
 use std::process::Abort;

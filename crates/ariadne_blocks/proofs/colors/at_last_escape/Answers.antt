@@ -1,5 +1,5 @@
 use Rattle.std.proofs.Common.{lit<}
-use Rattle.ariadne_told.proofs.Texts.{last_is}
+use Rattle.ariadne_parse.proofs.Texts.{last_is}
 use Rattle.ariadne_blocks.proofs.colors.at_last_escape.Goals as goal
 
 -- as std cuts it

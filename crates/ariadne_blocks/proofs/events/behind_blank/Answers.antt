@@ -1,6 +1,6 @@
 use Rattle.std.proofs.Common.{lit<}
 use Rattle.std.proofs.lemmas.Str.Pattern.{strip_prefix_char}
-use Rattle.ariadne_told.proofs.Texts.{behind_is}
+use Rattle.ariadne_parse.proofs.Texts.{behind_is}
 use Rattle.ariadne_blocks.proofs.events.behind_blank.Goals as goal
 
 -- as std strips it

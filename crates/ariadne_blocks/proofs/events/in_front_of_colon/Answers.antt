@@ -1,6 +1,6 @@
 use Rattle.std.proofs.Common.{lit<}
 use Rattle.std.proofs.lemmas.Str.Pattern.{strip_suffix_char}
-use Rattle.ariadne_told.proofs.Texts.{in_front_is}
+use Rattle.ariadne_parse.proofs.Texts.{in_front_is}
 use Rattle.ariadne_blocks.proofs.events.in_front_of_colon.Goals as goal
 
 -- as std strips it

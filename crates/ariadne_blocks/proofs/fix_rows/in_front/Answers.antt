@@ -1,4 +1,4 @@
-use Rattle.ariadne_told.proofs.Texts.{in_front_text_is}
+use Rattle.ariadne_parse.proofs.Texts.{in_front_text_is}
 use Rattle.ariadne_blocks.proofs.fix_rows.in_front.Goals as goal
 
 -- as std strips it

@@ -1,6 +1,6 @@
 use Rattle.std.proofs.Common.{lit<}
 use Rattle.std.proofs.lemmas.Str.Pattern.{split_once_first}
-use Rattle.ariadne_told.proofs.Texts.{split_is}
+use Rattle.ariadne_parse.proofs.Texts.{split_is}
 use Rattle.ariadne_blocks.proofs.goes_on.at_colon.Goals as goal
 
 -- as std cuts it

@@ -2,7 +2,7 @@ use Rattle.std.proofs.Common.{◌≡◌, ◌∙◌, ◌==◌, ap, arith}
 use Rattle.std.specs.List.{prefix_len}
 use Rattle.std.proofs.lemmas.List.Sums.{prefix_len-le-length, prefix_len_passes}
 use Rattle.std.proofs.lemmas.Str.{IsCharBoundary-after_ascii}
-use Rattle.ariadne_told.proofs.Texts.{blank_small}
+use Rattle.ariadne_parse.proofs.Texts.{blank_small}
 use Rattle.ariadne_blocks.proofs.goes_on.behind_blanks.Goals as goal
 
 -- a text may be cut behind a blank

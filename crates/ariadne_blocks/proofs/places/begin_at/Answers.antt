@@ -1,5 +1,5 @@
 use Rattle.std.proofs.Common.{ap, get_or}
-use Rattle.ariadne_told.specs.declared.diagnostic.Place.{Place}
+use Rattle.ariadne_parse.specs.declared.diagnostic.Place.{Place}
 use Rattle.ariadne_blocks.proofs.Said.{begun_own}
 use Rattle.ariadne_blocks.proofs.places.begin_at.Goals as goal
 

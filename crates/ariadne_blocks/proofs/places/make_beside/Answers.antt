@@ -1,7 +1,7 @@
 use Rattle.std.proofs.Common.{◌∙◌, ap, false, get_or, refl, sym, arith}
 use Rattle.std.specs.Prelude.{map}
-use Rattle.ariadne_told.specs.Places.{seen}
-use Rattle.ariadne_told.specs.declared.diagnostic.Place.{Place}
+use Rattle.ariadne_parse.specs.Places.{seen}
+use Rattle.ariadne_parse.specs.declared.diagnostic.Place.{Place}
 use Rattle.ariadne_blocks.specs.Notes.{as_beside}
 use Rattle.ariadne_blocks.proofs.Lists.{written, written_all}
 use Rattle.ariadne_blocks.proofs.places.make_beside.Goals as goal

@@ -1,6 +1,6 @@
 use Rattle.std.proofs.Common.{◌≡◌, ◌++◌, take, drop}
 use Rattle.std.specs.Prelude.{map}
-use Rattle.ariadne_told.specs.Places.{seen}
+use Rattle.ariadne_parse.specs.Places.{seen}
 use Rattle.ariadne_blocks.specs.Notes.{as_beside}
 use Rattle.ariadne_blocks.proofs.places.make_beside.Given as goal
 

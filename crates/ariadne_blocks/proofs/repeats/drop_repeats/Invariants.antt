@@ -1,5 +1,5 @@
 use Rattle.std.proofs.Common.{◌≡◌, map}
-use Rattle.ariadne_told.specs.Places.{seen}
+use Rattle.ariadne_parse.specs.Places.{seen}
 use Rattle.ariadne_blocks.specs.Repeats.{once}
 use Rattle.ariadne_blocks.proofs.repeats.drop_repeats.Given as goal
 

@@ -1,7 +1,7 @@
 use Rattle.std.proofs.Common.{◌∙◌, ap, map, sym}
 use Rattle.std.specs.Prelude.{◌&&◌, not}
 use Rattle.std.specs.List.{list_any}
-use Rattle.ariadne_told.specs.Places.{seen}
+use Rattle.ariadne_parse.specs.Places.{seen}
 use Rattle.ariadne_blocks.specs.Repeats.{says_same}
 use Rattle.ariadne_blocks.proofs.Once.{said_in}
 use Rattle.ariadne_blocks.proofs.repeats.is_repeat.Goals as goal

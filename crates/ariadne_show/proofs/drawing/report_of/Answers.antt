@@ -6,8 +6,8 @@ use Rattle.ariadne_safe.specs.Building.{kind_in, made_of, report_of as report_in
 use Rattle.ariadne_safe.specs.Sources.{sources_of}
 use Rattle.ariadne_safe.specs.declared.sources.SafeSource.{SafeSource}
 use Rattle.ariadne_show.specs.Drawn.{room_in, IsAbout, IsBare}
-use Rattle.ariadne_told.specs.declared.diagnostic.Place.{Place}
-use Rattle.ariadne_told.specs.declared.diagnostic.Proposal.{Proposal}
+use Rattle.ariadne_parse.specs.declared.diagnostic.Place.{Place}
+use Rattle.ariadne_parse.specs.declared.diagnostic.Proposal.{Proposal}
 use Rattle.ariadne_show.specs.declared.proposed.Room.{Room}
 use Rattle.ariadne_show.specs.declared.proposed.Sketch.{Sketch}
 use Rattle.ariadne_show.specs.declared.found.FoundPlace.{FoundPlace}

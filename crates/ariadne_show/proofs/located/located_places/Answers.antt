@@ -2,7 +2,7 @@ use Rattle.std.proofs.Common.{◌∙◌, ◌++◌, ◌∷◌, [], ap, map}
 use Rattle.std.specs.Prelude.{List}
 use Rattle.ariadne_outputs.specs.Located.{Location, locations_of}
 use Rattle.ariadne_outputs.specs.declared.located.Located.{Located}
-use Rattle.ariadne_told.specs.declared.diagnostic.Place.{Place}
+use Rattle.ariadne_parse.specs.declared.diagnostic.Place.{Place}
 use Rattle.ariadne_show.specs.Found.{files_of}
 use Rattle.ariadne_show.specs.Located.{located_in, main_first}
 use Rattle.ariadne_show.proofs.Locating.{all_located}

@@ -1,6 +1,6 @@
 use Rattle.std.proofs.Common.{◌∙◌, ◌-◌, ap, arith, Some}
 use Rattle.std.specs.Prelude.{ℕ, option_map}
-use Rattle.ariadne_told.specs.declared.diagnostic.QuotedLine.{QuotedLine}
+use Rattle.ariadne_parse.specs.declared.diagnostic.QuotedLine.{QuotedLine}
 use Rattle.ariadne_show.specs.Quoted.{lines_about, lines_near}
 use Rattle.ariadne_show.proofs.Quoting.{greatest_above, least_below}
 use Rattle.ariadne_show.proofs.quoted.lines_of.Goals as goal

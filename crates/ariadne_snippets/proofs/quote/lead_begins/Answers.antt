@@ -1,5 +1,5 @@
 use Rattle.std.proofs.Common.{◌∙◌, ◌-◌, ap}
-use Rattle.ariadne_told.specs.declared.unit.Unit.TheVariants.{Display}
+use Rattle.ariadne_parse.specs.declared.unit.Unit.TheVariants.{Display}
 use Rattle.ariadne_snippets.proofs.Leading.{begins_more, column_more}
 use Rattle.ariadne_snippets.proofs.quote.lead_begins.Goals as goal
 

@@ -1,6 +1,6 @@
 use Rattle.std.proofs.Common.{◌≡◌, map, take}
 use Rattle.std.specs.List.{range_with_len}
-use Rattle.ariadne_told.specs.declared.unit.Unit.TheVariants.{Display}
+use Rattle.ariadne_parse.specs.declared.unit.Unit.TheVariants.{Display}
 use Rattle.ariadne_snippets.specs.Quotes.{lead_begin}
 use Rattle.ariadne_snippets.specs.Rows.{column_past}
 use Rattle.ariadne_snippets.proofs.quote.lead_begins.Given as goal

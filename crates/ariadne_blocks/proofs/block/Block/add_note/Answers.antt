@@ -4,7 +4,7 @@ use Rattle.std.specs.Option.{option_copied}
 use Rattle.std.proofs.lemmas.List.{length-map}
 use Rattle.std.proofs.lemmas.Result.{IfOk-weaker}
 use Rattle.ariadne_snippets.specs.Snippets.{IsUnread}
-use Rattle.ariadne_told.specs.Places.{seen, Seen}
+use Rattle.ariadne_parse.specs.Places.{seen, Seen}
 use Rattle.ariadne_blocks.specs.Blocks.{noted, view_of}
 use Rattle.ariadne_blocks.specs.Blocks.IsNoted.{at_places}
 use Rattle.ariadne_blocks.specs.Telling.{telling}

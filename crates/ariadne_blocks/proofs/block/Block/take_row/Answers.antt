@@ -1,6 +1,6 @@
 use Rattle.std.proofs.Common.{◌∙◌, ap, sym}
 use Rattle.std.specs.Prelude.{option_map}
-use Rattle.ariadne_told.specs.FixRows.{fix_row_told}
+use Rattle.ariadne_parse.specs.FixRows.{fix_row_told}
 use Rattle.ariadne_blocks.specs.Blocks.{for_programs, of_message}
 use Rattle.ariadne_blocks.proofs.block.Block.take_row.Goals as goal
 

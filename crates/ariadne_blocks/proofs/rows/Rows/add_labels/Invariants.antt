@@ -1,6 +1,6 @@
 use Rattle.std.proofs.Common.{◌≡◌, take}
 use Rattle.std.specs.Prelude.{map, string_bytes}
-use Rattle.ariadne_told.specs.Places.{seen}
+use Rattle.ariadne_parse.specs.Places.{seen}
 use Rattle.ariadne_blocks.specs.Marks.{with_labels}
 use Rattle.ariadne_blocks.proofs.rows.Rows.add_labels.Given as goal
 

@@ -1,6 +1,6 @@
 use Rattle.std.proofs.Common.{◌≡◌, take}
 use Rattle.std.specs.Prelude.{map, option_map, string_bytes}
-use Rattle.ariadne_told.specs.Places.{seen}
+use Rattle.ariadne_parse.specs.Places.{seen}
 use Rattle.ariadne_blocks.specs.Files.{file_of}
 use Rattle.ariadne_blocks.specs.Marks.{marking_of, with_marks}
 use Rattle.ariadne_blocks.proofs.rows.Rows.add_marks.Given as goal

@@ -1,5 +1,5 @@
 use Rattle.std.proofs.Common.{rules, ◌≡◌, ◌++◌, ◌∷◌, []}
-use Rattle.ariadne_told.specs.ArrowsTold.{arrow_told}
+use Rattle.ariadne_parse.specs.ArrowsTold.{arrow_told}
 use Rattle.ariadne_show.proofs.Waiting.{placed_at_if}
 use Rattle.ariadne_show.proofs.known.Known.place.Goals as goal
 

@@ -1,5 +1,5 @@
 use Rattle.std.proofs.Common.{arith, refl, subst, sym}
-use Rattle.ariadne_told.specs.declared.diagnostic.Proposal.{Proposal}
+use Rattle.ariadne_parse.specs.declared.diagnostic.Proposal.{Proposal}
 use Rattle.ariadne_show.specs.Read.{IsFileSettledNow}
 use Rattle.ariadne_show.proofs.Proposing.{settled_more}
 use Rattle.ariadne_show.proofs.shelf.Shelf.settle_files.Goals as goal

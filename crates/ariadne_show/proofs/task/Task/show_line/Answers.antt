@@ -1,7 +1,7 @@
 use Rattle.std.proofs.Common.{◌≡◌, ◌∙◌, Option, ap, refl, subst, sym}
 use Rattle.std.specs.Prelude.{String, option_map, string_bytes, unwrap_or}
 use Rattle.std.specs.declared.alloc.Global.{Global}
-use Rattle.ariadne_told.specs.Sgr.{bare_line}
+use Rattle.ariadne_parse.specs.Sgr.{bare_line}
 use Rattle.ariadne_show.proofs.Answered.{line_if}
 use Rattle.ariadne_show.proofs.task.Task.show_line.Goals as goal
 

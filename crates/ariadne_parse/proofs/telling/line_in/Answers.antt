@@ -1,0 +1,24 @@
+use Rattle.std.proofs.Common.{◌≡◌, ◌∙◌, if◌then◌else◌, Option, ap, subst}
+use Rattle.std.specs.Prelude.{Bool}
+use Rattle.ariadne_parse.specs.Heads.{Head}
+use Rattle.ariadne_parse.specs.declared.unit.Unit.{Unit}
+use Rattle.ariadne_parse.specs.Told.{is_note, IsOfHead, IsToldOfHead}
+use Rattle.ariadne_parse.specs.ToldLines.{head_told}
+use Rattle.ariadne_parse.specs.declared.telling.Answer.{Answer}
+use Rattle.ariadne_parse.specs.declared.telling.Answer.TheVariants.{Head as Header, Note}
+use Rattle.ariadne_parse.proofs.telling.line_in.Goals as goal
+use Rattle.ariadne_parse.proofs.telling.line_in.Goals.{then-is_note, else-is_note}
+
+-- a diagnostic is told of the line's head: as a note, or by itself
+pub returns : goal.returns
+returns c =
+    let head = head_told c.in-Some.it in
+    let one = c.in_ok-told.told in
+    let answer : Bool → Answer = λ b. if b then Note one else Header one in
+    let same : c.if-is_note.result ≡ answer (is_note head) =
+    elim c.if-is_note.branch [
+      | then-is_note w ↦ w.result-is ∙ ap answer w.if-is_note.ensures
+      | else-is_note w ↦ w.result-is ∙ ap answer w.if-is_note.ensures
+    ] in
+    subst (λ (h : Option Head). IsToldOfHead c.args.unit h c.if-is_note.result) c.in-Some.ensures
+    (one, same, subst (λ (u : Unit). IsOfHead u head one) c.unit_in.ensures c.in_ok-told.ensures)

@@ -1,0 +1,46 @@
+-- Diagnostics as they are read: with their texts in place of what holds these.
+use Rattle.std.specs.Prelude.{ℕ, Bool, List, map, string_bytes, Option, option_map}
+use Rattle.ariadne_color.specs.declared.color.Color.{Color}
+use Rattle.ariadne_parse.specs.Places.{named, seen, Seen}
+use Rattle.ariadne_parse.specs.Proposed.{proposed, Proposed}
+use Rattle.ariadne_parse.specs.declared.diagnostic.Diagnostic.{Diagnostic}
+use Rattle.ariadne_parse.specs.declared.diagnostic.QuotedLine.{QuotedLine}
+use Rattle.ariadne_parse.specs.declared.diagnostic.Severity.{Severity}
+
+-- a line of a file as it is quoted
+pub record Quoted : Type 0 where
+  pub file : List ℕ
+  pub line : ℕ
+  pub text : List ℕ
+
+abbrev pub as_quoted : QuotedLine → Quoted
+as_quoted it = record { file = string_bytes it.file; line = it.line; text = string_bytes it.text }
+
+-- a diagnostic
+pub record Read : Type 0 where
+  pub severity : Severity
+  pub own_kind : Option (List ℕ × Option Color)
+  pub code : Option (List ℕ)
+  pub message : List ℕ
+  pub places : List Seen
+  pub notes : List (List ℕ)
+  pub helps : List (List ℕ)
+  pub proposals : List Proposed
+  pub quoted : List Quoted
+  pub manifest : Option (List ℕ)
+  pub is_sum : Bool
+
+abbrev pub read : Diagnostic → Read
+read told = record {
+  severity = told.severity;
+  own_kind = option_map named told.own_kind;
+  code = option_map string_bytes told.code;
+  message = string_bytes told.message;
+  places = map seen told.places.items;
+  notes = map string_bytes told.notes.items;
+  helps = map string_bytes told.helps.items;
+  proposals = map proposed told.proposals.items;
+  quoted = map as_quoted told.quoted.items;
+  manifest = option_map string_bytes told.manifest;
+  is_sum = told.is_sum;
+}

@@ -1,0 +1,224 @@
+//! What a tool tells: a diagnostic, and the places that it is about.
+
+ghost use Rattle.std.specs.Prelude.{◌≡◌, [], false, IfOk, None, string_bytes};
+ghost use Rattle.std.specs.Option.{option_copied};
+ghost use Rattle.ariadne_parse.specs.Severities.{severity_of};
+ghost use Rattle.ariadne_parse.specs.Told.{main_of};
+ghost use Rattle.ariadne_parse.specs.Told.{first_primary as first_primary_of};
+
+use crate::names::{is_error, is_note, is_warning};
+use crate::unit::Unit;
+use ariadne_color::Color;
+use std::alloc::{AllocError, Global};
+use std::ops::Range;
+
+/// How bad a diagnostic is.
+#[derive(Clone, Copy, Debug, PartialEq, Eq)]
+pub enum Severity {
+    /// It stops the tool, or makes it fail.
+    Error,
+    /// It may be a mistake.
+    Warning,
+    /// It only says something.
+    Note,
+}
+
+impl Severity {
+    /// The severity that tools give this name, in any case of letters, if it is one.
+    #[tactic(auto, unfolding(crate::specs::Severities::severity_of))]
+    pub fn of(name: &str) -> Option<Severity>
+        ensures { result ≡ severity_of name.now }
+    {
+        if is_error(name) {
+            Some(Severity::Error)
+        } else if is_warning(name) {
+            Some(Severity::Warning)
+        } else if is_note(name) {
+            Some(Severity::Note)
+        } else {
+            None
+        }
+    }
+}
+
+/// A line of a file, and a column of it. Both count from 1. Without a column it is the line from its
+/// start.
+#[derive(Clone, Copy, Debug, PartialEq, Eq)]
+pub struct Spot {
+    /// The line.
+    pub line: usize,
+    /// The column, in the unit of the place.
+    pub column: Option<usize>,
+}
+
+/// Where a place ends.
+#[derive(Clone, Copy, Debug, PartialEq, Eq)]
+pub enum End {
+    /// In front of the character that stands there.
+    Before(Spot),
+    /// Behind the character that stands there.
+    Behind(Spot),
+    /// Behind the word that it begins with; or at the end of its line, where it has no column.
+    OfWord,
+}
+
+/// How a place is drawn.
+#[derive(Clone, Copy, Debug, Default, PartialEq, Eq)]
+pub struct Look {
+    /// Its label's order: those of a lower one are drawn first. It is 0 where none is told.
+    pub order: i32,
+    /// Its label's priority: that of the highest is seen where labels overlap. It is 0 where none is
+    /// told.
+    pub priority: i32,
+    /// Its colour, if one is told.
+    pub color: Option<Color>,
+}
+
+/// A piece of a file, and what is said of it.
+#[derive(Debug, Drop)]
+pub struct Place {
+    /// The file's path, as the tool wrote it.
+    pub file: String,
+    /// Where the tool points.
+    pub caret: Spot,
+    /// Where it begins.
+    pub start: Spot,
+    /// Where it ends.
+    pub end: End,
+    /// What its columns count.
+    pub unit: Unit,
+    /// Whether they leave out a byte order mark at the start of the file, as gcc's columns of bytes do.
+    pub is_past_mark: bool,
+    /// What is said of it; nothing where it is empty.
+    pub text: String,
+    /// Whether the diagnostic is about this place.
+    pub is_primary: bool,
+    /// How it is drawn.
+    pub look: Look,
+    /// From where to where the tool's own marks cover it, if it draws some: in front of the character at
+    /// the second spot they end. Their columns count characters. They are surer than `start` and `end`.
+    pub marks: Option<(Spot, Spot)>,
+}
+
+/// A kind of the tool's own.
+#[derive(Debug, Drop)]
+pub struct OwnKind {
+    /// What it is called.
+    pub name: String,
+    /// Its colour, if one is told.
+    pub color: Option<Color>,
+}
+
+/// A line of a file as a tool quotes it.
+#[derive(Debug, Drop)]
+pub struct QuotedLine {
+    /// The file's path, as the tool wrote it.
+    pub file: String,
+    /// The line, from 1.
+    pub line: usize,
+    /// Its text, without what ends it.
+    pub text: String,
+}
+
+/// A piece of a file, and the text that is put in its place.
+#[derive(Debug, Drop)]
+pub struct Change {
+    /// Where the piece begins.
+    pub start: Spot,
+    /// Where it ends: in front of this. It is `start` for an insertion.
+    pub end: Spot,
+    /// The text put there.
+    pub put_in: String,
+}
+
+/// The changes that a tool proposes, in one or several ways, each a list of changes of one file.
+#[derive(Debug, Drop)]
+pub struct Proposal {
+    /// The helps that say the same in words: from the first to before the last, by their numbers from 0.
+    pub helps: Range<usize>,
+    /// Why: what the tool says beside; nothing if it is empty.
+    pub why: String,
+    /// The file's path, as the tool wrote it.
+    pub file: String,
+    /// What the columns of its changes count.
+    pub unit: Unit,
+    /// Whether they leave out a byte order mark at the start of the file.
+    pub is_past_mark: bool,
+    /// The ways: of each, its changes in the tool's order.
+    pub ways: Vec<Vec<Change>>,
+}
+
+/// What a tool tells.
+#[derive(Debug, Drop)]
+pub struct Diagnostic {
+    /// How bad it is.
+    pub severity: Severity,
+    /// What it is called in place of its severity, if anything.
+    pub own_kind: Option<OwnKind>,
+    /// Its code, as `E0308` or `-Wunused`.
+    pub code: Option<String>,
+    /// What it says.
+    pub message: String,
+    /// The places that it is about.
+    pub places: Vec<Place>,
+    /// What it says beside.
+    pub notes: Vec<String>,
+    /// What it proposes.
+    pub helps: Vec<String>,
+    /// What it proposes, as changes of files.
+    pub proposals: Vec<Proposal>,
+    /// The lines of files that it quotes.
+    pub quoted: Vec<QuotedLine>,
+    /// The path of the manifest of the package that it is about, where cargo hands it on.
+    pub manifest: Option<String>,
+    /// Whether it sums up others, as rustc's `aborting due to 2 previous errors`. It counts as none.
+    pub is_sum: bool,
+}
+
+impl Diagnostic {
+    /// A diagnostic that says this, and has nothing else yet.
+    pub fn new(alloc: Global, severity: Severity, message: &str) -> Result<Diagnostic, AllocError>
+        ensures severity { IfOk result (λ told. told.severity ≡ severity) }
+        ensures own_kind { IfOk result (λ told. told.own_kind ≡ None) }
+        ensures code { IfOk result (λ told. told.code ≡ None) }
+        ensures message { IfOk result (λ told. string_bytes told.message ≡ message.now) }
+        ensures places { IfOk result (λ told. told.places.items ≡ []) }
+        ensures notes { IfOk result (λ told. told.notes.items ≡ []) }
+        ensures helps { IfOk result (λ told. told.helps.items ≡ []) }
+        ensures proposals { IfOk result (λ told. told.proposals.items ≡ []) }
+        ensures quoted { IfOk result (λ told. told.quoted.items ≡ []) }
+        ensures manifest { IfOk result (λ told. told.manifest ≡ None) }
+        ensures counted { IfOk result (λ told. told.is_sum ≡ false) }
+    {
+        Ok(Diagnostic {
+            severity,
+            own_kind: None,
+            code: None,
+            message: String::from_str(alloc, message)?,
+            places: Vec::new(alloc),
+            notes: Vec::new(alloc),
+            helps: Vec::new(alloc),
+            proposals: Vec::new(alloc),
+            quoted: Vec::new(alloc),
+            manifest: None,
+            is_sum: false,
+        })
+    }
+
+    /// The place that it is about: the first primary one, or the first.
+    pub fn main_place(&self) -> Option<&Place>
+        ensures { option_copied result ≡ main_of self.now.places.items }
+    {
+        match first_primary(self.places.as_slice()) {
+            Some(place) => Some(place),
+            None => self.places.first(),
+        }
+    }
+}
+
+/// The first primary one of places.
+fn first_primary(places: &[Place]) -> Option<&Place>
+    ensures { option_copied result ≡ first_primary_of places.now }
+{
+    places.iter().find(|place| place.is_primary)
+}

@@ -1,0 +1,227 @@
+-- A group as it is drawn: what its first label tells of it, and its rows, part by part.
+use Rattle.std.proofs.Common.{◌≡◌, ℕ, ◌+◌, ◌<◌, ◌≤◌, min, ◌==◌, ◌||◌, Bool, List, [], ◌∷◌, ◌++◌, Option, Some, None, length, map, get_or}
+use Rattle.std.proofs.Common.{refl, sym, ap, ◌∙◌, subst, arith, inl, inr, append_assoc, Bor}
+use Rattle.std.specs.Prelude.{chars, codes, if◌then◌else◌, nat_lt, option_and_then, slice_get, unwrap_or}
+use Rattle.std.specs.Option.{option_copied}
+use Rattle.std.proofs.lemmas.Bool.{cases_Bool, or_parts, ltb-false}
+use Rattle.std.proofs.lemmas.List.{map-append}
+use Rattle.std.proofs.lemmas.Option.{slice_get-get_or}
+use Rattle.ariadne_base.specs.Lines.{lines_of}
+use Rattle.ariadne_base.specs.Listing.{Listing, listed_lines}
+use Rattle.ariadne_cells.specs.Pages.{DrawsRows, PageFields, PenFields}
+use Rattle.ariadne_cells.proofs.Drawn.{draws_rows-append}
+use Rattle.ariadne_picture.specs.declared.label_info.LabelInfo.{LabelInfo}
+use Rattle.ariadne_picture.specs.declared.verdict.Verdict.TheVariants.{Accepted}
+use Rattle.ariadne_picture.specs.Accept.{info_of, offset_in_chars, text_len, verdict, within}
+use Rattle.ariadne_picture.specs.Canvas.{group_id, group_source, header_offset, section_of, texts_of}
+use Rattle.ariadne_picture.specs.Lists.{joined}
+use Rattle.ariadne_picture.specs.Pieces.{Section, Texts, location_text, row_pieces, section_rows}
+use Rattle.ariadne_picture.specs.Ranks.{Sheet, group_lines, gutter_labels}
+use Rattle.ariadne_picture.specs.Report.{ConfigFields, LabelFields, ReportFields, World, switches_of}
+use Rattle.ariadne_picture.specs.Rows.{Row, asides, group_header, help, line_rows, note, rows, spacer, tail}
+use Rattle.ariadne_picture.proofs.Labels.DrawnLabels.{offset-order}
+use Rattle.ariadne_rows.specs.Gutters.{GutterFields, IsOfSheet}
+use Rattle.ariadne_rows.specs.Headers.{IsOnPage}
+use Rattle.ariadne_picture.specs.Accept.{IsAccepted}
+use Rattle.ariadne_accept.specs.Drawn.{AreDrawn}
+use Rattle.ariadne_render.specs.Lines.{IsDrawnGroup}
+use Rattle.ariadne_render.proofs.Grouping.{all_at}
+use Rattle.ariadne_render.proofs.GroupingSources.{drawn_there, found_source, id_is, label_there, source_is}
+
+-- ---- the first label of a group
+
+module _ {S : Type 0} (config : ConfigFields) (source : Listing) (k : ℕ) (label : LabelFields S) (a : LabelInfo) where
+  -- a label that both its ends make starts within its source
+  start_within : (o : ℕ) → o ≤ text_len config.index_type (chars source.text) → (x y : Option ℕ)
+      → offset_in_chars config.index_type (chars source.text) o ≡ x → within config.label_attach (listed_lines source) k label x y ≡ Accepted a
+      → a.start ≤ length (chars source.text)
+  unfolding within info_of
+  start_within o few (Some n) (Some m) at e =
+      let low = (offset-order config.index_type (chars source.text) o o n n (omega arith) few at at).1 in
+      let same : info_of config.label_attach (lines_of (chars source.text)) k label n m ≡ a = cc in
+      let start : n ≡ a.start = ap (λ (b : LabelInfo). b.start) same in
+      omega arith
+  start_within o few (Some n) None at e = cc
+  start_within o few None (Some m) at e = cc
+  start_within o few None None at e = cc
+
+  -- a label that a source accepts starts within it
+  accepted_start : (start end : ℕ) → verdict config source k label start end ≡ Accepted a → a.start ≤ length (chars source.text)
+  unfolding verdict
+  accepted_start start end e =
+      let size = text_len config.index_type (chars source.text) in
+      elim (cases_Bool (nat_lt size start || nat_lt (size + 1) end)) [
+        | inl past ↦ absurd (let f = rw past at e in cc)
+        | inr inside ↦
+            let low = ltb-false size start (or_parts (nat_lt size start) (nat_lt (size + 1) end) inside).0 in
+            start_within start (omega arith) (offset_in_chars config.index_type (chars source.text) start)
+            (offset_in_chars config.index_type (chars source.text) (min end size)) refl (rw inside at e)
+      ]
+
+-- the texts of a report have its switches
+pub texts_switches : {S : Type 0} (r : ReportFields S) → (texts_of r).switches ≡ switches_of r.config
+unfolding texts_of
+texts_switches r = refl
+
+-- a text, or another in place of none
+pub copied_or : (o : Option (Bor (List ℕ))) (b : Bor (List ℕ)) → (unwrap_or o b).now ≡ unwrap_or (option_copied o) b.now
+copied_or None b = refl
+copied_or (Some a) b = refl
+
+module _ {S Id : Type 0} (w : World S Id) (r : ReportFields S) where
+  -- the first label of a group, the id that its span names, and the source that is found for it
+  pub record IsFirst (labels : List LabelInfo) (info : LabelInfo) (id : Id) (source : Listing) : Type 0 where
+    pub first : slice_get labels 0 ≡ Some info
+    pub named : group_id w r labels ≡ Some id
+    pub over : group_source w r labels ≡ source
+    pub starts : info.start ≤ length (chars source.text)
+
+  -- the source of a group is that of its first label
+  first_source : (labels : List LabelInfo) (a : LabelInfo) (d : IsAccepted w r a) → slice_get labels 0 ≡ Some a → group_source w r labels ≡ d.source
+  first_source [] a d e = cc
+  first_source (x ∷ labels) a d e = let same : x ≡ a = cc in ap (λ y. group_source w r (y ∷ labels)) same ∙ source_is w r a labels d
+
+  -- and so is its id
+  first_id : (labels : List LabelInfo) (a : LabelInfo) (x : LabelFields S) → slice_get labels 0 ≡ Some a → slice_get r.labels a.position ≡ Some x
+      → group_id w r labels ≡ Some (w.id_of x.span)
+  unfolding group_id
+  first_id [] a x e there = cc
+  first_id (b ∷ labels) a x e there = let same : b ≡ a = cc in ap (λ y. group_id w r (y ∷ labels)) same ∙ id_is w r a.position x there
+
+  -- so they are, as the code finds them
+  pub first_is : (labels listed : List LabelInfo) (nothing : LabelInfo) → listed ≡ labels → 0 < length labels → AreDrawn w r labels
+      → (all : List (LabelFields S)) (x : LabelFields S) → all ≡ r.labels → x ≡ get_or all (get_or listed 0 nothing).position x
+      → (id : Id) → id ≡ w.id_of x.span → (o : Option Listing) → o ≡ w.source_of id → (source : Listing) → o ≡ Some source
+      → IsFirst labels (get_or listed 0 nothing) id source
+  first_is labels listed nothing same some drawn all x are at id is o get source found =
+      let info : LabelInfo = get_or listed 0 nothing in
+      let info_is : get_or labels 0 nothing ≡ info = ap (λ (ls : List LabelInfo). get_or ls 0 nothing) (sym same) in
+      let d : IsAccepted w r info = subst (IsAccepted w r) info_is (all_at (IsAccepted w r) labels 0 nothing some drawn) in
+      let low : info.position < length r.labels =
+      subst (λ (a : LabelInfo). a.position < length r.labels) info_is
+      (all_at (λ (a : LabelInfo). a.position < length r.labels) labels 0 nothing some (drawn_there w r labels drawn)) in
+      let there : slice_get r.labels info.position ≡ Some x = label_there w r info.position all x are at low in
+      let first : slice_get labels 0 ≡ Some info = slice_get-get_or labels 0 nothing some ∙ ap Some info_is in
+      let over : d.source ≡ source = found_source w r info d x there id is o get source found in
+      record {
+        first = first;
+        named = first_id labels info x first there ∙ ap Some (sym is);
+        over = first_source labels info d first ∙ over;
+        starts =
+            subst (λ (s : Listing). info.start ≤ length (chars s.text)) over
+            (accepted_start r.config d.source info.position d.label info (w.start_of d.label.span) (w.end_of d.label.span) d.accepted);
+      }
+
+  -- ---- a group within the picture
+
+  module _ (n k : ℕ) (labels : List LabelInfo) where
+    -- it is the first where it has number 0
+    pub section_first : (section_of w r n (k, labels)).is_first ≡ (k == 0)
+    unfolding section_of
+    section_first = refl
+
+    -- it is the last where the next would have the number of all groups
+    pub section_last : (section_of w r n (k, labels)).is_last ≡ (k + 1 == n)
+    unfolding section_of
+    section_last = refl
+
+    -- what it is called
+    pub section_name : (id : Id) → group_id w r labels ≡ Some id → (o : Option (Bor (List ℕ))) → option_copied o ≡ w.name_of id
+        → (unknown : Bor (List ℕ)) → unknown.now ≡ codes "<unknown>" → (name : Bor (List ℕ)) → name ≡ unwrap_or o unknown
+        → (section_of w r n (k, labels)).name ≡ name.now
+    unfolding section_of
+    section_name id named o e unknown none name is =
+        ap (λ i. unwrap_or (option_and_then w.name_of i) (codes "<unknown>")) named ∙ (λ i. unwrap_or (sym e i) (sym none i))
+        ∙ sym (ap (λ (b : Bor (List ℕ)). b.now) is ∙ copied_or o unknown)
+
+    -- the location that its header names
+    pub section_location : (source : Listing) → group_source w r labels ≡ source → (numbers : List ℕ)
+        → location_text (listed_lines source) source.display_offset (header_offset w r labels) ≡ numbers
+        → location_text (section_of w r n (k, labels)).sheet.lines (section_of w r n (k, labels)).display_offset
+        (section_of w r n (k, labels)).header_offset ≡ numbers
+    unfolding section_of
+    section_location source over numbers e =
+        ap (λ (s : Listing). location_text (listed_lines s) s.display_offset (header_offset w r labels)) over ∙ e
+
+    -- its switches are those of the report
+    pub section_switches : (section_of w r n (k, labels)).sheet.switches ≡ switches_of r.config
+    unfolding section_of
+    section_switches = refl
+
+    -- its labels
+    pub section_labels : (section_of w r n (k, labels)).sheet.labels ≡ labels
+    unfolding section_of
+    section_labels = refl
+
+    -- it stands on a page of the report's switches
+    pub section_page : (page : PageFields) → page.switches ≡ switches_of r.config → IsOnPage (texts_of r) (section_of w r n (k, labels)) page
+    section_page page e = record { texts = texts_switches r ∙ sym e; sheet = section_switches ∙ sym e }
+
+    -- its lines are those of its source
+    pub section_source : (page : PageFields) → page.switches ≡ switches_of r.config → (source : Listing) → source ≡ group_source w r labels
+        → IsDrawnGroup (texts_of r) (section_of w r n (k, labels)) page.switches source labels
+    unfolding section_of
+    section_source page e source over = record {
+      texts = texts_switches r ∙ sym e;
+      sheet = λ i. record { switches = sym e i; lines = listed_lines (sym over i); labels = labels };
+      display_offset = ap (λ (s : Listing). s.display_offset) (sym over);
+    }
+
+    -- a gutter of its gutter labels is its own
+    pub section_gutter : (gutter : GutterFields) → gutter.page.switches ≡ switches_of r.config → (shown : List LabelInfo)
+        → ((s : Sheet) → s.labels ≡ labels → shown ≡ gutter_labels s.labels) → gutter.positions ≡ map (λ (a : LabelInfo). a.position) shown
+        → IsOfSheet (section_of w r n (k, labels)).sheet gutter
+    section_gutter gutter e shown is at = record {
+      switches = e ∙ sym section_switches;
+      positions = at ∙ ap (map (λ (a : LabelInfo). a.position)) (is (section_of w r n (k, labels)).sheet section_labels);
+    }
+
+-- ---- its rows
+
+module _ (t : Texts) (g : Section) where
+  -- the rows of a group, where the picture is compact or not and the group is the last or not
+  parts : Bool → Bool → List Row
+  parts compact last =
+      group_header ∷ (if compact then [] else spacer ∷ []) ++ joined (line_rows g.sheet) (group_lines g.sheet)
+      ++ (if last then asides compact help t.helps ++ asides compact note t.notes else []) ++ (if compact then [] else tail ∷ [])
+
+  -- they are all its rows
+  parts_are : (width : ℕ) → section_rows t width g ≡ map (row_pieces t width g) (parts g.sheet.switches.compact g.is_last)
+  unfolding section_rows rows parts
+  parts_are width = refl
+
+  -- those above the lines, those of the lines, and those below them
+  parts_split : (compact last : Bool) → parts compact last
+      ≡ (group_header ∷ (if compact then [] else spacer ∷ [])) ++ (joined (line_rows g.sheet) (group_lines g.sheet)
+      ++ ((if last then asides compact help t.helps ++ asides compact note t.notes else []) ++ (if compact then [] else tail ∷ [])))
+  unfolding parts
+  parts_split compact last = simp append_assoc
+
+  -- the rows above the lines, the lines and the rows below them, one after another
+  pub whole_group : (old one two new : PenFields) (last : Bool) → g.sheet.switches ≡ old.page.switches → g.is_last ≡ last
+      → DrawsRows old one (map (row_pieces t old.page.number_width g) (group_header ∷ (if old.page.switches.compact then [] else spacer ∷ [])))
+      → DrawsRows one two (map (row_pieces t one.page.number_width g) (joined (line_rows g.sheet) (group_lines g.sheet)))
+      → DrawsRows two new (map (row_pieces t two.page.number_width g)
+      ((if last then asides two.page.switches.compact help t.helps ++ asides two.page.switches.compact note t.notes else [])
+      ++ (if two.page.switches.compact then [] else tail ∷ [])))
+      → DrawsRows old new (section_rows t old.page.number_width g)
+  whole_group old one two new last sw el above lines below =
+      let f = row_pieces t old.page.number_width g in
+      let compact : Bool = old.page.switches.compact in
+      let page_one : one.page ≡ old.page = ap (λ (x : PenFields). x.page) above in
+      let page_two : two.page ≡ old.page = ap (λ (x : PenFields). x.page) lines ∙ page_one in
+      let a = group_header ∷ (if compact then [] else spacer ∷ []) in
+      let b = joined (line_rows g.sheet) (group_lines g.sheet) in
+      let d = (if last then asides compact help t.helps ++ asides compact note t.notes else []) ++ (if compact then [] else tail ∷ []) in
+      let second : DrawsRows one two (map f b) =
+      subst (DrawsRows one two) (ap (λ (p : PageFields). map (row_pieces t p.number_width g) b) page_one) lines in
+      let third : DrawsRows two new (map f d) =
+      subst (DrawsRows two new) (ap (λ (p : PageFields). map (row_pieces t p.number_width g)
+      ((if last then asides p.switches.compact help t.helps ++ asides p.switches.compact note t.notes else [])
+      ++ (if p.switches.compact then [] else tail ∷ []))) page_two) below in
+      let all : DrawsRows old new (map f a ++ (map f b ++ map f d)) =
+      draws_rows-append old one new (map f a) (map f b ++ map f d) above (draws_rows-append one two new (map f b) (map f d) second third) in
+      let joins : section_rows t old.page.number_width g ≡ map f a ++ (map f b ++ map f d) =
+      parts_are old.page.number_width ∙ (λ i. map f (parts (sw i).compact (el i))) ∙ ap (map f) (parts_split compact last)
+      ∙ map-append f a (b ++ d) ∙ ap (λ z. map f a ++ z) (map-append f b d) in
+      subst (DrawsRows old new) (sym joins) all

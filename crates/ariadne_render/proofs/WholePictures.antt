@@ -1,0 +1,132 @@
+-- The groups of a picture as they are drawn one after another, and the bytes of the whole picture.
+use Rattle.std.proofs.Common.{◌≡◌, ℕ, ◌+◌, Bool, true, false, List, [], ◌∷◌, ◌++◌, Option, Some, drop, get_or, length, map, take}
+use Rattle.std.proofs.Common.{refl, sym, ap, ◌∙◌, subst}
+use Rattle.std.specs.Prelude.{codes, if◌then◌else◌, int_lt, slice_get}
+use Rattle.std.specs.List.{enumerate_from}
+use Rattle.std.proofs.lemmas.Option.{get_or_from_slice_get, slice_get_within}
+use Rattle.ariadne_cells.specs.Pages.{DrawsRow, DrawsRows, PageFields, PenFields}
+use Rattle.ariadne_cells.proofs.Drawn.{draws_rows-append, draws_rows_one}
+use Rattle.ariadne_picture.specs.Print.{line_bytes, pieces_bytes, printed, row_bytes, rows_bytes}
+use Rattle.ariadne_picture.specs.declared.label_info.LabelInfo.{LabelInfo}
+use Rattle.ariadne_color.specs.declared.color.Color.{Color}
+use Rattle.ariadne_picture.specs.declared.cell.Paint.{Paint}
+use Rattle.ariadne_picture.specs.Canvas.{Palette, canvas, cell_of, code_text, color_of, groups, header_pieces, kind_name, number_width, outline, palette_of}
+use Rattle.ariadne_picture.specs.Canvas.{same_source, section_of, texts_of}
+use Rattle.ariadne_picture.specs.Groups.{groups_of, ordered}
+use Rattle.ariadne_picture.specs.Lists.{in_order, joined}
+use Rattle.ariadne_picture.specs.Pieces.{Piece, section_rows}
+use Rattle.ariadne_picture.specs.Report.{ReportFields, World}
+use Rattle.ariadne_picture.proofs.Lists.Joined.{joined-map}
+use Rattle.ariadne_picture.proofs.Labels.Cutting.{groups-exist}
+use Rattle.ariadne_picture.proofs.Lists.ListFacts.{all-in_order}
+use Rattle.ariadne_rows.proofs.Listing.{joined-more, put-back}
+use Rattle.ariadne_picture.specs.Accept.{IsAccepted}
+use Rattle.ariadne_accept.specs.Drawn.{AreDrawn}
+use Rattle.ariadne_render.specs.Groups.{AreGroups}
+use Rattle.ariadne_render.specs.WholePages.{shown_palette}
+use Rattle.ariadne_render.proofs.Grouping.{groups_drawn}
+use Rattle.ariadne_picture.proofs.Parts.{outline-is}
+
+-- ---- one group after another
+
+-- the rows of number k of some items stand behind those of the items before it
+pub rows_more : {X : Type 0} (f : ℕ × X → List (List Piece)) (k : ℕ) (a b c : PenFields) (xs : List X) (x : X) → slice_get xs k ≡ Some x
+    → DrawsRows a b (joined f (take k (enumerate_from 0 xs))) → DrawsRows b c (f (k, x))
+    → DrawsRows a c (joined f (take (k + 1) (enumerate_from 0 xs)))
+rows_more f k a b c xs x there so_far next =
+    let before = joined f (take k (enumerate_from 0 xs)) in
+    let same : get_or xs k x ≡ x = get_or_from_slice_get xs k x x there in
+    let more : before ++ f (k, get_or xs k x) ≡ joined f (take (k + 1) (enumerate_from 0 xs)) =
+    joined-more f [] before xs k x (slice_get_within xs k x there) refl in
+    subst (DrawsRows a c) (ap (λ y. before ++ f (k, y)) (sym same) ∙ more) (draws_rows-append a b c before (f (k, x)) so_far next)
+
+-- ---- the labels in order
+
+-- a list of labels that was put in order in place
+pub sorted_is : (old lent new : List LabelInfo) (n : ℕ) → n ≡ length old → lent ≡ old → new ≡ in_order (λ a b. int_lt a.order b.order) lent
+    → take n (new ++ drop (length new) old) ≡ ordered old
+unfolding ordered
+sorted_is old lent new n long same put = put-back (λ a b. int_lt a.order b.order) old lent new n long same put
+
+-- labels that are drawn are so in any order
+pub sorted_drawn : {S Id : Type 0} (w : World S Id) (r : ReportFields S) (infos sorted : List LabelInfo) → sorted ≡ ordered infos → AreDrawn w r infos
+    → AreDrawn w r sorted
+unfolding ordered
+sorted_drawn w r infos sorted e drawn =
+    subst (AreDrawn w r) (sym e) (all-in_order (IsAccepted w r) (λ (a b : LabelInfo). int_lt a.order b.order) infos drawn)
+
+-- so their groups are those of labels that are drawn
+pub sorted_groups : {S Id : Type 0} (w : World S Id) (r : ReportFields S) (sorted : List LabelInfo) (gs : List (List LabelInfo))
+    → gs ≡ groups_of (same_source w r) sorted → AreDrawn w r sorted → AreGroups w r gs
+sorted_groups w r sorted gs e drawn =
+    let exist = groups-exist (same_source w r) sorted in
+    subst (AreGroups w r) (sym e)
+    (groups_drawn w r (groups_of (same_source w r) sorted) (subst (AreDrawn w r) (sym exist.joins) drawn) exist.cut)
+
+-- ---- the header
+
+-- the code and the word of a report's kind
+pub kind_text_is : {S : Type 0} (r : ReportFields S) (code : Option (List ℕ)) (name : List ℕ) → code ≡ r.code → name ≡ kind_name r.kind
+    → (texts_of r).kind_text ≡ code_text code ++ name ++ codes ":"
+unfolding texts_of
+kind_text_is r code name e f = λ i. code_text (sym e i) ++ sym f i ++ codes ":"
+
+-- its message
+pub message_is : {S : Type 0} (r : ReportFields S) → (texts_of r).message ≡ r.message
+unfolding texts_of
+message_is r = refl
+
+-- ---- the whole picture
+
+-- the bytes of some rows are those that are printed of their cells
+bytes_are : (p : Palette) (rows : List (List Piece)) → rows_bytes p rows ≡ printed (map (map (cell_of p)) rows)
+unfolding rows_bytes row_bytes line_bytes printed pieces_bytes
+bytes_are p rows = sym (joined-map line_bytes (map (cell_of p)) rows)
+
+-- with colours off the colours of labels count for nothing
+shown_colors : (on : Bool) (kind : Color) (labels : List (Option Color)) (paint : Paint)
+    → color_of (record { is_on = on; kind = kind; labels = if on then labels else [] }) paint
+    ≡ color_of (record { is_on = on; kind = kind; labels = labels }) paint
+unfolding color_of
+shown_colors true kind labels paint = refl
+shown_colors false kind labels paint = refl
+
+-- so rows are printed alike without them
+shown_bytes : (p : Palette) (rows : List (List Piece)) → rows_bytes (shown_palette p) rows ≡ printed (map (map (cell_of p)) rows)
+shown_bytes p rows =
+    bytes_are (shown_palette p) rows
+    ∙ (λ i. printed (map (map (λ (piece : Piece).
+    record { text = piece.text; color = shown_colors p.is_on p.kind p.labels piece.paint i; columns = piece.columns })) rows))
+
+-- in a report over labels, whose groups these are
+module _ {S Id : Type 0} (w : World S Id) (r : ReportFields S) (infos : List LabelInfo) (gs : List (List LabelInfo))
+    (same : gs ≡ groups_of (same_source w r) (ordered infos)) where
+  -- the rows of groups, whose line numbers take so many columns
+  abbrev rows_of : ℕ → List (List LabelInfo) → List (List Piece)
+  rows_of width groups = joined (λ e. section_rows (texts_of r) width (section_of w r (length groups) e)) (enumerate_from 0 groups)
+
+  -- the rows of its outline
+  outline_is : (width : ℕ) → width ≡ number_width w r gs → outline w r infos ≡ header_pieces (texts_of r) ∷ rows_of width gs
+  unfolding groups
+  outline_is width e =
+      outline-is w r infos
+      ∙ ap (λ groups. header_pieces (texts_of r) ∷ rows_of (number_width w r groups) groups) (sym same)
+      ∙ ap (λ n. header_pieces (texts_of r) ∷ rows_of n gs) (sym e)
+
+  -- the header and the groups below it are the outline
+  pub outline_drawn : (width : ℕ) (start behind end : PenFields) → width ≡ number_width w r gs
+      → DrawsRow start behind (header_pieces (texts_of r)) → DrawsRows behind end (rows_of width gs) → DrawsRows start end (outline w r infos)
+  outline_drawn width start behind end wide header below =
+      let first = header_pieces (texts_of r) in
+      subst (DrawsRows start end) (sym (outline_is width wide))
+      (draws_rows-append start behind end (first ∷ []) (rows_of width gs) (draws_rows_one start behind first header) below)
+
+-- a pen that wrote the outline from the start of its page on has written the picture
+pub outline_bytes : {S Id : Type 0} (w : World S Id) (r : ReportFields S) (infos : List LabelInfo) (page : PageFields) (start end : PenFields)
+    → start ≡ record { page = page; bytes = [] } → page.palette ≡ shown_palette (palette_of r) → DrawsRows start end (outline w r infos)
+    → end.bytes ≡ printed (canvas w r infos)
+unfolding canvas
+outline_bytes w r infos page start end fresh palette all =
+    let rows = outline w r infos in
+    ap (λ (q : PenFields). q.bytes) all ∙ ap (λ (q : PenFields). q.bytes ++ rows_bytes q.page.palette rows) fresh
+    ∙ ap (λ p. rows_bytes p rows) palette ∙ shown_bytes (palette_of r) rows

@@ -1,8 +1,0 @@
-use Rattle.std.proofs.Common.{◌≡◌, ◌++◌, drop}
-use Rattle.ariadne_told.specs.Columns.{begins_behind, line_begins}
-use Rattle.ariadne_told.proofs.columns.begins_of.Given as goal
-
--- the beginnings that are pushed, and those of what is left
-abbrev pub invariant-loop-place : goal.invariant-loop-place
-invariant-loop-place l =
-    l.begins.items ++ begins_behind l.place (drop l.place l.text) ≡ line_begins l.text

@@ -1,9 +1,0 @@
-use Rattle.std.proofs.Common.{◌≡◌, ◌+◌, drop}
-use Rattle.std.specs.List.{prefix_len}
-use Rattle.ariadne_told.specs.Columns.{is_word}
-use Rattle.ariadne_told.proofs.columns.word_length.Given as goal
-
--- what is passed is of the word
-abbrev pub invariant-loop-place : goal.invariant-loop-place
-invariant-loop-place l =
-    l.place + prefix_len is_word (drop l.place l.text) ≡ prefix_len is_word l.text

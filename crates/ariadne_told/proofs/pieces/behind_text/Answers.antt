@@ -1,5 +1,0 @@
-use Rattle.ariadne_told.proofs.Texts.{behind_text_is}
-use Rattle.ariadne_told.proofs.pieces.behind_text.Goals as goal
-
-pub returns : goal.returns
-returns c = behind_text_is c.args.words.now c.args.text.now c.strip_prefix.result c.strip_prefix.ensures.cases

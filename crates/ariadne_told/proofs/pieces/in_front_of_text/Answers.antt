@@ -1,5 +1,0 @@
-use Rattle.ariadne_told.proofs.Texts.{in_front_text_is}
-use Rattle.ariadne_told.proofs.pieces.in_front_of_text.Goals as goal
-
-pub returns : goal.returns
-returns c = in_front_text_is c.args.words.now c.args.text.now c.strip_suffix.result c.strip_suffix.ensures.cases
