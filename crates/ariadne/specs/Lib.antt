@@ -21,7 +21,7 @@ pub use Rattle.ariadne_color.specs.Generator
 pub use Rattle.ariadne_color.specs.declared.color.Color
 -- ---- reports, and the picture of one
 pub use Rattle.ariadne_labels.specs.Kinds
-pub use Rattle.ariadne_labels.specs.Labels
+pub use Rattle.ariadne_labels.specs.LabelEquality
 pub use Rattle.ariadne_labels.specs.declared.kind.ReportKind
 pub use Rattle.ariadne_picture.specs.declared.switches.CharSet
 pub use Rattle.ariadne_picture.specs.declared.switches.IndexType
@@ -66,7 +66,7 @@ pub use Rattle.ariadne_picture.specs.Variants
 pub use Rattle.ariadne_picture.specs.Headline
 -- ---- making a report and writing it
 pub mod Building
-pub use Rattle.ariadne_accept.specs.Drawn
+pub use Rattle.ariadne_accept.specs.CacheReads
 pub use Rattle.ariadne_accept.specs.Judging
 pub use Rattle.ariadne_accept.specs.declared.accept.LeftOut
 pub use Rattle.ariadne_accept.specs.declared.accept.Reason

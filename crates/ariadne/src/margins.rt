@@ -1,7 +1,7 @@
 //! The columns of a picture before the source text.
 
 ghost use Rattle.std.specs.Prelude.{◌≡◌, IfOk};
-ghost use Rattle.ariadne_accept.specs.Drawn.{world};
+ghost use Rattle.ariadne_accept.specs.CacheReads.{world};
 ghost use Rattle.ariadne_accept.specs.Judging.{GrowsFor};
 ghost use Rattle.ariadne.specs.Written.{HasMargin};
 

@@ -1,7 +1,7 @@
 //! Writing a report: the labels are checked, the whole picture is made, and then sent.
 
 ghost use Rattle.std.specs.Prelude.{◌≡◌, IfOk, None, string_bytes};
-ghost use Rattle.ariadne_accept.specs.Drawn.{world};
+ghost use Rattle.ariadne_accept.specs.CacheReads.{world};
 ghost use Rattle.ariadne_accept.specs.Judging.{GrowsFor};
 ghost use Rattle.ariadne.specs.Written.{IsPicture, Written};
 ghost use Rattle.ariadne.specs.WriteErrors.{TellsFailure};

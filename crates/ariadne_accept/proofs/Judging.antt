@@ -20,7 +20,7 @@ use Rattle.ariadne_picture.proofs.Lists.ListFacts.{all-append}
 use Rattle.ariadne_accept.specs.declared.accept.LeftOut.{LeftOut}
 use Rattle.ariadne_accept.specs.declared.accept.Reason.{Reason}
 use Rattle.ariadne_accept.specs.declared.accept.Reason.TheVariants.{Unfetched, PastSource, CutsCharacter}
-use Rattle.ariadne_accept.specs.Drawn.{world}
+use Rattle.ariadne_accept.specs.CacheReads.{world}
 use Rattle.ariadne_accept.specs.Judging.{AreJudged, GrowsFor, IsJudged, NoneUnfetched, Outcome, StayFetched, drawn_as, drawn_labels, is_unfetched}
 use Rattle.ariadne_accept.specs.Judging.{left_out_for, listed}
 use Rattle.ariadne_accept.specs.Progress.{IsSourceAt, SoFar}

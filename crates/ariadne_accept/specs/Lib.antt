@@ -1,4 +1,4 @@
 pub mod Counting
-pub mod Drawn
+pub mod CacheReads
 pub mod Judging
 pub mod Progress

@@ -7,7 +7,7 @@ ghost use Rattle.ariadne_base.specs.Listing.{Listing, listed_lines};
 ghost use Rattle.ariadne_base.specs.Locations.{column_at, line_at};
 ghost use Rattle.ariadne_base.specs.Table.{line_extent};
 ghost use Rattle.ariadne_accept.specs.Counting.{IsKnown};
-ghost use Rattle.ariadne_accept.specs.Drawn.{world};
+ghost use Rattle.ariadne_accept.specs.CacheReads.{world};
 ghost use Rattle.ariadne_accept.specs.Judging.{AreOutcomes, GrowsFor, Outcome, drawn_labels};
 ghost use Rattle.ariadne_accept.specs.Judging.{listed};
 ghost use Rattle.ariadne_accept.specs.Progress.{IsSourceAt, SoFar};

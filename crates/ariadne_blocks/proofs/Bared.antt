@@ -2,7 +2,7 @@
 use Rattle.std.proofs.Common.{◌≡◌, ◌∙◌, List, ℕ, [], ◌++◌, ap, append_assoc, drop, subst, sym, take}
 use Rattle.std.specs.Prelude.{None, Some}
 use Rattle.std.specs.Str.Pattern.{FindsText}
-use Rattle.ariadne_blocks.specs.Colors.{clear, no_color, one_color, without_last, IsBare}
+use Rattle.ariadne_blocks.specs.Uncolored.{clear, no_color, one_color, without_last, IsBare}
 
 -- nothing is written at first
 pub bare_first : (text bare more : List ℕ) → bare ≡ [] → IsBare text more → IsBare text (bare ++ more)

@@ -4,8 +4,8 @@ use Rattle.std.specs.Prelude.{Bool, true, false, if◌then◌else◌}
 use Rattle.ariadne_snippets.specs.declared.taken.FixKind.{FixKind}
 use Rattle.ariadne_parse.specs.FixRows.{FixRow}
 use Rattle.ariadne_blocks.specs.Blocks.{fix_row_help, with_help, with_help_of_row, with_reason, View}
-use Rattle.ariadne_blocks.specs.FixRows.{column_of, is_told_in, kind_of}
-use Rattle.ariadne_blocks.specs.Fixes.{fix_text}
+use Rattle.ariadne_blocks.specs.FixChanges.{column_of, is_told_in, kind_of}
+use Rattle.ariadne_blocks.specs.HelpFixes.{fix_text}
 
 -- a change that may be told already
 with_change : FixRow → View → FixKind × List ℕ → View

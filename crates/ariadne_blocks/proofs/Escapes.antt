@@ -2,7 +2,7 @@
 use Rattle.std.proofs.Common.{◌≡◌, ◌∙◌, ℕ, ◌+◌, ◌-◌, ◌≤◌, ◌<◌, List, [], ◌∷◌, ◌++◌, length, get_or, drop, ap, sym, refl, append-nil, ne_eqb}
 use Rattle.std.specs.Prelude.{true, false}
 use Rattle.std.proofs.lemmas.List.{append_assoc, at_drop_all, at_drop_more}
-use Rattle.ariadne_blocks.specs.FixRows.{bytes_behind, is_first_digit, meant, with_digit}
+use Rattle.ariadne_blocks.specs.FixChanges.{bytes_behind, is_first_digit, meant, with_digit}
 use Rattle.ariadne_blocks.specs.declared.fix_rows.Escape.{Escape}
 use Rattle.ariadne_blocks.specs.declared.fix_rows.Escape.TheVariants.{Closed, Digit, Digits, Open}
 

@@ -7,7 +7,7 @@ use Rattle.ariadne_parse.specs.Proposed.{edit_of, proposed, Edit, Proposed}
 use Rattle.ariadne_parse.specs.Proposed.{way_of as way_told}
 use Rattle.ariadne_parse.specs.declared.diagnostic.Change.{Change}
 use Rattle.ariadne_parse.specs.declared.diagnostic.Proposal.{Proposal}
-use Rattle.ariadne_blocks.specs.Proposed.{any_in_line, are_in_line, last_with, proposals_with, Way}
+use Rattle.ariadne_blocks.specs.ProposedByRows.{any_in_line, are_in_line, last_with, proposals_with, Way}
 use Rattle.ariadne_blocks.specs.declared.fix_rows.ToldChange.{ToldChange}
 use Rattle.ariadne_blocks.proofs.Lists.{any_mapped, pushed}
 

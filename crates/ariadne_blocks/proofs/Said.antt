@@ -8,7 +8,7 @@ use Rattle.ariadne_snippets.specs.declared.taken.Point.{Point}
 use Rattle.ariadne_parse.specs.Places.{seen, Seen}
 use Rattle.ariadne_parse.specs.declared.diagnostic.Place.{Place}
 use Rattle.ariadne_blocks.specs.Files.{File}
-use Rattle.ariadne_blocks.specs.Marks.{begun_if, begun_in, begun_place, beside, given_at, given_to, said_at, said_by, with_range}
+use Rattle.ariadne_blocks.specs.MarkMeanings.{begun_if, begun_in, begun_place, beside, given_at, given_to, said_at, said_by, with_range}
 use Rattle.ariadne_blocks.specs.Notes.{as_beside, note_places}
 use Rattle.ariadne_blocks.proofs.Lists.{get_mapped, pushed, same_read}
 

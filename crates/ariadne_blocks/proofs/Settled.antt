@@ -9,7 +9,7 @@ use Rattle.ariadne_parse.specs.Places.{seen, Seen}
 use Rattle.ariadne_parse.specs.declared.diagnostic.Place.{Place}
 use Rattle.std.proofs.lemmas.List.Folds.{find-append}
 use Rattle.ariadne_blocks.specs.declared.drawn.Drawn.{Drawn}
-use Rattle.ariadne_blocks.specs.Drawn.{all_settled, are_at, marks_at, marks_of, settled, with_found, Marks}
+use Rattle.ariadne_blocks.specs.MarkedSpots.{all_settled, are_at, marks_at, marks_of, settled, with_found, Marks}
 use Rattle.ariadne_blocks.proofs.Lists.{find_mapped, pushed, written, written_all}
 
 -- one place more is settled

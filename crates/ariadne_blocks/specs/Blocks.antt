@@ -22,16 +22,16 @@ use Rattle.ariadne_parse.specs.Places.{seen, Seen}
 use Rattle.ariadne_parse.specs.Proposed.{Edit, Proposed}
 use Rattle.ariadne_parse.specs.declared.diagnostic.Diagnostic.{Diagnostic}
 use Rattle.ariadne_parse.specs.declared.diagnostic.Place.{Place}
-use Rattle.ariadne_blocks.specs.Colors.{IsBare}
+use Rattle.ariadne_blocks.specs.Uncolored.{IsBare}
 use Rattle.ariadne_blocks.specs.Events.{event_in, frame, in_file, quoting, telling as telling_event}
 use Rattle.ariadne_blocks.specs.Files.{File, file_at, line_at, quotes_escape, source_in}
-use Rattle.ariadne_blocks.specs.FixRows.{column_of, is_path_of, is_told_in, kind_of, told_change, unescaped}
-use Rattle.ariadne_blocks.specs.Fixes.{change_unit, fix_help, fix_text}
+use Rattle.ariadne_blocks.specs.FixChanges.{column_of, is_path_of, is_told_in, kind_of, told_change, unescaped}
+use Rattle.ariadne_blocks.specs.HelpFixes.{change_unit, fix_help, fix_text}
 use Rattle.ariadne_blocks.specs.GoingOn.{behind_head, may_go_on_in, row_in}
-use Rattle.ariadne_blocks.specs.Marks.{Marking, with_begun, with_labels, with_marks}
+use Rattle.ariadne_blocks.specs.MarkMeanings.{Marking, with_begun, with_labels, with_marks}
 use Rattle.ariadne_blocks.specs.Messages.{is_of_python, with_lines}
 use Rattle.ariadne_blocks.specs.Notes.{are_lines_of, is_line_of, note_places}
-use Rattle.ariadne_blocks.specs.Proposed.{edit_with, proposals_with, Way}
+use Rattle.ariadne_blocks.specs.ProposedByRows.{edit_with, proposals_with, Way}
 use Rattle.ariadne_blocks.specs.Telling.{Telling, telling}
 use Rattle.ariadne_blocks.specs.declared.block.Aside.{Aside}
 use Rattle.ariadne_blocks.specs.declared.block.Aside.TheVariants as aside

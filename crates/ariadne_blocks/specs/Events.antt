@@ -6,7 +6,7 @@ use Rattle.std.specs.Char.{is_ascii_digit}
 use Rattle.std.specs.List.{ends_with, list_all, starts_with}
 use Rattle.std.specs.Path.{rsplit_once}
 use Rattle.std.specs.Str.{trim, trim_start}
-use Rattle.ariadne_parse.specs.Pieces.{behind, in_front_of, split_once}
+use Rattle.ariadne_parse.specs.TextPieces.{behind, in_front_of, split_once}
 use Rattle.ariadne_blocks.specs.declared.events.EventRow.{EventRow}
 use Rattle.ariadne_blocks.specs.declared.events.EventRow.TheVariants.{File, Frame, Quoting, Telling}
 

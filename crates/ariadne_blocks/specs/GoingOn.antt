@@ -4,7 +4,7 @@
 use Rattle.std.specs.Prelude.{ℕ, ◌+◌, ◌==◌, nat_lt, Bool, false, ◌||◌, if◌then◌else◌, List, chars, codes, drop, length}
 use Rattle.std.specs.Prelude.{Option, None, Some, option_and_then}
 use Rattle.std.specs.List.{ends_with, list_any, prefix_len}
-use Rattle.ariadne_parse.specs.Pieces.{begins_with, behind, split_once}
+use Rattle.ariadne_parse.specs.TextPieces.{begins_with, behind, split_once}
 use Rattle.ariadne_parse.specs.Places.{Seen}
 use Rattle.ariadne_blocks.specs.Messages.{had_no_room, is_of_python}
 use Rattle.ariadne_blocks.specs.declared.goes_on.GoesOn.{GoesOn}

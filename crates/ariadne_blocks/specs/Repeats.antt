@@ -10,7 +10,7 @@ use Rattle.ariadne_parse.specs.Places.{Seen}
 use Rattle.ariadne_parse.specs.declared.diagnostic.End.{End}
 use Rattle.ariadne_parse.specs.declared.diagnostic.End.TheVariants.{Before, Behind, OfWord}
 use Rattle.ariadne_parse.specs.declared.diagnostic.Spot.{Spot}
-use Rattle.ariadne_blocks.specs.Drawn.{is_same_spot}
+use Rattle.ariadne_blocks.specs.MarkedSpots.{is_same_spot}
 
 -- two places end in the same way
 abbrev pub is_same_end : End → End → Bool

@@ -3,9 +3,9 @@
 ghost use Rattle.std.specs.Prelude.{◌≡◌, option_map, string_bytes, IfOk};
 ghost use Rattle.std.specs.List.{list_all};
 ghost use Rattle.std.specs.Path.{rsplit_once};
-ghost use Rattle.ariadne_parse.specs.Pieces.{behind, in_front_of};
-ghost use Rattle.ariadne_blocks.specs.Colors.{is_color as is_color_in, is_parameter};
-ghost use Rattle.ariadne_blocks.specs.Colors.{without_last, IsBare};
+ghost use Rattle.ariadne_parse.specs.TextPieces.{behind, in_front_of};
+ghost use Rattle.ariadne_blocks.specs.Uncolored.{is_color as is_color_in, is_parameter};
+ghost use Rattle.ariadne_blocks.specs.Uncolored.{without_last, IsBare};
 
 use std::alloc::{AllocError, Global};
 
@@ -28,7 +28,7 @@ pub(crate) fn without_gcc_colors(alloc: Global, text: &str) -> Result<String, Al
 }
 
 /// A text without the sequence `ESC [ digits and ; m` at its end, if one stands there.
-#[tactic(auto, unfolding(crate::specs::Colors::without_last))]
+#[tactic(auto, unfolding(crate::specs::Uncolored::without_last))]
 fn without_last_sequence(text: &str) -> &str
     ensures { result.now ≡ without_last text.now }
 {
@@ -46,7 +46,7 @@ fn at_last_escape(text: &str) -> Option<(&str, &str)>
 }
 
 /// Whether a text is `[ digits and ; m`.
-#[tactic(auto, unfolding(crate::specs::Colors::is_color))]
+#[tactic(auto, unfolding(crate::specs::Uncolored::is_color))]
 fn is_color(text: &str) -> bool
     ensures { result ≡ is_color_in text.now }
 {

@@ -5,9 +5,9 @@ ghost use Rattle.std.specs.Prelude.{◌≡◌, [], ◌++◌, map, OnOk};
 ghost use Rattle.std.specs.List.{find, flat_map};
 ghost use Rattle.std.specs.Option.{option_copied};
 ghost use Rattle.ariadne_parse.specs.Places.{seen};
-ghost use Rattle.ariadne_blocks.specs.Drawn.{all_settled, are_at, marks_at as marks_of_place};
-ghost use Rattle.ariadne_blocks.specs.Drawn.{marks_of, settled};
-ghost use Rattle.ariadne_blocks.specs.Drawn.{told_spot as told_spot_of};
+ghost use Rattle.ariadne_blocks.specs.MarkedSpots.{all_settled, are_at, marks_at as marks_of_place};
+ghost use Rattle.ariadne_blocks.specs.MarkedSpots.{marks_of, settled};
+ghost use Rattle.ariadne_blocks.specs.MarkedSpots.{told_spot as told_spot_of};
 
 use ariadne_parse::{End, Place, Spot};
 use std::alloc::{AllocError, Global};

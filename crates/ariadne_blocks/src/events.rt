@@ -15,8 +15,8 @@
 
 ghost use Rattle.std.specs.Prelude.{◌≡◌, option_map};
 ghost use Rattle.std.specs.Path.{rsplit_once};
-ghost use Rattle.ariadne_parse.specs.Pieces as pieces;
-ghost use Rattle.ariadne_parse.specs.Pieces.{split_once};
+ghost use Rattle.ariadne_parse.specs.TextPieces as pieces;
+ghost use Rattle.ariadne_parse.specs.TextPieces.{split_once};
 ghost use Rattle.ariadne_blocks.specs.Events as events;
 
 /// What a row of events is.

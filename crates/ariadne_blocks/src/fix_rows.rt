@@ -4,10 +4,10 @@
 ghost use Rattle.std.specs.Prelude.{◌≡◌, ◌==◌, ◌++◌, ◌∷◌, ℕ, List, IfOk, option_map, string_bytes};
 ghost use Rattle.std.specs.List.{list_any};
 ghost use Rattle.ariadne_parse.specs.FixRows.{fix_row_told};
-ghost use Rattle.ariadne_parse.specs.Pieces.{in_front_of, in_front_of_text};
+ghost use Rattle.ariadne_parse.specs.TextPieces.{in_front_of, in_front_of_text};
 ghost use Rattle.ariadne_parse.specs.Proposed.{edit_of};
-ghost use Rattle.ariadne_blocks.specs.FixRows as rows;
-ghost use Rattle.ariadne_blocks.specs.Proposed.{edit_with};
+ghost use Rattle.ariadne_blocks.specs.FixChanges as rows;
+ghost use Rattle.ariadne_blocks.specs.ProposedByRows.{edit_with};
 
 use crate::events::closes_with;
 use ariadne_snippets::{Fix, FixKind, Point};

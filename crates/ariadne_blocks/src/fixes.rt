@@ -2,7 +2,7 @@
 
 ghost use Rattle.std.specs.Prelude.{◌≡◌, option_map, string_bytes, IfOk};
 ghost use Rattle.ariadne_blocks.specs.Files.{file_of};
-ghost use Rattle.ariadne_blocks.specs.Fixes.{change_unit as unit_of_change, fix_help, fix_words as words_of_fix};
+ghost use Rattle.ariadne_blocks.specs.HelpFixes.{change_unit as unit_of_change, fix_help, fix_words as words_of_fix};
 
 use crate::file::{QuotedFile, column_in};
 use ariadne_snippets::{Fix, FixKind};

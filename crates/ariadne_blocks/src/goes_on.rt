@@ -10,7 +10,7 @@
 ghost use Rattle.std.specs.Prelude.{◌≡◌, ◌==◌, option_map};
 ghost use Rattle.std.specs.List.{list_any, prefix_len};
 ghost use Rattle.std.specs.Option.{option_copied};
-ghost use Rattle.ariadne_parse.specs.Pieces.{split_once};
+ghost use Rattle.ariadne_parse.specs.TextPieces.{split_once};
 ghost use Rattle.ariadne_parse.specs.Places.{seen};
 ghost use Rattle.ariadne_blocks.specs.GoingOn as going;
 

@@ -3,7 +3,7 @@
 ghost use Rattle.std.specs.Prelude.{◌≡◌, ◌++◌, map, option_map, string_bytes, IfOk, OnOk};
 ghost use Rattle.ariadne_parse.specs.Places.{seen};
 ghost use Rattle.ariadne_blocks.specs.Files.{file_of};
-ghost use Rattle.ariadne_blocks.specs.Marks as marks;
+ghost use Rattle.ariadne_blocks.specs.MarkMeanings as marks;
 ghost use Rattle.ariadne_blocks.specs.Notes.{are_lines_of as lines_of_place, as_beside};
 ghost use Rattle.ariadne_blocks.specs.Notes.{is_line_of as line_of_place};
 ghost use Rattle.ariadne_blocks.specs.Notes.{is_over_lines as goes_over_lines, note_places};

@@ -8,8 +8,8 @@ ghost use Rattle.ariadne_parse.specs.Proposed as told;
 ghost use Rattle.ariadne_parse.specs.Proposed.{edit_of, proposed};
 ghost use Rattle.ariadne_blocks.specs.Blocks as blocks;
 ghost use Rattle.ariadne_blocks.specs.Blocks.{view_of};
-ghost use Rattle.ariadne_blocks.specs.Proposed as proposing;
-ghost use Rattle.ariadne_blocks.specs.Proposed.{any_in_line, edit_with, way_of};
+ghost use Rattle.ariadne_blocks.specs.ProposedByRows as proposing;
+ghost use Rattle.ariadne_blocks.specs.ProposedByRows.{any_in_line, edit_with, way_of};
 
 use crate::block::Block;
 use crate::fix_rows::{ToldChange, change_of};

@@ -9,9 +9,9 @@ ghost use Rattle.ariadne_parse.specs.Places.{seen};
 ghost use Rattle.ariadne_blocks.specs.Files.{file_at, file_of, line_at};
 ghost use Rattle.ariadne_blocks.specs.Files.{begins_with_number as begins_with_digit};
 ghost use Rattle.ariadne_blocks.specs.Files.{quotes_escape as quotes_escape_in, source_in};
-ghost use Rattle.ariadne_blocks.specs.Marks.{given_at, is_own_at, marking_of, with_begun, with_label};
-ghost use Rattle.ariadne_blocks.specs.Marks.{with_labels};
-ghost use Rattle.ariadne_blocks.specs.Marks.{with_mark, with_marks};
+ghost use Rattle.ariadne_blocks.specs.MarkMeanings.{given_at, is_own_at, marking_of, with_begun, with_label};
+ghost use Rattle.ariadne_blocks.specs.MarkMeanings.{with_labels};
+ghost use Rattle.ariadne_blocks.specs.MarkMeanings.{with_mark, with_marks};
 
 use crate::file::QuotedFile;
 use crate::places::{

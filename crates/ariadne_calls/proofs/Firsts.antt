@@ -9,7 +9,7 @@ use Rattle.ariadne_calls.specs.declared.ending.Fault.{Fault}
 use Rattle.ariadne_calls.specs.declared.ending.Fault.TheVariants as fault
 use Rattle.ariadne_calls.specs.declared.ending.Refusal.{Refusal}
 use Rattle.ariadne_calls.specs.declared.ending.Refusal.TheVariants.{NoMemory, Faulty}
-use Rattle.ariadne_calls.specs.Colors.{is_color}
+use Rattle.ariadne_calls.specs.ColorNumbers.{is_color}
 use Rattle.ariadne_calls.specs.declared.given.GivenReport.{GivenReport}
 use Rattle.ariadne_calls.specs.Faults.{IsFirst, faults_from, label_faults, when, optional_faults, head_faults, help_faults, note_faults, report_faults}
 

@@ -6,7 +6,7 @@ use Rattle.std.specs.declared.ops.Range.{Range}
 use Rattle.ariadne.specs.LeftOut.{LeftOut}
 use Rattle.ariadne.specs.Report.{Kind, ReportFields}
 use Rattle.ariadne_safe.specs.Pictures.{GotNothingHidden, HidesNothing}
-use Rattle.ariadne_safe.specs.Reports.{WrittenFor}
+use Rattle.ariadne_safe.specs.SafeReports.{WrittenFor}
 use Rattle.ariadne_safe.specs.declared.sources.NoSource.{NoSource}
 use Rattle.ariadne_safe.specs.declared.sources.SafeSource.{SafeSource}
 use Rattle.ariadne_calls.specs.Asked.{report_of}

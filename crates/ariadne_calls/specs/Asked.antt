@@ -16,7 +16,7 @@ use Rattle.ariadne.specs.Building.{filled_code}
 use Rattle.ariadne_calls.specs.declared.given.GivenLabel.{GivenLabel}
 use Rattle.ariadne_calls.specs.declared.given.GivenReport.{GivenReport}
 use Rattle.ariadne_calls.specs.declared.given.Text.{Text}
-use Rattle.ariadne_calls.specs.Colors.{color_of}
+use Rattle.ariadne_calls.specs.ColorNumbers.{color_of}
 use Rattle.ariadne_calls.specs.Flag as flag
 use Rattle.ariadne_calls.specs.Given.{given_text}
 

@@ -15,7 +15,7 @@ use Rattle.ariadne_calls.specs.declared.ending.Fault.TheVariants as fault
 use Rattle.ariadne_calls.specs.declared.ending.Refusal.{Refusal}
 use Rattle.ariadne_calls.specs.declared.ending.Refusal.TheVariants.{NoMemory, Faulty}
 use Rattle.ariadne_calls.specs.Asked.{is_as_it_is}
-use Rattle.ariadne_calls.specs.Colors.{is_color}
+use Rattle.ariadne_calls.specs.ColorNumbers.{is_color}
 use Rattle.ariadne_calls.specs.Flag as flag
 use Rattle.ariadne_calls.specs.Given.{listing_of, shown_listing}
 

@@ -1,4 +1,4 @@
-pub mod Colors
+pub mod ColorNumbers
 pub mod Given
 pub mod Flag
 pub mod Asked

@@ -11,7 +11,7 @@ use Rattle.ariadne_safe.specs.declared.text.TextKind.TheVariants.{Aside, OneRow}
 use Rattle.ariadne_safe.specs.declared.sources.LineEnds.TheVariants.{All}
 use Rattle.ariadne_safe.specs.declared.sources.SafeSource.{SafeSource}
 use Rattle.ariadne_safe.specs.Sources.{given_of, line_ends_of, listing_of as listing_in, name_of as name_in}
-use Rattle.ariadne_safe.specs.Reports.{shown_label, shown_place}
+use Rattle.ariadne_safe.specs.SafeReports.{shown_label, shown_place}
 use Rattle.ariadne_calls.specs.declared.given.GivenSource.{GivenSource}
 use Rattle.ariadne_calls.specs.Given.{given_text, shown_listing}
 

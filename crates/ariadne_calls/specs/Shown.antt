@@ -15,7 +15,7 @@ use Rattle.ariadne.specs.Written.{IsWritten}
 use Rattle.ariadne_safe.specs.Pictures.{HidesNothing}
 use Rattle.ariadne_safe.specs.declared.sources.NoSource.{NoSource}
 use Rattle.ariadne_safe.specs.declared.sources.SafeSource.{SafeSource}
-use Rattle.ariadne_safe.specs.Reports.{WrittenFor}
+use Rattle.ariadne_safe.specs.SafeReports.{WrittenFor}
 use Rattle.ariadne_calls.specs.declared.given.GivenReport.{GivenReport}
 use Rattle.ariadne_calls.specs.declared.given.GivenSource.{GivenSource}
 use Rattle.ariadne_calls.specs.declared.given.ToldLeftOut.{ToldLeftOut}

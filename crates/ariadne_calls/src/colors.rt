@@ -1,7 +1,7 @@
 //! Colours by their numbers.
 
 ghost use Rattle.std.specs.Prelude.{◌≡◌, ◌<◌};
-ghost use Rattle.ariadne_calls.specs.Colors.{color_of, is_color, named_color};
+ghost use Rattle.ariadne_calls.specs.ColorNumbers.{color_of, is_color, named_color};
 
 use ariadne::Color;
 

@@ -37,7 +37,7 @@ pub struct GivenLabel<'a> {
     pub start: usize,
     pub end: usize,
     pub message: OptionalText<'a>,
-    /// A colour by its number, as `specs/Colors.antt` has it. 0 is none.
+    /// A colour by its number, as `specs/ColorNumbers.antt` has it. 0 is none.
     pub color: u32,
     /// Labels of lower order are drawn first.
     pub order: i32,

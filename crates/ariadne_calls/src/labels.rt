@@ -2,7 +2,7 @@
 
 ghost use Rattle.std.specs.Prelude.{◌≡◌, ◌++◌, [], map, IfOk, OnOk, IfErr, None};
 ghost use Rattle.ariadne_calls.specs.Asked.{label_of};
-ghost use Rattle.ariadne_calls.specs.Colors.{color_of};
+ghost use Rattle.ariadne_calls.specs.ColorNumbers.{color_of};
 ghost use Rattle.ariadne_calls.specs.Faults.{IsFirst, faults_from, label_faults};
 
 use crate::colors::{color_of, is_color};

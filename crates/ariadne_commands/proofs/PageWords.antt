@@ -4,7 +4,7 @@ use Rattle.std.specs.Prelude.{ℕ, Bool, true, false, List, [], ◌∷◌, lengt
 use Rattle.std.specs.Prelude.{Option, Some, None, is_some, option_map}
 use Rattle.std.specs.Str.{bytes_eq}
 use Rattle.std.specs.Cmp.Lexicographic.{bytes_decides}
-use Rattle.ariadne_commands.specs.Pages.{page_asked, page_named}
+use Rattle.ariadne_commands.specs.HelpPages.{page_asked, page_named}
 use Rattle.ariadne_commands.specs.Words.{asking_after, asking_of, colorless, front_of}
 use Rattle.ariadne_commands.specs.declared.pages.Page.{Page}
 use Rattle.ariadne_commands.proofs.Fronts.{differ}

@@ -2,7 +2,7 @@ pub mod Words
 pub mod Asked
 pub mod Watching
 pub mod Faults
-pub mod Pages
+pub mod HelpPages
 pub mod Drawn
 pub mod Brackets
 pub mod Outcomes

@@ -9,7 +9,7 @@ ghost use Rattle.ariadne_commands.specs.Asked.{asking, label_asking, options_ask
 ghost use Rattle.ariadne_commands.specs.Drawn.{colored, config_of, own_span, reads_input, report_of};
 ghost use Rattle.ariadne_commands.specs.Drawn.{sources, Ended, EndedOver, Leaves, OverFile};
 ghost use Rattle.ariadne_commands.specs.Faults.{IsFaultOfInput, reason_text, status_of_written};
-ghost use Rattle.ariadne_commands.specs.Pages.{IsShown, page_asked, page_text};
+ghost use Rattle.ariadne_commands.specs.HelpPages.{IsShown, page_asked, page_text};
 ghost use Rattle.ariadne_commands.specs.Watching.{has_failed, reader_of};
 ghost use Rattle.ariadne_commands.specs.Words.{asking_of};
 ghost use Rattle.ariadne_commands.specs.declared.fault.Fault.TheVariants.{Memory, Unread};

@@ -1,7 +1,7 @@
 //! The texts that the program has ready: its help and its version.
 
 ghost use Rattle.std.specs.Prelude.{◌≡◌, map, string_bytes};
-ghost use Rattle.ariadne_commands.specs.Pages.{page_asked, page_text, IsShown};
+ghost use Rattle.ariadne_commands.specs.HelpPages.{page_asked, page_text, IsShown};
 
 use super::fault::{Fault, Status, tell_fault};
 use ariadne::send::send;

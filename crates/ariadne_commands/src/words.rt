@@ -3,7 +3,7 @@
 ghost use Rattle.std.specs.Prelude.{◌≡◌, Option, Some, None};
 ghost use Rattle.std.specs.Prelude.{IfOk, MatchOption};
 ghost use Rattle.std.specs.Prelude.{map, option_map, string_bytes};
-ghost use Rattle.ariadne_commands.specs.Pages.{page_asked};
+ghost use Rattle.ariadne_commands.specs.HelpPages.{page_asked};
 ghost use Rattle.ariadne_commands.specs.Words.{asking_behind, asking_of, colorless, front_of as front};
 ghost use Rattle.ariadne_commands.specs.Words.{label_of, labels_of, number_of};
 ghost use Rattle.ariadne_commands.specs.Asked.{label_asking, options_asking, ReadsLabels};

@@ -6,7 +6,7 @@ use Rattle.unicode_width.specs.Width.{char_width}
 use Rattle.unicode_width.proofs.Rules.{width_or_zero-le}
 use Rattle.ariadne_base.specs.Lines.{is_separator}
 use Rattle.ariadne_edits.specs.Bodies.{columns_at, shown_at, sign_of, spread, tab_blanks}
-use Rattle.ariadne_edits.specs.Rows.{seen_of}
+use Rattle.ariadne_edits.specs.SuggestionRows.{seen_of}
 
 -- blanks are bytes of their own
 pub blanks_encoded : (n : ℕ) → encode_utf8_all (replicate n 32) ≡ replicate n 32

@@ -12,8 +12,8 @@ use Rattle.ariadne_picture.specs.declared.switches.CharSet.{CharSet}
 use Rattle.ariadne_edits.specs.declared.cut.View.{View}
 use Rattle.ariadne_edits.specs.declared.rows.Blanks.{Blanks}
 use Rattle.ariadne_edits.specs.Bodies.{body}
-use Rattle.ariadne_edits.specs.Cuts.{columns_in, common_len, cut_behind, cut_in_front, cut_mark, first_fitting, fitted}
-use Rattle.ariadne_edits.specs.Cuts.{front_shown, last_fitting, mark_width, shown_line, usable_width}
+use Rattle.ariadne_edits.specs.Views.{columns_in, common_len, cut_behind, cut_in_front, cut_mark, first_fitting, fitted}
+use Rattle.ariadne_edits.specs.Views.{front_shown, last_fitting, mark_width, shown_line, usable_width}
 
 -- ---- a test on one character
 

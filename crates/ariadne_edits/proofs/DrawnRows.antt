@@ -3,7 +3,7 @@ use Rattle.std.proofs.Common.{◌≡◌, ◌∙◌, ap, sym, ℕ, ◌+◌, ◌�
 use Rattle.std.proofs.lemmas.List.{at_drop_all}
 use Rattle.ariadne_edits.specs.declared.drawing.Layout.{Layout}
 use Rattle.ariadne_edits.specs.declared.rows.Row.{Row}
-use Rattle.ariadne_edits.specs.Drawn.{drawn_row, drawn_rows, is_drawn}
+use Rattle.ariadne_edits.specs.HelpTexts.{drawn_row, drawn_rows, is_drawn}
 
 module _ (layout : Layout) (old new : List (List ℕ)) (rows : List Row) (k : ℕ) (is_first is_apart : Bool) (out whole : List ℕ)
     (so_far : out ++ drawn_rows layout old new is_first is_apart (drop k rows) ≡ whole) where

@@ -4,7 +4,7 @@ use Rattle.std.proofs.lemmas.List.{at_drop_all, drop_more, get_or_at, length_pus
 use Rattle.std.proofs.lemmas.List.Elements.{Contains-append_left}
 use Rattle.ariadne_edits.specs.declared.rows.Row.{Row}
 use Rattle.ariadne_edits.specs.declared.rows.Row.TheVariants.{Kept}
-use Rattle.ariadne_edits.specs.Kept.{AreSame, HasKept, IsPaired, KeepAlso, RiseTo}
+use Rattle.ariadne_edits.specs.KeptLines.{AreSame, HasKept, IsPaired, KeepAlso, RiseTo}
 
 -- a row more
 pub keeps_more : (rows : List Row) (row : Row) → KeepAlso rows (rows ++ row ∷ [])

@@ -14,7 +14,7 @@ use Rattle.ariadne_base.specs.Locations.{line_text}
 use Rattle.ariadne_base.specs.Table.{LineExtent, line_extent, line_table}
 use Rattle.ariadne_base.proofs.StartLemmas.{slice_get-table}
 use Rattle.ariadne_base.proofs.TableLemmas.{length-line_table}
-use Rattle.ariadne_edits.specs.Rows.{IsTerminated}
+use Rattle.ariadne_edits.specs.SuggestionRows.{IsTerminated}
 
 -- a line that was found is there
 pub found_there : (o : Option LineExtent) (ls : List (List ℕ)) (n : ℕ) (e : LineExtent) → o ≡ slice_get (line_table ls) n → o ≡ Some e → n < length ls

@@ -4,7 +4,7 @@ use Rattle.std.specs.List.{flat_map, range_with_len, AllByRecursion}
 use Rattle.ariadne_base.specs.Locations.{upto, line_text}
 use Rattle.ariadne_edits.specs.declared.rows.Row.{Row}
 use Rattle.ariadne_edits.specs.declared.rows.Row.TheVariants.{Kept, KeptLast, Removed, Added}
-use Rattle.ariadne_edits.specs.Rows.{lines_after, IsSame, Tell, patched, patched_line, restored}
+use Rattle.ariadne_edits.specs.SuggestionRows.{lines_after, IsSame, Tell, patched, patched_line, restored}
 
 -- lines by their numbers, behind as many others
 by_number : (g : ℕ → List ℕ) (xs : List (List ℕ)) (a : ℕ) → ((i : ℕ) → i < length xs → g (a + i) ≡ get_or xs i [])

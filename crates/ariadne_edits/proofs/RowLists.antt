@@ -6,7 +6,7 @@ use Rattle.ariadne_base.specs.Locations.{upto, line_text}
 use Rattle.ariadne_edits.specs.declared.rows.Look.{Look}
 use Rattle.ariadne_edits.specs.declared.rows.Row.{Row}
 use Rattle.ariadne_edits.specs.declared.rows.Row.TheVariants.{Removed, Added}
-use Rattle.ariadne_edits.specs.Rows.{lines_before, lines_after, AreMarked, IsKept, IsSame, TellFirst}
+use Rattle.ariadne_edits.specs.SuggestionRows.{lines_before, lines_after, AreMarked, IsKept, IsSame, TellFirst}
 
 -- the numbers from a on, one more
 range_more : (a n : ℕ) → range_with_len a (suc n) ≡ range_with_len a n ++ (a + n) ∷ []

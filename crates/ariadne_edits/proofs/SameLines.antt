@@ -8,7 +8,7 @@ use Rattle.std.proofs.lemmas.Grind.{flat_map-append}
 use Rattle.std.proofs.lemmas.Str.{encodes-append, length-le-encodes}
 use Rattle.ariadne_base.specs.Lines.{is_separator, begins_with_line_feed, ends_line, in_front, full_lines_of, lines_of, HasNoSeparatorInside, EndsIn, BeginsIn, CutsCrLf, AreFullLines}
 use Rattle.ariadne_base.specs.Locations.{byte_len}
-use Rattle.ariadne_edits.specs.Kept.{IsClosed}
+use Rattle.ariadne_edits.specs.KeptLines.{IsClosed}
 
 -- the text of lines
 abbrev pub joined : List (List ℕ) → List ℕ

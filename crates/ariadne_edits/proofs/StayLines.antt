@@ -10,7 +10,7 @@ use Rattle.ariadne_base.specs.Lines.{lines_of, AreFullLines, AreLinesOf, empty_l
 use Rattle.ariadne_base.specs.Locations.{byte_len, line_at, line_offset, line_text}
 use Rattle.ariadne_base.proofs.LineLaws.{are_lines, joined_byte_len, lines_byte_len, lines_joined}
 use Rattle.ariadne_base.proofs.LocationLemmas.{offset_all, offset_more, offset_up, line_at_only}
-use Rattle.ariadne_edits.specs.Kept.{IsClosed}
+use Rattle.ariadne_edits.specs.KeptLines.{IsClosed}
 use Rattle.ariadne_edits.proofs.SameLines.{joined, line_stays, HasLine, IsSome, some_full_line}
 
 -- line i of one text stands as a line of another, which begins at a byte

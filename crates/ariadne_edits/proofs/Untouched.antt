@@ -16,7 +16,7 @@ use Rattle.ariadne_base.proofs.LineLaws.{lines_byte_len}
 use Rattle.ariadne_edits.specs.declared.change.Change.{Change}
 use Rattle.ariadne_edits.specs.declared.hints.Stay.{Stay}
 use Rattle.ariadne_edits.specs.Changes.{edited_from, edited_text, Fit, FitsBehind}
-use Rattle.ariadne_edits.specs.Kept.{IsPaired, IsUntouched, Misses, RiseTo}
+use Rattle.ariadne_edits.specs.KeptLines.{IsPaired, IsUntouched, Misses, RiseTo}
 use Rattle.ariadne_edits.specs.Stays.{AreStays, first_pairs, from_reaching, IsInside, IsStay, line_pairs, pair_at, pairs_in}
 use Rattle.ariadne_edits.proofs.PairLists.{is_below, not_below}
 use Rattle.ariadne_edits.proofs.RowLists.{upto_more}

@@ -9,8 +9,8 @@ use Rattle.ariadne_picture.specs.declared.switches.CharSet.{CharSet}
 use Rattle.ariadne_edits.specs.declared.cut.View.{View}
 use Rattle.ariadne_edits.specs.declared.rows.Blanks.{Blanks}
 use Rattle.ariadne_edits.specs.Bodies.{body}
-use Rattle.ariadne_edits.specs.Cuts.{columns_in, common_len, cut_behind, cut_in_front, cut_mark}
-use Rattle.ariadne_edits.specs.Cuts.{first_fitting, fitted, front_shown, last_fitting, mark_width, ShowsDifference, shown_line, usable_width}
+use Rattle.ariadne_edits.specs.Views.{columns_in, common_len, cut_behind, cut_in_front, cut_mark}
+use Rattle.ariadne_edits.specs.Views.{first_fitting, fitted, front_shown, last_fitting, mark_width, ShowsDifference, shown_line, usable_width}
 
 -- the columns of two texts add up
 pub columns_behind : (t u : List ℕ) → columns_in (t ++ u) ≡ columns_in t + columns_in u

@@ -1,10 +1,10 @@
 pub mod Changes
 pub mod Refusals
-pub mod Rows
+pub mod SuggestionRows
 pub mod Counterparts
-pub mod Kept
+pub mod KeptLines
 pub mod Stays
 pub mod Bodies
-pub mod Cuts
-pub mod Drawn
+pub mod Views
+pub mod HelpTexts
 pub mod Outcomes

@@ -4,10 +4,10 @@ use Rattle.ariadne_base.specs.Lines.{lines_of}
 use Rattle.ariadne_picture.specs.declared.switches.IndexType.{IndexType}
 use Rattle.ariadne_edits.specs.Changes.{AreInOrder, edited_text, in_bytes}
 use Rattle.ariadne_edits.specs.Counterparts.{HaveCounterparts}
-use Rattle.ariadne_edits.specs.Drawn.{drawn_text, number_width}
-use Rattle.ariadne_edits.specs.Kept.{KeepUntouched}
+use Rattle.ariadne_edits.specs.HelpTexts.{drawn_text, number_width}
+use Rattle.ariadne_edits.specs.KeptLines.{KeepUntouched}
 use Rattle.ariadne_edits.specs.Refusals.{refusal_of}
-use Rattle.ariadne_edits.specs.Rows.{Tell}
+use Rattle.ariadne_edits.specs.SuggestionRows.{Tell}
 use Rattle.ariadne_edits.specs.declared.change.Change.{Change}
 use Rattle.ariadne_edits.specs.declared.cut.View.{View}
 use Rattle.ariadne_edits.specs.declared.edit.BadEdit.{BadEdit}

@@ -16,8 +16,8 @@
 ghost use Rattle.std.specs.Prelude.{◌≡◌, ◌+◌, ◌*◌, ◌/◌, ◌≤◌, ◌++◌, IfOk, OnOk, chars, encode_utf8_all};
 ghost use Rattle.std.specs.Prelude.{length, string_bytes};
 ghost use Rattle.ariadne_edits.specs.Bodies.{body};
-ghost use Rattle.ariadne_edits.specs.Cuts.{columns_in, common_len, cut_behind, cut_in_front, cut_mark};
-ghost use Rattle.ariadne_edits.specs.Cuts.{first_fitting, fitted, last_fitting, mark_width, shown_line, usable_width};
+ghost use Rattle.ariadne_edits.specs.Views.{columns_in, common_len, cut_behind, cut_in_front, cut_mark};
+ghost use Rattle.ariadne_edits.specs.Views.{first_fitting, fitted, last_fitting, mark_width, shown_line, usable_width};
 
 use crate::body::{columns_of, push_body};
 use crate::rows::Blanks;

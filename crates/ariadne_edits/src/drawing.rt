@@ -3,11 +3,11 @@
 ghost use Rattle.std.specs.Prelude.{◌≡◌, ◌-◌, ◌++◌, ◌&&◌, ◌≤◌, not, IfOk, OnOk, chars};
 ghost use Rattle.std.specs.Prelude.{decimal, length, replicate, string_bytes};
 ghost use Rattle.ariadne_base.specs.Listing.{listed_lines};
-ghost use Rattle.ariadne_edits.specs.Cuts.{text_of_counterpart};
-ghost use Rattle.ariadne_edits.specs.Drawn.{drawn_row, drawn_text, greatest_number as greatest};
-ghost use Rattle.ariadne_edits.specs.Drawn.{is_drawn as shows, line_shown, number_of as shown_number};
-ghost use Rattle.ariadne_edits.specs.Drawn.{number_width as columns_of_numbers, parting};
-ghost use Rattle.ariadne_edits.specs.Drawn.{row_number as number_in, row_text};
+ghost use Rattle.ariadne_edits.specs.Views.{text_of_counterpart};
+ghost use Rattle.ariadne_edits.specs.HelpTexts.{drawn_row, drawn_text, greatest_number as greatest};
+ghost use Rattle.ariadne_edits.specs.HelpTexts.{is_drawn as shows, line_shown, number_of as shown_number};
+ghost use Rattle.ariadne_edits.specs.HelpTexts.{number_width as columns_of_numbers, parting};
+ghost use Rattle.ariadne_edits.specs.HelpTexts.{row_number as number_in, row_text};
 
 use crate::body::push_blanks;
 use crate::cut::{View, push_line};
@@ -112,7 +112,7 @@ fn push_drawn(
 }
 
 /// Appends what parts a row from the one above it.
-#[tactic(auto, unfolding(crate::specs::Drawn::parting))]
+#[tactic(auto, unfolding(crate::specs::HelpTexts::parting))]
 fn push_parting(out: &mut String, standing: Standing, width: usize) -> Result<(), AllocError>
     ensures { OnOk result (string_bytes out.new ≡ string_bytes out.old
         ++ parting standing.is_first standing.is_apart width) }

@@ -5,7 +5,7 @@ ghost use Rattle.std.specs.Prelude.{◌≡◌, ◌+◌, ◌-◌, ◌≤◌, ◌<
 ghost use Rattle.std.specs.List.{AllByRecursion};
 ghost use Rattle.ariadne_base.specs.Listing.{listed_lines};
 ghost use Rattle.ariadne_edits.specs.Changes.{edited_text, Fit};
-ghost use Rattle.ariadne_edits.specs.Kept.{IsPaired, IsUntouched};
+ghost use Rattle.ariadne_edits.specs.KeptLines.{IsPaired, IsUntouched};
 ghost use Rattle.ariadne_edits.specs.Stays.{AreStays, IsInside, from_reaching, pair_at, pairs_in};
 
 use crate::change::Change;

@@ -1,9 +1,9 @@
 //! Laws of rows and of lines that are cut. Each is the contract of a function that does nothing.
 
 ghost use Rattle.std.specs.Prelude.{◌≡◌, ◌<◌, ◌≤◌, ◌+◌, ◌*◌, ◌/◌, ◌∷◌, ℕ, List, drop};
-ghost use Rattle.ariadne_edits.specs.Cuts.{columns_in, common_len, front_shown, shown_line, usable_width};
-ghost use Rattle.ariadne_edits.specs.Cuts.{mark_width, ShowsDifference};
-ghost use Rattle.ariadne_edits.specs.Rows.{Tell, patched, restored};
+ghost use Rattle.ariadne_edits.specs.Views.{columns_in, common_len, front_shown, shown_line, usable_width};
+ghost use Rattle.ariadne_edits.specs.Views.{mark_width, ShowsDifference};
+ghost use Rattle.ariadne_edits.specs.SuggestionRows.{Tell, patched, restored};
 ghost use Rattle.ariadne_edits.specs.declared.cut.View.{View};
 ghost use Rattle.ariadne_edits.specs.declared.rows.Blanks.{Blanks};
 ghost use Rattle.ariadne_edits.specs.declared.rows.Row.{Row};

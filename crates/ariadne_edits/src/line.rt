@@ -5,7 +5,7 @@ ghost use Rattle.std.specs.Prelude.{encode_utf8_all};
 ghost use Rattle.ariadne_base.specs.Listing.{listed_lines};
 ghost use Rattle.ariadne_base.specs.Lines.{is_separator as separates};
 ghost use Rattle.ariadne_base.specs.Locations.{line_text};
-ghost use Rattle.ariadne_edits.specs.Rows.{seen_of, IsTerminated};
+ghost use Rattle.ariadne_edits.specs.SuggestionRows.{seen_of, IsTerminated};
 
 use ariadne_base::Source;
 use std::alloc::{AllocError, Global};

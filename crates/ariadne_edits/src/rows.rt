@@ -4,8 +4,8 @@ ghost use Rattle.std.specs.Prelude.{◌≡◌, ◌+◌, ◌<◌, ◌≤◌, ◌^
 ghost use Rattle.std.specs.Prelude.{chars, length, Some};
 ghost use Rattle.ariadne_base.specs.Listing.{listed_lines};
 ghost use Rattle.ariadne_edits.specs.Counterparts.{EndInRun, EndKept, HaveCounterparts, line_in};
-ghost use Rattle.ariadne_edits.specs.Kept.{AreSame, HasKept, IsPaired, KeepAlso};
-ghost use Rattle.ariadne_edits.specs.Rows.{AreMarked, IsKept, IsLastOf, Tell, TellFirst};
+ghost use Rattle.ariadne_edits.specs.KeptLines.{AreSame, HasKept, IsPaired, KeepAlso};
+ghost use Rattle.ariadne_edits.specs.SuggestionRows.{AreMarked, IsKept, IsLastOf, Tell, TellFirst};
 ghost use Rattle.ariadne_edits.specs.declared.rows.Row.TheVariants.{Kept, KeptLast};
 
 use crate::line::{are_twins, is_terminated, text_of};

@@ -3,7 +3,7 @@
 ghost use Rattle.std.specs.Prelude.{◌≡◌, ◌≤◌, true, Some, IfOk};
 ghost use Rattle.std.specs.Option.{option_copied};
 ghost use Rattle.std.specs.Cmp.{partial_equiv_from_equiv};
-ghost use Rattle.ariadne_labels.specs.Labels.{label_eq, label_equiv, label_writes, label_alike};
+ghost use Rattle.ariadne_labels.specs.LabelEquality.{label_eq, label_equiv, label_writes, label_alike};
 
 use ariadne_base::Span;
 use ariadne_color::Color;

@@ -10,7 +10,7 @@ use Rattle.std.specs.Char.{encode_utf8}
 use Rattle.std.specs.Cmp.Lexicographic.{pointwise}
 use Rattle.std.specs.List.{ends_with}
 use Rattle.std.specs.Str.{chars, encode_utf8_all, IsUtf8}
-use Rattle.ariadne_parse.specs.Pieces.{in_front_of_text}
+use Rattle.ariadne_parse.specs.TextPieces.{in_front_of_text}
 use Rattle.ariadne_parse.specs.Suggested.{behind_chars, front_chars}
 
 -- ---- behind them

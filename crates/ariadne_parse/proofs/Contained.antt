@@ -7,7 +7,7 @@ use Rattle.std.proofs.lemmas.Str.Pattern.{contains_text}
 use Rattle.std.specs.Prelude.{ℕ, Bool, true, false, ◌||◌, List, [], ◌∷◌, ◌++◌, drop, length, None, MatchBool}
 use Rattle.std.specs.Str.Iter.{HasSubslice}
 use Rattle.std.specs.Str.Pattern.{FindsText, HasMatch}
-use Rattle.ariadne_parse.specs.Pieces.{begins_with, contains}
+use Rattle.ariadne_parse.specs.TextPieces.{begins_with, contains}
 
 -- words that a text begins with
 at_front : (words text : List ℕ) → begins_with words text ≡ true → contains words text ≡ true

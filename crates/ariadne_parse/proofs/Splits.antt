@@ -7,7 +7,7 @@ use Rattle.std.proofs.lemmas.List.{append-nil, append_assoc, length-drop}
 use Rattle.std.proofs.lemmas.List.Splits.{slice_split_first}
 use Rattle.std.specs.Prelude.{ℕ, ◌+◌, ◌<◌, Bool, false, List, [], ◌∷◌, ◌++◌, length, Some, None}
 use Rattle.std.specs.List.{flat_map, list_any, onto_first, position_or_len, slice_split}
-use Rattle.ariadne_parse.specs.Pieces.{split_once}
+use Rattle.ariadne_parse.specs.TextPieces.{split_once}
 use Rattle.ariadne_parse.specs.Sgr.{bare_line, joined, without_sequence}
 use Rattle.ariadne_parse.proofs.Texts.{split_none, split_parts_are}
 

@@ -26,7 +26,7 @@ use Rattle.std.specs.Str.Parse.{digits_value, ParsesUnsigned}
 use Rattle.std.specs.Str.Pattern.{FindsTextPrefix, FindsTextSuffix, RFindsChar, SplitsAroundMatch, StripsPrefix, StripsSuffix}
 use Rattle.ariadne_parse.specs.Heads.{colons_from, first, read_at}
 use Rattle.ariadne_parse.specs.Sgr.{is_parameter}
-use Rattle.ariadne_parse.specs.Pieces.{behind, behind_text, digits_in, in_front_of, in_front_of_text, number_in, split_once}
+use Rattle.ariadne_parse.specs.TextPieces.{behind, behind_text, digits_in, in_front_of, in_front_of_text, number_in, split_once}
 use Rattle.ariadne_parse.specs.ToldLines.{IsCutAtColon}
 
 -- ---- slices

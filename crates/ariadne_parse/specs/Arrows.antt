@@ -5,7 +5,7 @@ use Rattle.std.specs.Prelude.{Option, Some, None, option_map, option_and_then}
 use Rattle.std.specs.Option.{option_or, unwrap_or}
 use Rattle.ariadne_parse.specs.Fronts.{place_at_end}
 use Rattle.ariadne_parse.specs.Kinds.{sure_kind_in, Kind}
-use Rattle.ariadne_parse.specs.Pieces.{behind_text, in_front_of, past_blanks}
+use Rattle.ariadne_parse.specs.TextPieces.{behind_text, in_front_of, past_blanks}
 use Rattle.ariadne_parse.specs.declared.diagnostic.Spot.{Spot}
 
 -- a kind, and a message that is not empty

@@ -3,7 +3,7 @@
 -- what is replaced. 34 is `"`, and 58 `:`.
 use Rattle.std.specs.Prelude.{ℕ, List, codes, Option, option_and_then, option_map}
 use Rattle.ariadne_parse.specs.Heads.{range_in}
-use Rattle.ariadne_parse.specs.Pieces.{behind, behind_text, in_front_of, split_once}
+use Rattle.ariadne_parse.specs.TextPieces.{behind, behind_text, in_front_of, split_once}
 use Rattle.ariadne_parse.specs.declared.diagnostic.Spot.{Spot}
 use Rattle.ariadne_parse.specs.declared.fix_rows.FixRow.{FixRow as FixPieces}
 

@@ -8,8 +8,8 @@ use Rattle.std.specs.Prelude.{Option, Some, None, is_some, option_map, option_an
 use Rattle.std.specs.Option.{option_or, unwrap_or}
 use Rattle.std.specs.Path.{rsplit_once}
 use Rattle.ariadne_parse.specs.Heads.{at_colons, place_in, spot_at}
-use Rattle.ariadne_parse.specs.Pieces.{begins_with, behind, behind_text, in_front_of, in_front_of_text}
-use Rattle.ariadne_parse.specs.Pieces.{is_flush, past_blanks, split_once, whole_number}
+use Rattle.ariadne_parse.specs.TextPieces.{begins_with, behind, behind_text, in_front_of, in_front_of_text}
+use Rattle.ariadne_parse.specs.TextPieces.{is_flush, past_blanks, split_once, whole_number}
 use Rattle.ariadne_parse.specs.declared.diagnostic.Spot.{Spot}
 
 -- what such a line tells: a place, and what a label there says

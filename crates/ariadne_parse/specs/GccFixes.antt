@@ -7,7 +7,7 @@ use Rattle.std.specs.Str.{trim_start}
 use Rattle.serde_json.specs.Data.{Data, Items, no_items, item}
 use Rattle.ariadne_parse.specs.Fixes.{change_words, line_words, reasoned, unnamed}
 use Rattle.ariadne_parse.specs.Members.{gcc_spot_at, items_in, list_at, text_at, words_at}
-use Rattle.ariadne_parse.specs.Pieces.{in_front_of}
+use Rattle.ariadne_parse.specs.TextPieces.{in_front_of}
 use Rattle.ariadne_parse.specs.Places.{is_same_spot}
 use Rattle.ariadne_parse.specs.declared.diagnostic.Spot.{Spot}
 

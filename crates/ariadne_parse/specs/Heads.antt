@@ -10,8 +10,8 @@ use Rattle.std.specs.Option.{option_or, unwrap_or}
 use Rattle.std.specs.Path.{rsplit_once}
 use Rattle.std.specs.Str.{trim_end}
 use Rattle.ariadne_parse.specs.Kinds.{own_kind_in, sure_kind_in, Kind}
-use Rattle.ariadne_parse.specs.Pieces.{behind, begins_with, closes_with, in_front_of, is_flush, number_in, past_blanks}
-use Rattle.ariadne_parse.specs.Pieces.{split_once, whole_number}
+use Rattle.ariadne_parse.specs.TextPieces.{behind, begins_with, closes_with, in_front_of, is_flush, number_in, past_blanks}
+use Rattle.ariadne_parse.specs.TextPieces.{split_once, whole_number}
 use Rattle.ariadne_parse.specs.declared.diagnostic.Severity.{Severity}
 use Rattle.ariadne_parse.specs.declared.diagnostic.Severity.TheVariants.{Error, Warning}
 use Rattle.ariadne_parse.specs.declared.diagnostic.Spot.{Spot}

@@ -12,7 +12,7 @@ use Rattle.std.specs.List.{list_all, list_any, prefix_len}
 use Rattle.std.specs.Option.{option_or, unwrap_or}
 use Rattle.std.specs.Path.{rsplit_once}
 use Rattle.std.specs.Str.{trim_end}
-use Rattle.ariadne_parse.specs.Pieces.{begins_with, behind, in_front_of, split_once}
+use Rattle.ariadne_parse.specs.TextPieces.{begins_with, behind, in_front_of, split_once}
 use Rattle.ariadne_parse.specs.Severities.{is_named, is_own_name, severity_of}
 use Rattle.ariadne_parse.specs.declared.diagnostic.Severity.{Severity}
 use Rattle.ariadne_parse.specs.declared.diagnostic.Severity.TheVariants.{Error, Warning, Note}

@@ -11,7 +11,7 @@ pub mod Heads
 pub mod Kinds
 pub mod Members
 pub mod Noted
-pub mod Pieces
+pub mod TextPieces
 pub mod Places
 pub mod Proposed
 pub mod Read

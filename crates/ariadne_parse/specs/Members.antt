@@ -6,7 +6,7 @@ use Rattle.std.specs.Option.{option_or, unwrap_or}
 use Rattle.std.specs.Str.{bytes_eq}
 use Rattle.serde_json.specs.Data.{Data, Items, no_items, item}
 use Rattle.serde_json.specs.Find.{as_array, as_bool, as_number, as_str, as_u64, get}
-use Rattle.ariadne_parse.specs.Pieces.{begins_with}
+use Rattle.ariadne_parse.specs.TextPieces.{begins_with}
 use Rattle.ariadne_parse.specs.Severities.{severity_of}
 use Rattle.ariadne_parse.specs.Places.{place_of, Seen}
 use Rattle.ariadne_parse.specs.declared.unit.Unit.TheVariants.{Byte}

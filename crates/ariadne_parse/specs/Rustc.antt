@@ -13,7 +13,7 @@ use Rattle.ariadne_parse.specs.Heads.{is_among}
 use Rattle.ariadne_parse.specs.Members.{any_item, end_before, flat_items, has_none, has_number, has_words, is_true_at}
 use Rattle.ariadne_parse.specs.Members.{items_in, list_at, number_at, severity_at, span_end, span_start, spot_at, text_at, words_at}
 use Rattle.ariadne_parse.specs.Noted.{place_row, with_row}
-use Rattle.ariadne_parse.specs.Pieces.{begins_with, closes_with, contains}
+use Rattle.ariadne_parse.specs.TextPieces.{begins_with, closes_with, contains}
 use Rattle.ariadne_parse.specs.Places.{place_of, Seen}
 use Rattle.ariadne_parse.specs.Proposed.{proposed, rustc_changes, rustc_proposed_by, Filed, Proposed}
 use Rattle.ariadne_parse.specs.Read.{Quoted, Read}

@@ -8,7 +8,7 @@ use Rattle.std.specs.Prelude.{option_map}
 use Rattle.std.specs.Char.{is_ascii_digit}
 use Rattle.std.specs.List.{flat_map, list_any, prefix_len, slice_split}
 use Rattle.std.specs.Option.{option_or, unwrap_or}
-use Rattle.ariadne_parse.specs.Pieces.{behind, behind_text, split_once}
+use Rattle.ariadne_parse.specs.TextPieces.{behind, behind_text, split_once}
 
 -- a character may stand between the bracket and the end of a sequence
 abbrev pub is_parameter : ℕ → Bool

@@ -9,7 +9,7 @@ use Rattle.serde_json.specs.Data.{Data, Items, no_items, item}
 use Rattle.ariadne_parse.specs.Fixes.{change_words, joint_words, line_words, unnamed, up_to, worded, Standing}
 use Rattle.ariadne_parse.specs.Members.{any_item, has_number, items_in, list_at, number_at, span_end, span_start, text_at}
 use Rattle.ariadne_parse.specs.Members.{words_at}
-use Rattle.ariadne_parse.specs.Pieces.{closes_with, split_once}
+use Rattle.ariadne_parse.specs.TextPieces.{closes_with, split_once}
 use Rattle.ariadne_parse.specs.Places.{is_same_spot}
 use Rattle.ariadne_parse.specs.declared.diagnostic.Spot.{Spot}
 

@@ -4,7 +4,7 @@ use Rattle.std.specs.Prelude.{ℕ, ◌==◌, Bool, false, ◌||◌, List, codes,
 use Rattle.std.specs.Prelude.{Option, option_map, option_and_then}
 use Rattle.std.specs.Option.{option_or, unwrap_or}
 use Rattle.std.specs.Str.{bytes_eq}
-use Rattle.ariadne_parse.specs.Pieces.{behind_text, number_in}
+use Rattle.ariadne_parse.specs.TextPieces.{behind_text, number_in}
 
 -- what stands behind a noun; the plural is read where it stands
 unfoldable pub behind_errors : List ℕ → Option (List ℕ)

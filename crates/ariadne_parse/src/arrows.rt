@@ -6,7 +6,7 @@ ghost use Rattle.std.specs.Option.{unwrap_or};
 ghost use Rattle.ariadne_parse.specs.Arrows as arrows;
 ghost use Rattle.ariadne_parse.specs.ArrowsTold.{arrow_told, bare_of, bare_told, place_of_arrow};
 ghost use Rattle.ariadne_parse.specs.ArrowsTold.{IsOfBareHead};
-ghost use Rattle.ariadne_parse.specs.Pieces as pieces;
+ghost use Rattle.ariadne_parse.specs.TextPieces as pieces;
 ghost use Rattle.ariadne_parse.specs.Places.{seen};
 
 use crate::diagnostic::{Diagnostic, End, Place, Severity, Spot};

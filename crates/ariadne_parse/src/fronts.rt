@@ -4,7 +4,7 @@
 ghost use Rattle.std.specs.Prelude.{◌≡◌, option_and_then, option_map, IfOk};
 ghost use Rattle.ariadne_parse.specs.Fronts as fronts;
 ghost use Rattle.ariadne_parse.specs.FrontsTold.{front_told, place_of_front};
-ghost use Rattle.ariadne_parse.specs.Pieces as pieces;
+ghost use Rattle.ariadne_parse.specs.TextPieces as pieces;
 ghost use Rattle.ariadne_parse.specs.Places.{seen};
 
 use crate::diagnostic::{End, Place, Spot};

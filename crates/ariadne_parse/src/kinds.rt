@@ -6,7 +6,7 @@ ghost use Rattle.std.specs.Char.{is_ascii_digit, is_ascii_uppercase};
 ghost use Rattle.std.specs.List.{list_all, prefix_len};
 ghost use Rattle.std.specs.Option.{unwrap_or};
 ghost use Rattle.ariadne_parse.specs.Kinds as kinds;
-ghost use Rattle.ariadne_parse.specs.Pieces as pieces;
+ghost use Rattle.ariadne_parse.specs.TextPieces as pieces;
 ghost use Rattle.ariadne_parse.specs.ToldLines.{kind_told};
 
 use crate::diagnostic::Severity;

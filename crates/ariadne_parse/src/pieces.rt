@@ -3,7 +3,7 @@
 ghost use Rattle.std.specs.Prelude.{◌≡◌, ◌==◌, ◌<◌, drop, option_map};
 ghost use Rattle.std.specs.List.{prefix_len};
 ghost use Rattle.std.specs.Path.{rsplit_once};
-ghost use Rattle.ariadne_parse.specs.Pieces as pieces;
+ghost use Rattle.ariadne_parse.specs.TextPieces as pieces;
 
 /// What stands behind this character of ASCII, if a text begins with it.
 pub(crate) fn behind(text: &str, mark: char) -> Option<&str>
@@ -97,7 +97,7 @@ fn blanks(bytes: &[u8]) -> usize
 }
 
 /// A number at the start of a text, and what stands behind it.
-#[tactic(auto, unfolding(crate::specs::Pieces::number_in))]
+#[tactic(auto, unfolding(crate::specs::TextPieces::number_in))]
 pub(crate) fn number(text: &str) -> Option<(usize, &str)>
     ensures { option_map (λ found. (found.0, found.1.now)) result ≡ pieces.number_in text.now }
 {
@@ -117,7 +117,7 @@ pub(crate) fn digits(bytes: &[u8]) -> usize
 }
 
 /// The number that a text is.
-#[tactic(auto, unfolding(crate::specs::Pieces::whole_number))]
+#[tactic(auto, unfolding(crate::specs::TextPieces::whole_number))]
 pub(crate) fn whole_number(text: &str) -> Option<usize>
     ensures { result ≡ pieces.whole_number text.now }
 {

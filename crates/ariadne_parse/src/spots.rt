@@ -2,7 +2,7 @@
 
 ghost use Rattle.std.specs.Prelude.{◌≡◌, ◌<◌, option_and_then, option_map};
 ghost use Rattle.ariadne_parse.specs.Heads as heads;
-ghost use Rattle.ariadne_parse.specs.Pieces as pieces;
+ghost use Rattle.ariadne_parse.specs.TextPieces as pieces;
 
 use crate::diagnostic::Spot;
 use crate::pieces::{behind, in_front_of, number, split_at_last, split_once, whole_number};

@@ -23,8 +23,8 @@ use Rattle.ariadne_picture.proofs.Labels.DrawnLabels.{offset-order}
 use Rattle.ariadne_rows.specs.Gutters.{GutterFields, IsOfSheet}
 use Rattle.ariadne_rows.specs.Headers.{IsOnPage}
 use Rattle.ariadne_picture.specs.Accept.{IsAccepted}
-use Rattle.ariadne_accept.specs.Drawn.{AreDrawn}
-use Rattle.ariadne_render.specs.Lines.{IsDrawnGroup}
+use Rattle.ariadne_accept.specs.CacheReads.{AreDrawn}
+use Rattle.ariadne_render.specs.DrawnLines.{IsDrawnGroup}
 use Rattle.ariadne_render.proofs.Grouping.{all_at}
 use Rattle.ariadne_render.proofs.GroupingSources.{drawn_there, found_source, id_is, label_there, source_is}
 

@@ -14,8 +14,8 @@ use Rattle.ariadne_picture.specs.Groups.{ahead, groups_of, is_cut, HasNoCut, Are
 use Rattle.ariadne_picture.specs.Lists.{joined}
 use Rattle.ariadne_picture.specs.Report.{ReportFields, World}
 use Rattle.ariadne_picture.specs.Accept.{IsAccepted}
-use Rattle.ariadne_accept.specs.Drawn.{AreDrawn}
-use Rattle.ariadne_render.specs.Groups.{AreGroups}
+use Rattle.ariadne_accept.specs.CacheReads.{AreDrawn}
+use Rattle.ariadne_render.specs.DrawnGroups.{AreGroups}
 
 -- ---- ranges of a list
 

@@ -17,9 +17,9 @@ use Rattle.ariadne_picture.specs.Ranks.{last_line}
 use Rattle.ariadne_picture.specs.Report.{HaveOneSource, LabelFields, ReportFields, World}
 use Rattle.ariadne_picture.proofs.Lists.ListFacts.{all-weaker}
 use Rattle.ariadne_picture.specs.Accept.{IsAccepted}
-use Rattle.ariadne_accept.specs.Drawn.{AreDrawn, AreThere}
-use Rattle.ariadne_render.specs.Groups.{IsGroup}
-use Rattle.ariadne_render.specs.Lines.{AreOverLines, IsOverLines}
+use Rattle.ariadne_accept.specs.CacheReads.{AreDrawn, AreThere}
+use Rattle.ariadne_render.specs.DrawnGroups.{IsGroup}
+use Rattle.ariadne_render.specs.DrawnLines.{AreOverLines, IsOverLines}
 use Rattle.ariadne_render.proofs.Grouping.{NoCuts, all_at, cut_first, some_label}
 use Rattle.ariadne_render.proofs.OverLines.{over-lines}
 

@@ -17,7 +17,7 @@ use Rattle.ariadne_picture.specs.Groups.{printed_number}
 use Rattle.ariadne_picture.specs.Pieces.{location_text}
 use Rattle.ariadne_picture.specs.Report.{ReportFields, World}
 use Rattle.ariadne_rows.specs.Headers.{location_numbers}
-use Rattle.ariadne_render.specs.Headers.{own_offset}
+use Rattle.ariadne_render.specs.HeaderPlaces.{own_offset}
 
 -- no location has no numbers
 pub no_location : (ls : List (List ℕ)) (display_offset : ℕ) (o : Option ℕ) → o ≡ None → location_text ls display_offset o ≡ location_numbers None

@@ -25,7 +25,7 @@ use Rattle.ariadne_picture.specs.declared.switches.Switches.{Switches}
 use Rattle.ariadne_picture.specs.Pieces.{Section, Texts}
 use Rattle.ariadne_rows.specs.Headers.{IsOnPage}
 use Rattle.ariadne_rows.specs.Sheets.{GroupFields}
-use Rattle.ariadne_render.specs.Lines.{AreOverLines, IsDrawnGroup, IsOverLines, begins_run}
+use Rattle.ariadne_render.specs.DrawnLines.{AreOverLines, IsDrawnGroup, IsOverLines, begins_run}
 
 -- the line of a number is in the table
 pub line-there : (ls : List (List ℕ)) (n : ℕ) → n < length ls → slice_get (line_table ls) n ≡ Some (line_extent ls n)

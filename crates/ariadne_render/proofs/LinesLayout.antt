@@ -32,7 +32,7 @@ use Rattle.ariadne_rows.specs.Gutters.{GutterFields, IsBeside, is_beside}
 use Rattle.ariadne_rows.specs.Sheets.{events_at, events_of, labels_of}
 use Rattle.ariadne_rows.proofs.Events.{labels-at}
 use Rattle.ariadne_rows.proofs.GutterSteps.{margin-column-within}
-use Rattle.ariadne_render.specs.Lines.{AreOverLines, IsOverLines}
+use Rattle.ariadne_render.specs.DrawnLines.{AreOverLines, IsOverLines}
 use Rattle.ariadne_render.proofs.OverLines.{total_is}
 
 -- ---- its characters

@@ -18,7 +18,7 @@ use Rattle.ariadne_picture.proofs.Lists.Elements.{Has, all-numbered, list_any-tr
 use Rattle.ariadne_picture.proofs.Lists.ListFacts.{Increasing, all-filter, all-map, all-weaker, increasing-pairs}
 use Rattle.ariadne_rows.specs.Sheets.{GroupFields, touches, touching}
 use Rattle.ariadne_rows.proofs.Insides.{left-out}
-use Rattle.ariadne_render.specs.Lines.{IsLaidOut}
+use Rattle.ariadne_render.specs.DrawnLines.{IsLaidOut}
 
 -- the numbers that a filter keeps of an enumerated list are at least the first, and each is below the next
 kept-rise : {X : Type 0} (p : ℕ × X → Bool) (n : ℕ) (xs : List X)

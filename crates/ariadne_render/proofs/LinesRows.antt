@@ -19,7 +19,7 @@ use Rattle.ariadne_picture.specs.Rows.{Row, label_rows, arrow, alternate, line_r
 use Rattle.ariadne_rows.specs.Gutters.{GutterFields, IsBelow, HasBarsOf}
 use Rattle.ariadne_rows.proofs.Listing.{joined-more}
 use Rattle.ariadne_rows.proofs.GutterSteps.{below-alternate, below-arrow, column-within}
-use Rattle.ariadne_render.specs.Lines.{IsBelowLine}
+use Rattle.ariadne_render.specs.DrawnLines.{IsBelowLine}
 
 -- ---- the rows of one label
 

@@ -16,7 +16,7 @@ use Rattle.ariadne_picture.proofs.Lists.ListFacts.{all-at, none≢some}
 use Rattle.ariadne_picture.proofs.Rows.NearLines.{hidden-bare}
 use Rattle.ariadne_rows.specs.Sheets.{labels_of}
 use Rattle.ariadne_rows.proofs.Events.{labels-at, unlabelled-no_event}
-use Rattle.ariadne_render.specs.Lines.{AreOverLines, IsOverLines}
+use Rattle.ariadne_render.specs.DrawnLines.{AreOverLines, IsOverLines}
 
 -- a text that begins in something has a character
 begun-some : (t : List ℕ) → BeginsIn (λ c. Unit {0}) t → 0 < length t

@@ -28,7 +28,7 @@ use Rattle.ariadne_rows.specs.Sheets.{IsLineEnd, events_at, events_of}
 use Rattle.ariadne_rows.proofs.Events.{above, event-labelled, event-lines, label-lines, line-end, line-events, next-line, no_event-unlabelled}
 use Rattle.ariadne_rows.proofs.Events.{none-above, none-between, none-on-line-above, still-above}
 use Rattle.ariadne_rows.proofs.GutterSteps.{first-line}
-use Rattle.ariadne_render.specs.Lines.{AreBetween, AreOverLines, IsDrawnGroup, IsOverLines, begins_run}
+use Rattle.ariadne_render.specs.DrawnLines.{AreBetween, AreOverLines, IsDrawnGroup, IsOverLines, begins_run}
 use Rattle.ariadne_render.proofs.LinesHidden.{over-rise}
 use Rattle.ariadne_render.proofs.LinesShown.{first-label}
 

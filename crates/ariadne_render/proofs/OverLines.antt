@@ -19,7 +19,7 @@ use Rattle.ariadne_picture.specs.Lists.{total}
 use Rattle.ariadne_picture.specs.Report.{ConfigFields, LabelFields, ReportFields, World}
 use Rattle.ariadne_picture.specs.Strokes.{holds}
 use Rattle.ariadne_picture.proofs.Labels.DrawnLabels.{offset-order}
-use Rattle.ariadne_render.specs.Lines.{IsOverLines}
+use Rattle.ariadne_render.specs.DrawnLines.{IsOverLines}
 use Rattle.ariadne_accept.proofs.Locating.{inside_line}
 
 -- ---- what an accepted label is

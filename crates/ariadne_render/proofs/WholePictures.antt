@@ -21,8 +21,8 @@ use Rattle.ariadne_picture.proofs.Labels.Cutting.{groups-exist}
 use Rattle.ariadne_picture.proofs.Lists.ListFacts.{all-in_order}
 use Rattle.ariadne_rows.proofs.Listing.{joined-more, put-back}
 use Rattle.ariadne_picture.specs.Accept.{IsAccepted}
-use Rattle.ariadne_accept.specs.Drawn.{AreDrawn}
-use Rattle.ariadne_render.specs.Groups.{AreGroups}
+use Rattle.ariadne_accept.specs.CacheReads.{AreDrawn}
+use Rattle.ariadne_render.specs.DrawnGroups.{AreGroups}
 use Rattle.ariadne_render.specs.WholePages.{shown_palette}
 use Rattle.ariadne_render.proofs.Grouping.{groups_drawn}
 use Rattle.ariadne_picture.proofs.Parts.{outline-is}

@@ -1,5 +1,5 @@
-pub mod Groups
-pub mod Headers
-pub mod Lines
+pub mod DrawnGroups
+pub mod HeaderPlaces
+pub mod DrawnLines
 pub mod LongLines
 pub mod WholePages

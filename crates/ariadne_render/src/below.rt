@@ -4,7 +4,7 @@
 ghost use Rattle.std.specs.Prelude.{◌≡◌, ◌<◌, ◌+◌, ◌++◌, ℕ, OnOk, false, length, map};
 ghost use Rattle.std.specs.Prelude.{IfSome, None, Some, ◌^◌, slice_get, true};
 ghost use Rattle.std.specs.List.{AllByRecursion, enumerate_from, list_any};
-ghost use Rattle.ariadne_render.specs.Lines.{IsAtLine, IsAtSome, IsBelowLine, IsBelowSome};
+ghost use Rattle.ariadne_render.specs.DrawnLines.{IsAtLine, IsAtSome, IsBelowLine, IsBelowSome};
 ghost use Rattle.ariadne_cells.specs.Pages.{DrawsRow, DrawsRows};
 ghost use Rattle.ariadne_picture.specs.declared.label_info.LineLabel.{LineLabel};
 ghost use Rattle.ariadne_picture.specs.Bars.{EndsNoEarlier};

@@ -2,9 +2,9 @@
 
 ghost use Rattle.std.specs.Prelude.{◌≡◌, ◌<◌, ◌≤◌, ℕ, List, [], ◌∷◌, IfOk, Option, drop, length};
 ghost use Rattle.std.specs.Prelude.{map, slice_range, true};
-ghost use Rattle.ariadne_accept.specs.Drawn.{AreThere, world};
+ghost use Rattle.ariadne_accept.specs.CacheReads.{AreThere, world};
 ghost use Rattle.ariadne_base.specs.Listing.{Listing};
-ghost use Rattle.ariadne_render.specs.Groups.{AreGroups, IsGroup};
+ghost use Rattle.ariadne_render.specs.DrawnGroups.{AreGroups, IsGroup};
 ghost use Rattle.ariadne_picture.specs.Canvas.{group_source, number_width, same_source, sheet_of};
 ghost use Rattle.ariadne_picture.specs.Groups.{groups_of, is_cut, printed_number};
 ghost use Rattle.ariadne_picture.specs.Ranks.{last_line};

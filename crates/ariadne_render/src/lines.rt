@@ -5,8 +5,8 @@ ghost use Rattle.std.specs.Prelude.{◌≡◌, ◌<◌, ◌≤◌, ◌+◌, ℕ,
 ghost use Rattle.std.specs.Prelude.{None, Some, ◌^◌, ◌-◌, option_map, slice_get};
 ghost use Rattle.std.specs.Prelude.{max, min, slice_range, true};
 ghost use Rattle.std.specs.List.{range_with_len};
-ghost use Rattle.ariadne_render.specs.Lines.{AreBetween, AreContext, AreOverLines};
-ghost use Rattle.ariadne_render.specs.Lines.{IsDrawnGroup, IsLaidOut, begins_run};
+ghost use Rattle.ariadne_render.specs.DrawnLines.{AreBetween, AreContext, AreOverLines};
+ghost use Rattle.ariadne_render.specs.DrawnLines.{IsDrawnGroup, IsLaidOut, begins_run};
 ghost use Rattle.ariadne_render.specs.LongLines.{IsRemembered};
 ghost use Rattle.ariadne_cells.specs.Pages.{DrawsRows};
 ghost use Rattle.ariadne_picture.specs.declared.label_info.LineLabel.{LineLabel};

@@ -2,7 +2,7 @@
 //! doesn't look through that white space again.
 
 ghost use Rattle.std.specs.Prelude.{◌≡◌, ◌<◌, ℕ, List, Option, Some, IfSome, length, slice_get};
-ghost use Rattle.ariadne_accept.specs.Drawn.{world};
+ghost use Rattle.ariadne_accept.specs.CacheReads.{world};
 ghost use Rattle.ariadne_base.specs.Listing.{Listing, listed_lines};
 ghost use Rattle.ariadne_base.specs.Locations.{line_text};
 ghost use Rattle.ariadne_cells.specs.Ends.{shown_bytes};

@@ -5,8 +5,8 @@
 //! ```
 
 ghost use Rattle.std.specs.Prelude.{◌≡◌, ◌+◌, ◌*◌, ◌≤◌, ◌&&◌, IfOk, length, map, not};
-ghost use Rattle.ariadne_accept.specs.Drawn.{AreDrawn, world};
-ghost use Rattle.ariadne_render.specs.Groups.{AreGroups};
+ghost use Rattle.ariadne_accept.specs.CacheReads.{AreDrawn, world};
+ghost use Rattle.ariadne_render.specs.DrawnGroups.{AreGroups};
 ghost use Rattle.ariadne_picture.specs.Margins.{columns_before_text, margin_columns, margin_len};
 ghost use Rattle.ariadne_picture.specs.Margins.{most_before_text};
 ghost use Rattle.ariadne_picture.specs.Pieces.{column_size, gutter_len};

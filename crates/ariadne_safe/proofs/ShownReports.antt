@@ -20,7 +20,7 @@ use Rattle.ariadne.specs.Building.{filled_code}
 use Rattle.ariadne.specs.Written.{Written}
 use Rattle.ariadne_safe.specs.declared.sources.SafeSource.{SafeSource}
 use Rattle.ariadne_safe.specs.declared.sources.NoSource.{NoSource}
-use Rattle.ariadne_safe.specs.Reports.{over, says_number}
+use Rattle.ariadne_safe.specs.SafeReports.{over, says_number}
 use Rattle.ariadne_safe.proofs.Numbers.{names_are_shown, sources_are_shown}
 use Rattle.ariadne_safe.specs.declared.text.TextKind.TheVariants.{OneRow}
 use Rattle.ariadne_safe.specs.Visible.{is_hidden, is_seen_in, is_shown}

@@ -2,5 +2,5 @@ pub mod Visible
 pub mod Kept
 pub mod Pictures
 pub mod Sources
-pub mod Reports
-pub mod Building
+pub mod SafeReports
+pub mod SafeBuilding

@@ -3,8 +3,8 @@
 ghost use Rattle.std.specs.Prelude.{◌≡◌, ◌≤◌, true, None, IfOk};
 ghost use Rattle.ariadne_safe.specs.Pictures.{is_shown_if_any};
 ghost use Rattle.ariadne_safe.specs.Sources.{sources_of};
-ghost use Rattle.ariadne_safe.specs.Reports.{offset_at as offset_of, shown_place as place_of};
-ghost use Rattle.ariadne_safe.specs.Reports.{shown_label as label_of};
+ghost use Rattle.ariadne_safe.specs.SafeReports.{offset_at as offset_of, shown_place as place_of};
+ghost use Rattle.ariadne_safe.specs.SafeReports.{shown_label as label_of};
 
 use crate::sources::SafeSources;
 use crate::text::{TextKind, visible};

@@ -26,7 +26,7 @@ pub struct SafeKind<'a> {
 
 impl<'a> SafeKind<'a> {
     ghost use Rattle.ariadne.specs.ReportKind.TheVariants.{Error, Warning, Advice};
-    ghost use Rattle.ariadne_safe.specs.Building.{kind_in};
+    ghost use Rattle.ariadne_safe.specs.SafeBuilding.{kind_in};
 
     /// `ReportKind::Error`.
     pub fn error() -> SafeKind<'a>
@@ -89,10 +89,10 @@ pub struct SafeBuilder<'a> {
 
 impl<'a> SafeBuilder<'a> {
     ghost use Rattle.ariadne_safe.specs.Sources.{sources_of};
-    ghost use Rattle.ariadne_safe.specs.Reports.{shown_place as place_of, shown_label as label_of};
-    ghost use Rattle.ariadne_safe.specs.Reports.{HasMarginOver};
-    ghost use Rattle.ariadne_safe.specs.Building.{kind_in, made_of, sources_under};
-    ghost use Rattle.ariadne_safe.specs.Building.{report_of, sources_below};
+    ghost use Rattle.ariadne_safe.specs.SafeReports.{shown_place as place_of, shown_label as label_of};
+    ghost use Rattle.ariadne_safe.specs.SafeReports.{HasMarginOver};
+    ghost use Rattle.ariadne_safe.specs.SafeBuilding.{kind_in, made_of, sources_under};
+    ghost use Rattle.ariadne_safe.specs.SafeBuilding.{report_of, sources_below};
 
     /// Begins a report of this kind, with this configuration, over these sources.
     ///
@@ -239,8 +239,8 @@ pub struct SafeReport<'a> {
 }
 
 impl<'a> SafeReport<'a> {
-    ghost use Rattle.ariadne_safe.specs.Reports.{HasMarginOver, WrittenFor};
-    ghost use Rattle.ariadne_safe.specs.Building.{report_of, sources_below};
+    ghost use Rattle.ariadne_safe.specs.SafeReports.{HasMarginOver, WrittenFor};
+    ghost use Rattle.ariadne_safe.specs.SafeBuilding.{report_of, sources_below};
 
     /// How many columns of a row stand in front of the source text, as `Report::margin_columns` has it.
     ///

@@ -10,10 +10,10 @@ use Rattle.ariadne_parse.specs.declared.sent.Sent.{Sent}
 use Rattle.ariadne_parse.specs.declared.telling.Answer.{Answer}
 use Rattle.ariadne_parse.specs.declared.telling.Answer.TheVariants as answer
 use Rattle.ariadne_show.specs.Finding.{is_first_held, IsOpened}
-use Rattle.ariadne_show.specs.Fronts.{added_row, bytes_in, IsRoleOf}
+use Rattle.ariadne_show.specs.WaitingLines.{added_row, bytes_in, IsRoleOf}
 use Rattle.ariadne_show.specs.Known.{is_waited_for, IsAboutNone, IsGivenOut, IsMoreInFront, IsNoMore}
 use Rattle.ariadne_show.specs.Known.{IsNoRowInFront, IsPlacedBy, MayNotGoOn, PlacesNone, Waits, WaitsNot}
-use Rattle.ariadne_show.specs.Lines.{IsLineOf}
+use Rattle.ariadne_show.specs.InputLines.{IsLineOf}
 use Rattle.ariadne_show.specs.Shown.{dropped, head as told_head, note as told_note, of_no_form, of_text, whole, AreAllShown}
 use Rattle.ariadne_show.specs.Shown.{IsLineShown}
 use Rattle.ariadne_show.specs.Shown.{At, IsAnswered, IsBegunBehind, IsFinished, IsFollowed, IsHeadShown}
@@ -21,7 +21,7 @@ use Rattle.ariadne_show.specs.Shown.{IsLinePassed, IsNoteAddedTo, IsNoteShown, I
 use Rattle.ariadne_show.specs.Shown.{IsTextShown, all_passed, began, began_placed, goes_on, head_passed, names_place}
 use Rattle.ariadne_show.specs.Shown.{no_row, note_added, note_began, note_passed, other, passed, tally, waits_in_front}
 use Rattle.ariadne_show.specs.Writing.{HasPassed, HavePassed, Out}
-use Rattle.ariadne_show.specs.Tallies.{is_tally_behind}
+use Rattle.ariadne_show.specs.DroppedTallies.{is_tally_behind}
 use Rattle.ariadne_show.specs.declared.finder.Finder.{Finder}
 use Rattle.ariadne_show.specs.declared.front.PlacedHead.{PlacedHead}
 use Rattle.ariadne_show.specs.declared.known.Known.{Known}

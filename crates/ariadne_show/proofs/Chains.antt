@@ -12,7 +12,7 @@ use Rattle.ariadne_show.specs.declared.options.Style.{Style}
 use Rattle.ariadne_show.specs.Drawn.{config_of, severity_kind, AreSaid, IsAbout, IsBare, IsHeadDrawn, IsPicture, IsReportOf}
 use Rattle.ariadne_show.specs.Drawn.{IsSaid, IsToldDrawn, in_one, in_lines}
 use Rattle.ariadne_show.specs.Found.{Files, Found}
-use Rattle.ariadne_show.specs.Labels.{main_in}
+use Rattle.ariadne_show.specs.FoundLabels.{main_in}
 use Rattle.ariadne_show.specs.Said.{first_line, lines_of}
 use Rattle.ariadne_show.proofs.Heads.{new_bare, said_bare}
 

@@ -6,7 +6,7 @@ use Rattle.ariadne_blocks.specs.Blocks.{lines_behind, told_of}
 use Rattle.ariadne_blocks.specs.declared.block.Block.{Block}
 use Rattle.ariadne_parse.specs.declared.diagnostic.Diagnostic.{Diagnostic}
 use Rattle.ariadne_show.specs.Finding.{AreChangedFound, IsOpened}
-use Rattle.ariadne_show.specs.Fronts.{passing_of}
+use Rattle.ariadne_show.specs.WaitingLines.{passing_of}
 use Rattle.ariadne_show.specs.Known.{AreMarksSettled}
 use Rattle.ariadne_show.specs.Shown.{At, AreAllShown, AreShown, HasNoRepeats, IsBlockFinished, IsBlockWritten, IsFinished}
 use Rattle.ariadne_show.specs.Shown.{IsLinePassed, IsSettledShown, IsWholeShown}

@@ -5,7 +5,7 @@ use Rattle.std.specs.declared.alloc.Global.{Global}
 use Rattle.ariadne_blocks.specs.declared.block.Block.{Block}
 use Rattle.ariadne_parse.specs.declared.diagnostic.Place.{Place}
 use Rattle.ariadne_show.specs.Finding.{is_held, IsPlaceSettled}
-use Rattle.ariadne_show.specs.Fronts.{bytes_in}
+use Rattle.ariadne_show.specs.WaitingLines.{bytes_in}
 use Rattle.ariadne_show.specs.Shown.{giving, tells_place, At, AreGiven, Giving, HasLineGone}
 use Rattle.ariadne_show.specs.Shown.{IsFrontGiven, IsPlaceGone, passed_placeless, passed_unread, told_place}
 use Rattle.ariadne_show.specs.Writing.{HavePassed, Out}

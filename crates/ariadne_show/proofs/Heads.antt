@@ -12,11 +12,11 @@ use Rattle.ariadne_show.specs.declared.options.Style.{Style}
 use Rattle.ariadne_show.specs.Drawn.{coded, config_of, kind_of, room_in, IsAbout, IsBare, IsReportOf}
 use Rattle.ariadne_show.specs.Asides.{helps_of, notes_of, with_helps, with_notes}
 use Rattle.ariadne_show.specs.Found.{Files, Found}
-use Rattle.ariadne_show.specs.Proposed.{AreSketched}
+use Rattle.ariadne_show.specs.DrawnProposals.{AreSketched}
 use Rattle.ariadne_show.specs.declared.proposed.Sketch.{Sketch}
-use Rattle.ariadne_show.specs.Labels.{AreOrdered, header_of, labels_of, shown_header, with_labels}
+use Rattle.ariadne_show.specs.FoundLabels.{AreOrdered, header_of, labels_of, shown_header, with_labels}
 use Rattle.ariadne_show.specs.Widths.{IsTextWidth, without_rows}
-use Rattle.ariadne_safe.specs.Reports.{shown_place}
+use Rattle.ariadne_safe.specs.SafeReports.{shown_place}
 use Rattle.ariadne_safe.specs.declared.sources.SafeSource.{SafeSource}
 
 -- a report with lines of so many columns

@@ -5,7 +5,7 @@ use Rattle.std.proofs.lemmas.List.{drop-drop, length-drop, map-append}
 use Rattle.std.specs.List.{position_or_len}
 use Rattle.std.specs.Prelude.{ℕ, nat_lt, List, [], ◌∷◌, ◌++◌, drop, map, take}
 use Rattle.ariadne_parse.specs.declared.diagnostic.Place.{Place}
-use Rattle.ariadne_show.specs.Located.{main_first, main_number}
+use Rattle.ariadne_show.specs.LinesAndColumns.{main_first, main_number}
 
 -- the number of its own is that of one of them
 main_below : (places : List Place) → 0 < length places → main_number places < length places

@@ -13,13 +13,13 @@ use Rattle.std.specs.Ordering.{is_lt}
 use Rattle.std.specs.declared.ops.Range.{Range}
 use Rattle.ariadne.specs.IndexType.{IndexType}
 use Rattle.ariadne.specs.Report.{LabelFields, ReportFields}
-use Rattle.ariadne_safe.specs.Reports.{shown_label}
+use Rattle.ariadne_safe.specs.SafeReports.{shown_label}
 use Rattle.ariadne_safe.specs.declared.sources.SafeSource.{SafeSource}
 use Rattle.ariadne_parse.specs.declared.diagnostic.Place.{Place}
 use Rattle.ariadne_parse.specs.declared.diagnostic.Severity.{Severity}
 use Rattle.ariadne_show.specs.declared.found.FoundPlace.{FoundPlace}
 use Rattle.ariadne_show.specs.Found.{Files, Found, found_in, found_of}
-use Rattle.ariadne_show.specs.Labels.{all_found, key_cmp, label_of, labels_of, place_key, AreOrdered, with_labels}
+use Rattle.ariadne_show.specs.FoundLabels.{all_found, key_cmp, label_of, labels_of, place_key, AreOrdered, with_labels}
 
 -- a reference to what stands somewhere
 lent : Found → FoundPlace

@@ -8,9 +8,9 @@ use Rattle.std.proofs.lemmas.List.{map-append}
 use Rattle.ariadne_blocks.specs.declared.message.MessageLine.{MessageLine}
 use Rattle.ariadne_parse.specs.declared.diagnostic.Diagnostic.{Diagnostic}
 use Rattle.ariadne_show.specs.Found.{files_of}
-use Rattle.ariadne_show.specs.Fronts.{bytes_in, bytes_of, lines_of, passing_of}
+use Rattle.ariadne_show.specs.WaitingLines.{bytes_in, bytes_of, lines_of, passing_of}
 use Rattle.ariadne_show.specs.Limits.{drawn_after, is_drawn, limits_of}
-use Rattle.ariadne_show.specs.Read.{sources_in}
+use Rattle.ariadne_show.specs.ReadFiles.{sources_in}
 use Rattle.ariadne_show.specs.Sums.{counted}
 use Rattle.ariadne_show.specs.Writing.{behind_line, is_document, out_of, passing_bytes, HasPassed, HavePassed}
 use Rattle.ariadne_show.specs.Writing.{IsShownOnce, IsWritten, beside_it, counted_alone, counted_and_written, none_passed, one_passed_more}

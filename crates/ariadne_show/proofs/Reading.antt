@@ -24,8 +24,8 @@ use Rattle.ariadne_parse.specs.declared.diagnostic.QuotedLine.{QuotedLine}
 use Rattle.ariadne_show.specs.Found.{Files, files_of, held_at, quoted_in, read_in, read_or_quoted}
 use Rattle.ariadne.specs.Listing.{Listing}
 use Rattle.ariadne_show.specs.Quoted.{lines_held, text_held, IsQuotedFile}
-use Rattle.ariadne_show.specs.Read.{characters, is_read, shown_text, sources_in, AreKept, AreOpened, AreQuoted, AreQuotedIn, HaveSearched}
-use Rattle.ariadne_show.specs.Read.{HaveSources, HaveTried, IsFirst, IsHeldBehind, IsNotQuoted, IsQuoted, IsQuotedBehind, IsQuotedNow, IsHeldIfQuoted, IsRead, IsSettled, IsSettledNow, IsTextOf, IsTried}
+use Rattle.ariadne_show.specs.ReadFiles.{characters, is_read, shown_text, sources_in, AreKept, AreOpened, AreQuoted, AreQuotedIn, HaveSearched}
+use Rattle.ariadne_show.specs.ReadFiles.{HaveSources, HaveTried, IsFirst, IsHeldBehind, IsNotQuoted, IsQuoted, IsQuotedBehind, IsQuotedNow, IsHeldIfQuoted, IsRead, IsSettled, IsSettledNow, IsTextOf, IsTried}
 use Rattle.ariadne_show.specs.declared.held.FileText.{FileText}
 use Rattle.ariadne_show.specs.declared.held.Held.{Held}
 use Rattle.ariadne_show.specs.declared.shelf.Shelf.{Shelf}

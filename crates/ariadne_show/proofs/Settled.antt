@@ -6,7 +6,7 @@ use Rattle.std.specs.Prelude.{Result, Ok, Err, OnOk, Vec}
 use Rattle.std.specs.List.{flat_map}
 use Rattle.std.specs.declared.alloc.Global.{Global}
 use Rattle.ariadne_blocks.specs.Repeats.{once}
-use Rattle.ariadne_blocks.specs.Drawn.{all_settled, marks_at, marks_of}
+use Rattle.ariadne_blocks.specs.MarkedSpots.{all_settled, marks_at, marks_of}
 use Rattle.ariadne_blocks.specs.declared.drawn.Drawn.{Drawn}
 use Rattle.ariadne_parse.specs.Places.{seen}
 use Rattle.ariadne_parse.specs.declared.diagnostic.Diagnostic.{Diagnostic}

@@ -3,7 +3,7 @@ use Rattle.std.proofs.Common.{◌≡◌, refl, true, false, List, ℕ, [], ◌�
 use Rattle.clap.proofs.OnLiterals.{clap_on_literals}
 use Rattle.clap.specs.Words.{all_of}
 use Rattle.clap.specs.declared.error.ErrorKind.TheVariants.{DisplayHelp, TooManyValues, UnknownArgument, ValueValidation}
-use Rattle.ariadne_show.specs.Words.{Names, entries, refusals}
+use Rattle.ariadne_show.specs.CommandWords.{Names, entries, refusals}
 use Rattle.ariadne_show.specs.Asked.{is_on, paths_named, value}
 
 abbrev line : List (List ℕ)

@@ -14,7 +14,7 @@ use Rattle.ariadne_parse.specs.declared.diagnostic.Severity.TheVariants as sever
 use Rattle.ariadne_parse.specs.declared.telling.Format.{Format}
 use Rattle.ariadne_parse.specs.declared.telling.Format.TheVariants as format
 use Rattle.ariadne_show.specs.Faults.{TellsWords}
-use Rattle.ariadne_show.specs.Words.{Names, entries, refusals, ForNames}
+use Rattle.ariadne_show.specs.CommandWords.{Names, entries, refusals, ForNames}
 use Rattle.ariadne_show.specs.declared.fault.Fault.{Fault}
 use Rattle.ariadne_show.specs.declared.fault.Fault.TheVariants.{Words, Memory}
 use Rattle.ariadne_show.specs.declared.options.Colors.{Colors}

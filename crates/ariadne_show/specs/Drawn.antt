@@ -15,7 +15,7 @@ use Rattle.ariadne.specs.Report.{error, warning}
 use Rattle.ariadne_safe.specs.Pictures.{GotNothingHidden}
 use Rattle.ariadne_safe.specs.Visible.{visible_bytes}
 use Rattle.ariadne_safe.specs.declared.text.TextKind.TheVariants.{OneRow}
-use Rattle.ariadne_safe.specs.Reports.{WrittenFor}
+use Rattle.ariadne_safe.specs.SafeReports.{WrittenFor}
 use Rattle.ariadne_safe.specs.declared.sources.SafeSource.{SafeSource}
 use Rattle.ariadne_safe.specs.declared.sources.NoSource.{NoSource}
 use Rattle.ariadne_parse.specs.declared.diagnostic.Diagnostic.{Diagnostic}
@@ -27,8 +27,8 @@ use Rattle.ariadne_show.specs.declared.proposed.Room.{Room}
 use Rattle.ariadne_show.specs.declared.proposed.Sketch.{Sketch}
 use Rattle.ariadne_show.specs.Asides.{helps_of, notes_of}
 use Rattle.ariadne_show.specs.Found.{Files, Found}
-use Rattle.ariadne_show.specs.Labels.{severity_color, AreOrdered, labels_of, main_in, shown_header}
-use Rattle.ariadne_show.specs.Proposed.{AreSketched}
+use Rattle.ariadne_show.specs.FoundLabels.{severity_color, AreOrdered, labels_of, main_in, shown_header}
+use Rattle.ariadne_show.specs.DrawnProposals.{AreSketched}
 use Rattle.ariadne_show.specs.Said.{first_line, lines_of}
 use Rattle.ariadne_show.specs.Widths.{IsTextWidth, without_rows}
 

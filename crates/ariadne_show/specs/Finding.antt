@@ -9,8 +9,8 @@ use Rattle.ariadne_search.specs.declared.search.Search.{Search}
 use Rattle.ariadne_parse.specs.declared.diagnostic.Diagnostic.{Diagnostic}
 use Rattle.ariadne_parse.specs.declared.diagnostic.Place.{Place}
 use Rattle.ariadne_show.specs.Found.{files_of, held_at, unit_in}
-use Rattle.ariadne_show.specs.Located.{caret_in_line}
-use Rattle.ariadne_show.specs.Read.{AreFilesSettled, AreOpened, IsSettledNow}
+use Rattle.ariadne_show.specs.LinesAndColumns.{caret_in_line}
+use Rattle.ariadne_show.specs.ReadFiles.{AreFilesSettled, AreOpened, IsSettledNow}
 use Rattle.ariadne_show.specs.declared.finder.Finder.{Finder}
 use Rattle.ariadne_show.specs.declared.held.Held.{Held}
 use Rattle.ariadne_show.specs.declared.shelf.Shelf.{Shelf}

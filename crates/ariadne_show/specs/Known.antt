@@ -4,7 +4,7 @@ use Rattle.std.specs.Prelude.{ℕ, ◌≡◌, ◌==◌, Bool, true, false, not, 
 use Rattle.std.specs.Prelude.{Option, Some, None, is_some}
 use Rattle.ariadne_blocks.specs.Blocks.{is_about, may_go_on, path_of, told_of, view_of, HasNoMoreRows, IsMore, IsNamed}
 use Rattle.ariadne_blocks.specs.Blocks.{IsPlaceTold, IsQuotedBy, IsRow, IsSameBlock}
-use Rattle.ariadne_blocks.specs.Drawn.{all_settled, marks_at, marks_of}
+use Rattle.ariadne_blocks.specs.MarkedSpots.{all_settled, marks_at, marks_of}
 use Rattle.ariadne_blocks.specs.Repeats.{once}
 use Rattle.ariadne_blocks.specs.declared.block.Block.{Block}
 use Rattle.ariadne_blocks.specs.declared.line.Line.{Line}
@@ -16,7 +16,7 @@ use Rattle.ariadne_parse.specs.declared.diagnostic.Diagnostic.{Diagnostic}
 use Rattle.ariadne_parse.specs.declared.diagnostic.Place.{Place}
 use Rattle.ariadne_parse.specs.declared.diagnostic.Spot.{Spot}
 use Rattle.ariadne_show.specs.Finding.{file_at, is_held, IsNewFinder, IsPlaceSettled}
-use Rattle.ariadne_show.specs.Fronts.{added_row, ends_in_head, lines_of, HasRow, IsRoleOf}
+use Rattle.ariadne_show.specs.WaitingLines.{added_row, ends_in_head, lines_of, HasRow, IsRoleOf}
 use Rattle.ariadne_show.specs.declared.finder.Finder.{Finder}
 use Rattle.ariadne_show.specs.declared.front.PlacedHead.{PlacedHead}
 use Rattle.ariadne_show.specs.declared.front.Role.TheVariants as role

@@ -24,14 +24,14 @@ use Rattle.ariadne_parse.specs.declared.diagnostic.Place.{Place}
 use Rattle.ariadne_parse.specs.declared.telling.Answer.{Answer}
 use Rattle.ariadne_parse.specs.declared.telling.Answer.TheVariants as answer
 use Rattle.ariadne_show.specs.Finding.{AreChangedFound, caret_at, is_first_held, is_held, IsOpened, IsPlaceSettled}
-use Rattle.ariadne_show.specs.Fronts.{bytes_in, lines_of, passing_of}
+use Rattle.ariadne_show.specs.WaitingLines.{bytes_in, lines_of, passing_of}
 use Rattle.ariadne_show.specs.Known.{is_note_of, AreMarksSettled, IsMoreInFront, IsNew, IsNoRowInFront, IsPlacedBy}
 use Rattle.ariadne_show.specs.Known.{IsRowInFront, MayNotGoOn, PlacesNone, Waits, WaitsNot}
 use Rattle.ariadne_show.specs.Limits.{more_text}
-use Rattle.ariadne_show.specs.Lines.{IsLineOf, ReadsLine}
+use Rattle.ariadne_show.specs.InputLines.{IsLineOf, ReadsLine}
 use Rattle.ariadne_show.specs.Streams.{StreamBytes}
 use Rattle.ariadne_show.specs.Sums.{line_end, sum_text}
-use Rattle.ariadne_show.specs.Tallies.{is_tally_behind}
+use Rattle.ariadne_show.specs.DroppedTallies.{is_tally_behind}
 use Rattle.ariadne_show.specs.Writing.{is_document, is_open, nothing_shown, out_of, HasPassed, HavePassed, IsShownOnce, Out}
 use Rattle.ariadne_show.specs.declared.finder.Finder.{Finder}
 use Rattle.ariadne_show.specs.declared.front.PlacedHead.{PlacedHead}

@@ -4,7 +4,7 @@ use Rattle.std.specs.Prelude.{ℕ, ◌≡◌, ◌-◌, ◌<◌, ◌==◌, max, B
 use Rattle.std.specs.Prelude.{option_map, string_bytes}
 use Rattle.std.specs.declared.ops.Range.{Range}
 use Rattle.ariadne.specs.Report.{ReportFields}
-use Rattle.ariadne_safe.specs.Reports.{HasMarginOver}
+use Rattle.ariadne_safe.specs.SafeReports.{HasMarginOver}
 use Rattle.ariadne_safe.specs.declared.sources.SafeSource.{SafeSource}
 use Rattle.ariadne_show.specs.Asked.{IsCountIn}
 use Rattle.ariadne_show.specs.declared.environment.Environment.{Environment}

@@ -18,8 +18,8 @@ use Rattle.ariadne_parse.specs.declared.diagnostic.Diagnostic.{Diagnostic}
 use Rattle.ariadne_show.specs.Drawn.{IsToldDrawn}
 use Rattle.ariadne_show.specs.Found.{files_of, Files}
 use Rattle.ariadne_show.specs.Limits.{drawn_after, is_drawn, limits_of}
-use Rattle.ariadne_show.specs.Located.{located_in, main_first}
-use Rattle.ariadne_show.specs.Read.{sources_in}
+use Rattle.ariadne_show.specs.LinesAndColumns.{located_in, main_first}
+use Rattle.ariadne_show.specs.ReadFiles.{sources_in}
 use Rattle.ariadne_show.specs.Streams.{StreamBytes}
 use Rattle.ariadne_show.specs.Sums.{counted, no_sum}
 use Rattle.ariadne_show.specs.declared.options.Options.{Options}

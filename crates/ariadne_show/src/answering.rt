@@ -1,7 +1,7 @@
 //! What is done with a line, by what it tells.
 
 ghost use Rattle.std.specs.Prelude.{OnOk};
-ghost use Rattle.ariadne_show.specs.Read.{HaveSources};
+ghost use Rattle.ariadne_show.specs.ReadFiles.{HaveSources};
 ghost use Rattle.ariadne_show.specs.Shown.{at_of, IsAnswered, IsHeadShown, IsLineShown, IsNoteShown};
 ghost use Rattle.ariadne_show.specs.Shown.{IsOtherShown, IsPlacedShown, IsReadShown, IsTextShown};
 

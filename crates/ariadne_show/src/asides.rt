@@ -5,7 +5,7 @@ ghost use Rattle.std.specs.Prelude.{string_bytes, IfOk};
 ghost use Rattle.std.specs.List.{list_any};
 ghost use Rattle.ariadne_safe.specs.Visible.{visible_bytes};
 ghost use Rattle.ariadne_safe.specs.declared.text.TextKind.TheVariants.{Aside};
-ghost use Rattle.ariadne_safe.specs.Building.{made_of, sources_under};
+ghost use Rattle.ariadne_safe.specs.SafeBuilding.{made_of, sources_under};
 ghost use Rattle.ariadne_show.specs.Asides.{aside_notes, covers, helps_from, helps_of, missing_notes};
 ghost use Rattle.ariadne_show.specs.Asides.{notes_of, own_text, texts_at};
 ghost use Rattle.ariadne_show.specs.Asides.{column_text as text_of_column, spot_name as name_of_spot};

@@ -2,7 +2,7 @@
 
 ghost use Rattle.std.specs.Prelude.{◌≡◌, option_map, string_bytes, IfOk, Some, None};
 ghost use Rattle.ariadne_show.specs.Asked.{IsCountIn};
-ghost use Rattle.ariadne_show.specs.Colors.{are_colored, asked, holds, is_set};
+ghost use Rattle.ariadne_show.specs.ColorChoice.{are_colored, asked, holds, is_set};
 ghost use Rattle.ariadne_show.specs.Widths.{IsRowWidth};
 
 use crate::options::{Colors, Width};

@@ -3,7 +3,7 @@
 ghost use Rattle.std.specs.Prelude.{◌≡◌, IfOk, OnOk};
 ghost use Rattle.ariadne_show.specs.Finding.{caret_at, is_first_held, is_held, IsNewFinder, IsOpened};
 ghost use Rattle.ariadne_show.specs.Finding.{AreChangedFound, IsPlaceSettled};
-ghost use Rattle.ariadne_show.specs.Read.{HaveSources};
+ghost use Rattle.ariadne_show.specs.ReadFiles.{HaveSources};
 
 use crate::bounds::Bounds;
 use crate::options::Options;

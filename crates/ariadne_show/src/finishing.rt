@@ -1,7 +1,7 @@
 //! What is written where a diagnostic of lines of text ends, and a line that passes behind it.
 
 ghost use Rattle.std.specs.Prelude.{◌≡◌, None, OnOk};
-ghost use Rattle.ariadne_show.specs.Read.{HaveSources};
+ghost use Rattle.ariadne_show.specs.ReadFiles.{HaveSources};
 ghost use Rattle.ariadne_show.specs.Shown.{at_of, IsBlockFinished, IsBlockWritten, IsFinished, IsLinePassed};
 
 use crate::fault::Fault;

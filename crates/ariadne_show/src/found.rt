@@ -3,7 +3,7 @@
 ghost use Rattle.std.specs.Prelude.{◌≡◌, ◌≤◌, ◌++◌, map, option_map, IfOk, IfSome, OnOk};
 ghost use Rattle.std.specs.Option.{option_to_list};
 ghost use Rattle.ariadne_show.specs.Found.{files_of, found_in, found_of};
-ghost use Rattle.ariadne_show.specs.Labels.{all_found, main_in, AreOrdered};
+ghost use Rattle.ariadne_show.specs.FoundLabels.{all_found, main_in, AreOrdered};
 
 use crate::shelf::Shelf;
 use ariadne_parse::{Diagnostic, Place};

@@ -4,9 +4,9 @@
 ghost use Rattle.std.specs.Prelude.{◌≡◌, ◌&&◌, ◌==◌, ◌∷◌, [], true, option_map, IfOk, OnOk};
 ghost use Rattle.std.specs.List.{prefix_len};
 ghost use Rattle.ariadne_parse.specs.Fronts.{is_scope_line as is_scope_in};
-ghost use Rattle.ariadne_show.specs.Fronts.{ends_in_head as is_head_last, is_head as is_head_line};
-ghost use Rattle.ariadne_show.specs.Fronts.{added_row as row_added, behind_blanks as text_behind_blanks, lines_of};
-ghost use Rattle.ariadne_show.specs.Fronts.{row_of_role as row_in_role, HasRow, IsRoleOf};
+ghost use Rattle.ariadne_show.specs.WaitingLines.{ends_in_head as is_head_last, is_head as is_head_line};
+ghost use Rattle.ariadne_show.specs.WaitingLines.{added_row as row_added, behind_blanks as text_behind_blanks, lines_of};
+ghost use Rattle.ariadne_show.specs.WaitingLines.{row_of_role as row_in_role, HasRow, IsRoleOf};
 
 use ariadne_parse::{Diagnostic, Place, bare_head_of, front_of, is_scope_line};
 use std::alloc::{AllocError, Global};

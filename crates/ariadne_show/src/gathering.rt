@@ -2,8 +2,8 @@
 //! that waited in front of it and of its notes.
 
 ghost use Rattle.std.specs.Prelude.{◌≡◌, None, OnOk};
-ghost use Rattle.ariadne_show.specs.Fronts.{bytes_in};
-ghost use Rattle.ariadne_show.specs.Read.{HaveSources};
+ghost use Rattle.ariadne_show.specs.WaitingLines.{bytes_in};
+ghost use Rattle.ariadne_show.specs.ReadFiles.{HaveSources};
 ghost use Rattle.ariadne_show.specs.Shown.{at_of, giving, HasLineGone, IsBegunBehind, IsFrontGiven};
 ghost use Rattle.ariadne_show.specs.Shown.{IsNoteAddedTo, IsPlaceGone};
 

@@ -4,8 +4,8 @@ ghost use Rattle.std.specs.Prelude.{◌≡◌, ◌≤◌, chars, length, string_
 ghost use Rattle.ariadne_show.specs.Found.{caret_in, end_of, end_spot_in, mark_before, span_in};
 ghost use Rattle.ariadne_show.specs.Found.{caret_in_marks, char_at as char_in};
 ghost use Rattle.ariadne_show.specs.Found.{is_sure as is_sure_in, marked_in, own_span_in, spot_by, spot_in, unit_in};
-ghost use Rattle.ariadne_show.specs.Proposed.{span_of};
-ghost use Rattle.ariadne_show.specs.Read.{IsTextOf};
+ghost use Rattle.ariadne_show.specs.DrawnProposals.{span_of};
+ghost use Rattle.ariadne_show.specs.ReadFiles.{IsTextOf};
 
 use ariadne_parse::{Change, Columns, End, Place, Proposal, Spot, Unit};
 use std::alloc::{AllocError, Global};
@@ -177,7 +177,7 @@ impl Held {
     }
 
     /// The characters that a change replaces, if the file has both of its ends.
-    #[tactic(auto, unfolding(crate::specs::Proposed::span_of))]
+    #[tactic(auto, unfolding(crate::specs::DrawnProposals::span_of))]
     pub fn changed(&self, proposal: &Proposal, change: &Change) -> Option<Range<usize>>
         ensures { result ≡ span_of self.now proposal.now change.now }
     {

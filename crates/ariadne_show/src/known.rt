@@ -3,11 +3,11 @@
 
 ghost use Rattle.std.specs.Prelude.{◌≡◌, true, IfOk, OnOk};
 ghost use Rattle.ariadne_parse.specs.ArrowsTold.{arrow_told};
-ghost use Rattle.ariadne_show.specs.Fronts.{ends_in_head as is_head_last, is_head as is_head_line};
+ghost use Rattle.ariadne_show.specs.WaitingLines.{ends_in_head as is_head_last, is_head as is_head_line};
 ghost use Rattle.ariadne_show.specs.Known.{has_waiting_lines, is_note_of, is_waited_for as is_waiting};
 ghost use Rattle.ariadne_show.specs.Known.{AreMarksSettled, IsBlockTaken, IsMoreTaken, IsNamedQuoted, IsNew};
 ghost use Rattle.ariadne_show.specs.Known.{IsPlacedAt, IsPlacedIn, IsPlacedNow, IsRowAdded, IsRowTaken, IsTriedAsRow, IsWaiting};
-ghost use Rattle.ariadne_show.specs.Read.{HaveSources};
+ghost use Rattle.ariadne_show.specs.ReadFiles.{HaveSources};
 
 use crate::finder::Finder;
 use crate::front::{PlacedHead, Role, WaitingHead, WaitingLine, added_row, ends_in_head, role_of};

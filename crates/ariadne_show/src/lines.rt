@@ -4,7 +4,7 @@ ghost use Rattle.std.specs.Prelude.{◌≡◌, [], false, option_map, unwrap_or,
 ghost use Rattle.std.specs.Io.BufRead.{ends_with_byte, strip_last};
 ghost use Rattle.std.specs.Io.KnownBytes.{IsAtEnd};
 ghost use Rattle.ariadne_parse.specs.Sgr.{bare_line};
-ghost use Rattle.ariadne_show.specs.Lines.{whole_text as text_of_line, ReadsLine};
+ghost use Rattle.ariadne_show.specs.InputLines.{whole_text as text_of_line, ReadsLine};
 
 use crate::fault::Fault;
 pub use ariadne_blocks::Line;

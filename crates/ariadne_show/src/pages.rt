@@ -1,7 +1,7 @@
 //! The texts that the program has ready: its help, its version and its manual page.
 
 ghost use Rattle.std.specs.Prelude.{◌≡◌};
-ghost use Rattle.ariadne_show.specs.Pages.{page_text, IsPageShown};
+ghost use Rattle.ariadne_show.specs.HelpPages.{page_text, IsPageShown};
 
 use crate::fault::{Fault, Status, tell_fault};
 use crate::sending::send;

@@ -3,11 +3,11 @@
 ghost use Rattle.std.specs.Prelude.{◌≡◌, ◌++◌, option_map, string_bytes, IfOk, OnOk};
 ghost use Rattle.std.specs.Option.{option_to_list};
 ghost use Rattle.ariadne_show.specs.Found.{files_of};
-ghost use Rattle.ariadne_show.specs.Proposed.{are_shown as can_be_shown, page_at, way_text as text_of_way};
-ghost use Rattle.ariadne_show.specs.Proposed.{AreEdits, AreRows, AreSketched, AreWaysDrawn, IsSketched};
-ghost use Rattle.ariadne_show.specs.Proposed.{line_columns as columns_of_line, number_columns as columns_of_numbers};
-ghost use Rattle.ariadne_show.specs.Proposed.{view_in as view_of, IsWayDrawn};
-ghost use Rattle.ariadne_show.specs.Read.{sources_in};
+ghost use Rattle.ariadne_show.specs.DrawnProposals.{are_shown as can_be_shown, page_at, way_text as text_of_way};
+ghost use Rattle.ariadne_show.specs.DrawnProposals.{AreEdits, AreRows, AreSketched, AreWaysDrawn, IsSketched};
+ghost use Rattle.ariadne_show.specs.DrawnProposals.{line_columns as columns_of_line, number_columns as columns_of_numbers};
+ghost use Rattle.ariadne_show.specs.DrawnProposals.{view_in as view_of, IsWayDrawn};
+ghost use Rattle.ariadne_show.specs.ReadFiles.{sources_in};
 
 use crate::held::Held;
 use crate::shelf::Shelf;
@@ -236,7 +236,7 @@ fn are_shown(alloc: Global, rows: &str, columns: usize) -> Result<bool, AllocErr
 }
 
 /// Rows below why they are proposed, if that is told.
-#[tactic(auto, unfolding(crate::specs::Proposed::way_text))]
+#[tactic(auto, unfolding(crate::specs::DrawnProposals::way_text))]
 fn way_text(alloc: Global, why: &str, rows: &str, columns: usize) -> Result<String, AllocError>
     ensures { IfOk result (λ text. string_bytes text ≡ text_of_way columns why.now rows.now) }
 {

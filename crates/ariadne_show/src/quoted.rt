@@ -6,7 +6,7 @@ ghost use Rattle.std.specs.Option.{option_copied};
 ghost use Rattle.ariadne_safe.specs.Sources.{sources_of};
 ghost use Rattle.ariadne_show.specs.Quoted.{is_near as is_near_to, is_of, lines_held, lines_near};
 ghost use Rattle.ariadne_show.specs.Quoted.{quoted_line as line_quoted, quoted_lines};
-ghost use Rattle.ariadne_show.specs.Read.{IsNotQuoted, IsQuotedBehind};
+ghost use Rattle.ariadne_show.specs.ReadFiles.{IsNotQuoted, IsQuotedBehind};
 
 use crate::held::Held;
 use ariadne_safe::{LineEnds, SafeSource, SafeSources};

@@ -1,9 +1,9 @@
 //! A run: what it knows behind the lines that it has read, and what was shown of them.
 
 ghost use Rattle.std.specs.Prelude.{◌≡◌, IfOk};
-ghost use Rattle.ariadne_show.specs.Tallies.{ends_in_diagnostic as is_behind_one, is_tally_behind};
+ghost use Rattle.ariadne_show.specs.DroppedTallies.{ends_in_diagnostic as is_behind_one, is_tally_behind};
 ghost use Rattle.ariadne_show.specs.Known.{IsNew};
-ghost use Rattle.ariadne_show.specs.Read.{HaveSources};
+ghost use Rattle.ariadne_show.specs.ReadFiles.{HaveSources};
 ghost use Rattle.ariadne_show.specs.Writing.{nothing_shown};
 
 use crate::known::Known;

@@ -8,11 +8,11 @@ ghost use Rattle.ariadne_search.specs.Search.{candidates as all_candidates};
 ghost use Rattle.ariadne_blocks.specs.Files.{file_of};
 ghost use Rattle.ariadne_show.specs.Finding.{file_at};
 ghost use Rattle.ariadne_show.specs.Found.{files_of, held_at, read_in};
-ghost use Rattle.ariadne_show.specs.Located.{caret_in_line as caret_in_its_line};
-ghost use Rattle.ariadne_show.specs.Read.{is_read as is_read_in, sources_in, AreQuoted, HaveSearched};
-ghost use Rattle.ariadne_show.specs.Read.{HaveSources, HaveTried, AreOpened, IsHeldBehind};
-ghost use Rattle.ariadne_show.specs.Read.{AreFilesSettled, AreQuotedIn, IsFileSettledNow};
-ghost use Rattle.ariadne_show.specs.Read.{IsQuotedNow, IsSettledNow, IsTried};
+ghost use Rattle.ariadne_show.specs.LinesAndColumns.{caret_in_line as caret_in_its_line};
+ghost use Rattle.ariadne_show.specs.ReadFiles.{is_read as is_read_in, sources_in, AreQuoted, HaveSearched};
+ghost use Rattle.ariadne_show.specs.ReadFiles.{HaveSources, HaveTried, AreOpened, IsHeldBehind};
+ghost use Rattle.ariadne_show.specs.ReadFiles.{AreFilesSettled, AreQuotedIn, IsFileSettledNow};
+ghost use Rattle.ariadne_show.specs.ReadFiles.{IsQuotedNow, IsSettledNow, IsTried};
 
 use crate::bounds::Bounds;
 use crate::held::{FileText, Held};

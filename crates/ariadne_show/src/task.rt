@@ -1,8 +1,8 @@
 //! What is to be done, and its simplest steps: a line passes, and a diagnostic is shown.
 
 ghost use Rattle.std.specs.Prelude.{◌≡◌, OnOk};
-ghost use Rattle.ariadne_show.specs.Fronts.{bytes_in};
-ghost use Rattle.ariadne_show.specs.Read.{HaveSources};
+ghost use Rattle.ariadne_show.specs.WaitingLines.{bytes_in};
+ghost use Rattle.ariadne_show.specs.ReadFiles.{HaveSources};
 ghost use Rattle.ariadne_show.specs.Shown.{at_of, IsSettledShown};
 ghost use Rattle.ariadne_show.specs.Writing.{out_of, HasPassed, HavePassed, IsShownOnce};
 

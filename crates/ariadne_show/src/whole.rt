@@ -1,7 +1,7 @@
 //! Diagnostics that are whole where they are told, as in a report or in lines of JSON.
 
 ghost use Rattle.std.specs.Prelude.{OnOk};
-ghost use Rattle.ariadne_show.specs.Read.{HaveSources};
+ghost use Rattle.ariadne_show.specs.ReadFiles.{HaveSources};
 ghost use Rattle.ariadne_show.specs.Shown.{at_of, AreAllShown, AreShown, IsWholeShown};
 
 use crate::fault::Fault;

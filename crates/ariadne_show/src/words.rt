@@ -4,11 +4,11 @@ ghost use Rattle.std.specs.Prelude.{◌≡◌, IfErr, IfOk, fold, map, string_by
 ghost use Rattle.clap.specs.Words.{app_of, rule_of, with_rule};
 ghost use Rattle.ariadne_show.specs.Asked.{IsAskedBy, IsRefusedFor};
 ghost use Rattle.ariadne_show.specs.Faults.{TellsWords};
-ghost use Rattle.ariadne_show.specs.Words.{choice_rule, choices, command as command_app};
-ghost use Rattle.ariadne_show.specs.Words.{inputs_rule, number_rule, option_rule, switch_rule};
-ghost use Rattle.ariadne_show.specs.Words.{switches, typed_rule};
+ghost use Rattle.ariadne_show.specs.CommandWords.{choice_rule, choices, command as command_app};
+ghost use Rattle.ariadne_show.specs.CommandWords.{inputs_rule, number_rule, option_rule, switch_rule};
+ghost use Rattle.ariadne_show.specs.CommandWords.{switches, typed_rule};
 ghost use Rattle.clap.specs.declared.builder.value_parser.ValueParser.TheVariants.{NonEmptyString};
-ghost use Rattle.ariadne_show.specs.Words.{texts_in, ForList, ForNames, IsParsedBy};
+ghost use Rattle.ariadne_show.specs.CommandWords.{texts_in, ForList, ForNames, IsParsedBy};
 
 use crate::entries::{inputs_of, options_of, width_of, width_text};
 use crate::fault::Fault;

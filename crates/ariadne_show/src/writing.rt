@@ -3,9 +3,9 @@
 ghost use Rattle.std.specs.Prelude.{◌≡◌, IfOk, OnOk, map, string_bytes};
 ghost use Rattle.ariadne_outputs.specs.Located.{locations_of};
 ghost use Rattle.ariadne_show.specs.Found.{files_of};
-ghost use Rattle.ariadne_show.specs.Fronts.{bytes_in, bytes_of, passing_of};
+ghost use Rattle.ariadne_show.specs.WaitingLines.{bytes_in, bytes_of, passing_of};
 ghost use Rattle.ariadne_show.specs.Limits.{limits_of as limits_in};
-ghost use Rattle.ariadne_show.specs.Read.{sources_in};
+ghost use Rattle.ariadne_show.specs.ReadFiles.{sources_in};
 ghost use Rattle.ariadne_show.specs.Writing.{behind_line as is_behind_line, behind_text as is_behind_text};
 ghost use Rattle.ariadne_show.specs.Writing.{comma as comma_behind, gap as gap_behind, is_document as is_a_document};
 ghost use Rattle.ariadne_show.specs.Writing.{is_picture as is_a_picture};

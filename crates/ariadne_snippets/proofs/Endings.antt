@@ -6,7 +6,7 @@ use Rattle.std.proofs.lemmas.List.{append-nil, drop-drop, take-append-drop}
 use Rattle.std.specs.Str.{IsTrimEnd}
 use Rattle.ariadne_snippets.specs.Ends.{IsEnd}
 use Rattle.ariadne_snippets.specs.Gutters.{gutter_behind, gutter_in, numbered_in, without, GutterIn}
-use Rattle.ariadne_snippets.specs.Pieces.{behind, digits_in, number_in, past_blanks, IsIn}
+use Rattle.ariadne_snippets.specs.RowPieces.{behind, digits_in, number_in, past_blanks, IsIn}
 
 -- a text is its own end
 pub end_of_all : (text : List ℕ) → IsEnd text text

@@ -3,7 +3,7 @@ use Rattle.std.proofs.Common.{◌≡◌, ◌∙◌, ap, sym, append_assoc, List,
 use Rattle.std.specs.Prelude.{MatchOption}
 use Rattle.std.specs.Str.{IsTrimStart}
 use Rattle.std.specs.Str.Pattern.{FindsTextPrefix, FindsTextSuffix, StripsPrefix, StripsSuffix}
-use Rattle.ariadne_snippets.specs.Pieces.{IsIn}
+use Rattle.ariadne_snippets.specs.RowPieces.{IsIn}
 use Rattle.ariadne_snippets.specs.Puts.{HaveOneEnd, IsMoreByTwo, IsMoreThan}
 use Rattle.ariadne_snippets.specs.declared.put.TwoPieces.{TwoPieces}
 use Rattle.ariadne_snippets.proofs.Endings.{in_by_end, in_further}

@@ -23,7 +23,7 @@ use Rattle.std.specs.Str.{all_ascii_digits, IsCharBoundary, IsUtf8}
 use Rattle.std.specs.Str.Parse.{digits_value, ParsesUnsigned}
 use Rattle.std.specs.Str.Pattern.{FindsTextPrefix, StripsPrefix}
 use Rattle.ariadne_snippets.specs.Rows.{is_gap, is_of_marks}
-use Rattle.ariadne_snippets.specs.Pieces.{behind, behind_text, digits_in, number_in}
+use Rattle.ariadne_snippets.specs.RowPieces.{behind, behind_text, digits_in, number_in}
 
 -- ---- slices
 

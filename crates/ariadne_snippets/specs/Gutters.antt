@@ -2,7 +2,7 @@
 -- numbers: 32 is a blank, 37 `%` and 124 the bar.
 use Rattle.std.specs.Prelude.{ℕ, ◌-◌, ◌==◌, if◌then◌else◌, List, length}
 use Rattle.std.specs.Prelude.{Option, Some, None, option_map, option_and_then, unwrap_or}
-use Rattle.ariadne_snippets.specs.Pieces.{behind, digits_in, number_in, past_blanks}
+use Rattle.ariadne_snippets.specs.RowPieces.{behind, digits_in, number_in, past_blanks}
 use Rattle.ariadne_snippets.specs.declared.gutter.Gutter.{Gutter}
 
 -- what a gutter says: the number of the line that stands behind it, if it names one; where its bar stands,

@@ -1,7 +1,7 @@
 pub mod Ends
 pub mod Gutters
 pub mod Marks
-pub mod Pieces
+pub mod RowPieces
 pub mod Puts
 pub mod Quotes
 pub mod Rows

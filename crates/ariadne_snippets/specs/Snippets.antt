@@ -10,7 +10,7 @@ use Rattle.ariadne_parse.specs.declared.unit.Unit.TheVariants.{Char}
 use Rattle.ariadne_snippets.specs.Ends.{IsEnd}
 use Rattle.ariadne_snippets.specs.Gutters.{gutter_in, GutterIn}
 use Rattle.ariadne_snippets.specs.Marks.{char_in, mark_runs, place_in, runs_from}
-use Rattle.ariadne_snippets.specs.Pieces.{GoesOn, IsIn}
+use Rattle.ariadne_snippets.specs.RowPieces.{GoesOn, IsIn}
 use Rattle.ariadne_snippets.specs.Rows.{column_behind, run_with}
 use Rattle.std.specs.Option.{option_or}
 use Rattle.ariadne_snippets.specs.Words.{added_in, unfiled_in, words_in, noted, helped, advised, placed, placed_elsewhere, inserted, changed}

@@ -1,7 +1,7 @@
 -- Lines of snippets that have words of their own. Characters stand as their numbers: 58 is a colon.
 use Rattle.std.specs.Prelude.{ℕ, if◌then◌else◌, List, codes, Option, Some, option_map, option_and_then}
 use Rattle.std.specs.Option.{option_or}
-use Rattle.ariadne_snippets.specs.Pieces.{begins_with, behind, behind_text, number_in, past_blanks}
+use Rattle.ariadne_snippets.specs.RowPieces.{begins_with, behind, behind_text, number_in, past_blanks}
 use Rattle.ariadne_snippets.specs.declared.forms.Words.{Words}
 use Rattle.ariadne_snippets.specs.declared.forms.Words.TheVariants.{Note, Help, Advice, At, Elsewhere, Inserted, Changed, Gone, Gap}
 

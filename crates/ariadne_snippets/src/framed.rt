@@ -5,7 +5,7 @@ ghost use Rattle.ariadne_snippets.specs.Ends.{IsEnd};
 ghost use Rattle.ariadne_snippets.specs.Gutters.{gutter_in, gutter_told, GutterIn};
 ghost use Rattle.ariadne_snippets.specs.Snippets.{change_told, put_into};
 ghost use Rattle.ariadne_snippets.specs.Snippets.{AreMarksIn, EndsBy, IsSameLine, QuotesNext};
-ghost use Rattle.ariadne_snippets.specs.Pieces.{GoesOn};
+ghost use Rattle.ariadne_snippets.specs.RowPieces.{GoesOn};
 ghost use Rattle.ariadne_snippets.specs.Snippets.{IsQuoteOf, RowTells, TellsHow, TellsLine, TellsOf};
 ghost use Rattle.ariadne_snippets.specs.Words.{changed, inserted, words_in, words_told};
 ghost use Rattle.ariadne_snippets.specs.declared.quoted.Quoted.{Quoted};

@@ -2,8 +2,8 @@
 
 ghost use Rattle.std.specs.Prelude.{◌≡◌, ◌==◌, ◌<◌, option_map, IfSome};
 ghost use Rattle.std.specs.List.{prefix_len};
-ghost use Rattle.ariadne_snippets.specs.Pieces as pieces;
-ghost use Rattle.ariadne_snippets.specs.Pieces.{GoesOn};
+ghost use Rattle.ariadne_snippets.specs.RowPieces as pieces;
+ghost use Rattle.ariadne_snippets.specs.RowPieces.{GoesOn};
 
 /// What stands behind this character of ASCII, if a text begins with it.
 pub(crate) fn behind(text: &str, mark: char) -> Option<&str>
@@ -55,7 +55,7 @@ fn blanks(bytes: &[u8]) -> usize
 }
 
 /// A number at the start of a text, and what stands behind it.
-#[tactic(auto, unfolding(crate::specs::Pieces::number_in))]
+#[tactic(auto, unfolding(crate::specs::RowPieces::number_in))]
 pub(crate) fn number(text: &str) -> Option<(usize, &str)>
     ensures { option_map (λ found. (found.0, found.1.now)) result ≡ pieces.number_in text.now }
 {

@@ -1,7 +1,7 @@
 //! Snippets without a gutter, as clang, javac, mypy and cppcheck write them.
 
 ghost use Rattle.std.specs.Prelude.{◌≡◌, IfOk, IfSome, List, Option, Some, ℕ};
-ghost use Rattle.ariadne_snippets.specs.Pieces.{GoesOn, IsIn};
+ghost use Rattle.ariadne_snippets.specs.RowPieces.{GoesOn, IsIn};
 ghost use Rattle.ariadne_snippets.specs.Snippets.{AreMarksIn, EndsBy, IsSameLine, QuotesNext, TellsOf};
 
 use crate::gutter::without;

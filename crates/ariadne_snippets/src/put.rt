@@ -1,7 +1,7 @@
 //! What a help puts into a line: what the line has there that it doesn't have in the file.
 
 ghost use Rattle.std.specs.Prelude.{◌≡◌, ◌++◌, All, IfOk, IfSome};
-ghost use Rattle.ariadne_snippets.specs.Pieces.{IsIn};
+ghost use Rattle.ariadne_snippets.specs.RowPieces.{IsIn};
 ghost use Rattle.ariadne_snippets.specs.Puts.{HaveOneEnd, IsMoreByTwo, IsMoreThan};
 
 use crate::quote::white_length;

@@ -7,7 +7,7 @@ ghost use Rattle.ariadne_snippets.specs.Snippets.{inner_at, insertion, is_inside
 ghost use Rattle.ariadne_snippets.specs.Snippets.{point_at as point_in};
 ghost use Rattle.ariadne_snippets.specs.Snippets.{removal, AreMarksIn, ArePiecesIn, AreFixesIn};
 ghost use Rattle.ariadne_snippets.specs.Snippets.{Covers, IsLabelIn, IsMarked, IsPartOf, IsSameLine};
-ghost use Rattle.ariadne_snippets.specs.Pieces.{IsIn};
+ghost use Rattle.ariadne_snippets.specs.RowPieces.{IsIn};
 ghost use Rattle.ariadne_snippets.specs.Snippets.{point_behind as point_past};
 
 use crate::pieces::{begins_with, behind, number};

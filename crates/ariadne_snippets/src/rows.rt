@@ -4,7 +4,7 @@ ghost use Rattle.std.specs.Prelude.{◌≡◌, ◌+◌, ◌++◌, ◌^◌, ◌<�
 ghost use Rattle.std.specs.Prelude.{All, IfOk, IfSome, List, OnOk, ℕ};
 ghost use Rattle.std.specs.List.{list_all, list_any, prefix_len};
 ghost use Rattle.ariadne_snippets.specs.Marks.{is_mark as is_of_mark};
-ghost use Rattle.ariadne_snippets.specs.Pieces.{IsIn};
+ghost use Rattle.ariadne_snippets.specs.RowPieces.{IsIn};
 ghost use Rattle.ariadne_snippets.specs.Rows.{is_bar_row, is_blank_row, is_dash_row, is_mark_row};
 ghost use Rattle.ariadne_snippets.specs.Rows.{is_gap as is_of_gap, is_of_marks as is_marks_or_gap};
 ghost use Rattle.ariadne_snippets.specs.Rows.{column_behind, marks_length as length_of_marks, run_with};

@@ -11,7 +11,7 @@ use Rattle.ariadne_picture.specs.Headline.{Headline}
 use Rattle.ariadne_worked.proofs.Sample.{Span, report, label, utf8, drawn}
 use Rattle.ariadne_accept.specs.declared.accept.LeftOut.{LeftOut}
 use Rattle.ariadne_accept.specs.declared.accept.Reason.TheVariants.{Unfetched, PastSource, CutsCharacter}
-use Rattle.ariadne_accept.specs.Drawn.{world}
+use Rattle.ariadne_accept.specs.CacheReads.{world}
 use Rattle.ariadne_accept.specs.Judging.{AreOutcomes, Outcome, drawn_as, left_out_for, listed}
 use Rattle.ariadne.specs.declared.write_error.WriteError.{WriteError}
 use Rattle.ariadne.specs.declared.write_error.WriteError.TheVariants.{Memory, Io}

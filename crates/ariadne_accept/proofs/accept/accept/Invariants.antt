@@ -1,5 +1,5 @@
 use Rattle.std.proofs.Common.{◌≡◌, ◌≤◌, ◌-◌, length, take}
-use Rattle.ariadne_accept.specs.Drawn.{world}
+use Rattle.ariadne_accept.specs.CacheReads.{world}
 use Rattle.ariadne_accept.specs.Judging.{GrowsFor}
 use Rattle.ariadne_accept.specs.Progress.{SoFar}
 use Rattle.ariadne_accept.proofs.accept.accept.Given as goal

@@ -2,7 +2,7 @@ use Rattle.std.proofs.Common.{◌≤◌, ◌<◌, ◌-◌, ℕ, List, Option, le
 use Rattle.ariadne_base.specs.Cache.{Grows}
 use Rattle.ariadne_base.specs.Listing.{Listing}
 use Rattle.ariadne_accept.specs.Counting.{IsKnown}
-use Rattle.ariadne_accept.specs.Drawn.{world}
+use Rattle.ariadne_accept.specs.CacheReads.{world}
 use Rattle.ariadne_accept.specs.Progress.{IsSourceAt, SoFar}
 use Rattle.ariadne_accept.proofs.accept.judge_alike.Given as goal
 

@@ -1,6 +1,6 @@
 use Rattle.std.proofs.Common.{◌∙◌, ap, rules}
 use Rattle.std.specs.Prelude.{string_bytes}
-use Rattle.ariadne_blocks.specs.Colors.{without_last}
+use Rattle.ariadne_blocks.specs.Uncolored.{without_last}
 use Rattle.ariadne_blocks.proofs.Bared.{bare_last, bare_next}
 use Rattle.ariadne_blocks.proofs.colors.without_gcc_colors.Goals as goal
 

@@ -2,7 +2,7 @@ use denote.Shadow.{shadow}
 use denote.Text.{Utf8}
 use Rattle.std.proofs.Common.{List, ℕ, ◌++◌, length}
 use Rattle.std.specs.Prelude.{string_bytes}
-use Rattle.ariadne_blocks.specs.Colors.{IsBare}
+use Rattle.ariadne_blocks.specs.Uncolored.{IsBare}
 use Rattle.ariadne_blocks.proofs.colors.without_gcc_colors.Given as goal
 
 -- what is written so far, with what the rest is without colours behind it; the rest is a text

@@ -2,7 +2,7 @@ use Rattle.std.proofs.Common.{◌∙◌, ◌<◌, ◌++◌, [], ap, arith, get_o
 use Rattle.std.specs.Prelude.{map}
 use Rattle.ariadne_parse.specs.Places.{seen}
 use Rattle.ariadne_parse.specs.declared.diagnostic.Place.{Place}
-use Rattle.ariadne_blocks.specs.Drawn.{all_settled, marks_of, settled}
+use Rattle.ariadne_blocks.specs.MarkedSpots.{all_settled, marks_of, settled}
 use Rattle.ariadne_blocks.proofs.Settled.{held_all, held_next, settled_all, settled_next}
 use Rattle.ariadne_blocks.proofs.drawn.settle_marks.Goals as goal
 

@@ -2,7 +2,7 @@ use Rattle.std.proofs.Common.{◌≡◌, ◌++◌, [], take, drop}
 use Rattle.std.specs.Prelude.{map}
 use Rattle.std.specs.List.{flat_map}
 use Rattle.ariadne_parse.specs.Places.{seen}
-use Rattle.ariadne_blocks.specs.Drawn.{all_settled, marks_at, marks_of}
+use Rattle.ariadne_blocks.specs.MarkedSpots.{all_settled, marks_at, marks_of}
 use Rattle.ariadne_blocks.proofs.drawn.settle_marks.Given as goal
 
 -- the places that are passed are settled, and the others will be

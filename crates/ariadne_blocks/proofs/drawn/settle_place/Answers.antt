@@ -2,7 +2,7 @@ use Rattle.std.proofs.Common.{◌∙◌, ◌++◌, ap, Some, None}
 use Rattle.std.specs.Prelude.{map, option_map}
 use Rattle.std.specs.Option.{option_copied}
 use Rattle.ariadne_parse.specs.Places.{seen}
-use Rattle.ariadne_blocks.specs.Drawn.{are_at, marks_of}
+use Rattle.ariadne_blocks.specs.MarkedSpots.{are_at, marks_of}
 use Rattle.ariadne_blocks.proofs.Settled.{found_first, is_open, settled_by}
 use Rattle.ariadne_blocks.proofs.drawn.settle_place.Goals as goal
 

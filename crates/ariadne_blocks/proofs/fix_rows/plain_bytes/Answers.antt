@@ -1,4 +1,4 @@
-use Rattle.ariadne_blocks.specs.FixRows.{plain_bytes}
+use Rattle.ariadne_blocks.specs.FixChanges.{plain_bytes}
 use Rattle.ariadne_blocks.proofs.Escapes.{byte_more, bytes_over}
 use Rattle.ariadne_blocks.proofs.fix_rows.plain_bytes.Goals as goal
 

@@ -1,5 +1,5 @@
 use Rattle.std.proofs.Common.{◌≡◌, ◌++◌, drop}
-use Rattle.ariadne_blocks.specs.FixRows.{bytes_behind, plain_bytes}
+use Rattle.ariadne_blocks.specs.FixChanges.{bytes_behind, plain_bytes}
 use Rattle.ariadne_blocks.proofs.fix_rows.plain_bytes.Given as goal
 
 -- what was read is there, and the rest is to come

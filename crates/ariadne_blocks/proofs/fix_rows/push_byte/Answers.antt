@@ -1,5 +1,5 @@
 use Rattle.std.proofs.Common.{◌∙◌, ◌-◌, ◌++◌, ◌∷◌, [], ℕ, ap, sym}
-use Rattle.ariadne_blocks.specs.FixRows.{meant, with_digit}
+use Rattle.ariadne_blocks.specs.FixChanges.{meant, with_digit}
 use Rattle.ariadne_blocks.specs.declared.fix_rows.Escape.TheVariants.{Closed, Digit, Digits, Open}
 use Rattle.ariadne_blocks.proofs.Escapes.{is_digit, is_itself, is_letter, is_second, is_third, opens, put_in, read}
 use Rattle.ariadne_blocks.proofs.fix_rows.push_byte.Goals as goal

@@ -2,7 +2,7 @@ use Rattle.std.proofs.Common.{◌≡◌, ◌∙◌, List, ℕ, ◌++◌, append_
 use Rattle.std.specs.Prelude.{codes}
 use Rattle.std.proofs.lemmas.Result.{IfOk-weaker}
 use Rattle.ariadne_snippets.specs.declared.taken.FixKind.{FixKind}
-use Rattle.ariadne_blocks.specs.Fixes.{fix_text}
+use Rattle.ariadne_blocks.specs.HelpFixes.{fix_text}
 use Rattle.ariadne_blocks.proofs.fixes.fix_words.Goals as goal
 
 -- the parts, one behind the other

@@ -1,6 +1,6 @@
 use Rattle.std.proofs.lemmas.Result.{on_ok_weaker}
 use Rattle.ariadne_parse.specs.Proposed.{edit_of}
-use Rattle.ariadne_blocks.specs.Proposed.{way_of}
+use Rattle.ariadne_blocks.specs.ProposedByRows.{way_of}
 use Rattle.ariadne_blocks.proofs.Proposed.{changed_behind}
 use Rattle.ariadne_blocks.proofs.proposing.push_change.Goals as goal
 

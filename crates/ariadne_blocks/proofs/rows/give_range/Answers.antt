@@ -3,7 +3,7 @@ use Rattle.std.specs.Prelude.{option_map}
 use Rattle.ariadne_parse.specs.Places.{seen}
 use Rattle.ariadne_parse.specs.declared.diagnostic.Place.{Place}
 use Rattle.ariadne_blocks.specs.Files.{file_of}
-use Rattle.ariadne_blocks.specs.Marks.{own_marks}
+use Rattle.ariadne_blocks.specs.MarkMeanings.{own_marks}
 use Rattle.ariadne_blocks.proofs.Said.{given_own}
 use Rattle.ariadne_blocks.proofs.rows.give_range.Goals as goal
 

@@ -1,7 +1,7 @@
 -- The table has the colours in the order of their numbers.
 use Rattle.std.specs.Prelude.{◌-◌}
 use Rattle.std.proofs.Common.{◌∙◌}
-use Rattle.ariadne_calls.specs.Colors.{named_colors}
+use Rattle.ariadne_calls.specs.ColorNumbers.{named_colors}
 use Rattle.ariadne_calls.proofs.Table.{lent}
 use Rattle.ariadne_calls.proofs.colors.named_color.Goals as goal
 

@@ -1,7 +1,7 @@
 -- What is read are the given sources, and what is drawn is the report that stands for the asked one.
 use Rattle.std.proofs.Common.{◌≡◌, ◌∙◌, ap, refl, map}
 use Rattle.ariadne.specs.Kinds as kinds
-use Rattle.ariadne_safe.specs.Building.{kind_in}
+use Rattle.ariadne_safe.specs.SafeBuilding.{kind_in}
 use Rattle.ariadne_calls.specs.Safe.{shown_kind}
 use Rattle.ariadne_calls.specs.Shown.{told_of}
 use Rattle.ariadne_calls.specs.declared.ending.Refusal.TheVariants.{NoMemory}

@@ -3,7 +3,7 @@ use Rattle.std.proofs.Common.{◌≡◌, ◌++◌, map, take}
 use Rattle.std.specs.Prelude.{string_bytes}
 use Rattle.ariadne_safe.specs.Visible.{visible_bytes}
 use Rattle.ariadne_safe.specs.declared.text.TextKind.TheVariants.{Aside}
-use Rattle.ariadne_safe.specs.Building.{made_of, sources_under}
+use Rattle.ariadne_safe.specs.SafeBuilding.{made_of, sources_under}
 use Rattle.ariadne_calls.proofs.safe.with_helps.Given as goal
 
 abbrev pub invariant-loop-help : goal.invariant-loop-help

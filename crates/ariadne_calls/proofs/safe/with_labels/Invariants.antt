@@ -1,7 +1,7 @@
 -- The labels so far are in the report, each as it is shown.
 use Rattle.std.proofs.Common.{◌≡◌, ◌++◌, map, take}
-use Rattle.ariadne_safe.specs.Building.{made_of, sources_under}
-use Rattle.ariadne_safe.specs.Reports.{shown_label}
+use Rattle.ariadne_safe.specs.SafeBuilding.{made_of, sources_under}
+use Rattle.ariadne_safe.specs.SafeReports.{shown_label}
 use Rattle.ariadne_calls.proofs.safe.with_labels.Given as goal
 
 abbrev pub invariant-loop-label : goal.invariant-loop-label

@@ -1,5 +1,5 @@
 use Rattle.std.proofs.Common.{◌≡◌, ◌+◌, drop}
-use Rattle.ariadne_edits.specs.Cuts.{columns_in}
+use Rattle.ariadne_edits.specs.Views.{columns_in}
 use Rattle.ariadne_edits.proofs.cut.columns_in.Given as goal
 
 abbrev pub invariant-loop-c : goal.invariant-loop-c

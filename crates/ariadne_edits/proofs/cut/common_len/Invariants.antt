@@ -1,5 +1,5 @@
 use Rattle.std.proofs.Common.{◌≡◌, ◌+◌, drop}
-use Rattle.ariadne_edits.specs.Cuts.{common_len}
+use Rattle.ariadne_edits.specs.Views.{common_len}
 use Rattle.ariadne_edits.proofs.cut.common_len.Given as goal
 
 abbrev pub invariant-loop-count : goal.invariant-loop-count

@@ -1,5 +1,5 @@
 use Rattle.std.proofs.Common.{◌≡◌, ◌++◌, drop, take}
-use Rattle.ariadne_edits.specs.Cuts.{first_fitting}
+use Rattle.ariadne_edits.specs.Views.{first_fitting}
 use Rattle.ariadne_edits.proofs.cut.first_fitting.Given as goal
 
 abbrev pub invariant-loop-count : goal.invariant-loop-count

@@ -1,5 +1,5 @@
 use Rattle.std.proofs.Common.{◌≡◌, drop}
-use Rattle.ariadne_edits.specs.Cuts.{columns_in, last_fitting}
+use Rattle.ariadne_edits.specs.Views.{columns_in, last_fitting}
 use Rattle.ariadne_edits.proofs.cut.last_fitting.Given as goal
 
 abbrev pub invariant-loop-count : goal.invariant-loop-count

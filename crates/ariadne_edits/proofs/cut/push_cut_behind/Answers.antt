@@ -1,6 +1,6 @@
 use Rattle.std.proofs.Common.{◌≡◌, ◌∙◌, ◌-◌, ◌≤◌, ◌<◌, ◌++◌, ap, subst, string_bytes}
 use Rattle.std.specs.Prelude.{encode_utf8_all, OnOk}
-use Rattle.ariadne_edits.specs.Cuts.{cut_mark, first_fitting, mark_width}
+use Rattle.ariadne_edits.specs.Views.{cut_mark, first_fitting, mark_width}
 use Rattle.ariadne_edits.proofs.Cuts.{cut_behind_is, two_written, whole_behind}
 use Rattle.ariadne_edits.proofs.cut.push_cut_behind.Goals as goal
 

@@ -1,6 +1,6 @@
 use Rattle.std.proofs.Common.{◌∙◌, ◌-◌, ◌≤◌, ◌<◌, ◌++◌, ap, arith, subst, string_bytes}
 use Rattle.std.specs.Prelude.{encode_utf8_all}
-use Rattle.ariadne_edits.specs.Cuts.{columns_in, cut_mark, last_fitting, mark_width}
+use Rattle.ariadne_edits.specs.Views.{columns_in, cut_mark, last_fitting, mark_width}
 use Rattle.ariadne_edits.proofs.Cuts.{cut_front_is, two_written, whole_in_front}
 use Rattle.ariadne_edits.proofs.Widths.{last_fits, marked_columns}
 use Rattle.ariadne_edits.proofs.cut.push_cut_in_front.Goals as goal

@@ -1,6 +1,6 @@
 use Rattle.std.proofs.Common.{◌≡◌, ◌∙◌, ◌-◌, ◌/◌, ◌≤◌, ◌<◌, ◌++◌, ap, drop, length, take, subst, string_bytes}
 use Rattle.std.specs.Prelude.{encode_utf8_all, max, OnOk}
-use Rattle.ariadne_edits.specs.Cuts.{columns_in, common_len, cut_behind, cut_in_front, front_shown}
+use Rattle.ariadne_edits.specs.Views.{columns_in, common_len, cut_behind, cut_in_front, front_shown}
 use Rattle.ariadne_edits.proofs.Cuts.{fitted_parts, fitted_whole, rest_is, two_written}
 use Rattle.ariadne_edits.proofs.cut.push_fitted.Goals as goal
 

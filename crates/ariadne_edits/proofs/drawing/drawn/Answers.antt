@@ -1,7 +1,7 @@
 use Rattle.std.proofs.Common.{string_bytes}
 use Rattle.std.proofs.lemmas.List.{drop_more}
 use Rattle.ariadne_base.specs.Listing.{listed_lines}
-use Rattle.ariadne_edits.specs.Drawn.{drawn_text}
+use Rattle.ariadne_edits.specs.HelpTexts.{drawn_text}
 use Rattle.ariadne_edits.proofs.DrawnRows.{drawn_more, drawn_end}
 use Rattle.ariadne_edits.proofs.drawing.drawn.Goals as goal
 

@@ -1,7 +1,7 @@
 use Rattle.std.proofs.Common.{◌≡◌, ◌++◌, drop}
 use Rattle.std.specs.Prelude.{string_bytes}
 use Rattle.ariadne_base.specs.Listing.{listed_lines}
-use Rattle.ariadne_edits.specs.Drawn.{drawn_rows, drawn_text}
+use Rattle.ariadne_edits.specs.HelpTexts.{drawn_rows, drawn_text}
 use Rattle.ariadne_edits.proofs.drawing.drawn.Given as goal
 
 abbrev pub invariant-loop-row : goal.invariant-loop-row

@@ -3,8 +3,8 @@ use Rattle.std.specs.Prelude.{decimal, encode_utf8_all, OnOk}
 use Rattle.std.specs.Str.{chars}
 use Rattle.ariadne_base.specs.Listing.{listed_lines}
 use Rattle.ariadne_base.specs.Locations.{line_text}
-use Rattle.ariadne_edits.specs.Cuts.{shown_line}
-use Rattle.ariadne_edits.specs.Drawn.{line_shown, number_of, row_text}
+use Rattle.ariadne_edits.specs.Views.{shown_line}
+use Rattle.ariadne_edits.specs.HelpTexts.{line_shown, number_of, row_text}
 use Rattle.ariadne_edits.proofs.Pushing.{then_pushed}
 use Rattle.ariadne_edits.proofs.drawing.push_row.Goals as goal
 

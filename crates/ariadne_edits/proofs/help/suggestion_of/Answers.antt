@@ -4,9 +4,9 @@ use Rattle.ariadne_base.specs.Lines.{lines_of}
 use Rattle.ariadne_base.specs.Listing.{Listing, listed_lines}
 use Rattle.ariadne_edits.specs.Changes.{edited_text, Fit}
 use Rattle.ariadne_edits.specs.Counterparts.{HaveCounterparts}
-use Rattle.ariadne_edits.specs.Drawn.{drawn_text, number_width}
-use Rattle.ariadne_edits.specs.Kept.{IsPaired, IsUntouched}
-use Rattle.ariadne_edits.specs.Rows.{Tell}
+use Rattle.ariadne_edits.specs.HelpTexts.{drawn_text, number_width}
+use Rattle.ariadne_edits.specs.KeptLines.{IsPaired, IsUntouched}
+use Rattle.ariadne_edits.specs.SuggestionRows.{Tell}
 use Rattle.ariadne_edits.specs.declared.drawing.Layout.{Layout}
 use Rattle.ariadne_edits.proofs.Fitting.{accepted_fit}
 use Rattle.ariadne_edits.proofs.help.suggestion_of.Goals as goal

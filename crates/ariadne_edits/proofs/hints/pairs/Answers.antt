@@ -5,7 +5,7 @@ use Rattle.ariadne_base.specs.Lines.{lines_of}
 use Rattle.ariadne_base.specs.Listing.{listed_lines}
 use Rattle.ariadne_base.specs.Locations.{byte_len}
 use Rattle.ariadne_base.proofs.LocationLemmas.{offset_none}
-use Rattle.ariadne_edits.specs.Kept.{IsPaired}
+use Rattle.ariadne_edits.specs.KeptLines.{IsPaired}
 use Rattle.ariadne_edits.specs.Stays.{AreStays, first_pairs, from_reaching, IsInside, pairs_in}
 use Rattle.ariadne_edits.proofs.Untouched.{all_inside, first_pairs_more, next_offset, next_within, reach_on, untouched_paired}
 use Rattle.ariadne_edits.proofs.hints.pairs.Goals as goal

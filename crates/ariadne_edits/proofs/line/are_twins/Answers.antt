@@ -1,7 +1,7 @@
 use Rattle.std.proofs.Common.{◌≡◌, ◌∙◌, sym, rules, string_bytes}
 use Rattle.std.specs.Str.{chars}
 use Rattle.std.proofs.lemmas.Str.{encodes_same}
-use Rattle.ariadne_edits.specs.Rows.{seen_of}
+use Rattle.ariadne_edits.specs.SuggestionRows.{seen_of}
 use Rattle.ariadne_edits.proofs.line.are_twins.Goals as goal
 
 -- the same bytes are the same characters

@@ -3,7 +3,7 @@ use Rattle.std.specs.Prelude.{encode_utf8}
 use Rattle.std.specs.Char.{is_whitespace}
 use Rattle.std.specs.Str.{chars}
 use Rattle.std.specs.Str.Iter.{chars_rest}
-use Rattle.ariadne_edits.specs.Rows.{seen_of}
+use Rattle.ariadne_edits.specs.SuggestionRows.{seen_of}
 use Rattle.ariadne_edits.proofs.Bodies.{seen_more, seen_less}
 use Rattle.ariadne_edits.proofs.Pushing.{appended_more, appended_all}
 use Rattle.ariadne_edits.proofs.line.seen_text.Goals as goal

@@ -1,7 +1,7 @@
 use Rattle.std.specs.Prelude.{string_bytes, encode_utf8_all}
 use Rattle.std.specs.Str.{chars}
 use Rattle.std.specs.Str.Iter.{chars_rest}
-use Rattle.ariadne_edits.specs.Rows.{seen_of}
+use Rattle.ariadne_edits.specs.SuggestionRows.{seen_of}
 use Rattle.ariadne_edits.proofs.Pushing.{IsAppended}
 use Rattle.ariadne_edits.proofs.line.seen_text.Given as goal
 

@@ -1,6 +1,6 @@
 use Rattle.std.proofs.Common.{◌∙◌, subst}
 use Rattle.ariadne_base.specs.Listing.{listed_lines}
-use Rattle.ariadne_edits.specs.Rows.{AreMarked}
+use Rattle.ariadne_edits.specs.SuggestionRows.{AreMarked}
 use Rattle.ariadne_edits.proofs.Counterparts.{added_more}
 use Rattle.ariadne_edits.proofs.KeptRows.{keeps_more}
 use Rattle.ariadne_edits.proofs.RowLists.{told_added}

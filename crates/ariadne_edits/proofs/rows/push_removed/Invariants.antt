@@ -1,7 +1,7 @@
 use Rattle.ariadne_base.specs.Listing.{listed_lines}
 use Rattle.ariadne_edits.specs.Counterparts.{EndInRun}
-use Rattle.ariadne_edits.specs.Kept.{KeepAlso}
-use Rattle.ariadne_edits.specs.Rows.{TellFirst}
+use Rattle.ariadne_edits.specs.KeptLines.{KeepAlso}
+use Rattle.ariadne_edits.specs.SuggestionRows.{TellFirst}
 use Rattle.ariadne_edits.proofs.rows.push_removed.Given as goal
 
 abbrev pub invariant-loop-i : goal.invariant-loop-i

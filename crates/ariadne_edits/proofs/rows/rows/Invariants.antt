@@ -1,7 +1,7 @@
 use Rattle.std.proofs.Common.{◌≤◌, length, drop}
 use Rattle.ariadne_base.specs.Listing.{listed_lines}
 use Rattle.ariadne_edits.specs.Counterparts.{EndKept}
-use Rattle.ariadne_edits.specs.Rows.{TellFirst}
+use Rattle.ariadne_edits.specs.SuggestionRows.{TellFirst}
 use Rattle.ariadne_edits.proofs.KeptRows.{IsDue}
 use Rattle.ariadne_edits.proofs.rows.rows.Given as goal
 

@@ -1,6 +1,6 @@
 use Rattle.std.proofs.Common.{◌≡◌, ◌∙◌, ap, arith}
 use Rattle.std.proofs.lemmas.Str.{IsCharBoundary-end, IsCharBoundary-start}
-use Rattle.ariadne_parse.specs.Pieces.{digits_in}
+use Rattle.ariadne_parse.specs.TextPieces.{digits_in}
 use Rattle.ariadne_parse.proofs.Texts.{digits_boundary, no_number, a_number}
 use Rattle.ariadne_parse.proofs.pieces.number.Goals as goal
 

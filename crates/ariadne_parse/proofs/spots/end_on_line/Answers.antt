@@ -1,7 +1,7 @@
 use Rattle.std.proofs.Common.{◌≡◌, ◌∙◌, ap, List, ℕ}
 use Rattle.std.specs.Prelude.{Option, Some, option_and_then, option_map}
 use Rattle.ariadne_parse.specs.Heads.{end_on_line, spot_at}
-use Rattle.ariadne_parse.specs.Pieces.{behind, number_in}
+use Rattle.ariadne_parse.specs.TextPieces.{behind, number_in}
 use Rattle.ariadne_parse.proofs.spots.end_on_line.Goals as goal
 
 -- the number behind the sign

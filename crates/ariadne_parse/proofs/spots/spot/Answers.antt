@@ -1,7 +1,7 @@
 use Rattle.std.proofs.Common.{◌≡◌, ◌∙◌, ap, List, ℕ}
 use Rattle.std.specs.Prelude.{Option, Some, option_and_then, option_map}
 use Rattle.ariadne_parse.specs.Heads.{column_in, spot_at, spot_in}
-use Rattle.ariadne_parse.specs.Pieces.{number_in}
+use Rattle.ariadne_parse.specs.TextPieces.{number_in}
 use Rattle.ariadne_parse.proofs.spots.spot.Goals as goal
 
 -- both numbers

@@ -1,5 +1,5 @@
 use Rattle.std.proofs.Common.{◌≡◌, Some}
-use Rattle.ariadne_parse.specs.Pieces.{in_front_of_text}
+use Rattle.ariadne_parse.specs.TextPieces.{in_front_of_text}
 use Rattle.ariadne_parse.specs.Suggested.{front_chars}
 use Rattle.ariadne_parse.proofs.Characters.{in_front_is}
 use Rattle.ariadne_parse.proofs.suggested.front_characters.Goals as goal

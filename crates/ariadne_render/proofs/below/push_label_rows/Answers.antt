@@ -7,7 +7,7 @@ use Rattle.ariadne_picture.specs.Lists.{joined}
 use Rattle.ariadne_picture.specs.Pieces.{row_pieces}
 use Rattle.ariadne_picture.specs.Rows.{label_rows}
 use Rattle.ariadne_rows.proofs.Listing.{all-enumerated}
-use Rattle.ariadne_render.specs.Lines.{IsBelowLine}
+use Rattle.ariadne_render.specs.DrawnLines.{IsBelowLine}
 use Rattle.ariadne_render.proofs.LinesRows.{labels-more, some-label}
 use Rattle.ariadne_render.proofs.below.push_label_rows.Goals as goal
 

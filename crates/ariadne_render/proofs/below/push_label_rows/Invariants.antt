@@ -5,7 +5,7 @@ use Rattle.ariadne_picture.specs.Canvas.{texts_of}
 use Rattle.ariadne_picture.specs.Lists.{joined}
 use Rattle.ariadne_picture.specs.Pieces.{Section, row_pieces}
 use Rattle.ariadne_picture.specs.Rows.{label_rows}
-use Rattle.ariadne_render.specs.Lines.{IsBelowLine}
+use Rattle.ariadne_render.specs.DrawnLines.{IsBelowLine}
 use Rattle.ariadne_render.proofs.below.push_label_rows.Given as goal
 
 -- the rows of the labels so far are written, and bars and verticals are those of the next

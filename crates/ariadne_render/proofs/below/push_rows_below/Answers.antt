@@ -5,7 +5,7 @@ use Rattle.std.specs.List.{enumerate_from, list_any}
 use Rattle.ariadne_cells.specs.Pages.{PageFields}
 use Rattle.ariadne_cells.specs.Tables.{IsTable}
 use Rattle.ariadne_picture.specs.declared.switches.Switches.{Switches}
-use Rattle.ariadne_render.specs.Lines.{IsBelowLine}
+use Rattle.ariadne_render.specs.DrawnLines.{IsBelowLine}
 use Rattle.ariadne_picture.specs.declared.label_info.LineLabel.{LineLabel}
 use Rattle.ariadne_picture.specs.Canvas.{texts_of}
 use Rattle.ariadne_picture.specs.Lists.{joined}

@@ -4,7 +4,7 @@ use Rattle.ariadne_picture.specs.declared.switches.Switches.{Switches}
 use Rattle.ariadne_picture.specs.Canvas.{texts_of}
 use Rattle.ariadne_picture.specs.Pieces.{row_pieces}
 use Rattle.ariadne_picture.specs.Rows.{alternate, arrow, label_rows}
-use Rattle.ariadne_render.specs.Lines.{IsBelowLine}
+use Rattle.ariadne_render.specs.DrawnLines.{IsBelowLine}
 use Rattle.std.proofs.lemmas.Result.{on_ok_weaker}
 use Rattle.ariadne_cells.proofs.Drawn.{draws_rows-append, draws_rows_none, draws_rows_one}
 use Rattle.ariadne_render.proofs.LinesRows.{row-page, label-none, label-one, label-two, table-there}

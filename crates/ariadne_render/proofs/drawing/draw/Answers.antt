@@ -1,6 +1,6 @@
 -- The groups of the labels in order are those that are drawn.
 use Rattle.std.proofs.Common.{◌≡◌, ◌∙◌, [], ◌∷◌, List, ap, map, sym, Bor}
-use Rattle.ariadne_accept.specs.Drawn.{world}
+use Rattle.ariadne_accept.specs.CacheReads.{world}
 use Rattle.ariadne_picture.specs.Canvas.{same_source}
 use Rattle.ariadne_picture.specs.Groups.{groups_of}
 use Rattle.ariadne_picture.specs.declared.label_info.LabelInfo.{LabelInfo}

@@ -6,8 +6,8 @@ use Rattle.ariadne_picture.specs.Accept.{offset_in_chars}
 use Rattle.ariadne_picture.specs.Pieces.{location_text}
 use Rattle.ariadne_picture.specs.Report.{ConfigFields}
 use Rattle.ariadne_rows.specs.Headers.{location_numbers}
-use Rattle.ariadne_accept.specs.Drawn.{world}
-use Rattle.ariadne_render.specs.Headers.{own_offset}
+use Rattle.ariadne_accept.specs.CacheReads.{world}
+use Rattle.ariadne_render.specs.HeaderPlaces.{own_offset}
 use Rattle.ariadne_render.proofs.HeaderLocations.{no_location, own_none, own_numbers}
 use Rattle.ariadne_render.proofs.drawing.own_location.Goals as goal
 

@@ -1,7 +1,7 @@
 -- What a new pen has written at last is the picture.
 use Rattle.std.proofs.Common.{◌∙◌, ap}
 use Rattle.ariadne_cells.specs.Pages.{PageFields, PenFields}
-use Rattle.ariadne_accept.specs.Drawn.{world}
+use Rattle.ariadne_accept.specs.CacheReads.{world}
 use Rattle.ariadne_render.proofs.WholePictures.{outline_bytes}
 use Rattle.ariadne_render.proofs.drawing.picture.Goals as goal
 

@@ -6,8 +6,8 @@ use Rattle.ariadne_cells.specs.Pages.{PageFields}
 use Rattle.ariadne_cells.proofs.Drawn.{rows_page}
 use Rattle.ariadne_picture.specs.Canvas.{section_of, texts_of}
 use Rattle.ariadne_rows.specs.Gutters.{GutterFields}
-use Rattle.ariadne_accept.specs.Drawn.{world}
-use Rattle.ariadne_render.specs.Lines.{AreOverLines}
+use Rattle.ariadne_accept.specs.CacheReads.{world}
+use Rattle.ariadne_render.specs.DrawnLines.{AreOverLines}
 use Rattle.ariadne_render.specs.LongLines.{IsRemembered}
 use Rattle.ariadne_render.proofs.Grouping.{some_label}
 use Rattle.ariadne_render.proofs.GroupingSources.{one_source, over_group}

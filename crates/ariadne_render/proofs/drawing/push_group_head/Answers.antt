@@ -4,7 +4,7 @@ use Rattle.std.specs.Option.{option_copied}
 use Rattle.ariadne_cells.proofs.Drawn.{rows_page}
 use Rattle.ariadne_picture.specs.Canvas.{section_of, texts_of}
 use Rattle.ariadne_rows.specs.Headers.{location_numbers}
-use Rattle.ariadne_accept.specs.Drawn.{world}
+use Rattle.ariadne_accept.specs.CacheReads.{world}
 use Rattle.ariadne_render.proofs.GroupParts.{first_is, section_first, section_location, section_name, section_switches}
 use Rattle.ariadne_render.proofs.GroupingSources.{one_source}
 use Rattle.ariadne_render.proofs.drawing.push_group_head.Goals as goal

@@ -8,9 +8,9 @@ use Rattle.ariadne_picture.specs.declared.label_info.LabelInfo.{LabelInfo}
 use Rattle.ariadne_picture.specs.Canvas.{group_source, same_source, section_of, texts_of}
 use Rattle.ariadne_picture.specs.Pieces.{section_rows}
 use Rattle.ariadne_rows.specs.Sheets.{GroupFields}
-use Rattle.ariadne_accept.specs.Drawn.{world}
+use Rattle.ariadne_accept.specs.CacheReads.{world}
 use Rattle.ariadne_base.specs.Listing.{listed_lines}
-use Rattle.ariadne_render.specs.Groups.{IsGroup}
+use Rattle.ariadne_render.specs.DrawnGroups.{IsGroup}
 use Rattle.ariadne_render.specs.LongLines.{IsRemembered}
 use Rattle.ariadne_render.proofs.Grouping.{all_mapped, mapped_at, some_label}
 use Rattle.ariadne_render.proofs.GroupingSources.{first_there}

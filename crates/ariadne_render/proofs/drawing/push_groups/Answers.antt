@@ -2,7 +2,7 @@
 use Rattle.std.proofs.Common.{◌≡◌, ◌∙◌, ◌+◌, ◌-◌, ◌<◌, ◌≤◌, List, length, map, ap, arith, subst, sym, Bor}
 use Rattle.std.specs.Prelude.{slice_get}
 use Rattle.std.proofs.lemmas.List.{length-map}
-use Rattle.ariadne_accept.specs.Drawn.{world}
+use Rattle.ariadne_accept.specs.CacheReads.{world}
 use Rattle.ariadne_base.specs.Listing.{listed_lines}
 use Rattle.ariadne_cells.specs.Pages.{DrawsRows, PageFields}
 use Rattle.ariadne_cells.proofs.Drawn.{draws_rows_none, rows_page}

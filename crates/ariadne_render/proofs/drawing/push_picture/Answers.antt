@@ -6,7 +6,7 @@ use Rattle.ariadne_cells.specs.Pages.{PageFields, PenFields}
 use Rattle.ariadne_picture.specs.Canvas.{kind_name, texts_of}
 use Rattle.ariadne_picture.specs.Report.{ReportFields}
 use Rattle.ariadne_picture.specs.declared.label_info.LabelInfo.{LabelInfo}
-use Rattle.ariadne_accept.specs.Drawn.{world}
+use Rattle.ariadne_accept.specs.CacheReads.{world}
 use Rattle.ariadne_labels.specs.Kinds.{shown_kind}
 use Rattle.ariadne_render.proofs.WholePictures.{kind_text_is, message_is, outline_drawn}
 use Rattle.ariadne_render.proofs.drawing.push_picture.Goals as goal

@@ -1,6 +1,6 @@
 -- The ids of both labels are those of their spans.
 use Rattle.std.proofs.Common.{ap, ◌∙◌}
-use Rattle.ariadne_accept.specs.Drawn.{world}
+use Rattle.ariadne_accept.specs.CacheReads.{world}
 use Rattle.ariadne_render.proofs.GroupingSources.{label_there, same_by_ids}
 use Rattle.ariadne_render.proofs.groups.are_over_one_source.Goals as goal
 

@@ -1,6 +1,6 @@
 -- The groups so far, and those to come.
 use Rattle.std.proofs.Common.{◌≡◌, ◌≤◌, ◌-◌, ◌++◌, ℕ, List, Option, drop, length, map, Bor}
-use Rattle.ariadne_accept.specs.Drawn.{world}
+use Rattle.ariadne_accept.specs.CacheReads.{world}
 use Rattle.ariadne_base.specs.Listing.{Listing}
 use Rattle.ariadne_picture.specs.Canvas.{same_source}
 use Rattle.ariadne_picture.specs.Groups.{groups_of}

@@ -1,7 +1,7 @@
 -- No cut stands in the group so far.
 use Rattle.std.proofs.Common.{◌<◌, ◌≤◌, ◌-◌, ℕ, List, length, Option}
 use Rattle.std.specs.List.{slice_range}
-use Rattle.ariadne_accept.specs.Drawn.{world}
+use Rattle.ariadne_accept.specs.CacheReads.{world}
 use Rattle.ariadne_render.proofs.Grouping.{NoCuts}
 use Rattle.ariadne_base.specs.Listing.{Listing}
 use Rattle.ariadne_picture.specs.Canvas.{same_source}

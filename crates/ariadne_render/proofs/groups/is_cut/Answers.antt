@@ -1,5 +1,5 @@
 -- The sources differ, or the lines tell.
-use Rattle.ariadne_accept.specs.Drawn.{world}
+use Rattle.ariadne_accept.specs.CacheReads.{world}
 use Rattle.ariadne_render.proofs.GroupingSources.{cut_by_lines, cut_by_sources}
 use Rattle.ariadne_render.proofs.groups.is_cut.Goals as goal
 

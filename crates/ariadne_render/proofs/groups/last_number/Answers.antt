@@ -1,7 +1,7 @@
 -- The number of a group's last line, in the source of its first label.
 use Rattle.std.proofs.Common.{◌∙◌, ◌+◌, ap, arith, length, refl, sym}
 use Rattle.std.specs.Option.{option_copied}
-use Rattle.ariadne_accept.specs.Drawn.{world}
+use Rattle.ariadne_accept.specs.CacheReads.{world}
 use Rattle.ariadne_base.specs.Listing.{Listing, listed_lines}
 use Rattle.ariadne_picture.specs.Canvas.{sheet_of}
 use Rattle.ariadne_picture.specs.declared.switches.Switches.{Switches}

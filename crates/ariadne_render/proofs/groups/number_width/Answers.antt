@@ -2,10 +2,10 @@
 use Rattle.std.proofs.Common.{◌≡◌, ◌∙◌, ◌+◌, ◌<◌, ◌≤◌, List, ap, arith, drop, length, map, max, suc, sym, Bor}
 use Rattle.std.specs.Prelude.{decimal}
 use Rattle.std.proofs.lemmas.List.{drop_all, length-map}
-use Rattle.ariadne_accept.specs.Drawn.{world}
+use Rattle.ariadne_accept.specs.CacheReads.{world}
 use Rattle.ariadne_picture.specs.Canvas.{number_width}
 use Rattle.ariadne_picture.specs.declared.label_info.LabelInfo.{LabelInfo}
-use Rattle.ariadne_render.specs.Groups.{IsGroup}
+use Rattle.ariadne_render.specs.DrawnGroups.{IsGroup}
 use Rattle.ariadne_render.proofs.Grouping.{all_mapped, mapped_from}
 use Rattle.ariadne_render.proofs.GroupingSources.{width_none, width_step}
 use Rattle.ariadne_render.proofs.GroupingWidths.{few_digits, max_is}

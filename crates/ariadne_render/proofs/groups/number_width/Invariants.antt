@@ -1,6 +1,6 @@
 -- The width so far, and that of the groups to come.
 use Rattle.std.proofs.Common.{◌≡◌, ◌≤◌, List, drop, map, max, Bor}
-use Rattle.ariadne_accept.specs.Drawn.{world}
+use Rattle.ariadne_accept.specs.CacheReads.{world}
 use Rattle.ariadne_picture.specs.Canvas.{number_width}
 use Rattle.ariadne_picture.specs.declared.label_info.LabelInfo.{LabelInfo}
 use Rattle.ariadne_render.proofs.groups.number_width.Given as goal

@@ -11,7 +11,7 @@ use Rattle.ariadne_picture.specs.Ranks.{Sheet}
 use Rattle.ariadne_picture.specs.Rows.{line_rows}
 use Rattle.ariadne_rows.specs.Gutters.{IsBeside}
 use Rattle.ariadne_rows.proofs.Events.{unlabelled-no_event}
-use Rattle.ariadne_render.specs.Lines.{AreOverLines, IsDrawnGroup}
+use Rattle.ariadne_render.specs.DrawnLines.{AreOverLines, IsDrawnGroup}
 use Rattle.ariadne_render.proofs.LinesHidden.{drawn-labels, drawn-switches}
 use Rattle.ariadne_render.proofs.LinesRows.{rows-of}
 use Rattle.ariadne_render.proofs.LinesWalk.{events_at-page, group-kept, lines-page, names-append, run-empty, run-one, runs-join}

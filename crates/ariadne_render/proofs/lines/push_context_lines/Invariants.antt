@@ -9,7 +9,7 @@ use Rattle.ariadne_picture.specs.Pieces.{Section, row_pieces}
 use Rattle.ariadne_picture.specs.Ranks.{Sheet}
 use Rattle.ariadne_picture.specs.Rows.{line_rows}
 use Rattle.ariadne_rows.specs.Gutters.{IsBeside}
-use Rattle.ariadne_render.specs.Lines.{IsDrawnGroup}
+use Rattle.ariadne_render.specs.DrawnLines.{IsDrawnGroup}
 use Rattle.ariadne_render.specs.LongLines.{IsRemembered}
 use Rattle.ariadne_render.proofs.lines.push_context_lines.Given as goal
 

@@ -6,7 +6,7 @@ use Rattle.ariadne_picture.specs.declared.switches.Switches.{Switches}
 use Rattle.ariadne_picture.specs.Pieces.{row_pieces}
 use Rattle.ariadne_picture.specs.Rows.{bare, gap, is_inside, line_rows}
 use Rattle.ariadne_rows.proofs.GutterSteps.{beside-gap}
-use Rattle.ariadne_render.specs.Lines.{AreOverLines}
+use Rattle.ariadne_render.specs.DrawnLines.{AreOverLines}
 use Rattle.ariadne_render.proofs.LinesHidden.{drawn-page, drawn-switches, drawn-over, inside-told, over-rise}
 use Rattle.ariadne_render.proofs.LinesHidden.{hidden-none, line-there, run-gap, run-none, run-bare}
 use Rattle.std.proofs.lemmas.Result.{on_ok_weaker}

@@ -24,7 +24,7 @@ use Rattle.ariadne_picture.specs.Rows.{label_rows, line_rows, lone_rows, source}
 use Rattle.ariadne_rows.specs.Gutters.{IsBelow}
 use Rattle.ariadne_rows.specs.Headers.{IsOnPage}
 use Rattle.ariadne_rows.proofs.GutterSteps.{below-beside, beside-source}
-use Rattle.ariadne_render.specs.Lines.{IsAtLine, IsDrawnGroup}
+use Rattle.ariadne_render.specs.DrawnLines.{IsAtLine, IsDrawnGroup}
 use Rattle.ariadne_render.proofs.LinesHidden.{drawn-labels, drawn-lines, drawn-over, drawn-page, drawn-switches, holders-touch, line-read, line-there}
 use Rattle.ariadne_render.proofs.LinesHidden.{over-rise}
 use Rattle.ariadne_render.proofs.LinesLayout.{beside-same, labels-there, layout-is, len-is, line-chars, margin-column, of-some, places-fit, some-and}

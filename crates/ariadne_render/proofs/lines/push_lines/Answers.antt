@@ -2,7 +2,7 @@
 use Rattle.std.proofs.Common.{◌≡◌, ◌∙◌, ℕ, suc, ◌+◌, ◌-◌, ◌<◌, ◌≤◌, ◌^◌, min, [], ◌++◌, length, map, refl, sym, ap, subst, arith, List}
 use Rattle.std.specs.Prelude.{slice_range}
 use Rattle.std.specs.List.{range_with_len}
-use Rattle.ariadne_render.specs.Lines.{AreOverLines, IsDrawnGroup}
+use Rattle.ariadne_render.specs.DrawnLines.{AreOverLines, IsDrawnGroup}
 use Rattle.ariadne_base.specs.Listing.{listed_lines}
 use Rattle.ariadne_cells.specs.Pages.{DrawsRows, PageFields}
 use Rattle.ariadne_picture.specs.Canvas.{texts_of}

@@ -2,7 +2,7 @@
 use Rattle.std.proofs.Common.{◌≡◌, ◌+◌, ◌-◌, ◌≤◌, length, map}
 use Rattle.std.specs.List.{range_with_len}
 use Rattle.ariadne_base.specs.Listing.{listed_lines}
-use Rattle.ariadne_render.specs.Lines.{IsDrawnGroup}
+use Rattle.ariadne_render.specs.DrawnLines.{IsDrawnGroup}
 use Rattle.ariadne_render.specs.LongLines.{IsRemembered}
 use Rattle.ariadne_cells.specs.Pages.{DrawsRows}
 use Rattle.ariadne_picture.specs.Canvas.{texts_of}

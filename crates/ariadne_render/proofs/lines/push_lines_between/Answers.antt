@@ -10,7 +10,7 @@ use Rattle.ariadne_picture.specs.Pieces.{Section, row_pieces}
 use Rattle.ariadne_picture.specs.Rows.{line_rows}
 use Rattle.ariadne_picture.proofs.Rows.NearLines.{hidden-bare}
 use Rattle.ariadne_rows.proofs.GutterSteps.{unlabelled-run}
-use Rattle.ariadne_render.specs.Lines.{AreOverLines, IsDrawnGroup}
+use Rattle.ariadne_render.specs.DrawnLines.{AreOverLines, IsDrawnGroup}
 use Rattle.ariadne_render.proofs.LinesHidden.{drawn-labels, drawn-switches}
 use Rattle.ariadne_render.proofs.LinesWalk.{group-kept, group-rise, group_sheet, lines-page, names-append, runs-join}
 use Rattle.ariadne_render.proofs.lines.push_lines_between.Given.{Over}

@@ -1,6 +1,6 @@
 -- No line is remembered, or it is one of the source of both groups.
 use Rattle.std.proofs.Common.{◌∙◌, subst, sym}
-use Rattle.ariadne_accept.specs.Drawn.{world}
+use Rattle.ariadne_accept.specs.CacheReads.{world}
 use Rattle.ariadne_base.specs.Listing.{Listing, listed_lines}
 use Rattle.ariadne_picture.specs.Canvas.{group_source}
 use Rattle.ariadne_render.specs.LongLines.{IsRemembered}

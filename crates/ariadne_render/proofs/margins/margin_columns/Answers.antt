@@ -1,6 +1,6 @@
 -- The groups of the labels in order are those that are drawn.
 use Rattle.std.proofs.Common.{◌≡◌, ◌∙◌, List, ap, map, Bor}
-use Rattle.ariadne_accept.specs.Drawn.{world}
+use Rattle.ariadne_accept.specs.CacheReads.{world}
 use Rattle.ariadne_picture.specs.Canvas.{groups, same_source}
 use Rattle.ariadne_picture.specs.Groups.{groups_of}
 use Rattle.ariadne_picture.specs.Margins.{margin_columns, most_before_text}

@@ -1,7 +1,7 @@
 -- The columns of one group more.
 use Rattle.std.proofs.Common.{◌≡◌, ◌∙◌, ◌+◌, ◌<◌, ◌≤◌, List, ap, arith, drop, length, map, max, refl, suc, sym, Bor}
 use Rattle.std.proofs.lemmas.List.{drop_all, length-map}
-use Rattle.ariadne_accept.specs.Drawn.{world}
+use Rattle.ariadne_accept.specs.CacheReads.{world}
 use Rattle.ariadne_picture.specs.Canvas.{sheet_of}
 use Rattle.ariadne_picture.specs.Report.{switches_of}
 use Rattle.ariadne_picture.specs.declared.label_info.LabelInfo.{LabelInfo}

@@ -1,7 +1,7 @@
 use Rattle.std.proofs.Common.{◌≡◌, ◌∙◌, ◌+◌, ◌∷◌, add-one, ap, drop, drop-cons, refl, sym}
 use Rattle.std.proofs.lemmas.List.{drop_all}
 use Rattle.std.specs.Prelude.{suc}
-use Rattle.ariadne_safe.specs.Building.{made_of}
+use Rattle.ariadne_safe.specs.SafeBuilding.{made_of}
 use Rattle.ariadne_show.specs.Asides.{own_text, texts_at}
 use Rattle.ariadne_show.proofs.Proposing.{help_more, no_help_left}
 use Rattle.ariadne_show.proofs.asides.with_helps.Goals as goal

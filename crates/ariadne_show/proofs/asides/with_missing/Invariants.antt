@@ -1,5 +1,5 @@
 use Rattle.std.proofs.Common.{◌≡◌, take}
-use Rattle.ariadne_safe.specs.Building.{made_of, sources_under}
+use Rattle.ariadne_safe.specs.SafeBuilding.{made_of, sources_under}
 use Rattle.ariadne_show.specs.Asides.{missing_notes, with_notes}
 use Rattle.ariadne_show.specs.Found.{files_of}
 use Rattle.ariadne_show.proofs.asides.with_missing.Given as goal

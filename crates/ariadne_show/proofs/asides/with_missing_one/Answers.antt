@@ -1,6 +1,6 @@
 use Rattle.std.proofs.Common.{◌≡◌, ◌∙◌, ◌∷◌, [], List, ap, refl, subst, sym}
 use Rattle.std.specs.Prelude.{ℕ, is_some, IfOk}
-use Rattle.ariadne_safe.specs.Building.{made_of}
+use Rattle.ariadne_safe.specs.SafeBuilding.{made_of}
 use Rattle.ariadne_safe.specs.declared.report.SafeBuilder.{SafeBuilder}
 use Rattle.ariadne_safe.specs.Visible.{visible_bytes}
 use Rattle.ariadne_safe.specs.declared.text.TextKind.TheVariants.{Aside}

@@ -1,6 +1,6 @@
 use Rattle.std.proofs.Common.{◌≡◌, ◌∙◌, ◌+◌, ◌++◌, ◌∷◌, [], ℕ, List, ap, sym, take}
 use Rattle.std.proofs.lemmas.List.{take_more}
-use Rattle.ariadne_safe.specs.Building.{made_of}
+use Rattle.ariadne_safe.specs.SafeBuilding.{made_of}
 use Rattle.ariadne_show.specs.Asides.{texts_at, with_helps}
 use Rattle.ariadne_show.proofs.Notes.{helps_more}
 use Rattle.ariadne_show.proofs.Proposing.{texts_at_more}

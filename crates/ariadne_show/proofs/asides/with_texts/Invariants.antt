@@ -1,6 +1,6 @@
 use Rattle.std.proofs.Common.{◌≡◌, take}
 use Rattle.std.specs.Prelude.{map, string_bytes}
-use Rattle.ariadne_safe.specs.Building.{made_of, sources_under}
+use Rattle.ariadne_safe.specs.SafeBuilding.{made_of, sources_under}
 use Rattle.ariadne_safe.specs.Visible.{visible_bytes}
 use Rattle.ariadne_safe.specs.declared.text.TextKind.TheVariants.{Aside}
 use Rattle.ariadne_show.specs.Asides.{with_helps}

@@ -2,7 +2,7 @@ use Rattle.std.proofs.Common.{ℕ, ◌∙◌, List, subst, sym}
 use Rattle.std.specs.declared.ops.Range.{Range}
 use Rattle.ariadne.specs.Kinds.{kind_of as kind_of_fields}
 use Rattle.ariadne.specs.Report.{ReportFields}
-use Rattle.ariadne_safe.specs.Building.{kind_in, made_of, report_of as report_in, sources_below}
+use Rattle.ariadne_safe.specs.SafeBuilding.{kind_in, made_of, report_of as report_in, sources_below}
 use Rattle.ariadne_show.specs.Drawn.{IsAbout, IsBare}
 use Rattle.ariadne_show.specs.Said.{first_line}
 use Rattle.ariadne_show.proofs.Chains.{head_drawn_if}

@@ -1,4 +1,4 @@
-use Rattle.ariadne_safe.specs.Building.{made_of, report_of as report_in, sources_below}
+use Rattle.ariadne_safe.specs.SafeBuilding.{made_of, report_of as report_in, sources_below}
 use Rattle.ariadne_show.proofs.Chains.{said_if}
 use Rattle.ariadne_show.proofs.drawing.draw_text.Goals as goal
 

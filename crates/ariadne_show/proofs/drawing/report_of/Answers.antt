@@ -2,7 +2,7 @@ use Rattle.std.proofs.Common.{rules, ◌≡◌, ◌∙◌, ℕ, List, ap, map, s
 use Rattle.std.specs.declared.ops.Range.{Range}
 use Rattle.ariadne.specs.Kinds.{kind_of as kind_of_fields}
 use Rattle.ariadne.specs.Report.{ReportFields}
-use Rattle.ariadne_safe.specs.Building.{kind_in, made_of, report_of as report_in, sources_under}
+use Rattle.ariadne_safe.specs.SafeBuilding.{kind_in, made_of, report_of as report_in, sources_under}
 use Rattle.ariadne_safe.specs.Sources.{sources_of}
 use Rattle.ariadne_safe.specs.declared.sources.SafeSource.{SafeSource}
 use Rattle.ariadne_show.specs.Drawn.{room_in, IsAbout, IsBare}
@@ -13,9 +13,9 @@ use Rattle.ariadne_show.specs.declared.proposed.Sketch.{Sketch}
 use Rattle.ariadne_show.specs.declared.found.FoundPlace.{FoundPlace}
 use Rattle.ariadne_show.specs.Asides.{helps_of, notes_of, with_helps, with_notes}
 use Rattle.ariadne_show.specs.Found.{files_of, found_of}
-use Rattle.ariadne_show.specs.Labels.{labels_of, shown_header, with_labels, AreOrdered}
-use Rattle.ariadne_show.specs.Proposed.{AreSketched}
-use Rattle.ariadne_show.specs.Read.{sources_in}
+use Rattle.ariadne_show.specs.FoundLabels.{labels_of, shown_header, with_labels, AreOrdered}
+use Rattle.ariadne_show.specs.DrawnProposals.{AreSketched}
+use Rattle.ariadne_show.specs.ReadFiles.{sources_in}
 use Rattle.ariadne_show.specs.Widths.{IsTextWidth}
 use Rattle.ariadne_show.proofs.Heads.{about, begun_bare, begun_span, header_ends, new_bare, report_about, wide}
 use Rattle.ariadne_show.proofs.drawing.report_of.Goals as goal

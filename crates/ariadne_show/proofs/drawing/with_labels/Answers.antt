@@ -1,6 +1,6 @@
 use Rattle.std.proofs.Common.{◌≡◌, ◌∙◌, ◌+◌, ◌++◌, ◌∷◌, [], ap, refl, sym, take}
 use Rattle.std.proofs.lemmas.List.{take_more}
-use Rattle.ariadne_safe.specs.Building.{made_of, sources_under}
+use Rattle.ariadne_safe.specs.SafeBuilding.{made_of, sources_under}
 use Rattle.ariadne_show.proofs.Ordered.{label_more, no_labels}
 use Rattle.ariadne_show.proofs.drawing.with_labels.Goals as goal
 

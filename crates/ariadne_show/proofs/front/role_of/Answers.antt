@@ -3,7 +3,7 @@ use Rattle.std.specs.Prelude.{option_map}
 use Rattle.ariadne_parse.specs.Arrows.{bare_head_in}
 use Rattle.ariadne_parse.specs.ArrowsTold.{bare_of, bare_told}
 use Rattle.ariadne_parse.specs.FrontsTold.{front_told}
-use Rattle.ariadne_show.specs.Fronts.{has_no_role, is_bare_head, tells_place, tells_scope}
+use Rattle.ariadne_show.specs.WaitingLines.{has_no_role, is_bare_head, tells_place, tells_scope}
 use Rattle.ariadne_show.proofs.front.role_of.Goals as goal
 
 -- what is read of nothing is nothing

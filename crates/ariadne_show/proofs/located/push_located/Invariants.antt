@@ -1,7 +1,7 @@
 use Rattle.std.proofs.Common.{◌≡◌, ◌++◌, map, take}
 use Rattle.ariadne_outputs.specs.Located.{locations_of}
 use Rattle.ariadne_show.specs.Found.{files_of}
-use Rattle.ariadne_show.specs.Located.{located_in}
+use Rattle.ariadne_show.specs.LinesAndColumns.{located_in}
 use Rattle.ariadne_show.proofs.located.push_located.Given as goal
 
 -- where the places that are passed stand

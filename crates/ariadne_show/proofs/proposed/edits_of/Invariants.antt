@@ -1,6 +1,6 @@
 use Rattle.std.specs.Prelude.{take}
 use Rattle.std.specs.List.{AllZip}
-use Rattle.ariadne_show.specs.Proposed.{IsEdit}
+use Rattle.ariadne_show.specs.DrawnProposals.{IsEdit}
 use Rattle.ariadne_show.proofs.proposed.edits_of.Given as goal
 
 -- the changes that are passed have their edits

@@ -1,8 +1,8 @@
 use Rattle.std.proofs.Common.{◌≡◌, ◌∙◌, ◌+◌, ◌++◌, ◌∷◌, [], ap, subst, sym, take}
 use Rattle.std.proofs.lemmas.List.{take_more}
 use Rattle.ariadne_show.specs.Found.{files_of}
-use Rattle.ariadne_show.specs.Proposed.{none_sketched, AreSketched}
-use Rattle.ariadne_show.specs.Read.{sources_in}
+use Rattle.ariadne_show.specs.DrawnProposals.{none_sketched, AreSketched}
+use Rattle.ariadne_show.specs.ReadFiles.{sources_in}
 use Rattle.ariadne_show.proofs.Proposing.{sketched_more}
 use Rattle.ariadne_show.proofs.proposed.sketches.Goals as goal
 

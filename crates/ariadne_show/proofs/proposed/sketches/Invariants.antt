@@ -1,7 +1,7 @@
 use Rattle.std.specs.Prelude.{take}
 use Rattle.ariadne_show.specs.Found.{files_of}
-use Rattle.ariadne_show.specs.Proposed.{AreSketched}
-use Rattle.ariadne_show.specs.Read.{sources_in}
+use Rattle.ariadne_show.specs.DrawnProposals.{AreSketched}
+use Rattle.ariadne_show.specs.ReadFiles.{sources_in}
 use Rattle.ariadne_show.proofs.proposed.sketches.Given as goal
 
 -- the proposals that are passed are drawn, or left out

@@ -1,7 +1,7 @@
 use Rattle.std.proofs.Common.{◌≡◌, ◌∙◌, ℕ, List, ap, subst, sym}
 use Rattle.std.specs.Prelude.{string_bytes, None, Some}
 use Rattle.ariadne_edits.specs.declared.edit.Edit.{Edit}
-use Rattle.ariadne_show.specs.Proposed.{are_shown, not_shown, not_there, refused, shown, way_text, AreRows, IsWayDrawn}
+use Rattle.ariadne_show.specs.DrawnProposals.{are_shown, not_shown, not_there, refused, shown, way_text, AreRows, IsWayDrawn}
 use Rattle.ariadne_show.proofs.proposed.text_of.Goals as goal
 
 -- the file doesn't have its changes

@@ -1,5 +1,5 @@
 use Rattle.std.proofs.lemmas.List.{take_all}
-use Rattle.ariadne_show.specs.Proposed.{no_way}
+use Rattle.ariadne_show.specs.DrawnProposals.{no_way}
 use Rattle.ariadne_show.proofs.Proposing.{no_item, some_item, way_without, ways_all, ways_more}
 use Rattle.ariadne_show.proofs.proposed.texts_of.Goals as goal
 

@@ -1,6 +1,6 @@
 use Rattle.std.specs.Prelude.{take, string_bytes, Some}
 use Rattle.std.specs.List.{AllZip}
-use Rattle.ariadne_show.specs.Proposed.{IsWayDrawn}
+use Rattle.ariadne_show.specs.DrawnProposals.{IsWayDrawn}
 use Rattle.ariadne_show.proofs.proposed.texts_of.Given as goal
 
 -- the ways that are passed have their texts

@@ -1,7 +1,7 @@
 use Rattle.std.proofs.Common.{◌∙◌, ap, refl}
 use Rattle.std.specs.Prelude.{chars}
 use Rattle.ariadne_safe.specs.Sources.{sources_of}
-use Rattle.ariadne_show.specs.Read.{shown_text}
+use Rattle.ariadne_show.specs.ReadFiles.{shown_text}
 use Rattle.ariadne_show.proofs.Reading.{held_behind}
 use Rattle.ariadne_show.proofs.shelf.hold.Goals as goal
 

@@ -3,7 +3,7 @@ use Rattle.std.proofs.Common.{refl, ap, ◌∙◌}
 use Rattle.std.proofs.lemmas.Result.{IfOk-weaker}
 use Rattle.clap.specs.Words.{with_rule}
 use Rattle.std.specs.List.{fold}
-use Rattle.ariadne_show.specs.Words.{choices, switches}
+use Rattle.ariadne_show.specs.CommandWords.{choices, switches}
 use Rattle.ariadne_show.proofs.Commands.{with_one, with_settings}
 use Rattle.ariadne_show.proofs.words.command.Goals as goal
 

@@ -1,6 +1,6 @@
 use Rattle.std.proofs.Common.{rules, refl, ◌∙◌}
 use Rattle.std.proofs.lemmas.Result.{IfOk-weaker}
-use Rattle.ariadne_show.specs.Words.{AreNames, Names}
+use Rattle.ariadne_show.specs.CommandWords.{AreNames, Names}
 use Rattle.ariadne_show.proofs.Commands.{with_one}
 use Rattle.ariadne_show.proofs.words.with_choices.Goals as goal
 

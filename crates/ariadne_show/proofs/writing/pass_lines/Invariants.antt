@@ -1,5 +1,5 @@
 use Rattle.std.specs.Prelude.{take}
-use Rattle.ariadne_show.specs.Fronts.{bytes_in}
+use Rattle.ariadne_show.specs.WaitingLines.{bytes_in}
 use Rattle.ariadne_show.specs.Writing.{out_of, HavePassed}
 use Rattle.ariadne_show.proofs.writing.pass_lines.Given as goal
 

@@ -1,5 +1,5 @@
 use Rattle.std.specs.Prelude.{take}
-use Rattle.ariadne_show.specs.Fronts.{passing_of}
+use Rattle.ariadne_show.specs.WaitingLines.{passing_of}
 use Rattle.ariadne_show.specs.Writing.{out_of, HavePassed}
 use Rattle.ariadne_show.proofs.writing.pass_waiting.Given as goal
 

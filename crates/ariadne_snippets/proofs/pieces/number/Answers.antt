@@ -1,6 +1,6 @@
 use Rattle.std.proofs.Common.{◌≡◌, ◌∙◌, ap, arith}
 use Rattle.std.proofs.lemmas.Str.{IsCharBoundary-end, IsCharBoundary-start}
-use Rattle.ariadne_snippets.specs.Pieces.{digits_in}
+use Rattle.ariadne_snippets.specs.RowPieces.{digits_in}
 use Rattle.ariadne_snippets.proofs.Texts.{digits_boundary, no_number, a_number}
 use Rattle.ariadne_snippets.proofs.pieces.number.Goals as goal
 

@@ -1,6 +1,6 @@
 use Rattle.std.proofs.Common.{[]}
 use Rattle.std.proofs.lemmas.List.Elements.{All-nil, All-push, All-same}
-use Rattle.ariadne_snippets.specs.Pieces.{IsIn}
+use Rattle.ariadne_snippets.specs.RowPieces.{IsIn}
 use Rattle.ariadne_snippets.specs.declared.put.Insertion.{Insertion}
 use Rattle.ariadne_snippets.proofs.Endings.{in_same}
 use Rattle.ariadne_snippets.proofs.Puts.{first_in, more_in, second_in, trimmed_in}

@@ -1,6 +1,6 @@
 use Rattle.std.proofs.Common.{[], rules}
 use Rattle.std.proofs.lemmas.List.Elements.{All-nil, All-same}
-use Rattle.ariadne_snippets.specs.Pieces.{IsIn}
+use Rattle.ariadne_snippets.specs.RowPieces.{IsIn}
 use Rattle.ariadne_snippets.specs.declared.rows.Piece.{Piece}
 use Rattle.ariadne_snippets.proofs.Endings.{end_of_all, end_of_rest, in_by_end, in_front_of, in_further, in_same}
 use Rattle.ariadne_snippets.proofs.rows.pieces.Goals as goal

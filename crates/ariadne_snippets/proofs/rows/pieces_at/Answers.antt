@@ -1,6 +1,6 @@
 use Rattle.std.proofs.Common.{[], rules}
 use Rattle.std.proofs.lemmas.List.Elements.{All-nil, All-push, All-same}
-use Rattle.ariadne_snippets.specs.Pieces.{IsIn}
+use Rattle.ariadne_snippets.specs.RowPieces.{IsIn}
 use Rattle.ariadne_snippets.specs.declared.rows.Piece.{Piece}
 use Rattle.ariadne_snippets.proofs.Endings.{end_of_all, in_by_end, in_further}
 use Rattle.ariadne_snippets.proofs.rows.pieces_at.Goals as goal

@@ -1,5 +1,5 @@
 use Rattle.std.proofs.lemmas.List.Elements.{All-push, All-same}
-use Rattle.ariadne_snippets.specs.Pieces.{IsIn}
+use Rattle.ariadne_snippets.specs.RowPieces.{IsIn}
 use Rattle.ariadne_snippets.specs.declared.rows.Piece.{Piece}
 use Rattle.ariadne_snippets.proofs.Endings.{end_of_rest, in_by_end, in_by_trim, in_further, in_same}
 use Rattle.ariadne_snippets.proofs.rows.push_piece.Goals as goal

@@ -1,6 +1,6 @@
 -- What is drawn is what was accepted.
 use Rattle.std.proofs.Common.{ap, ◌∙◌}
-use Rattle.ariadne_accept.specs.Drawn.{world}
+use Rattle.ariadne_accept.specs.CacheReads.{world}
 use Rattle.ariadne_picture.specs.Canvas.{canvas}
 use Rattle.ariadne_picture.specs.Print.{printed}
 use Rattle.ariadne_picture.proofs.Reading.EveryHeadline.{every-headline}

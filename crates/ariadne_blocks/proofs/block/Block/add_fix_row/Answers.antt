@@ -2,8 +2,8 @@ use Rattle.std.proofs.Common.{◌∙◌, ap}
 use Rattle.std.proofs.lemmas.Result.{on_ok_weaker}
 use Rattle.ariadne_parse.specs.FixRows.{fix_row_told}
 use Rattle.ariadne_blocks.specs.Blocks.{view_of, with_help_of_row, with_proposed}
-use Rattle.ariadne_blocks.specs.FixRows.{unescaped}
-use Rattle.ariadne_blocks.specs.Proposed.{edit_with}
+use Rattle.ariadne_blocks.specs.FixChanges.{unescaped}
+use Rattle.ariadne_blocks.specs.ProposedByRows.{edit_with}
 use Rattle.ariadne_blocks.proofs.block.Block.add_fix_row.Goals as goal
 
 -- the row's help is there, and then what it proposes

@@ -2,7 +2,7 @@ use Rattle.std.proofs.Common.{◌∙◌, ap, sym}
 use Rattle.std.proofs.lemmas.Result.{on_ok_weaker}
 use Rattle.ariadne_parse.specs.FixRows.{fix_row_told}
 use Rattle.ariadne_blocks.specs.Blocks.{view_of}
-use Rattle.ariadne_blocks.specs.FixRows.{is_told_in}
+use Rattle.ariadne_blocks.specs.FixChanges.{is_told_in}
 use Rattle.ariadne_blocks.proofs.Changed.{help_is, told_already, told_now}
 use Rattle.ariadne_blocks.proofs.block.Block.add_help_of_row.Goals as goal
 

@@ -2,7 +2,7 @@ use Rattle.std.proofs.Common.{◌∙◌, ◌≡◌, List, ℕ, subst, sym, true}
 use Rattle.std.specs.Prelude.{option_map}
 use Rattle.std.proofs.lemmas.Result.{IfOk-weaker}
 use Rattle.ariadne_blocks.specs.Blocks.{of_snippet, without_colors, without_own, IsRow, IsRowOf}
-use Rattle.ariadne_blocks.specs.Colors.{IsBare}
+use Rattle.ariadne_blocks.specs.Uncolored.{IsBare}
 use Rattle.ariadne_blocks.specs.Files.{file_of}
 use Rattle.ariadne_blocks.proofs.block.Block.take_whole.Goals as goal
 

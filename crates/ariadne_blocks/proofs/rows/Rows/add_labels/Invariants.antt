@@ -1,7 +1,7 @@
 use Rattle.std.proofs.Common.{◌≡◌, take}
 use Rattle.std.specs.Prelude.{map, string_bytes}
 use Rattle.ariadne_parse.specs.Places.{seen}
-use Rattle.ariadne_blocks.specs.Marks.{with_labels}
+use Rattle.ariadne_blocks.specs.MarkMeanings.{with_labels}
 use Rattle.ariadne_blocks.proofs.rows.Rows.add_labels.Given as goal
 
 -- the texts that are passed were said

@@ -2,7 +2,7 @@ use Rattle.std.proofs.Common.{◌≡◌, take}
 use Rattle.std.specs.Prelude.{map, option_map, string_bytes}
 use Rattle.ariadne_parse.specs.Places.{seen}
 use Rattle.ariadne_blocks.specs.Files.{file_of}
-use Rattle.ariadne_blocks.specs.Marks.{marking_of, with_marks}
+use Rattle.ariadne_blocks.specs.MarkMeanings.{marking_of, with_marks}
 use Rattle.ariadne_blocks.proofs.rows.Rows.add_marks.Given as goal
 
 -- the marks that are passed were taken in, and nothing else of the rows changes

@@ -1,6 +1,6 @@
 -- Each page has its text.
 use Rattle.std.proofs.Common.{refl}
-use Rattle.ariadne_commands.specs.Pages.{page_text}
+use Rattle.ariadne_commands.specs.HelpPages.{page_text}
 use Rattle.ariadne_commands.proofs.pages.Page.text.Goals as goal
 
 pub returns-in-Help : goal.returns-in-Help

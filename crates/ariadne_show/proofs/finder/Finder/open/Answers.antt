@@ -4,7 +4,7 @@ use Rattle.std.specs.Prelude.{option_map}
 use Rattle.ariadne_search.specs.Search.{texts_of}
 use Rattle.ariadne_parse.specs.declared.diagnostic.Place.{Place}
 use Rattle.ariadne_parse.specs.declared.diagnostic.QuotedLine.{QuotedLine}
-use Rattle.ariadne_show.specs.Read.{AreOpened}
+use Rattle.ariadne_show.specs.ReadFiles.{AreOpened}
 use Rattle.ariadne_show.proofs.finder.Finder.open.Goals as goal
 
 -- the files were looked for where names start

@@ -3,7 +3,7 @@ use Rattle.std.proofs.lemmas.Bool.{true≢false}
 use Rattle.std.proofs.lemmas.List.{map-append}
 use Rattle.std.specs.Prelude.{List, Vec, false}
 use Rattle.std.specs.declared.alloc.Global.{Global}
-use Rattle.ariadne_show.specs.Fronts.{bytes_in, is_head_role}
+use Rattle.ariadne_show.specs.WaitingLines.{bytes_in, is_head_role}
 use Rattle.ariadne_show.specs.declared.front.Role.{Role}
 use Rattle.ariadne_show.specs.declared.front.Role.TheVariants as role
 use Rattle.ariadne_show.specs.declared.front.WaitingHead.{WaitingHead}

@@ -1,6 +1,6 @@
 use Rattle.std.proofs.Common.{◌≡◌, ◌∙◌, List, Option, None, Some, ap, refl, subst, sym}
 use Rattle.std.specs.Prelude.{Bool}
-use Rattle.ariadne_show.specs.Fronts.{added_row, IsRoleOf}
+use Rattle.ariadne_show.specs.WaitingLines.{added_row, IsRoleOf}
 use Rattle.ariadne_show.specs.Known.{behind_others}
 use Rattle.ariadne_show.specs.declared.front.Role.{Role}
 use Rattle.ariadne_show.specs.declared.front.WaitingLine.{WaitingLine}

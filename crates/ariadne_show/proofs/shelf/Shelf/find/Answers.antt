@@ -2,7 +2,7 @@ use Rattle.std.proofs.Common.{◌≡◌, ◌∙◌, ◌+◌, ◌++◌, ◌∷◌
 use Rattle.std.proofs.lemmas.List.{take_all}
 use Rattle.std.specs.Prelude.{ℕ, List, string_bytes, drop, suc, Some}
 use Rattle.ariadne_search.specs.Search.{candidates, texts_of}
-use Rattle.ariadne_show.specs.Read.{HaveSearched}
+use Rattle.ariadne_show.specs.ReadFiles.{HaveSearched}
 use Rattle.ariadne_show.proofs.Reading.{found_now, gone_more, none_found, search_begun}
 use Rattle.ariadne_show.proofs.Searching.{map_at, map_next}
 use Rattle.ariadne_show.proofs.shelf.Shelf.find.Goals as goal

@@ -1,7 +1,7 @@
 use Rattle.std.proofs.Common.{arith, refl, subst, sym}
 use Rattle.std.proofs.lemmas.List.{take_all}
 use Rattle.ariadne_parse.specs.declared.diagnostic.Place.{Place}
-use Rattle.ariadne_show.specs.Read.{IsSettledNow}
+use Rattle.ariadne_show.specs.ReadFiles.{IsSettledNow}
 use Rattle.ariadne_show.proofs.Reading.{all_opened_if, opened_more}
 use Rattle.ariadne_show.proofs.shelf.Shelf.open.Goals as goal
 

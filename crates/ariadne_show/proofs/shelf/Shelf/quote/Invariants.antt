@@ -1,5 +1,5 @@
 use Rattle.std.proofs.Common.{take}
-use Rattle.ariadne_show.specs.Read.{AreQuoted}
+use Rattle.ariadne_show.specs.ReadFiles.{AreQuoted}
 use Rattle.ariadne_show.proofs.shelf.Shelf.quote.Given as goal
 
 -- the files of the places that are passed are held

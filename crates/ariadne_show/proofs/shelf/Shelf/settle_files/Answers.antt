@@ -1,6 +1,6 @@
 use Rattle.std.proofs.Common.{arith, refl, subst, sym}
 use Rattle.ariadne_parse.specs.declared.diagnostic.Proposal.{Proposal}
-use Rattle.ariadne_show.specs.Read.{IsFileSettledNow}
+use Rattle.ariadne_show.specs.ReadFiles.{IsFileSettledNow}
 use Rattle.ariadne_show.proofs.Proposing.{settled_more}
 use Rattle.ariadne_show.proofs.shelf.Shelf.settle_files.Goals as goal
 

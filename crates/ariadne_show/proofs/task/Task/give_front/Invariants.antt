@@ -1,5 +1,5 @@
 use Rattle.std.proofs.Common.{◌≡◌}
-use Rattle.ariadne_show.specs.Read.{HaveSources}
+use Rattle.ariadne_show.specs.ReadFiles.{HaveSources}
 use Rattle.ariadne_show.specs.Shown.{at_of, giving, AreGiven}
 use Rattle.ariadne_show.proofs.task.Task.give_front.Given as goal
 

@@ -1,5 +1,5 @@
 use Rattle.std.proofs.Common.{◌∙◌, ap, refl, sym}
-use Rattle.ariadne_show.specs.Fronts.{bytes_in}
+use Rattle.ariadne_show.specs.WaitingLines.{bytes_in}
 use Rattle.ariadne_show.specs.Shown.{gave_place}
 use Rattle.ariadne_show.specs.Writing.{out_of}
 use Rattle.ariadne_show.specs.declared.known.Known.{Known}

@@ -1,4 +1,4 @@
-use Rattle.ariadne_show.specs.Read.{HaveSources}
+use Rattle.ariadne_show.specs.ReadFiles.{HaveSources}
 use Rattle.ariadne_show.specs.Shown.{at_of, AreShown}
 use Rattle.ariadne_show.proofs.task.Task.show_each.Given as goal
 

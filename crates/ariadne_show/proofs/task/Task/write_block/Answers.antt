@@ -1,5 +1,5 @@
 use Rattle.std.proofs.Common.{◌∙◌, ap}
-use Rattle.ariadne_show.specs.Fronts.{bytes_of}
+use Rattle.ariadne_show.specs.WaitingLines.{bytes_of}
 use Rattle.ariadne_show.specs.Writing.{out_of}
 use Rattle.ariadne_show.proofs.Ended.{written_if}
 use Rattle.ariadne_show.proofs.task.Task.write_block.Goals as goal

@@ -1,5 +1,5 @@
 use Rattle.std.proofs.lemmas.List.Elements.{All-same}
-use Rattle.ariadne_snippets.specs.Pieces.{IsIn}
+use Rattle.ariadne_snippets.specs.RowPieces.{IsIn}
 use Rattle.ariadne_snippets.specs.Snippets.{ArePiecesIn}
 use Rattle.ariadne_snippets.specs.declared.rows.Piece.{Piece}
 use Rattle.ariadne_snippets.proofs.Endings.{in_same}

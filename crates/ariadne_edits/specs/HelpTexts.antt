@@ -3,7 +3,7 @@ use Rattle.std.specs.Prelude.{ℕ, ◌+◌, ◌-◌, ◌^◌, min, max, Bool, tr
 use Rattle.std.specs.Prelude.{if◌then◌else◌, List, [], ◌∷◌, ◌++◌, length, replicate, decimal, codes}
 use Rattle.std.specs.Prelude.{encode_utf8_all}
 use Rattle.ariadne_base.specs.Locations.{line_text}
-use Rattle.ariadne_edits.specs.Cuts.{shown_line, text_of_counterpart}
+use Rattle.ariadne_edits.specs.Views.{shown_line, text_of_counterpart}
 use Rattle.ariadne_edits.specs.declared.cut.View.{View}
 use Rattle.ariadne_edits.specs.declared.drawing.Layout.{Layout}
 use Rattle.ariadne_edits.specs.declared.rows.Look.{Look}

@@ -11,7 +11,7 @@ use Rattle.ariadne.specs.Color.{Color}
 use Rattle.ariadne.specs.Color.TheVariants.{Blue, Fixed, Red, Yellow}
 use Rattle.ariadne.specs.IndexType.{IndexType}
 use Rattle.ariadne.specs.Report.{LabelFields, ReportFields}
-use Rattle.ariadne_safe.specs.Reports.{shown_label, shown_place}
+use Rattle.ariadne_safe.specs.SafeReports.{shown_label, shown_place}
 use Rattle.ariadne_safe.specs.declared.sources.SafeSource.{SafeSource}
 use Rattle.ariadne_parse.specs.Told.{main_of}
 use Rattle.ariadne_parse.specs.declared.diagnostic.Diagnostic.{Diagnostic}

@@ -10,8 +10,8 @@ use Rattle.ariadne_snippets.specs.declared.taken.Fix.{Fix}
 use Rattle.ariadne_snippets.specs.declared.taken.FixKind.{FixKind}
 use Rattle.ariadne_snippets.specs.declared.taken.FixKind.TheVariants.{Put, PutLine, Become, Remove}
 use Rattle.ariadne_parse.specs.FixRows.{FixRow}
-use Rattle.ariadne_parse.specs.Pieces.{in_front_of, in_front_of_text}
-use Rattle.ariadne_blocks.specs.Drawn.{is_same_spot}
+use Rattle.ariadne_parse.specs.TextPieces.{in_front_of, in_front_of_text}
+use Rattle.ariadne_blocks.specs.MarkedSpots.{is_same_spot}
 use Rattle.ariadne_blocks.specs.declared.fix_rows.Escape.{Escape}
 use Rattle.ariadne_blocks.specs.declared.fix_rows.Escape.TheVariants.{Closed, Digit, Digits, Open}
 use Rattle.ariadne_blocks.specs.declared.fix_rows.ToldChange.{ToldChange}

@@ -1,7 +1,7 @@
 -- The groups of labels that are drawn.
 use Rattle.std.specs.Prelude.{List, [], ◌∷◌}
 use Rattle.std.specs.List.{AllByRecursion}
-use Rattle.ariadne_accept.specs.Drawn.{AreDrawn}
+use Rattle.ariadne_accept.specs.CacheReads.{AreDrawn}
 use Rattle.ariadne_picture.specs.declared.label_info.LabelInfo.{LabelInfo}
 use Rattle.ariadne_picture.specs.Canvas.{same_source}
 use Rattle.ariadne_picture.specs.Groups.{AreCut}

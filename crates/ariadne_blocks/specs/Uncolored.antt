@@ -6,7 +6,7 @@ use Rattle.std.specs.Char.{is_ascii_digit}
 use Rattle.std.specs.List.{list_all}
 use Rattle.std.specs.Path.{rsplit_once}
 use Rattle.std.specs.Str.Pattern.{FindsText}
-use Rattle.ariadne_parse.specs.Pieces.{behind, in_front_of}
+use Rattle.ariadne_parse.specs.TextPieces.{behind, in_front_of}
 
 -- what clears a row
 abbrev pub clear : List ℕ
