@@ -10,7 +10,7 @@ use Rattle.ariadne_calls.specs.declared.ending.Ending.TheVariants.{Drawn, TooSho
 use Rattle.ariadne_calls.specs.declared.ending.Fault.{Fault}
 use Rattle.ariadne_calls.specs.declared.ending.Fault.TheVariants as fault
 use Rattle.ariadne_calls.specs.declared.ending.Refusal.TheVariants.{NoMemory, Faulty}
-use Rattle.ariadne_calls.specs.Ending.{Gives, GivesNumber, number_of, status_of, len_of, count_of}
+use Rattle.ariadne_calls.specs.CallStatuses.{Gives, GivesNumber, number_of, status_of, len_of, count_of}
 
 -- a fault has a number from 4 to 19
 in_reach : (f : Fault) → (4 ≤ number_of f) × (number_of f ≤ 19)

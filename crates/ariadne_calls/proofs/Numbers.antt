@@ -7,7 +7,7 @@ use Rattle.std.proofs.lemmas.Option.{slice_get-map}
 use Rattle.std.proofs.lemmas.List.{take_more}
 use Rattle.ariadne.specs.Cache.{held}
 use Rattle.ariadne.specs.Listing.{Listing}
-use Rattle.ariadne_calls.specs.Given.{contents_of, AreNamed, IsNamed}
+use Rattle.ariadne_calls.specs.CallSources.{contents_of, AreNamed, IsNamed}
 use Rattle.ariadne_calls.specs.declared.given.GivenSource.{GivenSource}
 use Rattle.ariadne_calls.specs.declared.sources.Named.{Named}
 

@@ -9,9 +9,9 @@ use Rattle.ariadne_safe.specs.Pictures.{GotNothingHidden, HidesNothing}
 use Rattle.ariadne_safe.specs.SafeReports.{WrittenFor}
 use Rattle.ariadne_safe.specs.declared.sources.NoSource.{NoSource}
 use Rattle.ariadne_safe.specs.declared.sources.SafeSource.{SafeSource}
-use Rattle.ariadne_calls.specs.Asked.{report_of}
+use Rattle.ariadne_calls.specs.RequestedReports.{report_of}
 use Rattle.ariadne_calls.specs.Safe.{AreSafe, shown_kind, shown_report}
-use Rattle.ariadne_calls.specs.Shown.{IsShownSafely, told_of}
+use Rattle.ariadne_calls.specs.CallBuffers.{IsShownSafely, told_of}
 use Rattle.ariadne_calls.specs.declared.given.GivenReport.{GivenReport}
 use Rattle.ariadne_calls.specs.declared.given.GivenSource.{GivenSource}
 use Rattle.ariadne_calls.specs.declared.given.ToldLeftOut.{ToldLeftOut}

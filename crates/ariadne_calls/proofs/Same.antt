@@ -7,8 +7,8 @@ use Rattle.std.proofs.lemmas.Bool.Decides.{leb_tells}
 use Rattle.ariadne.specs.Cache.{SameHeld}
 use Rattle.ariadne.specs.Listing.{Listing}
 use Rattle.ariadne.specs.Judging.{GrowsFor}
-use Rattle.ariadne_calls.specs.Asked.{label_of}
-use Rattle.ariadne_calls.specs.Given.{contents_of, name_in, given, name_of, listing_of, AreNamed}
+use Rattle.ariadne_calls.specs.RequestedReports.{label_of}
+use Rattle.ariadne_calls.specs.CallSources.{contents_of, name_in, given, name_of, listing_of, AreNamed}
 use Rattle.ariadne_calls.specs.declared.given.GivenLabel.{GivenLabel}
 use Rattle.ariadne_calls.specs.declared.given.GivenSource.{GivenSource}
 use Rattle.ariadne_calls.specs.declared.sources.Named.{Named}

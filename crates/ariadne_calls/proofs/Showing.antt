@@ -8,10 +8,10 @@ use Rattle.ariadne.specs.Judging.{GrowsFor}
 use Rattle.ariadne.specs.LeftOut.{LeftOut}
 use Rattle.ariadne.specs.Report.{ReportFields}
 use Rattle.ariadne.specs.Written.{IsWritten}
-use Rattle.ariadne_calls.specs.Asked.{report_of}
-use Rattle.ariadne_calls.specs.Given.{contents_of, name_in, AreNamed}
+use Rattle.ariadne_calls.specs.RequestedReports.{report_of}
+use Rattle.ariadne_calls.specs.CallSources.{contents_of, name_in, AreNamed}
 use Rattle.ariadne_calls.specs.Faults.{faults_from, label_faults}
-use Rattle.ariadne_calls.specs.Shown.{IsShown, over}
+use Rattle.ariadne_calls.specs.CallBuffers.{IsShown, over}
 use Rattle.ariadne_calls.specs.declared.given.GivenReport.{GivenReport}
 use Rattle.ariadne_calls.specs.declared.given.GivenSource.{GivenSource}
 use Rattle.ariadne_calls.specs.declared.sources.Named.{Named}

@@ -14,10 +14,10 @@ use Rattle.ariadne_calls.specs.declared.ending.Fault.{Fault}
 use Rattle.ariadne_calls.specs.declared.ending.Fault.TheVariants as fault
 use Rattle.ariadne_calls.specs.declared.ending.Refusal.{Refusal}
 use Rattle.ariadne_calls.specs.declared.ending.Refusal.TheVariants.{NoMemory, Faulty}
-use Rattle.ariadne_calls.specs.Asked.{is_as_it_is}
+use Rattle.ariadne_calls.specs.RequestedReports.{is_as_it_is}
 use Rattle.ariadne_calls.specs.ColorNumbers.{is_color}
 use Rattle.ariadne_calls.specs.Flag as flag
-use Rattle.ariadne_calls.specs.Given.{listing_of, shown_listing}
+use Rattle.ariadne_calls.specs.CallSources.{listing_of, shown_listing}
 
 -- the fault, where this is so
 abbrev pub when : Bool → Fault → List Fault

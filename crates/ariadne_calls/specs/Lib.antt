@@ -1,9 +1,9 @@
 pub mod ColorNumbers
-pub mod Given
+pub mod CallSources
 pub mod Flag
-pub mod Asked
+pub mod RequestedReports
 pub mod Safe
 pub mod Faults
-pub mod Shown
-pub mod Ending
+pub mod CallBuffers
+pub mod CallStatuses
 pub mod Suggesting

@@ -13,7 +13,7 @@ use Rattle.ariadne_safe.specs.declared.sources.SafeSource.{SafeSource}
 use Rattle.ariadne_safe.specs.Sources.{given_of, line_ends_of, listing_of as listing_in, name_of as name_in}
 use Rattle.ariadne_safe.specs.SafeReports.{shown_label, shown_place}
 use Rattle.ariadne_calls.specs.declared.given.GivenSource.{GivenSource}
-use Rattle.ariadne_calls.specs.Given.{given_text, shown_listing}
+use Rattle.ariadne_calls.specs.CallSources.{given_text, shown_listing}
 
 -- a safe source is the given one, by signs
 pub record IsSafe (s : GivenSource) (safe : SafeSource) : Type 0 where

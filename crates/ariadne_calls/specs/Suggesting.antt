@@ -18,9 +18,9 @@ use Rattle.ariadne_calls.specs.declared.suggestion.Suggested.{Suggested}
 use Rattle.ariadne_calls.specs.declared.suggestion.Suggested.TheVariants.{Told, TooShort, Refused}
 use Rattle.ariadne_calls.specs.declared.suggestion.Unsuggested.{Unsuggested}
 use Rattle.ariadne_calls.specs.declared.suggestion.Unsuggested.TheVariants.{NoMemory, Faulty}
-use Rattle.ariadne_calls.specs.Asked.{char_set_of, columns_of_tab, index_type_of}
+use Rattle.ariadne_calls.specs.RequestedReports.{char_set_of, columns_of_tab, index_type_of}
 use Rattle.ariadne_calls.specs.Flag as flag
-use Rattle.ariadne_calls.specs.Given.{listing_of}
+use Rattle.ariadne_calls.specs.CallSources.{listing_of}
 
 -- ---- the edits
 

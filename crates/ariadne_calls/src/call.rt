@@ -2,9 +2,9 @@
 
 ghost use Rattle.std.specs.Prelude.{◌≡◌, ℕ, ◌<◌, ◌≤◌, [], length, slice_get};
 ghost use Rattle.std.specs.Prelude.{IfOk, OnOk, IfErr};
-ghost use Rattle.ariadne_calls.specs.Ending.{Gives};
+ghost use Rattle.ariadne_calls.specs.CallStatuses.{Gives};
 ghost use Rattle.ariadne_calls.specs.Faults.{IsFirst, faults};
-ghost use Rattle.ariadne_calls.specs.Shown.{IsDrawn};
+ghost use Rattle.ariadne_calls.specs.CallBuffers.{IsDrawn};
 
 use crate::ending::{Ending, Refusal};
 use crate::flag;

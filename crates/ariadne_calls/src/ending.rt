@@ -1,7 +1,7 @@
 //! How a call ends.
 
 ghost use Rattle.std.specs.Prelude.{◌≡◌};
-ghost use Rattle.ariadne_calls.specs.Ending.{count_of, len_of, number_of, place_of, status_of};
+ghost use Rattle.ariadne_calls.specs.CallStatuses.{count_of, len_of, number_of, place_of, status_of};
 
 use std::alloc::{AllocError, AllocFailed};
 

@@ -1,7 +1,7 @@
 //! The labels of a report.
 
 ghost use Rattle.std.specs.Prelude.{◌≡◌, ◌++◌, [], map, IfOk, OnOk, IfErr, None};
-ghost use Rattle.ariadne_calls.specs.Asked.{label_of};
+ghost use Rattle.ariadne_calls.specs.RequestedReports.{label_of};
 ghost use Rattle.ariadne_calls.specs.ColorNumbers.{color_of};
 ghost use Rattle.ariadne_calls.specs.Faults.{IsFirst, faults_from, label_faults};
 

@@ -2,8 +2,8 @@
 
 ghost use Rattle.std.specs.Prelude.{◌≡◌, [], map, IfOk, OnOk, IfErr};
 ghost use Rattle.ariadne_calls.specs.Faults.{IsFirst, faults_over};
-ghost use Rattle.ariadne_calls.specs.Given.{listing_of};
-ghost use Rattle.ariadne_calls.specs.Shown.{IsShownAsItIs, told_of};
+ghost use Rattle.ariadne_calls.specs.CallSources.{listing_of};
+ghost use Rattle.ariadne_calls.specs.CallBuffers.{IsShownAsItIs, told_of};
 
 use crate::ending::Refusal;
 use crate::given::{GivenReport, GivenSource, ToldLeftOut};

@@ -1,7 +1,7 @@
 //! The report that a call asks for.
 
 ghost use Rattle.std.specs.Prelude.{◌≡◌, ◌++◌, ℕ, [], map, IfOk, OnOk, IfErr, None};
-ghost use Rattle.ariadne_calls.specs.Asked.{code_of, report_of};
+ghost use Rattle.ariadne_calls.specs.RequestedReports.{code_of, report_of};
 ghost use Rattle.ariadne_calls.specs.Faults.{IsFirst, faults_from, head_faults, report_faults};
 ghost use Rattle.ariadne_calls.specs.Faults.{help_faults, note_faults};
 

@@ -11,9 +11,9 @@ ghost use Rattle.ariadne_safe.specs.SafeBuilding.{sources_below, sources_under};
 ghost use Rattle.ariadne_safe.specs.SafeReports.{shown_label};
 ghost use Rattle.ariadne_safe.specs.Sources.{sources_of};
 ghost use Rattle.ariadne_calls.specs.Faults.{IsFirst, faults_over};
-ghost use Rattle.ariadne_calls.specs.Given.{shown_listing};
+ghost use Rattle.ariadne_calls.specs.CallSources.{shown_listing};
 ghost use Rattle.ariadne_calls.specs.Safe.{shown_report, under};
-ghost use Rattle.ariadne_calls.specs.Shown.{IsShownSafely};
+ghost use Rattle.ariadne_calls.specs.CallBuffers.{IsShownSafely};
 
 use crate::ending::Refusal;
 use crate::given::{GivenReport, GivenSource};

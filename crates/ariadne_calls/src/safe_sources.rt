@@ -7,7 +7,7 @@ ghost use Rattle.ariadne_safe.specs.declared.text.TextKind.TheVariants.{OneRow};
 ghost use Rattle.ariadne_safe.specs.Sources.{given_of, line_ends_of, listing_of, name_of};
 ghost use Rattle.ariadne_safe.specs.Sources.{sources_of};
 ghost use Rattle.ariadne_calls.specs.Faults.{IsFirst, faults_from, source_faults};
-ghost use Rattle.ariadne_calls.specs.Given.{shown_listing};
+ghost use Rattle.ariadne_calls.specs.CallSources.{shown_listing};
 ghost use Rattle.ariadne_calls.specs.Safe.{AreSafe, IsSafe};
 
 use crate::ending::{Fault, Refusal};

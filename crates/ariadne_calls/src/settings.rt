@@ -2,8 +2,8 @@
 
 ghost use Rattle.std.specs.Prelude.{◌≡◌, ◌≢◌, [], IfOk, OnOk, IfErr};
 ghost use Rattle.ariadne.specs.Kinds as kinds;
-ghost use Rattle.ariadne_calls.specs.Asked.{attach_of, char_set_of, columns_of_tab, config_of, config_with};
-ghost use Rattle.ariadne_calls.specs.Asked.{custom_of, has, index_type_of, kind_of};
+ghost use Rattle.ariadne_calls.specs.RequestedReports.{attach_of, char_set_of, columns_of_tab, config_of, config_with};
+ghost use Rattle.ariadne_calls.specs.RequestedReports.{custom_of, has, index_type_of, kind_of};
 ghost use Rattle.ariadne_calls.specs.Faults.{IsFirst, custom_faults, kind_faults, settings_faults};
 
 use crate::colors::color_of;

@@ -3,7 +3,7 @@
 ghost use Rattle.std.specs.Prelude.{◌≡◌, ⊤, [], IfOk, OnOk, IfErr};
 ghost use Rattle.std.proofs.Common.{ap, eqb-true};
 ghost use Rattle.ariadne_calls.specs.Faults.{IsFirst, faults_from, source_faults};
-ghost use Rattle.ariadne_calls.specs.Given.{contents_of, listing_of, name_in, AreNamed, IsNamed};
+ghost use Rattle.ariadne_calls.specs.CallSources.{contents_of, listing_of, name_in, AreNamed, IsNamed};
 
 use crate::ending::{Fault, Refusal};
 use crate::given::GivenSource;

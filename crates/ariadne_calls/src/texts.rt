@@ -4,7 +4,7 @@ ghost use Rattle.std.specs.Prelude.{◌≡◌, [], true, false, IfOk, OnOk, IfEr
 ghost use Rattle.std.specs.Str.{is_utf8};
 ghost use Rattle.std.specs.Option.{option_copied};
 ghost use Rattle.ariadne_calls.specs.Faults.{IsFirst, optional_faults, text_faults};
-ghost use Rattle.ariadne_calls.specs.Given.{given_text};
+ghost use Rattle.ariadne_calls.specs.CallSources.{given_text};
 
 use crate::ending::{Fault, Refusal};
 use crate::given::OptionalText;

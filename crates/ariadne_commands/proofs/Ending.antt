@@ -12,7 +12,7 @@ use Rattle.ariadne.specs.FileError.{FileError}
 use Rattle.ariadne_commands.specs.declared.fault.Fault.{Fault}
 use Rattle.ariadne_commands.specs.declared.fault.Fault.TheVariants.{Writer, Memory, Usage, Unread, NotUtf8}
 use Rattle.ariadne_commands.specs.declared.fault.Status.{Status}
-use Rattle.ariadne_commands.specs.Asked.{IsFaultOfWords}
+use Rattle.ariadne_commands.specs.ReadWords.{IsFaultOfWords}
 use Rattle.ariadne_commands.specs.Drawn.{Ended, EndedOver, Leaves, OverFile, OverInput, files, report_of, sources}
 use Rattle.ariadne_commands.specs.Faults.{IsFaultOfInput, status_of}
 use Rattle.ariadne_commands.specs.Words.{Asking}

@@ -14,7 +14,7 @@ use Rattle.ariadne.specs.Written.{IsWritten, Written}
 use Rattle.ariadne.specs.LeftOut.{LeftOut}
 use Rattle.ariadne.specs.declared.write_error.WriteError.{WriteError}
 use Rattle.ariadne.specs.declared.write_error.WriteError.TheVariants as write
-use Rattle.ariadne_commands.specs.Asked.{label_asking}
+use Rattle.ariadne_commands.specs.ReadWords.{label_asking}
 use Rattle.ariadne_commands.specs.declared.asked.AskedLabel.{AskedLabel}
 use Rattle.ariadne_commands.specs.Drawn.{Leaves, colored, labels_from}
 use Rattle.ariadne_commands.specs.Faults.{status_of_written, status_without}

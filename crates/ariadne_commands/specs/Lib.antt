@@ -1,5 +1,5 @@
 pub mod Words
-pub mod Asked
+pub mod ReadWords
 pub mod Watching
 pub mod Faults
 pub mod HelpPages

@@ -5,7 +5,7 @@ ghost use Rattle.std.specs.Prelude.{◌≢◌, ◌⊎◌, alloc_error, map, stri
 ghost use Rattle.std.specs.IoError.{error_kind};
 ghost use Rattle.std.specs.Str.{IsUtf8};
 ghost use Rattle.ariadne.specs.Cache.{Grows, KeepsOtherIds};
-ghost use Rattle.ariadne_commands.specs.Asked.{asking, label_asking, options_asking};
+ghost use Rattle.ariadne_commands.specs.ReadWords.{asking, label_asking, options_asking};
 ghost use Rattle.ariadne_commands.specs.Drawn.{colored, config_of, own_span, reads_input, report_of};
 ghost use Rattle.ariadne_commands.specs.Drawn.{sources, Ended, EndedOver, Leaves, OverFile};
 ghost use Rattle.ariadne_commands.specs.Faults.{IsFaultOfInput, reason_text, status_of_written};

@@ -6,8 +6,8 @@ ghost use Rattle.std.specs.Prelude.{map, option_map, string_bytes};
 ghost use Rattle.ariadne_commands.specs.HelpPages.{page_asked};
 ghost use Rattle.ariadne_commands.specs.Words.{asking_behind, asking_of, colorless, front_of as front};
 ghost use Rattle.ariadne_commands.specs.Words.{label_of, labels_of, number_of};
-ghost use Rattle.ariadne_commands.specs.Asked.{label_asking, options_asking, ReadsLabels};
-ghost use Rattle.ariadne_commands.specs.Asked.{ReadsWords};
+ghost use Rattle.ariadne_commands.specs.ReadWords.{label_asking, options_asking, ReadsLabels};
+ghost use Rattle.ariadne_commands.specs.ReadWords.{ReadsWords};
 
 use super::asked::{Asked, AskedLabel, AskedOptions};
 use super::fault::{DRAW_USAGE, Fault};

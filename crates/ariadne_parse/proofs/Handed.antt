@@ -7,8 +7,8 @@ use Rattle.std.proofs.lemmas.Option.{none-some}
 use Rattle.serde_json.specs.Data.{Data}
 use Rattle.ariadne_parse.specs.Sent.{WasSent}
 use Rattle.ariadne_parse.specs.Members.{text_at}
-use Rattle.ariadne_parse.specs.Told.{drops_value, handed_in, is_report, rustc_in, tells_gcc, tells_value, AreTold}
-use Rattle.ariadne_parse.specs.Told.{IsHeldIfAny, IsToldOfValue, told_before, told_now, told_nothing, told_others}
+use Rattle.ariadne_parse.specs.ParsedLines.{drops_value, handed_in, is_report, rustc_in, tells_gcc, tells_value, AreTold}
+use Rattle.ariadne_parse.specs.ParsedLines.{IsHeldIfAny, IsToldOfValue, told_before, told_now, told_nothing, told_others}
 use Rattle.ariadne_parse.specs.declared.diagnostic.Diagnostic.{Diagnostic}
 use Rattle.ariadne_parse.specs.declared.sent.Sent.{Sent}
 use Rattle.ariadne_parse.specs.declared.telling.Answer.TheVariants.{Nothing, Dropped, Diagnostics}

@@ -7,7 +7,7 @@ use Rattle.std.specs.List.{find}
 use Rattle.ariadne_parse.specs.declared.unit.Unit.{Unit}
 use Rattle.ariadne_parse.specs.Heads.{range_in, range_onto, ranges_in, Head}
 use Rattle.ariadne_parse.specs.Places.{seen, Seen}
-use Rattle.ariadne_parse.specs.Told.{is_own_range, others_among, own_range_of, range_place}
+use Rattle.ariadne_parse.specs.ParsedLines.{is_own_range, others_among, own_range_of, range_place}
 use Rattle.ariadne_parse.specs.declared.diagnostic.Place.{Place}
 use Rattle.ariadne_parse.specs.declared.diagnostic.Spot.{Spot}
 

@@ -1,7 +1,7 @@
 -- Lines of text that tell a diagnostic, FILE:LINE:COLUMN:RANGES: KIND: MESSAGE [CODE]. The column, the
 -- ranges, the kind and the code may be left out. Behind the column an end may stand, as :LINE:COLUMN or
 -- -COLUMN, which is the place of its last character. The line and the column may stand in parentheses,
--- as FILE(LINE,COLUMN): KIND: MESSAGE. Characters stand as their numbers, which Pieces.antt names.
+-- as FILE(LINE,COLUMN): KIND: MESSAGE. Characters stand as their numbers, which TextPieces.antt names.
 use Rattle.std.specs.Prelude.{ℕ, zero, suc, ◌+◌, ◌-◌, ◌^◌, ◌==◌, nat_lt, Bool, false, not, ◌&&◌, ◌||◌}
 use Rattle.std.specs.Prelude.{if◌then◌else◌, min, List, [], ◌∷◌, length, take, drop, codes}
 use Rattle.std.specs.Prelude.{Option, Some, None, is_some, option_map, option_and_then}

@@ -22,5 +22,5 @@ pub mod Severities
 pub mod Sgr
 pub mod Suggested
 pub mod Tallies
-pub mod Told
+pub mod ParsedLines
 pub mod ToldLines

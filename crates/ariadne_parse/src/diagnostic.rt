@@ -3,8 +3,8 @@
 ghost use Rattle.std.specs.Prelude.{◌≡◌, [], false, IfOk, None, string_bytes};
 ghost use Rattle.std.specs.Option.{option_copied};
 ghost use Rattle.ariadne_parse.specs.Severities.{severity_of};
-ghost use Rattle.ariadne_parse.specs.Told.{main_of};
-ghost use Rattle.ariadne_parse.specs.Told.{first_primary as first_primary_of};
+ghost use Rattle.ariadne_parse.specs.ParsedLines.{main_of};
+ghost use Rattle.ariadne_parse.specs.ParsedLines.{first_primary as first_primary_of};
 
 use crate::names::{is_error, is_note, is_warning};
 use crate::unit::Unit;

@@ -15,7 +15,7 @@ ghost use Rattle.ariadne_parse.specs.Gcc.{is_label as is_said_there, is_part as 
 ghost use Rattle.ariadne_parse.specs.Gcc.{location_places, note_beside, noted_place as place_noted, own_location};
 ghost use Rattle.ariadne_parse.specs.Gcc.{says_something as something_said, with_note_said, with_noted};
 ghost use Rattle.ariadne_parse.specs.GccFixes as fixes;
-ghost use Rattle.ariadne_parse.specs.Told.{is_gcc, is_gcc_list, tells_gcc};
+ghost use Rattle.ariadne_parse.specs.ParsedLines.{is_gcc, is_gcc_list, tells_gcc};
 ghost use Rattle.ariadne_parse.specs.Members.{gcc_end, gcc_place, gcc_spot, gcc_spot_at, is_gcc_more, is_gcc_note};
 ghost use Rattle.ariadne_parse.specs.Members.{items_in, list_at};
 ghost use Rattle.ariadne_parse.specs.Places.{seen};

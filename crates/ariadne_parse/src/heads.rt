@@ -3,9 +3,9 @@
 ghost use Rattle.std.specs.Prelude.{◌≡◌, ◌++◌, map, option_map, string_bytes, IfOk, OnOk};
 ghost use Rattle.std.specs.Prelude.{None};
 ghost use Rattle.ariadne_parse.specs.Places.{is_same_spot as is_of_same_spot, named, place_of, seen};
-ghost use Rattle.ariadne_parse.specs.Told.{is_own_range};
-ghost use Rattle.ariadne_parse.specs.Told.{other_places, own_place_of, own_range_of};
-ghost use Rattle.ariadne_parse.specs.Told.{IsOfHead};
+ghost use Rattle.ariadne_parse.specs.ParsedLines.{is_own_range};
+ghost use Rattle.ariadne_parse.specs.ParsedLines.{other_places, own_place_of, own_range_of};
+ghost use Rattle.ariadne_parse.specs.ParsedLines.{IsOfHead};
 ghost use Rattle.ariadne_parse.specs.ToldLines.{head_told};
 
 use crate::diagnostic::{Diagnostic, End, Look, OwnKind, Place, Spot};

@@ -5,7 +5,7 @@ ghost use Rattle.std.specs.Prelude.{◌≡◌, [], drop, option_map, MatchOption
 ghost use Rattle.std.specs.Path.{rsplit_once};
 ghost use Rattle.std.specs.Str.{IsCharBoundary};
 ghost use Rattle.ariadne_parse.specs.Heads as heads;
-ghost use Rattle.ariadne_parse.specs.Told.{is_note as is_note_head};
+ghost use Rattle.ariadne_parse.specs.ParsedLines.{is_note as is_note_head};
 ghost use Rattle.ariadne_parse.specs.ToldLines.{head_told, kind_told, IsCutAtColon};
 
 use crate::diagnostic::{Severity, Spot};

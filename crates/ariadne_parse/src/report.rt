@@ -9,7 +9,7 @@ ghost use Rattle.ariadne_parse.specs.Reports.{has_primary as has_primary_label, 
 ghost use Rattle.ariadne_parse.specs.Reports.{label_place as place_of_label, label_spot};
 ghost use Rattle.ariadne_parse.specs.Reports.{look_at, places_in, report_kind, report_unit, texts_in, whole_at};
 ghost use Rattle.ariadne_parse.specs.Reports.{IsOfReport};
-ghost use Rattle.ariadne_parse.specs.Told.{is_label as is_of_label, is_report as is_of_report};
+ghost use Rattle.ariadne_parse.specs.ParsedLines.{is_label as is_of_label, is_report as is_of_report};
 
 use crate::colors::color;
 use crate::diagnostic::{Diagnostic, End, Look, OwnKind, Place, Severity, Spot};

@@ -8,7 +8,7 @@ ghost use Rattle.ariadne_parse.specs.Proposed.{filed};
 ghost use Rattle.ariadne_parse.specs.Read.{read};
 ghost use Rattle.ariadne_parse.specs.Rustc as rustc;
 ghost use Rattle.ariadne_parse.specs.Rustc.{as_said};
-ghost use Rattle.ariadne_parse.specs.Told.{is_rustc as is_of_rustc, rustc_in};
+ghost use Rattle.ariadne_parse.specs.ParsedLines.{is_rustc as is_of_rustc, rustc_in};
 
 use crate::diagnostic::{Diagnostic, Proposal};
 use crate::json::{

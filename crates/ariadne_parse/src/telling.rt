@@ -5,10 +5,10 @@ ghost use Rattle.std.specs.Prelude.{is_some, option_map, IfOk, IfSome, IsSomeAnd
 ghost use Rattle.serde_json.specs.Data.{depth as nesting};
 ghost use Rattle.serde_json.specs.Read.{max_depth};
 ghost use Rattle.serde_json.specs.View.{view};
-ghost use Rattle.ariadne_parse.specs.Told.{begins_as_json as is_begun_as_json, tells_value};
-ghost use Rattle.ariadne_parse.specs.Told.{handed_in, reads_rustc as is_rustc_read, reads_text};
-ghost use Rattle.ariadne_parse.specs.Told.{is_of_rust as is_rust_file, unit_in as unit_of_head, value_in};
-ghost use Rattle.ariadne_parse.specs.Told.{AreTold, IsHeldIfAny, IsTold, IsToldOfHead, IsToldOfValue};
+ghost use Rattle.ariadne_parse.specs.ParsedLines.{begins_as_json as is_begun_as_json, tells_value};
+ghost use Rattle.ariadne_parse.specs.ParsedLines.{handed_in, reads_rustc as is_rustc_read, reads_text};
+ghost use Rattle.ariadne_parse.specs.ParsedLines.{is_of_rust as is_rust_file, unit_in as unit_of_head, value_in};
+ghost use Rattle.ariadne_parse.specs.ParsedLines.{AreTold, IsHeldIfAny, IsTold, IsToldOfHead, IsToldOfValue};
 ghost use Rattle.ariadne_parse.specs.Sent.{WasSent};
 ghost use Rattle.ariadne_parse.specs.Heads.{head_of_line};
 ghost use Rattle.ariadne_parse.specs.ToldLines.{head_told};

@@ -4,7 +4,7 @@ use Rattle.std.specs.Prelude.{true, false, Bool, Result, Ok, Err, OnOk, Vec}
 use Rattle.std.specs.declared.alloc.Global.{Global}
 use Rattle.ariadne_blocks.specs.declared.block.Block.{Block}
 use Rattle.ariadne_blocks.specs.declared.line.Line.{Line}
-use Rattle.ariadne_parse.specs.Told.{reads_text, IsTold}
+use Rattle.ariadne_parse.specs.ParsedLines.{reads_text, IsTold}
 use Rattle.ariadne_parse.specs.declared.diagnostic.Diagnostic.{Diagnostic}
 use Rattle.ariadne_parse.specs.declared.sent.Sent.{Sent}
 use Rattle.ariadne_parse.specs.declared.telling.Answer.{Answer}
@@ -14,12 +14,12 @@ use Rattle.ariadne_show.specs.WaitingLines.{added_row, bytes_in, IsRoleOf}
 use Rattle.ariadne_show.specs.Known.{is_waited_for, IsAboutNone, IsGivenOut, IsMoreInFront, IsNoMore}
 use Rattle.ariadne_show.specs.Known.{IsNoRowInFront, IsPlacedBy, MayNotGoOn, PlacesNone, Waits, WaitsNot}
 use Rattle.ariadne_show.specs.InputLines.{IsLineOf}
-use Rattle.ariadne_show.specs.Shown.{dropped, head as told_head, note as told_note, of_no_form, of_text, whole, AreAllShown}
-use Rattle.ariadne_show.specs.Shown.{IsLineShown}
-use Rattle.ariadne_show.specs.Shown.{At, IsAnswered, IsBegunBehind, IsFinished, IsFollowed, IsHeadShown}
-use Rattle.ariadne_show.specs.Shown.{IsLinePassed, IsNoteAddedTo, IsNoteShown, IsOtherShown, IsPlacedShown, IsReadShown}
-use Rattle.ariadne_show.specs.Shown.{IsTextShown, all_passed, began, began_placed, goes_on, head_passed, names_place}
-use Rattle.ariadne_show.specs.Shown.{no_row, note_added, note_began, note_passed, other, passed, tally, waits_in_front}
+use Rattle.ariadne_show.specs.RunOutput.{dropped, head as told_head, note as told_note, of_no_form, of_text, whole, AreAllShown}
+use Rattle.ariadne_show.specs.RunOutput.{IsLineShown}
+use Rattle.ariadne_show.specs.RunOutput.{At, IsAnswered, IsBegunBehind, IsFinished, IsFollowed, IsHeadShown}
+use Rattle.ariadne_show.specs.RunOutput.{IsLinePassed, IsNoteAddedTo, IsNoteShown, IsOtherShown, IsPlacedShown, IsReadShown}
+use Rattle.ariadne_show.specs.RunOutput.{IsTextShown, all_passed, began, began_placed, goes_on, head_passed, names_place}
+use Rattle.ariadne_show.specs.RunOutput.{no_row, note_added, note_began, note_passed, other, passed, tally, waits_in_front}
 use Rattle.ariadne_show.specs.Writing.{HasPassed, HavePassed, Out}
 use Rattle.ariadne_show.specs.DroppedTallies.{is_tally_behind}
 use Rattle.ariadne_show.specs.declared.finder.Finder.{Finder}

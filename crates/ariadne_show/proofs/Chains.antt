@@ -11,9 +11,9 @@ use Rattle.ariadne_parse.specs.declared.diagnostic.Severity.TheVariants.{Note}
 use Rattle.ariadne_show.specs.declared.options.Style.{Style}
 use Rattle.ariadne_show.specs.Drawn.{config_of, severity_kind, AreSaid, IsAbout, IsBare, IsHeadDrawn, IsPicture, IsReportOf}
 use Rattle.ariadne_show.specs.Drawn.{IsSaid, IsToldDrawn, in_one, in_lines}
-use Rattle.ariadne_show.specs.Found.{Files, Found}
+use Rattle.ariadne_show.specs.FoundPlaces.{Files, Found}
 use Rattle.ariadne_show.specs.FoundLabels.{main_in}
-use Rattle.ariadne_show.specs.Said.{first_line, lines_of}
+use Rattle.ariadne_show.specs.TextDiagnostics.{first_line, lines_of}
 use Rattle.ariadne_show.proofs.Heads.{new_bare, said_bare}
 
 -- the picture of a text, after Ok

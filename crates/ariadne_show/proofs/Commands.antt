@@ -16,13 +16,13 @@ use Rattle.clap.specs.declared.builder.arg.Arg.{Arg}
 use Rattle.clap.specs.declared.builder.command.Command.{Command}
 use Rattle.clap.specs.declared.builder.value_parser.ValueParser.{ValueParser}
 use Rattle.ariadne_show.specs.CommandWords.{AreNames, IsParsedBy, Names, bare_command, command}
-use Rattle.ariadne_show.specs.Asked.{IsNumber, IsNumberIn, IsRefusedFor, IsWidthIn, input_path, value}
+use Rattle.ariadne_show.specs.OptionMeanings.{IsNumber, IsNumberIn, IsRefusedFor, IsWidthIn, input_path, value}
 use Rattle.ariadne_show.specs.Faults.{TellsWords}
 use Rattle.ariadne_show.specs.declared.fault.Fault.{Fault}
 use Rattle.ariadne_show.specs.declared.fault.Fault.TheVariants.{NoText, Words, Unread, UnreadFile}
 use Rattle.ariadne_show.specs.declared.fault.Fault.TheVariants.{Writer, BrokenPipe, Memory}
 use Rattle.ariadne_show.specs.CommandWords.{option_rule, texts_in, typed_rule}
-use Rattle.ariadne_show.specs.Asked.{path_named, paths_named}
+use Rattle.ariadne_show.specs.OptionMeanings.{path_named, paths_named}
 use Rattle.ariadne_show.specs.declared.options.Input.{Input}
 
 -- of two that hold both, the second does

@@ -8,9 +8,9 @@ use Rattle.ariadne_parse.specs.declared.diagnostic.Diagnostic.{Diagnostic}
 use Rattle.ariadne_show.specs.Finding.{AreChangedFound, IsOpened}
 use Rattle.ariadne_show.specs.WaitingLines.{passing_of}
 use Rattle.ariadne_show.specs.Known.{AreMarksSettled}
-use Rattle.ariadne_show.specs.Shown.{At, AreAllShown, AreShown, HasNoRepeats, IsBlockFinished, IsBlockWritten, IsFinished}
-use Rattle.ariadne_show.specs.Shown.{IsLinePassed, IsSettledShown, IsWholeShown}
-use Rattle.ariadne_show.specs.Shown.{block_written, no_block}
+use Rattle.ariadne_show.specs.RunOutput.{At, AreAllShown, AreShown, HasNoRepeats, IsBlockFinished, IsBlockWritten, IsFinished}
+use Rattle.ariadne_show.specs.RunOutput.{IsLinePassed, IsSettledShown, IsWholeShown}
+use Rattle.ariadne_show.specs.RunOutput.{block_written, no_block}
 use Rattle.ariadne_show.specs.Writing.{HasPassed, HavePassed, IsShownOnce, Out}
 use Rattle.ariadne_show.specs.declared.finder.Finder.{Finder}
 use Rattle.ariadne_show.specs.declared.front.WaitingLine.{WaitingLine}

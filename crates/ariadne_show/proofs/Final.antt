@@ -4,7 +4,7 @@ use Rattle.std.specs.Prelude.{true, false, Bool, Result, Ok, Err, OnOk}
 use Rattle.std.specs.Io.KnownBytes.{Appends}
 use Rattle.ariadne_outputs.specs.declared.sarif.TheConstants.{SARIF_TAIL}
 use Rattle.ariadne_show.specs.Limits.{more_text}
-use Rattle.ariadne_show.specs.Shown.{document_head, in_document, in_lines, IsEnded, IsStarted, IsStartedIn}
+use Rattle.ariadne_show.specs.RunOutput.{document_head, in_document, in_lines, IsEnded, IsStarted, IsStartedIn}
 use Rattle.ariadne_show.specs.Sums.{line_end, sum_text}
 use Rattle.ariadne_show.specs.Writing.{is_document, is_open, Out}
 use Rattle.ariadne_show.specs.declared.options.Output.{Output}

@@ -6,8 +6,8 @@ use Rattle.ariadne_blocks.specs.declared.block.Block.{Block}
 use Rattle.ariadne_parse.specs.declared.diagnostic.Place.{Place}
 use Rattle.ariadne_show.specs.Finding.{is_held, IsPlaceSettled}
 use Rattle.ariadne_show.specs.WaitingLines.{bytes_in}
-use Rattle.ariadne_show.specs.Shown.{giving, tells_place, At, AreGiven, Giving, HasLineGone}
-use Rattle.ariadne_show.specs.Shown.{IsFrontGiven, IsPlaceGone, passed_placeless, passed_unread, told_place}
+use Rattle.ariadne_show.specs.RunOutput.{giving, tells_place, At, AreGiven, Giving, HasLineGone}
+use Rattle.ariadne_show.specs.RunOutput.{IsFrontGiven, IsPlaceGone, passed_placeless, passed_unread, told_place}
 use Rattle.ariadne_show.specs.Writing.{HavePassed, Out}
 use Rattle.ariadne_show.specs.declared.finder.Finder.{Finder}
 use Rattle.ariadne_show.specs.declared.front.Role.TheVariants as role

@@ -11,7 +11,7 @@ use Rattle.ariadne_parse.specs.declared.diagnostic.Diagnostic.{Diagnostic}
 use Rattle.ariadne_show.specs.declared.options.Style.{Style}
 use Rattle.ariadne_show.specs.Drawn.{coded, config_of, kind_of, room_in, IsAbout, IsBare, IsReportOf}
 use Rattle.ariadne_show.specs.Asides.{helps_of, notes_of, with_helps, with_notes}
-use Rattle.ariadne_show.specs.Found.{Files, Found}
+use Rattle.ariadne_show.specs.FoundPlaces.{Files, Found}
 use Rattle.ariadne_show.specs.DrawnProposals.{AreSketched}
 use Rattle.ariadne_show.specs.declared.proposed.Sketch.{Sketch}
 use Rattle.ariadne_show.specs.FoundLabels.{AreOrdered, header_of, labels_of, shown_header, with_labels}

@@ -18,7 +18,7 @@ use Rattle.ariadne_safe.specs.declared.sources.SafeSource.{SafeSource}
 use Rattle.ariadne_parse.specs.declared.diagnostic.Place.{Place}
 use Rattle.ariadne_parse.specs.declared.diagnostic.Severity.{Severity}
 use Rattle.ariadne_show.specs.declared.found.FoundPlace.{FoundPlace}
-use Rattle.ariadne_show.specs.Found.{Files, Found, found_in, found_of}
+use Rattle.ariadne_show.specs.FoundPlaces.{Files, Found, found_in, found_of}
 use Rattle.ariadne_show.specs.FoundLabels.{all_found, key_cmp, label_of, labels_of, place_key, AreOrdered, with_labels}
 
 -- a reference to what stands somewhere

@@ -7,7 +7,7 @@ use Rattle.std.proofs.lemmas.Grind.{flat_map-append}
 use Rattle.std.proofs.lemmas.List.{map-append}
 use Rattle.ariadne_blocks.specs.declared.message.MessageLine.{MessageLine}
 use Rattle.ariadne_parse.specs.declared.diagnostic.Diagnostic.{Diagnostic}
-use Rattle.ariadne_show.specs.Found.{files_of}
+use Rattle.ariadne_show.specs.FoundPlaces.{files_of}
 use Rattle.ariadne_show.specs.WaitingLines.{bytes_in, bytes_of, lines_of, passing_of}
 use Rattle.ariadne_show.specs.Limits.{drawn_after, is_drawn, limits_of}
 use Rattle.ariadne_show.specs.ReadFiles.{sources_in}

@@ -19,7 +19,7 @@ use Rattle.ariadne_parse.specs.declared.diagnostic.Change.{Change}
 use Rattle.ariadne_parse.specs.declared.diagnostic.Proposal.{Proposal}
 use Rattle.ariadne_safe.specs.declared.sources.SafeSource.{SafeSource}
 use Rattle.ariadne_show.specs.Asides.{begins_at, help_texts, helps_from, sketch_texts, texts_at, with_helps}
-use Rattle.ariadne_show.specs.Found.{Files, quoted_in, read_in}
+use Rattle.ariadne_show.specs.FoundPlaces.{Files, quoted_in, read_in}
 use Rattle.ariadne_show.specs.DrawnProposals.{all_drawn, not_drawn, not_read, one_sketched_more, page_at, sketched, span_of, way_left}
 use Rattle.ariadne_show.specs.DrawnProposals.{AreEdits, AreSketched, AreWaysDrawn, IsEdit, IsSketched, IsWayDrawn}
 use Rattle.ariadne_show.specs.ReadFiles.{AreFilesSettled, AreKept, HaveSearched, HaveSources, IsFileSettled, IsFileSettledNow}

@@ -21,7 +21,7 @@ use Rattle.ariadne_safe.specs.Visible.{visible_bytes}
 use Rattle.ariadne_safe.specs.declared.text.TextKind.TheVariants.{OneRow}
 use Rattle.ariadne_parse.specs.declared.diagnostic.Place.{Place}
 use Rattle.ariadne_parse.specs.declared.diagnostic.QuotedLine.{QuotedLine}
-use Rattle.ariadne_show.specs.Found.{Files, files_of, held_at, quoted_in, read_in, read_or_quoted}
+use Rattle.ariadne_show.specs.FoundPlaces.{Files, files_of, held_at, quoted_in, read_in, read_or_quoted}
 use Rattle.ariadne.specs.Listing.{Listing}
 use Rattle.ariadne_show.specs.Quoted.{lines_held, text_held, IsQuotedFile}
 use Rattle.ariadne_show.specs.ReadFiles.{characters, is_read, shown_text, sources_in, AreKept, AreOpened, AreQuoted, AreQuotedIn, HaveSearched}

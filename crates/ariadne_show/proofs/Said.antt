@@ -8,7 +8,7 @@ use Rattle.ariadne_parse.specs.declared.diagnostic.Place.{Place}
 use Rattle.ariadne_show.specs.declared.options.Style.{Style}
 use Rattle.ariadne_show.specs.Asides.{spot_text}
 use Rattle.ariadne_show.specs.Drawn.{AreSaid, IsSaid, one_said_more}
-use Rattle.ariadne_show.specs.Said.{said_places, said_texts, says_something}
+use Rattle.ariadne_show.specs.TextDiagnostics.{said_places, said_texts, says_something}
 
 -- one text more
 pub texts_more : (xs all : List (String Global)) (x : String Global) (text : List ℕ) → all ≡ xs ++ x ∷ []

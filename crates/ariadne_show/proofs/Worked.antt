@@ -4,7 +4,7 @@ use Rattle.clap.proofs.OnLiterals.{clap_on_literals}
 use Rattle.clap.specs.Words.{all_of}
 use Rattle.clap.specs.declared.error.ErrorKind.TheVariants.{DisplayHelp, TooManyValues, UnknownArgument, ValueValidation}
 use Rattle.ariadne_show.specs.CommandWords.{Names, entries, refusals}
-use Rattle.ariadne_show.specs.Asked.{is_on, paths_named, value}
+use Rattle.ariadne_show.specs.OptionMeanings.{is_on, paths_named, value}
 
 abbrev line : List (List ℕ)
 line = codes "--max" ∷ codes "3" ∷ codes "a.log" ∷ codes "--short" ∷ codes "-" ∷ codes "--max=5" ∷ codes "--" ∷ codes "--raw" ∷ []

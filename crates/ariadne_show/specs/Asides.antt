@@ -11,7 +11,7 @@ use Rattle.ariadne_safe.specs.Visible.{visible_bytes}
 use Rattle.ariadne_safe.specs.declared.text.TextKind.TheVariants.{Aside}
 use Rattle.ariadne_parse.specs.declared.diagnostic.Diagnostic.{Diagnostic}
 use Rattle.ariadne_parse.specs.declared.diagnostic.Place.{Place}
-use Rattle.ariadne_show.specs.Found.{Files, is_found}
+use Rattle.ariadne_show.specs.FoundPlaces.{Files, is_found}
 use Rattle.ariadne_show.specs.Wrapped.{wrapped}
 use Rattle.ariadne_show.specs.declared.proposed.Sketch.{Sketch}
 

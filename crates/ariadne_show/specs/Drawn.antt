@@ -26,10 +26,10 @@ use Rattle.ariadne_show.specs.declared.options.Style.{Style}
 use Rattle.ariadne_show.specs.declared.proposed.Room.{Room}
 use Rattle.ariadne_show.specs.declared.proposed.Sketch.{Sketch}
 use Rattle.ariadne_show.specs.Asides.{helps_of, notes_of}
-use Rattle.ariadne_show.specs.Found.{Files, Found}
+use Rattle.ariadne_show.specs.FoundPlaces.{Files, Found}
 use Rattle.ariadne_show.specs.FoundLabels.{severity_color, AreOrdered, labels_of, main_in, shown_header}
 use Rattle.ariadne_show.specs.DrawnProposals.{AreSketched}
-use Rattle.ariadne_show.specs.Said.{first_line, lines_of}
+use Rattle.ariadne_show.specs.TextDiagnostics.{first_line, lines_of}
 use Rattle.ariadne_show.specs.Widths.{IsTextWidth, without_rows}
 
 -- ---- what a report is about

@@ -19,7 +19,7 @@ use Rattle.ariadne_safe.specs.declared.sources.SafeSource.{SafeSource}
 use Rattle.ariadne_parse.specs.declared.diagnostic.Change.{Change}
 use Rattle.ariadne_parse.specs.declared.diagnostic.Proposal.{Proposal}
 use Rattle.ariadne_parse.specs.declared.diagnostic.Spot.{Spot}
-use Rattle.ariadne_show.specs.Found.{spot_by, Files, held_at}
+use Rattle.ariadne_show.specs.FoundPlaces.{spot_by, Files, held_at}
 use Rattle.ariadne_show.specs.Wrapped.{aside_columns, fits, wrapped}
 use Rattle.ariadne_show.specs.declared.held.Held.{Held}
 use Rattle.ariadne_show.specs.declared.proposed.Sketch.{Sketch}

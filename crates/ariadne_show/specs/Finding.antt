@@ -8,7 +8,7 @@ use Rattle.ariadne_search.specs.Search.{texts_of, outer_of, IsElsewhere}
 use Rattle.ariadne_search.specs.declared.search.Search.{Search}
 use Rattle.ariadne_parse.specs.declared.diagnostic.Diagnostic.{Diagnostic}
 use Rattle.ariadne_parse.specs.declared.diagnostic.Place.{Place}
-use Rattle.ariadne_show.specs.Found.{files_of, held_at, unit_in}
+use Rattle.ariadne_show.specs.FoundPlaces.{files_of, held_at, unit_in}
 use Rattle.ariadne_show.specs.LinesAndColumns.{caret_in_line}
 use Rattle.ariadne_show.specs.ReadFiles.{AreFilesSettled, AreOpened, IsSettledNow}
 use Rattle.ariadne_show.specs.declared.finder.Finder.{Finder}

@@ -13,7 +13,7 @@ use Rattle.ariadne.specs.IndexType.{IndexType}
 use Rattle.ariadne.specs.Report.{LabelFields, ReportFields}
 use Rattle.ariadne_safe.specs.SafeReports.{shown_label, shown_place}
 use Rattle.ariadne_safe.specs.declared.sources.SafeSource.{SafeSource}
-use Rattle.ariadne_parse.specs.Told.{main_of}
+use Rattle.ariadne_parse.specs.ParsedLines.{main_of}
 use Rattle.ariadne_parse.specs.declared.diagnostic.Diagnostic.{Diagnostic}
 use Rattle.ariadne_parse.specs.declared.diagnostic.End.{End}
 use Rattle.ariadne_parse.specs.declared.diagnostic.End.TheVariants.{Before, Behind, OfWord}
@@ -21,7 +21,7 @@ use Rattle.ariadne_parse.specs.declared.diagnostic.Place.{Place}
 use Rattle.ariadne_parse.specs.declared.diagnostic.Severity.{Severity}
 use Rattle.ariadne_parse.specs.declared.diagnostic.Severity.TheVariants.{Error, Warning, Note}
 use Rattle.ariadne_parse.specs.declared.diagnostic.Spot.{Spot}
-use Rattle.ariadne_show.specs.Found.{Files, Found, found_in}
+use Rattle.ariadne_show.specs.FoundPlaces.{Files, Found, found_in}
 
 -- ---- their order
 

@@ -1,11 +1,11 @@
 pub mod Asides
-pub mod Asked
+pub mod OptionMeanings
 pub mod Bounds
 pub mod ColorChoice
 pub mod Drawn
 pub mod Faults
 pub mod Finding
-pub mod Found
+pub mod FoundPlaces
 pub mod WaitingLines
 pub mod Known
 pub mod FoundLabels
@@ -16,8 +16,8 @@ pub mod HelpPages
 pub mod DrawnProposals
 pub mod Quoted
 pub mod ReadFiles
-pub mod Said
-pub mod Shown
+pub mod TextDiagnostics
+pub mod RunOutput
 pub mod Streams
 pub mod Sums
 pub mod DroppedTallies

@@ -8,7 +8,7 @@ use Rattle.ariadne_parse.specs.declared.unit.Unit.TheVariants.{Char}
 use Rattle.ariadne_parse.specs.declared.diagnostic.Place.{Place}
 use Rattle.ariadne_parse.specs.declared.diagnostic.Spot.{Spot}
 use Rattle.ariadne_outputs.specs.Located.{Location}
-use Rattle.ariadne_show.specs.Found.{Files, Found, caret_in, found_in, held_at, unit_in}
+use Rattle.ariadne_show.specs.FoundPlaces.{Files, Found, caret_in, found_in, held_at, unit_in}
 use Rattle.ariadne_show.specs.declared.held.Held.{Held}
 
 -- the line and the column of an offset in a file, of which one past the text is its end

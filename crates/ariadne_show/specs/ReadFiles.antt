@@ -13,7 +13,7 @@ use Rattle.ariadne_search.specs.declared.search.Search.{Search}
 use Rattle.ariadne_parse.specs.declared.diagnostic.Place.{Place}
 use Rattle.ariadne_parse.specs.declared.diagnostic.Proposal.{Proposal}
 use Rattle.ariadne_parse.specs.declared.diagnostic.QuotedLine.{QuotedLine}
-use Rattle.ariadne_show.specs.Found.{Files, files_of, held_at, quoted_in, read_in}
+use Rattle.ariadne_show.specs.FoundPlaces.{Files, files_of, held_at, quoted_in, read_in}
 use Rattle.ariadne_show.specs.Quoted.{lines_held, text_held, IsQuotedFile}
 use Rattle.ariadne_show.specs.declared.held.FileText.{FileText}
 use Rattle.ariadne_show.specs.declared.held.Held.{Held}

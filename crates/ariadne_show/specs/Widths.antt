@@ -6,7 +6,7 @@ use Rattle.std.specs.declared.ops.Range.{Range}
 use Rattle.ariadne.specs.Report.{ReportFields}
 use Rattle.ariadne_safe.specs.SafeReports.{HasMarginOver}
 use Rattle.ariadne_safe.specs.declared.sources.SafeSource.{SafeSource}
-use Rattle.ariadne_show.specs.Asked.{IsCountIn}
+use Rattle.ariadne_show.specs.OptionMeanings.{IsCountIn}
 use Rattle.ariadne_show.specs.declared.environment.Environment.{Environment}
 use Rattle.ariadne_show.specs.declared.options.Width.{Width}
 use Rattle.ariadne_show.specs.declared.options.Width.TheVariants.{Auto, Full, Columns}

@@ -16,7 +16,7 @@ use Rattle.ariadne_outputs.specs.Short.{short_rows}
 use Rattle.ariadne_safe.specs.declared.sources.SafeSource.{SafeSource}
 use Rattle.ariadne_parse.specs.declared.diagnostic.Diagnostic.{Diagnostic}
 use Rattle.ariadne_show.specs.Drawn.{IsToldDrawn}
-use Rattle.ariadne_show.specs.Found.{files_of, Files}
+use Rattle.ariadne_show.specs.FoundPlaces.{files_of, Files}
 use Rattle.ariadne_show.specs.Limits.{drawn_after, is_drawn, limits_of}
 use Rattle.ariadne_show.specs.LinesAndColumns.{located_in, main_first}
 use Rattle.ariadne_show.specs.ReadFiles.{sources_in}

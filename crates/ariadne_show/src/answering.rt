@@ -2,8 +2,8 @@
 
 ghost use Rattle.std.specs.Prelude.{OnOk};
 ghost use Rattle.ariadne_show.specs.ReadFiles.{HaveSources};
-ghost use Rattle.ariadne_show.specs.Shown.{at_of, IsAnswered, IsHeadShown, IsLineShown, IsNoteShown};
-ghost use Rattle.ariadne_show.specs.Shown.{IsOtherShown, IsPlacedShown, IsReadShown, IsTextShown};
+ghost use Rattle.ariadne_show.specs.RunOutput.{at_of, IsAnswered, IsHeadShown, IsLineShown, IsNoteShown};
+ghost use Rattle.ariadne_show.specs.RunOutput.{IsOtherShown, IsPlacedShown, IsReadShown, IsTextShown};
 
 use crate::fault::Fault;
 use crate::front::PlacedHead;

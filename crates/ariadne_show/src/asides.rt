@@ -11,7 +11,7 @@ ghost use Rattle.ariadne_show.specs.Asides.{notes_of, own_text, texts_at};
 ghost use Rattle.ariadne_show.specs.Asides.{column_text as text_of_column, spot_name as name_of_spot};
 ghost use Rattle.ariadne_show.specs.Asides.{spot_text as text_of_spot};
 ghost use Rattle.ariadne_show.specs.Asides.{with_helps as more_helps, with_notes as more_notes};
-ghost use Rattle.ariadne_show.specs.Found.{files_of};
+ghost use Rattle.ariadne_show.specs.FoundPlaces.{files_of};
 
 use crate::found::found_place;
 use crate::proposed::Sketch;

@@ -12,13 +12,13 @@ ghost use Rattle.ariadne_show.specs.Drawn.{room_in as room_of, severity_kind};
 ghost use Rattle.ariadne_show.specs.Drawn.{kind_of as told_kind, own_name as own_name_in};
 ghost use Rattle.ariadne_show.specs.Drawn.{AreSaid, IsHeadDrawn, IsPicture, IsReportOf, IsSaid};
 ghost use Rattle.ariadne_show.specs.Drawn.{IsToldDrawn};
-ghost use Rattle.ariadne_show.specs.Found.{files_of, found_of};
+ghost use Rattle.ariadne_show.specs.FoundPlaces.{files_of, found_of};
 ghost use Rattle.ariadne_show.specs.FoundLabels.{label_of as label_fields, labels_of, severity_color};
 ghost use Rattle.ariadne_show.specs.FoundLabels.{is_over_lines as goes_over_several};
 ghost use Rattle.ariadne_show.specs.FoundLabels.{is_underlined as underlines_show};
 ghost use Rattle.ariadne_show.specs.FoundLabels.{with_labels as more_labels};
 ghost use Rattle.ariadne_show.specs.ReadFiles.{sources_in};
-ghost use Rattle.ariadne_show.specs.Said.{first_line, lines_of};
+ghost use Rattle.ariadne_show.specs.TextDiagnostics.{first_line, lines_of};
 ghost use Rattle.ariadne_show.specs.Widths.{IsTextWidth};
 
 use crate::asides::{spot_text, with_asides};

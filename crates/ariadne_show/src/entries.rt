@@ -2,11 +2,11 @@
 
 ghost use Rattle.std.specs.Prelude.{◌≡◌, IfOk, codes, map, option_map};
 ghost use Rattle.clap.specs.Words.{found_of, one_of, rows_of};
-ghost use Rattle.ariadne_show.specs.Asked.{colors_of as colors_named, fail_on_of as fail_on_named};
-ghost use Rattle.ariadne_show.specs.Asked.{floor_of as floor_named, format_of as format_named};
-ghost use Rattle.ariadne_show.specs.Asked.{input_path, is_on as is_given, path_named, value};
-ghost use Rattle.ariadne_show.specs.Asked.{output_of as output_named, unit_of as unit_named};
-ghost use Rattle.ariadne_show.specs.Asked.{AreInputsOf, AreOptionsOf, IsCountIn, IsNumberIn, IsWidthIn};
+ghost use Rattle.ariadne_show.specs.OptionMeanings.{colors_of as colors_named, fail_on_of as fail_on_named};
+ghost use Rattle.ariadne_show.specs.OptionMeanings.{floor_of as floor_named, format_of as format_named};
+ghost use Rattle.ariadne_show.specs.OptionMeanings.{input_path, is_on as is_given, path_named, value};
+ghost use Rattle.ariadne_show.specs.OptionMeanings.{output_of as output_named, unit_of as unit_named};
+ghost use Rattle.ariadne_show.specs.OptionMeanings.{AreInputsOf, AreOptionsOf, IsCountIn, IsNumberIn, IsWidthIn};
 
 use crate::options::{Colors, FailOn, Input, Options, Output, Style, Width};
 use ariadne_parse::{Format, Reading, Severity, Unit};

@@ -2,7 +2,7 @@
 
 ghost use Rattle.std.specs.Prelude.{◌≡◌, None, OnOk};
 ghost use Rattle.ariadne_show.specs.ReadFiles.{HaveSources};
-ghost use Rattle.ariadne_show.specs.Shown.{at_of, IsBlockFinished, IsBlockWritten, IsFinished, IsLinePassed};
+ghost use Rattle.ariadne_show.specs.RunOutput.{at_of, IsBlockFinished, IsBlockWritten, IsFinished, IsLinePassed};
 
 use crate::fault::Fault;
 use crate::run::Run;

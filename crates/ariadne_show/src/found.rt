@@ -2,7 +2,7 @@
 
 ghost use Rattle.std.specs.Prelude.{◌≡◌, ◌≤◌, ◌++◌, map, option_map, IfOk, IfSome, OnOk};
 ghost use Rattle.std.specs.Option.{option_to_list};
-ghost use Rattle.ariadne_show.specs.Found.{files_of, found_in, found_of};
+ghost use Rattle.ariadne_show.specs.FoundPlaces.{files_of, found_in, found_of};
 ghost use Rattle.ariadne_show.specs.FoundLabels.{all_found, main_in, AreOrdered};
 
 use crate::shelf::Shelf;
@@ -27,7 +27,7 @@ pub struct FoundPlace<'a> {
 }
 
 /// Where a place stands, if its file could be read and has it.
-#[tactic(auto, unfolding(crate::specs::Found::found_in))]
+#[tactic(auto, unfolding(crate::specs::FoundPlaces::found_in))]
 pub fn found_place<'a>(shelf: &Shelf, place: &'a Place) -> Option<FoundPlace<'a>>
     ensures found { option_map found_of result ≡ found_in (files_of shelf.now) place.now }
     ensures forward { IfSome result (λ it. it.start ≤ it.end) }

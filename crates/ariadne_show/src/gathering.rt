@@ -4,8 +4,8 @@
 ghost use Rattle.std.specs.Prelude.{◌≡◌, None, OnOk};
 ghost use Rattle.ariadne_show.specs.WaitingLines.{bytes_in};
 ghost use Rattle.ariadne_show.specs.ReadFiles.{HaveSources};
-ghost use Rattle.ariadne_show.specs.Shown.{at_of, giving, HasLineGone, IsBegunBehind, IsFrontGiven};
-ghost use Rattle.ariadne_show.specs.Shown.{IsNoteAddedTo, IsPlaceGone};
+ghost use Rattle.ariadne_show.specs.RunOutput.{at_of, giving, HasLineGone, IsBegunBehind, IsFrontGiven};
+ghost use Rattle.ariadne_show.specs.RunOutput.{IsNoteAddedTo, IsPlaceGone};
 
 use crate::fault::Fault;
 use crate::front::{Role, WaitingLine};

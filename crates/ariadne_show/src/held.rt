@@ -1,9 +1,9 @@
 //! A file as it is held: what its columns count, and the number of its source.
 
 ghost use Rattle.std.specs.Prelude.{◌≡◌, ◌≤◌, chars, length, string_bytes, IfOk, IfSome};
-ghost use Rattle.ariadne_show.specs.Found.{caret_in, end_of, end_spot_in, mark_before, span_in};
-ghost use Rattle.ariadne_show.specs.Found.{caret_in_marks, char_at as char_in};
-ghost use Rattle.ariadne_show.specs.Found.{is_sure as is_sure_in, marked_in, own_span_in, spot_by, spot_in, unit_in};
+ghost use Rattle.ariadne_show.specs.FoundPlaces.{caret_in, end_of, end_spot_in, mark_before, span_in};
+ghost use Rattle.ariadne_show.specs.FoundPlaces.{caret_in_marks, char_at as char_in};
+ghost use Rattle.ariadne_show.specs.FoundPlaces.{is_sure as is_sure_in, marked_in, own_span_in, spot_by, spot_in, unit_in};
 ghost use Rattle.ariadne_show.specs.DrawnProposals.{span_of};
 ghost use Rattle.ariadne_show.specs.ReadFiles.{IsTextOf};
 
@@ -89,7 +89,7 @@ impl Held {
     }
 
     /// The characters of a place, whatever marks cover it.
-    #[tactic(auto, unfolding(crate::specs::Found::own_span_in))]
+    #[tactic(auto, unfolding(crate::specs::FoundPlaces::own_span_in))]
     fn own_span(&self, place: &Place) -> Option<Range<usize>>
         ensures span { result ≡ own_span_in self.now place.now }
         ensures forward { IfSome result (λ span. span.start ≤ span.end) }
@@ -100,7 +100,7 @@ impl Held {
     }
 
     /// The characters that marks cover, from a spot up to another.
-    #[tactic(auto, unfolding(crate::specs::Found::marked_in))]
+    #[tactic(auto, unfolding(crate::specs::FoundPlaces::marked_in))]
     fn marked(&self, marks: (Spot, Spot)) -> Option<Range<usize>>
         ensures span { result ≡ marked_in self.now marks }
         ensures forward { IfSome result (λ span. span.start ≤ span.end) }
@@ -111,7 +111,7 @@ impl Held {
     }
 
     /// The offset of a spot whose column counts characters.
-    #[tactic(auto, unfolding(crate::specs::Found::char_at))]
+    #[tactic(auto, unfolding(crate::specs::FoundPlaces::char_at))]
     fn char_at(&self, spot: Spot) -> Option<usize>
         ensures { result ≡ char_in self.now spot }
     {
@@ -157,7 +157,7 @@ impl Held {
     }
 
     /// The offset of the spot where a place ends: the end of its line, where it names no column.
-    #[tactic(auto, unfolding(crate::specs::Found::end_spot_in))]
+    #[tactic(auto, unfolding(crate::specs::FoundPlaces::end_spot_in))]
     fn end_at(&self, place: &Place, spot: Spot) -> usize
         ensures { result ≡ end_spot_in self.now place.now spot }
     {
@@ -188,7 +188,7 @@ impl Held {
 
     /// The offset of a spot, which is at this column where it names none. Columns count `unit`, and those
     /// that are past the mark leave out a byte order mark.
-    #[tactic(auto, unfolding(crate::specs::Found::spot_by))]
+    #[tactic(auto, unfolding(crate::specs::FoundPlaces::spot_by))]
     fn spot(&self, unit: Unit, is_past_mark: bool, spot: Spot, column: usize) -> Option<usize>
         ensures offset { result ≡ spot_by self.now unit is_past_mark spot column }
         ensures bound { IfSome result (λ offset. offset ≤ length self.now.columns) }

@@ -2,7 +2,7 @@
 
 ghost use Rattle.std.specs.Prelude.{◌≡◌, ◌++◌, option_map, string_bytes, IfOk, OnOk};
 ghost use Rattle.std.specs.Option.{option_to_list};
-ghost use Rattle.ariadne_show.specs.Found.{files_of};
+ghost use Rattle.ariadne_show.specs.FoundPlaces.{files_of};
 ghost use Rattle.ariadne_show.specs.DrawnProposals.{are_shown as can_be_shown, page_at, way_text as text_of_way};
 ghost use Rattle.ariadne_show.specs.DrawnProposals.{AreEdits, AreRows, AreSketched, AreWaysDrawn, IsSketched};
 ghost use Rattle.ariadne_show.specs.DrawnProposals.{line_columns as columns_of_line, number_columns as columns_of_numbers};

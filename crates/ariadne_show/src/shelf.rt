@@ -7,7 +7,7 @@ ghost use Rattle.ariadne_safe.specs.Sources.{sources_of};
 ghost use Rattle.ariadne_search.specs.Search.{candidates as all_candidates};
 ghost use Rattle.ariadne_blocks.specs.Files.{file_of};
 ghost use Rattle.ariadne_show.specs.Finding.{file_at};
-ghost use Rattle.ariadne_show.specs.Found.{files_of, held_at, read_in};
+ghost use Rattle.ariadne_show.specs.FoundPlaces.{files_of, held_at, read_in};
 ghost use Rattle.ariadne_show.specs.LinesAndColumns.{caret_in_line as caret_in_its_line};
 ghost use Rattle.ariadne_show.specs.ReadFiles.{is_read as is_read_in, sources_in, AreQuoted, HaveSearched};
 ghost use Rattle.ariadne_show.specs.ReadFiles.{HaveSources, HaveTried, AreOpened, IsHeldBehind};

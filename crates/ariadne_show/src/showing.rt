@@ -2,7 +2,7 @@
 
 ghost use Rattle.std.specs.Prelude.{◌≡◌, IfOk, OnOk};
 ghost use Rattle.ariadne_show.specs.ReadFiles.{HaveSources};
-ghost use Rattle.ariadne_show.specs.Shown.{at_of, HaveLinesEnded, IsAllShown, IsEnded, IsInputShown, IsStarted};
+ghost use Rattle.ariadne_show.specs.RunOutput.{at_of, HaveLinesEnded, IsAllShown, IsEnded, IsInputShown, IsStarted};
 ghost use Rattle.ariadne_show.specs.Sums.{line_end as end_before};
 ghost use Rattle.ariadne_show.specs.Writing.{is_open as is_line_open, out_of};
 

@@ -3,7 +3,7 @@
 ghost use Rattle.std.specs.Prelude.{◌≡◌, OnOk};
 ghost use Rattle.ariadne_show.specs.WaitingLines.{bytes_in};
 ghost use Rattle.ariadne_show.specs.ReadFiles.{HaveSources};
-ghost use Rattle.ariadne_show.specs.Shown.{at_of, IsSettledShown};
+ghost use Rattle.ariadne_show.specs.RunOutput.{at_of, IsSettledShown};
 ghost use Rattle.ariadne_show.specs.Writing.{out_of, HasPassed, HavePassed, IsShownOnce};
 
 use crate::fault::Fault;

@@ -2,9 +2,9 @@
 
 ghost use Rattle.std.specs.Prelude.{◌≡◌, ◌∷◌, [], ◌++◌, string_bytes, IfOk, OnOk};
 ghost use Rattle.std.specs.Option.{option_to_list};
-ghost use Rattle.ariadne_show.specs.Found.{files_of};
-ghost use Rattle.ariadne_show.specs.Said.{lines_of, missing_main, said_places, said_texts};
-ghost use Rattle.ariadne_show.specs.Said.{missing_text as text_of_missing};
+ghost use Rattle.ariadne_show.specs.FoundPlaces.{files_of};
+ghost use Rattle.ariadne_show.specs.TextDiagnostics.{lines_of, missing_main, said_places, said_texts};
+ghost use Rattle.ariadne_show.specs.TextDiagnostics.{missing_text as text_of_missing};
 
 use crate::asides::spot_text;
 use crate::shelf::Shelf;

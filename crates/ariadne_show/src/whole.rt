@@ -2,7 +2,7 @@
 
 ghost use Rattle.std.specs.Prelude.{OnOk};
 ghost use Rattle.ariadne_show.specs.ReadFiles.{HaveSources};
-ghost use Rattle.ariadne_show.specs.Shown.{at_of, AreAllShown, AreShown, IsWholeShown};
+ghost use Rattle.ariadne_show.specs.RunOutput.{at_of, AreAllShown, AreShown, IsWholeShown};
 
 use crate::fault::Fault;
 use crate::run::Run;

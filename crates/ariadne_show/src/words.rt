@@ -2,7 +2,7 @@
 
 ghost use Rattle.std.specs.Prelude.{◌≡◌, IfErr, IfOk, fold, map, string_bytes};
 ghost use Rattle.clap.specs.Words.{app_of, rule_of, with_rule};
-ghost use Rattle.ariadne_show.specs.Asked.{IsAskedBy, IsRefusedFor};
+ghost use Rattle.ariadne_show.specs.OptionMeanings.{IsAskedBy, IsRefusedFor};
 ghost use Rattle.ariadne_show.specs.Faults.{TellsWords};
 ghost use Rattle.ariadne_show.specs.CommandWords.{choice_rule, choices, command as command_app};
 ghost use Rattle.ariadne_show.specs.CommandWords.{inputs_rule, number_rule, option_rule, switch_rule};

@@ -2,7 +2,7 @@
 
 ghost use Rattle.std.specs.Prelude.{◌≡◌, IfOk, OnOk, map, string_bytes};
 ghost use Rattle.ariadne_outputs.specs.Located.{locations_of};
-ghost use Rattle.ariadne_show.specs.Found.{files_of};
+ghost use Rattle.ariadne_show.specs.FoundPlaces.{files_of};
 ghost use Rattle.ariadne_show.specs.WaitingLines.{bytes_in, bytes_of, passing_of};
 ghost use Rattle.ariadne_show.specs.Limits.{limits_of as limits_in};
 ghost use Rattle.ariadne_show.specs.ReadFiles.{sources_in};

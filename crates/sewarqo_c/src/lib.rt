@@ -3,13 +3,13 @@
 //! `bindings/c/sewarqo.h` is this crate's surface as C reads it.
 #![tactic(auto)]
 
-ghost use Rattle.ariadne_calls.specs.Ending.{GivesNumber};
+ghost use Rattle.ariadne_calls.specs.CallStatuses.{GivesNumber};
 ghost use Rattle.ariadne_calls.specs.Suggesting.{GivesNumber as SuggestsNumber};
 
 use ariadne_calls::{GivenReport, GivenSource, GivenSuggestion, ToldLeftOut, draw, suggest};
 use std::alloc::Global;
 
-/// Draws a report over sources into `out`, and returns a status (`specs/Ending.antt` of `ariadne_calls`).
+/// Draws a report over sources into `out`, and returns a status (`specs/CallStatuses.antt` of `ariadne_calls`).
 ///
 /// After 0 and 1 the first `len` bytes of `out` are the picture. `count` labels are left out, and the
 /// first of them stand in `left`, as far as it has room. After 2 the picture takes `len` bytes, and

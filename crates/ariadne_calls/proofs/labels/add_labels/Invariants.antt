@@ -1,6 +1,6 @@
 -- The labels so far are in the report, and have no fault.
 use Rattle.std.proofs.Common.{◌≡◌, ◌++◌, map, take, drop}
-use Rattle.ariadne_calls.specs.Asked.{label_of}
+use Rattle.ariadne_calls.specs.RequestedReports.{label_of}
 use Rattle.ariadne_calls.specs.Faults.{faults_from, label_faults}
 use Rattle.ariadne_calls.proofs.labels.add_labels.Given as goal
 

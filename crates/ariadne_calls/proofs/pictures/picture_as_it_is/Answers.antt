@@ -1,7 +1,7 @@
 -- What is read are the given sources.
 use Rattle.std.proofs.Common.{◌∙◌, ap, map}
 use Rattle.std.specs.Prelude.{length}
-use Rattle.ariadne_calls.specs.Shown.{told_of}
+use Rattle.ariadne_calls.specs.CallBuffers.{told_of}
 use Rattle.ariadne_calls.proofs.Firsts.{none_in_labels}
 use Rattle.ariadne_calls.proofs.Showing.{shown}
 use Rattle.ariadne_calls.proofs.pictures.picture_as_it_is.Goals as goal

@@ -3,7 +3,7 @@ use Rattle.std.proofs.Common.{◌≡◌, ◌∙◌, ap, refl, map}
 use Rattle.ariadne.specs.Kinds as kinds
 use Rattle.ariadne_safe.specs.SafeBuilding.{kind_in}
 use Rattle.ariadne_calls.specs.Safe.{shown_kind}
-use Rattle.ariadne_calls.specs.Shown.{told_of}
+use Rattle.ariadne_calls.specs.CallBuffers.{told_of}
 use Rattle.ariadne_calls.specs.declared.ending.Refusal.TheVariants.{NoMemory}
 use Rattle.ariadne_calls.proofs.Firsts.{handed_on}
 use Rattle.ariadne_calls.proofs.Safely.{drawn_safely}

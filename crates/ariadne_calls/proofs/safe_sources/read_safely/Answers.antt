@@ -1,6 +1,6 @@
 -- One source more is read, or its first fault is the first.
 use Rattle.ariadne_calls.specs.Faults.{source_faults}
-use Rattle.ariadne_calls.specs.Given.{shown_listing}
+use Rattle.ariadne_calls.specs.CallSources.{shown_listing}
 use Rattle.ariadne_calls.proofs.Firsts.{handed_on, met, passed}
 use Rattle.ariadne_calls.proofs.SafeSources.{more_safe}
 use Rattle.ariadne_calls.proofs.safe_sources.read_safely.Goals as goal

@@ -2,7 +2,7 @@
 use Rattle.std.proofs.Common.{◌≡◌, take, drop}
 use Rattle.ariadne_safe.specs.Sources.{sources_of}
 use Rattle.ariadne_calls.specs.Faults.{faults_from, source_faults}
-use Rattle.ariadne_calls.specs.Given.{shown_listing}
+use Rattle.ariadne_calls.specs.CallSources.{shown_listing}
 use Rattle.ariadne_calls.specs.Safe.{AreSafe}
 use Rattle.ariadne_calls.proofs.safe_sources.read_safely.Given as goal
 

@@ -1,5 +1,5 @@
 -- One source more is read, or its first fault is the first.
-use Rattle.ariadne_calls.specs.Given.{listing_of}
+use Rattle.ariadne_calls.specs.CallSources.{listing_of}
 use Rattle.ariadne_calls.specs.Faults.{source_faults}
 use Rattle.ariadne_calls.proofs.Firsts.{handed_on, met, passed}
 use Rattle.ariadne_calls.proofs.Numbers.{more_named}

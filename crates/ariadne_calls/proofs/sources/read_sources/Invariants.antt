@@ -1,7 +1,7 @@
 -- The sources so far are items, and have no fault.
 use Rattle.std.proofs.Common.{◌≡◌, take, drop}
 use Rattle.ariadne_calls.specs.Faults.{faults_from, source_faults}
-use Rattle.ariadne_calls.specs.Given.{listing_of, AreNamed}
+use Rattle.ariadne_calls.specs.CallSources.{listing_of, AreNamed}
 use Rattle.ariadne_calls.proofs.sources.read_sources.Given as goal
 
 abbrev pub invariant-loop-number : goal.invariant-loop-number

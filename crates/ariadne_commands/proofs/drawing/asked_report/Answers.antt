@@ -1,6 +1,6 @@
 -- Each turn adds the label that comes next.
 use Rattle.std.proofs.Common.{refl}
-use Rattle.ariadne_commands.specs.Asked.{asking}
+use Rattle.ariadne_commands.specs.ReadWords.{asking}
 use Rattle.ariadne_commands.specs.Drawn.{report_of}
 use Rattle.ariadne_commands.proofs.Writing.{label_next, report_next}
 use Rattle.ariadne_commands.proofs.drawing.asked_report.Goals as goal

@@ -1,7 +1,7 @@
 use Rattle.std.proofs.Common.{◌≡◌, map, drop}
 use Rattle.std.specs.Prelude.{◌++◌}
 use Rattle.ariadne.specs.Generator.{usual_start}
-use Rattle.ariadne_commands.specs.Asked.{asking, label_asking}
+use Rattle.ariadne_commands.specs.ReadWords.{asking, label_asking}
 use Rattle.ariadne_commands.specs.Drawn.{labels_from, report_of}
 use Rattle.ariadne_commands.proofs.drawing.asked_report.Given as goal
 

@@ -3,7 +3,7 @@ use Rattle.std.proofs.Common.{◌≡◌, ◌<◌, length, arith, tests, ap, ◌�
 use Rattle.std.proofs.lemmas.List.{map-append}
 use Rattle.std.specs.Prelude.{string_bytes, Some}
 use Rattle.std.specs.Slice.Iter.{chunks_rest, chunks_size}
-use Rattle.ariadne_commands.specs.Asked.{label_asking}
+use Rattle.ariadne_commands.specs.ReadWords.{label_asking}
 use Rattle.ariadne_commands.proofs.Threes.{few_ask, label_more, none_before, three_ask}
 use Rattle.ariadne_commands.specs.Words.{label_of}
 use Rattle.ariadne_commands.proofs.words.read_labels.Goals as goal

@@ -1,7 +1,7 @@
 use Rattle.std.proofs.Common.{◌≡◌, map, option_map, string_bytes}
 use Rattle.std.specs.Prelude.{◌++◌}
 use Rattle.std.specs.Slice.Iter.{chunks_rest, chunks_size}
-use Rattle.ariadne_commands.specs.Asked.{label_asking}
+use Rattle.ariadne_commands.specs.ReadWords.{label_asking}
 use Rattle.ariadne_commands.specs.Words.{labels_of}
 use Rattle.ariadne_commands.proofs.words.read_labels.Given as goal
 

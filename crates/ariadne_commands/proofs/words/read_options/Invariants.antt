@@ -1,6 +1,6 @@
 use Rattle.std.proofs.Common.{◌≡◌, length, map, string_bytes, false}
 use Rattle.ariadne_commands.specs.Words.{asking_after, asking_of}
-use Rattle.ariadne_commands.specs.Asked.{options_asking}
+use Rattle.ariadne_commands.specs.ReadWords.{options_asking}
 use Rattle.ariadne_commands.proofs.words.read_options.Given as goal
 
 -- each turn takes a word from those that are left, or two

@@ -1,7 +1,7 @@
 use Rattle.std.proofs.Common.{rules, ◌∙◌, refl, arith, sym}
 use Rattle.std.specs.Str.{IsUtf8}
 use Rattle.ariadne_parse.specs.Heads.{is_among}
-use Rattle.ariadne_parse.specs.Told.{own_range_of}
+use Rattle.ariadne_parse.specs.ParsedLines.{own_range_of}
 use Rattle.ariadne_parse.specs.ToldLines.{head_told}
 use Rattle.ariadne_parse.proofs.Ranges.{range_found, range_none, range_passed, range_past}
 use Rattle.ariadne_parse.proofs.heads.own_range.Goals as goal

@@ -3,7 +3,7 @@ use Rattle.std.specs.List.{find}
 use Rattle.std.specs.Str.{IsUtf8}
 use Rattle.ariadne_parse.specs.Heads.{is_among, ranges_in}
 use Rattle.ariadne_parse.specs.ToldLines.{head_told}
-use Rattle.ariadne_parse.specs.Told.{own_range_of}
+use Rattle.ariadne_parse.specs.ParsedLines.{own_range_of}
 use Rattle.ariadne_parse.proofs.heads.own_range.Given as goal
 
 -- none of the ranges so far has the place

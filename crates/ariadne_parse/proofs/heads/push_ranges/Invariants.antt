@@ -2,7 +2,7 @@ use Rattle.std.specs.Prelude.{◌≡◌, ◌++◌, ◌-◌, map}
 use Rattle.std.specs.Str.{IsUtf8}
 use Rattle.ariadne_parse.specs.Heads.{ranges_in}
 use Rattle.ariadne_parse.specs.Places.{seen}
-use Rattle.ariadne_parse.specs.Told.{other_places, others_among}
+use Rattle.ariadne_parse.specs.ParsedLines.{other_places, others_among}
 use Rattle.ariadne_parse.specs.ToldLines.{head_told}
 use Rattle.ariadne_parse.proofs.heads.push_ranges.Given as goal
 

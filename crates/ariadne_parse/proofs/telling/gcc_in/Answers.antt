@@ -1,6 +1,6 @@
 use Rattle.std.proofs.Common.{◌<◌, length, rules, sym}
 use Rattle.serde_json.specs.View.{items_view}
-use Rattle.ariadne_parse.specs.Told.{of_gcc}
+use Rattle.ariadne_parse.specs.ParsedLines.{of_gcc}
 use Rattle.ariadne_parse.proofs.telling.gcc_in.Goals as goal
 
 -- the diagnostics that stand in the list

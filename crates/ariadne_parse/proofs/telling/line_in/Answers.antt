@@ -2,7 +2,7 @@ use Rattle.std.proofs.Common.{◌≡◌, ◌∙◌, if◌then◌else◌, Option,
 use Rattle.std.specs.Prelude.{Bool}
 use Rattle.ariadne_parse.specs.Heads.{Head}
 use Rattle.ariadne_parse.specs.declared.unit.Unit.{Unit}
-use Rattle.ariadne_parse.specs.Told.{is_note, IsOfHead, IsToldOfHead}
+use Rattle.ariadne_parse.specs.ParsedLines.{is_note, IsOfHead, IsToldOfHead}
 use Rattle.ariadne_parse.specs.ToldLines.{head_told}
 use Rattle.ariadne_parse.specs.declared.telling.Answer.{Answer}
 use Rattle.ariadne_parse.specs.declared.telling.Answer.TheVariants.{Head as Header, Note}

@@ -1,5 +1,5 @@
 use Rattle.std.proofs.Common.{◌∙◌, sym}
-use Rattle.ariadne_parse.specs.Told.{of_report}
+use Rattle.ariadne_parse.specs.ParsedLines.{of_report}
 use Rattle.ariadne_parse.proofs.telling.report_in.Goals as goal
 
 -- the report that the value is

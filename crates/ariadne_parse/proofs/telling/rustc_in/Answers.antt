@@ -3,7 +3,7 @@ use Rattle.std.specs.Prelude.{List, Option, ℕ}
 use Rattle.serde_json.specs.View.{view}
 use Rattle.ariadne_parse.specs.Read.{read, Read}
 use Rattle.ariadne_parse.specs.Rustc.{rustc_read}
-use Rattle.ariadne_parse.specs.Told.{of_rustc}
+use Rattle.ariadne_parse.specs.ParsedLines.{of_rustc}
 use Rattle.ariadne_parse.proofs.telling.rustc_in.Goals as goal
 
 -- the diagnostic that the value is, or hands on, with the manifest that it names

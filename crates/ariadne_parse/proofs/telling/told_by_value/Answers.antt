@@ -1,5 +1,5 @@
 use Rattle.serde_json.specs.View.{view}
-use Rattle.ariadne_parse.specs.Told.{is_of_cargo, reads_rustc}
+use Rattle.ariadne_parse.specs.ParsedLines.{is_of_cargo, reads_rustc}
 use Rattle.ariadne_parse.proofs.Handed.{again, both, not_first, not_second, nothing, now, others}
 use Rattle.ariadne_parse.proofs.telling.told_by_value.Goals as goal
 use Rattle.ariadne_parse.proofs.telling.told_by_value.Goals.{then-reads_rustc+else-is_of_cargo, else-reads_rustc}

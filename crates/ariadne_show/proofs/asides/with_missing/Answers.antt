@@ -3,7 +3,7 @@ use Rattle.std.proofs.lemmas.List.{take_more}
 use Rattle.std.specs.Prelude.{ℕ}
 use Rattle.ariadne_safe.specs.SafeBuilding.{made_of}
 use Rattle.ariadne_show.specs.Asides.{missing_notes, with_notes}
-use Rattle.ariadne_show.specs.Found.{files_of}
+use Rattle.ariadne_show.specs.FoundPlaces.{files_of}
 use Rattle.ariadne_show.proofs.Notes.{missing_more, no_notes, notes_more}
 use Rattle.ariadne_show.proofs.asides.with_missing.Goals as goal
 

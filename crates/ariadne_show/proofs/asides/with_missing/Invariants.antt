@@ -1,7 +1,7 @@
 use Rattle.std.proofs.Common.{◌≡◌, take}
 use Rattle.ariadne_safe.specs.SafeBuilding.{made_of, sources_under}
 use Rattle.ariadne_show.specs.Asides.{missing_notes, with_notes}
-use Rattle.ariadne_show.specs.Found.{files_of}
+use Rattle.ariadne_show.specs.FoundPlaces.{files_of}
 use Rattle.ariadne_show.proofs.asides.with_missing.Given as goal
 
 -- the places that are passed have their notes

@@ -5,7 +5,7 @@ use Rattle.ariadne_safe.specs.declared.report.SafeBuilder.{SafeBuilder}
 use Rattle.ariadne_safe.specs.Visible.{visible_bytes}
 use Rattle.ariadne_safe.specs.declared.text.TextKind.TheVariants.{Aside}
 use Rattle.ariadne_show.specs.Asides.{missing_notes, spot_text, with_notes}
-use Rattle.ariadne_show.specs.Found.{files_of}
+use Rattle.ariadne_show.specs.FoundPlaces.{files_of}
 use Rattle.ariadne_show.specs.Wrapped.{wrapped}
 use Rattle.ariadne_show.proofs.Notes.{no_notes, not_missing, one_missing}
 use Rattle.ariadne_show.proofs.asides.with_missing_one.Goals as goal

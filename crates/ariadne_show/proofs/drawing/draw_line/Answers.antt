@@ -4,7 +4,7 @@ use Rattle.ariadne.specs.Kinds.{kind_of as kind_of_fields}
 use Rattle.ariadne.specs.Report.{ReportFields}
 use Rattle.ariadne_safe.specs.SafeBuilding.{kind_in, made_of, report_of as report_in, sources_below}
 use Rattle.ariadne_show.specs.Drawn.{IsAbout, IsBare}
-use Rattle.ariadne_show.specs.Said.{first_line}
+use Rattle.ariadne_show.specs.TextDiagnostics.{first_line}
 use Rattle.ariadne_show.proofs.Chains.{head_drawn_if}
 use Rattle.ariadne_show.proofs.Heads.{about, begun_bare, new_bare}
 use Rattle.ariadne_show.proofs.drawing.draw_line.Goals as goal

@@ -1,7 +1,7 @@
 use Rattle.std.proofs.Common.{◌≡◌, ◌∙◌, ◌+◌, ◌++◌, ◌∷◌, [], ap, sym, take}
 use Rattle.std.proofs.lemmas.List.{take_all, take_more}
 use Rattle.ariadne_show.specs.Drawn.{nothing_said}
-use Rattle.ariadne_show.specs.Said.{said_texts}
+use Rattle.ariadne_show.specs.TextDiagnostics.{said_texts}
 use Rattle.ariadne_show.proofs.Said.{all_said, said_more}
 use Rattle.ariadne_show.proofs.drawing.draw_lines.Goals as goal
 

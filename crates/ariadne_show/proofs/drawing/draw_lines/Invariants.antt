@@ -1,6 +1,6 @@
 use Rattle.std.specs.Prelude.{take}
 use Rattle.ariadne_show.specs.Drawn.{AreSaid}
-use Rattle.ariadne_show.specs.Said.{said_texts}
+use Rattle.ariadne_show.specs.TextDiagnostics.{said_texts}
 use Rattle.ariadne_show.proofs.drawing.draw_lines.Given as goal
 
 -- the texts that are passed have been drawn

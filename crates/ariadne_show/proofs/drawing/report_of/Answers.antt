@@ -12,7 +12,7 @@ use Rattle.ariadne_show.specs.declared.proposed.Room.{Room}
 use Rattle.ariadne_show.specs.declared.proposed.Sketch.{Sketch}
 use Rattle.ariadne_show.specs.declared.found.FoundPlace.{FoundPlace}
 use Rattle.ariadne_show.specs.Asides.{helps_of, notes_of, with_helps, with_notes}
-use Rattle.ariadne_show.specs.Found.{files_of, found_of}
+use Rattle.ariadne_show.specs.FoundPlaces.{files_of, found_of}
 use Rattle.ariadne_show.specs.FoundLabels.{labels_of, shown_header, with_labels, AreOrdered}
 use Rattle.ariadne_show.specs.DrawnProposals.{AreSketched}
 use Rattle.ariadne_show.specs.ReadFiles.{sources_in}

@@ -1,6 +1,6 @@
 use Rattle.std.proofs.Common.{◌≡◌, map, take}
 use Rattle.ariadne_safe.specs.SafeBuilding.{made_of, sources_under}
-use Rattle.ariadne_show.specs.Found.{found_of}
+use Rattle.ariadne_show.specs.FoundPlaces.{found_of}
 use Rattle.ariadne_show.specs.FoundLabels.{labels_of, with_labels}
 use Rattle.ariadne_show.proofs.drawing.with_labels.Given as goal
 

@@ -1,5 +1,5 @@
 use Rattle.std.proofs.Common.{◌≡◌, map, take}
-use Rattle.ariadne_show.specs.Asked.{input_path, path_named}
+use Rattle.ariadne_show.specs.OptionMeanings.{input_path, path_named}
 use Rattle.ariadne_show.proofs.entries.inputs_named.Given as goal
 
 -- the inputs are those of the names so far

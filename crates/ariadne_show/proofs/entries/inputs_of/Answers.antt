@@ -3,7 +3,7 @@ use Rattle.std.proofs.Common.{rules, codes, ◌∙◌, sym, ap, map}
 use Rattle.clap.specs.Words.{found_of}
 use Rattle.clap.proofs.WalkLemmas.{raw_values-rows}
 use Rattle.std.proofs.lemmas.Result.{IfOk-weaker}
-use Rattle.ariadne_show.specs.Asked.{input_path}
+use Rattle.ariadne_show.specs.OptionMeanings.{input_path}
 use Rattle.ariadne_show.proofs.Commands.{names_given, no_inputs, some_inputs}
 use Rattle.ariadne_show.proofs.entries.inputs_of.Goals as goal
 

@@ -1,6 +1,6 @@
 use Rattle.std.proofs.Common.{◌≡◌, ◌∙◌, ◌+◌, ◌++◌, ◌∷◌, [], ap, sym, map, take}
 use Rattle.std.proofs.lemmas.List.{take_more}
-use Rattle.ariadne_show.specs.Found.{files_of, found_of}
+use Rattle.ariadne_show.specs.FoundPlaces.{files_of, found_of}
 use Rattle.ariadne_show.proofs.Ordered.{found_more}
 use Rattle.ariadne_show.proofs.found.found_places.Goals as goal
 

@@ -1,5 +1,5 @@
 use Rattle.std.proofs.Common.{◌≡◌, map, take}
-use Rattle.ariadne_show.specs.Found.{files_of, found_of}
+use Rattle.ariadne_show.specs.FoundPlaces.{files_of, found_of}
 use Rattle.ariadne_show.specs.FoundLabels.{all_found}
 use Rattle.ariadne_show.proofs.found.found_places.Given as goal
 

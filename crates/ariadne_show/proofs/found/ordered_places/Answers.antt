@@ -2,7 +2,7 @@ use Rattle.std.proofs.Common.{rules, ℕ}
 use Rattle.std.proofs.lemmas.Fn.{always_returns_same}
 use Rattle.std.specs.Prelude.{Bool}
 use Rattle.ariadne_show.specs.declared.found.FoundPlace.{FoundPlace}
-use Rattle.ariadne_show.specs.Found.{files_of, found_of}
+use Rattle.ariadne_show.specs.FoundPlaces.{files_of, found_of}
 use Rattle.ariadne_show.specs.FoundLabels.{place_key}
 use Rattle.ariadne_show.proofs.Ordered.{ordered}
 use Rattle.ariadne_show.proofs.found.ordered_places.Goals as goal

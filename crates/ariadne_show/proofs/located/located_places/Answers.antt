@@ -3,7 +3,7 @@ use Rattle.std.specs.Prelude.{List}
 use Rattle.ariadne_outputs.specs.Located.{Location, locations_of}
 use Rattle.ariadne_outputs.specs.declared.located.Located.{Located}
 use Rattle.ariadne_parse.specs.declared.diagnostic.Place.{Place}
-use Rattle.ariadne_show.specs.Found.{files_of}
+use Rattle.ariadne_show.specs.FoundPlaces.{files_of}
 use Rattle.ariadne_show.specs.LinesAndColumns.{located_in, main_first}
 use Rattle.ariadne_show.proofs.Locating.{all_located}
 use Rattle.ariadne_show.proofs.located.located_places.Goals as goal

@@ -2,7 +2,7 @@ use Rattle.std.proofs.Common.{◌∙◌, ◌++◌, ◌∷◌, [], ap, append-nil
 use Rattle.std.proofs.lemmas.List.{map-append}
 use Rattle.std.specs.Prelude.{List}
 use Rattle.ariadne_outputs.specs.Located.{Location, location_of, locations_of}
-use Rattle.ariadne_show.specs.Found.{files_of}
+use Rattle.ariadne_show.specs.FoundPlaces.{files_of}
 use Rattle.ariadne_show.specs.LinesAndColumns.{located_in}
 use Rattle.ariadne_show.proofs.Searching.{map_next}
 use Rattle.ariadne_show.proofs.located.push_located.Goals as goal

@@ -1,6 +1,6 @@
 use Rattle.std.proofs.Common.{◌≡◌, ◌++◌, map, take}
 use Rattle.ariadne_outputs.specs.Located.{locations_of}
-use Rattle.ariadne_show.specs.Found.{files_of}
+use Rattle.ariadne_show.specs.FoundPlaces.{files_of}
 use Rattle.ariadne_show.specs.LinesAndColumns.{located_in}
 use Rattle.ariadne_show.proofs.located.push_located.Given as goal
 

@@ -1,5 +1,5 @@
 use Rattle.std.proofs.Common.{ap, refl, subst}
-use Rattle.ariadne_show.specs.Shown.{at_of, IsInputShown}
+use Rattle.ariadne_show.specs.RunOutput.{at_of, IsInputShown}
 use Rattle.ariadne_show.specs.Writing.{out_of}
 use Rattle.ariadne_show.specs.declared.showing.Ending.{Ending}
 use Rattle.ariadne_show.specs.declared.writing.Shown.{Shown}

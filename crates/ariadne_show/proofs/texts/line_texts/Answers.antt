@@ -1,5 +1,5 @@
 use Rattle.std.proofs.Common.{◌∙◌, ◌++◌, ap}
-use Rattle.ariadne_show.specs.Said.{said_places, said_texts}
+use Rattle.ariadne_show.specs.TextDiagnostics.{said_places, said_texts}
 use Rattle.ariadne_show.proofs.Said.{all_lines}
 use Rattle.ariadne_show.proofs.texts.line_texts.Goals as goal
 

@@ -1,7 +1,7 @@
 use Rattle.std.proofs.Common.{◌≡◌, ◌∙◌, ◌+◌, ◌++◌, ◌∷◌, [], ap, append-nil, refl, sym, take}
 use Rattle.std.proofs.lemmas.List.{take_more}
 use Rattle.std.specs.Prelude.{string_bytes}
-use Rattle.ariadne_show.specs.Said.{said_texts}
+use Rattle.ariadne_show.specs.TextDiagnostics.{said_texts}
 use Rattle.ariadne_show.proofs.Said.{and_more, texts_more}
 use Rattle.ariadne_show.proofs.texts.push_copies.Goals as goal
 

@@ -1,5 +1,5 @@
 use Rattle.std.proofs.Common.{◌≡◌, ◌++◌, take}
-use Rattle.ariadne_show.specs.Said.{said_texts}
+use Rattle.ariadne_show.specs.TextDiagnostics.{said_texts}
 use Rattle.ariadne_show.proofs.texts.push_copies.Given as goal
 
 -- the texts that are passed stand behind

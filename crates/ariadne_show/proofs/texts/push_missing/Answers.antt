@@ -2,8 +2,8 @@ use Rattle.std.proofs.Common.{◌∙◌, ◌++◌, ◌∷◌, [], ap, append-nil
 use Rattle.std.specs.Prelude.{Option, option_map}
 use Rattle.std.specs.Option.{option_to_list}
 use Rattle.ariadne_parse.specs.declared.diagnostic.Place.{Place}
-use Rattle.ariadne_show.specs.Found.{files_of}
-use Rattle.ariadne_show.specs.Said.{missing_text, said_texts}
+use Rattle.ariadne_show.specs.FoundPlaces.{files_of}
+use Rattle.ariadne_show.specs.TextDiagnostics.{missing_text, said_texts}
 use Rattle.ariadne_show.proofs.Said.{texts_more}
 use Rattle.ariadne_show.proofs.texts.push_missing.Goals as goal
 

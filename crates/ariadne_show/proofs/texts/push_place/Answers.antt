@@ -1,5 +1,5 @@
 use Rattle.std.proofs.Common.{◌∙◌, ◌++◌, ◌∷◌, [], ap, append-nil, refl, rules, sym}
-use Rattle.ariadne_show.specs.Said.{said_texts}
+use Rattle.ariadne_show.specs.TextDiagnostics.{said_texts}
 use Rattle.ariadne_show.proofs.Said.{no_place, one_place, texts_more}
 use Rattle.ariadne_show.proofs.texts.push_place.Goals as goal
 

@@ -1,6 +1,6 @@
 use Rattle.std.proofs.Common.{◌≡◌, ◌∙◌, ◌+◌, ◌++◌, ◌∷◌, [], ap, append-nil, sym, take}
 use Rattle.std.proofs.lemmas.List.{take_more}
-use Rattle.ariadne_show.specs.Said.{said_places, said_texts}
+use Rattle.ariadne_show.specs.TextDiagnostics.{said_places, said_texts}
 use Rattle.ariadne_show.proofs.Said.{and_more, places_more}
 use Rattle.ariadne_show.proofs.texts.push_places.Goals as goal
 

@@ -1,5 +1,5 @@
 use Rattle.std.proofs.Common.{◌≡◌, ◌++◌, take}
-use Rattle.ariadne_show.specs.Said.{said_places, said_texts}
+use Rattle.ariadne_show.specs.TextDiagnostics.{said_places, said_texts}
 use Rattle.ariadne_show.proofs.texts.push_places.Given as goal
 
 -- what the places that are passed say stands behind

@@ -1,6 +1,6 @@
 use Rattle.std.proofs.Common.{refl, subst, Option, ℕ}
 use Rattle.ariadne_blocks.specs.Blocks.{IsBegun}
-use Rattle.ariadne_show.specs.Shown.{at_of}
+use Rattle.ariadne_show.specs.RunOutput.{at_of}
 use Rattle.ariadne_show.proofs.task.Task.begin.Goals as goal
 
 -- it has the places of the lines that waited

@@ -1,7 +1,7 @@
 use Rattle.std.proofs.Common.{◌∙◌, ap}
 use Rattle.std.specs.Prelude.{Vec}
 use Rattle.std.specs.declared.alloc.Global.{Global}
-use Rattle.ariadne_show.specs.Shown.{at_of}
+use Rattle.ariadne_show.specs.RunOutput.{at_of}
 use Rattle.ariadne_show.specs.Writing.{out_of}
 use Rattle.ariadne_show.specs.declared.front.WaitingLine.{WaitingLine}
 use Rattle.ariadne_show.proofs.Ended.{finished_if}

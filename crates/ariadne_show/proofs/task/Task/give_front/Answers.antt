@@ -1,5 +1,5 @@
 use Rattle.std.proofs.Common.{◌∙◌, ap, refl}
-use Rattle.ariadne_show.specs.Shown.{none_given, one_given_more}
+use Rattle.ariadne_show.specs.RunOutput.{none_given, one_given_more}
 use Rattle.ariadne_show.specs.declared.known.Known.{Known}
 use Rattle.ariadne_show.proofs.task.Task.give_front.Goals as goal
 

@@ -1,6 +1,6 @@
 use Rattle.std.proofs.Common.{◌≡◌}
 use Rattle.ariadne_show.specs.ReadFiles.{HaveSources}
-use Rattle.ariadne_show.specs.Shown.{at_of, giving, AreGiven}
+use Rattle.ariadne_show.specs.RunOutput.{at_of, giving, AreGiven}
 use Rattle.ariadne_show.proofs.task.Task.give_front.Given as goal
 
 -- the lines so far have gone to the diagnostic, or passed

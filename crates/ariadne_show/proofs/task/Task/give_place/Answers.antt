@@ -1,6 +1,6 @@
 use Rattle.std.proofs.Common.{◌∙◌, ap, refl, sym}
 use Rattle.ariadne_show.specs.WaitingLines.{bytes_in}
-use Rattle.ariadne_show.specs.Shown.{gave_place}
+use Rattle.ariadne_show.specs.RunOutput.{gave_place}
 use Rattle.ariadne_show.specs.Writing.{out_of}
 use Rattle.ariadne_show.specs.declared.known.Known.{Known}
 use Rattle.ariadne_show.proofs.Given.{unread_if}

@@ -1,4 +1,4 @@
-use Rattle.ariadne_show.specs.Shown.{at_of}
+use Rattle.ariadne_show.specs.RunOutput.{at_of}
 use Rattle.ariadne_show.specs.Writing.{out_of}
 use Rattle.ariadne_show.proofs.Ended.{line_passed_if}
 use Rattle.ariadne_show.proofs.task.Task.pass_line.Goals as goal

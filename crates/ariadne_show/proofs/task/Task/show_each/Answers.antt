@@ -1,4 +1,4 @@
-use Rattle.ariadne_show.specs.Shown.{none_shown, one_shown_more}
+use Rattle.ariadne_show.specs.RunOutput.{none_shown, one_shown_more}
 use Rattle.ariadne_show.proofs.task.Task.show_each.Goals as goal
 
 -- none at first

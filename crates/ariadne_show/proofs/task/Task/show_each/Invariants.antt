@@ -1,5 +1,5 @@
 use Rattle.ariadne_show.specs.ReadFiles.{HaveSources}
-use Rattle.ariadne_show.specs.Shown.{at_of, AreShown}
+use Rattle.ariadne_show.specs.RunOutput.{at_of, AreShown}
 use Rattle.ariadne_show.proofs.task.Task.show_each.Given as goal
 
 -- the diagnostics so far have been shown, and the files that were read have their sources

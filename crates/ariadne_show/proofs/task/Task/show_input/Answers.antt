@@ -1,4 +1,4 @@
-use Rattle.ariadne_show.specs.Shown.{at_of}
+use Rattle.ariadne_show.specs.RunOutput.{at_of}
 use Rattle.ariadne_show.proofs.task.Task.show_input.Goals as goal
 
 -- the lines, and what is held

@@ -1,5 +1,5 @@
 use Rattle.std.proofs.Common.{List, ℕ, subst}
-use Rattle.ariadne_show.specs.Shown.{at_of, no_line, one_line_more, IsLineShown}
+use Rattle.ariadne_show.specs.RunOutput.{at_of, no_line, one_line_more, IsLineShown}
 use Rattle.ariadne_show.proofs.task.Task.show_lines.Goals as goal
 
 -- none at first

@@ -1,5 +1,5 @@
 use Rattle.ariadne_show.specs.ReadFiles.{HaveSources}
-use Rattle.ariadne_show.specs.Shown.{at_of, AreLinesShown}
+use Rattle.ariadne_show.specs.RunOutput.{at_of, AreLinesShown}
 use Rattle.ariadne_show.proofs.task.Task.show_lines.Given as goal
 
 -- the lines that were read have been shown, and the files that were read have their sources

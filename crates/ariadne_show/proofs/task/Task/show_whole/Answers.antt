@@ -1,5 +1,5 @@
 use Rattle.std.proofs.Common.{refl}
-use Rattle.ariadne_show.specs.Shown.{at_of}
+use Rattle.ariadne_show.specs.RunOutput.{at_of}
 use Rattle.ariadne_show.specs.Writing.{out_of}
 use Rattle.ariadne_show.proofs.Ended.{whole_if}
 use Rattle.ariadne_show.proofs.task.Task.show_whole.Goals as goal

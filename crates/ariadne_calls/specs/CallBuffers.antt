@@ -19,8 +19,8 @@ use Rattle.ariadne_safe.specs.SafeReports.{WrittenFor}
 use Rattle.ariadne_calls.specs.declared.given.GivenReport.{GivenReport}
 use Rattle.ariadne_calls.specs.declared.given.GivenSource.{GivenSource}
 use Rattle.ariadne_calls.specs.declared.given.ToldLeftOut.{ToldLeftOut}
-use Rattle.ariadne_calls.specs.Asked.{is_as_it_is, report_of}
-use Rattle.ariadne_calls.specs.Given.{given, name_of}
+use Rattle.ariadne_calls.specs.RequestedReports.{is_as_it_is, report_of}
+use Rattle.ariadne_calls.specs.CallSources.{given, name_of}
 use Rattle.ariadne_calls.specs.Safe.{AreSafe, shown_report}
 
 -- what is read of numbered sources

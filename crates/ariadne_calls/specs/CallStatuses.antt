@@ -10,7 +10,7 @@ use Rattle.ariadne_calls.specs.declared.ending.Fault.{Fault}
 use Rattle.ariadne_calls.specs.declared.ending.Fault.TheVariants as fault
 use Rattle.ariadne_calls.specs.declared.ending.Refusal.TheVariants.{NoMemory, Faulty}
 use Rattle.ariadne_calls.specs.Faults.{IsFirst, faults}
-use Rattle.ariadne_calls.specs.Shown.{Holds, IsTooLong}
+use Rattle.ariadne_calls.specs.CallBuffers.{Holds, IsTooLong}
 
 -- the number of a fault
 abbrev pub number_of : Fault → ℕ

@@ -4,11 +4,11 @@ use Rattle.std.specs.Prelude.{filter, Option, Some, None, is_some, option_map, S
 use Rattle.std.specs.Prelude.{codes, decimal}
 use Rattle.std.specs.Option.{option_to_list}
 use Rattle.std.specs.declared.alloc.Global.{Global}
-use Rattle.ariadne_parse.specs.Told.{main_of}
+use Rattle.ariadne_parse.specs.ParsedLines.{main_of}
 use Rattle.ariadne_parse.specs.declared.diagnostic.Diagnostic.{Diagnostic}
 use Rattle.ariadne_parse.specs.declared.diagnostic.Place.{Place}
 use Rattle.ariadne_show.specs.Asides.{spot_text}
-use Rattle.ariadne_show.specs.Found.{Files, held_at}
+use Rattle.ariadne_show.specs.FoundPlaces.{Files, held_at}
 
 -- what places say: where each begins that says something, and that
 abbrev pub says_something : Place → Bool

@@ -18,7 +18,7 @@ use Rattle.ariadne_outputs.specs.declared.sarif.TheConstants.{BEHIND, FRONT, SAR
 use Rattle.ariadne_search.specs.Folders.{entered_in, followed}
 use Rattle.ariadne_search.specs.Make.{move_in}
 use Rattle.ariadne_parse.specs.Places.{seen}
-use Rattle.ariadne_parse.specs.Told.{reads_text, IsTold}
+use Rattle.ariadne_parse.specs.ParsedLines.{reads_text, IsTold}
 use Rattle.ariadne_parse.specs.declared.diagnostic.Diagnostic.{Diagnostic}
 use Rattle.ariadne_parse.specs.declared.diagnostic.Place.{Place}
 use Rattle.ariadne_parse.specs.declared.telling.Answer.{Answer}

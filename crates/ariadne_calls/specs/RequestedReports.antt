@@ -18,7 +18,7 @@ use Rattle.ariadne_calls.specs.declared.given.GivenReport.{GivenReport}
 use Rattle.ariadne_calls.specs.declared.given.Text.{Text}
 use Rattle.ariadne_calls.specs.ColorNumbers.{color_of}
 use Rattle.ariadne_calls.specs.Flag as flag
-use Rattle.ariadne_calls.specs.Given.{given_text}
+use Rattle.ariadne_calls.specs.CallSources.{given_text}
 
 -- a bit of the flags is set
 abbrev pub has : ℕ → ℕ → Bool
