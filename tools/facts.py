@@ -242,7 +242,7 @@ def of_compared():
         yield f"| `{workload}`: {text} | {{}} | {{}} | {{}} | {{}} |", *told, here, speed_of_rust(workload), original, peer
     yield "| {} instructions |", found(SPEED, r"`two` takes C ([\d,]+) instructions")
     yield "over {} diagnostics of rustc | {} seconds, {} MB |", *filtered()
-    yield "fewer than {}.", found("crates/ariadne_rows/src/group_lists.rt", r"A group of (2\^32) labels")
+    yield "fewer than {}.", found("crates/ariadne_rows/src/label_lists.rt", r"A group of (2\^32) labels")
 
 
 def of_cpp():

@@ -16,7 +16,7 @@ use Rattle.ariadne_picture.specs.Accept.{info_of, offset_in_chars, text_len, ver
 use Rattle.ariadne_picture.specs.Canvas.{group_id, group_source, header_offset, section_of, texts_of}
 use Rattle.ariadne_picture.specs.Lists.{joined}
 use Rattle.ariadne_picture.specs.Pieces.{Section, Texts, location_text, row_pieces, section_rows}
-use Rattle.ariadne_picture.specs.Ranks.{Sheet, group_lines, gutter_labels}
+use Rattle.ariadne_picture.specs.Ranks.{group_lines, gutter_labels}
 use Rattle.ariadne_picture.specs.Report.{ConfigFields, LabelFields, ReportFields, World, switches_of}
 use Rattle.ariadne_picture.specs.Rows.{Row, asides, group_header, help, line_rows, note, rows, spacer, tail}
 use Rattle.ariadne_picture.proofs.Labels.DrawnLabels.{offset-order}
@@ -169,11 +169,11 @@ module _ {S Id : Type 0} (w : World S Id) (r : ReportFields S) where
 
     -- a gutter of its gutter labels is its own
     pub section_gutter : (gutter : GutterFields) → gutter.page.switches ≡ switches_of r.config → (shown : List LabelInfo)
-        → ((s : Sheet) → s.labels ≡ labels → shown ≡ gutter_labels s.labels) → gutter.positions ≡ map (λ (a : LabelInfo). a.position) shown
+        → shown ≡ gutter_labels labels → gutter.positions ≡ map (λ (a : LabelInfo). a.position) shown
         → IsOfSheet (section_of w r n (k, labels)).sheet gutter
     section_gutter gutter e shown is at = record {
       switches = e ∙ sym section_switches;
-      positions = at ∙ ap (map (λ (a : LabelInfo). a.position)) (is (section_of w r n (k, labels)).sheet section_labels);
+      positions = at ∙ ap (map (λ (a : LabelInfo). a.position)) (is ∙ ap gutter_labels (sym section_labels));
     }
 
 -- ---- its rows

@@ -17,14 +17,14 @@ use Rattle.ariadne_picture.specs.Rows.{gap, bare, line_rows, is_inside}
 use Rattle.ariadne_picture.specs.Strokes.{holds}
 use Rattle.ariadne_picture.proofs.Lists.ListFacts.{all-weaker}
 use Rattle.ariadne_picture.proofs.Rows.BarCases.{hidden-margin}
-use Rattle.ariadne_rows.specs.Sheets.{HoldersTouch, touches}
+use Rattle.ariadne_rows.specs.SnippetLabels.{HoldersTouch, LabelsFields, is_held, touches}
+use Rattle.ariadne_rows.proofs.Insides.{inside-found}
 use Rattle.ariadne_base.specs.Locations.{line_offset, line_text}
 use Rattle.ariadne_base.proofs.LocationLemmas.{offset_is}
 use Rattle.ariadne_cells.specs.Pages.{PageFields}
 use Rattle.ariadne_picture.specs.declared.switches.Switches.{Switches}
 use Rattle.ariadne_picture.specs.Pieces.{Section, Texts}
 use Rattle.ariadne_rows.specs.Headers.{IsOnPage}
-use Rattle.ariadne_rows.specs.Sheets.{GroupFields}
 use Rattle.ariadne_render.specs.DrawnLines.{AreOverLines, IsDrawnGroup, IsOverLines, begins_run}
 
 -- the line of a number is in the table
@@ -76,18 +76,19 @@ drawn-over t g switches source labels h over = subst (λ (s : Sheet). AreOverLin
 -- whether the start of a line lies inside a label, as the sheet of a drawn group tells
 pub inside-told : (t : Texts) (g : Section) (switches : Switches) (source : Listing) (labels : List LabelInfo)
     → IsDrawnGroup t g switches source labels → AreOverLines (listed_lines source) labels
-    → (group : GroupFields) (l offset : ℕ) (o : Option LineExtent) (extent : LineExtent) (result : Bool)
+    → (group : LabelsFields) (l offset : ℕ) (o : Option LineExtent) (extent : LineExtent) (result : Bool)
     → group ≡ record { labels = labels; line = l }
     → o ≡ slice_get (line_table (listed_lines source)) l → o ≡ Some extent → l < length (listed_lines source) → offset ≡ extent.offset
-    → 0 < length (line_text (listed_lines source) l)
-    → ((s : Sheet) (l : ℕ) → s.labels ≡ group.labels → group.line ≡ l → offset ≡ line_offset length s.lines l → 0 < length (line_text s.lines l)
-    → HoldersTouch s l → result ≡ is_inside s l) → result ≡ is_inside g.sheet l
-inside-told t g switches source labels h over group l offset o extent result at read there within is some f =
+    → 0 < length (line_text (listed_lines source) l) → result ≡ is_held group.labels group.line offset → result ≡ is_inside g.sheet l
+inside-told t g switches source labels h over group l offset o extent result at read there within is some held =
     let lines = ap (λ (s : Sheet). s.lines) h.sheet in
-    f g.sheet l (ap (λ (s : Sheet). s.labels) h.sheet ∙ ap (λ (g : GroupFields). g.labels) (sym at)) (ap (λ (g : GroupFields). g.line) at)
-    (is ∙ ap (λ (e : LineExtent). e.offset) (line-read o (listed_lines source) l extent read there within) ∙ offset_is (listed_lines source) l
-    ∙ ap (λ ls. line_offset length ls l) (sym lines))
-    (subst (λ ls. 0 < length (line_text ls l)) (sym lines) some) (holders-touch g.sheet l (drawn-over t g switches source labels h over))
+    let start : offset ≡ line_offset length g.sheet.lines l =
+    is ∙ ap (λ (e : LineExtent). e.offset) (line-read o (listed_lines source) l extent read there within) ∙ offset_is (listed_lines source) l
+    ∙ ap (λ ls. line_offset length ls l) (sym lines) in
+    let own : labels ≡ g.sheet.labels = ap (λ (s : Sheet). s.labels) (sym h.sheet) in
+    held ∙ (λ i. is_held (at i).labels (at i).line (start i)) ∙ ap (λ ls. is_held ls l (line_offset length g.sheet.lines l)) own
+    ∙ inside-found g.sheet l (subst (λ ls. 0 < length (line_text ls l)) (sym lines) some)
+    (holders-touch g.sheet l (drawn-over t g switches source labels h over))
 
 -- a hidden line has no margin label
 pub hidden-none : (s : Sheet) (l : ℕ) → is_hidden s l ≡ true → margin_label s.labels l ≡ None

@@ -29,9 +29,10 @@ use Rattle.ariadne_picture.proofs.Lists.Elements.{both-true}
 use Rattle.ariadne_picture.proofs.Lists.ListFacts.{all-append, all-at, all-filter, all-in_order, all-map, all-weaker}
 use Rattle.ariadne_picture.proofs.Rows.RowsThere.{all-gutter-labels}
 use Rattle.ariadne_rows.specs.Gutters.{GutterFields, IsBeside, is_beside}
-use Rattle.ariadne_rows.specs.Sheets.{events_at, events_of, labels_of}
+use Rattle.ariadne_rows.specs.SnippetLabels.{events_at, events_of, labels_of, margin_of, ranked}
 use Rattle.ariadne_rows.proofs.Events.{labels-at}
 use Rattle.ariadne_rows.proofs.GutterSteps.{margin-column-within}
+use Rattle.ariadne_rows.proofs.Ranking.{margin-found, ranked-found}
 use Rattle.ariadne_render.specs.DrawnLines.{AreOverLines, IsOverLines}
 use Rattle.ariadne_render.proofs.OverLines.{total_is}
 
@@ -73,10 +74,20 @@ len-is ls n = refl
 
 -- ---- its labels
 
--- the labels of the events that are on it
-pub labels-there : (s : Sheet) (l from to : ℕ) → slice_range (events_of s) from to ≡ events_at s l
-    → labels_of s (slice_range (events_of s) from to) ≡ ends_at s.labels l ++ inline_labels s.labels l
-labels-there s l from to e = ap (labels_of s) e ∙ labels-at s l
+-- those of the events that are on it
+labels-there : (labels : List LabelInfo) (l from to : ℕ) → slice_range (events_of labels) from to ≡ events_at labels l
+    → labels_of labels (slice_range (events_of labels) from to) ≡ ends_at labels l ++ inline_labels labels l
+labels-there labels l from to e = ap (labels_of labels) e ∙ labels-at labels l
+
+-- its margin label is that of a sheet with these labels
+pub margin-there : (labels : List LabelInfo) (l from to : ℕ) (s : Sheet) → s.labels ≡ labels → slice_range (events_of labels) from to ≡ events_at labels l
+    → margin_of (labels_of labels (slice_range (events_of labels) from to)) ≡ margin_label s.labels l
+margin-there labels l from to s own e = margin-found labels l _ (labels-there labels l from to e) ∙ ap (λ ls. margin_label ls l) (sym own)
+
+-- and so are its line labels
+pub ranked-there : (labels : List LabelInfo) (l from to : ℕ) (s : Sheet) → s.labels ≡ labels → slice_range (events_of labels) from to ≡ events_at labels l
+    → ranked (labels_of labels (slice_range (events_of labels) from to)) ≡ line_labels s.labels l
+ranked-there labels l from to s own e = ranked-found labels l _ (labels-there labels l from to e) ∙ ap (λ ls. line_labels ls l) (sym own)
 
 -- the layout of a line, by its parts
 pub layout-is : (s : Sheet) (l : ℕ) (y : Layout) (margin : Option LineLabel) (labels : List LineLabel) (offset : ℕ) (text : List ℕ) (sights : List Sight)

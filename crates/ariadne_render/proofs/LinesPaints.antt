@@ -12,11 +12,11 @@ use Rattle.std.proofs.lemmas.Option.{slice_get_within}
 use Rattle.ariadne_base.specs.Locations.{line_offset, line_text}
 use Rattle.ariadne_picture.specs.declared.label_info.LabelInfo.{LabelInfo}
 use Rattle.ariadne_picture.specs.Columns.{Layout, layout_of, shown}
-use Rattle.ariadne_picture.specs.Ranks.{Sheet, multi_line_labels}
+use Rattle.ariadne_picture.specs.Ranks.{multi_line_labels}
 use Rattle.ariadne_picture.specs.Strokes.{holds}
 use Rattle.ariadne_picture.proofs.Lists.Elements.{Has, all-numbered, list_any-true}
 use Rattle.ariadne_picture.proofs.Lists.ListFacts.{Increasing, all-filter, all-map, all-weaker, increasing-pairs}
-use Rattle.ariadne_rows.specs.Sheets.{GroupFields, touches, touching}
+use Rattle.ariadne_rows.specs.SnippetLabels.{LabelsFields, touches, touching}
 use Rattle.ariadne_rows.proofs.Insides.{left-out}
 use Rattle.ariadne_render.specs.DrawnLines.{IsLaidOut}
 
@@ -43,46 +43,41 @@ shown-shorter (c ∷ cs) =
     (λ _. omega arith) (λ _. omega arith)
 
 -- the numbers of the labels that touch a line are numbers of multi-line labels
-touching-within : (s : Sheet) (l : ℕ) → AllByRecursion (λ i. i < length (multi_line_labels s.labels)) (touching s l)
+touching-within : (labels : List LabelInfo) (l : ℕ) → AllByRecursion (λ i. i < length (multi_line_labels labels)) (touching labels l)
 unfolding touching
-touching-within s l =
-    let labels : List LabelInfo = multi_line_labels s.labels in
-    all-map (λ i. i < length labels) (λ (e : ℕ × LabelInfo). e.0) (filter (λ (e : ℕ × LabelInfo). touches l e.1) (enumerate_from 0 labels))
-    (all-filter (λ (e : ℕ × LabelInfo). e.0 < length labels) (λ e. touches l e.1) (enumerate_from 0 labels)
-    (all-numbered (λ (e : ℕ × LabelInfo). e.0 < length labels) labels (λ k a there. slice_get_within labels k a there)))
+touching-within labels l =
+    let longs : List LabelInfo = multi_line_labels labels in
+    all-map (λ i. i < length longs) (λ (e : ℕ × LabelInfo). e.0) (filter (λ (e : ℕ × LabelInfo). touches l e.1) (enumerate_from 0 longs))
+    (all-filter (λ (e : ℕ × LabelInfo). e.0 < length longs) (λ e. touches l e.1) (enumerate_from 0 longs)
+    (all-numbered (λ (e : ℕ × LabelInfo). e.0 < length longs) longs (λ k a there. slice_get_within longs k a there)))
 
 -- they rise
-touching-rise : (s : Sheet) (l : ℕ) → IsStrictlyIncreasing (touching s l)
+touching-rise : (labels : List LabelInfo) (l : ℕ) → IsStrictlyIncreasing (touching labels l)
 unfolding touching
-touching-rise s l = λ k less.
-    increasing-pairs (λ i j. i < j) (touching s l) (kept-rise (λ (e : ℕ × LabelInfo). touches l e.1) 0 (multi_line_labels s.labels)).1 k (k + 1) 0
+touching-rise labels l = λ k less.
+    increasing-pairs (λ i j. i < j) (touching labels l) (kept-rise (λ (e : ℕ × LabelInfo). touches l e.1) 0 (multi_line_labels labels)).1 k (k + 1) 0
     (omega arith) less
 
-module _ (labels : List LabelInfo) (l : ℕ) (y : Layout) (h : IsLaidOut labels l y) (group : GroupFields) (multi : List LabelInfo) (numbers : List ℕ)
-    (at : group ≡ record { labels = labels; line = l }) (m : (s : Sheet) → s.labels ≡ group.labels → multi ≡ multi_line_labels s.labels)
-    (t : (s : Sheet) → s.labels ≡ group.labels → numbers ≡ touching s group.line) where
-  -- the labels of the layout are those of the group
-  own : h.sheet.labels ≡ group.labels
-  own = h.same_labels ∙ ap (λ (v : GroupFields). v.labels) (sym at)
-
-  -- so its multi-line labels are
+module _ (labels : List LabelInfo) (l : ℕ) (y : Layout) (h : IsLaidOut labels l y) (group : LabelsFields) (multi : List LabelInfo) (numbers : List ℕ)
+    (at : group ≡ record { labels = labels; line = l }) (m : multi ≡ multi_line_labels group.labels) (t : numbers ≡ touching group.labels group.line) where
+  -- the multi-line labels are those of the layout
   multi-is : multi ≡ multi_line_labels h.sheet.labels
-  multi-is = m h.sheet own
+  multi-is = m ∙ (λ i. multi_line_labels (at i).labels) ∙ ap multi_line_labels (sym h.same_labels)
 
   -- and the numbers are those of the labels that touch the line
-  numbers-are : numbers ≡ touching h.sheet l
-  numbers-are = t h.sheet own ∙ ap (λ (v : GroupFields). touching h.sheet v.line) at
+  numbers-are : numbers ≡ touching h.sheet.labels l
+  numbers-are = t ∙ (λ i. touching (at i).labels (at i).line) ∙ ap (λ ls. touching ls l) (sym h.same_labels)
 
   -- each is the number of a label
   pub numbers-within : All (λ i. i < length multi) numbers
   numbers-within =
       subst (λ ns. All (λ i. i < length multi) ns) (sym numbers-are)
-      (All-from_recursion (λ i. i < length multi) (touching h.sheet l)
-      (subst (λ ls. AllByRecursion (λ i. i < length ls) (touching h.sheet l)) (sym multi-is) (touching-within h.sheet l)))
+      (All-from_recursion (λ i. i < length multi) (touching h.sheet.labels l)
+      (subst (λ ls. AllByRecursion (λ i. i < length ls) (touching h.sheet.labels l)) (sym multi-is) (touching-within h.sheet.labels l)))
 
   -- they rise
   pub numbers-strict : IsStrictlyIncreasing numbers
-  numbers-strict = subst IsStrictlyIncreasing (sym numbers-are) (touching-rise h.sheet l)
+  numbers-strict = subst IsStrictlyIncreasing (sym numbers-are) (touching-rise h.sheet.labels l)
 
   -- the others hold no shown character
   pub others-hold-none : (i : ℕ) (a : LabelInfo) → slice_get multi i ≡ Some a → list_any (λ j. j == i) numbers ≡ false
@@ -93,8 +88,8 @@ module _ (labels : List LabelInfo) (l : ℕ) (y : Layout) (h : IsLaidOut labels 
       let offset : y.offset ≡ line_offset length h.sheet.lines l = ap (λ (z : Layout). z.offset) h.layout in
       let short = shown-shorter y.text in
       let n : length y.text ≡ length (line_text h.sheet.lines l) = ap length text in
-      let not : Has (touching h.sheet l) i → ⊥ = λ has.
-      true≢false (sym (list_any-true (λ j. j == i) (touching h.sheet l) has.place i has.there (eq-eqb i i refl))
+      let not : Has (touching h.sheet.labels l) i → ⊥ = λ has.
+      true≢false (sym (list_any-true (λ j. j == i) (touching h.sheet.labels l) has.place i has.there (eq-eqb i i refl))
       ∙ ap (list_any (λ j. j == i)) (sym numbers-are) ∙ out) in
       ap (λ o. holds a (o + k)) offset
       ∙ left-out h.sheet l h.touch i a (ap (λ ls. slice_get ls i) (sym multi-is) ∙ there) not k (omega arith)

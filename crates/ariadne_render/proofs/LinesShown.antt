@@ -14,7 +14,7 @@ use Rattle.ariadne_picture.specs.Ranks.{Sheet, ends_at, inline_labels, is_hidden
 use Rattle.ariadne_picture.proofs.Lists.Elements.{Has, both-true, has-filter, has-map}
 use Rattle.ariadne_picture.proofs.Lists.ListFacts.{all-at, none≢some}
 use Rattle.ariadne_picture.proofs.Rows.NearLines.{hidden-bare}
-use Rattle.ariadne_rows.specs.Sheets.{labels_of}
+use Rattle.ariadne_rows.specs.SnippetLabels.{labels_of}
 use Rattle.ariadne_rows.proofs.Events.{labels-at, unlabelled-no_event}
 use Rattle.ariadne_render.specs.DrawnLines.{AreOverLines, IsOverLines}
 
@@ -47,9 +47,9 @@ has-some [] x h = absurd (none≢some x h.there)
 has-some (y ∷ xs) x h = omega arith
 
 -- no events have no labels
-no-labels : (s : Sheet) → labels_of s [] ≡ []
+no-labels : (labels : List LabelInfo) → labels_of labels [] ≡ []
 unfolding labels_of joined
-no-labels s = refl
+no-labels labels = refl
 
 -- a label within a line stands there
 within-shown : (s : Sheet) (l k : ℕ) (a : LabelInfo) → slice_get s.labels k ≡ Some a → a.start_line ≡ l → a.end_line ≡ l → is_hidden s l ≡ true → ⊥
@@ -63,7 +63,7 @@ within-shown s l k a there starts ends hidden =
     let made : Has (inline_labels s.labels l) (make a) = has-map make (filter test s.labels) kept.place a kept.there in
     let more = has-some (inline_labels s.labels l) (make a) made in
     let few : length (ends_at s.labels l ++ inline_labels s.labels l) ≡ 0 =
-    ap length (sym (labels-at s l) ∙ ap (labels_of s) (unlabelled-no_event s l (hidden-bare s l hidden)) ∙ no-labels s) in
+    ap length (sym (labels-at s.labels l) ∙ ap (labels_of s.labels) (unlabelled-no_event s.labels l (hidden-bare s l hidden)) ∙ no-labels s.labels) in
     let sum = length-append (ends_at s.labels l) (inline_labels s.labels l) in
     omega arith
 

@@ -1,5 +1,5 @@
 -- The lines of a group as they are gone through: those before an event have no labels, that of the event is shown, and its rows follow theirs.
-use Rattle.std.proofs.Common.{◌≡◌, ◌∙◌, ℕ, zero, suc, ◌+◌, ◌-◌, ◌<◌, ◌≤◌, true, false, ◌&&◌, ◌==◌, List, [], ◌∷◌, ◌++◌, length, map, filter}
+use Rattle.std.proofs.Common.{◌≡◌, ◌∙◌, ℕ, zero, suc, ◌+◌, ◌-◌, ◌<◌, ◌≤◌, true, false, ◌&&◌, List, [], ◌∷◌, ◌++◌, length, map}
 use Rattle.std.proofs.Common.{nat_lt, max, min, replicate, refl, sym, ap, subst, arith, inl, inr, Some, None}
 use Rattle.std.specs.Prelude.{Option, option_map, slice_get, slice_range}
 use Rattle.std.specs.List.{AllByRecursion, range_with_len}
@@ -16,15 +16,15 @@ use Rattle.ariadne_picture.specs.Bars.{EndsNoEarlier}
 use Rattle.ariadne_picture.specs.Groups.{greatest, group_end_line, group_start_line}
 use Rattle.ariadne_picture.specs.Lists.{joined}
 use Rattle.ariadne_picture.specs.Pieces.{Section, Texts, row_pieces}
-use Rattle.ariadne_picture.specs.Ranks.{Sheet, first_line, gutter_labels, is_hidden, is_unlabelled, last_line, multi_line_labels}
+use Rattle.ariadne_picture.specs.Ranks.{Sheet, first_line, gutter_labels, is_hidden, is_unlabelled, last_line}
 use Rattle.ariadne_picture.specs.Rows.{Row, line_rows}
 use Rattle.ariadne_picture.proofs.Lists.Joined.{joined-append, joined-one}
 use Rattle.ariadne_picture.proofs.Lists.ListFacts.{all-at, all-weaker, none≢some}
 use Rattle.ariadne_picture.proofs.Rows.LineBlock.{range-append}
 use Rattle.ariadne_picture.proofs.Rows.NearLines.{hidden-far, shown-near, shown-with}
-use Rattle.ariadne_rows.specs.declared.sheet.Event.{Event}
+use Rattle.ariadne_rows.specs.declared.snippet_labels.Event.{Event}
 use Rattle.ariadne_rows.specs.Gutters.{GutterFields, IsBeside, IsOfSheet}
-use Rattle.ariadne_rows.specs.Sheets.{IsLineEnd, events_at, events_of}
+use Rattle.ariadne_rows.specs.SnippetLabels.{IsLineEnd, events_at, events_of}
 use Rattle.ariadne_rows.proofs.Events.{above, event-labelled, event-lines, label-lines, line-end, line-events, next-line, no_event-unlabelled}
 use Rattle.ariadne_rows.proofs.Events.{none-above, none-between, none-on-line-above, still-above}
 use Rattle.ariadne_rows.proofs.GutterSteps.{first-line}
@@ -72,7 +72,7 @@ pub first-before_last : (s : Sheet) → 0 < length s.labels → AllByRecursion E
 unfolding first_line
 first-before_last s some rise =
     let first = first-label s.labels some in
-    let h = all-at _ s.labels 0 first.0 first.1 (label-lines s rise) in
+    let h = all-at _ s.labels 0 first.0 first.1 (label-lines s.labels rise) in
     let low = h.0.0 in
     let high = h.0.1 in
     omega arith
@@ -92,7 +92,7 @@ group-rise lines labels over s own = subst (AllByRecursion EndsNoEarlier) (sym o
 -- the lines above line l are written: of the events those before number k are above it, and the gutter has the bars beside it. From l on the lines
 -- before line n are shown, since labels above are near; for the other lines of the source, of which there are `size`, none above is
 pub record IsWalked (s : Sheet) (size l n k : ℕ) (g : GutterFields) : Type 0 where
-  pub events : above s l ≡ k
+  pub events : above s.labels l ≡ k
   pub low : first_line s ≤ l
   pub high : l ≤ group_end_line s.labels + 1
   pub begins : begins_run s l ≡ true
@@ -112,9 +112,9 @@ pub record IsStep (s : Sheet) (size l n k m : ℕ) : Type 0 where
   pub within : m ≤ group_end_line s.labels
   pub apart : AreApart s l n (m - s.switches.context_lines) m
   pub shown : is_hidden s m ≡ false
-  pub event : k < length (events_of s)
-  pub events : (end : ℕ) → IsLineEnd (events_of s) k end → slice_range (events_of s) k end ≡ events_at s m
-  pub next : (end near top : ℕ) (h : GutterFields) → IsLineEnd (events_of s) k end → size ≤ top
+  pub event : k < length (events_of s.labels)
+  pub events : (end : ℕ) → IsLineEnd (events_of s.labels) k end → slice_range (events_of s.labels) k end ≡ events_at s.labels m
+  pub next : (end near top : ℕ) (h : GutterFields) → IsLineEnd (events_of s.labels) k end → size ≤ top
       → near ≡ min (m + 1 + s.switches.context_lines) top → IsBeside s (m + 1) h → IsWalked s size (m + 1) near end h
 
 -- a line below a shown one begins a run
@@ -186,36 +186,36 @@ module _ (s : Sheet) (size : ℕ) (rise : AllByRecursion EndsNoEarlier s.labels)
         up = omega arith;
         near = λ j low less. absurd (omega (arith, low, less));
         far = λ j m past less above some.
-            absurd (true≢false (sym (no_event-unlabelled s m (none-on-line-above s m rise above)) ∙ some));
+            absurd (true≢false (sym (no_event-unlabelled s.labels m (none-on-line-above s m rise above)) ∙ some));
         beside = first-line s g sheet bars;
       }
 
-  module _ (l n k m : ℕ) (g : GutterFields) (w : IsWalked s size l n k g) (e : Event) (there : slice_get (events_of s) k ≡ Some e) (on : e.line ≡ m)
+  module _ (l n k m : ℕ) (g : GutterFields) (w : IsWalked s size l n k g) (e : Event) (there : slice_get (events_of s.labels) k ≡ Some e) (on : e.line ≡ m)
       (fits : group_end_line s.labels < size) where
     -- the next event is on a line of the group
     event-within : (l ≤ m) × (m ≤ group_end_line s.labels)
     event-within =
-        let lines = all-at (λ (e : Event). (group_start_line s.labels ≤ e.line) × (e.line ≤ group_end_line s.labels)) (events_of s) k e there
-        (event-lines s rise) in
-        let up = next-line s l k e w.events there in
+        let lines = all-at (λ (e : Event). (group_start_line s.labels ≤ e.line) × (e.line ≤ group_end_line s.labels)) (events_of s.labels) k e there
+        (event-lines s.labels rise) in
+        let up = next-line s.labels l k e w.events there in
         let last = lines.1 in
         (omega arith, omega arith)
 
     -- event k is no other
-    same-event : (P : ℕ → Type 0) → P m → (x : Event) → slice_get (events_of s) k ≡ Some x → P x.line
+    same-event : (P : ℕ → Type 0) → P m → (x : Event) → slice_get (events_of s.labels) k ≡ Some x → P x.line
     same-event P h x at = let same : m ≡ x.line = cc in subst P same h
 
     -- the lines above it have no labels
     lines-bare : (j : ℕ) → l ≤ j → j < m → is_unlabelled s.labels j ≡ true
-    lines-bare j low less = no_event-unlabelled s j (none-between s l j k w.events low (λ x at. same-event (λ i. j < i) less x at))
+    lines-bare j low less = no_event-unlabelled s.labels j (none-between s.labels l j k w.events low (λ x at. same-event (λ i. j < i) less x at))
 
     -- so the events before it are above its line
-    events-above : above s m ≡ k
-    events-above = let up = event-within.0 in still-above s l m k w.events up (λ x at. same-event (λ i. m ≤ i) (omega arith) x at)
+    events-above : above s.labels m ≡ k
+    events-above = let up = event-within.0 in still-above s.labels l m k w.events up (λ x at. same-event (λ i. m ≤ i) (omega arith) x at)
 
     -- its line has labels
     line-labelled : is_unlabelled s.labels m ≡ false
-    line-labelled = ap (is_unlabelled s.labels) (sym on) ∙ event-labelled s k e there
+    line-labelled = ap (is_unlabelled s.labels) (sym on) ∙ event-labelled s.labels k e there
 
     -- the lines above it are near it, or not
     above-apart : AreApart s l n (m - s.switches.context_lines) m
@@ -227,7 +227,7 @@ module _ (s : Sheet) (size : ℕ) (rise : AllByRecursion EndsNoEarlier s.labels)
         (λ j i less low to. lines-bare i low (omega (arith, less, to)))
 
     -- and then the events of the next line are to come
-    walk-next : (end near top : ℕ) (h : GutterFields) → IsLineEnd (events_of s) k end → size ≤ top
+    walk-next : (end near top : ℕ) (h : GutterFields) → IsLineEnd (events_of s.labels) k end → size ≤ top
         → near ≡ min (m + 1 + s.switches.context_lines) top → IsBeside s (m + 1) h → IsWalked s size (m + 1) near end h
     walk-next end near top h line room is beside =
         let low = event-within.0 in
@@ -235,7 +235,7 @@ module _ (s : Sheet) (size : ℕ) (rise : AllByRecursion EndsNoEarlier s.labels)
         let first = w.low in
         let back : m + 1 - 1 ≡ m = omega arith in
         record {
-          events = line-end s m k end e events-above there on line;
+          events = line-end s.labels m k end e events-above there on line;
           low = omega arith;
           high = omega arith;
           begins = begins-behind s (m + 1) (ap (is_hidden s) back ∙ shown-with s m line-labelled);
@@ -252,38 +252,26 @@ module _ (s : Sheet) (size : ℕ) (rise : AllByRecursion EndsNoEarlier s.labels)
       within = event-within.1;
       apart = above-apart;
       shown = shown-with s m line-labelled;
-      event = slice_get_within (events_of s) k e there;
-      events = λ end line. line-events s m k end e events-above there on line;
+      event = slice_get_within (events_of s.labels) k e there;
+      events = λ end line. line-events s.labels m k end e events-above there on line;
       next = walk-next;
     }
 
   -- the step to the line of event k, as the code reads that line
   pub step : (l n k m : ℕ) (g : GutterFields) (o : Option ℕ) → IsWalked s size l n k g → group_end_line s.labels < size
-      → o ≡ option_map (λ e. e.line) (slice_get (events_of s) k) → o ≡ Some m → IsStep s size l n k m
+      → o ≡ option_map (λ e. e.line) (slice_get (events_of s.labels) k) → o ≡ Some m → IsStep s size l n k m
   step l n k m g o w fits read is =
-      let found = event-there (slice_get (events_of s) k) m (sym read ∙ is) in step-to l n k m g w found.0 found.1 found.2 fits
+      let found = event-there (slice_get (events_of s.labels) k) m (sym read ∙ is) in step-to l n k m g w found.0 found.1 found.2 fits
 
   -- where no event is left the lines to come have no labels
   pub walk-end : (l n k m : ℕ) (g : GutterFields) (o : Option ℕ) → IsWalked s size l n k g → l ≤ m → m ≤ size
-      → o ≡ option_map (λ e. e.line) (slice_get (events_of s) k) → o ≡ None → AreApart s l n m m
+      → o ≡ option_map (λ e. e.line) (slice_get (events_of s.labels) k) → o ≡ None → AreApart s l n m m
   walk-end l n k m g o w up fits read is =
-      let none = event-none (slice_get (events_of s) k) (sym read ∙ is) in
+      let none = event-none (slice_get (events_of s.labels) k) (sym read ∙ is) in
       let bare : (j : ℕ) → l ≤ j → is_unlabelled s.labels j ≡ true =
-      λ j low. no_event-unlabelled s j (none-between s l j k w.events low (λ x at. absurd (none≢some x (sym none ∙ at)))) in
+      λ j low. no_event-unlabelled s.labels j (none-between s.labels l j k w.events low (λ x at. absurd (none≢some x (sym none ∙ at)))) in
       lines-apart s size l n k m m g w fits up (omega arith) (λ j low less. bare j low)
       (λ j low past less. absurd (omega (arith, past, less))) (λ j i less low to. bare i low)
-
--- ---- what does not hang on the switches of a sheet
-
--- its events
-pub events-page : (s : Sheet) (w : Switches) → events_of (record s { switches = w }) ≡ events_of s
-unfolding events_of gutter_labels multi_line_labels
-events-page s w = refl
-
--- those of a line
-pub events_at-page : (s : Sheet) (w : Switches) (l : ℕ) → events_at (record s { switches = w }) l ≡ events_at s l
-unfolding events_at
-events_at-page s w l = ap (filter (λ (e : Event). e.line == l)) (events-page s w)
 
 -- ---- rows of lines one after another
 

@@ -15,7 +15,7 @@ use Rattle.ariadne_picture.specs.Columns.{Layout, layout_of}
 use Rattle.ariadne_picture.specs.Ranks.{Sheet, first_line, is_hidden, is_unlabelled}
 use Rattle.ariadne_rows.specs.Gutters.{GutterFields, IsBelow}
 use Rattle.ariadne_rows.specs.Headers.{IsOnPage}
-use Rattle.ariadne_rows.specs.Sheets.{HoldersTouch}
+use Rattle.ariadne_rows.specs.SnippetLabels.{HoldersTouch}
 use Rattle.ariadne_picture.specs.Lists.{total}
 use Rattle.ariadne_picture.specs.Pieces.{Section, Texts}
 use Rattle.ariadne_picture.specs.Strokes.{holds}

@@ -39,7 +39,7 @@ use ariadne_picture::label_info::LabelInfo;
 use ariadne_rows::asides::{push_helps, push_notes};
 use ariadne_rows::gutter::Gutter;
 use ariadne_rows::headers::{push_group_header, push_header, push_spacer, push_tail};
-use ariadne_rows::sheet::GroupSheet;
+use ariadne_rows::snippet_labels::SnippetLabels;
 use std::alloc::{AllocError, Global};
 
 /// The room that a picture's text begins with, in bytes: most pictures of a few lines fit.
@@ -278,7 +278,7 @@ fn push_group<S: Span, C: Cache<S::SourceId>>(
 /// Writes the rows above the lines of a group, and gives the source of the lines.
 fn push_group_head<'a, S: Span, C: Cache<S::SourceId>>(
     pen: &mut Pen<'_>,
-    sheet: &GroupSheet<'_>,
+    sheet: &SnippetLabels<'_>,
     report: &Content<'_, S>,
     cache: &'a C,
     own: Option<(usize, usize)>,

@@ -17,7 +17,7 @@ ghost use Rattle.ariadne_picture.specs.Lists.{joined};
 ghost use Rattle.ariadne_picture.specs.Pieces.{Section, Texts, row_pieces};
 ghost use Rattle.ariadne_picture.specs.Ranks.{Sheet, first_line, group_lines, gutter_labels};
 ghost use Rattle.ariadne_picture.specs.Ranks.{is_hidden, last_line, multi_line_labels};
-ghost use Rattle.ariadne_rows.specs.Sheets.{events_at, events_of};
+ghost use Rattle.ariadne_rows.specs.SnippetLabels.{events_at, events_of};
 ghost use Rattle.ariadne_picture.specs.Rows.{line_rows};
 ghost use Rattle.ariadne_rows.specs.Gutters.{IsBeside};
 ghost use Rattle.ariadne_base.specs.Listing.{listed_lines};
@@ -36,7 +36,7 @@ use ariadne_cells::table::LineTable;
 use ariadne_picture::label_info::{LabelInfo, LineLabel};
 use ariadne_rows::gutter::Gutter;
 use ariadne_rows::rows::{push_bare_row, push_gap_row, push_source_row};
-use ariadne_rows::sheet::GroupSheet;
+use ariadne_rows::snippet_labels::SnippetLabels;
 use std::alloc::{AllocError, Global};
 use std::ops::Range;
 
@@ -44,7 +44,7 @@ use std::ops::Range;
 /// anew for each group and for each line.
 #[derive(Drop)]
 pub(crate) struct Lists<'a> {
-    pub(crate) sheet: GroupSheet<'a>,
+    pub(crate) sheet: SnippetLabels<'a>,
     pub(crate) gutter: Gutter<'a>,
     pub(crate) labels: Vec<LineLabel>,
     pub(crate) table: LineTable,
@@ -64,7 +64,7 @@ impl<'a> Lists<'a> {
         ensures long_line { result.long_line ≡ None }
     {
         Lists {
-            sheet: GroupSheet::new(alloc),
+            sheet: SnippetLabels::new(alloc),
             gutter: Gutter::new(alloc, page),
             labels: Vec::new(alloc),
             table: LineTable::new(alloc),
@@ -89,9 +89,10 @@ pub(crate) fn push_lines<S: Span, I: SourceText>(
     requires line { lists.old.sheet.line ≡ 0 }
     requires labels { 0 < length lists.old.sheet.labels }
     requires over { AreOverLines (listed_lines source.now) lists.old.sheet.labels }
-    requires gutter { (s : Sheet) → s.labels ≡ lists.old.sheet.labels →
-        (lists.old.gutter.positions ≡ map (λ a. a.position) (gutter_labels s.labels))
-        × (lists.old.gutter.bars ≡ replicate (length (gutter_labels s.labels)) false) }
+    requires positions { lists.old.gutter.positions
+        ≡ map (λ a. a.position) (gutter_labels lists.old.sheet.labels) }
+    requires bars { lists.old.gutter.bars
+        ≡ replicate (length (gutter_labels lists.old.sheet.labels)) false }
     requires known { IsRemembered (listed_lines source.now) lists.old.long_line }
     ensures known { OnOk result (IsRemembered (listed_lines source.now) lists.new.long_line) }
     ensures page { OnOk result (lists.new.gutter.page ≡ lists.old.gutter.page) }
@@ -274,9 +275,8 @@ fn push_context_lines<S: Span, I: SourceText>(
 }
 
 /// The line of an event of a group, where there are so many events.
-fn event_line(sheet: &GroupSheet<'_>, event: usize) -> Option<usize>
-    ensures { (s : Sheet) → s.labels ≡ sheet.now.labels →
-        result ≡ option_map (λ e. e.line) (slice_get (events_of s) event) }
+fn event_line(sheet: &SnippetLabels<'_>, event: usize) -> Option<usize>
+    ensures { result ≡ option_map (λ e. e.line) (slice_get (events_of sheet.now.labels) event) }
 {
     sheet.events().get(event).map(|event| event.line)
 }
@@ -286,7 +286,7 @@ fn event_line(sheet: &GroupSheet<'_>, event: usize) -> Option<usize>
 /// On `Err` there was no memory for it, and the group has no labels.
 fn push_hidden_lines<I: SourceText>(
     pen: &mut Pen<'_>,
-    sheet: &mut GroupSheet<'_>,
+    sheet: &mut SnippetLabels<'_>,
     gutter: &Gutter<'_>,
     source: &Source<I>,
     line: usize,
@@ -319,7 +319,7 @@ fn push_hidden_lines<I: SourceText>(
 /// On `Err` there was no memory for it, and the group has no labels.
 fn push_hidden<I: SourceText>(
     pen: &mut Pen<'_>,
-    sheet: &mut GroupSheet<'_>,
+    sheet: &mut SnippetLabels<'_>,
     gutter: &Gutter<'_>,
     source: &Source<I>,
     line: usize,
@@ -364,10 +364,9 @@ fn push_line<S: Span, I: SourceText>(
     requires within { line < length (listed_lines source.now) }
     requires over { AreOverLines (listed_lines source.now) lists.old.sheet.labels }
     requires range { from ≤ to }
-    requires events { (s : Sheet) → s.labels ≡ lists.old.sheet.labels →
-        to ≤ length (events_of s) }
-    requires there { (s : Sheet) → s.labels ≡ lists.old.sheet.labels →
-        slice_range (events_of s) from to ≡ events_at s line }
+    requires events { to ≤ length (events_of lists.old.sheet.labels) }
+    requires there { slice_range (events_of lists.old.sheet.labels) from to
+        ≡ events_at lists.old.sheet.labels line }
     requires beside { (s : Sheet) → s.labels ≡ lists.old.sheet.labels →
         s.switches ≡ pen.old.page.switches → IsBeside s line lists.old.gutter }
     requires known { IsRemembered (listed_lines source.now) lists.old.long_line }
@@ -416,7 +415,7 @@ fn push_line<S: Span, I: SourceText>(
 /// On `Err` there was no memory for them, and the group has no labels.
 fn find_paints(
     pen: &Pen<'_>,
-    sheet: &mut GroupSheet<'_>,
+    sheet: &mut SnippetLabels<'_>,
     table: &mut LineTable,
     layout: &LineLayout<'_>,
     line: usize,
@@ -425,9 +424,8 @@ fn find_paints(
     requires there { IsLaidOut sheet.old.labels line layout.now }
     ensures labels { OnOk result (sheet.new.labels ≡ sheet.old.labels) }
     ensures onward { OnOk result (sheet.new.line ≤ line) }
-    ensures paints { (s : Sheet) → s.labels ≡ sheet.old.labels →
-        pen.now.page.palette.is_on ≡ true →
-        OnOk result (ArePaints (multi_line_labels s.labels) layout.now table.new.paints.items) }
+    ensures paints { pen.now.page.palette.is_on ≡ true → OnOk result
+        (ArePaints (multi_line_labels sheet.old.labels) layout.now table.new.paints.items) }
 {
     if !pen.page().is_colored() {
         return Ok(());

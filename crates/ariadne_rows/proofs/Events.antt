@@ -23,8 +23,9 @@ use Rattle.ariadne_picture.proofs.Lists.Joined.{filter-joined, joined-append, jo
 use Rattle.ariadne_picture.proofs.Lists.ListFacts.{none≢some, all-weaker, all-append, all-at, all-filter, all-in_order, all-joined, filter-none, length-in_order, increasing-pairs}
 use Rattle.ariadne_picture.proofs.Lists.StableOrder.{in_order-stable}
 use Rattle.ariadne_picture.proofs.Rows.RowsThere.{all-gutter-labels, starts-within, ends-within}
-use Rattle.ariadne_rows.specs.declared.sheet.Event.{Event}
-use Rattle.ariadne_rows.specs.Sheets.{gutter_events, inline_events, events_of, event_label, labels_of, events_at, IsLineEnd}
+use Rattle.ariadne_rows.specs.declared.snippet_labels.Event.{Event}
+use Rattle.ariadne_rows.specs.SnippetLabels.{gutter_events, inline_events, events_of, event_label, labels_of, events_at, IsLineEnd}
+use Rattle.ariadne_rows.proofs.Ranking.{sheet_of}
 use Rattle.ariadne_rows.proofs.Rising.{RisesBy, in_order-rises, below-prefix, part-between, reached, filter-shorter}
 
 -- ---- lists
@@ -60,10 +61,10 @@ none (x ∷ xs) e = absurd (omega arith)
 -- ---- the events rise by line
 
 -- they are put in order
-pub events-rise : (s : Sheet) → RisesBy (λ e. e.line) (events_of s)
+pub events-rise : (labels : List LabelInfo) → RisesBy (λ e. e.line) (events_of labels)
 unfolding events_of
-events-rise s =
-    in_order-rises (λ e. e.line) (joined gutter_events (enumerate_from 0 (gutter_labels s.labels)) ++ joined inline_events (enumerate_from 0 s.labels))
+events-rise labels =
+    in_order-rises (λ e. e.line) (joined gutter_events (enumerate_from 0 (gutter_labels labels)) ++ joined inline_events (enumerate_from 0 labels))
 
 -- ---- the events of a line are its labels
 
@@ -87,18 +88,18 @@ kept-order l xs =
     sym (filter_agree (ties less w) (λ e. e.line == l) same (in_order less xs))
     ∙ in_order-stable less (IsStrictWeakOrder-by_number (λ (e : Event). e.line)) xs w ∙ filter_agree (ties less w) (λ e. e.line == l) same xs
 
-module _ (s : Sheet) (l : ℕ) where
+module _ (labels : List LabelInfo) (l : ℕ) where
   -- whether an event is on the line
   abbrev on_line : Event → Bool
   on_line e = e.line == l
 
   -- the label of an event, as a list
-  abbrev labels : Event → List LineLabel
-  labels e = option_to_list (event_label s e.side e.index)
+  abbrev own : Event → List LineLabel
+  own e = option_to_list (event_label labels e.side e.index)
 
   -- of gutter label i those of its two ends that are on the line
-  gutter-label-at : (e : ℕ × LabelInfo) → slice_get (gutter_labels s.labels) e.0 ≡ Some e.1
-      → joined labels (filter on_line (gutter_events e)) ≡ gutter_label_ends l e.0 e.1
+  gutter-label-at : (e : ℕ × LabelInfo) → slice_get (gutter_labels labels) e.0 ≡ Some e.1
+      → joined own (filter on_line (gutter_events e)) ≡ gutter_label_ends l e.0 e.1
   unfolding joined gutter_label_ends event_label
   gutter-label-at e there =
       let a = e.1 in
@@ -106,44 +107,44 @@ module _ (s : Sheet) (l : ℕ) where
       let end : Event = record { line = a.end_line; index = e.0; side = Ends } in
       let first : LineLabel = record { info = a; side = Starts; gutter_column = e.0; place = a.start_place } in
       let last : LineLabel = record { info = a; side = Ends; gutter_column = e.0; place = a.end_place } in
-      let is_first : labels start ≡ first ∷ [] = rw there refl in
-      let is_last : labels end ≡ last ∷ [] = rw there refl in
-      elim (a.start_line == l) as (λ v. joined labels (cond v (start ∷ filter on_line (end ∷ [])) (filter on_line (end ∷ [])))
+      let is_first : own start ≡ first ∷ [] = rw there refl in
+      let is_last : own end ≡ last ∷ [] = rw there refl in
+      elim (a.start_line == l) as (λ v. joined own (cond v (start ∷ filter on_line (end ∷ [])) (filter on_line (end ∷ [])))
       ≡ cond v (first ∷ []) [] ++ (if a.end_line == l then last ∷ [] else [])) [
-        | true ↦ elim (a.end_line == l) as (λ v. joined labels (start ∷ cond v (end ∷ []) []) ≡ (first ∷ []) ++ cond v (last ∷ []) []) [
+        | true ↦ elim (a.end_line == l) as (λ v. joined own (start ∷ cond v (end ∷ []) []) ≡ (first ∷ []) ++ cond v (last ∷ []) []) [
           | true ↦ λ i. is_first i ++ (is_last i ++ [])
           | false ↦ λ i. is_first i ++ []
         ]
-        | false ↦ elim (a.end_line == l) as (λ v. joined labels (cond v (end ∷ []) []) ≡ cond v (last ∷ []) []) [
+        | false ↦ elim (a.end_line == l) as (λ v. joined own (cond v (end ∷ []) []) ≡ cond v (last ∷ []) []) [
           | true ↦ λ i. is_last i ++ []
           | false ↦ refl
         ]
       ]
 
   -- so the events of gutter labels are the ends at the line
-  gutter-at : joined labels (filter on_line (joined gutter_events (enumerate_from 0 (gutter_labels s.labels)))) ≡ ends_at s.labels l
+  gutter-at : joined own (filter on_line (joined gutter_events (enumerate_from 0 (gutter_labels labels)))) ≡ ends_at labels l
   unfolding ends_at
   gutter-at =
-      ap (joined labels) (filter-joined on_line gutter_events (enumerate_from 0 (gutter_labels s.labels)))
-      ∙ joined-joined labels (λ (e : ℕ × LabelInfo). filter on_line (gutter_events e)) (enumerate_from 0 (gutter_labels s.labels))
-      ∙ joined-alike (λ (e : ℕ × LabelInfo). slice_get (gutter_labels s.labels) e.0 ≡ Some e.1) (λ e. joined labels (filter on_line (gutter_events e)))
-      (λ e. gutter_label_ends l e.0 e.1) gutter-label-at (enumerate_from 0 (gutter_labels s.labels)) (numbered (gutter_labels s.labels))
+      ap (joined own) (filter-joined on_line gutter_events (enumerate_from 0 (gutter_labels labels)))
+      ∙ joined-joined own (λ (e : ℕ × LabelInfo). filter on_line (gutter_events e)) (enumerate_from 0 (gutter_labels labels))
+      ∙ joined-alike (λ (e : ℕ × LabelInfo). slice_get (gutter_labels labels) e.0 ≡ Some e.1) (λ e. joined own (filter on_line (gutter_events e)))
+      (λ e. gutter_label_ends l e.0 e.1) gutter-label-at (enumerate_from 0 (gutter_labels labels)) (numbered (gutter_labels labels))
 
   -- a label within the line as it stands there
   abbrev inline_label : LabelInfo → LineLabel
   inline_label a = record { info = a; side = Inline; gutter_column = 0; place = a.attach }
 
   -- a label of the group, if it lies within the line
-  inline-label-at : (e : ℕ × LabelInfo) → slice_get s.labels e.0 ≡ Some e.1
-      → joined labels (filter on_line (inline_events e)) ≡ cond (is_on_one_line e.1 && (e.1.start_line == l)) (inline_label e.1 ∷ []) []
+  inline-label-at : (e : ℕ × LabelInfo) → slice_get labels e.0 ≡ Some e.1
+      → joined own (filter on_line (inline_events e)) ≡ cond (is_on_one_line e.1 && (e.1.start_line == l)) (inline_label e.1 ∷ []) []
   unfolding joined event_label
   inline-label-at e there =
       let a = e.1 in
       let event : Event = record { line = a.start_line; index = e.0; side = Inline } in
-      let is_label : labels event ≡ inline_label a ∷ [] = rw there refl in
-      elim (is_on_one_line a) as (λ v. joined labels (filter on_line (cond v (event ∷ []) []))
+      let is_label : own event ≡ inline_label a ∷ [] = rw there refl in
+      elim (is_on_one_line a) as (λ v. joined own (filter on_line (cond v (event ∷ []) []))
       ≡ cond (v && (a.start_line == l)) (inline_label a ∷ []) []) [
-        | true ↦ elim (a.start_line == l) as (λ v. joined labels (cond v (event ∷ []) []) ≡ cond v (inline_label a ∷ []) []) [
+        | true ↦ elim (a.start_line == l) as (λ v. joined own (cond v (event ∷ []) []) ≡ cond v (inline_label a ∷ []) []) [
           | true ↦ λ i. is_label i ++ []
           | false ↦ refl
         ]
@@ -151,140 +152,140 @@ module _ (s : Sheet) (l : ℕ) where
       ]
 
   -- so the other events are the labels within the line
-  inline-at : joined labels (filter on_line (joined inline_events (enumerate_from 0 s.labels))) ≡ inline_labels s.labels l
+  inline-at : joined own (filter on_line (joined inline_events (enumerate_from 0 labels))) ≡ inline_labels labels l
   unfolding inline_labels
   inline-at =
       let test : LabelInfo → Bool = λ a. is_on_one_line a && (a.start_line == l) in
-      ap (joined labels) (filter-joined on_line inline_events (enumerate_from 0 s.labels))
-      ∙ joined-joined labels (λ (e : ℕ × LabelInfo). filter on_line (inline_events e)) (enumerate_from 0 s.labels)
-      ∙ joined-alike (λ (e : ℕ × LabelInfo). slice_get s.labels e.0 ≡ Some e.1) (λ e. joined labels (filter on_line (inline_events e)))
-      (λ e. cond (test e.1) (inline_label e.1 ∷ []) []) inline-label-at (enumerate_from 0 s.labels) (numbered s.labels)
-      ∙ joined-tested test inline_label 0 s.labels
+      ap (joined own) (filter-joined on_line inline_events (enumerate_from 0 labels))
+      ∙ joined-joined own (λ (e : ℕ × LabelInfo). filter on_line (inline_events e)) (enumerate_from 0 labels)
+      ∙ joined-alike (λ (e : ℕ × LabelInfo). slice_get labels e.0 ≡ Some e.1) (λ e. joined own (filter on_line (inline_events e)))
+      (λ e. cond (test e.1) (inline_label e.1 ∷ []) []) inline-label-at (enumerate_from 0 labels) (numbered labels)
+      ∙ joined-tested test inline_label 0 labels
 
   -- the labels of the events of a line: the ends of gutter labels, then the labels within it
-  pub labels-at : labels_of s (events_at s l) ≡ ends_at s.labels l ++ inline_labels s.labels l
+  pub labels-at : labels_of labels (events_at labels l) ≡ ends_at labels l ++ inline_labels labels l
   unfolding labels_of events_at events_of
   labels-at =
-      let ends : List Event = joined gutter_events (enumerate_from 0 (gutter_labels s.labels)) in
-      let inlines : List Event = joined inline_events (enumerate_from 0 s.labels) in
-      ap (joined labels) (kept-order l (ends ++ inlines) ∙ filter-append on_line ends inlines)
-      ∙ joined-append labels (filter on_line ends) (filter on_line inlines) ∙ (λ i. gutter-at i ++ inline-at i)
+      let ends : List Event = joined gutter_events (enumerate_from 0 (gutter_labels labels)) in
+      let inlines : List Event = joined inline_events (enumerate_from 0 labels) in
+      ap (joined own) (kept-order l (ends ++ inlines) ∙ filter-append on_line ends inlines)
+      ∙ joined-append own (filter on_line ends) (filter on_line inlines) ∙ (λ i. gutter-at i ++ inline-at i)
 
 -- ---- each event has a label
 
 -- the label that an event names is there
-abbrev HasLabel : Sheet → Event → Type 0
-HasLabel s e = is_some (event_label s e.side e.index) ≡ true
+abbrev HasLabel : List LabelInfo → Event → Type 0
+HasLabel labels e = is_some (event_label labels e.side e.index) ≡ true
 
 -- so it is for both ends of a gutter label
-gutter-labelled : (s : Sheet) (e : ℕ × LabelInfo) → slice_get (gutter_labels s.labels) e.0 ≡ Some e.1 → AllByRecursion (HasLabel s) (gutter_events e)
+gutter-labelled : (labels : List LabelInfo) (e : ℕ × LabelInfo) → slice_get (gutter_labels labels) e.0 ≡ Some e.1 → AllByRecursion (HasLabel labels) (gutter_events e)
 unfolding event_label
-gutter-labelled s e there = (rw there refl, (rw there refl, tt))
+gutter-labelled labels e there = (rw there refl, (rw there refl, tt))
 
 -- and for a label within one line
-inline-labelled : (s : Sheet) (e : ℕ × LabelInfo) → slice_get s.labels e.0 ≡ Some e.1 → AllByRecursion (HasLabel s) (inline_events e)
+inline-labelled : (labels : List LabelInfo) (e : ℕ × LabelInfo) → slice_get labels e.0 ≡ Some e.1 → AllByRecursion (HasLabel labels) (inline_events e)
 unfolding event_label
-inline-labelled s e there =
-    cond_both (is_on_one_line e.1) _ [] (AllByRecursion (HasLabel s)) (λ _. (rw there refl, tt)) (λ _. tt)
+inline-labelled labels e there =
+    cond_both (is_on_one_line e.1) _ [] (AllByRecursion (HasLabel labels)) (λ _. (rw there refl, tt)) (λ _. tt)
 
 -- so it is for each event
-pub events-labelled : (s : Sheet) → AllByRecursion (HasLabel s) (events_of s)
+pub events-labelled : (labels : List LabelInfo) → AllByRecursion (HasLabel labels) (events_of labels)
 unfolding events_of
-events-labelled s =
-    let ends : List Event = joined gutter_events (enumerate_from 0 (gutter_labels s.labels)) in
-    let inlines : List Event = joined inline_events (enumerate_from 0 s.labels) in
-    all-in_order (HasLabel s) (λ a b. nat_lt a.line b.line) (ends ++ inlines)
-    (all-append (HasLabel s) ends inlines
-    (all-joined (HasLabel s) (λ e. slice_get (gutter_labels s.labels) e.0 ≡ Some e.1) gutter_events (enumerate_from 0 (gutter_labels s.labels)) (gutter-labelled s)
-    (numbered (gutter_labels s.labels)))
-    (all-joined (HasLabel s) (λ e. slice_get s.labels e.0 ≡ Some e.1) inline_events (enumerate_from 0 s.labels) (inline-labelled s)
-    (numbered s.labels)))
+events-labelled labels =
+    let ends : List Event = joined gutter_events (enumerate_from 0 (gutter_labels labels)) in
+    let inlines : List Event = joined inline_events (enumerate_from 0 labels) in
+    all-in_order (HasLabel labels) (λ a b. nat_lt a.line b.line) (ends ++ inlines)
+    (all-append (HasLabel labels) ends inlines
+    (all-joined (HasLabel labels) (λ e. slice_get (gutter_labels labels) e.0 ≡ Some e.1) gutter_events (enumerate_from 0 (gutter_labels labels)) (gutter-labelled labels)
+    (numbered (gutter_labels labels)))
+    (all-joined (HasLabel labels) (λ e. slice_get labels e.0 ≡ Some e.1) inline_events (enumerate_from 0 labels) (inline-labelled labels)
+    (numbered labels)))
 
 -- events that have labels give none only if there are none
-none-labelled : (s : Sheet) (events : List Event) → AllByRecursion (HasLabel s) events → labels_of s events ≡ [] → events ≡ []
+none-labelled : (labels : List LabelInfo) (events : List Event) → AllByRecursion (HasLabel labels) events → labels_of labels events ≡ [] → events ≡ []
 unfolding labels_of joined
-none-labelled s [] a e = refl
-none-labelled s (x ∷ xs) a e = elim (event_label s x.side x.index) as (λ o. is_some o ≡ true → option_to_list o ++ labels_of s xs ≡ [] → x ∷ xs ≡ []) [
+none-labelled labels [] a e = refl
+none-labelled labels (x ∷ xs) a e = elim (event_label labels x.side x.index) as (λ o. is_some o ≡ true → option_to_list o ++ labels_of labels xs ≡ [] → x ∷ xs ≡ []) [
   | None ↦ λ h _. absurd (true≢false (sym h))
-  | Some y ↦ λ _ h. absurd (let few : length (y ∷ labels_of s xs) ≡ 0 = ap length h in omega arith)
+  | Some y ↦ λ _ h. absurd (let few : length (y ∷ labels_of labels xs) ≡ 0 = ap length h in omega arith)
 ] a.0 e
 
 -- ---- a line without an event has no labels
 
 -- no label has anything at a line that no event is on
-pub no_event-unlabelled : (s : Sheet) (l : ℕ) → events_at s l ≡ [] → is_unlabelled s.labels l ≡ true
+pub no_event-unlabelled : (labels : List LabelInfo) (l : ℕ) → events_at labels l ≡ [] → is_unlabelled labels l ≡ true
 unfolding is_unlabelled line_labels margin_label labels_of joined best in_order
-no_event-unlabelled s l e =
-    let both : ends_at s.labels l ++ inline_labels s.labels l ≡ [] = sym (labels-at s l) ∙ ap (labels_of s) e in
-    let few : length (ends_at s.labels l) + length (inline_labels s.labels l) ≡ 0 = sym (length-append (ends_at s.labels l) (inline_labels s.labels l)) ∙ ap length both in
-    let no_ends : ends_at s.labels l ≡ [] = none (ends_at s.labels l) (omega arith) in
-    let no_inlines : inline_labels s.labels l ≡ [] = none (inline_labels s.labels l) (omega arith) in
+no_event-unlabelled labels l e =
+    let both : ends_at labels l ++ inline_labels labels l ≡ [] = sym (labels-at labels l) ∙ ap (labels_of labels) e in
+    let few : length (ends_at labels l) + length (inline_labels labels l) ≡ 0 = sym (length-append (ends_at labels l) (inline_labels labels l)) ∙ ap length both in
+    let no_ends : ends_at labels l ≡ [] = none (ends_at labels l) (omega arith) in
+    let no_inlines : inline_labels labels l ≡ [] = none (inline_labels labels l) (omega arith) in
     rw (no_ends, no_inlines) refl
 
 -- and no event is on a line where none has
-pub unlabelled-no_event : (s : Sheet) (l : ℕ) → is_unlabelled s.labels l ≡ true → events_at s l ≡ []
+pub unlabelled-no_event : (labels : List LabelInfo) (l : ℕ) → is_unlabelled labels l ≡ true → events_at labels l ≡ []
 unfolding is_unlabelled line_labels margin_label events_at
-unlabelled-no_event s l h =
-    let t : LineLabel → Bool = λ x. not (is_start x.side && is_margin (margin_label s.labels l) x) in
-    let all : List LineLabel = filter t (ends_at s.labels l) ++ inline_labels s.labels l in
-    let parts = and_parts (length (line_labels s.labels l) == 0) (not (is_some (margin_label s.labels l))) h in
-    let few : length all ≡ 0 = sym (length-in_order is_before all) ∙ eqb-true (length (line_labels s.labels l)) 0 parts.0 in
-    let shorter = length-append (filter t (ends_at s.labels l)) (inline_labels s.labels l) in
-    let no_inlines : inline_labels s.labels l ≡ [] = none (inline_labels s.labels l) (omega arith) in
-    let no_margin : margin_label s.labels l ≡ None = is_none (margin_label s.labels l) (not-true (is_some (margin_label s.labels l)) parts.1) in
-    let no_ends : ends_at s.labels l ≡ [] = best-none is_nearer_margin (ends_at s.labels l) no_margin in
-    none-labelled s (events_at s l) (all-filter (HasLabel s) (λ e. e.line == l) (events_of s) (events-labelled s))
-    (labels-at s l ∙ (λ i. no_ends i ++ no_inlines i))
+unlabelled-no_event labels l h =
+    let t : LineLabel → Bool = λ x. not (is_start x.side && is_margin (margin_label labels l) x) in
+    let all : List LineLabel = filter t (ends_at labels l) ++ inline_labels labels l in
+    let parts = and_parts (length (line_labels labels l) == 0) (not (is_some (margin_label labels l))) h in
+    let few : length all ≡ 0 = sym (length-in_order is_before all) ∙ eqb-true (length (line_labels labels l)) 0 parts.0 in
+    let shorter = length-append (filter t (ends_at labels l)) (inline_labels labels l) in
+    let no_inlines : inline_labels labels l ≡ [] = none (inline_labels labels l) (omega arith) in
+    let no_margin : margin_label labels l ≡ None = is_none (margin_label labels l) (not-true (is_some (margin_label labels l)) parts.1) in
+    let no_ends : ends_at labels l ≡ [] = best-none is_nearer_margin (ends_at labels l) no_margin in
+    none-labelled labels (events_at labels l) (all-filter (HasLabel labels) (λ e. e.line == l) (events_of labels) (events-labelled labels))
+    (labels-at labels l ∙ (λ i. no_ends i ++ no_inlines i))
   where
     is_none : {X : Type 0} (o : Rattle.std.specs.Prelude.Option X) → is_some o ≡ false → o ≡ None
     is_none None e = refl
     is_none (Some x) e = absurd (true≢false e)
 
 -- so the line of an event has some
-pub event-labelled : (s : Sheet) (k : ℕ) (e : Event) → slice_get (events_of s) k ≡ Some e → is_unlabelled s.labels e.line ≡ false
+pub event-labelled : (labels : List LabelInfo) (k : ℕ) (e : Event) → slice_get (events_of labels) k ≡ Some e → is_unlabelled labels e.line ≡ false
 unfolding events_at
-event-labelled s k e there = elim (cases_Bool (is_unlabelled s.labels e.line)) [
+event-labelled labels k e there = elim (cases_Bool (is_unlabelled labels e.line)) [
   | inr f ↦ f
   | inl t ↦
-      let gone = unlabelled-no_event s e.line t in
-      let has = Rattle.ariadne_picture.proofs.Lists.Elements.has-filter (λ x. x.line == e.line) (events_of s) k e there (eq-eqb e.line e.line refl) in
+      let gone = unlabelled-no_event labels e.line t in
+      let has = Rattle.ariadne_picture.proofs.Lists.Elements.has-filter (λ x. x.line == e.line) (events_of labels) k e there (eq-eqb e.line e.line refl) in
       absurd (none≢some e (sym (ap (λ xs. slice_get xs has.place) gone) ∙ has.there))
 ]
 
 -- ---- an event is on a line of its group
 
 -- a line of the group
-abbrev IsGroupLine : Sheet → ℕ → Type 0
-IsGroupLine s l = (group_start_line s.labels ≤ l) × (l ≤ group_end_line s.labels)
+abbrev IsGroupLine : List LabelInfo → ℕ → Type 0
+IsGroupLine labels l = (group_start_line labels ≤ l) × (l ≤ group_end_line labels)
 
 -- a label that ends no earlier than it starts lies within these lines
-pub label-lines : (s : Sheet) → AllByRecursion (λ a. a.start_line ≤ a.end_line) s.labels
-    → AllByRecursion (λ a. IsGroupLine s a.start_line × IsGroupLine s a.end_line) s.labels
-label-lines s up =
-    all-from (λ a. IsGroupLine s a.start_line × IsGroupLine s a.end_line) s.labels
+pub label-lines : (labels : List LabelInfo) → AllByRecursion (λ a. a.start_line ≤ a.end_line) labels
+    → AllByRecursion (λ a. IsGroupLine labels a.start_line × IsGroupLine labels a.end_line) labels
+label-lines labels up =
+    all-from (λ a. IsGroupLine labels a.start_line × IsGroupLine labels a.end_line) labels
     (λ k a e.
-    let first = all-at (λ a. group_start_line s.labels ≤ a.start_line) s.labels k a e (starts-within s.labels) in
-    let last = all-at (λ a. a.end_line ≤ group_end_line s.labels) s.labels k a e (ends-within s.labels) in
-    let rises = all-at (λ a. a.start_line ≤ a.end_line) s.labels k a e up in
+    let first = all-at (λ a. group_start_line labels ≤ a.start_line) labels k a e (starts-within labels) in
+    let last = all-at (λ a. a.end_line ≤ group_end_line labels) labels k a e (ends-within labels) in
+    let rises = all-at (λ a. a.start_line ≤ a.end_line) labels k a e up in
     ((first, omega arith), (omega arith, last)))
 
 -- so each event is on one of them
-pub event-lines : (s : Sheet) → AllByRecursion (λ a. a.start_line ≤ a.end_line) s.labels
-    → AllByRecursion (λ e. (group_start_line s.labels ≤ e.line) × (e.line ≤ group_end_line s.labels)) (events_of s)
+pub event-lines : (labels : List LabelInfo) → AllByRecursion (λ a. a.start_line ≤ a.end_line) labels
+    → AllByRecursion (λ e. (group_start_line labels ≤ e.line) × (e.line ≤ group_end_line labels)) (events_of labels)
 unfolding events_of
-event-lines s up =
-    let P : Event → Type 0 = λ e. IsGroupLine s e.line in
-    let Q : LabelInfo → Type 0 = λ a. IsGroupLine s a.start_line × IsGroupLine s a.end_line in
-    let ends : List Event = joined gutter_events (enumerate_from 0 (gutter_labels s.labels)) in
-    let inlines : List Event = joined inline_events (enumerate_from 0 s.labels) in
-    let within = label-lines s up in
+event-lines labels up =
+    let P : Event → Type 0 = λ e. IsGroupLine labels e.line in
+    let Q : LabelInfo → Type 0 = λ a. IsGroupLine labels a.start_line × IsGroupLine labels a.end_line in
+    let ends : List Event = joined gutter_events (enumerate_from 0 (gutter_labels labels)) in
+    let inlines : List Event = joined inline_events (enumerate_from 0 labels) in
+    let within = label-lines labels up in
     all-in_order P (λ a b. nat_lt a.line b.line) (ends ++ inlines)
     (all-append P ends inlines
-    (all-joined P (λ e. Q e.1) gutter_events (enumerate_from 0 (gutter_labels s.labels)) (λ e h. (h.0, (h.1, tt)))
-    (all-numbered (λ e. Q e.1) (gutter_labels s.labels) (λ k a e. all-at Q (gutter_labels s.labels) k a e (all-gutter-labels Q s within))))
-    (all-joined P (λ e. Q e.1) inline_events (enumerate_from 0 s.labels)
+    (all-joined P (λ e. Q e.1) gutter_events (enumerate_from 0 (gutter_labels labels)) (λ e h. (h.0, (h.1, tt)))
+    (all-numbered (λ e. Q e.1) (gutter_labels labels) (λ k a e. all-at Q (gutter_labels labels) k a e (all-gutter-labels Q (sheet_of labels) within))))
+    (all-joined P (λ e. Q e.1) inline_events (enumerate_from 0 labels)
     (λ e h. cond_both (is_on_one_line e.1) _ [] (AllByRecursion P) (λ _. (h.0, tt)) (λ _. tt))
-    (all-numbered (λ e. Q e.1) s.labels (λ k a e. all-at Q s.labels k a e within))))
+    (all-numbered (λ e. Q e.1) labels (λ k a e. all-at Q labels k a e within))))
 
 -- ---- the events of one line
 
@@ -302,29 +303,29 @@ whole-line events from end l less short on next = record {
 -- ---- the lines are walked
 
 -- how many events are above line l
-abbrev pub above : Sheet → ℕ → ℕ
-above s l = length (filter (λ e. nat_lt e.line l) (events_of s))
+abbrev pub above : List LabelInfo → ℕ → ℕ
+above labels l = length (filter (λ e. nat_lt e.line l) (events_of labels))
 
 -- each event is on the first line of the group or below
-from-first : (s : Sheet) → AllByRecursion (λ a. a.start_line ≤ a.end_line) s.labels → AllByRecursion (λ e. first_line s ≤ e.line) (events_of s)
+from-first : (s : Sheet) → AllByRecursion (λ a. a.start_line ≤ a.end_line) s.labels → AllByRecursion (λ e. first_line s ≤ e.line) (events_of s.labels)
 unfolding first_line
 from-first s up =
-    all-weaker (λ (e : Event). (group_start_line s.labels ≤ e.line) × (e.line ≤ group_end_line s.labels)) (λ e. first_line s ≤ e.line) (events_of s)
-    (λ e h. let low = h.0 in omega (arith, low)) (event-lines s up)
+    all-weaker (λ (e : Event). (group_start_line s.labels ≤ e.line) × (e.line ≤ group_end_line s.labels)) (λ e. first_line s ≤ e.line) (events_of s.labels)
+    (λ e h. let low = h.0 in omega (arith, low)) (event-lines s.labels up)
 
 -- so none is above it
-pub none-above : (s : Sheet) → AllByRecursion (λ a. a.start_line ≤ a.end_line) s.labels → above s (first_line s) ≡ 0
+pub none-above : (s : Sheet) → AllByRecursion (λ a. a.start_line ≤ a.end_line) s.labels → above s.labels (first_line s) ≡ 0
 none-above s up =
-    ap length (filter-none (λ e. nat_lt e.line (first_line s)) (events_of s)
-    (all-weaker (λ (e : Event). first_line s ≤ e.line) (λ e. nat_lt e.line (first_line s) ≡ false) (events_of s)
+    ap length (filter-none (λ e. nat_lt e.line (first_line s)) (events_of s.labels)
+    (all-weaker (λ (e : Event). first_line s ≤ e.line) (λ e. nat_lt e.line (first_line s) ≡ false) (events_of s.labels)
     (λ e low. le-ltb e.line (first_line s) low) (from-first s up)))
 
 -- and none is on a line above it
-pub none-on-line-above : (s : Sheet) (l : ℕ) → AllByRecursion (λ a. a.start_line ≤ a.end_line) s.labels → l < first_line s → events_at s l ≡ []
+pub none-on-line-above : (s : Sheet) (l : ℕ) → AllByRecursion (λ a. a.start_line ≤ a.end_line) s.labels → l < first_line s → events_at s.labels l ≡ []
 unfolding events_at
 none-on-line-above s l up less =
-    filter-none (λ e. e.line == l) (events_of s)
-    (all-weaker (λ (e : Event). first_line s ≤ e.line) (λ e. (e.line == l) ≡ false) (events_of s)
+    filter-none (λ e. e.line == l) (events_of s.labels)
+    (all-weaker (λ (e : Event). first_line s ≤ e.line) (λ e. (e.line == l) ≡ false) (events_of s.labels)
     (λ e low. ne_eqb e.line l (omega (arith, low, less))) (from-first s up))
 
 -- at least line l and below the next is line l
@@ -338,53 +339,53 @@ at_line l n = elim (cases_order n l) [
 ]
 
 -- the events of line l are those between the events above it and those above the next line
-pub events-between : (s : Sheet) (l : ℕ) → slice_range (events_of s) (above s l) (above s (l + 1)) ≡ events_at s l
+pub events-between : (labels : List LabelInfo) (l : ℕ) → slice_range (events_of labels) (above labels l) (above labels (l + 1)) ≡ events_at labels l
 unfolding events_at
-events-between s l =
-    part-between (λ (e : Event). e.line) l (l + 1) (events_of s) (omega arith) (events-rise s)
-    ∙ filter_agree (λ x. nat_le l x.line && nat_lt x.line (l + 1)) (λ x. x.line == l) (λ x. at_line l x.line) (events_of s)
+events-between labels l =
+    part-between (λ (e : Event). e.line) l (l + 1) (events_of labels) (omega arith) (events-rise labels)
+    ∙ filter_agree (λ x. nat_le l x.line && nat_lt x.line (l + 1)) (λ x. x.line == l) (λ x. at_line l x.line) (events_of labels)
 
 -- a later event is on no earlier line
-pub later-line : (s : Sheet) (k j : ℕ) (a b : Event) → k < j → slice_get (events_of s) k ≡ Some a → slice_get (events_of s) j ≡ Some b → a.line ≤ b.line
-later-line s k j a b less e f =
-    let xs : List Event = events_of s in
+pub later-line : (labels : List LabelInfo) (k j : ℕ) (a b : Event) → k < j → slice_get (events_of labels) k ≡ Some a → slice_get (events_of labels) j ≡ Some b → a.line ≤ b.line
+later-line labels k j a b less e f =
+    let xs : List Event = events_of labels in
     let pair : (get_or xs k a).line ≤ (get_or xs j a).line =
-    increasing-pairs (λ (a b : Event). a.line ≤ b.line) xs (events-rise s) k j a less (slice_get_within xs j b f) in
+    increasing-pairs (λ (a b : Event). a.line ≤ b.line) xs (events-rise labels) k j a less (slice_get_within xs j b f) in
     let here : (get_or xs k a).line ≡ a.line = ap (λ (x : Event). x.line) (get_or_from_slice_get xs k a a e) in
     let there : (get_or xs j a).line ≡ b.line = ap (λ (x : Event). x.line) (get_or_from_slice_get xs j b a f) in
     omega arith
 
 -- where k events are above line l and event k is on it, its line's events end where those above the next line do
-pub line-end : (s : Sheet) (l k end : ℕ) (e : Event) → above s l ≡ k → slice_get (events_of s) k ≡ Some e → e.line ≡ l
-    → IsLineEnd (events_of s) k end → above s (l + 1) ≡ end
-line-end s l k end e few there on h =
-    let xs : List Event = events_of s in
+pub line-end : (labels : List LabelInfo) (l k end : ℕ) (e : Event) → above labels l ≡ k → slice_get (events_of labels) k ≡ Some e → e.line ≡ l
+    → IsLineEnd (events_of labels) k end → above labels (l + 1) ≡ end
+line-end labels l k end e few there on h =
+    let xs : List Event = events_of labels in
     let short = h.within in
     let first = h.behind in
-    reached (λ (e : Event). e.line) l (l + 1) end xs e (omega arith) (events-rise s) short
+    reached (λ (e : Event). e.line) l (l + 1) end xs e (omega arith) (events-rise labels) short
     (λ j low less.
     let same : (get_or xs j e).line ≡ e.line = h.same_line j e (get_or xs j e) (omega arith) less there (slice_get-get_or xs j e (omega arith)) in
     omega arith)
     (λ more.
     let next : slice_get xs end ≡ Some (get_or xs end e) = slice_get-get_or xs end e more in
     let other = h.next_line e (get_or xs end e) there next in
-    let later = later-line s k end e (get_or xs end e) first there next in
+    let later = later-line labels k end e (get_or xs end e) first there next in
     elim (cases_lt l (get_or xs end e).line) [
       | inl less ↦ omega arith
       | inr same ↦ absurd (other (omega arith))
     ])
 
 -- so they are the events of the line
-pub line-events : (s : Sheet) (l k end : ℕ) (e : Event) → above s l ≡ k → slice_get (events_of s) k ≡ Some e → e.line ≡ l
-    → IsLineEnd (events_of s) k end → slice_range (events_of s) k end ≡ events_at s l
-line-events s l k end e few there on h =
-    (λ i. slice_range (events_of s) (sym few i) (sym (line-end s l k end e few there on h) i)) ∙ events-between s l
+pub line-events : (labels : List LabelInfo) (l k end : ℕ) (e : Event) → above labels l ≡ k → slice_get (events_of labels) k ≡ Some e → e.line ≡ l
+    → IsLineEnd (events_of labels) k end → slice_range (events_of labels) k end ≡ events_at labels l
+line-events labels l k end e few there on h =
+    (λ i. slice_range (events_of labels) (sym few i) (sym (line-end labels l k end e few there on h) i)) ∙ events-between labels l
 
 -- where k events are above line l, event k is on it or below
-pub next-line : (s : Sheet) (l k : ℕ) (e : Event) → above s l ≡ k → slice_get (events_of s) k ≡ Some e → l ≤ e.line
-next-line s l k e few there =
-    let xs : List Event = events_of s in
-    let prefix = below-prefix (λ (e : Event). e.line) l xs (events-rise s) in
+pub next-line : (labels : List LabelInfo) (l k : ℕ) (e : Event) → above labels l ≡ k → slice_get (events_of labels) k ≡ Some e → l ≤ e.line
+next-line labels l k e few there =
+    let xs : List Event = events_of labels in
+    let prefix = below-prefix (λ (e : Event). e.line) l xs (events-rise labels) in
     let short = slice_get_within xs k e there in
     let n : prefix_len (λ x. nat_lt x.line l) xs ≡ k = omega arith in
     let past : nat_lt (get_or xs (prefix_len (λ x. nat_lt x.line l) xs) e).line l ≡ false =
@@ -393,17 +394,17 @@ next-line s l k e few there =
     ltb-false e.line l (ap (λ (x : Event). nat_lt x.line l) (sym here) ∙ past)
 
 -- and as many are above each line down to it, or down to any line where no event is left
-pub still-above : (s : Sheet) (l m k : ℕ) → above s l ≡ k → l ≤ m → ((e : Event) → slice_get (events_of s) k ≡ Some e → m ≤ e.line) → above s m ≡ k
-still-above s l m k few h next =
-    let xs : List Event = events_of s in
+pub still-above : (labels : List LabelInfo) (l m k : ℕ) → above labels l ≡ k → l ≤ m → ((e : Event) → slice_get (events_of labels) k ≡ Some e → m ≤ e.line) → above labels m ≡ k
+still-above labels l m k few h next =
+    let xs : List Event = events_of labels in
     let d : Event = record { line = 0; index = 0; side = Inline } in
-    reached (λ (e : Event). e.line) l m k xs d h (events-rise s) (subst (λ n. n ≤ length xs) few (filter-shorter (λ e. nat_lt e.line l) xs))
+    reached (λ (e : Event). e.line) l m k xs d h (events-rise labels) (subst (λ n. n ≤ length xs) few (filter-shorter (λ e. nat_lt e.line l) xs))
     (λ j low less. absurd (omega arith)) (λ more. next (get_or xs k d) (slice_get-get_or xs k d more))
 
 -- so no event is on a line above that of event k
-pub none-between : (s : Sheet) (l m k : ℕ) → above s l ≡ k → l ≤ m → ((e : Event) → slice_get (events_of s) k ≡ Some e → m < e.line) → events_at s m ≡ []
-none-between s l m k few h next =
-    let here : above s m ≡ k = still-above s l m k few h (λ e there. let less = next e there in omega arith) in
-    let after : above s (m + 1) ≡ k = still-above s l (m + 1) k few (omega arith) (λ e there. let less = next e there in omega arith) in
+pub none-between : (labels : List LabelInfo) (l m k : ℕ) → above labels l ≡ k → l ≤ m → ((e : Event) → slice_get (events_of labels) k ≡ Some e → m < e.line) → events_at labels m ≡ []
+none-between labels l m k few h next =
+    let here : above labels m ≡ k = still-above labels l m k few h (λ e there. let less = next e there in omega arith) in
+    let after : above labels (m + 1) ≡ k = still-above labels l (m + 1) k few (omega arith) (λ e there. let less = next e there in omega arith) in
     let zero_len : k - k ≡ 0 = omega arith in
-    sym (events-between s m) ∙ (λ i. slice_range (events_of s) (here i) (after i)) ∙ ap (λ n. take n (drop k (events_of s))) zero_len
+    sym (events-between labels m) ∙ (λ i. slice_range (events_of labels) (here i) (after i)) ∙ ap (λ n. take n (drop k (events_of labels))) zero_len

@@ -15,7 +15,7 @@ use Rattle.ariadne_picture.proofs.Lists.Elements.{Has, has-filter, has-map, all-
 use Rattle.ariadne_picture.proofs.Lists.ListFacts.{all-at, all-every, all-filter, all-in_order}
 use Rattle.ariadne_picture.proofs.Lists.StableOrder.{in_order-permutation}
 use Rattle.ariadne_picture.proofs.Rows.RowsThere.{enumerated-at}
-use Rattle.ariadne_rows.specs.Sheets.{HoldersTouch, holds_at, touches, touching}
+use Rattle.ariadne_rows.specs.SnippetLabels.{HoldersTouch, holds_at, is_held, touches, touching}
 
 -- ---- tests of some element
 
@@ -64,58 +64,57 @@ module _ (s : Sheet) (l : ℕ) (h : HoldersTouch s l) (o : ℕ) (low : line_offs
   ]
 
 -- the number of a multi-line label that touches line l is among those that do
-touching-has : (s : Sheet) (l i : ℕ) (a : LabelInfo) → slice_get (multi_line_labels s.labels) i ≡ Some a → touches l a ≡ true → Has (touching s l) i
+touching-has : (labels : List LabelInfo) (l i : ℕ) (a : LabelInfo) → slice_get (multi_line_labels labels) i ≡ Some a → touches l a ≡ true → Has (touching labels l) i
 unfolding touching
-touching-has s l i a e t =
+touching-has labels l i a e t =
     let z : 0 + i ≡ i = omega arith in
-    let there : slice_get (enumerate_from 0 (multi_line_labels s.labels)) i ≡ Some (i, a) =
-    enumerated-at 0 i (multi_line_labels s.labels) a e ∙ ap (λ n. Some (n, a)) z in
-    let kept = has-filter (λ (e : ℕ × LabelInfo). touches l e.1) (enumerate_from 0 (multi_line_labels s.labels)) i (i, a) there t in
-    has-map (λ (e : ℕ × LabelInfo). e.0) (filter (λ (e : ℕ × LabelInfo). touches l e.1) (enumerate_from 0 (multi_line_labels s.labels))) kept.place (i, a) kept.there
+    let there : slice_get (enumerate_from 0 (multi_line_labels labels)) i ≡ Some (i, a) =
+    enumerated-at 0 i (multi_line_labels labels) a e ∙ ap (λ n. Some (n, a)) z in
+    let kept = has-filter (λ (e : ℕ × LabelInfo). touches l e.1) (enumerate_from 0 (multi_line_labels labels)) i (i, a) there t in
+    has-map (λ (e : ℕ × LabelInfo). e.0) (filter (λ (e : ℕ × LabelInfo). touches l e.1) (enumerate_from 0 (multi_line_labels labels))) kept.place (i, a) kept.there
 
 -- so a label whose number is not among those holds no character of the line
 pub left-out : (s : Sheet) (l : ℕ) → HoldersTouch s l → (i : ℕ) (a : LabelInfo) → slice_get (multi_line_labels s.labels) i ≡ Some a
-    → (Has (touching s l) i → ⊥) → (k : ℕ) → k < length (line_text s.lines l) → holds a (line_offset length s.lines l + k) ≡ false
+    → (Has (touching s.labels l) i → ⊥) → (k : ℕ) → k < length (line_text s.lines l) → holds a (line_offset length s.lines l + k) ≡ false
 left-out s l h i a e out k less =
     untouched s l h (line_offset length s.lines l + k) (omega arith) (omega arith) i a e
-    (false_from_ne_true (touches l a) (λ t. out (touching-has s l i a e t)))
+    (false_from_ne_true (touches l a) (λ t. out (touching-has s.labels l i a e t)))
 
 -- ---- whether the start of a line lies inside a label
 
--- a test of the labels of numbers that touch the line
-found-touching : (s : Sheet) (l o : ℕ)
-    → list_any (holds_at (multi_line_labels s.labels) o) (touching s l) ≡ list_any (λ a. touches l a && holds a o) (multi_line_labels s.labels)
+-- a multi-line label that touches the line holds a character if one of those numbers does
+pub found-touching : (labels : List LabelInfo) (l o : ℕ)
+    → list_any (holds_at (multi_line_labels labels) o) (touching labels l) ≡ is_held labels l o
 unfolding touching
-found-touching s l o =
-    let labels : List LabelInfo = multi_line_labels s.labels in
-    let es : List (ℕ × LabelInfo) = enumerate_from 0 labels in
+found-touching labels l o =
+    let longs : List LabelInfo = multi_line_labels labels in
+    let es : List (ℕ × LabelInfo) = enumerate_from 0 longs in
     let t : ℕ × LabelInfo → Bool = λ e. touches l e.1 in
-    any-map (holds_at labels o) (λ (e : ℕ × LabelInfo). e.0) (filter t es) ∙ any-filter (λ (e : ℕ × LabelInfo). holds_at labels o e.0) t es
-    ∙ any-alike (λ (e : ℕ × LabelInfo). slice_get labels e.0 ≡ Some e.1) (λ e. t e && holds_at labels o e.0) (λ e. t e && holds e.1 o)
-    (λ e there. rw there refl) es (all-numbered (λ (e : ℕ × LabelInfo). slice_get labels e.0 ≡ Some e.1) labels (λ k x e. e))
-    ∙ any-numbered (λ a. touches l a && holds a o) 0 labels
+    any-map (holds_at longs o) (λ (e : ℕ × LabelInfo). e.0) (filter t es) ∙ any-filter (λ (e : ℕ × LabelInfo). holds_at longs o e.0) t es
+    ∙ any-alike (λ (e : ℕ × LabelInfo). slice_get longs e.0 ≡ Some e.1) (λ e. t e && holds_at longs o e.0) (λ e. t e && holds e.1 o)
+    (λ e there. rw there refl) es (all-numbered (λ (e : ℕ × LabelInfo). slice_get longs e.0 ≡ Some e.1) longs (λ k x e. e))
+    ∙ any-numbered (λ a. touches l a && holds a o) 0 longs
 
 -- a test of the multi-line labels is one of all labels
-found-multi-line : (s : Sheet) (p : LabelInfo → Bool) → list_any p (multi_line_labels s.labels) ≡ list_any (λ a. not (is_on_one_line a) && p a) s.labels
+found-multi-line : (labels : List LabelInfo) (p : LabelInfo → Bool) → list_any p (multi_line_labels labels) ≡ list_any (λ a. not (is_on_one_line a) && p a) labels
 unfolding multi_line_labels
-found-multi-line s p =
+found-multi-line labels p =
     let longer : LabelInfo → LabelInfo → Bool = λ a b. nat_lt (span_len b) (span_len a) in
-    let several : List LabelInfo = filter (λ a. not (is_on_one_line a)) s.labels in
+    let several : List LabelInfo = filter (λ a. not (is_on_one_line a)) labels in
     sym (list_any-IsPermutation p several (in_order longer several) (in_order-permutation longer several))
-    ∙ any-filter p (λ a. not (is_on_one_line a)) s.labels
+    ∙ any-filter p (λ a. not (is_on_one_line a)) labels
 
--- the start of a line lies inside a label if one of those that touch the line holds it
-pub inside-found : (s : Sheet) (l o : ℕ) → o ≡ line_offset length s.lines l → 0 < length (line_text s.lines l) → HoldersTouch s l
-    → list_any (holds_at (multi_line_labels s.labels) o) (touching s l) ≡ is_inside s l
+-- the start of a line lies inside a label if one that touches the line holds it
+pub inside-found : (s : Sheet) (l : ℕ) → 0 < length (line_text s.lines l) → HoldersTouch s l
+    → is_held s.labels l (line_offset length s.lines l) ≡ is_inside s l
 unfolding is_inside holds
-inside-found s l o e some h =
-    let o' : ℕ = line_offset length s.lines l in
-    ap (λ o. list_any (holds_at (multi_line_labels s.labels) o) (touching s l)) e ∙ found-touching s l o'
-    ∙ any-alike (λ a. holds a o' ≡ true → touches l a ≡ true) (λ a. touches l a && holds a o') (λ a. holds a o')
-    (λ a t. holder (touches l a) (holds a o') t) (multi_line_labels s.labels) (holders-touch s l h o' (omega arith) (omega arith))
-    ∙ found-multi-line s (λ a. holds a o')
-    ∙ any-alike (λ a. Unit {0}) (λ a. not (is_on_one_line a) && holds a o') (λ a. not (is_on_one_line a) && nat_le a.start o' && nat_lt o' a.end)
-    (λ a _. grouped (not (is_on_one_line a)) (nat_le a.start o') (nat_lt o' a.end)) s.labels (all-every (λ a. Unit {0}) (λ a. tt) s.labels)
+inside-found s l some h =
+    let o : ℕ = line_offset length s.lines l in
+    any-alike (λ a. holds a o ≡ true → touches l a ≡ true) (λ a. touches l a && holds a o) (λ a. holds a o)
+    (λ a t. holder (touches l a) (holds a o) t) (multi_line_labels s.labels) (holders-touch s l h o (omega arith) (omega arith))
+    ∙ found-multi-line s.labels (λ a. holds a o)
+    ∙ any-alike (λ a. Unit {0}) (λ a. not (is_on_one_line a) && holds a o) (λ a. not (is_on_one_line a) && nat_le a.start o && nat_lt o a.end)
+    (λ a _. grouped (not (is_on_one_line a)) (nat_le a.start o) (nat_lt o a.end)) s.labels (all-every (λ a. Unit {0}) (λ a. tt) s.labels)
   where
     holder : (b c : Bool) → (c ≡ true → b ≡ true) → (b && c) ≡ c
     holder b true f = rw (f refl) refl

@@ -2,7 +2,7 @@
 use Rattle.std.proofs.Common.{◌≡◌, ℕ, ◌+◌, ◌<◌, Bool, true, false, not, ◌&&◌, cond, List, [], ◌∷◌, ◌++◌, length, take, get_or, filter, refl, sym, ap, ◌∙◌, inl, inr}
 use Rattle.std.specs.Borrow.{Bor}
 use Rattle.std.specs.Prelude.{Option, Some, None, MatchOption, IfSome, is_some, option_map, nat_lt, slice_get, option_to_list}
-use Rattle.std.specs.Prelude.{Result, Ok, Err, OnOk, IsTrue, is_ok}
+use Rattle.std.specs.Prelude.{Result, Ok, Err, OnOk, IsTrue}
 use Rattle.std.specs.List.{AllByRecursion, best_of}
 use Rattle.std.proofs.lemmas.Bool.{and_left, not_from_false, cond-true, cond-false, ltb-true, ltb-false, true≢false}
 use Rattle.std.proofs.lemmas.List.{append-nil, take_more}
@@ -18,8 +18,8 @@ use Rattle.ariadne_picture.proofs.Labels.LineLabels.{IsEndAt, ends-are}
 use Rattle.ariadne_picture.proofs.Labels.Orders.{best-none}
 use Rattle.ariadne_picture.proofs.Lists.Joined.{joined-append, joined-one}
 use Rattle.ariadne_picture.proofs.Lists.ListFacts.{all-every, all-map, all-weaker, filter-all, filter-none}
-use Rattle.ariadne_rows.specs.declared.sheet.Event.{Event}
-use Rattle.ariadne_rows.specs.Sheets.{event_label, labels_of}
+use Rattle.ariadne_rows.specs.declared.snippet_labels.Event.{Event}
+use Rattle.ariadne_rows.specs.SnippetLabels.{event_label, labels_of, margin_of, ranked}
 
 -- some group with these labels
 abbrev pub sheet_of : List LabelInfo → Sheet
@@ -94,52 +94,53 @@ best-passed beats t xs i d now h e fail =
 -- ---- the labels of the events of a line: ends of gutter labels, and labels within it
 
 -- the first do not lie within the line
-ends-side : (s : Sheet) (l : ℕ) → AllByRecursion (λ x. is_inline x.side ≡ false) (ends_at s.labels l)
+ends-side : (labels : List LabelInfo) (l : ℕ) → AllByRecursion (λ x. is_inline x.side ≡ false) (ends_at labels l)
 unfolding is_inline
-ends-side s l =
-    all-weaker (IsEndAt s l) (λ x. is_inline x.side ≡ false) (ends_at s.labels l)
-    (λ x h. elim h.there [ inl start ↦ ap is_inline start.0 | inr end ↦ ap is_inline end.0 ]) (ends-are s l)
+ends-side labels l =
+    all-weaker (IsEndAt (sheet_of labels) l) (λ x. is_inline x.side ≡ false) (ends_at labels l)
+    (λ x h. elim h.there [ inl start ↦ ap is_inline start.0 | inr end ↦ ap is_inline end.0 ]) (ends-are (sheet_of labels) l)
 
 -- the others do
-inlines-side : (s : Sheet) (l : ℕ) → AllByRecursion (λ x. x.side ≡ Inline) (inline_labels s.labels l)
+inlines-side : (labels : List LabelInfo) (l : ℕ) → AllByRecursion (λ x. x.side ≡ Inline) (inline_labels labels l)
 unfolding inline_labels
-inlines-side s l =
+inlines-side labels l =
     all-map (λ x. x.side ≡ Inline) (λ (a : LabelInfo). record { info = a; side = Inline; gutter_column = 0; place = a.attach }) _
     (all-every (λ (a : LabelInfo). Inline ≡ Inline) (λ a. refl) _)
 
 -- so the margin label is the nearest of those that do not
-pub margin-found : (s : Sheet) (l : ℕ) (all : List LineLabel) → all ≡ ends_at s.labels l ++ inline_labels s.labels l
-    → best is_nearer_margin (filter (λ x. not (is_inline x.side)) all) ≡ margin_label s.labels l
-unfolding margin_label is_inline
-margin-found s l all e =
+pub margin-found : (labels : List LabelInfo) (l : ℕ) (all : List LineLabel) → all ≡ ends_at labels l ++ inline_labels labels l
+    → margin_of all ≡ margin_label labels l
+unfolding margin_of margin_label is_inline
+margin-found labels l all e =
     let test : LineLabel → Bool = λ x. not (is_inline x.side) in
-    let ends : filter test (ends_at s.labels l) ≡ ends_at s.labels l =
-    filter-all test (ends_at s.labels l) (all-weaker (λ x. is_inline x.side ≡ false) (λ x. test x ≡ true) (ends_at s.labels l) (λ x h. ap not h) (ends-side s l)) in
-    let inlines : filter test (inline_labels s.labels l) ≡ [] =
-    filter-none test (inline_labels s.labels l) (all-weaker (λ x. x.side ≡ Inline) (λ x. test x ≡ false) (inline_labels s.labels l) (λ x h. ap (λ t. not (is_inline t)) h) (inlines-side s l)) in
+    let ends : filter test (ends_at labels l) ≡ ends_at labels l =
+    filter-all test (ends_at labels l) (all-weaker (λ x. is_inline x.side ≡ false) (λ x. test x ≡ true) (ends_at labels l) (λ x h. ap not h) (ends-side labels l)) in
+    let inlines : filter test (inline_labels labels l) ≡ [] =
+    filter-none test (inline_labels labels l) (all-weaker (λ x. x.side ≡ Inline) (λ x. test x ≡ false) (inline_labels labels l) (λ x h. ap (λ t. not (is_inline t)) h) (inlines-side labels l)) in
     ap (best is_nearer_margin)
-    (ap (filter test) e ∙ filter-append test (ends_at s.labels l) (inline_labels s.labels l) ∙ (λ i. ends i ++ inlines i) ∙ append-nil (ends_at s.labels l))
+    (ap (filter test) e ∙ filter-append test (ends_at labels l) (inline_labels labels l) ∙ (λ i. ends i ++ inlines i) ∙ append-nil (ends_at labels l))
 
 -- and the line labels are all but the margin label where it starts, in order
-pub labels-found : (s : Sheet) (l : ℕ) (all : List LineLabel) (margin : Option LineLabel) → all ≡ ends_at s.labels l ++ inline_labels s.labels l
-    → margin ≡ margin_label s.labels l → in_order is_before (filter (λ x. not (is_start x.side && is_margin margin x)) all) ≡ line_labels s.labels l
-unfolding line_labels is_start
-labels-found s l all margin e m =
-    let test : LineLabel → Bool = λ x. not (is_start x.side && is_margin (margin_label s.labels l) x) in
-    let inlines : filter test (inline_labels s.labels l) ≡ inline_labels s.labels l =
-    filter-all test (inline_labels s.labels l) (all-weaker (λ x. x.side ≡ Inline) (λ x. test x ≡ true) (inline_labels s.labels l)
-    (λ x h. not_from_false (is_start x.side && is_margin (margin_label s.labels l) x) (and_left (is_start x.side) (is_margin (margin_label s.labels l) x) (ap is_start h)))
-    (inlines-side s l)) in
+pub ranked-found : (labels : List LabelInfo) (l : ℕ) (all : List LineLabel) → all ≡ ends_at labels l ++ inline_labels labels l
+    → ranked all ≡ line_labels labels l
+unfolding ranked line_labels is_start
+ranked-found labels l all e =
+    let m = margin-found labels l all e in
+    let test : LineLabel → Bool = λ x. not (is_start x.side && is_margin (margin_label labels l) x) in
+    let inlines : filter test (inline_labels labels l) ≡ inline_labels labels l =
+    filter-all test (inline_labels labels l) (all-weaker (λ x. x.side ≡ Inline) (λ x. test x ≡ true) (inline_labels labels l)
+    (λ x h. not_from_false (is_start x.side && is_margin (margin_label labels l) x) (and_left (is_start x.side) (is_margin (margin_label labels l) x) (ap is_start h)))
+    (inlines-side labels l)) in
     ap (in_order is_before)
-    ((λ i. filter (λ x. not (is_start x.side && is_margin (m i) x)) (e i)) ∙ filter-append test (ends_at s.labels l) (inline_labels s.labels l)
-    ∙ ap (λ t. filter test (ends_at s.labels l) ++ t) inlines)
+    ((λ i. filter (λ x. not (is_start x.side && is_margin (m i) x)) (e i)) ∙ filter-append test (ends_at labels l) (inline_labels labels l)
+    ∙ ap (λ t. filter test (ends_at labels l) ++ t) inlines)
 
 -- ---- results and options
 
--- what holds on Ok holds where it is Ok
-pub on-ok : {T E P : Type 0} (r : Result T E) → is_ok r ≡ true → OnOk r P → P
-on-ok (Ok x) e p = p
-on-ok (Err y) e p = absurd (true≢false (sym e))
+-- what holds anyhow holds on Ok
+pub on-ok : {T E : Type 0} (P : Type 0) (r : Result T E) → P → OnOk r P
+on-ok P (Ok x) p = p
+on-ok P (Err y) p = tt
 
 -- a test of an option's value that is true where there is none
 pub tested-true : {X : Type 0} (f : X → Bool) (o : Option X) (r : Bool) → MatchOption o (IsTrue r) (λ x. r ≡ f x) → r ≡ true
@@ -162,16 +163,16 @@ made-of f xs i None out e m o = o ∙ sym (ap (option_map f) (slice_get_past xs 
 made-of f xs i (Some x) out e m o = o ∙ sym (ap (option_map f) (slice_get_read xs (length xs) i x.now refl (ltb-true i (length xs) (sym e)) m))
 
 -- the label of one event more is listed
-pub labels-more : (s : Sheet) (xs : List Event) (i : ℕ) (d : Event) (now new : List LineLabel) (label : Option LineLabel) → i < length xs
-    → now ≡ labels_of s (take i xs) → label ≡ event_label s (get_or xs i d).side (get_or xs i d).index → new ≡ now ++ option_to_list label
-    → new ≡ labels_of s (take (i + 1) xs)
+pub labels-more : (labels : List LabelInfo) (xs : List Event) (i : ℕ) (d : Event) (now new : List LineLabel) (label : Option LineLabel) → i < length xs
+    → now ≡ labels_of labels (take i xs) → label ≡ event_label labels (get_or xs i d).side (get_or xs i d).index → new ≡ now ++ option_to_list label
+    → new ≡ labels_of labels (take (i + 1) xs)
 unfolding labels_of
-labels-more s xs i d now new label h e is g =
-    let f : Event → List LineLabel = λ x. option_to_list (event_label s x.side x.index) in
+labels-more labels xs i d now new label h e is g =
+    let f : Event → List LineLabel = λ x. option_to_list (event_label labels x.side x.index) in
     g ∙ (λ j. e j ++ option_to_list (is j)) ∙ ap (λ t. joined f (take i xs) ++ t) (sym (joined-one f (get_or xs i d)))
     ∙ sym (joined-append f (take i xs) (get_or xs i d ∷ [])) ∙ ap (joined f) (sym (take_more xs i d h))
 
 -- at first there is none
-pub labels-none : (s : Sheet) → labels_of s [] ≡ []
+pub labels-none : (labels : List LabelInfo) → labels_of labels [] ≡ []
 unfolding labels_of joined
-labels-none s = refl
+labels-none labels = refl

@@ -1,5 +1,5 @@
 -- The numbers of the multi-line labels that touch a line, as the lines are gone through.
-use Rattle.std.proofs.Common.{◌≡◌, ℕ, ◌+◌, ◌<◌, ◌≤◌, Bool, true, false, ◌&&◌, ◌==◌, cond, List, [], ◌∷◌, length, map, fold, get_or, filter, nat_le, nat_lt}
+use Rattle.std.proofs.Common.{◌≡◌, ℕ, ◌+◌, ◌<◌, ◌≤◌, Bool, true, false, ◌&&◌, ◌==◌, cond, List, [], ◌∷◌, map, fold, get_or, filter, nat_le, nat_lt}
 use Rattle.std.proofs.Common.{refl, ap, ◌∙◌, arith, inl, inr, Some}
 use Rattle.std.specs.Prelude.{slice_get, slice_range}
 use Rattle.std.specs.List.{AllByRecursion, enumerate_from}
@@ -8,13 +8,13 @@ use Rattle.std.proofs.lemmas.Bool.{cond_both, cases_lt, cases_order, lt-ltb, le-
 use Rattle.std.proofs.lemmas.List.Elements.{filter_agree}
 use Rattle.ariadne_picture.specs.declared.label_info.LabelInfo.{LabelInfo}
 use Rattle.ariadne_picture.specs.Lists.{inserted, in_order, mapped_numbered, total}
-use Rattle.ariadne_picture.specs.Ranks.{Sheet, multi_line_labels}
+use Rattle.ariadne_picture.specs.Ranks.{multi_line_labels}
 use Rattle.ariadne_picture.proofs.Lists.Elements.{all-numbered}
 use Rattle.ariadne_picture.proofs.Lists.ListFacts.{all-weaker, increasing-pairs}
 use Rattle.ariadne_picture.proofs.Lists.Occurrences.{occurrences, total-inserted, total-in_order, total-map, total-same}
-use Rattle.ariadne_rows.specs.declared.group_lists.Begin.{Begin}
-use Rattle.ariadne_rows.specs.GroupLists.{begins_of, ends_from, reaching}
-use Rattle.ariadne_rows.specs.Sheets.{touches, touching}
+use Rattle.ariadne_rows.specs.declared.label_lists.Begin.{Begin}
+use Rattle.ariadne_rows.specs.LabelLists.{begins_of, begun_above, ends_from, reaching}
+use Rattle.ariadne_rows.specs.SnippetLabels.{touches, touching}
 use Rattle.ariadne_rows.proofs.Rising.{RisesBy, in_order-rises, inserted-rises, filter-rises, part-between}
 
 -- ---- numbers that rise
@@ -88,10 +88,10 @@ numbers-rise p n (x ∷ xs) =
     (λ es. Rises (map (λ (e : ℕ × _). e.0) es)) (λ _. (rest, numbers-rise p (n + 1) xs)) (λ _. numbers-rise p (n + 1) xs)
 
 -- so the numbers of labels that reach a line rise
-pub reaching-rises : (s : Sheet) (b m : ℕ) → Rises (reaching s b m)
+pub reaching-rises : (longs : List LabelInfo) (b m : ℕ) → Rises (reaching longs b m)
 unfolding reaching
-reaching-rises s b m =
-    numbers-rise (λ (e : ℕ × LabelInfo). nat_lt e.1.start_line b && nat_le m e.1.end_line) 0 (multi_line_labels s.labels)
+reaching-rises longs b m =
+    numbers-rise (λ (e : ℕ × LabelInfo). nat_lt e.1.start_line b && nat_le m e.1.end_line) 0 longs
 
 -- ---- sums
 
@@ -187,14 +187,14 @@ two-tests true q = refl
 two-tests false q = refl
 
 -- the begins of a group rise by line
-pub begins-rise : (s : Sheet) → RisesBy (λ b. b.line) (begins_of s)
+pub begins-rise : (longs : List LabelInfo) → RisesBy (λ b. b.line) (begins_of longs)
 unfolding begins_of
-begins-rise s = in_order-rises (λ b. b.line) (mapped_numbered (λ i a. record { line = a.start_line; number = i }) (multi_line_labels s.labels))
+begins-rise longs = in_order-rises (λ b. b.line) (mapped_numbered (λ i a. record { line = a.start_line; number = i }) longs)
 
-module _ (s : Sheet) (b m l : ℕ) (h : b ≤ l + 1) (k : m ≤ l) where
+module _ (longs : List LabelInfo) (b m l : ℕ) (h : b ≤ l + 1) (k : m ≤ l) where
   -- the numbered labels
   abbrev numbered : List (ℕ × LabelInfo)
-  numbered = enumerate_from 0 (multi_line_labels s.labels)
+  numbered = enumerate_from 0 longs
 
   -- the start of a label
   abbrev begin_of : ℕ × LabelInfo → Begin
@@ -210,7 +210,7 @@ module _ (s : Sheet) (b m l : ℕ) (h : b ≤ l + 1) (k : m ≤ l) where
 
   -- how often a number is among those of labels that reach a line
   reaching-count : (f : ℕ → ℕ) (c n : ℕ)
-      → total f (reaching s c n) ≡ total (λ (e : ℕ × LabelInfo). cond (nat_lt e.1.start_line c && nat_le n e.1.end_line) (f e.0) 0) numbered
+      → total f (reaching longs c n) ≡ total (λ (e : ℕ × LabelInfo). cond (nat_lt e.1.start_line c && nat_le n e.1.end_line) (f e.0) 0) numbered
   unfolding reaching
   reaching-count f c n =
       let q : ℕ × LabelInfo → Bool = λ e. nat_lt e.1.start_line c && nat_le n e.1.end_line in
@@ -218,70 +218,68 @@ module _ (s : Sheet) (b m l : ℕ) (h : b ≤ l + 1) (k : m ≤ l) where
 
   -- how often it is among those that start there and end on line l or below
   starting-count : (w : ℕ)
-      → occurrences (λ (x : Begin). ends_from (multi_line_labels s.labels) l x.number && (x.number == w)) (filter starts_there (begins_of s))
-      ≡ total (λ (e : ℕ × LabelInfo). cond (starts_there (begin_of e)) (cond (ends_from (multi_line_labels s.labels) l e.0) (is_number w e.0) 0) 0) numbered
+      → occurrences (λ (x : Begin). ends_from longs l x.number && (x.number == w)) (filter starts_there (begins_of longs))
+      ≡ total (λ (e : ℕ × LabelInfo). cond (starts_there (begin_of e)) (cond (ends_from longs l e.0) (is_number w e.0) 0) 0) numbered
   unfolding begins_of
   starting-count w =
-      let g : Begin → ℕ = λ x. cond (ends_from (multi_line_labels s.labels) l x.number && (x.number == w)) 1 0 in
+      let g : Begin → ℕ = λ x. cond (ends_from longs l x.number && (x.number == w)) 1 0 in
       let f : Begin → ℕ = λ x. cond (starts_there x) (g x) 0 in
       let starts : List Begin = map begin_of numbered in
       total-kept g starts_there (in_order (λ a b. nat_lt a.line b.line) starts) ∙ total-in_order f (λ a b. nat_lt a.line b.line) starts
       ∙ total-map f begin_of numbered ∙ total-same (λ e. f (begin_of e))
-      (λ e. cond (starts_there (begin_of e)) (cond (ends_from (multi_line_labels s.labels) l e.0) (is_number w e.0) 0) 0)
-      (λ e. ap (λ n. cond (starts_there (begin_of e)) n 0) (two-tests (ends_from (multi_line_labels s.labels) l e.0) (e.0 == w))) numbered
+      (λ e. cond (starts_there (begin_of e)) (cond (ends_from longs l e.0) (is_number w e.0) 0) 0)
+      (λ e. ap (λ n. cond (starts_there (begin_of e)) n 0) (two-tests (ends_from longs l e.0) (e.0 == w))) numbered
 
   -- the numbers of labels that reached line b and end on line l or below, and of those that start there
   abbrev moved_on : List ℕ
   moved_on =
-      fold (taken_in (multi_line_labels s.labels) l) (filter (ends_from (multi_line_labels s.labels) l) (reaching s b m)) (filter starts_there (begins_of s))
+      fold (taken_in longs l) (filter (ends_from longs l) (reaching longs b m)) (filter starts_there (begins_of longs))
 
   -- each is among them as often as among those that touch line l
-  moved-count : (w : ℕ) → occurrences (λ n. n == w) moved_on ≡ occurrences (λ n. n == w) (reaching s (l + 1) l)
+  moved-count : (w : ℕ) → occurrences (λ n. n == w) moved_on ≡ occurrences (λ n. n == w) (reaching longs (l + 1) l)
   moved-count w =
-      let labels : List LabelInfo = multi_line_labels s.labels in
-      let kept = total-kept (is_number w) (ends_from labels l) (reaching s b m) in
-      let old = reaching-count (λ n. cond (ends_from labels l n) (is_number w n) 0) b m in
+      let kept = total-kept (is_number w) (ends_from longs l) (reaching longs b m) in
+      let old = reaching-count (λ n. cond (ends_from longs l n) (is_number w n) 0) b m in
       let new = starting-count w in
-      let all = all-taken_in-count labels l w (filter (ends_from labels l) (reaching s b m)) (filter starts_there (begins_of s)) in
-      let sum = total-both (λ (e : ℕ × LabelInfo). slice_get labels e.0 ≡ Some e.1)
-      (λ e. cond (nat_lt e.1.start_line b && nat_le m e.1.end_line) (cond (ends_from labels l e.0) (is_number w e.0) 0) 0)
-      (λ e. cond (starts_there (begin_of e)) (cond (ends_from labels l e.0) (is_number w e.0) 0) 0)
+      let all = all-taken_in-count longs l w (filter (ends_from longs l) (reaching longs b m)) (filter starts_there (begins_of longs)) in
+      let sum = total-both (λ (e : ℕ × LabelInfo). slice_get longs e.0 ≡ Some e.1)
+      (λ e. cond (nat_lt e.1.start_line b && nat_le m e.1.end_line) (cond (ends_from longs l e.0) (is_number w e.0) 0) 0)
+      (λ e. cond (starts_there (begin_of e)) (cond (ends_from longs l e.0) (is_number w e.0) 0) 0)
       (λ e. cond (nat_lt e.1.start_line (l + 1) && nat_le l e.1.end_line) (is_number w e.0) 0)
       (λ e there.
-      let ends : ends_from labels l e.0 ≡ nat_le l e.1.end_line = rw there refl in
+      let ends : ends_from longs l e.0 ≡ nat_le l e.1.end_line = rw there refl in
       rw ends (one-counts e.1.start_line e.1.end_line b m l (is_number w e.0) h k)) numbered
-      (all-numbered (λ (e : ℕ × LabelInfo). slice_get labels e.0 ≡ Some e.1) labels (λ k x e. e)) in
+      (all-numbered (λ (e : ℕ × LabelInfo). slice_get longs e.0 ≡ Some e.1) longs (λ k x e. e)) in
       let goal = reaching-count (is_number w) (l + 1) l in
       omega (arith, kept, old, new, all, sum, goal)
 
   -- so they are the same
-  moved-same : moved_on ≡ reaching s (l + 1) l
+  moved-same : moved_on ≡ reaching longs (l + 1) l
   moved-same =
-      same-numbers moved_on (reaching s (l + 1) l)
-      (all-taken_in-rises (multi_line_labels s.labels) l (filter (ends_from (multi_line_labels s.labels) l) (reaching s b m)) (filter starts_there (begins_of s))
-      (filter-rises (λ n. n) (ends_from (multi_line_labels s.labels) l) (reaching s b m) (reaching-rises s b m)))
-      (reaching-rises s (l + 1) l) moved-count
+      same-numbers moved_on (reaching longs (l + 1) l)
+      (all-taken_in-rises longs l (filter (ends_from longs l) (reaching longs b m)) (filter starts_there (begins_of longs))
+      (filter-rises (λ n. n) (ends_from longs l) (reaching longs b m) (reaching-rises longs b m)))
+      (reaching-rises longs (l + 1) l) moved-count
 
   -- after those that end above line l are dropped, and those that start up to it are taken in, the numbers are those that touch it
-  pub moved : (first last : ℕ) → first ≡ length (filter (λ x. nat_lt x.line b) (begins_of s))
-      → last ≡ length (filter (λ x. nat_lt x.line (l + 1)) (begins_of s))
-      → fold (taken_in (multi_line_labels s.labels) l) (filter (ends_from (multi_line_labels s.labels) l) (reaching s b m))
-      (slice_range (begins_of s) first last) ≡ reaching s (l + 1) l
+  pub moved : (first last : ℕ) → first ≡ begun_above longs b → last ≡ begun_above longs (l + 1)
+      → fold (taken_in longs l) (filter (ends_from longs l) (reaching longs b m)) (slice_range (begins_of longs) first last) ≡ reaching longs (l + 1) l
+  unfolding begun_above
   moved first last e f =
-      let there : slice_range (begins_of s) first last ≡ filter starts_there (begins_of s) =
-      (λ i. slice_range (begins_of s) (e i) (f i)) ∙ part-between (λ (x : Begin). x.line) b (l + 1) (begins_of s) h (begins-rise s) in
-      ap (fold (taken_in (multi_line_labels s.labels) l) (filter (ends_from (multi_line_labels s.labels) l) (reaching s b m))) there ∙ moved-same
+      let there : slice_range (begins_of longs) first last ≡ filter starts_there (begins_of longs) =
+      (λ i. slice_range (begins_of longs) (e i) (f i)) ∙ part-between (λ (x : Begin). x.line) b (l + 1) (begins_of longs) h (begins-rise longs) in
+      ap (fold (taken_in longs l) (filter (ends_from longs l) (reaching longs b m))) there ∙ moved-same
 
 -- ---- what the numbers are, where a line was gone to
 
 -- those that start above the next line and end on this or below touch this
-pub reaching-touching : (s : Sheet) (l : ℕ) → reaching s (l + 1) l ≡ touching s l
+pub reaching-touching : (labels : List LabelInfo) (l : ℕ) → reaching (multi_line_labels labels) (l + 1) l ≡ touching labels l
 unfolding reaching touching touches
-reaching-touching s l =
+reaching-touching labels l =
     ap (map (λ (e : ℕ × LabelInfo). e.0))
     (filter_agree (λ (e : ℕ × LabelInfo). nat_lt e.1.start_line (l + 1) && nat_le l e.1.end_line)
     (λ e. nat_le e.1.start_line l && nat_le l e.1.end_line) (λ e. ap (λ t. t && nat_le l e.1.end_line) (up-to e.1.start_line))
-    (enumerate_from 0 (multi_line_labels s.labels)))
+    (enumerate_from 0 (multi_line_labels labels)))
   where
     up-to : (n : ℕ) → nat_lt n (l + 1) ≡ nat_le n l
     up-to n = elim (cases_lt l n) [

@@ -1,8 +1,8 @@
 pub mod Areas
 pub mod Counted
-pub mod GroupLists
 pub mod Gutters
 pub mod Headers
+pub mod LabelLists
 pub mod Seen
-pub mod Sheets
 pub mod ShownTexts
+pub mod SnippetLabels

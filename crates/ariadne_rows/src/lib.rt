@@ -8,10 +8,10 @@
 pub mod area;
 pub mod asides;
 mod counted;
-mod group_lists;
 pub mod gutter;
 pub mod headers;
+mod label_lists;
 pub mod rows;
 mod seen;
-pub mod sheet;
 pub mod shown;
+pub mod snippet_labels;

@@ -7,7 +7,7 @@ use Rattle.ariadne_cells.specs.Pages.{DrawsRows}
 use Rattle.ariadne_picture.specs.declared.label_info.LabelInfo.{LabelInfo}
 use Rattle.ariadne_picture.specs.Canvas.{group_source, same_source, section_of, texts_of}
 use Rattle.ariadne_picture.specs.Pieces.{section_rows}
-use Rattle.ariadne_rows.specs.Sheets.{GroupFields}
+use Rattle.ariadne_rows.specs.SnippetLabels.{LabelsFields}
 use Rattle.ariadne_accept.specs.CacheReads.{world}
 use Rattle.ariadne_base.specs.Listing.{listed_lines}
 use Rattle.ariadne_render.specs.DrawnGroups.{IsGroup}
@@ -100,7 +100,7 @@ push_group-requires-clause-known g c =
     let old = (get_or groups k no_group).now in
     let new = (get_or groups c.args.rank no_group).now in
     let there : slice_get gs (c.args.rank - 1) ≡ Some old = ap (slice_get gs) (sym c.saturating_sub.ensures) ∙ mapped_at (λ (x : Bor (List LabelInfo)). x.now) groups k no_group less in
-    let labels : c.fill.new.self.labels ≡ new = ap (λ (x : GroupFields). x.labels) c.in_ok-fill.ensures.ok in
+    let labels : c.fill.new.self.labels ≡ new = ap (λ (x : LabelsFields). x.labels) c.in_ok-fill.ensures.ok in
     subst (λ (ls : List LabelInfo). IsRemembered (listed_lines (group_source w r ls)) c.forget_of_other_source.new.long) (sym labels)
     (c.forget_of_other_source.ensures (g.C.Cache.names c.args.cache.now) (g.C.Cache.contents c.args.cache.now) old new
     (slice_get-get_or old 0 no_label (some_label (same_source w r) old before.whole))
@@ -113,7 +113,7 @@ returns-clause-known g c = λ group there.
     (g.C.Cache.contents c.args.cache.now) in
     let r = c.args.report.now in
     let groups = c.args.groups.now in
-    let labels = ap (λ (x : GroupFields). x.labels) c.in_ok-fill.ensures.ok in
+    let labels = ap (λ (x : LabelsFields). x.labels) c.in_ok-fill.ensures.ok in
     let at = mapped_at (λ (x : Bor (List LabelInfo)). x.now) groups c.args.rank no_group c.requires.rank in
     let found : Some group ≡ Some c.fill.new.self.labels = sym there ∙ at ∙ ap Some (sym labels) in
     let same : c.fill.new.self.labels ≡ group = cc in
@@ -128,7 +128,7 @@ push_group-requires-clause-group g c =
     let w = world g.S.Span.source_of g.S.Span.start_of g.S.Span.end_of g.S.SourceId.PartialEq.eq (g.C.Cache.names c.args.cache.now)
     (g.C.Cache.contents c.args.cache.now) in
     let r = c.args.report.now in
-    let labels = ap (λ (x : GroupFields). x.labels) c.in_ok-fill.ensures.ok in
+    let labels = ap (λ (x : LabelsFields). x.labels) c.in_ok-fill.ensures.ok in
     subst (IsGroup w r) (sym labels)
     (all_mapped (λ (x : Bor (List LabelInfo)). x.now) (IsGroup w r) c.args.groups.now c.args.rank _ c.requires.rank c.requires.groups)
 
@@ -142,7 +142,7 @@ returns-clause-drawn g c = λ group there.
     let old = c.args.pen.now in
     let k = c.args.rank in
     let n = length (map (λ (x : Bor (List LabelInfo)). x.now) groups) in
-    let labels = ap (λ (x : GroupFields). x.labels) c.in_ok-fill.ensures.ok in
+    let labels = ap (λ (x : LabelsFields). x.labels) c.in_ok-fill.ensures.ok in
     let at = mapped_at (λ (x : Bor (List LabelInfo)). x.now) groups k _ c.requires.rank in
     let found : Some group ≡ Some c.fill.new.self.labels = sym there ∙ at ∙ ap Some (sym labels) in
     let same : c.fill.new.self.labels ≡ group = cc in

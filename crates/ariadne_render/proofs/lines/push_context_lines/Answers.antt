@@ -14,7 +14,7 @@ use Rattle.ariadne_rows.proofs.Events.{unlabelled-no_event}
 use Rattle.ariadne_render.specs.DrawnLines.{AreOverLines, IsDrawnGroup}
 use Rattle.ariadne_render.proofs.LinesHidden.{drawn-labels, drawn-switches}
 use Rattle.ariadne_render.proofs.LinesRows.{rows-of}
-use Rattle.ariadne_render.proofs.LinesWalk.{events_at-page, group-kept, lines-page, names-append, run-empty, run-one, runs-join}
+use Rattle.ariadne_render.proofs.LinesWalk.{group-kept, lines-page, names-append, run-empty, run-one, runs-join}
 use Rattle.ariadne_render.proofs.lines.push_context_lines.Given.{Over}
 use Rattle.ariadne_render.proofs.lines.push_context_lines.Goals.{In_ok-push_line}
 use Rattle.ariadne_render.proofs.lines.push_context_lines.Goals as goal
@@ -55,13 +55,13 @@ push_line-requires-clause-over g c = subst (AreOverLines (listed_lines c.args.so
 
 -- no event is on it
 pub push_line-requires-clause-there : goal.push_line-requires-clause-there
-push_line-requires-clause-there g c = λ s own.
-    let w = c.args.pen.now.page.switches in
+push_line-requires-clause-there g c =
     let l = c.loop-line.line in
-    let here : Sheet = record s { switches = w } in
-    let context = c.requires.context here (own ∙ c.loop-line.invariant.labels) refl in
+    let labels = c.loop-line.lists.sheet.labels in
+    let here : Sheet = record { switches = c.args.pen.now.page.switches; lines = []; labels = labels } in
+    let context = c.requires.context here c.loop-line.invariant.labels refl in
     let low = c.loop-line.auto.line in
-    sym (sym (events_at-page s w l) ∙ unlabelled-no_event here l (context.unlabelled l (omega (arith, low)) (omega arith)))
+    sym (unlabelled-no_event labels l (context.unlabelled l (omega (arith, low)) (omega arith)))
 
 -- the bars stand beside it
 pub push_line-requires-clause-beside : goal.push_line-requires-clause-beside

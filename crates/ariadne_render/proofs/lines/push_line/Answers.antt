@@ -27,7 +27,7 @@ use Rattle.ariadne_rows.proofs.GutterSteps.{below-beside, beside-source}
 use Rattle.ariadne_render.specs.DrawnLines.{IsAtLine, IsDrawnGroup}
 use Rattle.ariadne_render.proofs.LinesHidden.{drawn-labels, drawn-lines, drawn-over, drawn-page, drawn-switches, holders-touch, line-read, line-there}
 use Rattle.ariadne_render.proofs.LinesHidden.{over-rise}
-use Rattle.ariadne_render.proofs.LinesLayout.{beside-same, labels-there, layout-is, len-is, line-chars, margin-column, of-some, places-fit, some-and}
+use Rattle.ariadne_render.proofs.LinesLayout.{beside-same, layout-is, len-is, line-chars, margin-column, margin-there, of-some, places-fit, ranked-there, some-and}
 use Rattle.ariadne_render.proofs.LinesQuiet.{layout-labels}
 use Rattle.std.proofs.lemmas.Result.{on_ok_weaker}
 use Rattle.ariadne_cells.proofs.Drawn.{draws_rows_one}
@@ -110,7 +110,7 @@ layout-there : (g : Over) (c : After-new-layout g) (s : Sheet) → s.labels ≡ 
     → s.switches ≡ c.args.pen.now.page.switches → c.new-layout.result ≡ layout_of s c.args.line
 layout-there g c s own lines same =
     let l = c.args.line in
-    let here = labels-there s l c.args.from c.args.to (c.requires.there s own) in
+    let given = c.args.lists.now.sheet.labels in
     let margin = c.in_ok-margin.margin in
     let offset = c.offset-offset.result in
     let labels = c.deref-2.result.now in
@@ -119,7 +119,8 @@ layout-there g c s own lines same =
     let listed : c.deref.result.now ≡ labels = c.deref.ensures.value ∙ sym c.deref-2.ensures.value in
     layout-is s l c.new-layout.result margin labels offset text
     (sights_in c.in_ok-parts.parts.now (length (drop_trailing_whitespace text))) c.new-layout.ensures
-    (c.in_ok-margin.ensures.margin s l own here) (c.deref-2.ensures.value ∙ c.in_ok-margin.ensures.labels s l own here)
+    (c.in_ok-margin.ensures.margin ∙ margin-there given l c.args.from c.args.to s own c.requires.there)
+    (c.deref-2.ensures.value ∙ c.in_ok-margin.ensures.labels ∙ ranked-there given l c.args.from c.args.to s own c.requires.there)
     (c.offset-offset.ensures ∙ ap (λ (e : LineExtent). e.offset) (cut-extent g c) ∙ offset_is (listed_lines c.args.source.now) l
     ∙ ap (λ ls. line_offset length ls l) (sym lines))
     (c.new-text.ensures ∙ cut-chars g c ∙ ap (λ ls. line_text ls l) (sym lines))
@@ -150,7 +151,7 @@ start_margin-requires g c =
     record {
       column =
           margin-column s c.args.line c.args.lists.now.gutter c.in_ok-margin.margin
-          (c.in_ok-margin.ensures.margin s c.args.line refl (labels-there s c.args.line c.args.from c.args.to (c.requires.there s refl)))
+          (c.in_ok-margin.ensures.margin ∙ margin-there c.args.lists.now.sheet.labels c.args.line c.args.from c.args.to s refl c.requires.there)
           (c.requires.beside s refl refl);
     }
 
@@ -174,7 +175,7 @@ source-drawn g c s h layout =
     (ap (λ o. l + 1 + o) (c.display_line_offset-display_offset.ensures.offset ∙ sym h.display_offset))
     (beside-source s.sheet l c.args.lists.now.gutter rise (c.requires.beside s.sheet own same))
     (λ on. subst (λ ps. ArePaints (multi_line_labels s.sheet.labels) c.new-layout.result ps) (sym c.deref-3.ensures.value)
-    (c.in_ok-find_paints.ensures.paints s.sheet own on))
+    (subst (λ ls. ArePaints (multi_line_labels ls) c.new-layout.result c.find_paints.new.table.paints.items) (sym own) (c.in_ok-find_paints.ensures.paints on)))
 
 -- the layout is that of a group that is drawn
 group-layout : (g : Over) (c : After-new-layout g) (s : Section)
@@ -242,13 +243,12 @@ at-line g c kept s h layout =
     let own : s.sheet.labels ≡ labels = drawn-labels t s page listing labels h in
     let same : s.sheet.switches ≡ page.switches = drawn-switches t s page listing labels h in
     let rise = over-rise s.sheet.lines s.sheet.labels (drawn-over t s page.switches listing labels h c.requires.over) in
-    let here = labels-there s.sheet l c.args.from c.args.to (c.requires.there s.sheet own) in
     record {
       on_page = subst (λ p. IsOnPage t s p) (sym kept) (drawn-page t s page listing labels h);
       rise = rise;
       layout = layout;
       bars = c.in_ok-start_margin.ensures.below s.sheet l rise (c.requires.beside s.sheet own same)
-          (sym (c.in_ok-margin.ensures.margin s.sheet l own here));
+          (sym (c.in_ok-margin.ensures.margin ∙ margin-there labels l c.args.from c.args.to s.sheet own c.requires.there));
     }
 
 -- so it is for some group

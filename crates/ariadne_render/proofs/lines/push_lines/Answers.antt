@@ -1,6 +1,6 @@
 -- The lines of a group are written one after another: those without labels, then the line of the next event, and those behind the last.
 use Rattle.std.proofs.Common.{◌≡◌, ◌∙◌, ℕ, suc, ◌+◌, ◌-◌, ◌<◌, ◌≤◌, ◌^◌, min, [], ◌++◌, length, map, refl, sym, ap, subst, arith, List}
-use Rattle.std.specs.Prelude.{slice_range}
+use Rattle.std.specs.Prelude.{Option, false, option_map, replicate, slice_get}
 use Rattle.std.specs.List.{range_with_len}
 use Rattle.ariadne_render.specs.DrawnLines.{AreOverLines, IsDrawnGroup}
 use Rattle.ariadne_base.specs.Listing.{listed_lines}
@@ -11,13 +11,15 @@ use Rattle.ariadne_picture.specs.declared.switches.Switches.{Switches}
 use Rattle.ariadne_picture.specs.Groups.{group_end_line}
 use Rattle.ariadne_picture.specs.Lists.{joined}
 use Rattle.ariadne_picture.specs.Pieces.{Section, row_pieces}
-use Rattle.ariadne_picture.specs.Ranks.{Sheet, first_line, group_lines, last_line}
+use Rattle.ariadne_picture.specs.Ranks.{Sheet, first_line, group_lines, gutter_labels, last_line}
 use Rattle.ariadne_picture.specs.Rows.{line_rows}
+use Rattle.ariadne_rows.specs.declared.snippet_labels.Event.{Event}
+use Rattle.ariadne_rows.specs.SnippetLabels.{IsLineEnd, events_of}
 use Rattle.ariadne_render.proofs.LinesHidden.{drawn-labels, drawn-switches}
 use Rattle.std.proofs.lemmas.Result.{on_ok_weaker}
 use Rattle.ariadne_cells.proofs.Drawn.{draws_rows_none}
 use Rattle.ariadne_render.proofs.LinesRows.{rows-of}
-use Rattle.ariadne_render.proofs.LinesWalk.{IsStep, IsWalked, end-before_last, events-page, events_at-page, group-kept, group-rise, group_sheet}
+use Rattle.ariadne_render.proofs.LinesWalk.{IsStep, IsWalked, end-before_last, group-kept, group-rise, group_sheet}
 use Rattle.ariadne_render.proofs.LinesWalk.{last-within, last_shown-within, lines-page, names-append, run-empty, run-one, runs-join}
 use Rattle.ariadne_render.proofs.LinesWalk.{step, walk-end, walk-start}
 use Rattle.ariadne_render.proofs.lines.push_lines.Given.{Over}
@@ -79,8 +81,8 @@ loop-next-init g c =
           (subst (λ ls. 0 < length ls) (sym own) c.requires.labels)
           (record {
             switches = ap (λ (p : PageFields). p.switches) c.requires.page ∙ sym same;
-            positions = (c.requires.gutter s own).0;
-          }) (c.requires.gutter s own).1);
+            positions = c.requires.positions ∙ ap (λ ls. map (λ (a : LabelInfo). a.position) (gutter_labels ls)) (sym own);
+          }) (c.requires.bars ∙ ap (λ ls. replicate (length (gutter_labels ls)) false) (sym own)));
       drawn = λ s h.
           let same = is s.sheet (drawn-labels (texts_of c.args.report.now) s page source labels h)
           (drawn-switches (texts_of c.args.report.now) s page source labels h) in
@@ -98,6 +100,10 @@ ends-within g c s own =
     subst (λ ls. group_end_line ls < length (listed_lines c.args.source.now)) (sym own)
     (last-within (listed_lines c.args.source.now) c.args.lists.now.sheet.labels c.requires.labels c.requires.over)
 
+-- the line of an event of these labels
+abbrev line_of_event : ℕ → List LabelInfo → Option ℕ
+line_of_event k labels = option_map (λ (e : Event). e.line) (slice_get (events_of labels) k)
+
 -- what is known of that line
 step-at : (g : Over) (c : In-Some g) (s : Sheet) → s.labels ≡ c.args.lists.now.sheet.labels → s.switches ≡ c.args.pen.now.page.switches
     → IsStep s (length (listed_lines c.args.source.now)) c.loop-next.line c.loop-next.near c.loop-next.event c.in-Some.next
@@ -106,7 +112,7 @@ step-at g c s own same =
     step s (length (listed_lines c.args.source.now))
     (group-rise (listed_lines c.args.source.now) c.args.lists.now.sheet.labels c.requires.over s own) c.loop-next.line c.loop-next.near
     c.loop-next.event c.in-Some.next c.loop-next.lists.gutter c.event_line.result (inv.walked s own same) (ends-within g c s own)
-    (c.event_line.ensures s (own ∙ sym inv.labels)) c.in-Some.is
+    (c.event_line.ensures ∙ ap (line_of_event c.loop-next.event) (inv.labels ∙ sym own)) c.in-Some.is
 
 -- a sheet of the group
 abbrev own_sheet : (g : Over) → In-Some g → Sheet
@@ -192,11 +198,10 @@ between-labels g c = c.in_ok-push_lines_between.ensures.labels ∙ c.loop-next.i
 -- the next event is there
 pub line_end-end-requires : goal.line_end-end-requires
 line_end-end-requires g c = record {
-  within = λ s own.
-      let w = c.args.pen.now.page.switches in
+  within =
+      let a = (goal.at.line_end-end-requires g c).In-Some in
       let b = (goal.at.line_end-end-requires g c).In_ok-push_lines_between in
-      let st = step-at g (goal.at.line_end-end-requires g c).In-Some (record s { switches = w }) (own ∙ between-labels g b) refl in
-      subst (λ es. c.loop-next.event < length es) (events-page s w) st.event;
+      subst (λ ls. c.loop-next.event < length (events_of ls)) (sym (between-labels g b)) (step-at g a (own_sheet g a) refl refl).event;
 }
 
 -- the gutter is on the page
@@ -224,18 +229,16 @@ push_line-requires-clause-over g c =
 -- its events are
 pub push_line-requires-clause-range : goal.push_line-requires-clause-range
 push_line-requires-clause-range g c =
-    let s = group_sheet c.args.pen.now.page.switches c.args.source.now c.push_lines_between.new.lists.sheet.labels in
-    let behind = (c.line_end-end.ensures s refl).behind in
+    let behind = c.line_end-end.ensures.behind in
     omega (arith, behind)
 
 -- those up to the next line's
 pub push_line-requires-clause-there : goal.push_line-requires-clause-there
-push_line-requires-clause-there g c = λ s own.
+push_line-requires-clause-there g c =
     let b = (goal.at.push_line-requires-clause-there g c).In_ok-push_lines_between in
-    let w = c.args.pen.now.page.switches in
-    let st = step-at g (goal.at.push_line-requires-clause-there g c).In-Some (record s { switches = w }) (own ∙ between-labels g b) refl in
-    sym (ap (λ es. slice_range es c.loop-next.event c.line_end-end.result) (events-page s w))
-    ∙ st.events c.line_end-end.result (c.line_end-end.ensures (record s { switches = w }) own) ∙ events_at-page s w c.in-Some.next
+    let labels = c.push_lines_between.new.lists.sheet.labels in
+    let s = group_sheet c.args.pen.now.page.switches c.args.source.now labels in
+    (step-at g (goal.at.push_line-requires-clause-there g c).In-Some s (between-labels g b) refl).events c.line_end-end.result c.line_end-end.ensures
 
 -- the bars stand beside it
 pub push_line-requires-clause-beside : goal.push_line-requires-clause-beside
@@ -316,7 +319,8 @@ loop-next-preserved g c =
           let near : c.saturating_add-near.result ≡ min (n + 1 + s.switches.context_lines) (2 ^ 64 - 1) =
           c.saturating_add-near.ensures ∙ ap (λ k. min (n + 1 + k) (2 ^ 64 - 1)) context in
           st.next c.line_end-end.result c.saturating_add-near.result (2 ^ 64 - 1) c.push_line.new.lists.gutter
-          (c.line_end-end.ensures s (own ∙ sym own_labels)) (omega (arith, fits, number)) near
+          (subst (λ ls. IsLineEnd (events_of ls) c.loop-next.event c.line_end-end.result) (own_labels ∙ sym own) c.line_end-end.ensures)
+          (omega (arith, fits, number)) near
           (c.in_ok-push_line.ensures.beside s (own ∙ sym own_labels) (same ∙ ap (λ (p : PageFields). p.switches) (sym (between-page g b))));
       drawn = λ s h.
           let own : s.sheet.labels ≡ labels = drawn-labels t s page source labels h in
@@ -390,7 +394,7 @@ push_lines_between-requires-2-clause-between g c = λ s own same.
     let within = last_shown-within o c.requires.labels c.requires.over in
     (walk-end s (length (listed_lines source)) (group-rise (listed_lines source) labels c.requires.over s mine) c.loop-next.line c.loop-next.near
     c.loop-next.event (c.last_line-behind.result + 1) c.loop-next.lists.gutter c.event_line.result w (omega (arith, high, ends, is))
-    (omega (arith, within, is)) (c.event_line.ensures s own) c.in_default.is).between _ c.hidden_lines-hidden-2.result refl refl
+    (omega (arith, within, is)) (c.event_line.ensures ∙ ap (line_of_event c.loop-next.event) (sym own)) c.in_default.is).between _ c.hidden_lines-hidden-2.result refl refl
     c.hidden_lines-hidden-2.ensures.start c.hidden_lines-hidden-2.ensures.end
 
 -- the bars stand beside them

@@ -1,4 +1,5 @@
 use Rattle.std.proofs.Common.{◌≡◌, ◌+◌, ◌*◌, ◌<◌, ◌≤◌, ◌++◌, [], false, inl, inr, length, map, take, replicate, ap, sym, ◌∙◌, arith, string_bytes, string_len}
+use Rattle.std.specs.Prelude.{Result, Ok, Err, OnOk, is_ok, true}
 use Rattle.std.specs.String.{string_capacity}
 use Rattle.std.proofs.lemmas.Bool.{cases_lt, eq-eqb, eqb-true, true≢false}
 use Rattle.std.proofs.lemmas.List.{length-map, length-replicate, length-take-le}
@@ -7,9 +8,13 @@ use Rattle.ariadne_picture.specs.declared.label_info.LabelInfo.{LabelInfo}
 use Rattle.ariadne_picture.specs.Pieces.{column_size, spaces}
 use Rattle.ariadne_rows.specs.Gutters.{GutterFields, columns}
 use Rattle.ariadne_rows.proofs.GutterState.{columns-none, columns-some, ready-none, ready-free}
-use Rattle.ariadne_rows.proofs.Ranking.{on-ok}
 use Rattle.ariadne_rows.proofs.gutter.Gutter.begin.Goals as goal
 use Rattle.ariadne_rows.proofs.gutter.Gutter.begin.Goals.{then-is_empty, else-is_empty}
+
+-- what holds on Ok holds where it is Ok
+on-ok : {T E P : Type 0} (r : Result T E) → is_ok r ≡ true → OnOk r P → P
+on-ok (Ok x) e p = p
+on-ok (Err y) e p = absurd (true≢false (sym e))
 
 -- where there is no memory for the positions nothing is there
 pub invariant_of-self : goal.invariant_of-self
