@@ -5,7 +5,7 @@ use Rattle.std.specs.declared.alloc.Global.{Global}
 use Rattle.std.specs.declared.ops.Range.{Range}
 use Rattle.ariadne.specs.Cache.{SameHeld}
 use Rattle.ariadne.specs.Listing.{Listing}
-use Rattle.ariadne.specs.Drawn.{world}
+use Rattle.ariadne.specs.CacheReads.{world}
 use Rattle.ariadne.specs.LeftOut.{LeftOut}
 use Rattle.ariadne.specs.Reason.{Reason}
 use Rattle.ariadne.specs.Reason.TheVariants.{Unfetched, PastSource}

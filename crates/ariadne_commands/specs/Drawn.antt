@@ -15,7 +15,7 @@ use Rattle.ariadne.specs.Report.{ConfigFields, LabelFields, ReportFields, World}
 use Rattle.ariadne.specs.Report.{default_config, error, new_label, new_report}
 use Rattle.ariadne.specs.CharSet.TheVariants.{Ascii, Unicode}
 use Rattle.ariadne.specs.IndexType.TheVariants.{Byte, Char}
-use Rattle.ariadne.specs.Drawn.{world}
+use Rattle.ariadne.specs.CacheReads.{world}
 use Rattle.ariadne.specs.Written.{IsCutOff, IsWritten}
 use Rattle.ariadne.specs.LeftOut.{LeftOut}
 use Rattle.ariadne_commands.specs.Faults.{IsNoText}

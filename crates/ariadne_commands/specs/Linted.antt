@@ -12,7 +12,7 @@ use Rattle.ariadne.specs.FileError.{FileError}
 use Rattle.ariadne.specs.Report.{ConfigFields, LabelFields, ReportFields, World}
 use Rattle.ariadne.specs.Report.{default_config, error, new_label, new_report}
 use Rattle.ariadne.specs.CharSet.TheVariants.{Ascii}
-use Rattle.ariadne.specs.Drawn.{world}
+use Rattle.ariadne.specs.CacheReads.{world}
 use Rattle.ariadne.specs.Written.{IsCutOff, IsWritten}
 use Rattle.ariadne_commands.specs.Outcomes.{IsOutcome, offends, was_read}
 use Rattle.ariadne_commands.specs.declared.checked.Checked.{Checked}

@@ -6,7 +6,7 @@ use Rattle.std.specs.Io.KnownBytes.{Appends}
 use Rattle.std.specs.declared.ops.Range.{Range}
 use Rattle.ariadne.specs.Accept.{info_of, offset_in_chars, text_len, verdict, within}
 use Rattle.ariadne.specs.Cache.{listing_of}
-use Rattle.ariadne.specs.Drawn.{world}
+use Rattle.ariadne.specs.CacheReads.{world}
 use Rattle.ariadne.specs.Judging.{AreJudged, GrowsFor, Outcome, drawn_as, left_out_for}
 use Rattle.ariadne.specs.LabelInfo.{LabelInfo}
 use Rattle.ariadne.specs.LeftOut.{LeftOut}

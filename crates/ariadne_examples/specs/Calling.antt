@@ -5,7 +5,7 @@ use Rattle.std.specs.List.{enumerate_from}
 use Rattle.std.specs.declared.ops.Range.{Range}
 use Rattle.ariadne.specs.Accept.{info_of}
 use Rattle.ariadne.specs.Canvas.{Cell, canvas, sections, texts_of}
-use Rattle.ariadne.specs.Drawn.{world}
+use Rattle.ariadne.specs.CacheReads.{world}
 use Rattle.ariadne.specs.Headline.{CanBeRead}
 use Rattle.ariadne.specs.LabelInfo.{LabelInfo}
 use Rattle.ariadne.specs.Lines.{lines_of}

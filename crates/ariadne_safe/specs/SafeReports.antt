@@ -4,7 +4,7 @@ use Rattle.std.specs.Prelude.{ℕ, ◌-◌, ◌^◌, ◌≡◌, max, min, nat_eq
 use Rattle.std.specs.Prelude.{unwrap_or, Result, Vec}
 use Rattle.std.specs.declared.alloc.Global.{Global}
 use Rattle.std.specs.declared.ops.Range.{Range}
-use Rattle.ariadne.specs.Drawn.{world}
+use Rattle.ariadne.specs.CacheReads.{world}
 use Rattle.ariadne.specs.Judging.{GrowsFor}
 use Rattle.ariadne.specs.LeftOut.{LeftOut}
 use Rattle.ariadne.specs.IndexType.{IndexType}
