@@ -12,8 +12,8 @@ use crate::block::{Aside, Block};
 use crate::file::QuotedFile;
 use crate::fix_rows::{ToldChange, column_of, fix_of, is_path_of, is_told, unescaped};
 use crate::fixes::{change_unit, fix_text, fix_words};
-use ariadne_snippets::Fix;
 use ariadne_parse::{FixRow, Unit, fix_row_of};
+use ariadne_snippets::Fix;
 use std::alloc::{AllocError, Global};
 
 impl Block {

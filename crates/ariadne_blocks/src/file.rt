@@ -4,8 +4,8 @@ ghost use Rattle.std.specs.Prelude.{◌≡◌, option_map};
 ghost use Rattle.std.specs.Option.{option_copied};
 ghost use Rattle.ariadne_blocks.specs.Files as files;
 
-use ariadne_snippets::Point;
 use ariadne_parse::{Columns, Unit};
+use ariadne_snippets::Point;
 
 /// A file whose lines rows quote, as it is held.
 #[derive(Clone, Copy)]

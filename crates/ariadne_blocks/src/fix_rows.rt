@@ -10,8 +10,8 @@ ghost use Rattle.ariadne_blocks.specs.FixChanges as rows;
 ghost use Rattle.ariadne_blocks.specs.ProposedByRows.{edit_with};
 
 use crate::events::closes_with;
-use ariadne_snippets::{Fix, FixKind, Point};
 use ariadne_parse::{Change, FixRow};
+use ariadne_snippets::{Fix, FixKind, Point};
 use std::alloc::{AllocError, Global};
 
 /// A change that rows below a line have told: in which line it is, and whether that only removes something.

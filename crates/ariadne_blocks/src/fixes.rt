@@ -5,8 +5,8 @@ ghost use Rattle.ariadne_blocks.specs.Files.{file_of};
 ghost use Rattle.ariadne_blocks.specs.HelpFixes.{change_unit as unit_of_change, fix_help, fix_words as words_of_fix};
 
 use crate::file::{QuotedFile, column_in};
-use ariadne_snippets::{Fix, FixKind};
 use ariadne_parse::Unit;
+use ariadne_snippets::{Fix, FixKind};
 use std::alloc::{AllocError, Global};
 
 /// What a help says of a change: at its column by what it counts.

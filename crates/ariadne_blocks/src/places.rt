@@ -10,8 +10,8 @@ ghost use Rattle.ariadne_blocks.specs.Notes.{is_over_lines as goes_over_lines, n
 
 use crate::file::{QuotedFile, column_in};
 use crate::repeats::is_same_end;
-use ariadne_snippets::{Mark, Point};
 use ariadne_parse::{End, Look, Place, Spot, Unit};
+use ariadne_snippets::{Mark, Point};
 use std::alloc::AllocError;
 
 /// A point as a spot, whose column counts characters from 1.

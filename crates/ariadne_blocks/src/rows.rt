@@ -17,8 +17,8 @@ use crate::file::QuotedFile;
 use crate::places::{
     begin_at, caret_of, inner_place, is_range_of, marked_place, own_marks, say_at,
 };
-use ariadne_snippets::{Label, Mark, Point, Snippet};
 use ariadne_parse::Place;
+use ariadne_snippets::{Label, Mark, Point, Snippet};
 use std::alloc::{AllocError, Global};
 
 /// The rows below a head or a note, as far as they were read.

@@ -12,8 +12,8 @@ use crate::colors::without_gcc_colors;
 use crate::events::{EventRow, event_row, is_events_head};
 use crate::file::QuotedFile;
 use crate::line::Line;
-use ariadne_snippets::Taken;
 use ariadne_parse::{Arrow, Spot};
+use ariadne_snippets::Taken;
 use std::alloc::{AllocError, Global};
 
 /// The line that stands for a file as a whole.

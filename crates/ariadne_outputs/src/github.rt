@@ -18,9 +18,9 @@ ghost use Rattle.ariadne_outputs.specs.Passing.{passed_line};
 use crate::located::{Located, other_places};
 use crate::passing::passing_line;
 use crate::whole::whole_text;
+use ariadne_parse::{Diagnostic, Severity};
 use ariadne_safe::TextKind;
 use ariadne_safe::text::shown_char;
-use ariadne_parse::{Diagnostic, Severity};
 use std::alloc::{AllocError, Global};
 
 /// What a text is escaped for.

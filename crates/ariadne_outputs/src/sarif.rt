@@ -17,8 +17,8 @@ ghost use Rattle.ariadne_outputs.specs.Sarif.{with_spot};
 
 use crate::located::{Located, other_places, severity_word};
 use crate::whole::whole_text;
-use ariadne_safe::{TextKind, visible};
 use ariadne_parse::{Diagnostic, Spot};
+use ariadne_safe::{TextKind, visible};
 use percent_encoding::{AsciiSet, NON_ALPHANUMERIC, utf8_percent_encode};
 use serde_json::{Map, Value, put};
 use std::alloc::{AllocError, Global};

@@ -10,8 +10,8 @@ ghost use Rattle.ariadne_outputs.specs.Short.{main_spot as spot_of_main, note_ro
 ghost use Rattle.ariadne_outputs.specs.Short.{short_rows, spot_at};
 
 use crate::located::{Located, severity_word};
-use ariadne_safe::{TextKind, visible};
 use ariadne_parse::Diagnostic;
+use ariadne_safe::{TextKind, visible};
 use std::alloc::{AllocError, Global};
 
 /// The word for what is said beside a diagnostic.

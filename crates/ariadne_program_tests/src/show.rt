@@ -3,10 +3,10 @@
 ghost use Rattle.std.specs.Prelude.{◌<◌};
 
 use crate::outcome::Outcome;
-use ariadne_testing::{Folder, Given, Taker, refuse, texts};
 use ariadne_show::{
     Asked, FailOn, Fault, Options, Status, Streams, Sum, Width, read_words, show, tell_fault,
 };
+use ariadne_testing::{Folder, Given, Taker, refuse, texts};
 use std::alloc::{AllocError, Global};
 use std::io::{BufReader, ErrorKind};
 use std::process::Abort;

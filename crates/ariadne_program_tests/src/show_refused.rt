@@ -4,10 +4,10 @@ ghost use Rattle.std.specs.Prelude.{◌<◌};
 
 use crate::outcome::Outcome;
 use crate::show::{FILE, options_of, outcome_of, run, streams_with, with_path};
-use ariadne_testing::{Folder, Given, Taker, refuse, texts, was_refused};
 use ariadne_show::{
     Environment, Fault, Input, Inputs, Options, Status, Streams, Sum, read_words, show, tell_fault,
 };
+use ariadne_testing::{Folder, Given, Taker, refuse, texts, was_refused};
 use std::io::BufReader;
 use std::process::Abort;
 use std::rt::{Env, Files};

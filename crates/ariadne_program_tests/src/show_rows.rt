@@ -2,8 +2,8 @@
 //! to change.
 
 use crate::show::{run, with_path};
-use ariadne_testing::{Folder, Given, Taker};
 use ariadne_show::Status;
+use ariadne_testing::{Folder, Given, Taker};
 use std::process::Abort;
 use std::rt::Files;
 

@@ -1,8 +1,8 @@
 //! Pictures with what tools propose: lines before and after, or words where those can't be drawn.
 
 use crate::show::{run, with_path};
-use ariadne_testing::{Folder, Given, Taker};
 use ariadne_show::Status;
+use ariadne_testing::{Folder, Given, Taker};
 use std::process::Abort;
 use std::rt::Files;
 

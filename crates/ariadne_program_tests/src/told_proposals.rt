@@ -1,7 +1,9 @@
 //! What rustc and gcc propose in their JSON, as changes of files.
 
 use crate::comparing::assert_text_of;
-use ariadne_parse::{Answer, Change, Diagnostic, Format, Proposal, Reading, Sent, Spot, Unit, told};
+use ariadne_parse::{
+    Answer, Change, Diagnostic, Format, Proposal, Reading, Sent, Spot, Unit, told,
+};
 use std::alloc::{AllocError, Global};
 
 /// Lines, and what each proposes, in a row each.

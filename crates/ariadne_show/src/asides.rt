@@ -17,8 +17,8 @@ use crate::found::found_place;
 use crate::proposed::Sketch;
 use crate::shelf::Shelf;
 use crate::wrapping::wrapped;
-use ariadne_safe::SafeBuilder;
 use ariadne_parse::{Diagnostic, Place};
+use ariadne_safe::SafeBuilder;
 use std::alloc::{AllocError, Global};
 
 /// The report with the notes and helps, and before them a note for each place that can't be drawn, in

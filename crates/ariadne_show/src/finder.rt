@@ -8,8 +8,8 @@ ghost use Rattle.ariadne_show.specs.ReadFiles.{HaveSources};
 use crate::bounds::Bounds;
 use crate::options::Options;
 use crate::shelf::Shelf;
-use ariadne_search::{Folders, Origin};
 use ariadne_parse::{Diagnostic, Place};
+use ariadne_search::{Folders, Origin};
 use std::alloc::{AllocError, Global};
 use std::rt::Files;
 

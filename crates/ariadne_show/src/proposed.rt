@@ -14,8 +14,8 @@ use crate::shelf::Shelf;
 use crate::wrapping::{aside_columns, fits, wrapped};
 use ariadne::{CharSet, IndexType};
 use ariadne_edits::{Edit, EditError, View, suggestion};
-use ariadne_safe::SafeSource;
 use ariadne_parse::{Change, Proposal};
+use ariadne_safe::SafeSource;
 use std::alloc::{AllocError, Global};
 use std::ops::Range;
 

@@ -9,8 +9,8 @@ ghost use Rattle.ariadne_show.specs.Quoted.{quoted_line as line_quoted, quoted_l
 ghost use Rattle.ariadne_show.specs.ReadFiles.{IsNotQuoted, IsQuotedBehind};
 
 use crate::held::Held;
-use ariadne_safe::{LineEnds, SafeSource, SafeSources};
 use ariadne_parse::{Columns, QuotedLine};
+use ariadne_safe::{LineEnds, SafeSource, SafeSources};
 use std::alloc::{AllocError, Global};
 
 /// How far from the first line that is quoted others are held.

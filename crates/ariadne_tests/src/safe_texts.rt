@@ -7,10 +7,10 @@ use crate::asserts::{Why, assert_left_out};
 use crate::comparing::assert_same;
 use crate::safe_example::tell;
 use ariadne::{CharSet, Color, Config, IndexType, Label, LeftOut, Reason, ReportKind, WriteError};
-use ariadne_testing::{refuse, was_refused};
 use ariadne_safe::{
     LineEnds, NoSource, SafeBuilder, SafeKind, SafeReport, SafeSource, SafeSources,
 };
+use ariadne_testing::{refuse, was_refused};
 use std::alloc::{AllocError, Global};
 use std::process::Abort;
 

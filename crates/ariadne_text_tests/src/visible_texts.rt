@@ -3,8 +3,8 @@
 ghost use Rattle.std.specs.Prelude.{◌<◌};
 
 use crate::comparing::{assert_same, assert_text};
-use ariadne_testing::{refuse, was_refused};
 use ariadne_safe::{TextKind, is_seen, visible};
+use ariadne_testing::{refuse, was_refused};
 use std::alloc::AllocError;
 use std::process::Abort;
 
