@@ -15,7 +15,10 @@ pub mod GutterText
 pub mod HeaderBytes
 pub mod Insides
 pub mod LineRows
+pub mod LinesBounds
+pub mod LinesShown
 pub mod Listing
+pub mod LocationNumbers
 pub mod Numbered
 pub mod Passing
 pub mod Ranking
@@ -23,5 +26,6 @@ pub mod Rising
 pub mod SeenInks
 pub mod SeenPlaces
 pub mod ShownRows
+pub mod SourceLines
 pub mod Touching
 pub mod UnderlinedRows

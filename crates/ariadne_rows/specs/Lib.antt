@@ -6,3 +6,4 @@ pub mod LabelLists
 pub mod Seen
 pub mod ShownTexts
 pub mod SnippetLabels
+pub mod Snippets

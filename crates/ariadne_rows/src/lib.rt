@@ -14,4 +14,7 @@ mod label_lists;
 pub mod rows;
 mod seen;
 pub mod shown;
+pub mod snippet;
 pub mod snippet_labels;
+pub mod snippet_line;
+pub mod texts;
