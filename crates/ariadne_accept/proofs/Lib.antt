@@ -3,5 +3,4 @@ pub mod CharOffsets
 pub mod Judging
 pub mod KnownPlaces
 pub mod Locating
-pub mod Messages
 pub mod Outcomes

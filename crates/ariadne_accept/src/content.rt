@@ -46,9 +46,6 @@ impl<'a, S: Span> Model for Content<'a, S> {
 }
 
 impl<'a, S: Span> Content<'a, S> {
-    ghost use Rattle.ariadne_picture.specs.Canvas.{texts_of};
-    ghost use Rattle.ariadne_picture.specs.Pieces.{message_at};
-
     /// The code, shown in brackets before the kind.
     pub fn code(&self) -> Option<&str>
         ensures { option_copied result ≡ self.now.code }
@@ -61,19 +58,6 @@ impl<'a, S: Span> Content<'a, S> {
         ensures { option_copied result ≡ self.now.message }
     {
         self.message.as_deref()
-    }
-
-    /// The message of the label at `position`, or an empty text.
-    pub fn message_of(&self, position: usize) -> &str
-        ensures { result.now ≡ message_at (texts_of self.now) position }
-    {
-        if position >= self.labels.len() {
-            return "";
-        }
-        match self.labels[position].message() {
-            Some(message) => message,
-            None => "",
-        }
     }
 
     /// The labels.

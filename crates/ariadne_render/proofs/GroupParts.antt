@@ -15,16 +15,14 @@ use Rattle.ariadne_picture.specs.declared.verdict.Verdict.TheVariants.{Accepted}
 use Rattle.ariadne_picture.specs.Accept.{info_of, offset_in_chars, text_len, verdict, within}
 use Rattle.ariadne_picture.specs.Canvas.{group_id, group_source, header_offset, section_of, texts_of}
 use Rattle.ariadne_picture.specs.Lists.{joined}
-use Rattle.ariadne_picture.specs.Pieces.{Section, Texts, location_text, row_pieces, section_rows}
-use Rattle.ariadne_picture.specs.Ranks.{group_lines, gutter_labels}
+use Rattle.ariadne_picture.specs.Pieces.{Section, Texts, row_pieces, section_rows}
+use Rattle.ariadne_picture.specs.Ranks.{group_lines}
 use Rattle.ariadne_picture.specs.Report.{ConfigFields, LabelFields, ReportFields, World, switches_of}
 use Rattle.ariadne_picture.specs.Rows.{Row, asides, group_header, help, line_rows, note, rows, spacer, tail}
 use Rattle.ariadne_picture.proofs.Labels.DrawnLabels.{offset-order}
-use Rattle.ariadne_rows.specs.Gutters.{GutterFields, IsOfSheet}
-use Rattle.ariadne_rows.specs.Headers.{IsOnPage}
 use Rattle.ariadne_picture.specs.Accept.{IsAccepted}
 use Rattle.ariadne_accept.specs.CacheReads.{AreDrawn}
-use Rattle.ariadne_render.specs.DrawnLines.{IsDrawnGroup}
+use Rattle.ariadne_rows.specs.Snippets.{snippet_of}
 use Rattle.ariadne_render.proofs.Grouping.{all_at}
 use Rattle.ariadne_render.proofs.GroupingSources.{drawn_there, found_source, id_is, label_there, source_is}
 
@@ -57,11 +55,6 @@ module _ {S : Type 0} (config : ConfigFields) (source : Listing) (k : ℕ) (labe
             start_within start (omega arith) (offset_in_chars config.index_type (chars source.text) start)
             (offset_in_chars config.index_type (chars source.text) (min end size)) refl (rw inside at e)
       ]
-
--- the texts of a report have its switches
-pub texts_switches : {S : Type 0} (r : ReportFields S) → (texts_of r).switches ≡ switches_of r.config
-unfolding texts_of
-texts_switches r = refl
 
 -- a text, or another in place of none
 pub copied_or : (o : Option (Bor (List ℕ))) (b : Bor (List ℕ)) → (unwrap_or o b).now ≡ unwrap_or (option_copied o) b.now
@@ -112,69 +105,36 @@ module _ {S Id : Type 0} (w : World S Id) (r : ReportFields S) where
             (accepted_start r.config d.source info.position d.label info (w.start_of d.label.span) (w.end_of d.label.span) d.accepted);
       }
 
-  -- ---- a group within the picture
+  -- what a group is called
+  pub section_name : (labels : List LabelInfo) (id : Id) → group_id w r labels ≡ Some id → (o : Option (Bor (List ℕ)))
+      → option_copied o ≡ w.name_of id → (unknown name : Bor (List ℕ)) → unknown.now ≡ codes "<unknown>" → name ≡ unwrap_or o unknown
+      → name.now ≡ unwrap_or (option_and_then w.name_of (group_id w r labels)) (codes "<unknown>")
+  section_name labels id named o e unknown name none is =
+      ap (λ (b : Bor (List ℕ)). b.now) is ∙ copied_or o unknown ∙ (λ i. unwrap_or (e i) (none i))
+      ∙ ap (λ i. unwrap_or (option_and_then w.name_of i) (codes "<unknown>")) (sym named)
 
-  module _ (n k : ℕ) (labels : List LabelInfo) where
-    -- it is the first where it has number 0
-    pub section_first : (section_of w r n (k, labels)).is_first ≡ (k == 0)
-    unfolding section_of
-    section_first = refl
+  -- a group within the picture has the report's switches
+  pub section_switches : (n k : ℕ) (labels : List LabelInfo) → (section_of w r n (k, labels)).sheet.switches ≡ switches_of r.config
+  unfolding section_of
+  section_switches n k labels = refl
 
-    -- it is the last where the next would have the number of all groups
-    pub section_last : (section_of w r n (k, labels)).is_last ≡ (k + 1 == n)
-    unfolding section_of
-    section_last = refl
+  -- its own labels
+  pub section_labels : (n k : ℕ) (labels : List LabelInfo) → (section_of w r n (k, labels)).sheet.labels ≡ labels
+  unfolding section_of
+  section_labels n k labels = refl
 
-    -- what it is called
-    pub section_name : (id : Id) → group_id w r labels ≡ Some id → (o : Option (Bor (List ℕ))) → option_copied o ≡ w.name_of id
-        → (unknown : Bor (List ℕ)) → unknown.now ≡ codes "<unknown>" → (name : Bor (List ℕ)) → name ≡ unwrap_or o unknown
-        → (section_of w r n (k, labels)).name ≡ name.now
-    unfolding section_of
-    section_name id named o e unknown none name is =
-        ap (λ i. unwrap_or (option_and_then w.name_of i) (codes "<unknown>")) named ∙ (λ i. unwrap_or (sym e i) (sym none i))
-        ∙ sym (ap (λ (b : Bor (List ℕ)). b.now) is ∙ copied_or o unknown)
+  -- and the lines of its source
+  pub section_lines : (n k : ℕ) (labels : List LabelInfo) → (section_of w r n (k, labels)).sheet.lines ≡ listed_lines (group_source w r labels)
+  unfolding section_of
+  section_lines n k labels = refl
 
-    -- the location that its header names
-    pub section_location : (source : Listing) → group_source w r labels ≡ source → (numbers : List ℕ)
-        → location_text (listed_lines source) source.display_offset (header_offset w r labels) ≡ numbers
-        → location_text (section_of w r n (k, labels)).sheet.lines (section_of w r n (k, labels)).display_offset
-        (section_of w r n (k, labels)).header_offset ≡ numbers
-    unfolding section_of
-    section_location source over numbers e =
-        ap (λ (s : Listing). location_text (listed_lines s) s.display_offset (header_offset w r labels)) over ∙ e
-
-    -- its switches are those of the report
-    pub section_switches : (section_of w r n (k, labels)).sheet.switches ≡ switches_of r.config
-    unfolding section_of
-    section_switches = refl
-
-    -- its labels
-    pub section_labels : (section_of w r n (k, labels)).sheet.labels ≡ labels
-    unfolding section_of
-    section_labels = refl
-
-    -- it stands on a page of the report's switches
-    pub section_page : (page : PageFields) → page.switches ≡ switches_of r.config → IsOnPage (texts_of r) (section_of w r n (k, labels)) page
-    section_page page e = record { texts = texts_switches r ∙ sym e; sheet = section_switches ∙ sym e }
-
-    -- its lines are those of its source
-    pub section_source : (page : PageFields) → page.switches ≡ switches_of r.config → (source : Listing) → source ≡ group_source w r labels
-        → IsDrawnGroup (texts_of r) (section_of w r n (k, labels)) page.switches source labels
-    unfolding section_of
-    section_source page e source over = record {
-      texts = texts_switches r ∙ sym e;
-      sheet = λ i. record { switches = sym e i; lines = listed_lines (sym over i); labels = labels };
-      display_offset = ap (λ (s : Listing). s.display_offset) (sym over);
-    }
-
-    -- a gutter of its gutter labels is its own
-    pub section_gutter : (gutter : GutterFields) → gutter.page.switches ≡ switches_of r.config → (shown : List LabelInfo)
-        → shown ≡ gutter_labels labels → gutter.positions ≡ map (λ (a : LabelInfo). a.position) shown
-        → IsOfSheet (section_of w r n (k, labels)).sheet gutter
-    section_gutter gutter e shown is at = record {
-      switches = e ∙ sym section_switches;
-      positions = at ∙ ap (map (λ (a : LabelInfo). a.position)) (is ∙ ap gutter_labels (sym section_labels));
-    }
+  -- a snippet of its texts, its source and its labels is that of the group within the picture
+  pub section_is : (n k : ℕ) (labels : List LabelInfo) (texts : Texts) (source : Listing) (name : List ℕ) (offset : Option ℕ)
+      → texts ≡ texts_of r → source ≡ group_source w r labels
+      → name ≡ unwrap_or (option_and_then w.name_of (group_id w r labels)) (codes "<unknown>") → offset ≡ header_offset w r labels
+      → snippet_of texts source name labels offset (k == 0) (k + 1 == n) ≡ record { texts = texts_of r; section = section_of w r n (k, labels) }
+  unfolding section_of texts_of
+  section_is n k labels texts source name offset t s m o = λ i. snippet_of (t i) (s i) (m i) labels (o i) (k == 0) (k + 1 == n)
 
 -- ---- its rows
 

@@ -1,5 +1,5 @@
 -- The labels of a group are over one source, and lie in its lines.
-use Rattle.std.proofs.Common.{◌≡◌, ℕ, suc, ◌<◌, ◌||◌, Bool, true, false, max, List, [], ◌∷◌, Option, Some, None, refl, sym, ap, ◌∙◌, length, get_or, arith, subst}
+use Rattle.std.proofs.Common.{◌≡◌, ℕ, suc, ◌+◌, ◌-◌, ◌<◌, ◌||◌, Bool, true, false, max, min, List, [], ◌∷◌, Option, Some, None, refl, sym, ap, ◌∙◌, length, get_or, arith, subst}
 use Rattle.std.specs.Cmp.{IsEquivalence}
 use Rattle.std.specs.HashMap.Eq.{lookup_congr}
 use Rattle.std.specs.Prelude.{slice_get, option_and_then, option_map, unwrap_or, nat_lt, not}
@@ -13,13 +13,13 @@ use Rattle.ariadne_base.specs.Listing.{Listing, listed_lines}
 use Rattle.ariadne_picture.specs.declared.label_info.LabelInfo.{LabelInfo}
 use Rattle.ariadne_picture.specs.Canvas.{label_id, is_same_id, same_source, group_id, group_source, number_width, sheet_of}
 use Rattle.ariadne_picture.specs.Groups.{is_cut, group_end_line, greatest, HasNoCut, printed_number}
-use Rattle.ariadne_picture.specs.Ranks.{last_line}
+use Rattle.ariadne_picture.specs.Ranks.{Sheet, last_line}
 use Rattle.ariadne_picture.specs.Report.{HaveOneSource, LabelFields, ReportFields, World}
 use Rattle.ariadne_picture.proofs.Lists.ListFacts.{all-weaker}
 use Rattle.ariadne_picture.specs.Accept.{IsAccepted}
 use Rattle.ariadne_accept.specs.CacheReads.{AreDrawn, AreThere}
 use Rattle.ariadne_render.specs.DrawnGroups.{IsGroup}
-use Rattle.ariadne_render.specs.DrawnLines.{AreOverLines, IsOverLines}
+use Rattle.ariadne_rows.specs.Snippets.{AreOverLines, IsOverLines}
 use Rattle.ariadne_render.proofs.Grouping.{NoCuts, all_at, cut_first, some_label}
 use Rattle.ariadne_render.proofs.OverLines.{over-lines}
 
@@ -33,6 +33,12 @@ pub end_below : (n : ℕ) (group : List LabelInfo) → 0 < n → AllByRecursion 
 unfolding group_end_line greatest
 end_below n [] h a = h
 end_below n (x ∷ group) h a = let rest : group_end_line group < n = end_below n group h a.1 in omega (arith, a.0)
+
+-- the last line of a group, as it is counted
+pub last_told : (s : Sheet) (context size n : ℕ) → s.switches.context_lines ≡ context → length s.lines ≡ size
+    → n ≡ group_end_line s.labels + min context (size - suc (group_end_line s.labels)) → n ≡ last_line s
+unfolding last_line
+last_told s context size n c l e = e ∙ (λ i. group_end_line s.labels + min (sym c i) (sym l i - suc (group_end_line s.labels)))
 
 -- a false test of two has two false parts
 or_false : (a b : Bool) → (not a || b) ≡ false → a ≡ true

@@ -1,37 +1,18 @@
--- The location that a group header names, as it is looked up.
-use Rattle.std.proofs.Common.{◌≡◌, ℕ, ◌+◌, ◌<◌, ◌≤◌, Bool, true, false, List, ◌++◌, length, Option, Some, None, refl, sym, ap, ◌∙◌, arith}
-use Rattle.std.specs.Prelude.{chars, nat_le, if◌then◌else◌, slice_get, option_map, codes, decimal}
+-- The offset that a group header names, as it is looked up.
+use Rattle.std.proofs.Common.{◌≡◌, ℕ, ◌<◌, ◌≤◌, Bool, true, false, List, length, Option, Some, None, refl, sym, ap, ◌∙◌, arith}
+use Rattle.std.specs.Prelude.{IfSome, chars, nat_le, if◌then◌else◌, slice_get, option_map}
 use Rattle.std.proofs.Common.{inl, inr}
-use Rattle.std.proofs.lemmas.Bool.{cases_Bool, cases_lt, cond_both, le-leb, leb-true}
+use Rattle.std.proofs.lemmas.Bool.{cases_Bool, cond_both, le-leb, leb-true}
 use Rattle.ariadne_picture.proofs.Labels.DrawnLabels.{offset-order}
 use Rattle.ariadne_picture.proofs.Variants.Bytes.{start-within}
-use Rattle.ariadne_base.specs.Listing.{Listing, listed_lines}
-use Rattle.ariadne_base.specs.Locations.{line_at, column_at}
+use Rattle.ariadne_base.specs.Listing.{Listing}
 use Rattle.ariadne_picture.specs.declared.label_info.LabelInfo.{LabelInfo}
 use Rattle.ariadne_picture.specs.declared.switches.IndexType.{IndexType}
 use Rattle.ariadne_picture.specs.declared.switches.IndexType.TheVariants.{Byte, Char}
-use Rattle.ariadne_base.specs.Table.{LineExtent, location_of}
 use Rattle.ariadne_picture.specs.Accept.{text_len, offset_in_chars}
 use Rattle.ariadne_picture.specs.Canvas.{group_id, group_source, header_offset, is_same_id}
-use Rattle.ariadne_picture.specs.Groups.{printed_number}
-use Rattle.ariadne_picture.specs.Pieces.{location_text}
 use Rattle.ariadne_picture.specs.Report.{ReportFields, World}
-use Rattle.ariadne_rows.specs.Headers.{location_numbers}
 use Rattle.ariadne_render.specs.HeaderPlaces.{own_offset}
-
--- no location has no numbers
-pub no_location : (ls : List (List ℕ)) (display_offset : ℕ) (o : Option ℕ) → o ≡ None → location_text ls display_offset o ≡ location_numbers None
-unfolding location_text location_numbers
-no_location ls display_offset o e = ap (location_text ls display_offset) e
-
--- the numbers of a location
-pub some_location : (ls : List (List ℕ)) (display_offset offset line column : ℕ) (o : Option ℕ) → o ≡ Some offset → line ≡ line_at length ls offset
-    → column ≡ column_at length ls offset
-    → location_text ls display_offset o ≡ location_numbers (Some (line + 1 + display_offset, column + 1))
-unfolding location_text location_numbers printed_number
-some_location ls display_offset offset line column o e l c =
-    ap (location_text ls display_offset) e
-    ∙ (λ i. decimal (sym l i + 1 + display_offset) ++ codes ":" ++ decimal (sym c i + 1))
 
 -- an offset between two characters of a text is no greater than the text
 start_fits : (index : IndexType) (text : List ℕ) (start o : ℕ) → offset_in_chars index text start ≡ Some o → o ≤ length text → start ≤ text_len index text
@@ -50,7 +31,7 @@ module _ {S Id : Type 0} (w : World S Id) (r : ReportFields S) (source : Listing
       (λ _. refl)
 
   -- an own start between two characters, or past the source, where the offset of it is at most that
-  own_past : (o : ℕ) → offset_in_chars r.config.index_type (chars source.text) (w.start_of r.span) ≡ Some o → length (chars source.text) < o
+  pub own_past : (o : ℕ) → offset_in_chars r.config.index_type (chars source.text) (w.start_of r.span) ≡ Some o → length (chars source.text) < o
       → own_offset w r source ≡ None
   unfolding own_offset
   own_past o f past =
@@ -71,20 +52,27 @@ module _ {S Id : Type 0} (w : World S Id) (r : ReportFields S) (source : Listing
   own_some o f few =
       ap (λ (b : Bool). if b then offset_in_chars r.config.index_type (chars source.text) (w.start_of r.span) else None) few ∙ f
 
-  -- so what is looked up of an own start that lies inside no character is its location
-  pub own_numbers : (o : ℕ) (numbers : Option (ℕ × ℕ)) → Some o ≡ offset_in_chars r.config.index_type (chars source.text) (w.start_of r.span)
-      → (length (chars source.text) < o → numbers ≡ None)
-      → (o ≤ length (chars source.text) → location_text (listed_lines source) source.display_offset (Some o) ≡ location_numbers numbers)
-      → location_text (listed_lines source) source.display_offset (own_offset w r source) ≡ location_numbers numbers
-  own_numbers o numbers f past found =
+  -- so it is where that is no greater than the source
+  pub own_found : (o : ℕ) → Some o ≡ offset_in_chars r.config.index_type (chars source.text) (w.start_of r.span) → o ≤ length (chars source.text)
+      → Some o ≡ own_offset w r source
+  own_found o f few =
+      sym (own_some o (sym f) (le-leb _ _ (start_fits r.config.index_type (chars source.text) (w.start_of r.span) o (sym f) few)))
+
+  -- and an own start that is there is no greater
+  pub own_within : (o : Option ℕ) → o ≡ own_offset w r source → IfSome o (λ n. n ≤ length (chars source.text))
+  unfolding own_offset
+  own_within None e = tt
+  own_within (Some n) e =
       let start = w.start_of r.span in
       let t = chars source.text in
-      elim (cases_lt (length t) o) [
-        | inl more ↦ no_location _ _ _ (own_past o (sym f) more) ∙ ap location_numbers (sym (past more))
-        | inr few ↦
-            let some = own_some o (sym f)
-            (le-leb _ _ (start_fits r.config.index_type t start o (sym f) few)) in
-            ap (location_text (listed_lines source) source.display_offset) some ∙ found few
+      elim (cases_Bool (nat_le start (text_len r.config.index_type t))) [
+        | inl few ↦
+            let found : Some n ≡ offset_in_chars r.config.index_type t start =
+            e ∙ ap (λ (b : Bool). if b then offset_in_chars r.config.index_type t start else None) few in
+            (offset-order r.config.index_type t start start n n (omega arith) (leb-true start (text_len r.config.index_type t) few) (sym found)
+            (sym found)).1
+        | inr many ↦
+            let none : Some n ≡ None = e ∙ ap (λ (b : Bool). if b then offset_in_chars r.config.index_type t start else None) many in cc
       ]
 
 module _ {S Id : Type 0} (w : World S Id) (r : ReportFields S) (group : List LabelInfo) (id : Id) (source : Listing)
@@ -116,13 +104,3 @@ module _ {S Id : Type 0} (w : World S Id) (r : ReportFields S) (group : List Lab
       then offset_in_chars r.config.index_type (chars source.text) (w.start_of r.span) else None)
       else option_map (λ (a : LabelInfo). a.start) (slice_get group 0)) e
       ∙ ap (option_map (λ (a : LabelInfo). a.start)) first
-
--- a location that is found has the line of its offset
-pub location_line : (ls : List (List ℕ)) (o : ℕ) (x : LineExtent) (n k : ℕ) → (x, n, k) ≡ location_of length ls o → n ≡ line_at length ls o
-unfolding location_of
-location_line ls o x n k e = ap (λ (p : LineExtent × ℕ × ℕ). p.1) e
-
--- and its column
-pub location_column : (ls : List (List ℕ)) (o : ℕ) (x : LineExtent) (n k : ℕ) → (x, n, k) ≡ location_of length ls o → k ≡ column_at length ls o
-unfolding location_of
-location_column ls o x n k e = ap (λ (p : LineExtent × ℕ × ℕ). p.2) e

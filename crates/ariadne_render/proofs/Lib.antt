@@ -5,13 +5,12 @@ pub mod Grouping
 pub mod GroupingSources
 pub mod GroupingWidths
 pub mod HeaderLocations
-pub mod LinesBounds
+pub mod KnownSnippets
 pub mod LinesHidden
 pub mod LinesLayout
 pub mod LinesPaints
 pub mod LinesQuiet
 pub mod LinesRows
-pub mod LinesShown
 pub mod LinesWalk
 pub mod LongLines
 pub mod OverLines

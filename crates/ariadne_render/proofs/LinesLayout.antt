@@ -1,18 +1,11 @@
--- What a line of a group is drawn from: its characters, its labels, and how many places its rows have.
-use Rattle.std.proofs.Common.{◌≡◌, ◌∙◌, ℕ, zero, suc, ◌+◌, ◌<◌, ◌≤◌, ◌^◌, Bool, true, not, ◌&&◌, ◌==◌, List, [], ◌∷◌, ◌++◌, length, map, filter}
-use Rattle.std.proofs.Common.{refl, sym, ap, subst, arith, Some, None}
-use Rattle.std.specs.Prelude.{Option, option_to_list, IfSome, if◌then◌else◌, chars, encode_utf8_all, flat_map, slice_range}
+-- What a line of a group is drawn from: its labels, and how many places its rows have.
+use Rattle.std.proofs.Common.{◌≡◌, ◌∙◌, ℕ, ◌+◌, ◌<◌, ◌≤◌, ◌^◌, Bool, not, ◌&&◌, ◌==◌, List, [], ◌∷◌, ◌++◌, length, map, filter, ap, arith}
+use Rattle.std.specs.Prelude.{Option, option_to_list, if◌then◌else◌, slice_range}
 use Rattle.std.specs.List.{AllByRecursion, list_any}
-use Rattle.std.specs.Option.{IsSome, IsSomeAnd}
-use Rattle.std.specs.Str.{IsUtf8, drop_trailing_whitespace}
-use Rattle.std.proofs.Math.Utf8.{scalars}
-use Rattle.std.proofs.lemmas.Bool.{and_parts, cond_both}
+use Rattle.std.specs.Str.{drop_trailing_whitespace}
+use Rattle.std.proofs.lemmas.Bool.{cond_both}
 use Rattle.std.proofs.lemmas.List.Sums.{get_or-le-sum_by}
-use Rattle.std.proofs.lemmas.Str.{chars-encodes, encodes-chars, length-le-encodes, scalars-chars}
-use Rattle.ariadne_base.specs.Lines.{lines_of}
 use Rattle.ariadne_base.specs.Locations.{line_offset, line_text}
-use Rattle.ariadne_base.specs.Table.{line_extent}
-use Rattle.ariadne_base.proofs.LineLaws.{lines_joined, lines_length}
 use Rattle.ariadne_picture.specs.declared.label_info.LabelInfo.{LabelInfo}
 use Rattle.ariadne_picture.specs.declared.label_info.LineLabel.{LineLabel}
 use Rattle.ariadne_picture.specs.declared.label_info.Side.TheVariants.{Inline}
@@ -23,54 +16,14 @@ use Rattle.ariadne_picture.specs.Groups.{greatest}
 use Rattle.ariadne_picture.specs.Lists.{total}
 use Rattle.ariadne_picture.specs.Ranks.{Sheet, ends_at, gutter_labels, inline_labels, is_before, is_inline, is_margin, is_on_one_line, is_start}
 use Rattle.ariadne_picture.specs.Ranks.{line_labels, margin_label}
-use Rattle.ariadne_picture.specs.Ranks.{multi_line_labels}
 use Rattle.ariadne_picture.proofs.Labels.LineLabels.{IsEndAt, ends-are}
-use Rattle.ariadne_picture.proofs.Lists.Elements.{both-true}
 use Rattle.ariadne_picture.proofs.Lists.ListFacts.{all-append, all-at, all-filter, all-in_order, all-map, all-weaker}
 use Rattle.ariadne_picture.proofs.Rows.RowsThere.{all-gutter-labels}
-use Rattle.ariadne_rows.specs.Gutters.{GutterFields, IsBeside, is_beside}
 use Rattle.ariadne_rows.specs.SnippetLabels.{events_at, events_of, labels_of, margin_of, ranked}
+use Rattle.ariadne_rows.specs.Snippets.{AreOverLines, IsOverLines}
 use Rattle.ariadne_rows.proofs.Events.{labels-at}
-use Rattle.ariadne_rows.proofs.GutterSteps.{margin-column-within}
 use Rattle.ariadne_rows.proofs.Ranking.{margin-found, ranked-found}
-use Rattle.ariadne_render.specs.DrawnLines.{AreOverLines, IsOverLines}
-use Rattle.ariadne_render.proofs.OverLines.{total_is}
-
--- ---- its characters
-
--- both parts of a text of characters are
-scalars-parts : (xs ys : List ℕ) → scalars (xs ++ ys) ≡ true → (scalars xs ≡ true) × (scalars ys ≡ true)
-scalars-parts [] ys h = (refl, h)
-scalars-parts (x ∷ xs) ys h =
-    let both = and_parts _ _ h in let rest = scalars-parts xs ys both.1 in (both-true _ _ both.0 rest.0, rest.1)
-
--- so is each of many
-scalars-part : (ls : List (List ℕ)) (l : ℕ) → scalars (flat_map (λ l. l) ls) ≡ true → scalars (line_text ls l) ≡ true
-scalars-part [] l h = refl
-scalars-part (x ∷ ls) zero h = (scalars-parts x (flat_map (λ l. l) ls) h).0
-scalars-part (x ∷ ls) (suc l) h = scalars-part ls l (scalars-parts x (flat_map (λ l. l) ls) h).1
-
--- the characters that the bytes of a line spell are those of the line
-pub line-chars : (text : List ℕ) (l : ℕ) (bs : List ℕ) → IsUtf8 text → bs ≡ encode_utf8_all (line_text (lines_of (chars text)) l)
-    → chars bs ≡ line_text (lines_of (chars text)) l
-line-chars text l bs utf8 e =
-    let ls = lines_of (chars text) in
-    let whole : scalars (flat_map (λ l. l) ls) ≡ true = ap scalars (lines_joined (chars text)) ∙ scalars-chars text utf8 in
-    ap chars e ∙ chars-encodes (line_text ls l) (scalars-part ls l whole)
-
--- a value of which something holds is there
-pub some-and : {T : Type 0} (o : Option T) (P : T → Type 0) → IsSomeAnd o P → IsSome o
-some-and None P h = absurd h
-some-and (Some x) P h = refl
-
--- and it holds of the value
-pub of-some : {T : Type 0} (o : Option T) (P : T → Type 0) (x : T) → IsSomeAnd o P → o ≡ Some x → P x
-of-some o P x h e = subst (λ o. IsSomeAnd o P) e h
-
--- the length of an extent is that of its line
-pub len-is : (ls : List (List ℕ)) (n : ℕ) → (line_extent ls n).len ≡ length (line_text ls n)
-unfolding line_extent
-len-is ls n = refl
+use Rattle.ariadne_rows.proofs.SourceLines.{total_is}
 
 -- ---- its labels
 
@@ -79,15 +32,15 @@ labels-there : (labels : List LabelInfo) (l from to : ℕ) → slice_range (even
     → labels_of labels (slice_range (events_of labels) from to) ≡ ends_at labels l ++ inline_labels labels l
 labels-there labels l from to e = ap (labels_of labels) e ∙ labels-at labels l
 
--- its margin label is that of a sheet with these labels
-pub margin-there : (labels : List LabelInfo) (l from to : ℕ) (s : Sheet) → s.labels ≡ labels → slice_range (events_of labels) from to ≡ events_at labels l
-    → margin_of (labels_of labels (slice_range (events_of labels) from to)) ≡ margin_label s.labels l
-margin-there labels l from to s own e = margin-found labels l _ (labels-there labels l from to e) ∙ ap (λ ls. margin_label ls l) (sym own)
+-- so its margin label is
+pub margin-there : (labels : List LabelInfo) (l from to : ℕ) → slice_range (events_of labels) from to ≡ events_at labels l
+    → margin_of (labels_of labels (slice_range (events_of labels) from to)) ≡ margin_label labels l
+margin-there labels l from to e = margin-found labels l _ (labels-there labels l from to e)
 
 -- and so are its line labels
-pub ranked-there : (labels : List LabelInfo) (l from to : ℕ) (s : Sheet) → s.labels ≡ labels → slice_range (events_of labels) from to ≡ events_at labels l
-    → ranked (labels_of labels (slice_range (events_of labels) from to)) ≡ line_labels s.labels l
-ranked-there labels l from to s own e = ranked-found labels l _ (labels-there labels l from to e) ∙ ap (λ ls. line_labels ls l) (sym own)
+pub ranked-there : (labels : List LabelInfo) (l from to : ℕ) → slice_range (events_of labels) from to ≡ events_at labels l
+    → ranked (labels_of labels (slice_range (events_of labels) from to)) ≡ line_labels labels l
+ranked-there labels l from to e = ranked-found labels l _ (labels-there labels l from to e)
 
 -- the layout of a line, by its parts
 pub layout-is : (s : Sheet) (l : ℕ) (y : Layout) (margin : Option LineLabel) (labels : List LineLabel) (offset : ℕ) (text : List ℕ) (sights : List Sight)
@@ -134,45 +87,14 @@ arrow-within switches y b short h =
     (λ _. cond_both switches.compact 1 2 (λ m. greatest (map (places_to_end y) y.labels) + m ≤ b + 2) (λ _. omega arith) (λ _. omega arith))
 
 -- their number fits
-pub places-fit : (switches : Switches) (s : Sheet) (l : ℕ) (y : Layout) (text : List ℕ) → IsUtf8 text → length text < 2 ^ 63
-    → s.lines ≡ lines_of (chars text) → AreOverLines s.lines s.labels → l < length s.lines → y ≡ layout_of s l → arrow_len switches y < 2 ^ 64
+pub places-fit : (switches : Switches) (s : Sheet) (l : ℕ) → total length s.lines < 2 ^ 63 → AreOverLines s.lines s.labels → l < length s.lines
+    → arrow_len switches (layout_of s l) < 2 ^ 64
 unfolding layout_of
-places-fit switches s l y text utf8 small own over less e =
+places-fit switches s l few over less =
     let b : ℕ = total length s.lines in
-    let bytes = length-le-encodes (chars text) in
-    let spelled = ap length (encodes-chars text utf8) in
-    let sum : b ≡ length (chars text) = ap (total length) own ∙ total_is length (lines_of (chars text)) ∙ lines_length (chars text) in
-    let few : b < 2 ^ 63 = omega arith in
     let all = total_is length s.lines in
     let part = get_or-le-sum_by length s.lines l [] less in
-    let line : length y.text ≡ length (line_text s.lines l) = ap (λ (z : Layout). length z.text) e in
-    let short : length y.text ≤ b = omega arith in
-    let ends : AllByRecursion (λ x. x.info.end ≤ b) y.labels =
-    subst (λ (z : Layout). AllByRecursion (λ x. x.info.end ≤ b) z.labels) (sym e)
-    (line-label-infos (λ a. a.end ≤ b) s l (all-weaker (IsOverLines s.lines) (λ a. a.end ≤ b) s.labels (λ a h. h.ends_inside) over)) in
-    let within = arrow-within switches y b short ends in
+    let ends : AllByRecursion (λ x. x.info.end ≤ b) (line_labels s.labels l) =
+    line-label-infos (λ a. a.end ≤ b) s l (all-weaker (IsOverLines s.lines) (λ a. a.end ≤ b) s.labels (λ a h. h.ends_inside) over) in
+    let within = arrow-within switches (layout_of s l) b (omega arith) ends in
     omega arith
-
--- ---- the bars beside it
-
--- the margin label has a column
-pub margin-column : (s : Sheet) (l : ℕ) (g : GutterFields) (o : Option LineLabel) → o ≡ margin_label s.labels l → IsBeside s l g
-    → IfSome o (λ m. m.gutter_column < length g.bars)
-margin-column s l g None e b = tt
-margin-column s l g (Some m) e b = margin-column-within s l m g b (sym e)
-
--- gutter labels are a matter of labels alone
-gutter-same : (s t : Sheet) → s.labels ≡ t.labels → gutter_labels t.labels ≡ gutter_labels s.labels
-gutter-same s t e = ap gutter_labels (sym e)
-
--- so are the bars
-pub beside-same : (s t : Sheet) (l : ℕ) (g : GutterFields) → s.labels ≡ t.labels → s.switches ≡ t.switches → IsBeside t l g → IsBeside s l g
-beside-same s t l g e w b =
-    let same = gutter-same s t e in
-    record {
-      sheet = record {
-        switches = b.sheet.switches ∙ sym w;
-        positions = b.sheet.positions ∙ ap (map (λ (a : LabelInfo). a.position)) same;
-      };
-      bars = b.bars ∙ ap (map (is_beside l)) same;
-    }

@@ -9,16 +9,15 @@ use Rattle.std.specs.Str.{drop_trailing_whitespace}
 use Rattle.std.proofs.lemmas.Bool.{cond_both, eq-eqb, true≢false}
 use Rattle.std.proofs.lemmas.List.Elements.{All-from_recursion}
 use Rattle.std.proofs.lemmas.Option.{slice_get_within}
-use Rattle.ariadne_base.specs.Locations.{line_offset, line_text}
+use Rattle.ariadne_base.specs.Locations.{line_text}
 use Rattle.ariadne_picture.specs.declared.label_info.LabelInfo.{LabelInfo}
-use Rattle.ariadne_picture.specs.Columns.{Layout, layout_of, shown}
-use Rattle.ariadne_picture.specs.Ranks.{multi_line_labels}
+use Rattle.ariadne_picture.specs.Columns.{layout_of, shown}
+use Rattle.ariadne_picture.specs.Ranks.{Sheet, multi_line_labels}
 use Rattle.ariadne_picture.specs.Strokes.{holds}
 use Rattle.ariadne_picture.proofs.Lists.Elements.{Has, all-numbered, list_any-true}
 use Rattle.ariadne_picture.proofs.Lists.ListFacts.{Increasing, all-filter, all-map, all-weaker, increasing-pairs}
-use Rattle.ariadne_rows.specs.SnippetLabels.{LabelsFields, touches, touching}
+use Rattle.ariadne_rows.specs.SnippetLabels.{HoldersTouch, touches, touching}
 use Rattle.ariadne_rows.proofs.Insides.{left-out}
-use Rattle.ariadne_render.specs.DrawnLines.{IsLaidOut}
 
 -- the numbers that a filter keeps of an enumerated list are at least the first, and each is below the next
 kept-rise : {X : Type 0} (p : ℕ × X → Bool) (n : ℕ) (xs : List X)
@@ -58,38 +57,26 @@ touching-rise labels l = λ k less.
     increasing-pairs (λ i j. i < j) (touching labels l) (kept-rise (λ (e : ℕ × LabelInfo). touches l e.1) 0 (multi_line_labels labels)).1 k (k + 1) 0
     (omega arith) less
 
-module _ (labels : List LabelInfo) (l : ℕ) (y : Layout) (h : IsLaidOut labels l y) (group : LabelsFields) (multi : List LabelInfo) (numbers : List ℕ)
-    (at : group ≡ record { labels = labels; line = l }) (m : multi ≡ multi_line_labels group.labels) (t : numbers ≡ touching group.labels group.line) where
-  -- the multi-line labels are those of the layout
-  multi-is : multi ≡ multi_line_labels h.sheet.labels
-  multi-is = m ∙ (λ i. multi_line_labels (at i).labels) ∙ ap multi_line_labels (sym h.same_labels)
-
-  -- and the numbers are those of the labels that touch the line
-  numbers-are : numbers ≡ touching h.sheet.labels l
-  numbers-are = t ∙ (λ i. touching (at i).labels (at i).line) ∙ ap (λ ls. touching ls l) (sym h.same_labels)
-
+module _ (s : Sheet) (l : ℕ) (touch : HoldersTouch s l) (multi : List LabelInfo) (numbers : List ℕ)
+    (multi-is : multi ≡ multi_line_labels s.labels) (numbers-are : numbers ≡ touching s.labels l) where
   -- each is the number of a label
   pub numbers-within : All (λ i. i < length multi) numbers
   numbers-within =
       subst (λ ns. All (λ i. i < length multi) ns) (sym numbers-are)
-      (All-from_recursion (λ i. i < length multi) (touching h.sheet.labels l)
-      (subst (λ ls. AllByRecursion (λ i. i < length ls) (touching h.sheet.labels l)) (sym multi-is) (touching-within h.sheet.labels l)))
+      (All-from_recursion (λ i. i < length multi) (touching s.labels l)
+      (subst (λ ls. AllByRecursion (λ i. i < length ls) (touching s.labels l)) (sym multi-is) (touching-within s.labels l)))
 
   -- they rise
   pub numbers-strict : IsStrictlyIncreasing numbers
-  numbers-strict = subst IsStrictlyIncreasing (sym numbers-are) (touching-rise h.sheet.labels l)
+  numbers-strict = subst IsStrictlyIncreasing (sym numbers-are) (touching-rise s.labels l)
 
   -- the others hold no shown character
   pub others-hold-none : (i : ℕ) (a : LabelInfo) → slice_get multi i ≡ Some a → list_any (λ j. j == i) numbers ≡ false
-      → (k : ℕ) → k < length (shown y) → holds a (y.offset + k) ≡ false
+      → (k : ℕ) → k < length (shown (layout_of s l)) → holds a ((layout_of s l).offset + k) ≡ false
   unfolding shown layout_of
   others-hold-none i a there out k less =
-      let text : y.text ≡ line_text h.sheet.lines l = ap (λ (z : Layout). z.text) h.layout in
-      let offset : y.offset ≡ line_offset length h.sheet.lines l = ap (λ (z : Layout). z.offset) h.layout in
-      let short = shown-shorter y.text in
-      let n : length y.text ≡ length (line_text h.sheet.lines l) = ap length text in
-      let not : Has (touching h.sheet.labels l) i → ⊥ = λ has.
-      true≢false (sym (list_any-true (λ j. j == i) (touching h.sheet.labels l) has.place i has.there (eq-eqb i i refl))
+      let short = shown-shorter (line_text s.lines l) in
+      let not : Has (touching s.labels l) i → ⊥ = λ has.
+      true≢false (sym (list_any-true (λ j. j == i) (touching s.labels l) has.place i has.there (eq-eqb i i refl))
       ∙ ap (list_any (λ j. j == i)) (sym numbers-are) ∙ out) in
-      ap (λ o. holds a (o + k)) offset
-      ∙ left-out h.sheet l h.touch i a (ap (λ ls. slice_get ls i) (sym multi-is) ∙ there) not k (omega arith)
+      left-out s l touch i a (ap (λ ls. slice_get ls i) (sym multi-is) ∙ there) not k (omega arith)

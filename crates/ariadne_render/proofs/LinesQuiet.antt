@@ -1,10 +1,12 @@
 -- A line none of whose labels has a message: its labels have no rows, its bars stay, and its table serves a
 -- row of underlines alone.
-use Rattle.std.proofs.Common.{◌≡◌, ◌∙◌, ℕ, zero, suc, ◌+◌, ◌≤◌, Bool, true, false, ◌||◌, List, [], ◌∷◌, length, refl, sym, ap, subst, arith}
+use Rattle.std.proofs.Common.{◌≡◌, ◌∙◌, ℕ, zero, suc, ◌+◌, ◌<◌, ◌≤◌, Bool, true, false, ◌||◌, List, [], ◌∷◌, length, get_or, refl, sym, ap, subst, arith}
 use Rattle.std.proofs.Common.{Option, None, Some, inl, inr}
 use Rattle.std.specs.Prelude.{find, drop, option_map, slice_get}
 use Rattle.std.specs.List.{AllByRecursion, enumerate_from, list_any}
 use Rattle.std.proofs.lemmas.Bool.{cases_Bool, cond-true, cond-false, true≢false}
+use Rattle.std.proofs.lemmas.Option.{slice_get-get_or}
+use Rattle.ariadne_base.specs.Locations.{line_text}
 use Rattle.ariadne_cells.specs.Tables.{IsTable, vertical_of}
 use Rattle.ariadne_cells.specs.declared.table.LineTable.{LineTable}
 use Rattle.ariadne_picture.specs.declared.label_info.LineLabel.{LineLabel}
@@ -12,7 +14,7 @@ use Rattle.ariadne_picture.specs.declared.switches.Switches.{Switches}
 use Rattle.ariadne_picture.specs.Bars.{EndsNoEarlier}
 use Rattle.ariadne_picture.specs.Columns.{Layout, layout_of}
 use Rattle.ariadne_picture.specs.Lists.{joined}
-use Rattle.ariadne_picture.specs.Ranks.{Sheet, is_inline, line_labels}
+use Rattle.ariadne_picture.specs.Ranks.{Sheet, is_inline, line_labels, margin_label}
 use Rattle.ariadne_picture.specs.Rows.{alternate, are_lone, is_lone, label_rows, lone_rows}
 use Rattle.ariadne_picture.specs.Strokes.{has_vertical, vertical_at}
 use Rattle.ariadne_picture.proofs.Rows.LoneRows.{not-lone}
@@ -63,6 +65,30 @@ quiet-bars s l (suc k) g rise b e h =
 pub layout-labels : (s : Sheet) (l : ℕ) (y : Layout) → y ≡ layout_of s l → y.labels ≡ line_labels s.labels l
 unfolding layout_of
 layout-labels s l y e = ap (λ (z : Layout). z.labels) e
+
+-- its margin label is that of the line
+pub layout-margin : (s : Sheet) (l : ℕ) (y : Layout) → y ≡ layout_of s l → y.margin ≡ margin_label s.labels l
+unfolding layout_of
+layout-margin s l y e = ap (λ (z : Layout). z.margin) e
+
+-- its characters are those of the line
+pub layout-text : (s : Sheet) (l : ℕ) (y : Layout) → y ≡ layout_of s l → y.text ≡ line_text s.lines l
+unfolding layout_of
+layout-text s l y e = ap (λ (z : Layout). z.text) e
+
+-- as the code reads a label of it
+pub label-read : (s : Sheet) (l r : ℕ) (y : Layout) (xs : List LineLabel) (d : LineLabel) → y ≡ layout_of s l → xs ≡ y.labels
+    → r < length (line_labels s.labels l) → slice_get (line_labels s.labels l) r ≡ Some (get_or xs r d)
+label-read s l r y xs d e same less =
+    let there : xs ≡ line_labels s.labels l = same ∙ layout-labels s l y e in
+    let n : length xs ≡ length (line_labels s.labels l) = ap length there in
+    ap (λ ys. slice_get ys r) (sym there) ∙ slice_get-get_or xs r d (omega arith)
+
+-- which is there
+pub label-less : (s : Sheet) (l r : ℕ) (y : Layout) (xs : List LineLabel) → y ≡ layout_of s l → xs ≡ y.labels → r < length (line_labels s.labels l)
+    → r < length xs
+label-less s l r y xs e same less =
+    let n : length xs ≡ length (line_labels s.labels l) = ap length (same ∙ layout-labels s l y e) in omega arith
 
 -- ---- its table serves each rank
 

@@ -1,36 +1,33 @@
 -- The lines of a group as they are gone through: those before an event have no labels, that of the event is shown, and its rows follow theirs.
 use Rattle.std.proofs.Common.{◌≡◌, ◌∙◌, ℕ, zero, suc, ◌+◌, ◌-◌, ◌<◌, ◌≤◌, true, false, ◌&&◌, List, [], ◌∷◌, ◌++◌, length, map}
-use Rattle.std.proofs.Common.{nat_lt, max, min, replicate, refl, sym, ap, subst, arith, inl, inr, Some, None}
+use Rattle.std.proofs.Common.{nat_lt, max, min, refl, sym, ap, subst, arith, inl, inr, Some, None}
 use Rattle.std.specs.Prelude.{Option, option_map, slice_get, slice_range}
 use Rattle.std.specs.List.{AllByRecursion, range_with_len}
 use Rattle.std.specs.declared.ops.Range.{Range}
 use Rattle.std.proofs.lemmas.Bool.{cases_Bool, cases_lt, le-ltb, lt-ltb, and_right, not_from_false, true≢false}
 use Rattle.std.proofs.lemmas.List.{append-nil, map-append}
 use Rattle.std.proofs.lemmas.Option.{slice_get_within}
-use Rattle.ariadne_base.specs.Listing.{Listing, listed_lines}
 use Rattle.ariadne_cells.specs.Pages.{PenFields, DrawsRows}
-use Rattle.ariadne_cells.proofs.Drawn.{draws_rows-append, rows_page}
+use Rattle.ariadne_cells.proofs.Drawn.{draws_rows-append}
 use Rattle.ariadne_picture.specs.declared.label_info.LabelInfo.{LabelInfo}
-use Rattle.ariadne_picture.specs.declared.switches.Switches.{Switches}
 use Rattle.ariadne_picture.specs.Bars.{EndsNoEarlier}
 use Rattle.ariadne_picture.specs.Groups.{greatest, group_end_line, group_start_line}
 use Rattle.ariadne_picture.specs.Lists.{joined}
 use Rattle.ariadne_picture.specs.Pieces.{Section, Texts, row_pieces}
-use Rattle.ariadne_picture.specs.Ranks.{Sheet, first_line, gutter_labels, is_hidden, is_unlabelled, last_line}
+use Rattle.ariadne_picture.specs.Ranks.{Sheet, first_line, is_hidden, is_unlabelled, last_line}
 use Rattle.ariadne_picture.specs.Rows.{Row, line_rows}
 use Rattle.ariadne_picture.proofs.Lists.Joined.{joined-append, joined-one}
 use Rattle.ariadne_picture.proofs.Lists.ListFacts.{all-at, all-weaker, none≢some}
 use Rattle.ariadne_picture.proofs.Rows.LineBlock.{range-append}
 use Rattle.ariadne_picture.proofs.Rows.NearLines.{hidden-far, shown-near, shown-with}
 use Rattle.ariadne_rows.specs.declared.snippet_labels.Event.{Event}
-use Rattle.ariadne_rows.specs.Gutters.{GutterFields, IsBeside, IsOfSheet}
+use Rattle.ariadne_rows.specs.Gutters.{GutterFields, IsBeside}
 use Rattle.ariadne_rows.specs.SnippetLabels.{IsLineEnd, events_at, events_of}
 use Rattle.ariadne_rows.proofs.Events.{above, event-labelled, event-lines, label-lines, line-end, line-events, next-line, no_event-unlabelled}
 use Rattle.ariadne_rows.proofs.Events.{none-above, none-between, none-on-line-above, still-above}
-use Rattle.ariadne_rows.proofs.GutterSteps.{first-line}
-use Rattle.ariadne_render.specs.DrawnLines.{AreBetween, AreOverLines, IsDrawnGroup, IsOverLines, begins_run}
-use Rattle.ariadne_render.proofs.LinesHidden.{over-rise}
-use Rattle.ariadne_render.proofs.LinesShown.{first-label}
+use Rattle.ariadne_rows.specs.Snippets.{AreOverLines, IsOverLines}
+use Rattle.ariadne_render.specs.DrawnLines.{AreBetween, begins_run}
+use Rattle.ariadne_rows.proofs.LinesShown.{first-label}
 
 -- ---- the event of a number
 
@@ -81,11 +78,6 @@ first-before_last s some rise =
 pub end-before_last : (s : Sheet) → group_end_line s.labels ≤ last_line s
 unfolding last_line
 end-before_last s = omega arith
-
--- the labels of a group end no earlier than they start
-pub group-rise : (lines : List (List ℕ)) (labels : List LabelInfo) → AreOverLines lines labels → (s : Sheet) → s.labels ≡ labels
-    → AllByRecursion EndsNoEarlier s.labels
-group-rise lines labels over s own = subst (AllByRecursion EndsNoEarlier) (sym own) (over-rise lines labels over)
 
 -- ---- how far the lines are gone through
 
@@ -153,7 +145,6 @@ module _ (s : Sheet) (size l n k far m : ℕ) (g : GutterFields) (w : IsWalked s
     between = λ lines run first behind start end.
         let low = w.up in
         record {
-          first = let from = w.low in omega (arith, from, first);
           low = omega (arith, first, start, low, up);
           up = omega (arith, start, end);
           high = omega (arith, end, behind, short);
@@ -161,8 +152,12 @@ module _ (s : Sheet) (size l n k far m : ℕ) (g : GutterFields) (w : IsWalked s
             unlabelled = λ j a b. bare j (omega (arith, a, first)) (omega (arith, b, start));
             shown = λ j a b. w.near j (omega (arith, a, first)) (omega (arith, b, start));
           };
-          hidden = λ j a b. far-hidden j (omega (arith, a, b, start, end, short)) (omega (arith, a, start, low, up)) (omega (arith, a, b, start, end));
-          begins = subst (λ i. begins_run s i ≡ true) (sym start) first-begins;
+          hidden = record {
+            low = let from = w.low in omega (arith, from, start, low, up);
+            begins = subst (λ i. begins_run s i ≡ true) (sym start) first-begins;
+            hidden = λ j a b.
+                far-hidden j (omega (arith, a, b, start, end, short)) (omega (arith, a, start, low, up)) (omega (arith, a, b, start, end));
+          };
           below = record {
             unlabelled = λ j a b. bare j (omega (arith, a, end, low, up)) (omega (arith, b, behind));
             shown = λ j a b. below j (omega (arith, a, end, low, up)) (omega (arith, a, end)) (omega (arith, b, behind));
@@ -172,10 +167,9 @@ module _ (s : Sheet) (size l n k far m : ℕ) (g : GutterFields) (w : IsWalked s
 
 module _ (s : Sheet) (size : ℕ) (rise : AllByRecursion EndsNoEarlier s.labels) where
   -- none is written
-  pub walk-start : (g : GutterFields) → 0 < length s.labels → IsOfSheet s g → g.bars ≡ replicate (length (gutter_labels s.labels)) false
-      → IsWalked s size (first_line s) (first_line s) 0 g
+  pub walk-start : (g : GutterFields) → 0 < length s.labels → IsBeside s (first_line s) g → IsWalked s size (first_line s) (first_line s) 0 g
   unfolding begins_run
-  walk-start g some sheet bars =
+  walk-start g some beside =
       let last = first-before_last s some rise in
       let l = first_line s in
       record {
@@ -187,7 +181,7 @@ module _ (s : Sheet) (size : ℕ) (rise : AllByRecursion EndsNoEarlier s.labels)
         near = λ j low less. absurd (omega (arith, low, less));
         far = λ j m past less above some.
             absurd (true≢false (sym (no_event-unlabelled s.labels m (none-on-line-above s m rise above)) ∙ some));
-        beside = first-line s g sheet bars;
+        beside = beside;
       }
 
   module _ (l n k m : ℕ) (g : GutterFields) (w : IsWalked s size l n k g) (e : Event) (there : slice_get (events_of s.labels) k ≡ Some e) (on : e.line ≡ m)
@@ -321,37 +315,3 @@ names-append t g w a b c xs ys zs same d e =
     let both : map (row_pieces t w g) xs ++ map (row_pieces t w g) ys ≡ map (row_pieces t w g) zs =
     sym (map-append (row_pieces t w g) xs ys) ∙ ap (map (row_pieces t w g)) same in
     subst (DrawsRows a c) both (draws_rows-append a b c (map (row_pieces t w g) xs) (map (row_pieces t w g) ys) d e)
-
--- ---- a group that is drawn
-
--- a sheet of it
-abbrev pub group_sheet : Switches → Listing → List LabelInfo → Sheet
-group_sheet switches source labels = record { switches = switches; lines = listed_lines source; labels = labels }
-
--- there is one with these labels
-pub some-group : (t : Texts) (switches : Switches) (source : Listing) (labels : List LabelInfo) → t.switches ≡ switches
-    → (g : Section) × IsDrawnGroup t g switches source labels
-some-group t switches source labels e = (
-  record {
-    sheet = record { switches = switches; lines = listed_lines source; labels = labels };
-    name = [];
-    display_offset = source.display_offset;
-    header_offset = None;
-    is_first = false;
-    is_last = false;
-  },
-  record { texts = e; sheet = refl; display_offset = refl },
-)
-
--- rows of any such group leave the page
-pub lines-page : (t : Texts) (switches : Switches) (source : Listing) (labels : List LabelInfo) (w : ℕ) (a b : PenFields) (rows : Section → List Row)
-    → t.switches ≡ switches → ((g : Section) → IsDrawnGroup t g switches source labels → DrawsRows a b (map (row_pieces t w g) (rows g)))
-    → b.page ≡ a.page
-lines-page t switches source labels w a b rows e d =
-    let some = some-group t switches source labels e in rows_page a b (map (row_pieces t w some.0) (rows some.0)) (d some.0 some.1)
-
--- a group that is drawn is one on the page and with the labels that stay
-pub group-kept : (t : Texts) (g : Section) (old new : Switches) (source : Listing) (labels kept : List LabelInfo) → new ≡ old → kept ≡ labels
-    → IsDrawnGroup t g old source labels → IsDrawnGroup t g new source kept
-group-kept t g old new source labels kept same own h =
-    subst (λ ls. IsDrawnGroup t g new source ls) (sym own) (subst (λ w. IsDrawnGroup t g w source labels) (sym same) h)

@@ -1,10 +1,9 @@
 -- What is known of each label that is drawn: it is the report's, its source is held and accepts it, and it lies in the lines of that source.
-use Rattle.std.proofs.Common.{◌≡◌, ℕ, ◌+◌, ◌<◌, ◌≤◌, min, ◌||◌, List, [], ◌∷◌, Option, Some, None, length}
-use Rattle.std.proofs.Common.{refl, sym, ap, ◌∙◌, subst, arith, inl, inr, sum_by}
+use Rattle.std.proofs.Common.{◌≡◌, ℕ, ◌+◌, ◌<◌, ◌≤◌, min, ◌||◌, List, [], Option, Some, None, length}
+use Rattle.std.proofs.Common.{refl, sym, ap, subst, arith, inl, inr, sum_by}
 use Rattle.std.specs.Prelude.{chars, nat_lt}
 use Rattle.std.proofs.lemmas.Bool.{and_parts, cases_Bool, cases_lt, leb-true, ltb-true}
 use Rattle.std.proofs.lemmas.List.{get_or_past}
-use Rattle.std.proofs.lemmas.List.Sums.{sum_by-cons}
 use Rattle.ariadne_base.specs.Lines.{lines_of}
 use Rattle.ariadne_base.specs.Listing.{Listing, listed_lines}
 use Rattle.ariadne_base.specs.Locations.{line_offset, line_text}
@@ -15,11 +14,11 @@ use Rattle.ariadne_picture.specs.declared.label_info.LabelInfo.{LabelInfo}
 use Rattle.ariadne_picture.specs.declared.switches.LabelAttach.{LabelAttach}
 use Rattle.ariadne_picture.specs.declared.verdict.Verdict.TheVariants.{Accepted}
 use Rattle.ariadne_picture.specs.Accept.{IsAccepted, info_of, offset_in_chars, text_len, verdict, within}
-use Rattle.ariadne_picture.specs.Lists.{total}
 use Rattle.ariadne_picture.specs.Report.{ConfigFields, LabelFields, ReportFields, World}
 use Rattle.ariadne_picture.specs.Strokes.{holds}
 use Rattle.ariadne_picture.proofs.Labels.DrawnLabels.{offset-order}
-use Rattle.ariadne_render.specs.DrawnLines.{IsOverLines}
+use Rattle.ariadne_rows.specs.Snippets.{IsOverLines}
+use Rattle.ariadne_rows.proofs.SourceLines.{total_is}
 use Rattle.ariadne_accept.proofs.Locating.{inside_line}
 
 -- ---- what an accepted label is
@@ -61,12 +60,6 @@ module _ {S : Type 0} (config : ConfigFields) (source : Listing) (k : ℕ) (labe
       ]
 
 -- ---- where it lies
-
--- the two sums of a list are one
-pub total_is : {X : Type 0} (f : X → ℕ) (xs : List X) → total f xs ≡ sum_by f xs
-unfolding total
-total_is f [] = refl
-total_is f (x ∷ xs) = ap (λ n. f x + n) (total_is f xs) ∙ sym (sum_by-cons f x xs)
 
 module _ (ls : List (List ℕ)) (some : 0 < length ls) where
   -- a line that holds a character is there

@@ -9,11 +9,11 @@ ghost use Rattle.ariadne_picture.specs.Canvas.{group_source, number_width, same_
 ghost use Rattle.ariadne_picture.specs.Groups.{groups_of, is_cut, printed_number};
 ghost use Rattle.ariadne_picture.specs.Ranks.{last_line};
 
-use crate::lines::{last_line, number_of_lines};
 use ariadne_accept::content::Content;
 use ariadne_base::{Cache, Span};
 use ariadne_cells::margin::decimal_len;
 use ariadne_picture::label_info::LabelInfo;
+use ariadne_rows::snippet::{last_line, number_of_lines};
 use std::alloc::AllocError;
 
 /// The groups of labels in order, from top to bottom. On `Err` there was no memory for them.

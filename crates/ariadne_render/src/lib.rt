@@ -1,6 +1,6 @@
-//! Drawing the accepted labels of a report: they are cut into groups (`groups`), whose lines are
-//! drawn one after another (`lines`, `below`) between the header and the tail (`drawing`). What is public
-//! here serves `ariadne`, and is no part of its surface.
+//! Drawing the accepted labels of a report: they are cut into groups (`groups`), each of which is made a
+//! snippet (`snippets`). Its lines are drawn one after another (`lines`, `below`) between its header and
+//! its tail (`frames`). What is public here serves `ariadne`, and is no part of its surface.
 //!
 //! ```text
 //! Error: Incompatible types                       header
@@ -22,7 +22,9 @@
 
 mod below;
 pub mod drawing;
+mod frames;
 mod groups;
 mod lines;
 mod long_line;
 pub mod margins;
+mod snippets;

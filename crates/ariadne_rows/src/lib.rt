@@ -1,5 +1,5 @@
-//! The rows of a picture: one writer for each kind of row, and the labels of a group by line. What
-//! is public here serves `ariadne`, and is no part of its surface.
+//! The rows of a picture: a group over its source as a snippet, the labels of a group by line, and one
+//! writer for each kind of row. What is public here serves `ariadne`, and is no part of its surface.
 //!
 //! Where a writer returns `Err` there was no memory, and the picture is lost. Lines, ranks, columns
 //! and places count from 0; places and offsets count characters.

@@ -1,17 +1,63 @@
-use Rattle.std.proofs.Common.{◌∙◌, sym, ap}
-use Rattle.ariadne_rows.proofs.GutterSteps.{below-next_inline, below-next}
+-- The bars are those of the next rank.
+use Rattle.std.proofs.Common.{rules, ◌∙◌, ap, sym}
+use Rattle.ariadne_rows.specs.Gutters.{GutterFields}
+use Rattle.ariadne_rows.proofs.GutterSteps.{below-next_inline, column-within}
+use Rattle.ariadne_rows.specs.Snippets.{sheet_at}
+use Rattle.ariadne_render.proofs.LinesQuiet.{label-less, label-read}
 use Rattle.std.proofs.lemmas.Result.{on_ok_weaker}
+use Rattle.ariadne_render.proofs.KnownSnippets.{below-set, rise}
 use Rattle.ariadne_render.proofs.below.pass_bar.Goals as goal
 
--- a label within the line leaves the bars
-pub returns-then-is_inline-clause-below : goal.returns-then-is_inline-clause-below
-returns-then-is_inline-clause-below c = λ s l r rise b e.
-    below-next_inline s l r c.args.label.now c.args.gutter.now rise b e (sym c.is_inline.ensures ∙ c.if-is_inline.true)
+-- the label is there
+pub offset_bounds-labels-rank : goal.offset_bounds-labels-rank
+offset_bounds-labels-rank g c =
+    let v = c.args.shown.now in
+    let less = label-less (sheet_at v) v.line c.args.rank c.layout.result.now c.labels-labels.result.now c.layout.ensures.layout
+    c.labels-labels.ensures c.requires.rank in
+    search rules
 
--- another sets its own
-pub returns-clause-below : goal.returns-clause-below
-returns-clause-below c = λ s l r rise b e.
-    on_ok_weaker c.set.result (λ h.
-    below-next s l r c.args.label.now c.args.gutter.now c.set.new.self rise b e (sym c.is_inline.ensures ∙ c.if-is_inline.false)
-    (h ∙ ap (λ v. record c.args.gutter.now { bars = Rattle.std.specs.Prelude.slice_set c.args.gutter.now.bars c.args.label.now.gutter_column v })
-    c.starts.ensures)) c.set.ensures
+pub bounds-labels-rank : goal.bounds-labels-rank
+bounds-labels-rank g c =
+    let v = c.args.shown.now in
+    label-less (sheet_at v) v.line c.args.rank c.layout.result.now c.labels-labels.result.now c.layout.ensures.layout
+    c.labels-labels.ensures c.requires.rank
+
+-- a label within the line leaves the bars
+pub returns-then-is_inline : goal.returns-then-is_inline
+returns-then-is_inline g c =
+    let v = c.args.shown.now in
+    let at = c.requires.at in
+    let there = label-read (sheet_at v) v.line c.args.rank c.layout.result.now c.labels-labels.result.now _ c.layout.ensures.layout
+    c.labels-labels.ensures c.requires.rank in
+    record {
+      is_snippet = at.is_snippet;
+      same_page = at.same_page;
+      bars = below-next_inline (sheet_at v) v.line c.args.rank _ c.args.gutter.now (rise v.snippet at.is_snippet) at.bars there
+          (sym c.is_inline.ensures ∙ c.if-is_inline.true);
+    }
+
+-- another has a column
+pub set-requires : goal.set-requires
+set-requires g c =
+    let v = c.args.shown.now in
+    let there = label-read (sheet_at v) v.line c.args.rank c.layout.result.now c.labels-labels.result.now _ c.layout.ensures.layout
+    c.labels-labels.ensures c.requires.rank in
+    record {
+      column = column-within (sheet_at v) v.line c.args.rank _ c.args.gutter.now c.requires.at.bars there
+          (sym c.is_inline.ensures ∙ c.if-is_inline.false);
+    }
+
+-- and sets its bar
+pub returns : goal.returns
+returns g c =
+    let v = c.args.shown.now in
+    let at = c.requires.at in
+    let there = label-read (sheet_at v) v.line c.args.rank c.layout.result.now c.labels-labels.result.now _ c.layout.ensures.layout
+    c.labels-labels.ensures c.requires.rank in
+    on_ok_weaker c.set.result
+    (λ h. record {
+      is_snippet = at.is_snippet;
+      same_page = ap (λ (x : GutterFields). x.page) h;
+      bars = below-set (sheet_at v) v.line c.args.rank _ c.args.gutter.now c.set.new.self _ (rise v.snippet at.is_snippet) at.bars there
+          (sym c.is_inline.ensures ∙ c.if-is_inline.false) c.starts.ensures h;
+    }) c.set.ensures

@@ -1,53 +1,80 @@
 -- A line none of whose labels has a message: the row with their underlines, or none.
-use Rattle.std.proofs.Common.{◌≡◌, ◌∙◌, false, true, length, sym, ap, subst, arith, [], ◌∷◌}
+use Rattle.std.proofs.Common.{◌≡◌, ◌∙◌, ◌<◌, ◌^◌, false, true, length, sym, ap, subst, arith, [], ◌∷◌}
+use Rattle.std.specs.List.{list_any}
 use Rattle.std.proofs.lemmas.Result.{on_ok_weaker}
 use Rattle.ariadne_cells.specs.Pages.{PageFields}
 use Rattle.ariadne_cells.specs.Tables.{IsTable}
 use Rattle.ariadne_cells.proofs.Drawn.{draws_rows_none, draws_rows_one}
+use Rattle.ariadne_picture.specs.declared.label_info.LineLabel.{LineLabel}
 use Rattle.ariadne_picture.specs.declared.switches.Switches.{Switches}
-use Rattle.ariadne_picture.specs.Pieces.{row_pieces}
-use Rattle.ariadne_picture.specs.Ranks.{line_labels}
+use Rattle.ariadne_picture.specs.Columns.{Layout, arrow_len}
+use Rattle.ariadne_picture.specs.Ranks.{Sheet}
 use Rattle.ariadne_picture.specs.Rows.{alternate, is_lone, lone_rows}
 use Rattle.ariadne_picture.proofs.Rows.LoneRows.{lone}
+use Rattle.ariadne_rows.specs.Snippets.{labels_at, layout_at, row_of, sheet_at}
 use Rattle.ariadne_rows.proofs.GutterSteps.{below-alternate}
-use Rattle.ariadne_render.proofs.LinesRows.{rows-of}
+use Rattle.ariadne_render.proofs.LinesLayout.{places-fit}
 use Rattle.ariadne_render.proofs.LinesQuiet.{layout-labels, quiet-bars, quiet-table, lone-row, no-lone-row, lone-asked}
+use Rattle.ariadne_render.proofs.LinesRows.{rows-of}
+use Rattle.ariadne_render.proofs.KnownSnippets.{gutter-switches, on-page, rise}
+use Rattle.ariadne_render.proofs.below.push_lone_row.Given.{Over}
+use Rattle.ariadne_render.proofs.below.push_lone_row.Goals.{After-is_lone}
 use Rattle.ariadne_render.proofs.below.push_lone_row.Goals as goal
 
--- the switches that are read are those of the page
-pub returns-then-not-is_lone : goal.returns-then-not-is_lone
-returns-then-not-is_lone c = λ t s l h.
+-- the code tests whether the line has the row
+told : (g : Over) (c : After-is_lone g) → is_lone (sheet_at c.args.shown.now) c.args.shown.now.line ≡ c.is_lone.result
+told g c =
+    let v = c.args.shown.now in
     let page = c.args.pen.now.page in
-    let asked : c.switches.result.now ≡ page.switches =
-    c.switches.ensures.switches ∙ ap (λ (p : PageFields). p.switches) c.page.ensures in
-    let off : is_lone s.sheet l ≡ false =
-    sym (lone-asked s.sheet l c.switches.result.now c.args.layout.now (h.on_page.sheet ∙ sym asked) h.layout)
-    ∙ sym c.is_lone.ensures ∙ c.if-not-is_lone.true in
-    rows-of t s page.number_width c.args.pen.now c.args.pen.now [] (lone_rows s.sheet l) (sym (no-lone-row s.sheet l off)) (draws_rows_none c.args.pen.now)
+    let asked : c.switches.result.now ≡ page.switches = c.switches.ensures.switches ∙ ap (λ (p : PageFields). p.switches) c.page.ensures in
+    let same = gutter-switches (sheet_at v) page c.args.gutter.now c.requires.at.same_page c.requires.at.bars.sheet in
+    sym (lone-asked (sheet_at v) v.line c.switches.result.now c.layout-layout.result.now (same ∙ sym asked) c.layout-layout.ensures.layout)
+    ∙ sym c.is_lone.ensures
 
-pub returns : goal.returns
-returns c = λ t s l h.
+-- it has none
+pub returns-then-not-is_lone : goal.returns-then-not-is_lone
+returns-then-not-is_lone g c =
+    let v = c.args.shown.now in
     let page = c.args.pen.now.page in
-    let y = c.args.layout.now in
-    let asked : c.switches.result.now ≡ page.switches =
-    c.switches.ensures.switches ∙ ap (λ (p : PageFields). p.switches) c.page.ensures in
-    let on : is_lone s.sheet l ≡ true =
-    sym (lone-asked s.sheet l c.switches.result.now y (h.on_page.sheet ∙ sym asked) h.layout)
-    ∙ sym c.is_lone.ensures ∙ c.if-not-is_lone.false in
-    let same = layout-labels s.sheet l y h.layout in
-    let n : length (line_labels s.sheet.labels l) ≡ length c.labels.result.now = ap length (sym same ∙ sym c.labels.ensures) in
-    let known = lone s.sheet l on in
+    let off = told g (goal.at.returns-then-not-is_lone g c).After-is_lone ∙ c.if-not-is_lone.true in
+    rows-of v.snippet.texts v.snippet.section page.number_width c.args.pen.now c.args.pen.now [] (lone_rows (sheet_at v) v.line)
+    (sym (no-lone-row (sheet_at v) v.line off)) (draws_rows_none c.args.pen.now)
+
+-- its places fit
+pub fill-requires-clause-places_fit : goal.fill-requires-clause-places_fit
+fill-requires-clause-places_fit g c =
+    let v = c.args.shown.now in
+    let is = c.layout-layout.ensures.is in
+    subst (λ (y : Layout). arrow_len c.switches-2.result.now y < 2 ^ 64) (sym c.layout-layout.ensures.layout)
+    (places-fit c.switches-2.result.now (sheet_at v) v.line is.places_fit is.over c.layout-layout.ensures.within)
+
+-- it has one
+pub returns : goal.returns
+returns g c =
+    let v = c.args.shown.now in
+    let s : Sheet = sheet_at v in
+    let l = v.line in
+    let page = c.args.pen.now.page in
+    let at = c.requires.at in
+    let climb = rise v.snippet at.is_snippet in
+    let on = told g (goal.at.returns g c).After-is_lone ∙ c.if-not-is_lone.false in
+    let known = lone s l on in
     let rank = length c.labels.result.now in
-    let asked_again : c.switches-2.result.now ≡ page.switches =
-    c.switches-2.ensures.switches ∙ ap (λ (p : PageFields). p.switches) c.page-2.ensures in
-    let filled : IsTable page.switches y 0 c.fill.new.self =
-    subst (λ (w : Switches). IsTable w y 0 c.fill.new.self) asked_again c.in_ok-fill.ensures in
-    let table = subst (λ z. IsTable page.switches z rank c.fill.new.self) h.layout
-    (quiet-table page.switches y rank c.fill.new.self c.requires.silent filled) in
-    let bars = below-alternate s.sheet l rank c.args.gutter.now h.rise
-    (quiet-bars s.sheet l rank c.args.gutter.now h.rise h.bars known.silent (omega arith)) in
+    let laid = c.layout-layout.ensures.layout in
+    let n : rank ≡ length (labels_at v) = ap length (c.labels.ensures ∙ layout-labels s l c.layout-layout.result.now laid) in
+    let asked : c.switches-2.result.now ≡ page.switches = c.switches-2.ensures.switches ∙ ap (λ (p : PageFields). p.switches) c.page-2.ensures in
+    let filled : IsTable page.switches (layout_at v) 0 c.fill.new.self =
+    subst (λ (w : Switches). IsTable w (layout_at v) 0 c.fill.new.self) asked
+    (subst (λ (y : Layout). IsTable c.switches-2.result.now y 0 c.fill.new.self) laid c.in_ok-fill.ensures) in
+    let silent : list_any (λ (x : LineLabel). x.info.has_message) (layout_at v).labels ≡ false =
+    ap (list_any (λ (x : LineLabel). x.info.has_message)) (layout-labels s l (layout_at v) Rattle.std.proofs.Common.refl) ∙ c.requires.silent in
+    let table = quiet-table page.switches (layout_at v) rank c.fill.new.self silent filled in
+    let bars = below-alternate s l rank c.args.gutter.now climb
+    (quiet-bars s l rank c.args.gutter.now climb at.bars known.silent (omega arith)) in
+    let here = on-page v.snippet page c.args.gutter.now at.is_snippet at.same_page at.bars.sheet in
     on_ok_weaker c.push_alternate_row.result (λ d.
-    rows-of t s page.number_width c.args.pen.now c.push_alternate_row.new.pen (alternate l rank ∷ []) (lone_rows s.sheet l)
-    (sym (lone-row s.sheet l on ∙ ap (λ k. alternate l k ∷ []) n))
-    (draws_rows_one c.args.pen.now c.push_alternate_row.new.pen (row_pieces t page.number_width s (alternate l rank)) d))
-    (c.push_alternate_row.ensures t s l h.on_page (ap (λ (w : Switches). w.compact) (sym h.on_page.sheet) ∙ known.loose) table bars)
+    rows-of v.snippet.texts v.snippet.section page.number_width c.args.pen.now c.push_alternate_row.new.pen (alternate l rank ∷ []) (lone_rows s l)
+    (sym (lone-row s l on ∙ ap (λ k. alternate l k ∷ []) (sym n)))
+    (draws_rows_one c.args.pen.now c.push_alternate_row.new.pen (row_of page v.snippet (alternate l rank)) d))
+    (c.push_alternate_row.ensures v.snippet.texts v.snippet.section l here
+    (ap (λ (w : Switches). w.compact) (sym here.sheet) ∙ known.loose) table bars)

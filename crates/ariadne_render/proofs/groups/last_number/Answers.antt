@@ -9,7 +9,7 @@ use Rattle.ariadne_picture.specs.Groups.{printed_number}
 use Rattle.ariadne_picture.specs.Report.{switches_of}
 use Rattle.ariadne_render.proofs.Grouping.{some_label}
 use Rattle.ariadne_render.proofs.GroupParts.{first_is}
-use Rattle.ariadne_render.proofs.GroupingSources.{last_inside, one_source}
+use Rattle.ariadne_render.proofs.GroupingSources.{last_inside, last_told, one_source}
 use Rattle.ariadne_render.proofs.groups.last_number.Goals as goal
 
 -- the first label is there
@@ -30,7 +30,7 @@ overflow_add-result g c =
     (option_copied c.get.result) c.get.ensures c.unwrap-source.result.now (ap option_copied c.unwrap-source.ensures) in
     let context = ap (λ (w : Switches). w.context_lines) (sym (c.switches-context.ensures.switches ∙ ap switches_of c.config.ensures)) in
     let size = ap (λ (s : Listing). length (listed_lines s)) first.over ∙ sym c.number_of_lines.ensures.number in
-    let is = c.last_line-last.ensures (sheet_of w r group) refl context size in
+    let is = last_told (sheet_of w r group) _ _ _ context size c.last_line-last.ensures in
     let last = last_inside w r one group c.requires.group in
     let fits = c.number_of_lines.ensures.fits in
     omega (arith, last, is, size, fits)
@@ -49,7 +49,7 @@ overflow_add-result-2 g c =
     (option_copied c.get.result) c.get.ensures c.unwrap-source.result.now (ap option_copied c.unwrap-source.ensures) in
     let context = ap (λ (w : Switches). w.context_lines) (sym (c.switches-context.ensures.switches ∙ ap switches_of c.config.ensures)) in
     let size = ap (λ (s : Listing). length (listed_lines s)) first.over ∙ sym c.number_of_lines.ensures.number in
-    let is = c.last_line-last.ensures (sheet_of w r group) refl context size in
+    let is = last_told (sheet_of w r group) _ _ _ context size c.last_line-last.ensures in
     let last = last_inside w r one group c.requires.group in
     let fits = c.number_of_lines.ensures.fits in
     let offset = c.display_line_offset.ensures.offset in
@@ -69,5 +69,5 @@ returns g c =
     (option_copied c.get.result) c.get.ensures c.unwrap-source.result.now (ap option_copied c.unwrap-source.ensures) in
     let context = ap (λ (w : Switches). w.context_lines) (sym (c.switches-context.ensures.switches ∙ ap switches_of c.config.ensures)) in
     let size = ap (λ (s : Listing). length (listed_lines s)) first.over ∙ sym c.number_of_lines.ensures.number in
-    let is = c.last_line-last.ensures (sheet_of w r group) refl context size in
+    let is = last_told (sheet_of w r group) _ _ _ context size c.last_line-last.ensures in
     (λ i. is i + 1 + (c.display_line_offset.ensures.offset ∙ ap (λ (s : Listing). s.display_offset) (sym first.over)) i)
