@@ -1,5 +1,5 @@
 -- Rows of a group, one after another, as a pen writes them.
-use Rattle.std.proofs.Common.{◌≡◌, Bool, true, false, List, [], ◌∷◌, ◌++◌, map, refl, sym, ap, ◌∙◌, subst}
+use Rattle.std.proofs.Common.{◌≡◌, Bool, true, false, List, [], ◌∷◌, ◌++◌, map, sym, ap, ◌∙◌, subst}
 use Rattle.std.specs.Prelude.{if◌then◌else◌}
 use Rattle.std.proofs.lemmas.List.{append-nil, map-append}
 use Rattle.ariadne_cells.specs.Pages.{DrawsRow, DrawsRows, PageFields, PenFields}
@@ -7,19 +7,7 @@ use Rattle.ariadne_cells.proofs.Drawn.{draws_rows-append, draws_rows_none, draws
 use Rattle.ariadne_picture.specs.declared.switches.Switches.{Switches}
 use Rattle.ariadne_picture.specs.Pieces.{Section, Texts, group_header_pieces, row_pieces, spacer_pieces, tail_pieces}
 use Rattle.ariadne_picture.specs.Rows.{Row, asides, group_header, help, note, spacer, tail}
-use Rattle.ariadne_picture.specs.Canvas.{texts_of}
-use Rattle.ariadne_picture.specs.Report.{ReportFields}
 use Rattle.ariadne_rows.specs.Headers.{IsOnPage}
-
--- the helps of a report
-pub helps_is : {S : Type 0} (r : ReportFields S) → (texts_of r).helps ≡ r.helps
-unfolding texts_of
-helps_is r = refl
-
--- and its notes
-pub notes_is : {S : Type 0} (r : ReportFields S) → (texts_of r).notes ≡ r.notes
-unfolding texts_of
-notes_is r = refl
 
 -- a section on another page that is the same
 pub on_page : (t : Texts) (g : Section) (a b : PageFields) → b ≡ a → IsOnPage t g a → IsOnPage t g b
