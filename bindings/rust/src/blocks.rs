@@ -31,10 +31,11 @@ pub(crate) fn starts_of(text: &str) -> Vec<Start> {
     let mut reader = Reader { bytes: text.as_bytes(), inside: 0, starts: vec![Start::default()] };
     let mut classes = [0; BLOCK];
     for (number, block) in text.as_bytes().chunks(BLOCK).enumerate() {
-        for (class, byte) in classes.iter_mut().zip(block) {
-            *class = class_of(*byte);
+        if block.is_ascii() {
+            put_classes(&mut classes, block, class_of_ascii);
+        } else {
+            put_classes(&mut classes, block, class_of);
         }
-        classes[block.len()..].fill(0);
         reader.read(number * BLOCK, &classes);
     }
     let end = Start { chars: text.len() - reader.inside, bytes: text.len() };
@@ -42,6 +43,14 @@ pub(crate) fn starts_of(text: &str) -> Vec<Start> {
         reader.starts.push(end);
     }
     reader.starts
+}
+
+/// Puts the classes of a block's bytes. Behind its end no bit is set.
+fn put_classes(classes: &mut [u8; BLOCK], block: &[u8], class_of: impl Fn(u8) -> u8) {
+    for (class, byte) in classes.iter_mut().zip(block) {
+        *class = class_of(*byte);
+    }
+    classes[block.len()..].fill(0);
 }
 
 /// A text as far as it is read.
@@ -94,6 +103,15 @@ fn class_of(byte: u8) -> u8 {
     (if is_inside { INSIDE } else { 0 }) | (if may_begin_end { END } else { 0 })
 }
 
+/// The class of a byte of ASCII.
+fn class_of_ascii(byte: u8) -> u8 {
+    if byte.wrapping_sub(b'\n') < 4 {
+        END
+    } else {
+        0
+    }
+}
+
 /// Eight bytes as a word, of which the first is the lowest.
 fn word_of(bytes: &[u8]) -> u64 {
     u64::from_le_bytes(bytes.try_into().expect("eight bytes"))
@@ -118,7 +136,7 @@ fn end_len(bytes: &[u8]) -> Option<usize> {
 
 #[cfg(test)]
 mod tests {
-    use super::{class_of, count_insides, starts_of, Start, BLOCK, END, INSIDE};
+    use super::{class_of, class_of_ascii, count_insides, starts_of, Start, BLOCK, END, INSIDE};
 
     /// What ends a line; of CR LF both are one end.
     const SEPARATORS: [char; 7] = ['\r', '\n', '\x0b', '\x0c', '\u{85}', '\u{2028}', '\u{2029}'];
@@ -165,6 +183,7 @@ mod tests {
             let is_inside = (0x80..0xc0).contains(&byte);
             let may_begin_end = matches!(byte, 10..=13 | 0xc2 | 0xe2);
             assert_eq!(class_of(byte), INSIDE * u8::from(is_inside) + END * u8::from(may_begin_end), "{byte}");
+            assert!(class_of_ascii(byte) == class_of(byte) || !byte.is_ascii(), "{byte}");
         }
     }
 
