@@ -2,7 +2,7 @@
 
 use crate::source::Source;
 use std::collections::hash_map::{Entry, HashMap};
-use std::fmt::{Debug, Display};
+use std::fmt::{self, Debug, Display, Formatter};
 use std::hash::Hash;
 use std::path::{Path, PathBuf};
 use std::{fs, io};
@@ -121,12 +121,14 @@ impl Cache<Path> for FileCache {
 }
 
 /// A cache over a function, which is called once for each id whose source it has.
-#[derive(Clone, Debug)]
+#[derive(Clone)]
 pub struct FnCache<Id, F, I>
 where
     I: AsRef<str>,
 {
-    sources: HashMap<Id, Source<I>>,
+    /// The numbers of the sources.
+    numbers: HashMap<Id, usize>,
+    sources: Vec<Source<I>>,
     get: F,
 }
 
@@ -136,7 +138,7 @@ where
 {
     /// A cache over this function.
     pub fn new(get: F) -> FnCache<Id, F, I> {
-        FnCache { sources: HashMap::default(), get }
+        FnCache { numbers: HashMap::default(), sources: Vec::new(), get }
     }
 
     /// The cache with these sources, in place of those that it has under the same ids.
@@ -144,8 +146,47 @@ where
     where
         Id: Eq + Hash,
     {
-        self.sources.extend(sources);
+        for (id, source) in sources {
+            self.add(id, source);
+        }
         self
+    }
+
+    /// Adds a source, in place of one with the same id. Returns its number.
+    fn add(&mut self, id: Id, source: Source<I>) -> usize
+    where
+        Id: Eq + Hash,
+    {
+        match self.numbers.entry(id) {
+            Entry::Occupied(held) => {
+                self.sources[*held.get()] = source;
+                *held.get()
+            }
+            Entry::Vacant(free) => {
+                self.sources.push(source);
+                *free.insert(self.sources.len() - 1)
+            }
+        }
+    }
+}
+
+/// The fields are those of `ariadne` 0.6.0.
+impl<Id: Debug, F: Debug, I: AsRef<str> + Debug> Debug for FnCache<Id, F, I> {
+    fn fmt(&self, f: &mut Formatter<'_>) -> fmt::Result {
+        let sources = Sources { numbers: &self.numbers, sources: &self.sources };
+        f.debug_struct("FnCache").field("sources", &sources).field("get", &self.get).finish()
+    }
+}
+
+/// Sources by their ids.
+struct Sources<'a, Id, I: AsRef<str>> {
+    numbers: &'a HashMap<Id, usize>,
+    sources: &'a [Source<I>],
+}
+
+impl<Id: Debug, I: AsRef<str> + Debug> Debug for Sources<'_, Id, I> {
+    fn fmt(&self, f: &mut Formatter<'_>) -> fmt::Result {
+        f.debug_map().entries(self.numbers.iter().map(|(id, number)| (id, &self.sources[*number]))).finish()
     }
 }
 
@@ -158,10 +199,14 @@ where
     type Storage = I;
 
     fn fetch(&mut self, id: &Id) -> Result<&Source<I>, impl Debug> {
-        Ok::<_, E>(match self.sources.entry(id.clone()) {
-            Entry::Occupied(held) => held.into_mut(),
-            Entry::Vacant(free) => free.insert(Source::from((self.get)(id)?)),
-        })
+        let number = match self.numbers.get(id) {
+            Some(number) => *number,
+            None => {
+                let text = (self.get)(id)?;
+                self.add(id.clone(), Source::from(text))
+            }
+        };
+        Ok::<_, E>(&self.sources[number])
     }
 
     fn display<'a>(&self, id: &'a Id) -> Option<impl Display + 'a> {
@@ -176,6 +221,49 @@ where
     S: AsRef<str>,
     I: IntoIterator<Item = (Id, S)>,
 {
-    let held = iter.into_iter().map(|(id, text)| (id, Source::from(text))).collect();
-    FnCache::new(|id: &Id| Err(not_there(id))).with_sources(held)
+    let mut cache = FnCache::new(|id: &Id| Err(not_there(id)));
+    for (id, text) in iter {
+        cache.add(id, Source::from(text));
+    }
+    cache
+}
+
+#[cfg(test)]
+mod tests {
+    use super::{Cache, FnCache};
+    use crate::Source;
+    use std::collections::HashMap;
+
+    type Get = fn(&u8) -> Result<String, u8>;
+
+    fn text_of(id: &u8) -> Result<String, u8> {
+        if *id < 9 { Ok(id.to_string()) } else { Err(*id) }
+    }
+
+    /// The text that a cache has of an id.
+    fn fetched(cache: &mut FnCache<u8, Get, String>, id: u8) -> Option<String> {
+        cache.fetch(&id).ok().map(|source| source.text().to_string())
+    }
+
+    #[test]
+    fn a_source_is_replaced_by_another_of_its_id() {
+        let held = |texts: &[(u8, &str)]| -> HashMap<u8, Source> {
+            texts.iter().map(|(id, text)| (*id, Source::from(text.to_string()))).collect()
+        };
+        let cache = FnCache::new(text_of as Get).with_sources(held(&[(1, "a"), (2, "b")]));
+        let mut cache = cache.with_sources(held(&[(2, "c"), (9, "d")]));
+        for _ in 0..2 {
+            let texts = [1, 2, 3, 9, 10].map(|id| fetched(&mut cache, id));
+            assert_eq!(texts.map(|text| text.unwrap_or_default()), ["a", "c", "3", "d", ""]);
+        }
+    }
+
+    #[test]
+    fn debug_texts_are_those_of_ariadne() {
+        let mut cache = FnCache::new(text_of as Get);
+        fetched(&mut cache, 3);
+        let told = format!("{cache:?}");
+        assert!(told.starts_with("FnCache { sources: {3: Source { text: \"3\", lines: ["), "{told}");
+        assert!(told.contains("display_line_offset: 0 }}, get: 0x"), "{told}");
+    }
 }
