@@ -28,11 +28,27 @@ impl<'a> From<&'a str> for Text<'a> {
     }
 }
 
+impl<'a> From<&'a String> for Text<'a> {
+    fn from(text: &'a String) -> Text<'a> {
+        Text::from(text.as_str())
+    }
+}
+
 #[repr(C)]
 #[derive(Clone, Copy)]
 pub(crate) struct OptionalText<'a> {
     text: Text<'a>,
     is_given: u32,
+}
+
+impl OptionalText<'_> {
+    pub(crate) const NONE: OptionalText<'static> =
+        OptionalText { text: Lent { values: "".as_ptr(), len: 0, lifetime: PhantomData }, is_given: 0 };
+
+    /// How many bytes it has.
+    pub(crate) fn len(&self) -> usize {
+        self.text.len
+    }
 }
 
 impl<'a> From<Option<&'a str>> for OptionalText<'a> {
@@ -42,6 +58,7 @@ impl<'a> From<Option<&'a str>> for OptionalText<'a> {
 }
 
 #[repr(C)]
+#[derive(Clone, Copy)]
 pub(crate) struct GivenSource<'a> {
     pub(crate) name: OptionalText<'a>,
     pub(crate) text: Text<'a>,
@@ -49,6 +66,7 @@ pub(crate) struct GivenSource<'a> {
 }
 
 #[repr(C)]
+#[derive(Clone, Copy)]
 pub(crate) struct GivenLabel<'a> {
     pub(crate) source: usize,
     pub(crate) start: usize,
@@ -133,25 +151,55 @@ const DRAWN: u32 = 0;
 const LEFT_OUT: u32 = 1;
 const BUFFER_TOO_SMALL: u32 = 2;
 
-/// The picture of a report over its sources. It is drawn twice if it has more bytes than `room`.
-pub(crate) fn draw(
+/// Bytes that a picture of a few short lines fits.
+const FEW: usize = 2048;
+
+/// Where a picture is drawn. A short one takes no memory of the heap.
+pub(crate) struct Room {
+    few: [MaybeUninit<u8>; FEW],
+    /// Room for a longer one, if it has any.
+    many: Vec<u8>,
+}
+
+impl Room {
+    pub(crate) fn new() -> Room {
+        Room { few: [MaybeUninit::uninit(); FEW], many: Vec::new() }
+    }
+
+    fn bytes(&mut self) -> &mut [MaybeUninit<u8>] {
+        match self.many.capacity() {
+            0 => &mut self.few,
+            _ => self.many.spare_capacity_mut(),
+        }
+    }
+
+    /// Takes a picture that was made elsewhere.
+    pub(crate) fn hold(&mut self, picture: Vec<u8>) -> &[u8] {
+        self.many = picture;
+        &self.many
+    }
+}
+
+/// The picture of a report over its sources. It is drawn twice if it has more bytes than `len`.
+pub(crate) fn draw<'r>(
     report: &GivenReport<'_>,
     sources: &[GivenSource<'_>],
-    room: usize,
-) -> Result<Vec<u8>, Refusal> {
-    let mut out = Vec::with_capacity(room);
-    let mut len = 0;
+    mut len: usize,
+    room: &'r mut Room,
+) -> Result<&'r [u8], Refusal> {
+    if len > FEW {
+        room.many.reserve(len);
+    }
     loop {
-        match draw_into(report, sources, out.spare_capacity_mut(), &mut len) {
-            DRAWN | LEFT_OUT => {
-                // The call has written the first `len` bytes, which the vector has room for.
-                unsafe { out.set_len(len) };
-                return Ok(out);
-            }
-            BUFFER_TOO_SMALL => out.reserve(len),
+        match draw_into(report, sources, room.bytes(), &mut len) {
+            DRAWN | LEFT_OUT => break,
+            BUFFER_TOO_SMALL => room.many.reserve(len),
             status => return Err(Refusal(status)),
         }
     }
+    let picture = &room.bytes()[..len];
+    // The call has written these bytes, and nothing was put there since.
+    Ok(unsafe { slice::from_raw_parts(picture.as_ptr().cast(), picture.len()) })
 }
 
 /// Draws into a buffer, and returns the status. `len` is how many bytes the picture has.

@@ -2,9 +2,9 @@
 
 use crate::call::{suggest, GivenEdit, GivenSource, GivenSuggestion, Lent, OptionalText, Refusal, Text};
 use crate::config::Config;
+use crate::lending::flags_of;
 use crate::report::Report;
 use crate::source::Source;
-use crate::write::flags_of;
 use std::error::Error;
 use std::fmt::{self, Display, Formatter};
 use std::ops::Range;

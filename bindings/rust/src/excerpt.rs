@@ -12,7 +12,6 @@
 use crate::config::{Config, IndexType};
 use crate::numbers::Numbers;
 use crate::source::Source;
-use crate::span::Span;
 use std::borrow::Cow;
 use std::ops::RangeInclusive;
 
@@ -48,14 +47,20 @@ pub(crate) struct Shape {
     pub(crate) over: usize,
 }
 
-/// The offsets of the first and the last character of a span, in a source or in what is lent of it.
-pub(crate) type Ends = [usize; 2];
-
-/// The ends of a span. One that has no character has its start as both.
-pub(crate) fn ends_of_span<S: Span>(span: &S) -> Ends {
-    let start = span.start();
-    [start, span.end().saturating_sub(1).max(start)]
+impl Shape {
+    /// The shape of all that is lent, with another source.
+    pub(crate) fn with(self, other: Shape) -> Shape {
+        Shape {
+            lines: self.lines + other.lines,
+            longest: self.longest.max(other.longest),
+            over: self.over + other.over,
+        }
+    }
 }
+
+/// The offsets of the first and the last character of a span, in a source or in what is lent of it. One that has no
+/// character has its start as both.
+pub(crate) type Ends = [usize; 2];
 
 /// The spans of a report that are in one source. There is a label at least.
 pub(crate) struct Spans {
@@ -141,46 +146,31 @@ fn runs_of(ends: &[End], context_lines: usize, last_line: usize) -> Vec<Run> {
 }
 
 impl<'s> Excerpt<'s> {
-    /// What these spans of a source need. They are moved to what is lent.
-    pub(crate) fn new<I: AsRef<str>>(
+    /// All lines from the first to the last that so many spans are on, of which these are the outermost ends, and those
+    /// near them. And the offset of the first. None where these lines are many.
+    pub(crate) fn of_few_lines<I: AsRef<str>>(
         source: &'s Source<I>,
-        spans: &mut Spans,
-        numbers: &mut Numbers,
+        [first, last]: Ends,
+        spans: usize,
         config: &Config,
-    ) -> Excerpt<'s> {
-        let (first, last) = spans.ends.iter().fold((usize::MAX, 0), |(first, last), [start, end]| {
-            (first.min(*start), last.max(*end))
-        });
+    ) -> Option<(Excerpt<'s>, usize)> {
         let in_bytes = config.index_type == IndexType::Byte;
         let first = source.line_number(first, in_bytes, 0);
         let last = source.line_number(last, in_bytes, first);
-        if last - first > FEW_LINES * spans.ends.len() {
-            return Excerpt::of_lines_apart(source, spans, numbers, config);
+        if last - first > FEW_LINES * spans {
+            return None;
         }
-        let past = last.saturating_add(config.context_lines).min(source.last_line());
-        Excerpt::of_lines(source, first.saturating_sub(config.context_lines)..=past, spans, in_bytes)
+        let first = first.saturating_sub(config.context_lines);
+        let last = last.saturating_add(config.context_lines).min(source.last_line());
+        let (start, _, text) = source.lines_with_text(first..=last, in_bytes);
+        let shape = Shape { lines: last - first + 1, longest: source.longest_of(first..=last), over: 0 };
+        let line_offset = source.display_line_offset().saturating_add(first);
+        Some((Excerpt { text: Cow::Borrowed(text), line_offsets: [line_offset; 2], shape }, start))
     }
 
-    /// All these lines, in which the spans are.
-    fn of_lines<I: AsRef<str>>(
-        source: &'s Source<I>,
-        lines: RangeInclusive<usize>,
-        spans: &mut Spans,
-        in_bytes: bool,
-    ) -> Excerpt<'s> {
-        let line_offset = source.display_line_offset().saturating_add(*lines.start());
-        let (start, _, text) = source.lines_with_text(lines.clone(), in_bytes);
-        let mut shape = Shape { lines: lines.end() - lines.start() + 1, longest: source.longest_of(lines), over: 0 };
-        for [first, last] in &mut spans.ends {
-            *first -= start;
-            *last -= start;
-            shape.over += usize::from(*last - *first >= shape.longest);
-        }
-        Excerpt { text: Cow::Borrowed(text), line_offsets: [line_offset; 2], shape }
-    }
-
-    /// The lines that these spans begin or end on, those near them, and what stands for those between.
-    fn of_lines_apart<I: AsRef<str>>(
+    /// The lines that these spans begin or end on, those near them, and what stands for those between. The spans are
+    /// moved to what is lent.
+    pub(crate) fn of_lines_apart<I: AsRef<str>>(
         source: &Source<I>,
         spans: &mut Spans,
         numbers: &mut Numbers,
@@ -206,12 +196,6 @@ impl<'s> Excerpt<'s> {
         let in_front = source.display_line_offset().saturating_add(runs[0].first);
         let line_offsets = stand_ins.map_or([in_front; 2], |numbers| numbers.map(|number| number - 1));
         Excerpt { text: Cow::Owned(lent.text), line_offsets, shape: lent.shape }
-    }
-
-    /// The same with a copy of the text.
-    pub(crate) fn kept(self) -> Excerpt<'static> {
-        let Excerpt { text, line_offsets, shape } = self;
-        Excerpt { text: Cow::Owned(text.into_owned()), line_offsets, shape }
     }
 }
 
@@ -291,7 +275,7 @@ impl Lent {
 
 #[cfg(test)]
 mod tests {
-    use super::{ends_of_span, Excerpt, Shape, Spans};
+    use super::{Ends, Excerpt, Shape, Spans};
     use crate::numbers::Numbers;
     use crate::{CharSet, Color, Config, IndexType, Label, LabelAttach, Report, ReportKind, Source};
     use std::borrow::Cow;
@@ -322,11 +306,16 @@ mod tests {
         }
     }
 
+    /// The first and the last character of a span.
+    fn ends_of(span: &Range<usize>) -> Ends {
+        [span.start, span.end.saturating_sub(1).max(span.start)]
+    }
+
     /// Asserts that a report is drawn as over the whole source: as it is written, and where lines apart are lent.
     /// Returns whether numbers have stand-ins then.
     fn assert_draws_alike(source: &Source<String>, labels: Vec<Label>, at: usize, config: Config) -> bool {
         let told = format!("{labels:?} at {at}, {config:?}");
-        let ends = labels.iter().map(|label| ends_of_span(&label.span)).chain([[at; 2]]).collect();
+        let ends = labels.iter().map(|label| ends_of(&label.span)).chain([[at; 2]]).collect();
         let mut spans = Spans { ends, has_place: true };
         let report = Report::build(ReportKind::Error, at..at).with_config(config).with_labels(labels).finish();
         let line_offsets = [source.display_line_offset(); 2];
@@ -375,14 +364,15 @@ mod tests {
 
     #[test]
     fn lines_that_are_few_are_lent_as_they_are() {
-        let source = Source::from("ab\ncd\nef\ngh\nij\nkl\nmn\n");
-        let mut spans = labels(&[[4, 4], [16, 16]]);
-        let excerpt = Excerpt::new(&source, &mut spans, &mut Numbers::default(), &PLAIN);
-        assert_eq!((&*excerpt.text, excerpt.line_offsets), ("cd\nef\ngh\nij\nkl\n", [1; 2]));
+        let source = Source::from("ab\ncd\nef\ngh\nij\nkl\nmn\n").with_display_line_offset(20);
+        let (excerpt, start) = Excerpt::of_few_lines(&source, [4, 16], 2, &PLAIN).unwrap();
+        assert_eq!((&*excerpt.text, excerpt.line_offsets, start), ("cd\nef\ngh\nij\nkl\n", [21; 2], 3));
         assert!(matches!(excerpt.text, Cow::Borrowed(_)));
-        assert_eq!(spans.ends, [[1, 1], [13, 13]]);
-        let excerpt = Excerpt::new(&source, &mut labels(&[[1, 1], [19, 19]]), &mut Numbers::default(), &PLAIN);
-        assert_eq!(excerpt.text, "ab\n\x0c\x0c\x0c\x0c\x0cmn\n");
+        let config = PLAIN.with_context_lines(2);
+        let (excerpt, start) = Excerpt::of_few_lines(&source, [10, 16], 1, &config).unwrap();
+        assert_eq!((&*excerpt.text, excerpt.line_offsets, start), ("cd\nef\ngh\nij\nkl\nmn\n", [21; 2], 3));
+        assert!(Excerpt::of_few_lines(&source, [1, 19], 2, &PLAIN).is_none());
+        assert!(Excerpt::of_few_lines(&source, [1, 19], 3, &PLAIN).is_some());
     }
 
     #[test]
@@ -391,7 +381,7 @@ mod tests {
         let source = Source::from(text.as_str()).with_display_line_offset(20);
         let mut spans = Spans { ends: vec![[2, 2], [2000, 2000], [3990, 3990]], has_place: true };
         let mut numbers = Numbers::default();
-        let excerpt = Excerpt::new(&source, &mut spans, &mut numbers, &PLAIN);
+        let excerpt = Excerpt::of_lines_apart(&source, &mut spans, &mut numbers, &PLAIN);
         // (The numbers are 22, 1021 and 2016; those of labels have four digits at the most.)
         assert_eq!((&*excerpt.text, excerpt.line_offsets), ("z\n\x0cb\n\x0cz\n", [999, 3221]));
         assert_eq!(spans.ends, [[0, 0], [3, 3], [6, 6]]);
@@ -411,7 +401,7 @@ mod tests {
             (IndexType::Byte, 3001, true),
         ] {
             let config = PLAIN.with_index_type(index);
-            let excerpt = Excerpt::new(&source, &mut labels(&[[0, 1], [6, last]]), &mut Numbers::default(), &config);
+            let excerpt = apart(&source, &mut labels(&[[0, 1], [6, last]]), &config);
             assert_eq!(excerpt.line_offsets == [0; 2], keeps_all, "{index:?} {last}");
         }
     }
