@@ -63,6 +63,7 @@ impl<'r, 'a, S: Span> Lending<'r, 'a, S> {
         let mut outer = Outer::default();
         labels.iter().for_each(|label| outer.add(label.start, label.end));
         let lasts = number_sources(&report.labels, |label, source| labels[label].source = UNFETCHED + source);
+        let kept = Vec::with_capacity(lasts.len());
         Lending {
             report,
             labels,
@@ -70,7 +71,7 @@ impl<'r, 'a, S: Span> Lending<'r, 'a, S> {
             outer,
             place: (UNFETCHED, 0),
             held: String::new(),
-            kept: Vec::new(),
+            kept,
             sources: 0,
             placed: 0,
             numbers: Numbers::default(),
@@ -401,5 +402,75 @@ impl Report<'_> {
         let mut room = Room::new();
         let picture = lending.picture(Some((&None, &excerpt)), &mut room);
         String::from_utf8(picture.unwrap_or_else(|Refusal(status)| panic!("status {status}")).to_vec()).unwrap()
+    }
+}
+
+#[cfg(test)]
+mod tests {
+    use super::{Kept, Labels, Lending, NO_LABEL};
+    use crate::call::Room;
+    use crate::{Color, Config, FnCache, Label, Report, ReportKind};
+    use std::ops::Range;
+
+    type Place = (usize, Range<usize>);
+
+    /// The texts of sources by their ids.
+    const TEXTS: [&str; 9] =
+        ["a", "b\nc\n", "", "d\n\n\n\ne\n", "f", "g\u{e9}\nh", "i\n\n\n\n\n\n\n\n\nj", "k", "l\r\nm"];
+
+    /// The picture over whole sources, which have their numbers one by one. Those behind the texts are not there.
+    fn picture_over_whole(report: &Report<Place>) -> Vec<u8> {
+        let mut labels = Labels::new(NO_LABEL);
+        let mut lending = Lending::new(report, &mut labels);
+        let mut ids: Vec<usize> = Vec::new();
+        for (label, given) in report.labels.iter().zip(lending.labels.iter_mut()) {
+            let id = label.span.0;
+            if id < TEXTS.len() {
+                let number = ids.iter().position(|it| *it == id).unwrap_or(ids.len());
+                ids.extend((number == ids.len()).then_some(id));
+                given.source = number;
+                lending.placed += 1;
+            }
+        }
+        if let Some(number) = ids.iter().position(|it| *it == report.span.0) {
+            lending.place = (number, report.span.1.start);
+        }
+        for id in ids {
+            let name = lending.hold_name(Some(id));
+            let start = lending.held.len();
+            lending.held.push_str(TEXTS[id]);
+            lending.kept.push(Kept { name, text: start..lending.held.len(), line_offsets: [0; 2] });
+        }
+        let mut room = Room::new();
+        let picture = lending.picture(None, &mut room);
+        picture.unwrap_or_else(|refusal| panic!("status {}", refusal.0)).to_vec()
+    }
+
+    #[test]
+    fn reports_over_many_sources_are_drawn_as_over_whole_ones() {
+        let mut seed: u64 = 1;
+        let mut below = |bound: usize| {
+            seed = seed.wrapping_mul(6364136223846793005).wrapping_add(1442695040888963407);
+            (seed >> 33) as usize % bound
+        };
+        for _ in 0..5000 {
+            let ids = 1 + below(TEXTS.len() + 2);
+            let labels: Vec<Label<Place>> = (0..below(12))
+                .map(|number| {
+                    let (id, start) = (below(ids), below(14));
+                    let label = Label::new((id, start..start + below(5))).with_color(Color::Fixed(number as u8));
+                    if below(3) == 0 { label } else { label.with_message(number).with_order(below(2) as i32) }
+                })
+                .collect();
+            let report = Report::build(ReportKind::Error, (below(ids), 0..below(9)))
+                .with_config(Config::new().with_context_lines(below(2)))
+                .with_labels(labels)
+                .finish();
+            let text_of = |id: &usize| TEXTS.get(*id).copied().ok_or("a missing source");
+            let mut picture = Vec::new();
+            report.write(FnCache::new(text_of), &mut picture).unwrap();
+            let [got, want] = [picture, picture_over_whole(&report)].map(|it| String::from_utf8(it).unwrap());
+            assert_eq!(got, want);
+        }
     }
 }
