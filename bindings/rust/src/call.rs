@@ -13,6 +13,10 @@ pub(crate) struct Lent<'a, T> {
     lifetime: PhantomData<&'a [T]>,
 }
 
+// They are as a reference to the values.
+unsafe impl<T: Sync> Send for Lent<'_, T> {}
+unsafe impl<T: Sync> Sync for Lent<'_, T> {}
+
 impl<'a, T> From<&'a [T]> for Lent<'a, T> {
     fn from(values: &'a [T]) -> Lent<'a, T> {
         Lent { values: values.as_ptr(), len: values.len(), lifetime: PhantomData }
@@ -39,16 +43,6 @@ impl<'a> From<&'a String> for Text<'a> {
 pub(crate) struct OptionalText<'a> {
     text: Text<'a>,
     is_given: u32,
-}
-
-impl OptionalText<'_> {
-    pub(crate) const NONE: OptionalText<'static> =
-        OptionalText { text: Lent { values: "".as_ptr(), len: 0, lifetime: PhantomData }, is_given: 0 };
-
-    /// How many bytes it has.
-    pub(crate) fn len(&self) -> usize {
-        self.text.len
-    }
 }
 
 impl<'a> From<Option<&'a str>> for OptionalText<'a> {
@@ -78,6 +72,7 @@ pub(crate) struct GivenLabel<'a> {
 }
 
 #[repr(C)]
+#[derive(Clone, Copy)]
 pub(crate) struct GivenReport<'a> {
     pub(crate) kind: u32,
     pub(crate) kind_color: u32,

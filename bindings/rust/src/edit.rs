@@ -2,7 +2,7 @@
 
 use crate::call::{suggest, GivenEdit, GivenSource, GivenSuggestion, Lent, OptionalText, Refusal, Text};
 use crate::config::Config;
-use crate::lending::flags_of;
+use crate::prepared::flags_of;
 use crate::report::Report;
 use crate::source::Source;
 use std::error::Error;

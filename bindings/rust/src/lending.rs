@@ -1,39 +1,26 @@
-//! What the library is lent of a report and its sources.
+//! What the library is lent of a report over sources.
 
-use crate::call::{draw, GivenLabel, GivenReport, GivenSource, Lent, OptionalText, Refusal, Room, Text};
-use crate::color::Color;
-use crate::config::{CharSet, Config, IndexType, LabelAttach};
-use crate::excerpt::{Ends, Excerpt, Shape, Spans};
-use crate::few::Few;
-use crate::label::Label;
-use crate::members::number_sources;
+use crate::call::{draw, GivenLabel, GivenSource, OptionalText, Refusal, Room, Text};
+use crate::config::CharSet;
+use crate::excerpt::{Excerpt, Shape, Spans};
 use crate::numbers::Numbers;
-use crate::report::{Content, Report, ReportKind};
+use crate::prepared::{Outer, UNFETCHED};
+use crate::report::Report;
 use crate::source::Source;
 use crate::span::Span;
+use std::borrow::Cow;
 use std::fmt::{Display, Write};
-use std::mem;
 use std::ops::Range;
 
 /// The room of a picture without labels, and the greatest that strokes are given.
 const LEAST_ROOM: usize = 256;
 const MOST_ROOM: usize = 1 << 24;
 
-/// The number of the first source, before that was fetched. Others follow it.
-const UNFETCHED: usize = !(usize::MAX >> 1);
-
-/// Room for the labels that are lent.
-pub(crate) type Labels<'a> = Few<GivenLabel<'a>, 4>;
-
-/// What the library is lent of a report beside the last of its sources.
-pub(crate) struct Lending<'r, 'a, S: Span> {
+/// What the library is lent of a report, and of its sources as far as they were fetched, but for the last.
+pub(crate) struct Lending<'a, S: Span> {
     report: &'a Report<'a, S>,
-    /// All labels. One whose source was not fetched has an unfetched source, and the offsets of its span.
-    labels: &'r mut [GivenLabel<'a>],
-    /// The last label in each source. Where all labels are in one source, there is none.
-    lasts: Vec<usize>,
-    /// The outermost ends of all labels.
-    outer: Outer,
+    /// All labels. In a source that was not fetched they have the offsets of their spans.
+    labels: Cow<'a, [GivenLabel<'a>]>,
     /// The number of the source that the header's place is in, and where. It is in none before that was fetched.
     place: (usize, usize),
     /// Names and texts of sources, one behind another.
@@ -56,22 +43,15 @@ struct Kept {
 /// Where the name of the last source is held, if it has one, and what is lent of it.
 type Last<'l, 's> = Option<(&'l Option<Range<usize>>, &'l Excerpt<'s>)>;
 
-impl<'r, 'a, S: Span> Lending<'r, 'a, S> {
+impl<'a, S: Span> Lending<'a, S> {
     /// A report none of whose sources was fetched.
-    pub(crate) fn new(report: &'a Report<'a, S>, labels: &'r mut Labels<'a>) -> Lending<'r, 'a, S> {
-        let labels = labels.put(report.labels.iter().map(label_without_source));
-        let mut outer = Outer::default();
-        labels.iter().for_each(|label| outer.add(label.start, label.end));
-        let lasts = number_sources(&report.labels, |label, source| labels[label].source = UNFETCHED + source);
-        let kept = Vec::with_capacity(lasts.len());
+    pub(crate) fn new(report: &'a Report<'a, S>) -> Lending<'a, S> {
         Lending {
             report,
-            labels,
-            lasts,
-            outer,
+            labels: Cow::Borrowed(&report.prepared().labels),
             place: (UNFETCHED, 0),
             held: String::new(),
-            kept,
+            kept: Vec::with_capacity(report.prepared().lasts.len()),
             sources: 0,
             placed: 0,
             numbers: Numbers::default(),
@@ -81,7 +61,7 @@ impl<'r, 'a, S: Span> Lending<'r, 'a, S> {
 
     /// Whether a label's source was fetched.
     pub(crate) fn is_placed(&self, label: usize) -> bool {
-        self.labels[label].source < UNFETCHED
+        self.sources > 0 && self.labels[label].source < UNFETCHED
     }
 
     /// Whether the source of each label was fetched.
@@ -101,7 +81,7 @@ impl<'r, 'a, S: Span> Lending<'r, 'a, S> {
         &self.held[place]
     }
 
-    /// Holds what is lent of the source that was fetched last, and was no label's before.
+    /// Holds what is lent of the source that was fetched last.
     pub(crate) fn keep(&mut self, name: Option<Range<usize>>, excerpt: &Excerpt<'_>) {
         let start = self.held.len();
         self.held.push_str(&excerpt.text);
@@ -111,22 +91,22 @@ impl<'r, 'a, S: Span> Lending<'r, 'a, S> {
     /// What is lent of a label's source, which is that of others behind it too. All spans of the report that are in
     /// it get their places.
     pub(crate) fn place<'s, I: AsRef<str>>(&mut self, first: usize, source: &'s Source<I>) -> Excerpt<'s> {
-        let Report { labels, span, content } = self.report;
+        let Report { labels, span, content, .. } = self.report;
         let place = (span.source() == labels[first].span.source()).then(|| span.start());
-        let unfetched = self.labels[first].source;
-        let fetched = Fetched { unfetched, number: self.sources, first, last: self.last_in(unfetched) };
-        let (mut outer, count) = self.outer_of(&fetched);
+        let members = self.members_from(first);
+        let (mut outer, count) = self.outer_of(&members);
         place.iter().for_each(|at| outer.add(*at, *at));
-        let spans = count + place.iter().count();
+        let spans = count + usize::from(place.is_some());
         let (excerpt, place) = match Excerpt::of_few_lines(source, outer.ends(), spans, &content.config) {
             Some((mut excerpt, start)) => {
-                self.move_by(&fetched, start, &mut excerpt.shape);
+                excerpt.shape.over = self.count_longer(&members, &outer, excerpt.shape.longest);
+                self.move_by(&members, start);
                 (excerpt, place.map(|at| at - start))
             }
-            None => self.place_apart(&fetched, source, place),
+            None => self.place_apart(&members, source, place),
         };
         if let Some(at) = place {
-            self.place = (fetched.number, at);
+            self.place = (self.sources, at);
         }
         self.sources += 1;
         self.placed += count;
@@ -134,36 +114,54 @@ impl<'r, 'a, S: Span> Lending<'r, 'a, S> {
         excerpt
     }
 
-    /// The last label in a source that was not fetched.
-    fn last_in(&self, unfetched: usize) -> usize {
-        self.lasts.get(unfetched - UNFETCHED).copied().unwrap_or(self.labels.len() - 1)
+    /// The labels in a label's source from it on. If all labels are in it, those in front are left out, which it was
+    /// not there for.
+    fn members_from(&mut self, first: usize) -> Members {
+        let lasts = &self.report.prepared().lasts;
+        if !lasts.is_empty() {
+            let unfetched = self.labels[first].source;
+            return Members { unfetched, first, last: lasts[unfetched - UNFETCHED] };
+        }
+        if first > 0 {
+            self.labels.to_mut().drain(..first);
+        }
+        Members { unfetched: 0, first: 0, last: self.labels.len() - 1 }
     }
 
-    /// The labels in a source that have no number of it yet.
-    fn members(&mut self, fetched: &Fetched) -> impl Iterator<Item = &mut GivenLabel<'a>> {
-        let unfetched = fetched.unfetched;
-        self.labels[fetched.first..=fetched.last].iter_mut().filter(move |label| label.source == unfetched)
+    /// Whether the labels are those that the report has prepared.
+    fn is_as_prepared(&self) -> bool {
+        matches!(self.labels, Cow::Borrowed(_))
     }
 
-    /// The outermost ends of the labels in a source, and how many labels there are.
-    fn outer_of(&mut self, fetched: &Fetched) -> (Outer, usize) {
-        if self.lasts.is_empty() && fetched.first == 0 {
-            return (self.outer, self.labels.len());
+    /// The outermost ends of labels in a source, and how many labels there are.
+    fn outer_of(&self, members: &Members) -> (Outer, usize) {
+        let prepared = self.report.prepared();
+        if self.is_as_prepared() && prepared.lasts.is_empty() {
+            return (prepared.outer, self.labels.len());
         }
         let (mut outer, mut count) = (Outer::default(), 0);
-        for label in self.members(fetched) {
+        for label in members.of(&self.labels) {
             outer.add(label.start, label.end);
             count += 1;
         }
         (outer, count)
     }
 
-    /// Moves the labels in a source to what is lent of it, which starts at this offset. Those that run over several
-    /// lines for sure are counted.
-    fn move_by(&mut self, fetched: &Fetched, start: usize, shape: &mut Shape) {
-        for label in self.members(fetched) {
-            label.source = fetched.number;
-            shape.over += usize::from(label.end - label.start > shape.longest);
+    /// How many labels in a source are longer than a line.
+    fn count_longer(&self, members: &Members, outer: &Outer, line: usize) -> usize {
+        if outer.longest <= line {
+            return 0;
+        }
+        members.of(&self.labels).filter(|label| label.end - label.start > line).count()
+    }
+
+    /// Moves the labels in a source to what is lent of it, which starts at this offset.
+    fn move_by(&mut self, members: &Members, start: usize) {
+        if start == 0 && members.unfetched == self.sources {
+            return;
+        }
+        for label in members.of_mut(self.labels.to_mut()) {
+            label.source = self.sources;
             label.start -= start;
             label.end -= start;
         }
@@ -173,17 +171,17 @@ impl<'r, 'a, S: Span> Lending<'r, 'a, S> {
     /// the place.
     fn place_apart<I: AsRef<str>>(
         &mut self,
-        fetched: &Fetched,
+        members: &Members,
         source: &Source<I>,
         place: Option<usize>,
     ) -> (Excerpt<'static>, Option<usize>) {
-        let labels = self.members(fetched).map(|label| ends_of(label.start, label.end));
+        let labels = members.of(&self.labels).map(|label| [label.start, last_of(label)]);
         let ends = labels.chain(place.map(|at| [at; 2])).collect();
         let mut spans = Spans { ends, has_place: place.is_some() };
         let excerpt = Excerpt::of_lines_apart(source, &mut spans, &mut self.numbers, &self.report.content.config);
-        for (label, [start, last]) in self.members(fetched).zip(spans.labels()) {
+        for (label, [start, last]) in members.of_mut(self.labels.to_mut()).zip(spans.labels()) {
             let is_empty = label.start == label.end;
-            label.source = fetched.number;
+            label.source = self.sources;
             label.start = *start;
             label.end = last.saturating_add(usize::from(!is_empty));
         }
@@ -208,39 +206,14 @@ impl<'r, 'a, S: Span> Lending<'r, 'a, S> {
 
     /// Leaves out the labels whose sources were not fetched.
     fn leave_out_unplaced(&mut self) {
-        let mut count = 0;
-        for number in 0..self.labels.len() {
-            if self.is_placed(number) {
-                self.labels[count] = self.labels[number];
-                count += 1;
-            }
-        }
-        self.labels = &mut mem::take(&mut self.labels)[..count];
+        let has_sources = self.sources > 0;
+        self.labels.to_mut().retain(|label| has_sources && label.source < UNFETCHED);
     }
 
     /// A first or a second drawing.
     fn drawn<'p>(&self, last: Last<'_, '_>, turn: usize, room: &'p mut Room) -> Result<&'p [u8], Refusal> {
-        let content = &self.report.content;
-        let (mut helps, mut notes) = (Texts::new(Text::from("")), Texts::new(Text::from("")));
-        let (kind, kind_name, kind_color) = kind_of(content.kind);
         let (source, start) = self.place;
-        let report = GivenReport {
-            kind,
-            kind_color,
-            kind_name: Text::from(kind_name),
-            code: OptionalText::from(content.code.as_deref()),
-            message: Text::from(content.message.as_deref().unwrap_or("")),
-            source,
-            start,
-            labels: Lent::from(&*self.labels),
-            helps: Lent::from(&*helps.put(content.helps.iter().map(Text::from))),
-            notes: Lent::from(&*notes.put(content.notes.iter().map(Text::from))),
-            flags: flags_of(&content.config),
-            attach: attach_of(content.config.label_attach),
-            tab_width: content.config.tab_width,
-            context_lines: content.config.context_lines,
-            width: content.config.width,
-        };
+        let report = self.report.prepared().report(&self.labels, source, start);
         let last = last.map(|(name, excerpt)| self.given(name, &excerpt.text, excerpt.line_offsets[turn]));
         match last {
             Some(source) if self.kept.is_empty() => draw(&report, &[source], self.len(), room),
@@ -261,143 +234,50 @@ impl<'r, 'a, S: Span> Lending<'r, 'a, S> {
     /// Bytes that most pictures fit: strokes for each row and column, and what is said. They take memory only as far as
     /// the picture is written there.
     fn len(&self) -> usize {
-        let Content { config, code, message, notes, helps, .. } = &self.report.content;
+        let config = &self.report.content.config;
         let stroke = if config.char_set == CharSet::Ascii { 1 } else { 3 };
         let painted = if config.color { 4 * stroke } else { stroke };
         let rows = self.shape.lines + 3 * self.labels.len();
         let columns = 64 + self.shape.longest + 4 * self.shape.over;
         let strokes = rows.saturating_mul(columns).saturating_mul(painted);
-        let said = len_of(code.as_slice()) + len_of(message.as_slice()) + len_of(notes) + len_of(helps);
-        let messages: usize = self.labels.iter().map(|label| label.message.len()).sum();
-        LEAST_ROOM + strokes.min(MOST_ROOM) + said + messages
+        LEAST_ROOM + strokes.min(MOST_ROOM) + self.report.prepared().said
     }
 }
 
-/// A source that was fetched.
-struct Fetched {
-    /// The number that its labels have before they are moved, and the one that they get.
+/// Labels in a source: the number that they have before it is fetched, and the first and the last of them.
+struct Members {
     unfetched: usize,
-    number: usize,
-    /// The label that it was fetched for, and the last one in it.
     first: usize,
     last: usize,
 }
 
-/// The outermost offsets of spans: the first, and the one behind the last character.
-#[derive(Clone, Copy)]
-struct Outer {
-    first: usize,
-    past: usize,
-}
+impl Members {
+    fn of<'l, 'a>(&self, labels: &'l [GivenLabel<'a>]) -> impl Iterator<Item = &'l GivenLabel<'a>> {
+        let unfetched = self.unfetched;
+        labels[self.first..=self.last].iter().filter(move |label| label.source == unfetched)
+    }
 
-impl Default for Outer {
-    /// Those of no spans.
-    fn default() -> Outer {
-        Outer { first: usize::MAX, past: 0 }
+    fn of_mut<'l, 'a>(&self, labels: &'l mut [GivenLabel<'a>]) -> impl Iterator<Item = &'l mut GivenLabel<'a>> {
+        let unfetched = self.unfetched;
+        labels[self.first..=self.last].iter_mut().filter(move |label| label.source == unfetched)
     }
 }
 
-impl Outer {
-    /// Adds the ends of a span. One without a character reaches as far as one with the character that it is at.
-    #[inline] // (It is called in a loop of each crate that has spans of its own.)
-    fn add(&mut self, start: usize, end: usize) {
-        self.first = self.first.min(start);
-        self.past = self.past.max(end.saturating_add(usize::from(start == end)));
-    }
-
-    /// The offsets of the first and the last character.
-    fn ends(&self) -> Ends {
-        [self.first, self.past - 1]
-    }
-}
-
-/// A label without a message, in no source.
-pub(crate) const NO_LABEL: GivenLabel<'static> =
-    GivenLabel { source: UNFETCHED, start: 0, end: 0, message: OptionalText::NONE, color: 0, order: 0, priority: 0 };
-
-/// A label whose source is not fetched yet.
-fn label_without_source<S: Span>(label: &Label<S>) -> GivenLabel<'_> {
-    let said = &label.display_info;
-    GivenLabel {
-        source: UNFETCHED,
-        start: label.span.start(),
-        end: label.span.end().max(label.span.start()),
-        message: OptionalText::from(said.msg.as_deref()),
-        color: said.color.map_or(0, color_number),
-        order: said.order,
-        priority: said.priority,
-    }
-}
-
-/// The offsets of the first and the last character of a span, or twice the start of one that has none.
-fn ends_of(start: usize, end: usize) -> Ends {
-    [start, end.saturating_sub(1).max(start)]
-}
-
-/// How many bytes these texts have.
-#[inline]
-fn len_of(texts: &[String]) -> usize {
-    texts.iter().map(String::len).sum()
-}
-
-/// Room for helps or notes that are lent.
-type Texts<'a> = Few<Text<'a>, 2>;
-
-/// A kind by its number, its name and the number of its colour.
-fn kind_of(kind: ReportKind<'_>) -> (u32, &str, u32) {
-    match kind {
-        ReportKind::Error => (0, "", 0),
-        ReportKind::Warning => (1, "", 0),
-        ReportKind::Advice => (2, "", 0),
-        ReportKind::Custom(name, color) => (3, name, color_number(color)),
-    }
-}
-
-/// A colour by its number.
-fn color_number(color: Color) -> u32 {
-    match color {
-        Color::Fixed(number) => 256 + u32::from(number),
-        Color::Rgb(red, green, blue) => u32::from_be_bytes([1, red, green, blue]),
-        _ => color.place().map_or(0, |place| 1 + u32::from(place)),
-    }
-}
-
-/// The flags of a configuration.
-pub(crate) fn flags_of(config: &Config) -> u32 {
-    let flags = [
-        !config.color,
-        config.char_set == CharSet::Ascii,
-        config.compact,
-        config.index_type == IndexType::Byte,
-        !config.underlines,
-        !config.multiline_arrows,
-        !config.cross_gap,
-        !config.safe,
-        config.lone_underlines,
-    ];
-    flags.iter().enumerate().map(|(bit, is_set)| u32::from(*is_set) << bit).sum()
-}
-
-/// Where strokes are attached, by its number.
-fn attach_of(attach: LabelAttach) -> u32 {
-    match attach {
-        LabelAttach::Middle => 0,
-        LabelAttach::Start => 1,
-        LabelAttach::End => 2,
-    }
+/// The offset of the last character of a label, or its start if it has none.
+fn last_of(label: &GivenLabel<'_>) -> usize {
+    label.end.saturating_sub(1).max(label.start)
 }
 
 #[cfg(test)]
 impl Report<'_> {
     /// The picture over a source without a name that is lent so, in which these are the spans of labels and the place.
     pub(crate) fn picture_over(&self, excerpt: Excerpt<'_>, spans: &Spans, numbers: Numbers) -> String {
-        let mut labels = Labels::new(NO_LABEL);
-        let mut lending = Lending::new(self, &mut labels);
-        for ((label, given), [start, last]) in lending.labels.iter_mut().zip(&self.labels).zip(&spans.ends) {
-            (label.source, label.start, label.end) = (0, *start, last + usize::from(!Span::is_empty(&given.span)));
+        let mut lending = Lending::new(self);
+        for (label, [start, last]) in lending.labels.to_mut().iter_mut().zip(&spans.ends) {
+            (label.start, label.end) = (*start, last + usize::from(label.start < label.end));
         }
         lending.place = (0, spans.ends[self.labels.len()][0]);
-        lending.placed = self.labels.len();
+        (lending.sources, lending.placed) = (1, self.labels.len());
         lending.numbers = numbers;
         let mut room = Room::new();
         let picture = lending.picture(Some((&None, &excerpt)), &mut room);
@@ -407,7 +287,7 @@ impl Report<'_> {
 
 #[cfg(test)]
 mod tests {
-    use super::{Kept, Labels, Lending, NO_LABEL};
+    use super::{Kept, Lending, UNFETCHED};
     use crate::call::Room;
     use crate::{Color, Config, FnCache, Label, Report, ReportKind};
     use std::ops::Range;
@@ -420,10 +300,10 @@ mod tests {
 
     /// The picture over whole sources, which have their numbers one by one. Those behind the texts are not there.
     fn picture_over_whole(report: &Report<Place>) -> Vec<u8> {
-        let mut labels = Labels::new(NO_LABEL);
-        let mut lending = Lending::new(report, &mut labels);
+        let mut lending = Lending::new(report);
         let mut ids: Vec<usize> = Vec::new();
-        for (label, given) in report.labels.iter().zip(lending.labels.iter_mut()) {
+        for (label, given) in report.labels.iter().zip(lending.labels.to_mut()) {
+            given.source = UNFETCHED;
             let id = label.span.0;
             if id < TEXTS.len() {
                 let number = ids.iter().position(|it| *it == id).unwrap_or(ids.len());
@@ -441,6 +321,7 @@ mod tests {
             lending.held.push_str(TEXTS[id]);
             lending.kept.push(Kept { name, text: start..lending.held.len(), line_offsets: [0; 2] });
         }
+        lending.sources = lending.kept.len();
         let mut room = Room::new();
         let picture = lending.picture(None, &mut room);
         picture.unwrap_or_else(|refusal| panic!("status {}", refusal.0)).to_vec()

@@ -4,10 +4,11 @@ use crate::cache::Cache;
 use crate::color::Color;
 use crate::config::Config;
 use crate::label::Label;
+use crate::prepared::Prepared;
 use crate::span::Span;
 use std::fmt::{self, Debug, Display, Formatter};
-use std::io;
 use std::ops::Range;
+use std::{io, mem};
 
 /// What kind of report it is.
 #[derive(Clone, Copy, Debug, PartialEq, Eq)]
@@ -62,6 +63,23 @@ pub struct Report<'a, S: Span = Range<usize>> {
     pub(crate) content: Content<'a>,
     pub(crate) span: S,
     pub(crate) labels: Vec<Label<S>>,
+    /// What is lent of the content and the labels.
+    prepared: Prepared<'static>,
+}
+
+impl<'a, S: Span> Report<'a, S> {
+    fn new(content: Content<'a>, span: S, labels: Vec<Label<S>>) -> Report<'a, S> {
+        let prepared = Prepared::new(&content, &labels);
+        // What it lends are texts on the heap and the name of a kind. They stay there, and are as they were, as long as
+        // the report has them, and it lends what is prepared no longer than that.
+        let prepared = unsafe { mem::transmute::<Prepared<'_>, Prepared<'static>>(prepared) };
+        Report { content, span, labels, prepared }
+    }
+
+    /// What is lent of the report beside its sources.
+    pub(crate) fn prepared(&self) -> &Prepared<'_> {
+        &self.prepared
+    }
 }
 
 impl<S: Span> Report<'_, S> {
@@ -193,7 +211,7 @@ impl<'a, S: Span> ReportBuilder<'a, S> {
 
     /// The report, ready to be written.
     pub fn finish(self) -> Report<'a, S> {
-        Report { content: self.content, span: self.span, labels: self.labels }
+        Report::new(self.content, self.span, self.labels)
     }
 }
 
@@ -207,6 +225,12 @@ impl<S: Span> Debug for ReportBuilder<'_, S> {
 mod tests {
     use super::{Report, ReportKind};
     use crate::{Color, Config, Label};
+
+    #[test]
+    fn a_report_may_be_shared() {
+        fn shared<T: Send + Sync>(_: T) {}
+        shared(Report::build(ReportKind::Error, 0..1).finish());
+    }
 
     #[test]
     fn debug_texts_are_those_of_ariadne() {

@@ -2,7 +2,7 @@
 
 use crate::cache::Cache;
 use crate::call::{Refusal, Room, NO_MEMORY};
-use crate::lending::{Labels, Lending, NO_LABEL};
+use crate::lending::Lending;
 use crate::report::Report;
 use crate::span::Span;
 use std::io::{self, Write};
@@ -30,8 +30,7 @@ impl<S: Span> Report<'_, S> {
 
     /// The picture over the sources of a cache. One that can't be had is told on standard error.
     fn picture<'p, C: Cache<S::SourceId>>(&self, mut cache: C, room: &'p mut Room) -> Result<&'p [u8], Refusal> {
-        let mut labels = Labels::new(NO_LABEL);
-        let mut lending = Lending::new(self, &mut labels);
+        let mut lending = Lending::new(self);
         for (number, label) in self.labels.iter().enumerate() {
             if lending.is_placed(number) {
                 continue;

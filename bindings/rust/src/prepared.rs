@@ -1,0 +1,172 @@
+//! What the library is lent of a report, whatever its sources are. It is made once a report, and not once a call.
+
+use crate::call::{GivenLabel, GivenReport, Lent, OptionalText, Text};
+use crate::color::Color;
+use crate::config::{CharSet, Config, IndexType, LabelAttach};
+use crate::excerpt::Ends;
+use crate::label::Label;
+use crate::members::number_sources;
+use crate::report::{Content, ReportKind};
+use crate::span::Span;
+
+/// The number of the first source of several, before that is fetched. Others follow it.
+pub(crate) const UNFETCHED: usize = !(usize::MAX >> 1);
+
+/// What is lent of a report beside its sources.
+pub(crate) struct Prepared<'a> {
+    /// The report without labels, helps, notes and a place.
+    report: GivenReport<'a>,
+    helps: Vec<Text<'a>>,
+    notes: Vec<Text<'a>>,
+    /// All labels, with the offsets of their spans. Where they are in several sources, these have unfetched numbers.
+    pub(crate) labels: Vec<GivenLabel<'a>>,
+    /// The last label in each source. Where all labels are in one source, there is none.
+    pub(crate) lasts: Vec<usize>,
+    /// The outermost ends of all labels.
+    pub(crate) outer: Outer,
+    /// How many bytes the texts have.
+    pub(crate) said: usize,
+}
+
+impl<'a> Prepared<'a> {
+    pub(crate) fn new<S: Span>(content: &'a Content<'_>, labels: &'a [Label<S>]) -> Prepared<'a> {
+        let Content { code, message, helps, notes, .. } = content;
+        let mut given: Vec<GivenLabel<'a>> = labels.iter().map(label_without_source).collect();
+        let lasts = number_sources(labels, |label, source| given[label].source = UNFETCHED + source);
+        let mut outer = Outer::default();
+        given.iter().for_each(|label| outer.add(label.start, label.end));
+        let messages = labels.iter().filter_map(|label| label.display_info.msg.as_ref());
+        let texts = code.iter().chain(message).chain(helps).chain(notes).chain(messages);
+        Prepared {
+            report: report_without_lists(content),
+            helps: helps.iter().map(Text::from).collect(),
+            notes: notes.iter().map(Text::from).collect(),
+            labels: given,
+            lasts,
+            outer,
+            said: texts.map(String::len).sum(),
+        }
+    }
+
+    /// The report with these labels, and with this source and this offset as the place in its header.
+    pub(crate) fn report<'r>(&'r self, labels: &'r [GivenLabel<'r>], source: usize, start: usize) -> GivenReport<'r> {
+        GivenReport {
+            source,
+            start,
+            labels: Lent::from(labels),
+            helps: Lent::from(&*self.helps),
+            notes: Lent::from(&*self.notes),
+            ..self.report
+        }
+    }
+}
+
+/// Of spans: the first offset, the one behind the last character, and how long the longest is.
+#[derive(Clone, Copy)]
+pub(crate) struct Outer {
+    first: usize,
+    past: usize,
+    pub(crate) longest: usize,
+}
+
+impl Default for Outer {
+    /// That of no spans.
+    fn default() -> Outer {
+        Outer { first: usize::MAX, past: 0, longest: 0 }
+    }
+}
+
+impl Outer {
+    /// Adds a span. One without a character reaches as far as one with the character that it is at.
+    #[inline] // (It is called in loops of each crate that has spans of its own.)
+    pub(crate) fn add(&mut self, start: usize, end: usize) {
+        self.first = self.first.min(start);
+        self.past = self.past.max(end.saturating_add(usize::from(start == end)));
+        self.longest = self.longest.max(end - start);
+    }
+
+    /// The offsets of the first and the last character.
+    pub(crate) fn ends(&self) -> Ends {
+        [self.first, self.past - 1]
+    }
+}
+
+/// A report without labels, helps, notes and a place.
+fn report_without_lists<'a>(content: &'a Content<'_>) -> GivenReport<'a> {
+    let (kind, kind_name, kind_color) = kind_of(content.kind);
+    GivenReport {
+        kind,
+        kind_color,
+        kind_name: Text::from(kind_name),
+        code: OptionalText::from(content.code.as_deref()),
+        message: Text::from(content.message.as_deref().unwrap_or("")),
+        source: 0,
+        start: 0,
+        labels: Lent::from(&[][..]),
+        helps: Lent::from(&[][..]),
+        notes: Lent::from(&[][..]),
+        flags: flags_of(&content.config),
+        attach: attach_of(content.config.label_attach),
+        tab_width: content.config.tab_width,
+        context_lines: content.config.context_lines,
+        width: content.config.width,
+    }
+}
+
+/// A label in the first source.
+fn label_without_source<S: Span>(label: &Label<S>) -> GivenLabel<'_> {
+    let said = &label.display_info;
+    GivenLabel {
+        source: 0,
+        start: label.span.start(),
+        end: label.span.end().max(label.span.start()),
+        message: OptionalText::from(said.msg.as_deref()),
+        color: said.color.map_or(0, color_number),
+        order: said.order,
+        priority: said.priority,
+    }
+}
+
+/// A kind by its number, its name and the number of its colour.
+fn kind_of(kind: ReportKind<'_>) -> (u32, &str, u32) {
+    match kind {
+        ReportKind::Error => (0, "", 0),
+        ReportKind::Warning => (1, "", 0),
+        ReportKind::Advice => (2, "", 0),
+        ReportKind::Custom(name, color) => (3, name, color_number(color)),
+    }
+}
+
+/// A colour by its number.
+fn color_number(color: Color) -> u32 {
+    match color {
+        Color::Fixed(number) => 256 + u32::from(number),
+        Color::Rgb(red, green, blue) => u32::from_be_bytes([1, red, green, blue]),
+        _ => color.place().map_or(0, |place| 1 + u32::from(place)),
+    }
+}
+
+/// The flags of a configuration.
+pub(crate) fn flags_of(config: &Config) -> u32 {
+    let flags = [
+        !config.color,
+        config.char_set == CharSet::Ascii,
+        config.compact,
+        config.index_type == IndexType::Byte,
+        !config.underlines,
+        !config.multiline_arrows,
+        !config.cross_gap,
+        !config.safe,
+        config.lone_underlines,
+    ];
+    flags.iter().enumerate().map(|(bit, is_set)| u32::from(*is_set) << bit).sum()
+}
+
+/// Where strokes are attached, by its number.
+fn attach_of(attach: LabelAttach) -> u32 {
+    match attach {
+        LabelAttach::Middle => 0,
+        LabelAttach::Start => 1,
+        LabelAttach::End => 2,
+    }
+}
