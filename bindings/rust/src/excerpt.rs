@@ -49,6 +49,7 @@ pub(crate) struct Shape {
 
 impl Shape {
     /// The shape of all that is lent, with another source.
+    #[inline]
     pub(crate) fn with(self, other: Shape) -> Shape {
         Shape {
             lines: self.lines + other.lines,

@@ -252,11 +252,13 @@ struct Members {
 }
 
 impl Members {
+    #[inline]
     fn of<'l, 'a>(&self, labels: &'l [GivenLabel<'a>]) -> impl Iterator<Item = &'l GivenLabel<'a>> {
         let unfetched = self.unfetched;
         labels[self.first..=self.last].iter().filter(move |label| label.source == unfetched)
     }
 
+    #[inline]
     fn of_mut<'l, 'a>(&self, labels: &'l mut [GivenLabel<'a>]) -> impl Iterator<Item = &'l mut GivenLabel<'a>> {
         let unfetched = self.unfetched;
         labels[self.first..=self.last].iter_mut().filter(move |label| label.source == unfetched)
