@@ -149,6 +149,7 @@ fn runs_of(ends: &[End], context_lines: usize, last_line: usize) -> Vec<Run> {
 impl<'s> Excerpt<'s> {
     /// All lines from the first to the last that so many spans are on, of which these are the outermost ends, and those
     /// near them. And the offset of the first. None where these lines are many.
+    #[inline]
     pub(crate) fn of_few_lines<I: AsRef<str>>(
         source: &'s Source<I>,
         [first, last]: Ends,

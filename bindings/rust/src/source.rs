@@ -152,6 +152,7 @@ impl<I: AsRef<str>> Source<I> {
 
     /// The number of the line that an offset is on, in bytes or in characters. One past the end is on the last.
     /// It is looked for at the line `near` first.
+    #[inline]
     pub(crate) fn line_number(&self, offset: usize, in_bytes: bool, near: usize) -> usize {
         let of = |start: &Start| if in_bytes { start.bytes } else { start.chars };
         let is_before = |number: usize| number <= self.last_line() && of(&self.starts[number]) <= offset;
@@ -163,6 +164,7 @@ impl<I: AsRef<str>> Source<I> {
 
     /// Where the first of these lines starts, and how long they are together, both in bytes or in characters,
     /// and their text. There is one at least.
+    #[inline]
     pub(crate) fn lines_with_text(&self, numbers: RangeInclusive<usize>, in_bytes: bool) -> (usize, usize, &str) {
         let (first, past) = (self.starts[*numbers.start()], self.starts[numbers.end() + 1]);
         let text = &self.text()[first.bytes..past.bytes];
