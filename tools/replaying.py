@@ -1,24 +1,16 @@
 """Reports that are drawn by ariadne_replay: how the program is had, and how it is asked."""
 
-import functools
 import json
 import subprocess
 import sys
-from pathlib import Path
 
 from cases import case_of
+from started import started
 
-ROOT = Path(__file__).resolve().parent.parent
 
-
-@functools.lru_cache
 def program():
-    """The file that starts the program, which is built first where that was not done: see tools/built."""
-    words = [ROOT / "tools/built", "ariadne_replay"]
-    ran = subprocess.run(words, stdin=subprocess.DEVNULL, stdout=subprocess.PIPE)
-    if ran.returncode:
-        sys.exit(ran.returncode)
-    return ran.stdout.decode().removesuffix("\n")
+    """The file that starts the program, which is built first where that was not done."""
+    return started("ariadne_replay")
 
 
 def ask(cases, folder=None):
