@@ -42,9 +42,15 @@ def stored_cases():
     return [case for file in sorted(DATA.glob("*.toml")) for case in cases_of(file.read_text())]
 
 
+def escape_of(found):
+    """The escape of a character, in TOML's shorter form where it has one."""
+    code = ord(found[0])
+    return f"\\u{code:04x}" if code < 0x10000 else f"\\U{code:08x}"
+
+
 def text_of(text):
     """A text as TOML, on one line."""
-    return '"' + NOT_PLAIN.sub(lambda found: f"\\U{ord(found[0]):08x}", text) + '"'
+    return '"' + NOT_PLAIN.sub(escape_of, text) + '"'
 
 
 def value_of(value):
@@ -128,9 +134,18 @@ def members_told(name, report):
     )
 
 
-def case_of(name, report):
-    """The text of a report as a case of a name, without a picture."""
-    return text_of_case(members_told(name, report))
+def without_defaults(members):
+    """The members of a report without those that say what a case has that tells none."""
+    settings = {name: value for name, value in members["settings"].items() if value != SETTINGS[name]}
+    labels = [{name: it for name, it in label.items() if it != 0} for label in members.get("labels", [])]
+    return told(**{**members, "labels": labels, "settings": settings})
+
+
+def case_of(name, report, is_whole=True):
+    """The text of a report as a case of a name, without a picture: all that is told of it, or but for what
+    a case has that tells none."""
+    members = members_told(name, report)
+    return text_of_case(members if is_whole else without_defaults(members))
 
 
 def ends_of(piece):

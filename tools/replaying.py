@@ -7,6 +7,10 @@ import sys
 from cases import case_of
 from started import started
 
+# Each report of such a number is told whole, and those between without what a case has that tells none: an unproved
+# build reads a short case as long as it draws it.
+WHOLE = 8
+
 
 def program():
     """The file that starts the program, which is built first where that was not done."""
@@ -32,7 +36,8 @@ def answers_to(cases, folder=None):
 def draw(reports):
     """What the program says of each report: None where it says nothing. One that fails though it has said
     something of each stopped at the last one."""
-    status, answers = ask("".join(case_of(str(number), report) for number, report in enumerate(reports)))
+    cases = (case_of(str(number), report, number % WHOLE == 0) for number, report in enumerate(reports))
+    status, answers = ask("".join(cases))
     drawn = [answers.get(str(number)) for number in range(len(reports))]
     if status and drawn and None not in drawn:
         drawn[-1] = None
