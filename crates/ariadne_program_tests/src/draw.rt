@@ -2,6 +2,7 @@
 
 ghost use Rattle.std.specs.Prelude.{◌<◌};
 
+use crate::comparing::assert_same_of;
 use crate::outcome::Outcome;
 use ariadne_commands::{Page, Status, Watched, draw};
 use ariadne_testing::{Given, Taker, refuse, texts};
@@ -115,34 +116,55 @@ Error: can't compare apples with oranges
 ---'
 ";
 
-/// Asserts that a writer that fails behind calls of one byte holds these bytes, and that this is told.
+/// How many bytes a writer takes a call, and how many calls it serves before it fails.
+type Narrow = (usize, usize);
+
+/// Asserts that a writer that fails behind these bytes holds them, and that this is told.
 fn assert_cut(
     rt: &(impl Files + AllocGlobal + Abort),
     words: &[&str],
     held: &[u8],
+    (room, calls): Narrow,
     fault: Option<ErrorKind>,
 ) {
-    let calls = held.len();
-    let out = Taker::narrow(rt.alloc(), 1, calls, fault);
+    let out = Taker::narrow(rt.alloc(), room, calls, fault);
     let (outcome, _) = run(rt, words, Given::whole(TEXT), out, 0);
-    let told = format!(in rt.alloc(); "write failed after {calls} bytes\n").expect(rt, "memory");
+    let sent = held.len();
+    let told = format!(in rt.alloc(); "write failed after {sent} bytes\n").expect(rt, "memory");
     outcome.assert_is(rt, Status::Failed, held, told.as_bytes())
 }
 
-/// Asserts this of each beginning of what the words write, of a writer with a fault and of one that
-/// takes nothing.
-fn assert_cuts(rt: &(impl Files + AllocGlobal + Abort), words: &[&str], whole: &str) {
+/// Asserts this of each beginning of what the words write, taken byte by byte or at once, of a writer with
+/// a fault and of one that takes nothing.
+fn assert_cuts(
+    rt: &(impl Files + AllocGlobal + Abort),
+    words: &[&str],
+    whole: &str,
+    is_by_byte: bool,
+) {
     let whole = whole.as_bytes();
-    for calls in 0..whole.len() {
-        assert_cut(rt, words, &whole[..calls], Some(ErrorKind::BrokenPipe));
-        assert_cut(rt, words, &whole[..calls], None);
+    for sent in 0..whole.len() {
+        let narrow = if is_by_byte {
+            (1, sent)
+        } else {
+            (sent, sent.min(1))
+        };
+        assert_cut(
+            rt,
+            words,
+            &whole[..sent],
+            narrow,
+            Some(ErrorKind::BrokenPipe),
+        );
+        assert_cut(rt, words, &whole[..sent], narrow, None);
     }
 }
 
 #[test]
 fn a_writer_that_fails_at_each_call_holds_a_beginning(rt: HostRuntime) {
-    assert_eq!(rt; PICTURE.len(), 223);
-    assert_cuts(&rt, &WORDS, PICTURE);
-    assert_cuts(&rt, &["--help"], Page::Help.text());
-    assert_cuts(&rt, &["--version"], Page::Version.text())
+    assert_same_of(&rt, "the picture", &PICTURE.len(), &223);
+    assert_cuts(&rt, &WORDS, PICTURE, true);
+    // (The long page takes as many calls as its square, byte by byte.)
+    assert_cuts(&rt, &["--help"], Page::Help.text(), false);
+    assert_cuts(&rt, &["--version"], Page::Version.text(), true)
 }

@@ -2,6 +2,7 @@
 
 ghost use Rattle.std.specs.Prelude.{◌<◌};
 
+use crate::comparing::assert_same_of;
 use crate::draw::{TEXT, run};
 use crate::outcome::is_served;
 use ariadne_commands::{Status, without_colors};
@@ -47,7 +48,7 @@ fn is_added(rt: &(impl AllocGlobal + Abort), nth: usize) -> bool
     refuse(alloc, nth);
     let is_ok = match without_colors(alloc, words) {
         Ok(plain) => {
-            assert_eq!(rt; plain.len(), 3);
+            assert_same_of(rt, "the words", &plain.len(), &3);
             true
         }
         Err(_) => false,

@@ -23,21 +23,26 @@ fn line_of(
     }
 }
 
+/// Adds what a mark covers.
+fn push_mark(text: &mut String, mark: &Mark<'_>) -> Result<(), AllocError> {
+    let Point { line, offset } = mark.start;
+    let further = if mark.goes_on { "+" } else { "" };
+    write!(text, " {further}{line}:{offset}..")?;
+    if mark.end.line != line {
+        let line = mark.end.line;
+        write!(text, "{line}:")?;
+    }
+    let end = mark.end.offset;
+    let caret = if mark.caret.is_some() { "^" } else { "" };
+    let said = mark.text;
+    write!(text, "{end}{caret}{said}")
+}
+
 /// What marks cover.
 fn marks_text(alloc: Global, marks: &[Mark<'_>]) -> Result<String, AllocError> {
     let mut text = String::new(alloc);
     for mark in marks {
-        let Point { line, offset } = mark.start;
-        let further = if mark.goes_on { "+" } else { "" };
-        write!(text, " {further}{line}:{offset}..")?;
-        if mark.end.line != line {
-            let line = mark.end.line;
-            write!(text, "{line}:")?;
-        }
-        let end = mark.end.offset;
-        let caret = if mark.caret.is_some() { "^" } else { "" };
-        let said = mark.text;
-        write!(text, "{end}{caret}{said}")?;
+        push_mark(&mut text, mark)?;
     }
     Ok(text)
 }

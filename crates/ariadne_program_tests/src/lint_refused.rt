@@ -2,6 +2,7 @@
 
 ghost use Rattle.std.specs.Prelude.{◌<◌};
 
+use crate::comparing::assert_same_of;
 use crate::lint::{FIRST, SECOND, both, run};
 use crate::outcome::is_served;
 use ariadne_commands::{Offence, Status, first_offence};
@@ -18,7 +19,7 @@ fn is_found(rt: &(impl AllocGlobal + Abort), nth: usize) -> bool
     refuse(alloc, nth);
     let is_ok = match first_offence(alloc, "(((((((((((((((((((((((((((((((((((((((x") {
         Ok(found) => {
-            assert_eq!(rt; found, Some(Offence::Unclosed(38)));
+            assert_same_of(rt, "the text", &found, &Some(Offence::Unclosed(38)));
             true
         }
         Err(_) => false,

@@ -2,6 +2,7 @@
 
 ghost use Rattle.std.specs.Prelude.{◌<◌};
 
+use crate::comparing::assert_same_of;
 use crate::outcome::Outcome;
 use crate::show::{FILE, options_of, outcome_of, run, streams_with, with_path};
 use ariadne_show::{
@@ -268,7 +269,7 @@ fn show_inputs_refused(
 fn refuse_each_of_inputs(rt: &(impl Env + Files + AllocGlobal + Abort), inputs: &[Input<'_>]) {
     let whole = show_inputs_refused(rt, inputs, 0);
     let shown: &[u8] = b"a\nlet x = y;\nlast\n";
-    assert_eq!(rt; whole.out.as_slice(), shown);
+    assert_same_of(rt, "the inputs", &whole.out.as_slice(), &shown);
     whole.assert_status(rt, Status::Failed);
     for nth in 1..1000 {
         if is_whole(rt, &show_inputs_refused(rt, inputs, nth), &whole) {
