@@ -1,9 +1,10 @@
 //! Where sources come from.
 
 use crate::source::Source;
-use std::collections::hash_map::{Entry, HashMap};
+use crate::table::Table;
+use std::collections::hash_map::{HashMap, RandomState};
 use std::fmt::{self, Debug, Display, Formatter};
-use std::hash::Hash;
+use std::hash::{BuildHasher, Hash};
 use std::path::{Path, PathBuf};
 use std::{fs, io};
 
@@ -126,9 +127,15 @@ pub struct FnCache<Id, F, I>
 where
     I: AsRef<str>,
 {
-    /// The numbers of the sources.
-    numbers: HashMap<Id, usize>,
+    ids: Vec<Id>,
+    /// The source of each id.
     sources: Vec<Source<I>>,
+    /// The numbers of the ids, by their hashes.
+    table: Table,
+    hashing: RandomState,
+    /// The number behind that of the source which was fetched last. (Many reports ask for sources in the order in which
+    /// these were added.)
+    next: usize,
     get: F,
 }
 
@@ -138,7 +145,8 @@ where
 {
     /// A cache over this function.
     pub fn new(get: F) -> FnCache<Id, F, I> {
-        FnCache { numbers: HashMap::default(), sources: Vec::new(), get }
+        let hashing = RandomState::new();
+        FnCache { ids: Vec::new(), sources: Vec::new(), table: Table::default(), hashing, next: 0, get }
     }
 
     /// The cache with these sources, in place of those that it has under the same ids.
@@ -147,46 +155,61 @@ where
         Id: Eq + Hash,
     {
         for (id, source) in sources {
-            self.add(id, source);
+            self.set(id, source);
         }
         self
     }
 
-    /// Adds a source, in place of one with the same id. Returns its number.
-    fn add(&mut self, id: Id, source: Source<I>) -> usize
+    /// Sets the source of an id.
+    fn set(&mut self, id: Id, source: Source<I>)
     where
         Id: Eq + Hash,
     {
-        match self.numbers.entry(id) {
-            Entry::Occupied(held) => {
-                self.sources[*held.get()] = source;
-                *held.get()
-            }
-            Entry::Vacant(free) => {
-                self.sources.push(source);
-                *free.insert(self.sources.len() - 1)
-            }
+        match self.number_of(&id) {
+            Some(number) => self.sources[number] = source,
+            None => self.add(id, source),
         }
+    }
+
+    /// Adds the source of an id that has none.
+    fn add(&mut self, id: Id, source: Source<I>)
+    where
+        Id: Hash,
+    {
+        self.table.add(self.hashing.hash_one(&id));
+        self.ids.push(id);
+        self.sources.push(source);
+    }
+
+    /// The number of an id's source, if it has one.
+    fn number_of(&self, id: &Id) -> Option<usize>
+    where
+        Id: Eq + Hash,
+    {
+        if self.ids.get(self.next) == Some(id) {
+            return Some(self.next);
+        }
+        self.table.find(self.hashing.hash_one(id), |number| self.ids[number] == *id)
     }
 }
 
 /// The fields are those of `ariadne` 0.6.0.
 impl<Id: Debug, F: Debug, I: AsRef<str> + Debug> Debug for FnCache<Id, F, I> {
     fn fmt(&self, f: &mut Formatter<'_>) -> fmt::Result {
-        let sources = Sources { numbers: &self.numbers, sources: &self.sources };
+        let sources = Sources { ids: &self.ids, sources: &self.sources };
         f.debug_struct("FnCache").field("sources", &sources).field("get", &self.get).finish()
     }
 }
 
 /// Sources by their ids.
 struct Sources<'a, Id, I: AsRef<str>> {
-    numbers: &'a HashMap<Id, usize>,
+    ids: &'a [Id],
     sources: &'a [Source<I>],
 }
 
 impl<Id: Debug, I: AsRef<str> + Debug> Debug for Sources<'_, Id, I> {
     fn fmt(&self, f: &mut Formatter<'_>) -> fmt::Result {
-        f.debug_map().entries(self.numbers.iter().map(|(id, number)| (id, &self.sources[*number]))).finish()
+        f.debug_map().entries(self.ids.iter().zip(self.sources)).finish()
     }
 }
 
@@ -199,13 +222,15 @@ where
     type Storage = I;
 
     fn fetch(&mut self, id: &Id) -> Result<&Source<I>, impl Debug> {
-        let number = match self.numbers.get(id) {
-            Some(number) => *number,
+        let number = match self.number_of(id) {
+            Some(number) => number,
             None => {
                 let text = (self.get)(id)?;
-                self.add(id.clone(), Source::from(text))
+                self.add(id.clone(), Source::from(text));
+                self.sources.len() - 1
             }
         };
+        self.next = number + 1;
         Ok::<_, E>(&self.sources[number])
     }
 
@@ -223,7 +248,7 @@ where
 {
     let mut cache = FnCache::new(|id: &Id| Err(not_there(id)));
     for (id, text) in iter {
-        cache.add(id, Source::from(text));
+        cache.set(id, Source::from(text));
     }
     cache
 }

@@ -45,9 +45,9 @@ pub(crate) struct OptionalText<'a> {
     is_given: u32,
 }
 
-impl<'a> From<Option<&'a str>> for OptionalText<'a> {
-    fn from(text: Option<&'a str>) -> OptionalText<'a> {
-        OptionalText { text: Text::from(text.unwrap_or("")), is_given: text.is_some().into() }
+impl<'a> From<Option<Text<'a>>> for OptionalText<'a> {
+    fn from(text: Option<Text<'a>>) -> OptionalText<'a> {
+        OptionalText { text: text.unwrap_or(Text::from("")), is_given: text.is_some().into() }
     }
 }
 

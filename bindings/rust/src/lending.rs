@@ -3,8 +3,8 @@
 use crate::call::{draw, GivenLabel, GivenSource, OptionalText, Refusal, Room, Text};
 use crate::config::CharSet;
 use crate::excerpt::{Excerpt, Shape, Spans};
+use crate::members::Members;
 use crate::numbers::Numbers;
-use crate::prepared::{Outer, UNFETCHED};
 use crate::report::Report;
 use crate::source::Source;
 use crate::span::Span;
@@ -16,10 +16,13 @@ use std::ops::Range;
 const LEAST_ROOM: usize = 256;
 const MOST_ROOM: usize = 1 << 24;
 
+/// The number of no source.
+const NO_SOURCE: usize = usize::MAX;
+
 /// What the library is lent of a report, and of its sources as far as they were fetched, but for the last.
 pub(crate) struct Lending<'a, S: Span> {
     report: &'a Report<'a, S>,
-    /// All labels. In a source that was not fetched they have the offsets of their spans.
+    /// All labels, by the numbers of their sources. In one that was not fetched they have the offsets of their spans.
     labels: Cow<'a, [GivenLabel<'a>]>,
     /// The number of the source that the header's place is in, and where. It is in none before that was fetched.
     place: (usize, usize),
@@ -29,12 +32,15 @@ pub(crate) struct Lending<'a, S: Span> {
     /// How many sources were fetched, and how many labels are in these.
     sources: usize,
     placed: usize,
+    /// The sources that could not be had so far. Those behind them were not asked for.
+    missing: Vec<usize>,
     numbers: Numbers,
     shape: Shape,
 }
 
-/// A source in front of the last: where its name and its text are held.
+/// A source in front of the last: its number, and where its name and its text are held.
 struct Kept {
+    source: usize,
     name: Option<Range<usize>>,
     text: Range<usize>,
     line_offsets: [usize; 2],
@@ -49,19 +55,36 @@ impl<'a, S: Span> Lending<'a, S> {
         Lending {
             report,
             labels: Cow::Borrowed(&report.prepared().labels),
-            place: (UNFETCHED, 0),
+            place: (NO_SOURCE, 0),
             held: String::new(),
-            kept: Vec::with_capacity(report.prepared().lasts.len()),
+            kept: Vec::with_capacity(report.prepared().members.len().saturating_sub(1)),
             sources: 0,
             placed: 0,
+            missing: Vec::new(),
             numbers: Numbers::default(),
             shape: Shape::default(),
         }
     }
 
+    /// The number of a label's source.
+    fn source_of(&self, label: usize) -> usize {
+        self.report.prepared().labels[label].source
+    }
+
+    /// The first label from one on whose source was not fetched. All in front of that one were asked for.
+    #[inline]
+    pub(crate) fn unplaced_from(&self, label: usize) -> Option<usize> {
+        let prepared = self.report.prepared();
+        if self.missing.is_empty() {
+            return prepared.members.get(self.sources).map(|members| members.first);
+        }
+        (label..prepared.labels.len()).find(|number| !self.is_placed(*number))
+    }
+
     /// Whether a label's source was fetched.
-    pub(crate) fn is_placed(&self, label: usize) -> bool {
-        self.sources > 0 && self.labels[label].source < UNFETCHED
+    fn is_placed(&self, label: usize) -> bool {
+        let source = self.source_of(label);
+        source < self.sources + self.missing.len() && !self.missing.contains(&source)
     }
 
     /// Whether the source of each label was fetched.
@@ -81,75 +104,64 @@ impl<'a, S: Span> Lending<'a, S> {
         &self.held[place]
     }
 
-    /// Holds what is lent of the source that was fetched last.
-    pub(crate) fn keep(&mut self, name: Option<Range<usize>>, excerpt: &Excerpt<'_>) {
-        let start = self.held.len();
+    /// Holds what is lent of a label's source, which was fetched last.
+    pub(crate) fn keep(&mut self, label: usize, name: Option<Range<usize>>, excerpt: &Excerpt<'_>) {
+        let (source, start) = (self.source_of(label), self.held.len());
         self.held.push_str(&excerpt.text);
-        self.kept.push(Kept { name, text: start..self.held.len(), line_offsets: excerpt.line_offsets });
+        self.kept.push(Kept { source, name, text: start..self.held.len(), line_offsets: excerpt.line_offsets });
+    }
+
+    /// Takes note that a label's source can't be had. The label is left out, wherever the source may come from later.
+    pub(crate) fn miss(&mut self, label: usize) {
+        if !self.is_missing(label) {
+            self.missing.push(self.source_of(label));
+        }
+        self.labels.to_mut()[label].source = NO_SOURCE;
+    }
+
+    fn is_missing(&self, label: usize) -> bool {
+        self.missing.contains(&self.source_of(label))
     }
 
     /// What is lent of a label's source, which is that of others behind it too. All spans of the report that are in
     /// it get their places.
     pub(crate) fn place<'s, I: AsRef<str>>(&mut self, first: usize, source: &'s Source<I>) -> Excerpt<'s> {
-        let Report { labels, span, content, .. } = self.report;
-        let place = (span.source() == labels[first].span.source()).then(|| span.start());
-        let members = self.members_from(first);
-        let (mut outer, count) = self.outer_of(&members);
-        place.iter().for_each(|at| outer.add(*at, *at));
-        let spans = count + usize::from(place.is_some());
-        let (excerpt, place) = match Excerpt::of_few_lines(source, outer.ends(), spans, &content.config) {
+        let members = &self.report.prepared().members[self.source_of(first)];
+        let rest;
+        let members = if first == members.first {
+            members
+        } else {
+            rest = self.had_at_last(members, first);
+            &rest
+        };
+        let config = &self.report.content.config;
+        let (excerpt, place) = match Excerpt::of_few_lines(source, members.outer.ends(), members.spans(), config) {
             Some((mut excerpt, start)) => {
-                excerpt.shape.over = self.count_longer(&members, &outer, excerpt.shape.longest);
-                self.move_by(&members, start);
-                (excerpt, place.map(|at| at - start))
+                excerpt.shape.over = self.count_longer(members, excerpt.shape.longest);
+                self.move_by(members, start);
+                (excerpt, members.place.map(|at| at - start))
             }
-            None => self.place_apart(&members, source, place),
+            None => self.place_apart(members, source),
         };
         if let Some(at) = place {
-            self.place = (self.sources, at);
+            self.place = (members.source, at);
         }
         self.sources += 1;
-        self.placed += count;
+        self.placed += members.count;
         self.shape = self.shape.with(excerpt.shape);
         excerpt
     }
 
-    /// The labels in a label's source from it on. If all labels are in it, those in front are left out, which it was
-    /// not there for.
-    fn members_from(&mut self, first: usize) -> Members {
-        let lasts = &self.report.prepared().lasts;
-        if !lasts.is_empty() {
-            let unfetched = self.labels[first].source;
-            return Members { unfetched, first, last: lasts[unfetched - UNFETCHED] };
-        }
-        if first > 0 {
-            self.labels.to_mut().drain(..first);
-        }
-        Members { unfetched: 0, first: 0, last: self.labels.len() - 1 }
-    }
-
-    /// Whether the labels are those that the report has prepared.
-    fn is_as_prepared(&self) -> bool {
-        matches!(self.labels, Cow::Borrowed(_))
-    }
-
-    /// The outermost ends of labels in a source, and how many labels there are.
-    fn outer_of(&self, members: &Members) -> (Outer, usize) {
-        let prepared = self.report.prepared();
-        if self.is_as_prepared() && prepared.lasts.is_empty() {
-            return (prepared.outer, self.labels.len());
-        }
-        let (mut outer, mut count) = (Outer::default(), 0);
-        for label in members.of(&self.labels) {
-            outer.add(label.start, label.end);
-            count += 1;
-        }
-        (outer, count)
+    /// Of the labels in a source that was missing those from a label on.
+    #[cold]
+    fn had_at_last(&mut self, members: &Members, first: usize) -> Members {
+        self.missing.retain(|source| *source != members.source);
+        members.from(first, &self.labels)
     }
 
     /// How many labels in a source are longer than a line.
-    fn count_longer(&self, members: &Members, outer: &Outer, line: usize) -> usize {
-        if outer.longest <= line {
+    fn count_longer(&self, members: &Members, line: usize) -> usize {
+        if members.outer.longest <= line {
             return 0;
         }
         members.of(&self.labels).filter(|label| label.end - label.start > line).count()
@@ -157,11 +169,10 @@ impl<'a, S: Span> Lending<'a, S> {
 
     /// Moves the labels in a source to what is lent of it, which starts at this offset.
     fn move_by(&mut self, members: &Members, start: usize) {
-        if start == 0 && members.unfetched == self.sources {
+        if start == 0 {
             return;
         }
         for label in members.of_mut(self.labels.to_mut()) {
-            label.source = self.sources;
             label.start -= start;
             label.end -= start;
         }
@@ -173,25 +184,23 @@ impl<'a, S: Span> Lending<'a, S> {
         &mut self,
         members: &Members,
         source: &Source<I>,
-        place: Option<usize>,
     ) -> (Excerpt<'static>, Option<usize>) {
         let labels = members.of(&self.labels).map(|label| [label.start, last_of(label)]);
-        let ends = labels.chain(place.map(|at| [at; 2])).collect();
-        let mut spans = Spans { ends, has_place: place.is_some() };
+        let ends = labels.chain(members.place.map(|at| [at; 2])).collect();
+        let mut spans = Spans { ends, has_place: members.place.is_some() };
         let excerpt = Excerpt::of_lines_apart(source, &mut spans, &mut self.numbers, &self.report.content.config);
         for (label, [start, last]) in members.of_mut(self.labels.to_mut()).zip(spans.labels()) {
             let is_empty = label.start == label.end;
-            label.source = self.sources;
             label.start = *start;
             label.end = last.saturating_add(usize::from(!is_empty));
         }
         (excerpt, spans.place().map(|[at, _]| *at))
     }
 
-    /// The picture over the sources that are kept and the last.
+    /// The picture over the sources that are kept and the last, which is there if each was fetched.
     pub(crate) fn picture<'p>(&mut self, last: Last<'_, '_>, room: &'p mut Room) -> Result<&'p [u8], Refusal> {
         if !self.is_whole() {
-            self.leave_out_unplaced();
+            self.leave_out_missing();
         }
         let has_stand_ins = |[one, two]: [usize; 2]| one != two;
         let mut all = self.kept.iter().map(|it| it.line_offsets).chain(last.map(|(_, excerpt)| excerpt.line_offsets));
@@ -204,21 +213,30 @@ impl<'a, S: Span> Lending<'a, S> {
         Ok(room.hold(picture))
     }
 
-    /// Leaves out the labels whose sources were not fetched.
-    fn leave_out_unplaced(&mut self) {
-        let has_sources = self.sources > 0;
-        self.labels.to_mut().retain(|label| has_sources && label.source < UNFETCHED);
+    /// Leaves out the labels whose sources were not fetched, and numbers those that are kept one after another.
+    fn leave_out_missing(&mut self) {
+        let mut numbers = vec![NO_SOURCE; self.report.prepared().members.len()];
+        for (number, it) in self.kept.iter().enumerate() {
+            numbers[it.source] = number;
+        }
+        let number_of = |source: usize| numbers.get(source).copied().unwrap_or(NO_SOURCE);
+        self.place.0 = number_of(self.place.0);
+        self.labels.to_mut().retain_mut(|label| {
+            label.source = number_of(label.source);
+            label.source != NO_SOURCE
+        });
     }
 
     /// A first or a second drawing.
     fn drawn<'p>(&self, last: Last<'_, '_>, turn: usize, room: &'p mut Room) -> Result<&'p [u8], Refusal> {
         let (source, start) = self.place;
         let report = self.report.prepared().report(&self.labels, source, start);
-        let last = last.map(|(name, excerpt)| self.given(name, &excerpt.text, excerpt.line_offsets[turn]));
+        let last = last.map(|(name, excerpt)| self.given(name, excerpt.text.as_bytes(), excerpt.line_offsets[turn]));
         match last {
             Some(source) if self.kept.is_empty() => draw(&report, &[source], self.len(), room),
             _ => {
-                let given = |it: &Kept| self.given(&it.name, &self.held[it.text.clone()], it.line_offsets[turn]);
+                let held = self.held.as_bytes();
+                let given = |it: &Kept| self.given(&it.name, &held[it.text.clone()], it.line_offsets[turn]);
                 let sources: Vec<GivenSource<'_>> = self.kept.iter().map(given).chain(last).collect();
                 draw(&report, &sources, self.len(), room)
             }
@@ -226,8 +244,9 @@ impl<'a, S: Span> Lending<'a, S> {
     }
 
     /// A source as the library is lent it.
-    fn given<'t>(&'t self, name: &Option<Range<usize>>, text: &'t str, line_offset: usize) -> GivenSource<'t> {
-        let name = name.as_ref().map(|place| &self.held[place.clone()]);
+    #[inline]
+    fn given<'t>(&'t self, name: &Option<Range<usize>>, text: &'t [u8], line_offset: usize) -> GivenSource<'t> {
+        let name = name.as_ref().map(|place| Text::from(&self.held.as_bytes()[place.clone()]));
         GivenSource { name: OptionalText::from(name), text: Text::from(text), line_offset }
     }
 
@@ -241,27 +260,6 @@ impl<'a, S: Span> Lending<'a, S> {
         let columns = 64 + self.shape.longest + 4 * self.shape.over;
         let strokes = rows.saturating_mul(columns).saturating_mul(painted);
         LEAST_ROOM + strokes.min(MOST_ROOM) + self.report.prepared().said
-    }
-}
-
-/// Labels in a source: the number that they have before it is fetched, and the first and the last of them.
-struct Members {
-    unfetched: usize,
-    first: usize,
-    last: usize,
-}
-
-impl Members {
-    #[inline]
-    fn of<'l, 'a>(&self, labels: &'l [GivenLabel<'a>]) -> impl Iterator<Item = &'l GivenLabel<'a>> {
-        let unfetched = self.unfetched;
-        labels[self.first..=self.last].iter().filter(move |label| label.source == unfetched)
-    }
-
-    #[inline]
-    fn of_mut<'l, 'a>(&self, labels: &'l mut [GivenLabel<'a>]) -> impl Iterator<Item = &'l mut GivenLabel<'a>> {
-        let unfetched = self.unfetched;
-        labels[self.first..=self.last].iter_mut().filter(move |label| label.source == unfetched)
     }
 }
 
@@ -289,7 +287,7 @@ impl Report<'_> {
 
 #[cfg(test)]
 mod tests {
-    use super::{Kept, Lending, UNFETCHED};
+    use super::{Kept, Lending};
     use crate::call::Room;
     use crate::{Color, Config, FnCache, Label, Report, ReportKind};
     use std::ops::Range;
@@ -300,30 +298,24 @@ mod tests {
     const TEXTS: [&str; 9] =
         ["a", "b\nc\n", "", "d\n\n\n\ne\n", "f", "g\u{e9}\nh", "i\n\n\n\n\n\n\n\n\nj", "k", "l\r\nm"];
 
-    /// The picture over whole sources, which have their numbers one by one. Those behind the texts are not there.
+    /// The picture over whole sources. Those behind the texts are not there.
     fn picture_over_whole(report: &Report<Place>) -> Vec<u8> {
         let mut lending = Lending::new(report);
-        let mut ids: Vec<usize> = Vec::new();
-        for (label, given) in report.labels.iter().zip(lending.labels.to_mut()) {
-            given.source = UNFETCHED;
-            let id = label.span.0;
-            if id < TEXTS.len() {
-                let number = ids.iter().position(|it| *it == id).unwrap_or(ids.len());
-                ids.extend((number == ids.len()).then_some(id));
-                given.source = number;
-                lending.placed += 1;
+        for members in &report.prepared().members {
+            let id = report.labels[members.first].span.0;
+            if id >= TEXTS.len() {
+                continue;
             }
-        }
-        if let Some(number) = ids.iter().position(|it| *it == report.span.0) {
-            lending.place = (number, report.span.1.start);
-        }
-        for id in ids {
+            lending.placed += members.count;
+            if let Some(at) = members.place {
+                lending.place = (members.source, at);
+            }
             let name = lending.hold_name(Some(id));
             let start = lending.held.len();
             lending.held.push_str(TEXTS[id]);
-            lending.kept.push(Kept { name, text: start..lending.held.len(), line_offsets: [0; 2] });
+            let text = start..lending.held.len();
+            lending.kept.push(Kept { source: members.source, name, text, line_offsets: [0; 2] });
         }
-        lending.sources = lending.kept.len();
         let mut room = Room::new();
         let picture = lending.picture(None, &mut room);
         picture.unwrap_or_else(|refusal| panic!("status {}", refusal.0)).to_vec()

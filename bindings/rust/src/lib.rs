@@ -47,6 +47,7 @@ mod prepared;
 mod report;
 mod source;
 mod span;
+mod table;
 mod write;
 
 pub use cache::{sources, Cache, FileCache, FnCache};

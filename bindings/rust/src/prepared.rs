@@ -3,14 +3,10 @@
 use crate::call::{GivenLabel, GivenReport, Lent, OptionalText, Text};
 use crate::color::Color;
 use crate::config::{CharSet, Config, IndexType, LabelAttach};
-use crate::excerpt::Ends;
 use crate::label::Label;
-use crate::members::number_sources;
+use crate::members::{members_of, Members};
 use crate::report::{Content, ReportKind};
 use crate::span::Span;
-
-/// The number of the first source of several, before that is fetched. Others follow it.
-pub(crate) const UNFETCHED: usize = !(usize::MAX >> 1);
 
 /// What is lent of a report beside its sources.
 pub(crate) struct Prepared<'a> {
@@ -18,23 +14,19 @@ pub(crate) struct Prepared<'a> {
     report: GivenReport<'a>,
     helps: Vec<Text<'a>>,
     notes: Vec<Text<'a>>,
-    /// All labels, with the offsets of their spans. Where they are in several sources, these have unfetched numbers.
+    /// All labels, with the offsets of their spans, and with the numbers that their sources have if each can be had.
     pub(crate) labels: Vec<GivenLabel<'a>>,
-    /// The last label in each source. Where all labels are in one source, there is none.
-    pub(crate) lasts: Vec<usize>,
-    /// The outermost ends of all labels.
-    pub(crate) outer: Outer,
+    /// The labels in each source, by that number.
+    pub(crate) members: Vec<Members>,
     /// How many bytes the texts have.
     pub(crate) said: usize,
 }
 
 impl<'a> Prepared<'a> {
-    pub(crate) fn new<S: Span>(content: &'a Content<'_>, labels: &'a [Label<S>]) -> Prepared<'a> {
+    pub(crate) fn new<S: Span>(content: &'a Content<'_>, place: &S, labels: &'a [Label<S>]) -> Prepared<'a> {
         let Content { code, message, helps, notes, .. } = content;
         let mut given: Vec<GivenLabel<'a>> = labels.iter().map(label_without_source).collect();
-        let lasts = number_sources(labels, |label, source| given[label].source = UNFETCHED + source);
-        let mut outer = Outer::default();
-        given.iter().for_each(|label| outer.add(label.start, label.end));
+        let members = members_of(labels, place, &mut given);
         let messages = labels.iter().filter_map(|label| label.display_info.msg.as_ref());
         let texts = code.iter().chain(message).chain(helps).chain(notes).chain(messages);
         Prepared {
@@ -42,8 +34,7 @@ impl<'a> Prepared<'a> {
             helps: helps.iter().map(Text::from).collect(),
             notes: notes.iter().map(Text::from).collect(),
             labels: given,
-            lasts,
-            outer,
+            members,
             said: texts.map(String::len).sum(),
         }
     }
@@ -61,36 +52,6 @@ impl<'a> Prepared<'a> {
     }
 }
 
-/// Of spans: the first offset, the one behind the last character, and how long the longest is.
-#[derive(Clone, Copy)]
-pub(crate) struct Outer {
-    first: usize,
-    past: usize,
-    pub(crate) longest: usize,
-}
-
-impl Default for Outer {
-    /// That of no spans.
-    fn default() -> Outer {
-        Outer { first: usize::MAX, past: 0, longest: 0 }
-    }
-}
-
-impl Outer {
-    /// Adds a span. One without a character reaches as far as one with the character that it is at.
-    #[inline] // (It is called in loops of each crate that has spans of its own.)
-    pub(crate) fn add(&mut self, start: usize, end: usize) {
-        self.first = self.first.min(start);
-        self.past = self.past.max(end.saturating_add(usize::from(start == end)));
-        self.longest = self.longest.max(end - start);
-    }
-
-    /// The offsets of the first and the last character.
-    pub(crate) fn ends(&self) -> Ends {
-        [self.first, self.past - 1]
-    }
-}
-
 /// A report without labels, helps, notes and a place.
 fn report_without_lists<'a>(content: &'a Content<'_>) -> GivenReport<'a> {
     let (kind, kind_name, kind_color) = kind_of(content.kind);
@@ -98,7 +59,7 @@ fn report_without_lists<'a>(content: &'a Content<'_>) -> GivenReport<'a> {
         kind,
         kind_color,
         kind_name: Text::from(kind_name),
-        code: OptionalText::from(content.code.as_deref()),
+        code: OptionalText::from(content.code.as_ref().map(Text::from)),
         message: Text::from(content.message.as_deref().unwrap_or("")),
         source: 0,
         start: 0,
@@ -114,13 +75,13 @@ fn report_without_lists<'a>(content: &'a Content<'_>) -> GivenReport<'a> {
 }
 
 /// A label in the first source.
-fn label_without_source<S: Span>(label: &Label<S>) -> GivenLabel<'_> {
+pub(crate) fn label_without_source<S: Span>(label: &Label<S>) -> GivenLabel<'_> {
     let said = &label.display_info;
     GivenLabel {
         source: 0,
         start: label.span.start(),
         end: label.span.end().max(label.span.start()),
-        message: OptionalText::from(said.msg.as_deref()),
+        message: OptionalText::from(said.msg.as_ref().map(Text::from)),
         color: said.color.map_or(0, color_number),
         order: said.order,
         priority: said.priority,

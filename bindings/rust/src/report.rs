@@ -61,19 +61,18 @@ impl Content<'_> {
 /// A report that is ready to be written.
 pub struct Report<'a, S: Span = Range<usize>> {
     pub(crate) content: Content<'a>,
-    pub(crate) span: S,
     pub(crate) labels: Vec<Label<S>>,
-    /// What is lent of the content and the labels.
+    /// What is lent of the content, of the labels and of the place that the header names.
     prepared: Prepared<'static>,
 }
 
 impl<'a, S: Span> Report<'a, S> {
     fn new(content: Content<'a>, span: S, labels: Vec<Label<S>>) -> Report<'a, S> {
-        let prepared = Prepared::new(&content, &labels);
+        let prepared = Prepared::new(&content, &span, &labels);
         // What it lends are texts on the heap and the name of a kind. They stay there, and are as they were, as long as
         // the report has them, and it lends what is prepared no longer than that.
         let prepared = unsafe { mem::transmute::<Prepared<'_>, Prepared<'static>>(prepared) };
-        Report { content, span, labels, prepared }
+        Report { content, labels, prepared }
     }
 
     /// What is lent of the report beside its sources.

@@ -155,9 +155,10 @@ impl<I: AsRef<str>> Source<I> {
     #[inline]
     pub(crate) fn line_number(&self, offset: usize, in_bytes: bool, near: usize) -> usize {
         let of = |start: &Start| if in_bytes { start.bytes } else { start.chars };
-        let is_before = |number: usize| number <= self.last_line() && of(&self.starts[number]) <= offset;
-        if is_before(near) && !is_before(near + 1) {
-            return near;
+        if let Some([start, next, behind @ ..]) = self.starts.get(near..) {
+            if of(start) <= offset && (offset < of(next) || behind.is_empty()) {
+                return near;
+            }
         }
         self.number_of(offset, of)
     }

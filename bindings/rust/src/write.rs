@@ -31,24 +31,25 @@ impl<S: Span> Report<'_, S> {
     /// The picture over the sources of a cache. One that can't be had is told on standard error.
     fn picture<'p, C: Cache<S::SourceId>>(&self, mut cache: C, room: &'p mut Room) -> Result<&'p [u8], Refusal> {
         let mut lending = Lending::new(self);
-        for (number, label) in self.labels.iter().enumerate() {
-            if lending.is_placed(number) {
-                continue;
-            }
-            let id = label.span.source();
+        let mut next = lending.unplaced_from(0);
+        while let Some(number) = next {
+            let id = self.labels[number].span.source();
             let name = lending.hold_name(cache.display(id));
             match cache.fetch(id) {
                 Ok(source) => {
                     let excerpt = lending.place(number, source);
+                    next = lending.unplaced_from(number + 1);
                     // (The cache lends one source at a time. So those in front of the last are copied.)
                     if lending.is_whole() {
                         return lending.picture(Some((&name, &excerpt)), room);
                     }
-                    lending.keep(name, &excerpt);
+                    lending.keep(number, name, &excerpt);
                 }
                 Err(error) => {
                     let name = name.map_or("", |name| lending.held(name));
                     eprintln!("Unable to fetch source '{name}': {error:?}");
+                    lending.miss(number);
+                    next = lending.unplaced_from(number + 1);
                 }
             }
         }
