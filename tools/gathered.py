@@ -120,7 +120,8 @@ def gather_programs(clone, crates):
     arms = "".join(arm_of(clone, crate) for crate in crates)
     tests = "".join(f'        "of_{it}::{test}" => {call},\n' for it in crates for test, call in tests_of(clone, it))
     keeping = (ROOT / "tools/keeping").read_text()
-    (own / "main.rt").write_text(PROGRAM.format(modules=modules, arms=arms, tests=tests, able=ABLE.removesuffix(")")) + keeping)
+    text = PROGRAM.format(modules=modules, arms=arms, tests=tests, able=ABLE.removesuffix(")"))
+    (own / "main.rt").write_text(text + keeping)
     with (clone / "crates.txt").open("a") as lines:
         lines.write(f"{PROGRAMS}: {' '.join(named_by(crates, uses))}\n")
 
