@@ -6,7 +6,8 @@ _ariadne_show() {
     [ "$word" != = ] || word=
     case $before in
         --format) words='auto rustc gcc lines report' ;;
-        --columns) words='bytes chars display' ;;
+        --columns) words='bytes chars utf16 display' ;;
+        --first-column) words='0 1' ;;
         --output) words='picture short github sarif' ;;
         --severity) words='error warning note' ;;
         --color) words='auto always never' ;;
@@ -15,8 +16,8 @@ _ariadne_show() {
         --base) COMPREPLY=($(compgen -d -- "$word")); return ;;
         --max|--context) return ;;
         *)
-            words='--format --columns --base --output --severity --max --context --width --raw --color --ascii --compact
-                --short --fail-on --help --version'
+            words='--format --columns --first-column --base --output --severity --max --context --width --raw --color
+                --ascii --compact --short --fail-on --help --version'
             [[ $word = -* ]] || { COMPREPLY=($(compgen -f -- "$word")); return; }
             ;;
     esac

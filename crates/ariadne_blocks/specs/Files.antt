@@ -6,7 +6,7 @@ use Rattle.std.specs.Str.{trim_start}
 use Rattle.std.specs.Prelude.{Option, None, Some, option_and_then, option_map, unwrap_or}
 use Rattle.ariadne_parse.specs.Columns.{column_at, line_of, offset_of}
 use Rattle.ariadne_parse.specs.declared.unit.Unit.{Unit}
-use Rattle.ariadne_parse.specs.declared.unit.Unit.TheVariants.{Byte, Char, Display}
+use Rattle.ariadne_parse.specs.declared.unit.Unit.TheVariants.{Byte, Char, Display, Utf16}
 use Rattle.ariadne_snippets.specs.Snippets.{number_quoted}
 use Rattle.ariadne_snippets.specs.declared.snippet.Snippet.{Snippet}
 use Rattle.ariadne_snippets.specs.declared.taken.Point.{Point}
@@ -34,6 +34,7 @@ line_in file line = line_of file.characters (line - file.above)
 abbrev pub unit_in : File → Unit → Unit
 unit_in file Byte = file.byte_unit
 unit_in file Char = Char
+unit_in file Utf16 = Utf16
 unit_in file Display = Display
 
 -- the column, from 1, of the character with this number, from 0

@@ -1,7 +1,7 @@
 -- What a help says of what is to be changed.
 use Rattle.std.specs.Prelude.{ℕ, List, ◌++◌, Option, codes, decimal}
 use Rattle.ariadne_parse.specs.declared.unit.Unit.{Unit}
-use Rattle.ariadne_parse.specs.declared.unit.Unit.TheVariants.{Byte, Char, Display}
+use Rattle.ariadne_parse.specs.declared.unit.Unit.TheVariants.{Byte, Char, Display, Utf16}
 use Rattle.ariadne_snippets.specs.declared.taken.Fix.{Fix}
 use Rattle.ariadne_snippets.specs.declared.taken.FixKind.{FixKind}
 use Rattle.ariadne_snippets.specs.declared.taken.FixKind.TheVariants.{Put, PutLine, Become, Remove}
@@ -23,6 +23,7 @@ fix_words fix column = fix_text fix.kind fix.at.line column fix.text.now
 -- what columns of changes count where those of a head count this
 abbrev pub change_unit : Unit → Unit
 change_unit Char = Char
+change_unit Utf16 = Utf16
 change_unit Byte = Byte
 change_unit Display = Byte
 

@@ -5,7 +5,7 @@ use Rattle.std.specs.Prelude.{ℕ, ◌==◌, Bool, true, false, not, ◌&&◌, i
 use Rattle.std.specs.Prelude.{List, [], ◌∷◌, ◌++◌, length, map, slice_get, slice_set}
 use Rattle.std.specs.Prelude.{Option, None, Some, fold, is_some}
 use Rattle.ariadne_parse.specs.declared.unit.Unit.{Unit}
-use Rattle.ariadne_parse.specs.declared.unit.Unit.TheVariants.{Byte, Char, Display}
+use Rattle.ariadne_parse.specs.declared.unit.Unit.TheVariants.{Byte, Char, Display, Utf16}
 use Rattle.ariadne_snippets.specs.declared.taken.Label.{Label}
 use Rattle.ariadne_snippets.specs.declared.taken.Mark.{Mark}
 use Rattle.ariadne_snippets.specs.declared.taken.Point.{Point}
@@ -41,6 +41,7 @@ is_of_word OfWord = true
 abbrev pub counts_characters : Unit → Bool
 counts_characters Byte = false
 counts_characters Char = true
+counts_characters Utf16 = false
 counts_characters Display = false
 
 -- where a tool points at a place whose range a mark is: at its `^`, where the head names a spot alone, in a

@@ -5,7 +5,7 @@ use Rattle.std.specs.Prelude.{Option, None, Some}
 use Rattle.std.specs.List.{list_any}
 use Rattle.std.specs.Str.{bytes_eq}
 use Rattle.ariadne_parse.specs.declared.unit.Unit.{Unit}
-use Rattle.ariadne_parse.specs.declared.unit.Unit.TheVariants.{Byte, Char, Display}
+use Rattle.ariadne_parse.specs.declared.unit.Unit.TheVariants.{Byte, Char, Display, Utf16}
 use Rattle.ariadne_parse.specs.Places.{Seen}
 use Rattle.ariadne_parse.specs.declared.diagnostic.End.{End}
 use Rattle.ariadne_parse.specs.declared.diagnostic.End.TheVariants.{Before, Behind, OfWord}
@@ -28,12 +28,19 @@ is_same_end OfWord OfWord = true
 abbrev pub is_same_unit : Unit → Unit → Bool
 is_same_unit Byte Byte = true
 is_same_unit Byte Char = false
+is_same_unit Byte Utf16 = false
 is_same_unit Byte Display = false
 is_same_unit Char Byte = false
 is_same_unit Char Char = true
+is_same_unit Char Utf16 = false
 is_same_unit Char Display = false
+is_same_unit Utf16 Byte = false
+is_same_unit Utf16 Char = false
+is_same_unit Utf16 Utf16 = true
+is_same_unit Utf16 Display = false
 is_same_unit Display Byte = false
 is_same_unit Display Char = false
+is_same_unit Display Utf16 = false
 is_same_unit Display Display = true
 
 -- marks cover the same, or none cover anything

@@ -45,7 +45,7 @@ impl<'a> QuotedFile<'a> {
     {
         match unit {
             Unit::Byte => self.byte_unit,
-            Unit::Char | Unit::Display => unit,
+            Unit::Char | Unit::Utf16 | Unit::Display => unit,
         }
     }
 }

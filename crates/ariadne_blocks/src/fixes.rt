@@ -22,12 +22,13 @@ pub(crate) fn fix_text(
     fix_words(alloc, fix, column_in(file, unit, fix.at))
 }
 
-/// What columns of changes count where those of a head count this: characters, as rustc's, and else bytes.
+/// What columns of changes count where those of a head count this: characters, as rustc's, or UTF-16, and else bytes.
 pub(crate) fn change_unit(unit: Unit) -> Unit
     ensures { result ≡ unit_of_change unit }
 {
     match unit {
         Unit::Char => Unit::Char,
+        Unit::Utf16 => Unit::Utf16,
         Unit::Byte | Unit::Display => Unit::Byte,
     }
 }

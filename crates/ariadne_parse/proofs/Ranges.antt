@@ -4,7 +4,7 @@ use Rattle.std.proofs.lemmas.List.{append-nil, append_assoc, map-append}
 use Rattle.std.specs.Prelude.{ℕ, zero, suc, ◌+◌, ◌-◌, ◌<◌, Bool, true, false}
 use Rattle.std.specs.Prelude.{List, [], ◌∷◌, ◌++◌, map, Option, Some, None}
 use Rattle.std.specs.List.{find}
-use Rattle.ariadne_parse.specs.declared.unit.Unit.{Unit}
+use Rattle.ariadne_parse.specs.declared.counting.Counting.{Counting}
 use Rattle.ariadne_parse.specs.Heads.{range_in, range_onto, ranges_in, Head}
 use Rattle.ariadne_parse.specs.Places.{seen, Seen}
 use Rattle.ariadne_parse.specs.ParsedLines.{is_own_range, others_among, own_range_of, range_place}
@@ -42,18 +42,18 @@ ranges_past turn text e =
     ap (λ m. ranges_in m text) n
 
 -- a range that is not the line's own has a place
-pub another : (head : Head) (unit : Unit) (range : Spot × Spot) (ranges : List (Spot × Spot))
+pub another : (head : Head) (counting : Counting) (range : Spot × Spot) (ranges : List (Spot × Spot))
     → is_own_range (own_range_of head) range ≡ false
-    → others_among head unit (range ∷ ranges) ≡ range_place head unit range ∷ others_among head unit ranges
+    → others_among head counting (range ∷ ranges) ≡ range_place head counting range ∷ others_among head counting ranges
 unfolding others_among
-another head unit range ranges e = rw e refl
+another head counting range ranges e = rw e refl
 
 -- its own has none
-pub not_another : (head : Head) (unit : Unit) (range : Spot × Spot) (ranges : List (Spot × Spot))
+pub not_another : (head : Head) (counting : Counting) (range : Spot × Spot) (ranges : List (Spot × Spot))
     → is_own_range (own_range_of head) range ≡ true
-    → others_among head unit (range ∷ ranges) ≡ others_among head unit ranges
+    → others_among head counting (range ∷ ranges) ≡ others_among head counting ranges
 unfolding others_among
-not_another head unit range ranges e = rw e refl
+not_another head counting range ranges e = rw e refl
 
 -- places that go on by one
 pub push_seen : (before all : List Place) (place : Place) (one : Seen) (others : List Seen)
@@ -95,38 +95,38 @@ range_past test turn text all e same = sym (same ∙ ap (find test) (ranges_past
 -- ---- the places of the others
 
 -- with the one there
-pub others_on : (head : Head) (unit : Unit) (turn : ℕ) (text rest : List ℕ) (start end : Spot) (before all : List Place) (place : Place)
+pub others_on : (head : Head) (counting : Counting) (turn : ℕ) (text rest : List ℕ) (start end : Spot) (before all : List Place) (place : Place)
     (whole : List Seen) (own : Option (Spot × Spot)) → turn < 16 → Some (start, end, rest) ≡ range_in text
     → own ≡ own_range_of head → is_own_range own (start, end) ≡ false
-    → all ≡ before ++ place ∷ [] → seen place ≡ range_place head unit (start, end)
-    → map seen before ++ others_among head unit (ranges_in (16 - turn) text) ≡ whole
-    → map seen all ++ others_among head unit (ranges_in (16 - (turn + 1)) rest) ≡ whole
-others_on head unit turn text rest start end before all place whole own l e is fails pushed one same =
+    → all ≡ before ++ place ∷ [] → seen place ≡ range_place head counting (start, end)
+    → map seen before ++ others_among head counting (ranges_in (16 - turn) text) ≡ whole
+    → map seen all ++ others_among head counting (ranges_in (16 - (turn + 1)) rest) ≡ whole
+others_on head counting turn text rest start end before all place whole own l e is fails pushed one same =
     let more_ranges : List (Spot × Spot) = ranges_in (16 - (turn + 1)) rest in
     let not_own : is_own_range (own_range_of head) (start, end) ≡ false =
     ap (λ (o : Option (Spot × Spot)). is_own_range o (start, end)) (sym is) ∙ fails in
-    push_seen before all place (range_place head unit (start, end)) (others_among head unit more_ranges) pushed one
-    ∙ ap (λ (xs : List Seen). map seen before ++ xs) (sym (another head unit (start, end) more_ranges not_own))
-    ∙ ap (λ (rs : List (Spot × Spot)). map seen before ++ others_among head unit rs) (sym (ranges_more turn text rest start end l e))
+    push_seen before all place (range_place head counting (start, end)) (others_among head counting more_ranges) pushed one
+    ∙ ap (λ (xs : List Seen). map seen before ++ xs) (sym (another head counting (start, end) more_ranges not_own))
+    ∙ ap (λ (rs : List (Spot × Spot)). map seen before ++ others_among head counting rs) (sym (ranges_more turn text rest start end l e))
     ∙ same
 
 -- without it
-pub others_past : (head : Head) (unit : Unit) (turn : ℕ) (text rest : List ℕ) (start end : Spot) (before : List Place)
+pub others_past : (head : Head) (counting : Counting) (turn : ℕ) (text rest : List ℕ) (start end : Spot) (before : List Place)
     (whole : List Seen) (own : Option (Spot × Spot)) → turn < 16 → Some (start, end, rest) ≡ range_in text
     → own ≡ own_range_of head → is_own_range own (start, end) ≡ true
-    → map seen before ++ others_among head unit (ranges_in (16 - turn) text) ≡ whole
-    → map seen before ++ others_among head unit (ranges_in (16 - (turn + 1)) rest) ≡ whole
-others_past head unit turn text rest start end before whole own l e is passes same =
+    → map seen before ++ others_among head counting (ranges_in (16 - turn) text) ≡ whole
+    → map seen before ++ others_among head counting (ranges_in (16 - (turn + 1)) rest) ≡ whole
+others_past head counting turn text rest start end before whole own l e is passes same =
     let more_ranges : List (Spot × Spot) = ranges_in (16 - (turn + 1)) rest in
     let its_own : is_own_range (own_range_of head) (start, end) ≡ true =
     ap (λ (o : Option (Spot × Spot)). is_own_range o (start, end)) (sym is) ∙ passes in
-    ap (λ (xs : List Seen). map seen before ++ xs) (sym (not_another head unit (start, end) more_ranges its_own))
-    ∙ ap (λ (rs : List (Spot × Spot)). map seen before ++ others_among head unit rs) (sym (ranges_more turn text rest start end l e))
+    ap (λ (xs : List Seen). map seen before ++ xs) (sym (not_another head counting (start, end) more_ranges its_own))
+    ∙ ap (λ (rs : List (Spot × Spot)). map seen before ++ others_among head counting rs) (sym (ranges_more turn text rest start end l e))
     ∙ same
 
 -- no range is left
-pub others_done : (head : Head) (unit : Unit) (ranges : List (Spot × Spot)) (all : List Place) (whole : List Seen) → ranges ≡ []
-    → map seen all ++ others_among head unit ranges ≡ whole → map seen all ≡ whole
+pub others_done : (head : Head) (counting : Counting) (ranges : List (Spot × Spot)) (all : List Place) (whole : List Seen) → ranges ≡ []
+    → map seen all ++ others_among head counting ranges ≡ whole → map seen all ≡ whole
 unfolding others_among
-others_done head unit ranges all whole e same =
-    sym (append-nil (map seen all)) ∙ ap (λ (rs : List (Spot × Spot)). map seen all ++ others_among head unit rs) (sym e) ∙ same
+others_done head counting ranges all whole e same =
+    sym (append-nil (map seen all)) ∙ ap (λ (rs : List (Spot × Spot)). map seen all ++ others_among head counting rs) (sym e) ∙ same

@@ -2,22 +2,24 @@
 -- and end at line feeds alone, as compilers count them. Columns count from 1, offsets count characters
 -- from 0, and a text is a list of characters.
 use Rattle.std.specs.Prelude.{ℕ, zero, suc, ◌+◌, ◌-◌, ◌%◌, ◌^◌, Bool, false, not, ◌&&◌, ◌||◌, ◌==◌}
-use Rattle.std.specs.Prelude.{nat_le, max, min, if◌then◌else◌, List, [], ◌∷◌, drop, take, Option, None}
+use Rattle.std.specs.Prelude.{nat_le, nat_lt, max, min, if◌then◌else◌, List, [], ◌∷◌, drop, take, Option, None}
 use Rattle.std.specs.Prelude.{count_by, fold, option_map, unwrap_or, slice_get}
 use Rattle.std.specs.Io.BufRead.{strip_last}
 use Rattle.std.specs.List.{prefix_len}
 use Rattle.std.specs.Char.{is_ascii_alphanumeric, len_utf8}
 use Rattle.unicode_width.specs.Width.{char_width}
 use Rattle.ariadne_parse.specs.declared.unit.Unit.{Unit}
-use Rattle.ariadne_parse.specs.declared.unit.Unit.TheVariants.{Byte, Char, Display}
+use Rattle.ariadne_parse.specs.declared.unit.Unit.TheVariants.{Byte, Char, Display, Utf16}
 
 -- ---- columns
 
--- the columns of a character that stands behind `at` columns of its line. On a terminal a tab reaches
+-- the columns of a character that stands behind `at` columns of its line. UTF-16 has two units for those past
+-- U+FFFF. On a terminal a tab reaches
 -- to the next multiple of 8, and what has no width of its own has one column
 unfoldable pub columns_of : Unit → ℕ → ℕ → ℕ
 columns_of Byte at c = len_utf8 c
 columns_of Char at c = 1
+columns_of Utf16 at c = if nat_lt 65535 c then 2 else 1
 columns_of Display at c = if c == 9 then 8 - at % 8 else unwrap_or (char_width false c) 1
 
 -- how many characters end at most `limit` columns behind the start of their line, of which `at` are

@@ -2,8 +2,8 @@
 -- ranges, the kind and the code may be left out. Behind the column an end may stand, as :LINE:COLUMN or
 -- -COLUMN, which is the place of its last character. The line and the column may stand in parentheses,
 -- as FILE(LINE,COLUMN): KIND: MESSAGE. Characters stand as their numbers, which TextPieces.antt names.
-use Rattle.std.specs.Prelude.{ℕ, zero, suc, ◌+◌, ◌-◌, ◌^◌, ◌==◌, nat_lt, Bool, false, not, ◌&&◌, ◌||◌}
-use Rattle.std.specs.Prelude.{if◌then◌else◌, min, List, [], ◌∷◌, length, take, drop, codes}
+use Rattle.std.specs.Prelude.{ℕ, zero, suc, ◌+◌, ◌==◌, nat_lt, Bool, false, not, ◌&&◌, ◌||◌}
+use Rattle.std.specs.Prelude.{if◌then◌else◌, List, [], ◌∷◌, length, take, drop, codes}
 use Rattle.std.specs.Prelude.{Option, Some, None, is_some, option_map, option_and_then}
 use Rattle.std.specs.List.{filter_map, list_any}
 use Rattle.std.specs.Option.{option_or, unwrap_or}
@@ -16,7 +16,7 @@ use Rattle.ariadne_parse.specs.declared.diagnostic.Severity.{Severity}
 use Rattle.ariadne_parse.specs.declared.diagnostic.Severity.TheVariants.{Error, Warning}
 use Rattle.ariadne_parse.specs.declared.diagnostic.Spot.{Spot}
 
--- what a line tells; its columns count from 1
+-- what a line tells; its columns count as the tool's do
 pub record Head : Type 0 where
   pub file : List ℕ
   pub start : Spot
@@ -248,14 +248,6 @@ is_told kind message = nat_lt 0 (length message) || is_plain kind
 
 -- ---- heads
 
--- a column that counts from 1, of one that counts from 0; it is one of the machine's
-abbrev pub from_one : Spot → Spot
-from_one spot = record spot { column = option_map (λ column. min (column + 1) (2 ^ 64 - 1)) spot.column }
-
--- where what is said begins
-abbrev pub start_by : Kind → Spot → Spot
-start_by kind start = if kind.is_from_zero then from_one start else start
-
 -- a message of a kind at a place: it is not empty but behind a known word, and the file's name is not empty and
 -- begins with no blank
 unfoldable pub head_of : List ℕ → Spot × Option Spot → List ℕ → Kind × List ℕ → Option Head
@@ -263,7 +255,7 @@ head_of file place ranges said =
     if is_told said.0 (message_of file said.0 said.1) && is_flush file
     then Some (record {
       file = file;
-      start = start_by said.0 place.0;
+      start = place.0;
       end = place.1;
       ranges = ranges;
       kind = kind_with_code said.0 said.1;

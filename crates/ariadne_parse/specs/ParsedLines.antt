@@ -13,12 +13,12 @@ use Rattle.std.specs.Str.{bytes_eq}
 use Rattle.serde_json.specs.Data.{Data, Items, no_items, item}
 use Rattle.serde_json.specs.Find.{get, as_array}
 use Rattle.ariadne_json.specs.Reading.{value_in as value_of}
-use Rattle.ariadne_parse.specs.declared.unit.Unit.{Unit}
+use Rattle.ariadne_parse.specs.declared.counting.Counting.{Counting}
 use Rattle.ariadne_parse.specs.declared.unit.Unit.TheVariants.{Char}
 use Rattle.ariadne_parse.specs.Gcc.{gcc_list}
 use Rattle.ariadne_parse.specs.Heads.{head_of_line, is_among, ranges_in, Head}
 use Rattle.ariadne_parse.specs.Members.{all_items, items_in, list_at, text_at}
-use Rattle.ariadne_parse.specs.Places.{is_same_spot, named, place_of, seen, Seen}
+use Rattle.ariadne_parse.specs.Places.{counted_place, counted_spot, is_same_spot, named, seen, Seen}
 use Rattle.ariadne_parse.specs.Read.{read}
 use Rattle.ariadne_parse.specs.Reports.{label_spot, IsOfReport}
 use Rattle.ariadne_parse.specs.Rustc.{rustc_read}
@@ -183,10 +183,10 @@ own_end (Some end) None = Behind end
 own_end end (Some range) = Before range.1
 
 -- its own place, at which it points
-abbrev pub own_place_of : Head → Unit → Seen
-own_place_of head unit =
-    record (place_of head.file (own_start head (own_range_of head)) (own_end head.end (own_range_of head)) unit) {
-      caret = head.start;
+abbrev pub own_place_of : Head → Counting → Seen
+own_place_of head counting =
+    record (counted_place head.file (own_start head (own_range_of head)) (own_end head.end (own_range_of head)) counting) {
+      caret = counted_spot counting head.start;
       is_primary = true;
     }
 
@@ -196,25 +196,25 @@ is_own_range None range = false
 is_own_range (Some own) range = is_same_spot own.0 range.0 && is_same_spot own.1 range.1
 
 -- the places of the ranges that are not its own
-abbrev pub range_place : Head → Unit → Spot × Spot → Seen
-range_place head unit range = place_of head.file range.0 (Before range.1) unit
+abbrev pub range_place : Head → Counting → Spot × Spot → Seen
+range_place head counting range = counted_place head.file range.0 (Before range.1) counting
 
-unfoldable pub others_among : Head → Unit → List (Spot × Spot) → List Seen
-others_among head unit ranges =
-    map (range_place head unit)
+unfoldable pub others_among : Head → Counting → List (Spot × Spot) → List Seen
+others_among head counting ranges =
+    map (range_place head counting)
     (filter (λ range. not (is_own_range (own_range_of head) range)) ranges)
 
-abbrev pub other_places : Head → Unit → List Seen
-other_places head unit = others_among head unit (ranges_in 16 head.ranges)
+abbrev pub other_places : Head → Counting → List Seen
+other_places head counting = others_among head counting (ranges_in 16 head.ranges)
 
--- a diagnostic is what a head tells where the columns of lines of text count this
-pub record IsOfHead (unit : Unit) (head : Head) (told : Diagnostic) : Type 0 where
+-- a diagnostic is what a head tells whose columns count so
+pub record IsOfHead (counting : Counting) (head : Head) (told : Diagnostic) : Type 0 where
   pub severity : told.severity ≡ head.kind.severity
   pub own_kind : option_map named told.own_kind ≡ option_map (λ name. (name, None)) head.kind.name
   pub code : option_map string_bytes told.code ≡ head.kind.code
   pub message : string_bytes told.message ≡ head.message
   pub places : map seen told.places.items
-      ≡ own_place_of head unit ∷ other_places head unit
+      ≡ own_place_of head counting ∷ other_places head counting
   pub notes : told.notes.items ≡ []
   pub helps : told.helps.items ≡ []
   pub proposals : told.proposals.items ≡ []
@@ -230,14 +230,21 @@ abbrev pub is_of_rust : List ℕ → Bool
 is_of_rust file = ends_with (λ a b. a == b) file (codes ".rs")
 
 -- and so do those of lines whose kind tells that
-abbrev pub unit_in : Head → Unit → Unit
-unit_in head unit = if is_of_rust head.file || head.kind.has_characters then Char else unit
+abbrev pub is_in_characters : Head → Bool
+is_in_characters head = is_of_rust head.file || head.kind.has_characters
+
+-- how the columns of a line count, where those of others count so: from 0 where its kind tells that, and else as others
+-- do, where these count the same
+abbrev pub counting_in : Head → Counting → Counting
+counting_in head counting =
+    if is_in_characters head then record { unit = Char; is_from_zero = head.kind.is_from_zero }
+    else record { unit = counting.unit; is_from_zero = head.kind.is_from_zero || counting.is_from_zero }
 
 -- of a head one diagnostic is told, as a note or by itself, and nothing where there is none
-abbrev pub IsToldOfHead : Unit → Option Head → Answer → Type 0
-IsToldOfHead unit None told = told ≡ Nothing
-IsToldOfHead unit (Some head) told =
-    (one : Diagnostic) × (told ≡ (if is_note head then Note one else Header one)) × IsOfHead (unit_in head unit) head one
+abbrev pub IsToldOfHead : Counting → Option Head → Answer → Type 0
+IsToldOfHead counting None told = told ≡ Nothing
+IsToldOfHead counting (Some head) told =
+    (one : Diagnostic) × (told ≡ (if is_note head then Note one else Header one)) × IsOfHead (counting_in head counting) head one
 
 -- what is told of a value that cargo may have handed on: a message is held from now on
 abbrev pub IsHeldIfAny : Option Data → Sent → Sent → Type 0
@@ -273,7 +280,7 @@ pub data IsToldOfValue (format : Format) (d : Data) (first last : Sent) : Answer
 abbrev pub IsToldOf : Reading → List ℕ → Option Data → Sent → Sent → Answer → Type 0
 IsToldOf reading line (Some d) first last told = IsToldOfValue reading.format d first last told
 IsToldOf reading line None first last told =
-    IsToldOfHead reading.unit (if reads_text reading.format then head_of_line line else None) told
+    IsToldOfHead reading.counting (if reads_text reading.format then head_of_line line else None) told
     × (last ≡ first)
 
 -- of a line, where these messages were handed on before, and those after

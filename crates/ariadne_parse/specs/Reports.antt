@@ -11,7 +11,7 @@ use Rattle.ariadne_color.specs.declared.color.Color.TheVariants.{Fixed, Rgb}
 use Rattle.ariadne_color.specs.declared.color.Color.TheVariants.{Primary, Black, Red, Green, Yellow, Blue, Magenta, Cyan, White}
 use Rattle.ariadne_color.specs.declared.color.Color.TheVariants.{BrightBlack, BrightRed, BrightGreen, BrightYellow, BrightBlue, BrightMagenta, BrightCyan, BrightWhite}
 use Rattle.ariadne_parse.specs.declared.unit.Unit.{Unit}
-use Rattle.ariadne_parse.specs.declared.unit.Unit.TheVariants.{Byte, Char, Display}
+use Rattle.ariadne_parse.specs.declared.unit.Unit.TheVariants.{Byte, Char, Display, Utf16}
 use Rattle.ariadne_parse.specs.Members.{end_before, is_true_at, items_in, list_at, number_of, severity_at, text_at, words_at}
 use Rattle.ariadne_parse.specs.Places.{named, place_of, seen, Seen}
 use Rattle.ariadne_parse.specs.declared.diagnostic.Diagnostic.{Diagnostic}
@@ -80,7 +80,8 @@ report_kind d = option_map (λ name. (name, color_at (codes "name_color") d)) (t
 abbrev pub unit_named : Option (List ℕ) → Unit
 unit_named None = Char
 unit_named (Some name) =
-    if bytes_eq name (codes "bytes") then Byte else (if bytes_eq name (codes "display") then Display else Char)
+    if bytes_eq name (codes "bytes") then Byte
+    else (if bytes_eq name (codes "utf16") then Utf16 else (if bytes_eq name (codes "display") then Display else Char))
 
 abbrev pub report_unit : Data → Unit
 report_unit d = unit_named (text_at (codes "columns") d)

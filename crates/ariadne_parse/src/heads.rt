@@ -2,31 +2,32 @@
 
 ghost use Rattle.std.specs.Prelude.{◌≡◌, ◌++◌, map, option_map, string_bytes, IfOk, OnOk};
 ghost use Rattle.std.specs.Prelude.{None};
-ghost use Rattle.ariadne_parse.specs.Places.{is_same_spot as is_of_same_spot, named, place_of, seen};
+ghost use Rattle.ariadne_parse.specs.Places.{counted_place as place_counted, is_same_spot as is_of_same_spot, named, place_of, seen};
 ghost use Rattle.ariadne_parse.specs.ParsedLines.{is_own_range};
 ghost use Rattle.ariadne_parse.specs.ParsedLines.{other_places, own_place_of, own_range_of};
 ghost use Rattle.ariadne_parse.specs.ParsedLines.{IsOfHead};
 ghost use Rattle.ariadne_parse.specs.ToldLines.{head_told};
 
+use crate::counting::Counting;
 use crate::diagnostic::{Diagnostic, End, Look, OwnKind, Place, Spot};
 use crate::lines::ToldLine;
 use crate::spots::{RANGES, is_among, range};
 use crate::unit::Unit;
 use std::alloc::{AllocError, Global};
 
-/// The diagnostic of a line, whose columns count this.
+/// The diagnostic of a line whose columns count so.
 pub(crate) fn told_by_line(
     alloc: Global,
     it: &ToldLine<'_>,
-    unit: Unit,
+    counting: Counting,
 ) -> Result<Diagnostic, AllocError>
-    ensures { IfOk result (λ told. IsOfHead unit (head_told it.now) told) }
+    ensures { IfOk result (λ told. IsOfHead counting (head_told it.now) told) }
 {
     let mut told = Diagnostic::new(alloc, it.kind.severity, it.message)?;
     told.own_kind = own_kind(alloc, it.kind.name)?;
     told.code = copied(alloc, it.kind.code)?;
-    told.places.push(own_place(alloc, it, unit)?)?;
-    push_ranges(alloc, &mut told.places, it, unit)?;
+    told.places.push(own_place(alloc, it, counting)?)?;
+    push_ranges(alloc, &mut told.places, it, counting)?;
     Ok(told)
 }
 
@@ -53,18 +54,41 @@ pub(crate) fn copied(alloc: Global, text: Option<&str>) -> Result<Option<String>
 
 /// The place that a line points at: the range that has it, up to the end that the line names, or the
 /// word there.
-fn own_place(alloc: Global, it: &ToldLine<'_>, unit: Unit) -> Result<Place, AllocError>
-    ensures { IfOk result (λ place. seen place ≡ own_place_of (head_told it.now) unit) }
+fn own_place(
+    alloc: Global,
+    it: &ToldLine<'_>,
+    counting: Counting,
+) -> Result<Place, AllocError>
+    ensures { IfOk result (λ place. seen place ≡ own_place_of (head_told it.now) counting) }
 {
     let (start, end) = match (own_range(it), it.end) {
         (Some((start, end)), _) => (start, End::Before(end)),
         (None, Some(end)) => (it.start, End::Behind(end)),
         (None, None) => (it.start, End::OfWord),
     };
-    let mut place = place(alloc, it.file, start, end, unit)?;
-    place.caret = it.start;
+    let mut place = counted_place(alloc, it.file, start, end, counting)?;
+    place.caret = counting.spot(it.start);
     place.is_primary = true;
     Ok(place)
+}
+
+/// A place of a file, of which nothing is said, between spots whose columns count so.
+fn counted_place(
+    alloc: Global,
+    file: &str,
+    start: Spot,
+    end: End,
+    counting: Counting,
+) -> Result<Place, AllocError>
+    ensures { IfOk result (λ place. seen place ≡ place_counted file.now start end counting) }
+{
+    place(
+        alloc,
+        file,
+        counting.spot(start),
+        counting.end(end),
+        counting.unit,
+    )
 }
 
 /// Adds the ranges of a line that are not its own place.
@@ -72,10 +96,10 @@ fn push_ranges(
     alloc: Global,
     places: &mut Vec<Place>,
     it: &ToldLine<'_>,
-    unit: Unit,
+    counting: Counting,
 ) -> Result<(), AllocError>
     ensures { OnOk result (map seen places.new.items
-        ≡ map seen places.old.items ++ other_places (head_told it.now) unit) }
+        ≡ map seen places.old.items ++ other_places (head_told it.now) counting) }
 {
     let own = own_range(it);
     let mut rest = it.ranges;
@@ -84,7 +108,7 @@ fn push_ranges(
             break;
         };
         if !is_own(own, start, end) {
-            let place = place(alloc, it.file, start, End::Before(end), unit)?;
+            let place = counted_place(alloc, it.file, start, End::Before(end), counting)?;
             places.push(place)?;
         }
         rest = behind;

@@ -6,6 +6,7 @@ pub mod arrows;
 mod cargo;
 mod colors;
 pub mod columns;
+pub mod counting;
 pub mod diagnostic;
 pub mod fix_rows;
 mod fixes;
@@ -35,6 +36,7 @@ pub mod unit;
 
 pub use arrows::{Arrow, BareHead, arrow_of, bare_head_of};
 pub use columns::Columns;
+pub use counting::Counting;
 pub use diagnostic::{
     Change, Diagnostic, End, Look, OwnKind, Place, Proposal, QuotedLine, Severity, Spot,
 };

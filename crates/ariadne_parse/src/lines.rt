@@ -23,7 +23,7 @@ pub(crate) const COLONS: u8 = 8;
 pub(crate) struct ToldLine<'a> {
     /// The file.
     pub file: &'a str,
-    /// Where the line points. Its column counts from 1.
+    /// Where the line points. Its columns count as the tool's do.
     pub start: Spot,
     /// Where the last character stands that it is about, if it says so.
     pub end: Option<Spot>,
@@ -149,7 +149,7 @@ fn told_said<'a>(
     }
     Some(ToldLine {
         file,
-        start: start_by(&kind, start),
+        start,
         end,
         ranges,
         kind: coded,
@@ -318,28 +318,4 @@ pub fn code_in(words: &str) -> Option<(&str, &str)>
         return None;
     }
     Some((message.trim_end(), code))
-}
-
-/// Where what is said begins. Columns count from 1, also where the tool's count from 0.
-fn start_by(kind: &ToldKind<'_>, start: Spot) -> Spot
-    ensures { result ≡ heads.start_by (kind_told kind.now) start }
-{
-    if kind.is_from_zero {
-        from_one(start)
-    } else {
-        start
-    }
-}
-
-/// A spot whose column counts from 1, of one whose column counts from 0.
-fn from_one(spot: Spot) -> Spot
-    ensures { result ≡ heads.from_one spot }
-{
-    match spot.column {
-        Some(column) => Spot {
-            line: spot.line,
-            column: Some(column.saturating_add(1)),
-        },
-        None => spot,
-    }
 }

@@ -68,6 +68,7 @@ fn unit_of(value: &Value) -> Unit
 {
     match text(value, "columns") {
         Some("bytes") => Unit::Byte,
+        Some("utf16") => Unit::Utf16,
         Some("display") => Unit::Display,
         _ => Unit::Char,
     }

@@ -7,7 +7,7 @@ ghost use Rattle.serde_json.specs.Read.{max_depth};
 ghost use Rattle.serde_json.specs.View.{view};
 ghost use Rattle.ariadne_parse.specs.ParsedLines.{begins_as_json as is_begun_as_json, tells_value};
 ghost use Rattle.ariadne_parse.specs.ParsedLines.{handed_in, reads_rustc as is_rustc_read, reads_text};
-ghost use Rattle.ariadne_parse.specs.ParsedLines.{is_of_rust as is_rust_file, unit_in as unit_of_head, value_in};
+ghost use Rattle.ariadne_parse.specs.ParsedLines.{is_of_rust as is_rust_file, counting_in as counting_of_head, value_in};
 ghost use Rattle.ariadne_parse.specs.ParsedLines.{AreTold, IsHeldIfAny, IsTold, IsToldOfHead, IsToldOfValue};
 ghost use Rattle.ariadne_parse.specs.Sent.{WasSent};
 ghost use Rattle.ariadne_parse.specs.Heads.{head_of_line};
@@ -15,6 +15,7 @@ ghost use Rattle.ariadne_parse.specs.ToldLines.{head_told};
 ghost use Rattle.ariadne_parse.specs.declared.telling.Format.TheVariants.{Auto, Rustc, Gcc, Report};
 
 use crate::cargo::{handed_on, is_of_cargo};
+use crate::counting::Counting;
 use crate::diagnostic::Diagnostic;
 use crate::gcc::{gcc_messages, told_by_gcc};
 use crate::heads::told_by_line;
@@ -48,8 +49,8 @@ pub enum Format {
 pub struct Reading {
     /// Their form.
     pub format: Format,
-    /// What the columns of lines of text count.
-    pub unit: Unit,
+    /// How the columns of lines of text count.
+    pub counting: Counting,
 }
 
 impl Reading {
@@ -116,24 +117,24 @@ fn value_of(alloc: Global, line: &str) -> Result<Option<Value>, AllocError>
 
 /// What a line of text tells.
 fn told_by_text(alloc: Global, reading: Reading, line: &str) -> Result<Answer, AllocError>
-    ensures { IfOk result (λ told. IsToldOfHead reading.unit
+    ensures { IfOk result (λ told. IsToldOfHead reading.counting
         (if reads_text reading.format then head_of_line line.now else None) told) }
 {
     if reading.reads_text() {
-        line_in(alloc, reading.unit, line)
+        line_in(alloc, reading.counting, line)
     } else {
         Ok(Answer::Nothing)
     }
 }
 
 /// What a line of text tells that is read.
-fn line_in(alloc: Global, unit: Unit, line: &str) -> Result<Answer, AllocError>
-    ensures { IfOk result (λ told. IsToldOfHead unit (head_of_line line.now) told) }
+fn line_in(alloc: Global, counting: Counting, line: &str) -> Result<Answer, AllocError>
+    ensures { IfOk result (λ told. IsToldOfHead counting (head_of_line line.now) told) }
 {
     let Some(it) = line_told(line) else {
         return Ok(Answer::Nothing);
     };
-    let told = told_by_line(alloc, &it, unit_in(&it, unit))?;
+    let told = told_by_line(alloc, &it, counting_in(&it, counting))?;
     Ok(if it.is_note() {
         Answer::Note(told)
     } else {
@@ -141,15 +142,22 @@ fn line_in(alloc: Global, unit: Unit, line: &str) -> Result<Answer, AllocError>
     })
 }
 
-/// What the columns of a line count, where those of others count this: those of rustc, which alone reads Rust,
-/// count characters, and so do those of some codes.
-fn unit_in(it: &ToldLine<'_>, unit: Unit) -> Unit
-    ensures { result ≡ unit_of_head (head_told it.now) unit }
+/// How the columns of a line count, where those of others count so: those of rustc, which alone reads Rust, count
+/// characters, and so do those of some codes; others count from 0.
+fn counting_in(it: &ToldLine<'_>, counting: Counting) -> Counting
+    ensures { result ≡ counting_of_head (head_told it.now) counting }
 {
+    let is_from_zero = it.kind.is_from_zero;
     if is_of_rust(it.file) || it.kind.has_characters {
-        Unit::Char
+        Counting {
+            unit: Unit::Char,
+            is_from_zero,
+        }
     } else {
-        unit
+        Counting {
+            unit: counting.unit,
+            is_from_zero: is_from_zero || counting.is_from_zero,
+        }
     }
 }
 

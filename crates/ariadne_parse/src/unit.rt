@@ -8,6 +8,9 @@ use unicode_width::UnicodeWidthChar;
 /// How far tabs of a terminal stand from each other.
 const TAB_STOP: usize = 8;
 
+/// The last character that takes one unit of UTF-16.
+const LAST_OF_ONE: char = '\u{ffff}';
+
 /// What a column counts.
 #[derive(Clone, Copy, Debug, PartialEq, Eq)]
 pub enum Unit {
@@ -15,6 +18,9 @@ pub enum Unit {
     Byte,
     /// The characters in front of it. So rustc counts, and shellcheck.
     Char,
+    /// The units of UTF-16 in front of it: two for a character that lies past U+FFFF, and one for each other.
+    /// So editors count by LSP, and JavaScript.
+    Utf16,
     /// The columns of a terminal in front of it: wide characters have two, marks over others have
     /// none, and a tab reaches to the next multiple of eight. So gcc counts in its text.
     Display,
@@ -28,6 +34,8 @@ pub fn columns_of(unit: Unit, at: usize, c: char) -> usize
     match unit {
         Unit::Byte => c.len_utf8(),
         Unit::Char => 1,
+        Unit::Utf16 if c > LAST_OF_ONE => 2,
+        Unit::Utf16 => 1,
         Unit::Display if c == '\t' => TAB_STOP - at % TAB_STOP,
         Unit::Display => c.width().unwrap_or(1),
     }

@@ -3,14 +3,17 @@
 use crate::comparing::assert_text_of;
 use crate::told_proposals::proposals_text;
 use ariadne_blocks::{Block, Line, QuotedFile};
-use ariadne_parse::{Answer, Columns, Diagnostic, Format, Reading, Sent, Unit, told};
+use ariadne_parse::{Answer, Columns, Counting, Diagnostic, Format, Reading, Sent, Unit, told};
 use std::alloc::{AllocError, Global};
 use std::slice;
 
 /// How the lines are read.
 const READING: Reading = Reading {
     format: Format::Lines,
-    unit: Unit::Byte,
+    counting: Counting {
+        unit: Unit::Byte,
+        is_from_zero: false,
+    },
 };
 
 /// Lines of one diagnostic, and what they propose.

@@ -1,7 +1,9 @@
 //! Lines that tell a diagnostic, as the pages of their tools show them, and what is told of each.
 
 use crate::comparing::assert_text_of;
-use ariadne_parse::{Answer, Diagnostic, End, Format, Place, Reading, Sent, Spot, Unit, told};
+use ariadne_parse::{
+    Answer, Counting, Diagnostic, End, Format, Place, Reading, Sent, Spot, Unit, told,
+};
 use std::alloc::{AllocError, Global};
 
 /// Lines, and what each tells: its file, where it points and up to where it goes, its severity and
@@ -222,7 +224,10 @@ fn told_text(alloc: Global, it: &Diagnostic) -> Result<String, AllocError> {
 fn line_text(alloc: Global, line: &str) -> Result<String, AllocError> {
     let reading = Reading {
         format: Format::Lines,
-        unit: Unit::Byte,
+        counting: Counting {
+            unit: Unit::Byte,
+            is_from_zero: false,
+        },
     };
     let mut sent = Sent::new(alloc);
     match told(alloc, reading, &mut sent, line)? {

@@ -2,7 +2,7 @@
 
 use crate::comparing::assert_text_of;
 use ariadne_parse::{
-    Answer, Change, Diagnostic, Format, Proposal, Reading, Sent, Spot, Unit, told,
+    Answer, Change, Counting, Diagnostic, Format, Proposal, Reading, Sent, Spot, Unit, told,
 };
 use std::alloc::{AllocError, Global};
 
@@ -96,7 +96,10 @@ pub fn proposals_text(alloc: Global, all: &[Diagnostic]) -> Result<String, Alloc
 fn line_text(alloc: Global, line: &str) -> Result<String, AllocError> {
     let reading = Reading {
         format: Format::Auto,
-        unit: Unit::Byte,
+        counting: Counting {
+            unit: Unit::Byte,
+            is_from_zero: false,
+        },
     };
     let mut sent = Sent::new(alloc);
     match told(alloc, reading, &mut sent, line)? {

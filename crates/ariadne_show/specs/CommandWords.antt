@@ -22,6 +22,7 @@ use Rattle.clap.specs.declared.parser.matches.ArgMatches.{ArgMatches}
 pub record Names : Type 0 where
   pub formats : Bor (List (Bor (List ℕ)))
   pub units : Bor (List (Bor (List ℕ)))
+  pub first_columns : Bor (List (Bor (List ℕ)))
   pub colors : Bor (List (Bor (List ℕ)))
   pub outputs : Bor (List (Bor (List ℕ)))
   pub severities : Bor (List (Bor (List ℕ)))
@@ -38,7 +39,8 @@ ForList texts holds = (list : Bor (List (Bor (List ℕ)))) × (texts_in list ≡
 pub record AreNames (names : Names) : Type 0 where
   pub formats : texts_in names.formats
       ≡ codes "auto" ∷ codes "rustc" ∷ codes "gcc" ∷ codes "lines" ∷ codes "report" ∷ []
-  pub units : texts_in names.units ≡ codes "bytes" ∷ codes "chars" ∷ codes "display" ∷ []
+  pub units : texts_in names.units ≡ codes "bytes" ∷ codes "chars" ∷ codes "utf16" ∷ codes "display" ∷ []
+  pub first_columns : texts_in names.first_columns ≡ codes "0" ∷ codes "1" ∷ []
   pub colors : texts_in names.colors ≡ codes "auto" ∷ codes "always" ∷ codes "never" ∷ []
   pub outputs : texts_in names.outputs
       ≡ codes "picture" ∷ codes "short" ∷ codes "github" ∷ codes "sarif" ∷ []
@@ -84,6 +86,7 @@ abbrev pub choices : Names → List Rule
 choices names =
     choice_rule (codes "format") names.formats
     ∷ choice_rule (codes "columns") names.units
+    ∷ choice_rule (codes "first-column") names.first_columns
     ∷ choice_rule (codes "color") names.colors
     ∷ choice_rule (codes "output") names.outputs
     ∷ choice_rule (codes "severity") names.severities

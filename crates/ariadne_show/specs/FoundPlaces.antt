@@ -8,7 +8,7 @@ use Rattle.std.specs.Prelude.{string_bytes}
 use Rattle.std.specs.declared.ops.Range.{Range}
 use Rattle.ariadne_parse.specs.Columns.{offset_of, word_end}
 use Rattle.ariadne_parse.specs.declared.unit.Unit.{Unit}
-use Rattle.ariadne_parse.specs.declared.unit.Unit.TheVariants.{Byte, Char, Display}
+use Rattle.ariadne_parse.specs.declared.unit.Unit.TheVariants.{Byte, Char, Display, Utf16}
 use Rattle.ariadne_parse.specs.declared.diagnostic.End.{End}
 use Rattle.ariadne_parse.specs.declared.diagnostic.End.TheVariants.{Before, Behind, OfWord}
 use Rattle.ariadne_parse.specs.declared.diagnostic.Place.{Place}
@@ -50,6 +50,7 @@ held_at files path = option_and_then (λ held. held) (files path)
 abbrev pub unit_in : Held → Unit → Unit
 unit_in held Byte = if held.is_utf8 then Byte else Char
 unit_in held Char = Char
+unit_in held Utf16 = Utf16
 unit_in held Display = Display
 
 -- how many bytes of a byte order mark the columns of a line leave out
@@ -111,6 +112,7 @@ span_in held place = span_by held place place.marks
 abbrev pub is_char : Unit → Bool
 is_char Char = true
 is_char Byte = false
+is_char Utf16 = false
 is_char Display = false
 
 abbrev pub is_sure : Place → Bool

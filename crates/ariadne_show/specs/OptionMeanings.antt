@@ -55,7 +55,11 @@ format_of name =
 abbrev pub unit_of : Option (List ℕ) → Unit
 unit_of name =
     if is name (codes "chars") then unit.Char else
-    (if is name (codes "display") then unit.Display else unit.Byte)
+    (if is name (codes "utf16") then unit.Utf16 else
+    (if is name (codes "display") then unit.Display else unit.Byte))
+
+abbrev pub is_zero : Option (List ℕ) → Bool
+is_zero name = is name (codes "0")
 
 abbrev pub colors_of : Option (List ℕ) → Colors
 colors_of name =
@@ -125,7 +129,8 @@ style_of rows context_lines = record {
 
 pub record AreOptionsOf (rows : List Row) (options : Options) : Type 0 where
   pub format : options.reading.format ≡ format_of (value rows (codes "format"))
-  pub unit : options.reading.unit ≡ unit_of (value rows (codes "columns"))
+  pub unit : options.reading.counting.unit ≡ unit_of (value rows (codes "columns"))
+  pub from_zero : options.reading.counting.is_from_zero ≡ is_zero (value rows (codes "first-column"))
   pub style : options.style ≡ style_of rows options.style.context_lines
   pub context : IsCountIn (one_of (codes "context") rows) options.style.context_lines
   pub colors : options.colors ≡ colors_of (value rows (codes "color"))

@@ -4,12 +4,12 @@ ghost use Rattle.std.specs.Prelude.{◌≡◌, IfOk, codes, map, option_map};
 ghost use Rattle.clap.specs.Words.{found_of, one_of, rows_of};
 ghost use Rattle.ariadne_show.specs.OptionMeanings.{colors_of as colors_named, fail_on_of as fail_on_named};
 ghost use Rattle.ariadne_show.specs.OptionMeanings.{floor_of as floor_named, format_of as format_named};
-ghost use Rattle.ariadne_show.specs.OptionMeanings.{input_path, is_on as is_given, path_named, value};
+ghost use Rattle.ariadne_show.specs.OptionMeanings.{input_path, is_on as is_given, is_zero as is_zero_named, path_named, value};
 ghost use Rattle.ariadne_show.specs.OptionMeanings.{output_of as output_named, unit_of as unit_named};
 ghost use Rattle.ariadne_show.specs.OptionMeanings.{AreInputsOf, AreOptionsOf, IsCountIn, IsNumberIn, IsWidthIn};
 
 use crate::options::{Colors, FailOn, Input, Options, Output, Style, Width};
-use ariadne_parse::{Format, Reading, Severity, Unit};
+use ariadne_parse::{Counting, Format, Reading, Severity, Unit};
 use clap::ArgMatches;
 use std::alloc::{AllocError, Global};
 
@@ -21,7 +21,10 @@ pub fn options_of<'a>(matches: &ArgMatches<'a>, width: Width) -> Options<'a>
     Options {
         reading: Reading {
             format: format_of(value_of(matches, "format")),
-            unit: unit_of(value_of(matches, "columns")),
+            counting: Counting {
+                unit: unit_of(value_of(matches, "columns")),
+                is_from_zero: is_zero(value_of(matches, "first-column")),
+            },
         },
         style: Style {
             is_colored: false,
@@ -109,9 +112,17 @@ fn unit_of(name: Option<&str>) -> Unit
 {
     match name {
         Some("chars") => Unit::Char,
+        Some("utf16") => Unit::Utf16,
         Some("display") => Unit::Display,
         _ => Unit::Byte,
     }
+}
+
+/// Whether the number of the first column is 0. It is 1 where it isn't given.
+fn is_zero(name: Option<&str>) -> bool
+    ensures { result ≡ is_zero_named (option_map (λ text. text.now) name.entry) }
+{
+    name == Some("0")
 }
 
 /// When there are colours.

@@ -20,39 +20,41 @@ if there is no FILE.
 
 Input:
 
-  --format FORMAT  reads only one form; all other lines pass through
+  --format FORMAT   reads only one form; all other lines pass through
       auto     each line by its own form: the default
       rustc    lines of rustc --error-format=json and cargo --message-format=json
       gcc      lines of gcc -fdiagnostics-format=json
       lines    FILE:LINE:COLUMN: KIND: MESSAGE
       report   the program's own form: docs/SHOW.md describes it
-  --columns UNIT   the unit of columns in FILE:LINE:COLUMN
+  --columns UNIT    the unit of columns in FILE:LINE:COLUMN
       bytes    bytes, as in clang: the default
       chars    characters, as in shellcheck
+      utf16    units of UTF-16, as in JavaScript and in editors
       display  columns of a terminal, with tabs of 8, as in gcc
-  --base DIR       looks for files in DIR, and reads no file outside of DIR
+  --first-column N  the number of the first column of a line there: 1, the default, or 0
+  --base DIR        looks for files in DIR, and reads no file outside of DIR
 
 Output:
 
-  --output FORM    how each diagnostic is printed
+  --output FORM     how each diagnostic is printed
       picture  as a picture over its files: the default
       short    as FILE:LINE:COLUMN: kind: message [code], in one line
       github   as a command of a GitHub workflow, for a message beside the line
       sarif    as a result in a SARIF log
-  --short          the same as --output short, if there is no --output
-  --severity KIND  error, warning or note: less severe diagnostics are counted, and not printed
-  --max N          prints at most N diagnostics, and how many more there are
-  --context N      shows N lines above and below each labelled line of a picture: 0 by default
-  --width N        cuts long lines, so that a row has at most N columns; or auto, or full. auto is
-                   the number in COLUMNS at a terminal, and full shows lines whole
-  --raw            passes lines through unchanged, including control characters
-  --color WHEN     auto, always or never. auto asks the environment, and then for a terminal
-  --ascii          draws in ASCII, and not with box drawing characters
-  --compact        uses fewer rows and columns
-  --fail-on KIND   error, warning or never: the least severity for status 1, error by default
+  --short           the same as --output short, if there is no --output
+  --severity KIND   error, warning or note: less severe diagnostics are counted, and not printed
+  --max N           prints at most N diagnostics, and how many more there are
+  --context N       shows N lines above and below each labelled line of a picture: 0 by default
+  --width N         cuts long lines, so that a row has at most N columns; or auto, or full. auto is
+                    the number in COLUMNS at a terminal, and full shows lines whole
+  --raw             passes lines through unchanged, including control characters
+  --color WHEN      auto, always or never. auto asks the environment, and then for a terminal
+  --ascii           draws in ASCII, and not with box drawing characters
+  --compact         uses fewer rows and columns
+  --fail-on KIND    error, warning or never: the least severity for status 1, error by default
 
-  -h, --help       prints this text
-  -V, --version    prints the program's version
+  -h, --help        prints this text
+  -V, --version     prints the program's version
 
 The value of an option is the next argument, or follows a =. If an option is given twice, the last
 one counts. After -- all arguments are files. A picture has a symbol for each control character, and

@@ -24,7 +24,10 @@ use std::alloc::{AllocError, Global};
 pub const FORMATS: &[&str] = &["auto", "rustc", "gcc", "lines", "report"];
 
 /// What `--columns` may be.
-pub const UNITS: &[&str] = &["bytes", "chars", "display"];
+pub const UNITS: &[&str] = &["bytes", "chars", "utf16", "display"];
+
+/// What `--first-column` may be.
+pub const FIRST_COLUMNS: &[&str] = &["0", "1"];
 
 /// What `--color` may be.
 pub const COLORS: &[&str] = &["auto", "always", "never"];
@@ -109,6 +112,7 @@ fn with_choices<'a>(alloc: Global, command: Command<'a>) -> Result<Command<'a>, 
     command
         .arg(choice(alloc, "format", "FORMAT", FORMATS))?
         .arg(choice(alloc, "columns", "UNIT", UNITS))?
+        .arg(choice(alloc, "first-column", "N", FIRST_COLUMNS))?
         .arg(choice(alloc, "color", "WHEN", COLORS))?
         .arg(choice(alloc, "output", "FORM", OUTPUTS))?
         .arg(choice(alloc, "severity", "KIND", SEVERITIES))?

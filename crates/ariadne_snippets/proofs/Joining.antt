@@ -8,7 +8,7 @@ use Rattle.std.proofs.lemmas.Bool.{and_parts}
 use Rattle.std.proofs.lemmas.List.{at_drop_more, at_drop_all}
 use Rattle.std.proofs.lemmas.List.Elements.{All-cons, All-nil}
 use Rattle.ariadne_parse.specs.declared.unit.Unit.{Unit}
-use Rattle.ariadne_parse.specs.declared.unit.Unit.TheVariants.{Byte, Char, Display}
+use Rattle.ariadne_parse.specs.declared.unit.Unit.TheVariants.{Byte, Char, Display, Utf16}
 use Rattle.ariadne_snippets.specs.Marks.{goes_on, in_front, is_mark, joined, run_of, runs_from, width_of, with_last, IsNear}
 use Rattle.ariadne_snippets.specs.declared.run.Run.{Run}
 
@@ -175,6 +175,7 @@ width_bound : (unit : Unit) (at c : ℕ) → width_of unit at c ≤ 8
 unfolding width_of
 width_bound Byte at c = omega arith
 width_bound Char at c = omega arith
+width_bound Utf16 at c = omega arith
 width_bound Display at c = tab_bound (eqb c 9) at
 
 -- a column of a run, or one of the run behind it, is one of both

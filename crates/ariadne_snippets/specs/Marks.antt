@@ -7,7 +7,7 @@ use Rattle.std.specs.List.{prefix_len}
 use Rattle.std.specs.Option.{option_or}
 use Rattle.ariadne_parse.specs.Columns.{columns_of}
 use Rattle.ariadne_parse.specs.declared.unit.Unit.{Unit}
-use Rattle.ariadne_parse.specs.declared.unit.Unit.TheVariants.{Byte, Char, Display}
+use Rattle.ariadne_parse.specs.declared.unit.Unit.TheVariants.{Byte, Char, Display, Utf16}
 use Rattle.ariadne_snippets.specs.declared.run.Run.{Run}
 
 -- ---- runs
@@ -60,6 +60,7 @@ with_last (run ∷ next ∷ runs) last = run ∷ with_last (next ∷ runs) last
 unfoldable pub width_of : Unit → ℕ → ℕ → ℕ
 width_of Byte at c = 1
 width_of Char at c = 1
+width_of Utf16 at c = 1
 width_of Display at c = if c == 9 then 8 - at % 8 else 1
 
 -- the runs of a row that goes on in a column

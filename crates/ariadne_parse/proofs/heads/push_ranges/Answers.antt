@@ -13,18 +13,18 @@ pub loop-turn-preserved : goal.loop-turn-preserved
 loop-turn-preserved c =
     let text : IsUtf8 c.in-Some.behind.now = search rules in
     let head = head_told c.args.it.now in
-    let whole = map seen c.args.places.now.items ++ other_places head c.args.unit in
+    let whole = map seen c.args.places.now.items ++ other_places head c.args.counting in
     let same : map seen c.if-not-is_own.places.items
-    ++ others_among head c.args.unit (ranges_in (16 - (c.loop-turn.turn + 1)) c.in-Some.behind.now) ≡ whole =
+    ++ others_among head c.args.counting (ranges_in (16 - (c.loop-turn.turn + 1)) c.in-Some.behind.now) ≡ whole =
     elim c.if-not-is_own.branch [
       | then-not-is_own+in_ok-place+in_ok-push w ↦
-          others_on head c.args.unit c.loop-turn.turn c.loop-turn.rest.now c.in-Some.behind.now c.in-Some.start c.in-Some.end
+          others_on head c.args.counting c.loop-turn.turn c.loop-turn.rest.now c.in-Some.behind.now c.in-Some.start c.in-Some.end
           c.loop-turn.places.items c.if-not-is_own.places.items w.in_ok-place.place whole c.own_range-own.result (omega arith)
           c.in-Some.ensures c.own_range-own.ensures (sym w.if-not-is_own.ensures)
           (ap (λ v. v.items) w.places-is ∙ w.in_ok-push.ensures.items) w.in_ok-place.ensures c.loop-turn.invariant.same
       | else-not-is_own w ↦
-          ap (λ v. map seen v.items ++ others_among head c.args.unit (ranges_in (16 - (c.loop-turn.turn + 1)) c.in-Some.behind.now)) w.places-is
-          ∙ others_past head c.args.unit c.loop-turn.turn c.loop-turn.rest.now c.in-Some.behind.now c.in-Some.start c.in-Some.end
+          ap (λ v. map seen v.items ++ others_among head c.args.counting (ranges_in (16 - (c.loop-turn.turn + 1)) c.in-Some.behind.now)) w.places-is
+          ∙ others_past head c.args.counting c.loop-turn.turn c.loop-turn.rest.now c.in-Some.behind.now c.in-Some.start c.in-Some.end
           c.loop-turn.places.items whole c.own_range-own.result (omega arith) c.in-Some.ensures c.own_range-own.ensures
           (sym w.if-not-is_own.ensures) c.loop-turn.invariant.same
     ] in
@@ -33,11 +33,11 @@ loop-turn-preserved c =
 -- 16 were read
 pub returns-after-loop-turn : goal.returns-after-loop-turn
 returns-after-loop-turn c =
-    others_done (head_told c.args.it.now) c.args.unit (ranges_in (16 - c.loop-turn.turn) c.loop-turn.rest.now) c.loop-turn.places.items _
+    others_done (head_told c.args.it.now) c.args.counting (ranges_in (16 - c.loop-turn.turn) c.loop-turn.rest.now) c.loop-turn.places.items _
     (ranges_past c.loop-turn.turn c.loop-turn.rest.now (omega arith)) c.loop-turn.invariant.same
 
 -- no other stands there
 pub returns-in_default : goal.returns-in_default
 returns-in_default c =
-    others_done (head_told c.args.it.now) c.args.unit (ranges_in (16 - c.loop-turn.turn) c.loop-turn.rest.now) c.loop-turn.places.items _
+    others_done (head_told c.args.it.now) c.args.counting (ranges_in (16 - c.loop-turn.turn) c.loop-turn.rest.now) c.loop-turn.places.items _
     (ranges_end c.loop-turn.turn c.loop-turn.rest.now c.in_default.ensures) c.loop-turn.invariant.same

@@ -10,6 +10,6 @@ use Rattle.ariadne_parse.proofs.heads.push_ranges.Given as goal
 abbrev pub invariant-loop-turn : goal.invariant-loop-turn
 invariant-loop-turn l = record {
   is_text : IsUtf8 l.rest;
-  same : map seen l.places.items ++ others_among (head_told l.it) l.unit (ranges_in (16 - l.turn) l.rest)
-      ≡ map seen l.fn.places.items ++ other_places (head_told l.it) l.unit;
+  same : map seen l.places.items ++ others_among (head_told l.it) l.counting (ranges_in (16 - l.turn) l.rest)
+      ≡ map seen l.fn.places.items ++ other_places (head_told l.it) l.counting;
 }

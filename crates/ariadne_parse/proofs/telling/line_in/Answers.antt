@@ -1,7 +1,7 @@
 use Rattle.std.proofs.Common.{◌≡◌, ◌∙◌, if◌then◌else◌, Option, ap, subst}
 use Rattle.std.specs.Prelude.{Bool}
 use Rattle.ariadne_parse.specs.Heads.{Head}
-use Rattle.ariadne_parse.specs.declared.unit.Unit.{Unit}
+use Rattle.ariadne_parse.specs.declared.counting.Counting.{Counting}
 use Rattle.ariadne_parse.specs.ParsedLines.{is_note, IsOfHead, IsToldOfHead}
 use Rattle.ariadne_parse.specs.ToldLines.{head_told}
 use Rattle.ariadne_parse.specs.declared.telling.Answer.{Answer}
@@ -20,5 +20,5 @@ returns c =
       | then-is_note w ↦ w.result-is ∙ ap answer w.if-is_note.ensures
       | else-is_note w ↦ w.result-is ∙ ap answer w.if-is_note.ensures
     ] in
-    subst (λ (h : Option Head). IsToldOfHead c.args.unit h c.if-is_note.result) c.in-Some.ensures
-    (one, same, subst (λ (u : Unit). IsOfHead u head one) c.unit_in.ensures c.in_ok-told.ensures)
+    subst (λ (h : Option Head). IsToldOfHead c.args.counting h c.if-is_note.result) c.in-Some.ensures
+    (one, same, subst (λ (n : Counting). IsOfHead n head one) c.counting_in.ensures c.in_ok-told.ensures)
