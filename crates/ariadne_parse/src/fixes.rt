@@ -9,7 +9,7 @@ use std::alloc::{AllocError, Global};
 
 /// What stands at a place of a file before it is changed.
 #[derive(Clone, Copy)]
-pub(crate) enum Covered<'a> {
+pub enum Covered<'a> {
     /// Nothing, or what the tool doesn't name.
     Unnamed,
     /// This, in one line.
@@ -20,7 +20,7 @@ pub(crate) enum Covered<'a> {
 
 /// What a help says that puts a text in at a place, for what stands there; where the text is empty, that is
 /// removed.
-pub(crate) fn change_text(
+pub fn change_text(
     alloc: Global,
     at: Spot,
     covered: &Covered<'_>,
@@ -94,7 +94,7 @@ fn place_text(alloc: Global, at: Spot) -> Result<String, AllocError>
 
 /// Adds what is to be changed to helps: one that says why, and what in a row each; where it doesn't say why, each
 /// change is a help.
-pub(crate) fn push_reasoned(
+pub fn push_reasoned(
     alloc: Global,
     helps: &mut Vec<String>,
     why: &str,

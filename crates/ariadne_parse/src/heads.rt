@@ -134,7 +134,7 @@ pub(crate) fn is_same(a: Spot, b: Spot) -> bool
 }
 
 /// A place of a file, of which nothing is said.
-pub(crate) fn place(
+pub fn place(
     alloc: Global,
     file: &str,
     start: Spot,

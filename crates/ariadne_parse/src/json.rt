@@ -10,21 +10,21 @@ use serde_json::Value;
 use std::alloc::{AllocError, Global};
 
 /// A member that is a text.
-pub(crate) fn text<'v>(value: &'v Value, name: &str) -> Option<&'v str>
+pub fn text<'v>(value: &'v Value, name: &str) -> Option<&'v str>
     ensures { option_map (λ t. t.now) result ≡ text_at name.now (view value.now) }
 {
     value.get(name)?.as_str()
 }
 
 /// A member that is a text; an empty one where it is none.
-pub(crate) fn words<'v>(value: &'v Value, name: &str) -> &'v str
+pub fn words<'v>(value: &'v Value, name: &str) -> &'v str
     ensures { result.now ≡ words_at name.now (view value.now) }
 {
     text(value, name).unwrap_or("")
 }
 
 /// Whether a member is this text.
-pub(crate) fn has_words(value: &Value, name: &str, words: &str) -> bool
+pub fn has_words(value: &Value, name: &str, words: &str) -> bool
     ensures { result ≡ has_words_at name.now words.now (view value.now) }
 {
     match text(value, name) {
@@ -34,7 +34,7 @@ pub(crate) fn has_words(value: &Value, name: &str, words: &str) -> bool
 }
 
 /// The severity that a member names; that of errors where it names none.
-pub(crate) fn severity(value: &Value, name: &str) -> Severity
+pub fn severity(value: &Value, name: &str) -> Severity
     ensures { result ≡ severity_at name.now (view value.now) }
 {
     text(value, name)
@@ -43,11 +43,7 @@ pub(crate) fn severity(value: &Value, name: &str) -> Severity
 }
 
 /// A copy of a member that is a text, if it is one.
-pub(crate) fn copied_text(
-    alloc: Global,
-    value: &Value,
-    name: &str,
-) -> Result<Option<String>, AllocError>
+pub fn copied_text(alloc: Global, value: &Value, name: &str) -> Result<Option<String>, AllocError>
     ensures { IfOk result (λ copy. option_map string_bytes copy ≡ text_at name.now (view value.now)) }
 {
     match text(value, name) {
@@ -57,14 +53,14 @@ pub(crate) fn copied_text(
 }
 
 /// A member that is a number of this machine.
-pub(crate) fn number(value: &Value, name: &str) -> Option<usize>
+pub fn number(value: &Value, name: &str) -> Option<usize>
     ensures { result ≡ number_at name.now (view value.now) }
 {
     usize_of(value.get(name)?)
 }
 
 /// Whether a member is this number.
-pub(crate) fn has_number(value: &Value, name: &str, wanted: usize) -> bool
+pub fn has_number(value: &Value, name: &str, wanted: usize) -> bool
     ensures { result ≡ has_number_at name.now wanted (view value.now) }
 {
     match number(value, name) {
@@ -74,14 +70,14 @@ pub(crate) fn has_number(value: &Value, name: &str, wanted: usize) -> bool
 }
 
 /// A number of this machine.
-pub(crate) fn usize_of(value: &Value) -> Option<usize>
+pub fn usize_of(value: &Value) -> Option<usize>
     ensures { result ≡ number_of (view value.now) }
 {
     usize::try_from(value.as_u64()?).ok()
 }
 
 /// Whether a member is `true`.
-pub(crate) fn is_true(value: &Value, name: &str) -> bool
+pub fn is_true(value: &Value, name: &str) -> bool
     ensures { result ≡ is_true_at name.now (view value.now) }
 {
     match value.get(name) {
@@ -91,7 +87,7 @@ pub(crate) fn is_true(value: &Value, name: &str) -> bool
 }
 
 /// Whether a member is a list.
-pub(crate) fn has_list(value: &Value, name: &str) -> bool
+pub fn has_list(value: &Value, name: &str) -> bool
     ensures { result ≡ is_some (list_at name.now (view value.now)) }
 {
     match value.get(name) {
@@ -101,7 +97,7 @@ pub(crate) fn has_list(value: &Value, name: &str) -> bool
 }
 
 /// The items of a member that is a list; none where it is no list.
-pub(crate) fn items<'v>(value: &'v Value, name: &str) -> &'v [Value]
+pub fn items<'v>(value: &'v Value, name: &str) -> &'v [Value]
     ensures { items_view result.now ≡ items_in (list_at name.now (view value.now)) }
 {
     match value.get(name) {
@@ -115,7 +111,7 @@ pub(crate) fn items<'v>(value: &'v Value, name: &str) -> &'v [Value]
 
 /// Whether a list of values is empty.
 #[tactic(auto, using(crate::proofs::Values::none_view))]
-pub(crate) fn has_no_items(values: &[Value]) -> bool
+pub fn has_no_items(values: &[Value]) -> bool
     ensures { result ≡ has_none (items_view values.now) }
 {
     values.is_empty()

@@ -22,28 +22,28 @@ pub(crate) fn in_front_of(text: &str, mark: char) -> Option<&str>
 }
 
 /// Whether a text begins with these words.
-pub(crate) fn begins_with(text: &str, words: &str) -> bool
+pub fn begins_with(text: &str, words: &str) -> bool
     ensures { result ≡ pieces.begins_with words.now text.now }
 {
     text.starts_with(words)
 }
 
 /// Whether a text ends with these words.
-pub(crate) fn closes_with(text: &str, words: &str) -> bool
+pub fn closes_with(text: &str, words: &str) -> bool
     ensures { result ≡ pieces.closes_with words.now text.now }
 {
     text.ends_with(words)
 }
 
 /// Whether these words stand in a text.
-pub(crate) fn contains(text: &str, words: &str) -> bool
+pub fn contains(text: &str, words: &str) -> bool
     ensures { result ≡ pieces.contains words.now text.now }
 {
     text.contains(words)
 }
 
 /// What stands behind these words, if a text begins with them.
-pub(crate) fn behind_text<'t>(text: &'t str, words: &str) -> Option<&'t str>
+pub fn behind_text<'t>(text: &'t str, words: &str) -> Option<&'t str>
     ensures { option_map (λ rest. rest.now) result ≡ pieces.behind_text words.now text.now }
 {
     text.strip_prefix(words)
@@ -57,7 +57,7 @@ pub(crate) fn in_front_of_text<'t>(text: &'t str, words: &str) -> Option<&'t str
 }
 
 /// What stands in front of the first such character of ASCII, and behind it.
-pub(crate) fn split_once(text: &str, mark: char) -> Option<(&str, &str)>
+pub fn split_once(text: &str, mark: char) -> Option<(&str, &str)>
     requires { mark < 128 }
     ensures { option_map (λ parts. (parts.0.now, parts.1.now)) result ≡ pieces.split_once mark text.now }
 {
@@ -65,7 +65,7 @@ pub(crate) fn split_once(text: &str, mark: char) -> Option<(&str, &str)>
 }
 
 /// What stands in front of the last such character of ASCII, and behind it.
-pub(crate) fn split_at_last(text: &str, mark: char) -> Option<(&str, &str)>
+pub fn split_at_last(text: &str, mark: char) -> Option<(&str, &str)>
     requires { mark < 128 }
     ensures { option_map (λ parts. (parts.0.now, parts.1.now)) result ≡ rsplit_once mark text.now }
 {
@@ -118,7 +118,7 @@ pub(crate) fn digits(bytes: &[u8]) -> usize
 
 /// The number that a text is.
 #[tactic(auto, unfolding(crate::specs::TextPieces::whole_number))]
-pub(crate) fn whole_number(text: &str) -> Option<usize>
+pub fn whole_number(text: &str) -> Option<usize>
     ensures { result ≡ pieces.whole_number text.now }
 {
     match number(text)? {

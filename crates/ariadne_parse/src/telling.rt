@@ -177,8 +177,10 @@ fn one(alloc: Global, told: Diagnostic) -> Result<Vec<Diagnostic>, AllocError>
     Ok(list)
 }
 
-/// What a value tells.
-fn told_by_value(
+/// What a value tells. A message that cargo hands on is held in `sent`, and is dropped where it was there.
+///
+/// On `Err` there was no memory.
+pub fn told_by_value(
     alloc: Global,
     format: Format,
     sent: &mut Sent,

@@ -1,0 +1,7 @@
+pub mod DocumentParts
+pub mod Fixing
+pub mod SarifFlows
+pub mod SarifLogs
+pub mod SarifMessages
+pub mod SarifPlaces
+pub mod Uris

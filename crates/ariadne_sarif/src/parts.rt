@@ -1,0 +1,149 @@
+//! Parts of documents that several forms have: members of members, spots, and diagnostics of a file.
+
+ghost use Rattle.std.specs.Prelude.{◌≡◌, option_map, string_bytes, IfOk, OnOk, Some};
+ghost use Rattle.std.specs.Option.{option_copied};
+ghost use Rattle.serde_json.specs.View.{items_view, view};
+ghost use Rattle.serde_json.specs.Find.{as_array};
+ghost use Rattle.ariadne_parse.specs.Members.{end_before, items_in, spot_at};
+ghost use Rattle.ariadne_parse.specs.Places.{seen};
+ghost use Rattle.ariadne_parse.specs.Read.{read};
+ghost use Rattle.ariadne_sarif.specs.DocumentParts as parts;
+
+use ariadne_parse::json::{items, number, text, words};
+use ariadne_parse::{Diagnostic, End, Place, Severity, Spot, Unit, place};
+use serde_json::Value;
+use std::alloc::{AllocError, Global};
+
+/// A text in a member.
+pub fn text_within<'v>(value: &'v Value, outer: &str, inner: &str) -> Option<&'v str>
+    ensures { option_map (λ t. t.now) result ≡ parts.text_within outer.now inner.now (view value.now) }
+{
+    text(value.get(outer)?, inner)
+}
+
+/// A text in a member; an empty one where there is none.
+pub fn words_within<'v>(value: &'v Value, outer: &str, inner: &str) -> &'v str
+    ensures { result.now ≡ parts.words_within outer.now inner.now (view value.now) }
+{
+    text_within(value, outer, inner).unwrap_or("")
+}
+
+/// A number in a member.
+pub fn number_within(value: &Value, outer: &str, inner: &str) -> Option<usize>
+    ensures { result ≡ parts.number_within outer.now inner.now (view value.now) }
+{
+    number(value.get(outer)?, inner)
+}
+
+/// The items of a list in a member.
+pub fn items_within<'v>(value: &'v Value, outer: &str, inner: &str) -> &'v [Value]
+    ensures { items_view result.now ≡ parts.items_within outer.now inner.now (view value.now) }
+{
+    match value.get(outer) {
+        Some(member) => items(member, inner),
+        None => &[],
+    }
+}
+
+/// A spot whose line and column are members.
+pub fn spot(value: &Value, line: &str, column: &str) -> Option<Spot>
+    ensures { result ≡ spot_at line.now column.now (view value.now) }
+{
+    Some(Spot {
+        line: number(value, line)?,
+        column: number(value, column),
+    })
+}
+
+/// A spot in a member.
+pub fn spot_in(value: &Value, name: &str, line: &str, column: &str) -> Option<Spot>
+    ensures { result ≡ parts.spot_in name.now line.now column.now (view value.now) }
+{
+    spot(value.get(name)?, line, column)
+}
+
+/// A position of LSP.
+fn position(value: &Value) -> Option<Spot>
+    ensures { result ≡ parts.position_of (view value.now) }
+{
+    let line = number(value, "line")?;
+    Some(Spot {
+        line: line.saturating_add(1),
+        column: from_one(number(value, "character")),
+    })
+}
+
+/// The number from 1 of what has this one from 0.
+fn from_one(number: Option<usize>) -> Option<usize>
+    ensures { result ≡ option_map parts.from_one number }
+{
+    match number {
+        Some(number) => Some(number.saturating_add(1)),
+        None => None,
+    }
+}
+
+/// The start or the end of a range of LSP.
+pub fn range_spot(value: &Value, name: &str) -> Option<Spot>
+    ensures { result ≡ parts.range_spot name.now (view value.now) }
+{
+    position(value.get("range")?.get(name)?)
+}
+
+/// Where a place ends that names this end, or none.
+pub fn end_of(end: Option<Spot>) -> End
+    ensures { result ≡ end_before end }
+{
+    match end {
+        Some(end) => End::Before(end),
+        None => End::OfWord,
+    }
+}
+
+/// The place of a file that a diagnostic is about, if it begins somewhere.
+pub fn own_place(
+    alloc: Global,
+    file: &str,
+    unit: Unit,
+    start: Option<Spot>,
+    end: Option<Spot>,
+) -> Result<Option<Place>, AllocError>
+    ensures { IfOk result (λ it. option_map seen it ≡ parts.own_place_from file.now unit start end) }
+{
+    let Some(start) = start else {
+        return Ok(None);
+    };
+    let mut place = place(alloc, file, start, end_of(end), unit)?;
+    place.is_primary = true;
+    Ok(Some(place))
+}
+
+/// A diagnostic about a file: with its place, or, where that isn't known, with a note that names the file.
+pub fn filed(
+    alloc: Global,
+    severity: Severity,
+    message: &str,
+    file: &str,
+    place: Option<Place>,
+) -> Result<Diagnostic, AllocError>
+    ensures { IfOk result (λ told. read told
+        ≡ parts.filed severity message.now file.now (option_map seen place)) }
+{
+    let mut told = Diagnostic::new(alloc, severity, message)?;
+    match place {
+        Some(place) => told.places.push(place)?,
+        None if file.is_empty() => {}
+        None => told.notes.push(String::from_str(alloc, file)?)?,
+    }
+    Ok(told)
+}
+
+/// The items of a value that is a list; none where it is no list.
+pub fn listed(value: &Value) -> &[Value]
+    ensures { items_view result.now ≡ items_in (as_array (view value.now)) }
+{
+    match value.as_array() {
+        Some(items) => items.as_slice(),
+        None => &[],
+    }
+}

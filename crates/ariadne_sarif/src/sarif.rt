@@ -1,0 +1,185 @@
+//! Logs of SARIF 2.1.0.
+
+ghost use Rattle.std.specs.Prelude.{◌≡◌, ◌++◌, map, option_map, string_bytes, IfOk, OnOk};
+ghost use Rattle.serde_json.specs.View.{items_view, view};
+ghost use Rattle.ariadne_parse.specs.Members.{all_items, flat_items};
+ghost use Rattle.ariadne_parse.specs.Places.{seen};
+ghost use Rattle.ariadne_parse.specs.Read.{read};
+ghost use Rattle.ariadne_sarif.specs.SarifLogs as sarif;
+
+use crate::sarif_fixes::push_fixes;
+use crate::sarif_flows::{push_steps, steps_of};
+use crate::sarif_messages::text_of;
+use crate::sarif_places::{push_places, push_rows};
+use crate::sarif_rules::{code_of, severity_of};
+use ariadne_parse::Diagnostic;
+use ariadne_parse::json::{has_list, has_no_items, has_words, items, words};
+use ariadne_parse::pieces::{begins_with, contains};
+use serde_json::Value;
+use std::alloc::{AllocError, Global};
+
+/// Whether a value is a log of SARIF: an object with its version and runs.
+pub fn is_sarif(value: &Value) -> bool
+    ensures { result ≡ sarif.is_sarif (view value.now) }
+{
+    has_version(value) && has_list(value, "runs") && are_runs(items(value, "runs"))
+}
+
+/// Whether a value names the version, or a schema of SARIF.
+fn has_version(value: &Value) -> bool
+    ensures { result ≡ sarif.has_version (view value.now) }
+{
+    begins_with(words(value, "version"), "2.1.") || contains(words(value, "$schema"), "sarif")
+}
+
+/// Whether values are runs.
+fn are_runs(values: &[Value]) -> bool
+    ensures { result ≡ all_items sarif.is_run (items_view values.now) }
+{
+    for value in values {
+        if !is_run(value) {
+            return false;
+        }
+    }
+    true
+}
+
+/// Whether a value is a run.
+fn is_run(value: &Value) -> bool
+    ensures { result ≡ sarif.is_run (view value.now) }
+{
+    value.get("tool").is_some() && are_results(items(value, "results"))
+}
+
+/// Whether values are results.
+fn are_results(values: &[Value]) -> bool
+    ensures { result ≡ all_items sarif.is_result (items_view values.now) }
+{
+    for value in values {
+        if value.get("message").is_none() {
+            return false;
+        }
+    }
+    true
+}
+
+/// The diagnostics of a log.
+pub fn told_by_sarif(alloc: Global, value: &Value) -> Result<Vec<Diagnostic>, AllocError>
+    ensures { IfOk result (λ all. map read all.items ≡ sarif.sarif_told (view value.now)) }
+{
+    told_by_runs(alloc, items(value, "runs"))
+}
+
+/// The diagnostics of runs.
+fn told_by_runs(alloc: Global, runs: &[Value]) -> Result<Vec<Diagnostic>, AllocError>
+    ensures { IfOk result (λ all.
+        map read all.items ≡ flat_items sarif.run_told (items_view runs.now)) }
+{
+    let mut all = Vec::new(alloc);
+    for run in runs {
+        push_results(alloc, &mut all, run, items(run, "results"))?;
+    }
+    Ok(all)
+}
+
+/// Adds the diagnostics of a run's results, of those that are told.
+fn push_results(
+    alloc: Global,
+    all: &mut Vec<Diagnostic>,
+    run: &Value,
+    results: &[Value],
+) -> Result<(), AllocError>
+    ensures { OnOk result (map read all.new.items ≡ map read all.old.items
+        ++ flat_items (sarif.result_told (view run.now)) (items_view results.now)) }
+{
+    for it in results {
+        if is_told(it) {
+            all.push(told_by_result(alloc, run, it)?)?;
+        }
+    }
+    Ok(())
+}
+
+/// Whether a result is told: it isn't gone, didn't pass, applies, and isn't suppressed.
+fn is_told(it: &Value) -> bool
+    ensures { result ≡ sarif.is_told (view it.now) }
+{
+    !is_gone(it) && !has_passed(it) && !is_suppressed(items(it, "suppressions"))
+}
+
+/// Whether a result is of an earlier run, and not there any more.
+fn is_gone(it: &Value) -> bool
+    ensures { result ≡ sarif.is_gone (view it.now) }
+{
+    has_words(it, "baselineState", "absent")
+}
+
+/// Whether a result passed, or doesn't apply.
+fn has_passed(it: &Value) -> bool
+    ensures { result ≡ sarif.has_passed (view it.now) }
+{
+    has_words(it, "kind", "pass") || has_words(it, "kind", "notApplicable")
+}
+
+/// Whether a result with these suppressions is suppressed: there are some, and all count.
+fn is_suppressed(suppressions: &[Value]) -> bool
+    ensures { result ≡ sarif.are_suppressing (items_view suppressions.now) }
+{
+    !has_no_items(suppressions) && are_accepted(suppressions)
+}
+
+/// Whether suppressions count.
+fn are_accepted(values: &[Value]) -> bool
+    ensures { result ≡ all_items sarif.is_accepted (items_view values.now) }
+{
+    for value in values {
+        if !is_accepted(value) {
+            return false;
+        }
+    }
+    true
+}
+
+/// Whether a suppression counts: it isn't one to be decided, or that was rejected.
+fn is_accepted(value: &Value) -> bool
+    ensures { result ≡ sarif.is_accepted (view value.now) }
+{
+    !has_words(value, "status", "underReview") && !has_words(value, "status", "rejected")
+}
+
+/// The diagnostic of a result.
+fn told_by_result(alloc: Global, run: &Value, it: &Value) -> Result<Diagnostic, AllocError>
+    ensures { IfOk result (λ told. read told ≡ sarif.result_read (view run.now) (view it.now)) }
+{
+    let mut told = unfixed(alloc, run, it)?;
+    push_fixes(alloc, &mut told, run, items(it, "fixes"))?;
+    Ok(told)
+}
+
+/// The diagnostic of a result, without its fixes.
+fn unfixed(alloc: Global, run: &Value, it: &Value) -> Result<Diagnostic, AllocError>
+    ensures { IfOk result (λ told. read told ≡ sarif.unfixed (view run.now) (view it.now)) }
+{
+    let own = items(it, "locations");
+    let related = items(it, "relatedLocations");
+    let text = text_of(alloc, run, it)?;
+    let mut told = Diagnostic::new(alloc, severity_of(run, it), text.as_str())?;
+    told.code = copied_code(alloc, run, it)?;
+    push_places(alloc, &mut told.places, run, own, true)?;
+    push_places(alloc, &mut told.places, run, related, false)?;
+    push_steps(alloc, &mut told.places, run, steps_of(it))?;
+    push_rows(alloc, &mut told.notes, run, own)?;
+    push_rows(alloc, &mut told.notes, run, related)?;
+    Ok(told)
+}
+
+/// A copy of a result's code, if it has one.
+fn copied_code(alloc: Global, run: &Value, it: &Value) -> Result<Option<String>, AllocError>
+    ensures { IfOk result (λ code. option_map string_bytes code
+        ≡ sarif.code_of (view run.now) (view it.now)) }
+{
+    match code_of(run, it) {
+        Some(code) => Ok(Some(String::from_str(alloc, code)?)),
+        None => Ok(None),
+    }
+}
