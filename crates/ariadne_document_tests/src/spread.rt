@@ -1,0 +1,211 @@
+//! Documents that go over many lines, as `jq .` writes them, from their lines to what they tell.
+
+use crate::showing::{all_text, assert_rows};
+use ariadne_documents::{Document, Step, begins, document_answer, line_answer};
+use ariadne_parse::{Answer, Counting, Format, Reading, Sent, Unit};
+use std::alloc::{AllocError, Global};
+
+/// `gcc 12.2.0 -fdiagnostics-format=json` through `jq .`, without its second location.
+const GCC: &str = r#"[
+  {
+    "kind": "error",
+    "column-origin": 1,
+    "children": [],
+    "fixits": [
+      {
+        "next": {
+          "byte-column": 23,
+          "display-column": 23,
+          "line": 1,
+          "file": "c.c",
+          "column": 23
+        },
+        "string": ";",
+        "start": {
+          "byte-column": 23,
+          "display-column": 23,
+          "line": 1,
+          "file": "c.c",
+          "column": 23
+        }
+      }
+    ],
+    "locations": [
+      {
+        "caret": {
+          "byte-column": 23,
+          "display-column": 23,
+          "line": 1,
+          "file": "c.c",
+          "column": 23
+        }
+      }
+    ],
+    "message": "expected ‘;’ before ‘}’ token",
+    "escape-source": false
+  }
+]
+"#;
+
+/// `rustc 1.95.0 --error-format=json` through `jq .`, without its children and the text that it draws.
+const RUSTC: &str = r#"{
+  "$message_type": "diagnostic",
+  "message": "unused variable: `x`",
+  "code": {
+    "code": "unused_variables",
+    "explanation": null
+  },
+  "level": "warning",
+  "spans": [
+    {
+      "file_name": "r.rs",
+      "byte_start": 16,
+      "byte_end": 17,
+      "line_start": 1,
+      "line_end": 1,
+      "column_start": 17,
+      "column_end": 18,
+      "is_primary": true,
+      "text": [
+        {
+          "text": "fn main() { let x = 1; }",
+          "highlight_start": 17,
+          "highlight_end": 18
+        }
+      ],
+      "label": null,
+      "suggested_replacement": null,
+      "suggestion_applicability": null,
+      "expansion": null
+    }
+  ],
+  "children": []
+}
+"#;
+
+/// `go vet -json` of go 1.19.8 through `jq .`, without its comment `# example.com/p`.
+const VET: &str = r#"{
+  "example.com/p": {
+    "printf": [
+      {
+        "posn": "/p/a.go:6:14",
+        "message": "fmt.Printf format %d has arg é of wrong type string"
+      }
+    ]
+  }
+}
+"#;
+
+/// The document that a text is, if its first line begins one and its last line ends it.
+fn gathered(alloc: Global, text: &str) -> Result<Option<Document>, AllocError> {
+    let mut document = Document::new(alloc);
+    let mut last = None;
+    for line in text.lines() {
+        if last.is_none() && !begins(line.as_bytes()) || last == Some(Step::Ended) {
+            return Ok(None);
+        }
+        last = Some(document.take(line.as_bytes())?);
+    }
+    match last {
+        Some(Step::Ended) => Ok(Some(document)),
+        _ => Ok(None),
+    }
+}
+
+/// An answer in rows.
+fn answer_text(alloc: Global, answer: &Answer) -> Result<String, AllocError> {
+    match answer {
+        Answer::Diagnostics(all) => all_text(alloc, all.as_slice()),
+        Answer::Dropped => String::from_str(alloc, "dropped\n"),
+        Answer::Nothing => String::from_str(alloc, "nothing\n"),
+        Answer::Head(_) | Answer::Note(_) => String::from_str(alloc, "a head\n"),
+    }
+}
+
+/// What a text tells that is one document, in rows.
+fn told_text(alloc: Global, text: &str) -> Result<String, AllocError> {
+    let Some(document) = gathered(alloc, text)? else {
+        return String::from_str(alloc, "no document\n");
+    };
+    let mut sent = Sent::new(alloc);
+    let answer = document_answer(alloc, Format::Auto, &mut sent, &document)?;
+    answer_text(alloc, &answer)
+}
+
+/// Documents, each with its rows.
+const DOCUMENTS: &[(&str, &[&str])] = &[
+    (
+        GCC,
+        &[
+            "Error () expected ‘;’ before ‘}’ token",
+            "  at c.c 1:23 bytes ",
+            "  help put `;` at 1:23",
+            "  fix 0..1 c.c bytes () 1:23-1:23 `;`",
+        ],
+    ),
+    (
+        RUSTC,
+        &[
+            "Warning (unused_variables) unused variable: `x`",
+            "  at r.rs 1:17-1:18 ",
+        ],
+    ),
+    (
+        VET,
+        &[
+            "Error (printf) fmt.Printf format %d has arg é of wrong type string",
+            "  at /p/a.go 6:14 bytes ",
+        ],
+    ),
+    ("{}\n", &["no document"]),
+    ("{\n}\n{\n}\n", &["no document"]),
+    ("{\n\"a\": 1\n}\n", &["nothing"]),
+    ("{\n\"a\"\n}\n", &["nothing"]),
+];
+
+#[test]
+fn documents_told_by_their_lines(rt: HostRuntime) {
+    for (text, rows) in DOCUMENTS {
+        let found = told_text(rt.alloc(), *text).expect(&rt, "memory");
+        assert_rows(&rt, found.as_str(), *rows);
+    }
+}
+
+/// A document of shellcheck's in one line.
+const LINE: &str = r#"{"comments":[{"file":"a.sh","line":2,"level":"error","message":"m"}]}"#;
+
+/// Lines in a form, each with its rows.
+const LINES: &[(Format, &str, &[&str])] = &[
+    (Format::Auto, LINE, &["Error () m", "  at a.sh 2 "]),
+    (Format::Gcc, LINE, &["nothing"]),
+    (Format::Lines, LINE, &["nothing"]),
+    (Format::Auto, "[]", &["nothing"]),
+    (Format::Auto, "{\"a\": 1}", &["nothing"]),
+    (
+        Format::Auto,
+        "{\"reason\":\"build-finished\",\"success\":true}",
+        &["dropped"],
+    ),
+    (Format::Auto, "a.c:1:2: error: m", &["a head"]),
+];
+
+/// What a line tells in a form, in rows.
+fn line_text(alloc: Global, format: Format, line: &str) -> Result<String, AllocError> {
+    let reading = Reading {
+        format,
+        counting: Counting {
+            unit: Unit::Byte,
+            is_from_zero: false,
+        },
+    };
+    let mut sent = Sent::new(alloc);
+    answer_text(alloc, &line_answer(alloc, reading, &mut sent, line)?)
+}
+
+#[test]
+fn lines_told_by_their_forms(rt: HostRuntime) {
+    for (format, line, rows) in LINES {
+        let found = line_text(rt.alloc(), *format, *line).expect(&rt, "memory");
+        assert_rows(&rt, found.as_str(), *rows);
+    }
+}

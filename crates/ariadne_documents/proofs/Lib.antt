@@ -1,0 +1,4 @@
+pub mod Gathering
+pub mod Lists
+pub mod Scans
+pub mod Walks

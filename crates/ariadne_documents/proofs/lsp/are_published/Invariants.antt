@@ -1,0 +1,10 @@
+use Rattle.std.specs.Prelude.{◌≡◌, drop}
+use Rattle.serde_json.specs.View.{items_view}
+use Rattle.ariadne_parse.specs.Members.{all_items}
+use Rattle.ariadne_documents.specs.Lsp.{is_published}
+use Rattle.ariadne_documents.proofs.lsp.are_published.Given as goal
+
+-- those that are left pass where all do
+abbrev pub invariant-loop-value : goal.invariant-loop-value
+invariant-loop-value l =
+    all_items is_published (items_view (drop l.value-index l.values)) ≡ all_items is_published (items_view l.fn.values)

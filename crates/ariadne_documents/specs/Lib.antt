@@ -1,0 +1,12 @@
+pub mod Answers
+pub mod Brackets
+pub mod Documents
+pub mod Eslint
+pub mod Forms
+pub mod Lsp
+pub mod Objects
+pub mod Offsets
+pub mod Pyright
+pub mod Ruff
+pub mod Shellcheck
+pub mod Vet
