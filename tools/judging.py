@@ -28,6 +28,7 @@ LIKE = {
     "performance": "Warning",
     "portability": "Warning",
     "information": "Warning",
+    "info": "Note",
     "note": "Note",
     "help": "Note",
     "style": "Note",

@@ -760,18 +760,17 @@ class Erlc(Reader):
 
 
 class Json(Reader):
-    """Lines of JSON among others. A form says which diagnostics a value tells."""
+    """Values of JSON in lines among others, each in one line or over many. A form says which diagnostics a value
+    tells."""
 
     def take_head(self):
         if not self.row().startswith(("{", "[")):
             return False
-        self.at += 1
-        self.items += self.items_of_value(json.loads(self.row_before()))
+        rest = "\n".join(self.rows[self.at :])
+        value, end = json.JSONDecoder().raw_decode(rest)
+        self.begun, self.at = self.at + 1, self.at + rest.count("\n", 0, end) + 1
+        self.items += self.items_of_value(value)
         return True
-
-    def row_before(self):
-        """The row that was read last."""
-        return self.rows[self.at - 1]
 
     def character(self, path, line, column):
         """The column in characters of one in bytes."""
@@ -793,7 +792,7 @@ class GccJson(Json):
 
     def told(self, item):
         """An item of the list, or a note in one."""
-        told = Diagnostic(self.at, self.at, item["kind"], item.get("option"), item["message"])
+        told = Diagnostic(self.begun, self.at, item["kind"], item.get("option"), item["message"])
         for location in item["locations"][:1]:
             caret = location["caret"]
             told.path, told.line = self.files.name(caret["file"]), caret["line"]
@@ -847,7 +846,7 @@ class RustcJson(Json):
     def told(self, message):
         """A message of rustc's, or a note in one."""
         told = Diagnostic(
-            self.at, self.at, message["level"], (message["code"] or {}).get("code"), message["message"]
+            self.begun, self.at, message["level"], (message["code"] or {}).get("code"), message["message"]
         )
         spans = sorted(message["spans"], key=lambda span: not span["is_primary"])
         puts = [span["suggested_replacement"] for span in spans if span["suggested_replacement"] is not None]
@@ -886,6 +885,120 @@ def is_within(piece, other):
     return piece.path == other.path and other[1:3] <= piece[1:3] and piece[3:5] <= other[3:5]
 
 
+class ShellcheckJson(Json):
+    """shellcheck's JSON. Columns count characters, and an end is the column behind it."""
+
+    def items_of_value(self, value):
+        return [self.told(comment) for comment in value["comments"]]
+
+    def told(self, comment):
+        """A comment."""
+        place = self.files.name(comment["file"]), comment["line"], comment["column"]
+        told = Diagnostic(self.begun, self.at, comment["level"], f"SC{comment['code']}", comment["message"], *place)
+        told.pieces = [Piece(*place, comment["endLine"], comment["endColumn"])]
+        puts = (comment["fix"] or {"replacements": ()})["replacements"]
+        told.puts = [it["replacement"].strip() for it in puts if it["replacement"].strip()]
+        return told
+
+
+class SarifLog(Json):
+    """A log of SARIF by clang's analyzer, whose columns count characters. A region of no characters is a place. The
+    steps of a result's first flow lead to it, as the events of gcc's analyzer do."""
+
+    def items_of_value(self, value):
+        return [self.told(it) for run in value["runs"] for it in run["results"]]
+
+    def told(self, result):
+        """A result."""
+        told = Diagnostic(self.begun, self.at, result.get("level", "warning"), result["ruleId"], result["message"]["text"])
+        told.pieces = [self.piece(it["physicalLocation"]) for it in result["locations"]]
+        told.path, told.line, told.column = told.pieces[0][:3]
+        steps = result["codeFlows"][0]["threadFlows"][0]["locations"]
+        told.pieces += [self.step(number, it["location"]) for number, it in enumerate(steps, 1)]
+        return told
+
+    def step(self, number, location):
+        """A step that leads to a result: where it is, and its number and what is said of it."""
+        label = f"({number}) {location['message']['text']}"
+        return self.piece(location["physicalLocation"])._replace(label=label)
+
+    def piece(self, location):
+        """The piece of a file that a location names."""
+        region, path = location["region"], location["artifactLocation"]["uri"].removeprefix("file://")
+        start = region["startLine"], region["startColumn"]
+        end = region.get("endLine", start[0]), region["endColumn"]
+        return Piece(self.files.name(path), *start, *(end if end != start else (None, None)))
+
+
+class Utf16Json(Json):
+    """JSON whose columns count the units of UTF-16."""
+
+    def column_of(self, path, line, units):
+        """The column in characters behind so many units of a line."""
+        before = self.files.line(path, line).encode("utf-16-le", "surrogateescape")[: 2 * units]
+        return len(before.decode("utf-16-le")) + 1
+
+
+class EslintJson(Utf16Json):
+    """eslint's JSON: a list of files, each with its messages. An end is the column behind it, and not each names one."""
+
+    KINDS = (None, "warning", "error")
+
+    def items_of_value(self, value):
+        return [self.told(self.files.name(file["filePath"]), it) for file in value for it in file["messages"]]
+
+    def told(self, path, item):
+        """A message of a file."""
+        start = item["line"], self.column_of(path, item["line"], item["column"] - 1)
+        told = Diagnostic(
+            self.begun, self.at, self.KINDS[item["severity"]], item["ruleId"], item["message"], path, *start
+        )
+        end = item.get("endLine")
+        ends = (end, self.column_of(path, end, item["endColumn"] - 1)) if end else ()
+        told.pieces = [Piece(path, *start, *ends)]
+        told.puts = [item["fix"]["text"]] if "fix" in item else []
+        return told
+
+
+class Published(Utf16Json):
+    """The diagnostics that clangd publishes by LSP. Lines and columns count from 0."""
+
+    KINDS = (None, "error", "warning", "note", "note")
+
+    def items_of_value(self, value):
+        path = self.files.name(value["params"]["uri"].removeprefix("file://"))
+        return [self.told(path, it) for it in value["params"]["diagnostics"]]
+
+    def told(self, path, item):
+        """A diagnostic of a file."""
+        start, end = (self.spot(path, item["range"][name]) for name in ("start", "end"))
+        told = Diagnostic(
+            self.begun, self.at, self.KINDS[item["severity"]], item.get("code"), item["message"], path, *start
+        )
+        told.pieces = [Piece(path, *start, *end)]
+        return told
+
+    def spot(self, path, at):
+        """The line and the column of a place."""
+        return at["line"] + 1, self.column_of(path, at["line"] + 1, at["character"])
+
+
+class GoVet(Json):
+    """go vet's JSON: of each package, the diagnostics of each analyzer. Columns count bytes, and no end is named."""
+
+    def items_of_value(self, value):
+        return [self.told(name, it) for package in value.values() for name, all_of in package.items() for it in all_of]
+
+    def told(self, name, item):
+        """A diagnostic of an analyzer."""
+        path, line, column = item["posn"].rsplit(":", 2)
+        path, line = self.files.name(path), int(line)
+        place = path, line, self.character(path, line, int(column))
+        told = Diagnostic(self.begun, self.at, "error", name, item["message"], *place)
+        told.pieces = [Piece(*place)]
+        return told
+
+
 class RustcText(RustcJson):
     """rustc's text: each of its blocks is what rustc's JSON of the same run has as `rendered`. Its arrow says
     where it is, which is the second place of two of its own once."""
@@ -904,6 +1017,7 @@ class RustcText(RustcJson):
         message, first = self.messages.pop(0), self.at + 1
         if not message["spans"]:
             return False
+        self.begun = self.at
         told = self.told(message)
         told.code = told.code if rows[0].startswith(f"{told.kind}[") else None
         told.notes = [note for note in told.notes if note.message.split("\n")[0] in message["rendered"]]
@@ -942,6 +1056,11 @@ FORMS = {
     "gcc json": GccJson,
     "rustc json": RustcJson,
     "rustc": RustcText,
+    "shellcheck json": ShellcheckJson,
+    "sarif": SarifLog,
+    "eslint json": EslintJson,
+    "lsp": Published,
+    "go vet json": GoVet,
 }
 
 

@@ -63,6 +63,18 @@ CARGO_SHORT = (
     "cargo check -v --offline --message-format=short --color=always --target-dir={out}"
 )
 FIX_ROWS = ("-fsyntax-only", "-Wall", "-fdiagnostics-parseable-fixits", "{}")
+ANALYZED = "clang --analyze -Xclang -analyzer-output=sarif -o {out}/log {} 2>{out}/text; cat {out}/log"
+GCC_ROWS = "gcc -Wall -Wextra -fsyntax-only -fdiagnostics-format=json {} 2>&1 | jq ."
+RUST_ROWS = "rustc --emit=metadata -o {out}/x.rmeta --error-format=json {} 2>&1 | jq ."
+PUBLISHED = r"""(
+    printf '{"jsonrpc":"2.0","id":0,"method":"initialize","params":{"capabilities":{ }}}\n---\n'
+    jq -n --arg at "file://$PWD/{}" --rawfile text {} '{jsonrpc: "2.0", method: "textDocument/didOpen",
+        params: {textDocument: {uri: $at, languageId: "c", version: 1, text: $text}}}'
+    printf -- '---\n{"jsonrpc":"2.0","id":1,"method":"shutdown"}\n---\n{"jsonrpc":"2.0","method":"exit"}\n'
+) | clangd --input-style=delimited --sync 2>/dev/null | sed 's/Content-Length: .*//' | jq 'select(.method)'"""
+VETTED = "GOCACHE={out} GO111MODULE=off go vet -json {}"
+RULES = '{"no-undef": 2, "no-unused-vars": 1, "no-cond-assign": 2, "no-debugger": 1, "semi": 1}'
+ESLINT = ("eslint", "--no-eslintrc", "--rule", RULES)
 DISPLAY, CHARS = ("--columns=display",), ("--columns=chars",)
 TEXTS = {
     "gcc_carets": Text("gcc", (*GCC, "{}"), C, DISPLAY),
@@ -137,6 +149,14 @@ TEXTS = {
     "gxx_fixits": Text("gcc", ("g++", "-Wold-style-cast", "-pedantic", *FIX_ROWS), ("corpus/fixits/*.cpp",), DISPLAY),
     "clang_fixits": Text("clang", ("clang", *FIX_ROWS), ("corpus/fixits/*.c",)),
     "clangxx_fixits": Text("clang", ("clang++", "-Wextra-semi", *FIX_ROWS), ("corpus/fixits/*.cpp",)),
+    "shellcheck_json": Text("shellcheck json", ("shellcheck", "-f", "json1", "{}"), ("corpus/sh/*.sh",)),
+    "shellcheck_rows": Text("shellcheck json", ("sh", "-c", "shellcheck -f json1 {} | jq ."), ("corpus/sh/*.sh",)),
+    "clang_sarif": Text("sarif", ("sh", "-c", ANALYZED), ("corpus/c/20*.c", "corpus/events/*.c", "corpus/asides/*.c")),
+    "gcc_json_rows": Text("gcc json", ("sh", "-c", GCC_ROWS), ("corpus/c/0[1267]*.c", "corpus/c/1[18]*.c")),
+    "rustc_json_rows": Text("rustc json", ("sh", "-c", RUST_ROWS), ("corpus/rust/0[1-4]*.rs", "corpus/helps/*.rs")),
+    "clangd": Text("lsp", ("sh", "-c", PUBLISHED), ("corpus/c/0[1-3]*.c", "corpus/c/13*.c", "corpus/cpp/14*.cpp")),
+    "go_vet_json": Text("go vet json", ("sh", "-c", VETTED), ("corpus/go/*.go",)),
+    "eslint_json": Text("eslint json", (*ESLINT, "-f", "json", "{}"), ("corpus/js/*.js",)),
     "gone": Text("gcc", ("sh", "-c", GONE), ("corpus/c/1[178]*.c",)),
     "log": Text("none", ()),
     "make": Text("make", ("make", "--keep-going"), folder="corpus/make", words=DISPLAY),

@@ -71,6 +71,23 @@ let x = y;
         ^
 ::a line\n";
 
+/// Documents of JSON with fixes, with a `@` for the folder of their files: eslint's, in the longest line, SARIF's and
+/// shellcheck's; and lines that begin as a document.
+const DOCUMENTS: &str =
+    "[{\"filePath\":\"@/a.c\",\"source\":\"int x = y;\",\"messages\":[{\"severity\":2,\"message\":\"m\",\"line\":1,\"column\":5,\"fix\":{\"range\":[4,5],\"text\":\"z\"}}]}]
+{\"version\":\"2.1.0\",\"runs\":[{\"tool\":{},\"originalUriBaseIds\":{\"R\":{\"uri\":\"file://@/\"}},\"results\":[
+{\"message\":{\"text\":\"m {0}\",\"arguments\":[\"n\"]},
+\"locations\":[{\"physicalLocation\":{\"artifactLocation\":{\"uri\":\"a%2Ec\",\"uriBaseId\":\"R\"},
+\"region\":{\"startLine\":1,\"startColumn\":5}}}],
+\"codeFlows\":[{\"threadFlows\":[{\"locations\":[{\"location\":{
+\"physicalLocation\":{\"artifactLocation\":{\"uri\":\"a.c\"},\"region\":{\"startLine\":1}}}}]}]}],
+\"fixes\":[{\"description\":{\"text\":\"d\"},\"artifactChanges\":[{\"artifactLocation\":{\"uri\":\"a.c\"},
+\"replacements\":[{\"deletedRegion\":{\"startLine\":1,\"startColumn\":5,\"endColumn\":6}}]}]}]}]}]}
+{\"comments\":[{\"file\":\"@/a.c\",\"line\":1,\"column\":5,\"level\":\"error\",\"code\":1,\"message\":\"m\",
+\"fix\":{\"replacements\":[{\"line\":1,\"endLine\":1,\"column\":5,\"endColumn\":6,\"replacement\":\"z\"}]}}]}
+{
+  a line\n";
+
 /// Words, with a `@` for the folder, by which all that is written of a diagnostic is written.
 const WORDS: &[&[&str]] = &[
     &["--ascii"],
@@ -130,6 +147,7 @@ fn is_whole(
 /// Shows what tools print, with this request refused, counted from 1, or with none where it is 0.
 fn show_refused(
     rt: &(impl Files + AllocGlobal + Abort),
+    printed: &str,
     words: &[&str],
     folder: &str,
     nth: usize,
@@ -141,17 +159,22 @@ fn show_refused(
         own.push(if *word == "@" { folder } else { *word })
             .expect(rt, "memory");
     }
-    let input = with_path(rt.alloc(), PRINTED, folder).expect(rt, "memory");
+    let input = with_path(rt.alloc(), printed, folder).expect(rt, "memory");
     let out = Taker::whole(rt.alloc()).expect(rt, "memory");
     run(rt, own.as_slice(), Given::whole(input.as_bytes()), out, nth)
 }
 
 /// Refuses each request of showing what tools print in turn, up to the one that there is none of.
-fn refuse_each(rt: &(impl Files + AllocGlobal + Abort), words: &[&str], folder: &str) {
-    let whole = show_refused(rt, words, folder, 0);
+fn refuse_each(
+    rt: &(impl Files + AllocGlobal + Abort),
+    printed: &str,
+    words: &[&str],
+    folder: &str,
+) {
+    let whole = show_refused(rt, printed, words, folder, 0);
     whole.assert_status(rt, Status::WithErrors);
     for nth in 1..10000 {
-        if is_whole(rt, &show_refused(rt, words, folder, nth), &whole) {
+        if is_whole(rt, &show_refused(rt, printed, words, folder, nth), &whole) {
             return;
         }
     }
@@ -166,8 +189,9 @@ fn a_refused_request_is_told_and_no_line_is_cut(rt: HostRuntime) {
     }
     let path = folder.path_of(&rt, ".").expect(&rt, "memory");
     for words in WORDS {
-        refuse_each(&rt, *words, path.as_str())
+        refuse_each(&rt, PRINTED, *words, path.as_str())
     }
+    refuse_each(&rt, DOCUMENTS, &["--output", "short"], path.as_str());
     folder.remove(&rt).expect(&rt, "no folder")
 }
 

@@ -4,7 +4,8 @@ use Rattle.std.specs.Prelude.{true, false, Bool, Result, Ok, Err, OnOk, Vec}
 use Rattle.std.specs.declared.alloc.Global.{Global}
 use Rattle.ariadne_blocks.specs.declared.block.Block.{Block}
 use Rattle.ariadne_blocks.specs.declared.line.Line.{Line}
-use Rattle.ariadne_parse.specs.ParsedLines.{reads_text, IsTold}
+use Rattle.ariadne_documents.specs.Answers.{IsLineParsed}
+use Rattle.ariadne_parse.specs.ParsedLines.{reads_text}
 use Rattle.ariadne_parse.specs.declared.diagnostic.Diagnostic.{Diagnostic}
 use Rattle.ariadne_parse.specs.declared.sent.Sent.{Sent}
 use Rattle.ariadne_parse.specs.declared.telling.Answer.{Answer}
@@ -171,7 +172,7 @@ other_if (Err e) options line first placed waiting known a last none not ends sh
 
 pub told_if : {T E : Type 0} (r : Result T E) (options : Options) (line : Line) (first tried : Known) (sent : Sent) (a : Out)
     (answer : Answer) (last : At) → IsNoRowInFront first tried
-    → IsTold options.reading line.text.now tried.sent sent answer
+    → IsLineParsed options.reading line.text.now tried.sent sent answer
     → OnOk r (IsAnswered options line (record { known = record tried { sent = sent }; out = a }) last answer)
     → OnOk r (IsReadShown options line (record { known = first; out = a }) last)
 told_if (Ok x) options line first tried sent a answer last none told shown =

@@ -1,4 +1,5 @@
 pub mod Chains
+pub mod DocumentLines
 pub mod Commands
 pub mod Ended
 pub mod Final

@@ -3,7 +3,7 @@
 -- next lines may tell more, and then each of them that belongs to it goes to it, and it is written where the
 -- first comes that does not, or at the end. Lines that may stand in front of a diagnostic wait for its head,
 -- and then give it their places, or pass.
-use Rattle.std.specs.Prelude.{ℕ, ◌≡◌, Bool, true, false, List, [], ◌∷◌, ◌++◌, map}
+use Rattle.std.specs.Prelude.{ℕ, ◌≡◌, Bool, true, false, ◌&&◌, List, [], ◌∷◌, ◌++◌, map}
 use Rattle.std.specs.Prelude.{Option, Some, None, Vec, ⊤}
 use Rattle.std.specs.Io.KnownBytes.{Appends, IsAtEnd}
 use Rattle.std.specs.declared.alloc.Global.{Global}
@@ -18,9 +18,12 @@ use Rattle.ariadne_outputs.specs.declared.sarif.TheConstants.{BEHIND, FRONT, SAR
 use Rattle.ariadne_search.specs.Folders.{entered_in, followed}
 use Rattle.ariadne_search.specs.Make.{move_in}
 use Rattle.ariadne_parse.specs.Places.{seen}
-use Rattle.ariadne_parse.specs.ParsedLines.{reads_text, IsTold}
+use Rattle.ariadne_documents.specs.Documents.{begins, step_of, text_with, value_of}
+use Rattle.ariadne_documents.specs.declared.document.Step.TheVariants.{Broken, Ended, GoesOn}
+use Rattle.ariadne_parse.specs.ParsedLines.{reads_text}
 use Rattle.ariadne_parse.specs.declared.diagnostic.Diagnostic.{Diagnostic}
 use Rattle.ariadne_parse.specs.declared.diagnostic.Place.{Place}
+use Rattle.ariadne_parse.specs.declared.sent.Sent.{Sent}
 use Rattle.ariadne_parse.specs.declared.telling.Answer.{Answer}
 use Rattle.ariadne_parse.specs.declared.telling.Answer.TheVariants as answer
 use Rattle.ariadne_show.specs.Finding.{AreChangedFound, caret_at, is_first_held, is_held, IsOpened, IsPlaceSettled}
@@ -29,6 +32,7 @@ use Rattle.ariadne_show.specs.Known.{is_note_of, AreMarksSettled, IsMoreInFront,
 use Rattle.ariadne_show.specs.Known.{IsRowInFront, MayNotGoOn, PlacesNone, Waits, WaitsNot}
 use Rattle.ariadne_show.specs.Limits.{more_text}
 use Rattle.ariadne_show.specs.InputLines.{IsLineOf, ReadsLine}
+use Rattle.ariadne_documents.specs.Answers.{is_whole, reads_values, IsDocumentParsed, IsLineParsed}
 use Rattle.ariadne_show.specs.Streams.{StreamBytes}
 use Rattle.ariadne_show.specs.Sums.{line_end, sum_text}
 use Rattle.ariadne_show.specs.DroppedTallies.{is_tally_behind}
@@ -304,7 +308,7 @@ pub data IsReadShown (options : Options) (line : Line) (first last : At) : Type 
   row : IsRowInFront line first.known last.known → last.out ≡ first.out
       → IsReadShown options line first last
   no_row : (tried told_by : Known) (answer : Answer) → IsNoRowInFront first.known tried
-      → IsTold options.reading line.text.now tried.sent told_by.sent answer
+      → IsLineParsed options.reading line.text.now tried.sent told_by.sent answer
       → told_by ≡ record tried { sent = told_by.sent }
       → IsAnswered options line (record first { known = told_by }) last answer
       → IsReadShown options line first last
@@ -321,6 +325,79 @@ pub data AreLinesShown (options : Options) : Option (List ℕ) → Option (List 
   one_line_more : {i j k : Option (List ℕ)} {a b c : At} → AreLinesShown options i j a b
       → (bytes : List ℕ) → ReadsLine j k bytes → IsLineShown options bytes b c
       → AreLinesShown options i k a c
+
+-- ---- documents of JSON over many lines
+
+-- bytes were shown as the lines that they are
+pub record AreBytesShown (options : Options) (bytes : List ℕ) (first last : At) : Type 0 where
+  pub rest : Option (List ℕ)
+  pub lines : AreLinesShown options (Some bytes) rest first last
+  pub ended : IsAtEnd rest
+
+-- a run that holds these messages of cargo's
+abbrev pub with_sent : At → Sent → At
+with_sent at sent = record at { known = record at.known { sent = sent } }
+
+-- a document was shown by its diagnostics, or is dropped; else its lines were shown
+pub data IsDocumentShown (options : Options) (bytes : List ℕ) (first last : At) : Type 0 where
+  told_diagnostics : (sent : Sent) (all : Vec Diagnostic Global)
+      → IsDocumentParsed options.reading.format (value_of bytes) first.known.sent sent (answer.Diagnostics all)
+      → AreAllShown options all.items (with_sent first sent) last → IsDocumentShown options bytes first last
+  told_dropped : (sent : Sent)
+      → IsDocumentParsed options.reading.format (value_of bytes) first.known.sent sent answer.Dropped
+      → IsFinished options (with_sent first sent) last → IsDocumentShown options bytes first last
+  told_none : (sent : Sent) (told : Answer)
+      → IsDocumentParsed options.reading.format (value_of bytes) first.known.sent sent told
+      → is_whole told ≡ false → AreBytesShown options bytes (with_sent first sent) last
+      → IsDocumentShown options bytes first last
+
+-- what a run holds: the lines of a document that goes on, if there is one; and what it knows and has shown
+pub record Holding : Type 0 where
+  pub document : Option (List ℕ)
+  pub at : At
+
+abbrev pub holding_of : Option (List ℕ) → At → Holding
+holding_of document at = record { document = document; at = at }
+
+-- a line begins a document
+abbrev pub begins_document : Options → List ℕ → Bool
+begins_document options line = reads_values options.reading.format && begins line
+
+-- behind no document, a line is held where it begins one, or was shown
+pub data IsOutsideShown (options : Options) (line : List ℕ) (first : At) (last : Holding) : Type 0 where
+  document_begun : begins_document options line ≡ true
+      → last ≡ holding_of (Some (text_with [] line)) first → IsOutsideShown options line first last
+  line_shown : begins_document options line ≡ false → last.document ≡ None
+      → IsLineShown options line first last.at → IsOutsideShown options line first last
+
+-- behind a document, it goes on or ends with a line; or the document is none, and its lines were shown
+pub data IsInsideShown (options : Options) (text line : List ℕ) (first : At) (last : Holding) : Type 0 where
+  document_goes_on : step_of text line ≡ GoesOn
+      → last ≡ holding_of (Some (text_with text line)) first → IsInsideShown options text line first last
+  document_ended : step_of text line ≡ Ended → last.document ≡ None
+      → IsDocumentShown options (text_with text line) first last.at
+      → IsInsideShown options text line first last
+  document_broken : (shown : At) → step_of text line ≡ Broken → AreBytesShown options text first shown
+      → IsOutsideShown options line shown last → IsInsideShown options text line first last
+
+abbrev pub IsNextBehind : Options → List ℕ → Option (List ℕ) → At → Holding → Type 0
+IsNextBehind options line None first last = IsOutsideShown options line first last
+IsNextBehind options line (Some text) first last = IsInsideShown options text line first last
+
+abbrev pub IsNextShown : Options → List ℕ → Holding → Holding → Type 0
+IsNextShown options line first last = IsNextBehind options line first.document first.at last
+
+-- the lines of an input were read, and each was shown or is held, in their order
+pub data AreNextShown (options : Options) : Option (List ℕ) → Option (List ℕ) → Holding → Holding → Type 0 where
+  no_next : {i : Option (List ℕ)} {a : Holding} → AreNextShown options i i a a
+  one_next_more : {i j k : Option (List ℕ)} {a b c : Holding} → AreNextShown options i j a b
+      → (bytes : List ℕ) → ReadsLine j k bytes → IsNextShown options bytes b c
+      → AreNextShown options i k a c
+
+-- the lines of a document that doesn't end were shown
+abbrev pub IsHeldShown : Options → Option (List ℕ) → At → At → Type 0
+IsHeldShown options None first last = last ≡ first
+IsHeldShown options (Some text) first last = AreBytesShown options text first last
 
 -- ---- a whole run
 
@@ -342,18 +419,20 @@ EndsSo rest AtEnd = IsAtEnd rest
 EndsSo rest (Unread fault) = ⊤
 
 -- the lines of an input were shown, up to its end or to one that can't be read
-pub record HaveLinesEnded (options : Options) (input : Option (List ℕ)) (first last : At) (ending : Ending)
+pub record HaveLinesEnded (options : Options) (input : Option (List ℕ)) (first last : Holding) (ending : Ending)
     : Type 0 where
   pub rest : Option (List ℕ)
-  pub lines : AreLinesShown options input rest first last
+  pub lines : AreNextShown options input rest first last
   pub ended : EndsSo rest ending
 
 -- and then what is held, in both cases
 pub record IsInputShown (options : Options) (input : Option (List ℕ)) (first last : At) (ending : Ending)
     : Type 0 where
-  pub lines_shown : At
-  pub lines : HaveLinesEnded options input first lines_shown ending
-  pub held : IsFinished options lines_shown last
+  pub lines_shown : Holding
+  pub lines : HaveLinesEnded options input (holding_of None first) lines_shown ending
+  pub document_shown : At
+  pub document : IsHeldShown options lines_shown.document lines_shown.at document_shown
+  pub held : IsFinished options document_shown last
 
 -- what stands behind all: how many more diagnostics there are, and the sum of what was told, on lines of their
 -- own; beside a document, behind its end

@@ -12,7 +12,8 @@ use crate::run::Run;
 use crate::streams::Streams;
 use crate::task::Task;
 use ariadne_blocks::Line;
-use ariadne_parse::{Answer, Diagnostic, told};
+use ariadne_documents::line_answer;
+use ariadne_parse::{Answer, Diagnostic};
 use std::io::Write;
 use std::rt::Files;
 
@@ -69,7 +70,7 @@ impl<R: Files> Task<'_, R> {
             return Ok(());
         }
         let reading = self.options.reading;
-        let answer = told(self.alloc, reading, &mut run.known.sent, line.text)?;
+        let answer = line_answer(self.alloc, reading, &mut run.known.sent, line.text)?;
         self.show_answer(run, line, answer, streams)
     }
 

@@ -4,6 +4,7 @@
 mod answering;
 mod asides;
 pub mod bounds;
+mod documents;
 mod drawing;
 mod entries;
 pub mod environment;

@@ -21,7 +21,7 @@ if there is no FILE.
 Input:
 
   --format FORMAT   reads only one form; all other lines pass through
-      auto     each line by its own form: the default
+      auto     each line, or document of JSON, by its own form: the default
       rustc    lines of rustc --error-format=json and cargo --message-format=json
       gcc      lines of gcc -fdiagnostics-format=json
       lines    FILE:LINE:COLUMN: KIND: MESSAGE

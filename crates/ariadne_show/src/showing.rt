@@ -2,7 +2,7 @@
 
 ghost use Rattle.std.specs.Prelude.{◌≡◌, IfOk, OnOk};
 ghost use Rattle.ariadne_show.specs.ReadFiles.{HaveSources};
-ghost use Rattle.ariadne_show.specs.RunOutput.{at_of, HaveLinesEnded, IsAllShown, IsEnded, IsInputShown, IsStarted};
+ghost use Rattle.ariadne_show.specs.RunOutput.{at_of, holding_of, HaveLinesEnded, IsAllShown, IsEnded, IsInputShown, IsStarted};
 ghost use Rattle.ariadne_show.specs.Sums.{line_end as end_before};
 ghost use Rattle.ariadne_show.specs.Writing.{is_open as is_line_open, out_of};
 
@@ -15,6 +15,7 @@ use crate::streams::Streams;
 use crate::sum::Sum;
 use crate::task::Task;
 use crate::writing::{Shown, Written, is_document};
+use ariadne_documents::Document;
 use ariadne_outputs::{SARIF_TAIL, sarif_head};
 use std::alloc::Global;
 use std::io::{BufRead, Write};
@@ -92,7 +93,9 @@ impl<R: Files> Task<'_, R> {
         ensures { IfOk result (IsInputShown self.now.options.now (I.remaining input.old)
             (at_of run.old streams.old) (at_of run.new streams.new)) }
     {
-        let ending = self.show_lines(run, input, streams)?;
+        let mut held = None;
+        let ending = self.show_lines(run, &mut held, input, streams)?;
+        self.show_held(run, &held, streams)?;
         self.finish(run, streams)?;
         Ok(ending)
     }
@@ -101,19 +104,21 @@ impl<R: Files> Task<'_, R> {
     fn show_lines<I: BufRead, W: Write, F: Write>(
         &self,
         run: &mut Run,
+        held: &mut Option<Document>,
         input: &mut I,
         streams: &mut Streams<W, F>,
     ) -> Result<Ending, Fault>
         requires { HaveSources run.old.known.finder.shelf }
         ensures shown { IfOk result (HaveLinesEnded self.now.options.now (I.remaining input.old)
-            (at_of run.old streams.old) (at_of run.new streams.new)) }
+            (holding_of held.old (at_of run.old streams.old))
+            (holding_of held.new (at_of run.new streams.new))) }
         ensures sources { OnOk result (HaveSources run.new.known.finder.shelf) }
     {
         let mut line = Vec::new(self.alloc);
         'lines: for _ in 0..u64::MAX {
             line.clear();
             match read_line(input, &mut line) {
-                Ok(true) => self.show_line(run, line.as_slice(), streams)?,
+                Ok(true) => self.show_next(run, held, line.as_slice(), streams)?,
                 Ok(false) => return Ok(Ending::AtEnd),
                 Err(fault) => return Ok(Ending::Unread(fault)),
             }

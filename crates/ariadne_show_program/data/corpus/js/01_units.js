@@ -1,0 +1,9 @@
+"use strict";
+
+var grüße = "a";
+function count(basket) {
+	if (basket = "🍐" + pears) {
+		debugger;
+	}
+	return basket /* 漢字 */ + apples
+}
