@@ -26,6 +26,10 @@ filled_next n m d is_closing text front behind said left more is stands =
 
 -- ---- what is written so far, and what is left
 
+-- what stands behind the first part is one part
+regrouped : (first front said more : List ℕ) → first ++ front ++ said ++ more ≡ first ++ (front ++ said ++ more)
+regrouped first front said more = simp append_assoc
+
 -- a brace is passed
 pub brace_passed : (d : Data) (is_closing : Bool) (turn : ℕ) (text rest front behind said left first pushed all : List ℕ)
     → turn < length text → Some (is_closing, front, behind) ≡ at_brace rest → (said, left) ≡ braced d is_closing behind
@@ -37,7 +41,7 @@ brace_passed d is_closing turn text rest front behind said left first pushed all
     let n : length text - turn ≡ suc m = omega arith in
     let more : List ℕ = filled_by m d left in
     ap (λ t. t ++ more) (said_more ∙ ap (λ t. t ++ said) front_more)
-    ∙ append_assoc (first ++ front) said more ∙ append_assoc first front (said ++ more)
+    ∙ regrouped first front said more
     ∙ ap (λ t. first ++ t) (sym (filled_next (length text - turn) m d is_closing rest front behind said left n is stands)) ∙ same
 
 -- no brace stands there

@@ -60,10 +60,11 @@ braced d false text = opening d text
 -- a text at the first of its braces: whether it is a closing one, what stands in front of it, and what behind it
 abbrev pub first_of : Option (List ℕ × List ℕ) → Option (List ℕ × List ℕ) → Option (Bool × List ℕ × List ℕ)
 first_of None None = None
-first_of (Some opens) None = Some (false, opens)
-first_of None (Some closes) = Some (true, closes)
+first_of (Some opens) None = Some (false, opens.0, opens.1)
+first_of None (Some closes) = Some (true, closes.0, closes.1)
 first_of (Some opens) (Some closes) =
-    if nat_lt (length closes.0) (length opens.0) then Some (true, closes) else Some (false, opens)
+    if nat_lt (length closes.0) (length opens.0) then Some (true, closes.0, closes.1)
+    else Some (false, opens.0, opens.1)
 
 abbrev pub at_brace : List ℕ → Option (Bool × List ℕ × List ℕ)
 at_brace text = first_of (split_once 123 text) (split_once 125 text)

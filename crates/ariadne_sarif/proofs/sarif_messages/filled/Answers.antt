@@ -13,7 +13,7 @@ loop-turn-preserved c =
       is_text = text;
       same = brace_passed (view c.args.message.now) c.in-Some.is_closing c.loop-turn.turn c.args.text.now c.loop-turn.rest.now
           c.in-Some.front.now c.in-Some.behind.now c.braced.result.0.now c.braced.result.1.now (string_bytes c.loop-turn.all)
-          (string_bytes c.push_str.new.self) (string_bytes c.push_str-2.new.self) (omega arith) c.in-Some.ensures c.braced.ensures
+          (string_bytes c.push_str.new.self) (string_bytes c.push_str-in-loop-turn.new.self) (omega arith) c.in-Some.ensures c.braced.ensures
           c.in_ok-push_str.ensures.bytes c.in_ok-push_str-2.ensures.bytes c.loop-turn.invariant.same;
     }
 
@@ -28,7 +28,7 @@ returns-in_default c =
 -- no turn is left
 pub returns : goal.returns
 returns c =
-    IfOk-weaker c.with_rest.result _ _
+    IfOk-weaker c.with_rest-2.result _ _
     (λ all more. brace_past (view c.args.message.now) c.loop-turn.turn c.args.text.now c.loop-turn.rest.now (string_bytes c.loop-turn.all) (string_bytes all)
     (omega arith) more c.loop-turn.invariant.same)
-    c.with_rest.ensures
+    c.with_rest-2.ensures
