@@ -11,7 +11,7 @@ members_in (Some members) = members
 abbrev pub is_one : Members → Bool
 is_one no_members = false
 is_one (member k d no_members) = true
-is_one (member k d (member l e members)) = false
+is_one (member k d (member l e others)) = false
 
 -- each member passes
 abbrev pub all_members : (Data → Bool) → Members → Bool

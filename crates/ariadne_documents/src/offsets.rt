@@ -1,6 +1,6 @@
 //! Offsets in a text, which count UTF-16, as lines and columns.
 
-ghost use Rattle.std.specs.Prelude.{◌≡◌, ◌<◌, ◌^◌};
+ghost use Rattle.std.specs.Prelude.{◌≡◌, ◌-◌, ◌<◌, ◌^◌};
 ghost use Rattle.ariadne_documents.specs.Offsets as offsets;
 
 use ariadne_parse::Spot;

@@ -91,10 +91,10 @@ fn have_list(packages: &Map<String, Value>) -> bool
 }
 
 /// Whether a package has a list of diagnostics.
-fn has_list(package: &Value) -> bool
-    ensures { result ≡ vet.has_list (view package.now) }
+fn has_list(value: &Value) -> bool
+    ensures { result ≡ vet.has_list (view value.now) }
 {
-    match package.as_object() {
+    match value.as_object() {
         Some(analyzers) => is_list_among(analyzers),
         None => false,
     }
