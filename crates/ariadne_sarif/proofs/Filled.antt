@@ -1,6 +1,6 @@
 -- The braces of a message of SARIF, one behind the other.
 use Rattle.std.proofs.Common.{◌≡◌, ◌∙◌, ap, append_assoc, arith, refl, sym}
-use Rattle.std.specs.Prelude.{ℕ, zero, suc, ◌+◌, ◌-◌, ◌<◌, Bool, ◌++◌, List, length, Option, Some, None}
+use Rattle.std.specs.Prelude.{ℕ, zero, suc, ◌+◌, ◌-◌, ◌<◌, Bool, ◌++◌, List, length, Some, None}
 use Rattle.serde_json.specs.Data.{Data}
 use Rattle.ariadne_sarif.specs.SarifMessages.{at_brace, braced, filled, filled_by, filled_on}
 

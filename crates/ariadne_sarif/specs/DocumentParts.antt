@@ -7,7 +7,7 @@ use Rattle.std.specs.Option.{option_to_list}
 use Rattle.serde_json.specs.Data.{Data, Items, no_items, item}
 use Rattle.serde_json.specs.Find.{get}
 use Rattle.ariadne_parse.specs.Fixes.{change_words, reasoned, unnamed, up_to, Standing}
-use Rattle.ariadne_parse.specs.Members.{all_items, end_before, has_none, items_in, list_at, number_at, spot_at, text_at, words_at}
+use Rattle.ariadne_parse.specs.Members.{all_items, end_before, items_in, list_at, number_at, spot_at, text_at}
 use Rattle.ariadne_parse.specs.Places.{is_same_spot, place_of, Seen}
 use Rattle.ariadne_parse.specs.Proposed.{Edit, Proposed}
 use Rattle.ariadne_parse.specs.Read.{Read}

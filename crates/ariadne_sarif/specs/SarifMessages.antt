@@ -4,7 +4,7 @@
 use Rattle.std.specs.Prelude.{ℕ, zero, suc, nat_lt, Bool, true, false, if◌then◌else◌, List, [], ◌++◌, codes, length}
 use Rattle.std.specs.Prelude.{Option, Some, None, option_and_then, option_map, unwrap_or}
 use Rattle.std.specs.Option.{option_or}
-use Rattle.serde_json.specs.Data.{Data, Items}
+use Rattle.serde_json.specs.Data.{Data}
 use Rattle.serde_json.specs.Find.{as_str, at, get}
 use Rattle.ariadne_parse.specs.Members.{has_none, items_in, list_at, text_at, words_at}
 use Rattle.ariadne_parse.specs.TextPieces.{behind_text, split_once, whole_number}

@@ -1,14 +1,12 @@
 -- Where SARIF's results are: the files of artifact locations, the places of regions, and the changes of replacements.
-use Rattle.std.specs.Prelude.{ℕ, zero, suc, ◌==◌, Bool, false, not, ◌&&◌, ◌||◌, if◌then◌else◌, List, [], ◌∷◌, ◌++◌, codes, length}
+use Rattle.std.specs.Prelude.{ℕ, zero, suc, ◌==◌, Bool, ◌||◌, if◌then◌else◌, List, [], ◌++◌, codes, length}
 use Rattle.std.specs.Prelude.{Option, Some, None, is_some, option_and_then, option_map, unwrap_or}
 use Rattle.std.specs.List.{cons_option}
-use Rattle.std.specs.Option.{option_or}
 use Rattle.serde_json.specs.Data.{Data, Items, no_items, item}
 use Rattle.serde_json.specs.Find.{at, get}
-use Rattle.ariadne_parse.specs.Members.{has_words, items_in, list_at, number_at, spot_at, text_at, words_at}
+use Rattle.ariadne_parse.specs.Members.{has_words, number_at, spot_at, text_at, words_at}
 use Rattle.ariadne_parse.specs.Places.{place_of, Seen}
 use Rattle.ariadne_parse.specs.Proposed.{Edit}
-use Rattle.ariadne_parse.specs.declared.diagnostic.End.{End}
 use Rattle.ariadne_parse.specs.declared.diagnostic.End.TheVariants.{Before}
 use Rattle.ariadne_parse.specs.declared.diagnostic.Spot.{Spot}
 use Rattle.ariadne_parse.specs.declared.unit.Unit.{Unit}

@@ -1,4 +1,4 @@
-use Rattle.std.proofs.Common.{rules, arith, sym, string_bytes}
+use Rattle.std.proofs.Common.{rules, arith, string_bytes}
 use Rattle.std.proofs.lemmas.Result.{IfOk-weaker}
 use Rattle.std.specs.Str.{IsUtf8}
 use Rattle.serde_json.specs.View.{view}
