@@ -29,12 +29,7 @@ fn shellcheck(rt: HostRuntime) {
         ],
     );
     assert_told(&rt, rt.alloc(), r#"{"comments":[]}"#, &[]);
-    assert_told(
-        &rt,
-        rt.alloc(),
-        r#"{"comments":[],"id":1}"#,
-        &["no form"],
-    );
+    assert_told(&rt, rt.alloc(), r#"{"comments":[],"id":1}"#, &["no form"]);
     assert_told(
         &rt,
         rt.alloc(),

@@ -104,7 +104,8 @@ fn a_log_by_the_standard(rt: HostRuntime) {
 
 /// By the standard: arguments, a rule of an extension, a result that tells of no failure, one that is gone, and the steps of
 /// code flows.
-const SAID: &str = r#"{"version":"2.1.0","runs":[{"tool":{"driver":{"name":"t","rules":[{"id":"D0"},{"id":"D1"}]},
+const SAID: &str =
+    r#"{"version":"2.1.0","runs":[{"tool":{"driver":{"name":"t","rules":[{"id":"D0"},{"id":"D1"}]},
 "extensions":[{"name":"x","rules":[{"id":"X0"},{"id":"X1","defaultConfiguration":{"level":"error"},
 "messageStrings":{"one":{"text":"{0} is {1}{1}, not {2}, {x}, {{0}}, {{{0}}} or {"}}}]}]},
 "results":[

@@ -54,11 +54,7 @@ pub(crate) fn copied(alloc: Global, text: Option<&str>) -> Result<Option<String>
 
 /// The place that a line points at: the range that has it, up to the end that the line names, or the
 /// word there.
-fn own_place(
-    alloc: Global,
-    it: &ToldLine<'_>,
-    counting: Counting,
-) -> Result<Place, AllocError>
+fn own_place(alloc: Global, it: &ToldLine<'_>, counting: Counting) -> Result<Place, AllocError>
     ensures { IfOk result (λ place. seen place ≡ own_place_of (head_told it.now) counting) }
 {
     let (start, end) = match (own_range(it), it.end) {
