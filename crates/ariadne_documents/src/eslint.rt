@@ -133,13 +133,7 @@ fn told_by_message(
 {
     let mut told = unfixed(alloc, file, value)?;
     push_own_fix(alloc, &mut told, "", file, source, value)?;
-    push_suggestions(
-        alloc,
-        &mut told,
-        file,
-        source,
-        items(value, "suggestions"),
-    )?;
+    push_suggestions(alloc, &mut told, file, source, items(value, "suggestions"))?;
     Ok(told)
 }
 

@@ -23,9 +23,7 @@ use std::alloc::{AllocError, Global};
 pub(crate) fn is_shellcheck(value: &Value) -> bool
     ensures { result ≡ shellcheck.is_shellcheck (view value.now) }
 {
-    has_one_member(value)
-        && has_list(value, "comments")
-        && are_comments(items(value, "comments"))
+    has_one_member(value) && has_list(value, "comments") && are_comments(items(value, "comments"))
 }
 
 /// Whether a value is an object of one member.

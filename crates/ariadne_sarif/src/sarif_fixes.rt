@@ -40,7 +40,13 @@ fn push_one(
     ensures { OnOk result (read told.new ≡ sarif.with_one (view run.now) (view fix.now) (read told.old)) }
 {
     let why = message_in(alloc, fix, "description")?;
-    push_changes(alloc, told, run, why.as_str(), items(fix, "artifactChanges"))
+    push_changes(
+        alloc,
+        told,
+        run,
+        why.as_str(),
+        items(fix, "artifactChanges"),
+    )
 }
 
 /// Adds the changes of artifacts.
