@@ -7,6 +7,9 @@ use serde_json::Value;
 use std::alloc::{AllocError, Global};
 use std::process::Abort;
 
+/// What stands for a row behind the last one.
+const NO_ROW: &str = "no row";
+
 /// Asserts that a document in one line tells this, row by row.
 pub fn assert_told<R: Abort>(rt: &R, alloc: Global, document: &str, wanted: &[&str]) {
     let found = document_text(alloc, document).expect(rt, "memory");
@@ -15,13 +18,12 @@ pub fn assert_told<R: Abort>(rt: &R, alloc: Global, document: &str, wanted: &[&s
 
 /// Asserts that a text has these rows.
 pub fn assert_rows<R: Abort>(rt: &R, text: &str, wanted: &[&str]) {
-    let mut number = 0;
+    let mut rest = wanted.iter();
     for row in text.lines() {
-        let want = wanted.get(number).copied().unwrap_or("nothing");
-        assert_eq!(rt; row, want, "row {number}");
-        number += 1;
+        let want = rest.next().copied().unwrap_or(NO_ROW);
+        assert_eq!(rt; row, want);
     }
-    assert_eq!(rt; number, wanted.len(), "the number of rows");
+    assert_eq!(rt; NO_ROW, rest.next().copied().unwrap_or(NO_ROW));
 }
 
 /// What a document tells, in rows.
