@@ -15,8 +15,8 @@ use Rattle.clap.specs.Walk.{is_empty, is_simple_arg}
 use Rattle.clap.specs.declared.builder.arg.Arg.{Arg}
 use Rattle.clap.specs.declared.builder.command.Command.{Command}
 use Rattle.clap.specs.declared.builder.value_parser.ValueParser.{ValueParser}
-use Rattle.ariadne_show.specs.CommandWords.{AreNames, IsParsedBy, Names, bare_command, command}
-use Rattle.ariadne_show.specs.OptionMeanings.{IsNumber, IsNumberIn, IsRefusedFor, IsWidthIn, input_path, value}
+use Rattle.ariadne_show.specs.CommandWords.{AreNames, ForNames, IsParsedBy, Names, bare_command, command, entries, refusals}
+use Rattle.ariadne_show.specs.OptionMeanings.{AreInputsOf, AreOptionsOf, IsNumber, IsNumberIn, IsRefusedFor, IsWidthIn, input_path, value}
 use Rattle.ariadne_show.specs.Faults.{TellsWords}
 use Rattle.ariadne_show.specs.declared.fault.Fault.{Fault}
 use Rattle.ariadne_show.specs.declared.fault.Fault.TheVariants.{NoText, Words, Unread, UnreadFile}
@@ -24,6 +24,8 @@ use Rattle.ariadne_show.specs.declared.fault.Fault.TheVariants.{Writer, BrokenPi
 use Rattle.ariadne_show.specs.CommandWords.{option_rule, texts_in, typed_rule}
 use Rattle.ariadne_show.specs.OptionMeanings.{path_named, paths_named}
 use Rattle.ariadne_show.specs.declared.options.Input.{Input}
+use Rattle.ariadne_show.specs.declared.options.Options.{Options}
+use Rattle.ariadne_show.specs.declared.options.Width.{Width}
 
 -- of two that hold both, the second does
 second : (a b : Bool) → (a && b) ≡ true → b ≡ true
@@ -107,6 +109,16 @@ wrong_width words m (UnreadFile path reason) parsed none tells = absurd tells
 wrong_width words m Writer parsed none tells = absurd tells
 wrong_width words m BrokenPipe parsed none tells = absurd tells
 wrong_width words m (Memory refused) parsed none tells = absurd tells
+
+-- words that `clap` finds nothing wrong with, and whose width is one, ask for what their rows say
+pub asked : (words : List (List ℕ)) (m : ArgMatches) (options : Options) (width : Width) (inputs : List Input) → IsParsedBy words (Ok m)
+    → IsWidthIn (value (rows_of (found_of m)) (codes "width")) (Some width) → AreOptionsOf (rows_of (found_of m)) options
+    → options.width ≡ width → AreInputsOf (rows_of (found_of m)) inputs
+    → ForNames (λ names. (refusals names words ≡ []) × AreOptionsOf (entries names words) options × AreInputsOf (entries names words) inputs
+    × IsWidthIn (value (entries names words) (codes "width")) (Some options.width))
+asked words m options width inputs parsed is_width are same read =
+    let rows = parsed.2 in
+    (parsed.0, parsed.1, (rows.0, rw rows.1 at are, rw rows.1 at read, rw same (rw rows.1 at is_width)))
 
 -- ---- numbers
 
