@@ -1,9 +1,11 @@
 -- The columns of a line that is cut, as they are held: those of the places of which anything is seen,
 -- in their order. A place between two of them takes no columns, so it begins where the next one does.
-use Rattle.std.specs.Prelude.{⊤, ℕ, ◌≡◌, ◌<◌, ◌≤◌, nat_le, if◌then◌else◌, List, [], ◌∷◌, length, map}
+use Rattle.std.specs.Prelude.{⊤, ℕ, ◌≡◌, ◌+◌, ◌<◌, ◌≤◌, nat_le, if◌then◌else◌, List, [], ◌∷◌, length, map}
 use Rattle.std.specs.List.{AllByRecursion}
 use Rattle.ariadne_base.specs.Locations.{upto}
 use Rattle.ariadne_cells.specs.declared.line_columns.Knot.{Knot}
+use Rattle.ariadne_picture.specs.declared.switches.Switches.{Switches}
+use Rattle.ariadne_picture.specs.Columns.{Layout, column_of}
 
 -- each stands behind the one before it
 unfoldable pub AreRising : List Knot → Type 0
@@ -30,3 +32,18 @@ pub record HoldColumns (f : ℕ → ℕ) (knots : List Knot) (n column : ℕ) : 
   pub before : AllByRecursion (λ q. q.place < n) knots
   pub next : column ≡ f n
   pub held : (k : ℕ) → k ≤ n → knot_column column knots k ≡ f k
+
+-- those of the places up to len of a cut line
+abbrev pub AreKnots : Switches → Layout → ℕ → List Knot → Type 0
+AreKnots switches y len knots =
+    (k : ℕ) → k ≤ len → knot_column 0 knots k ≡ column_of switches y k
+
+-- ---- where places begin, if place k begins at f k
+
+-- each of the places from `from` to before `to` has one column
+abbrev pub AreEven : (ℕ → ℕ) → ℕ → ℕ → Type 0
+AreEven f from to = (k : ℕ) → from ≤ k → k < to → f (k + 1) ≡ f k + 1
+
+-- all places behind `from`, up to `to`, begin at one column
+abbrev pub AreAt : (ℕ → ℕ) → ℕ → ℕ → ℕ → Type 0
+AreAt f from to column = (k : ℕ) → from < k → k ≤ to → f k ≡ column

@@ -1,8 +1,10 @@
 -- The parts of a line that each show one of some labels: at each place the preferred one of those whose
 -- span holds it. What two lists of labels show, one behind the other, tells what both show together.
 use Rattle.std.specs.Prelude.{ℕ, ◌≡◌, ◌+◌, ◌<◌, ◌≤◌, nat_lt, if◌then◌else◌, List, [], ◌∷◌}
-use Rattle.std.specs.Prelude.{filter, Option, Some, None, option_copied}
+use Rattle.std.specs.Prelude.{filter, Option, Some, None, option_copied, option_map}
+use Rattle.ariadne_cells.specs.Tables.{shown_at}
 use Rattle.ariadne_cells.specs.declared.parts.Part.{Part}
+use Rattle.ariadne_cells.specs.declared.stretches.Stretch.{Stretch}
 use Rattle.ariadne_picture.specs.declared.label_info.LabelInfo.{LabelInfo}
 use Rattle.ariadne_picture.specs.Lists.{best}
 use Rattle.ariadne_picture.specs.Strokes.{holds, is_preferred}
@@ -22,6 +24,11 @@ pub record AreParts (labels : List LabelInfo) (offset len : ℕ) (parts : List P
   pub reach : Reach 0 len parts
   pub show : (k : ℕ) → k < len
       → seen_at parts k ≡ best is_preferred (filter (λ a. holds a (offset + k)) labels)
+
+-- at each place these stretches show the label that these parts do
+abbrev pub ShowParts : List Stretch → List Part → Type 0
+ShowParts stretches parts =
+    (k : ℕ) → shown_at stretches k ≡ option_map (λ a. a.position) (seen_at parts k)
 
 -- of a label and one behind it the second only where it is preferred
 unfoldable pub better_one : Option LabelInfo → Option LabelInfo → Option LabelInfo

@@ -1,9 +1,10 @@
 -- What is seen at the places of one line, found once for the line. Each place has its column, the
 -- vertical that is seen there in the rows of a line label, the label whose underline is seen there,
 -- and the label that colours the character there. It is held in stretches, and read by place.
-use Rattle.std.specs.Prelude.{ℕ, ◌≡◌, ◌<◌, ◌≤◌, ◌==◌, nat_lt, false, if◌then◌else◌, List}
+use Rattle.std.specs.Prelude.{ℕ, ◌≡◌, ◌+◌, ◌-◌, ◌<◌, ◌≤◌, ◌==◌, nat_lt, false, if◌then◌else◌, List}
 use Rattle.std.specs.Prelude.{[], ◌∷◌, length, filter, slice_get, slice_index, Option, Some, None, option_map, unwrap_or}
-use Rattle.std.specs.List.{last_or}
+use Rattle.std.specs.List.{last_or, list_any}
+use Rattle.ariadne_cells.specs.Choices.{shown_position}
 use Rattle.ariadne_cells.specs.declared.stretches.Stretch.{Stretch}
 use Rattle.ariadne_cells.specs.declared.table.LineTable.{LineTable}
 use Rattle.ariadne_cells.specs.declared.verticals.Vertical.{Vertical}
@@ -16,7 +17,7 @@ use Rattle.ariadne_base.specs.Locations.{upto}
 use Rattle.ariadne_picture.specs.Lists.{total}
 use Rattle.ariadne_picture.specs.Ranks.{is_inline}
 use Rattle.ariadne_picture.specs.Columns.{Layout, shown, arrow_len, column_of, whole_column, width}
-use Rattle.ariadne_picture.specs.Strokes.{vertical_at, underline_at, underline_row}
+use Rattle.ariadne_picture.specs.Strokes.{holds, vertical_at, underline_at, underline_row}
 use Rattle.ariadne_picture.specs.Pieces.{char_paint}
 
 -- ---- how it is read
@@ -40,6 +41,15 @@ tab_columns switches y =
 unfoldable pub shown_at : List Stretch → ℕ → Option ℕ
 shown_at [] k = None
 shown_at (s ∷ stretches) k = if nat_lt k s.end then s.position else shown_at stretches k
+
+-- no vertical is seen at the places from `from` to before `to`
+abbrev pub AreOpen : List Vertical → ℕ → ℕ → Type 0
+AreOpen verticals from to = (k : ℕ) → from ≤ k → k < to → seen_vertical verticals k ≡ None
+
+-- at one place this vertical is seen, or none; elsewhere those are that were seen before
+abbrev pub IsSeenInstead : List Vertical → List Vertical → ℕ → Option Vertical → Type 0
+IsSeenInstead old new place v =
+    (k : ℕ) → seen_vertical new k ≡ (if place == k then v else seen_vertical old k)
 
 -- the colour of a label, or that of text outside all labels
 unfoldable pub position_paint : Option ℕ → Paint
@@ -66,6 +76,11 @@ abbrev pub AreWholeColumns : ℕ → List ℕ → List ℕ → Type 0
 AreWholeColumns tab_width text columns =
     (k : ℕ) → k ≤ length text → column_in columns k ≡ whole_column tab_width text k
 
+-- the places from `from` to before `to` have as many columns as by these columns, if place k begins at f k
+abbrev pub AreAsWide : (ℕ → ℕ) → List ℕ → ℕ → ℕ → Type 0
+AreAsWide f columns from to =
+    (k : ℕ) → from ≤ k → k < to → f (k + 1) ≡ f k + (column_in columns (k + 1) - column_in columns k)
+
 -- the verticals that are seen in the rows of rank r
 abbrev pub AreVerticals : Layout → ℕ → List Vertical → Type 0
 AreVerticals y r verticals =
@@ -76,6 +91,24 @@ abbrev pub AreUnderlines : Switches → Layout → ℕ → List Stretch → Type
 AreUnderlines switches y len underlines =
     (k : ℕ) → k < len → shown_at underlines k
     ≡ option_map position_of (underline_at switches y (underline_row y) k)
+
+-- the stretches of the places below len of a line that begins at this offset: each place shows what
+-- these labels show
+abbrev pub AreStretches : List LabelInfo → ℕ → ℕ → List Stretch → Type 0
+AreStretches labels offset len stretches =
+    (k : ℕ) → k < len → shown_at stretches k ≡ shown_position labels (offset + k)
+
+-- those of all its places
+abbrev pub AreAllStretches : List LabelInfo → ℕ → List Stretch → Type 0
+AreAllStretches labels offset stretches =
+    (k : ℕ) → shown_at stretches k ≡ shown_position labels (offset + k)
+
+-- of a group's multi-line labels those that do not have one of these numbers hold no shown character
+abbrev pub OthersHoldNone : List LabelInfo → List ℕ → Layout → Type 0
+OthersHoldNone multi_line numbers y =
+    (i : ℕ) (a : LabelInfo) → slice_get multi_line i ≡ Some a
+    → list_any (λ j. j == i) numbers ≡ false
+    → (k : ℕ) → k < length (shown y) → holds a (y.offset + k) ≡ false
 
 -- the labels that colour the shown characters, of a group with these multi-line labels
 abbrev pub ArePaints : List LabelInfo → Layout → List Stretch → Type 0

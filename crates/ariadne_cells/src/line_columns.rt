@@ -4,10 +4,12 @@ ghost use Rattle.std.specs.Prelude.{◌≡◌, ◌≢◌, ◌+◌, ◌-◌, ◌�
 ghost use Rattle.std.specs.Prelude.{length, min};
 ghost use Rattle.std.specs.List.{range_with_len};
 ghost use Rattle.ariadne_cells.specs.Cuts.{AreApart, cut_column, end_of, mark_before, mark_behind};
-ghost use Rattle.ariadne_cells.specs.Knots.{AreRising, HoldColumns, knot_column};
-ghost use Rattle.ariadne_cells.specs.Tables.{AreColumns, AreWholeColumns, column_in, tab_columns};
+ghost use Rattle.ariadne_cells.specs.Knots.{AreAt, AreEven, AreKnots, AreRising};
+ghost use Rattle.ariadne_cells.specs.Knots.{HoldColumns, knot_column};
+ghost use Rattle.ariadne_cells.specs.Tables.{AreAsWide, AreColumns, AreWholeColumns, column_in};
+ghost use Rattle.ariadne_cells.specs.Tables.{tab_columns};
 ghost use Rattle.ariadne_picture.specs.declared.switches.Switches.{Switches};
-ghost use Rattle.ariadne_picture.specs.Columns.{column_of, shown};
+ghost use Rattle.ariadne_picture.specs.Columns.{shown};
 
 use crate::columns::{WholeColumns, mark_columns, push_whole};
 use crate::cuts::is_marked_before;
@@ -233,8 +235,7 @@ fn push_cut(
     requires whole { AreWholeColumns switches.now.tab_width (shown layout.now) whole.now }
     ensures rising { OnOk result (AreRising knots.new.items) }
     ensures some { OnOk result (knots.new.items ≢ []) }
-    ensures held { OnOk result ((k : ℕ) → k ≤ len →
-        knot_column 0 knots.new.items k ≡ column_of switches.now layout.now k) }
+    ensures held { OnOk result (AreKnots switches.now layout.now len knots.new.items) }
 {
     let end = len.min(layout.shown_len());
     let column = push_parts(knots, switches.char_set, whole, layout.parts(), end)?;
@@ -301,8 +302,7 @@ fn push_seen(
 ) -> Result<usize, AllocError>
     requires { from ≤ to }
     ensures { (f : ℕ → ℕ) → HoldColumns f knots.old.items from column →
-        ((k : ℕ) → from ≤ k → k < to →
-        f (k + 1) ≡ f k + (column_in whole.now (k + 1) - column_in whole.now k)) →
+        AreAsWide f whole.now from to →
         IfOk result (λ next. HoldColumns f knots.new.items to next) }
 {
     let mut next = column;
@@ -322,7 +322,7 @@ fn push_end(
     column: usize,
 ) -> Result<usize, AllocError>
     ensures { (f : ℕ → ℕ) → HoldColumns f knots.old.items (min (end_of 0 parts.now) end) column →
-        ((k : ℕ) → end_of 0 parts.now < k → k ≤ end → f k ≡ column + mark_behind set parts.now end) →
+        AreAt f (end_of 0 parts.now) end (column + mark_behind set parts.now end) →
         IfOk result (λ next. HoldColumns f knots.new.items end next) }
 {
     match parts.last() {
@@ -341,7 +341,7 @@ fn push_even(
 ) -> Result<usize, AllocError>
     requires { from ≤ to }
     ensures { (f : ℕ → ℕ) → HoldColumns f knots.old.items from column →
-        ((k : ℕ) → from ≤ k → k < to → f (k + 1) ≡ f k + 1) →
+        AreEven f from to →
         IfOk result (λ next. HoldColumns f knots.new.items to next) }
 {
     let mut next = column;

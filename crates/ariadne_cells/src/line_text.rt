@@ -1,10 +1,9 @@
 //! The characters of one line of a source.
 
-ghost use Rattle.std.specs.Prelude.{◌≡◌, ℕ, ◌≤◌, ◌<◌, ◌↔◌, IfSome, IsTrue, chars, length};
-ghost use Rattle.std.specs.Prelude.{slice_index, true};
+ghost use Rattle.std.specs.Prelude.{◌≡◌, ◌≤◌, ◌↔◌, IfSome, IsTrue, chars, length, true};
 ghost use Rattle.std.specs.Str.{drop_trailing_whitespace, trim_end};
 ghost use Rattle.std.specs.List.{AllByRecursion};
-ghost use Rattle.ariadne_cells.specs.Ends.{shown_bytes};
+ghost use Rattle.ariadne_cells.specs.Ends.{AreBlanks, AreBlanksFrom, shown_bytes};
 
 use ariadne_base::blocks::count::count_chars;
 use std::marker::Model;
@@ -128,7 +127,7 @@ fn unterminated(line: &str) -> &str
 /// Where the blocks of 64 blanks at the end of a text begin, or its end where it has none.
 fn blocks_start(bytes: &[u8]) -> usize
     ensures within { result ≤ length bytes.now }
-    ensures blank { (k : ℕ) → result ≤ k → k < length bytes.now → slice_index bytes.now k ≡ 32 }
+    ensures blank { AreBlanksFrom result bytes.now }
 {
     let mut start = bytes.len();
     while start >= 64 && is_blank(&bytes[start - 64..start]) {
@@ -141,7 +140,7 @@ fn blocks_start(bytes: &[u8]) -> usize
 #[inline(always)]
 fn is_blank(block: &[u8]) -> bool
     requires { length block.now ≡ 64 }
-    ensures { result ≡ true → (k : ℕ) → k < 64 → slice_index block.now k ≡ 32 }
+    ensures { result ≡ true → AreBlanks 64 block.now }
 {
     u8x64::from_slice(block)
         .simd_ne(u8x64::splat(b' '))

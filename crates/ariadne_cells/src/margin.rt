@@ -1,8 +1,8 @@
 //! The margins of rows: what stands left of the gutter.
 
-ghost use Rattle.std.specs.Prelude.{◌≡◌, ℕ, ◌++◌, [], ◌∷◌, IfOk, OnOk, decimal, if◌then◌else◌, length};
+ghost use Rattle.std.specs.Prelude.{◌≡◌, ◌+◌, ◌<◌, ◌^◌, ◌++◌, [], ◌∷◌, IfOk, OnOk, decimal, length};
+ghost use Rattle.std.specs.Prelude.{if◌then◌else◌};
 ghost use Rattle.std.specs.Prelude.{string_bytes};
-ghost use Rattle.ariadne_picture.specs.Groups.{printed_number};
 ghost use Rattle.ariadne_picture.specs.Pieces.{margin_pieces};
 ghost use Rattle.ariadne_picture.specs.Print.{pieces_bytes};
 ghost use Rattle.ariadne_picture.specs.Rows.{bare, gap, source};
@@ -65,7 +65,7 @@ pub(crate) fn push_bar_margin(
     push_margin_end(out, switches)
 }
 
-/// Appends the margin of the source row of a line, whose printed number is `number`.
+/// Appends the margin of the source row of a line, whose number is printed with this offset.
 ///
 /// ```text
 ///       9 |
@@ -74,14 +74,16 @@ pub(crate) fn push_bar_margin(
 pub(crate) fn push_line_margin(
     out: &mut String,
     page: &Page,
-    number: usize,
+    display_offset: usize,
+    line: usize,
 ) -> Result<(), AllocError>
-    ensures { (display_offset line : ℕ) → number ≡ printed_number display_offset line →
-        let page = page.now in
+    requires fits { line + 1 + display_offset < 2 ^ 64 }
+    ensures { let page = page.now in
         let margin = margin_pieces page.switches page.number_width display_offset (source line) in
         let written = pieces_bytes page.palette margin in
         OnOk result (string_bytes out.new ≡ string_bytes out.old ++ written) }
 {
+    let number = line + 1 + display_offset;
     let color = page.color_of(Paint::Margin);
     let switches = page.switches();
     let mut buffer = itoa::Buffer::new();

@@ -1,19 +1,17 @@
 //! The pen of a picture: pieces, strokes and runs of strokes, appended to its text.
 
-ghost use Rattle.std.specs.Prelude.{◌≡◌, ◌<◌, ◌^◌, ℕ, [], ◌∷◌, OnOk, decimal, encode_utf8, length};
-ghost use Rattle.std.specs.Prelude.{replicate, string_bytes};
+ghost use Rattle.std.specs.Prelude.{◌≡◌, ◌+◌, ◌<◌, ◌^◌, [], ◌∷◌, OnOk, decimal, encode_utf8};
+ghost use Rattle.std.specs.Prelude.{length, replicate, string_bytes};
 ghost use Rattle.ariadne_color.specs.Colors.{painted};
 ghost use Rattle.ariadne_color.specs.Escapes.{closed, opened};
 ghost use Rattle.ariadne_cells.specs.Pages.{Adds, Draws};
 ghost use Rattle.ariadne_picture.specs.Canvas.{color_of};
-ghost use Rattle.ariadne_picture.specs.Groups.{printed_number};
 ghost use Rattle.ariadne_picture.specs.Pieces.{glyph_text, ink_pieces, margin_pieces, repeated};
 ghost use Rattle.ariadne_picture.specs.Pieces.{spaces, stroke};
 ghost use Rattle.ariadne_picture.specs.Rows.{bare, gap, source};
 
 use crate::opening::{Opening, push_painted, push_painted_char};
 use crate::page::Page;
-use crate::runs::push_painted_run;
 use crate::{margin, runs};
 use ariadne_color::color;
 use ariadne_picture::cell::{Glyph, Ink, Paint};
@@ -25,6 +23,7 @@ use std::marker::Model;
 #[derive(Drop)]
 pub struct Pen<'a> {
     text: String,
+    /// One cell of a run with its escapes, while the run is written.
     cell: String,
     opening: Opening,
     page: &'a Page,
@@ -194,14 +193,15 @@ impl<'a> Pen<'a> {
         let page = self.page;
         let color = page.color_of(paint);
         let c = glyph.to_char(page.switches().char_set);
-        push_painted_run(
-            &mut self.text,
-            &mut self.cell,
-            &mut self.opening,
-            color,
-            c,
-            count,
-        )
+        if color.is_none() {
+            return runs::push_repeated(&mut self.text, c, count);
+        }
+        if count == 1 {
+            return push_painted_char(&mut self.text, &mut self.opening, color, c);
+        }
+        self.cell.clear();
+        push_painted_char(&mut self.cell, &mut self.opening, color, c)?;
+        runs::push_texts(&mut self.text, &self.cell, count)
     }
 
     /// Writes the cells of a place of the text, or of a column of the gutter, that is `width` columns
@@ -248,19 +248,22 @@ impl<'a> Pen<'a> {
         margin::push_bar_margin(text, &page.palette, switches, width, Glyph::VbarGap)
     }
 
-    /// Writes the margin of the source row of a line, whose printed number is `number`.
+    /// Writes the margin of the source row of a line, whose number is printed with this offset.
     ///
     /// ```text
     ///       9 |
     ///      10 |
     /// ```
-    pub fn push_line_margin(&mut self, number: usize) -> Result<(), AllocError>
-        ensures page { OnOk result (self.new.page ≡ self.old.page) }
-        ensures drawn { let page = self.old.page in
-            (display_offset line : ℕ) → number ≡ printed_number display_offset line →
+    pub fn push_line_margin(
+        &mut self,
+        display_offset: usize,
+        line: usize,
+    ) -> Result<(), AllocError>
+        requires fits { line + 1 + display_offset < 2 ^ 64 }
+        ensures { let page = self.old.page in
             OnOk result (Draws self.old self.new
             (margin_pieces page.switches page.number_width display_offset (source line))) }
     {
-        margin::push_line_margin(&mut self.text, self.page, number)
+        margin::push_line_margin(&mut self.text, self.page, display_offset, line)
     }
 }

@@ -1,11 +1,8 @@
 //! Runs of one character, appended to a text.
 
 ghost use Rattle.std.specs.Prelude.{◌≡◌, ◌++◌, OnOk, encode_utf8, string_bytes};
-ghost use Rattle.ariadne_color.specs.Colors.{painted};
 ghost use Rattle.ariadne_picture.specs.Pieces.{repeated, spaces};
 
-use crate::opening::{Opening, push_painted_char};
-use ariadne_color::Color;
 use std::alloc::AllocError;
 
 /// How many copies of a character each of the texts below holds.
@@ -68,33 +65,13 @@ fn push_one_by_one(out: &mut String, c: char, count: usize) -> Result<(), AllocE
     Ok(())
 }
 
-/// Appends a character `count` times, in a colour if there is one. `cell` is room for one of them
-/// with its escapes, and what it held is lost.
-pub(crate) fn push_painted_run(
-    out: &mut String,
-    cell: &mut String,
-    opening: &mut Opening,
-    color: Option<Color>,
-    c: char,
-    count: usize,
-) -> Result<(), AllocError>
-    ensures { let text = painted color (encode_utf8 c) in
-        OnOk result (string_bytes out.new ≡ string_bytes out.old ++ repeated count text) }
-{
-    if color.is_none() {
-        return push_repeated(out, c, count);
-    }
-    if count == 1 {
-        return push_painted_char(out, opening, color, c);
-    }
-    cell.clear();
-    push_painted_char(cell, opening, color, c)?;
-    push_texts(out, cell, count)
-}
-
 /// Appends a text `count` times.
 #[tactic(auto, using(crate::proofs::Copies::repeats_none, crate::proofs::Copies::repeats_step))]
-fn push_texts(out: &mut String, text: &str, count: usize) -> Result<(), AllocError>
+pub(crate) fn push_texts(
+    out: &mut String,
+    text: &str,
+    count: usize,
+) -> Result<(), AllocError>
     ensures { OnOk result
         (string_bytes out.new ≡ string_bytes out.old ++ repeated count text.now) }
 {

@@ -1,16 +1,14 @@
 //! Stretches of the places of a line, through each of which the same label is shown.
 
-ghost use Rattle.std.specs.Prelude.{◌≡◌, ℕ, ◌+◌, ◌<◌, ◌==◌, false, OnOk, [], length, slice_get, Some};
-ghost use Rattle.std.specs.Prelude.{◌≤◌, ◌-◌, IfOk, IfSome, IsTrue, max, option_map};
-ghost use Rattle.std.specs.List.{All, list_any};
+ghost use Rattle.std.specs.Prelude.{◌≡◌, ◌+◌, ◌-◌, ◌<◌, ◌≤◌, [], length, max};
+ghost use Rattle.std.specs.Prelude.{IfOk, IfSome, IsTrue, OnOk};
+ghost use Rattle.std.specs.List.{All};
 ghost use Rattle.std.specs.List.Sorted.{IsStrictlyIncreasing};
 ghost use Rattle.ariadne_cells.specs.Candidates.{AreThere, infos_among};
-ghost use Rattle.ariadne_cells.specs.Choices.{inline_infos, shown_position};
-ghost use Rattle.ariadne_cells.specs.Parts.{seen_at};
-ghost use Rattle.ariadne_cells.specs.Tables.{ArePaints, AreUnderlines, shown_at};
-ghost use Rattle.ariadne_picture.specs.declared.label_info.LabelInfo.{LabelInfo};
-ghost use Rattle.ariadne_picture.specs.Columns.{shown};
-ghost use Rattle.ariadne_picture.specs.Strokes.{holds};
+ghost use Rattle.ariadne_cells.specs.Choices.{inline_infos};
+ghost use Rattle.ariadne_cells.specs.Parts.{ShowParts};
+ghost use Rattle.ariadne_cells.specs.Tables.{AreAllStretches, ArePaints, AreStretches};
+ghost use Rattle.ariadne_cells.specs.Tables.{AreUnderlines, OthersHoldNone};
 
 use crate::candidates::Candidates;
 use crate::layout::LineLayout;
@@ -67,9 +65,8 @@ fn take_apart(
     offset: usize,
     len: usize,
 ) -> Result<bool, AllocError>
-    ensures { let shows = shown_position (inline_infos labels.now) in
-        IfOk result (λ apart. IsTrue apart →
-        (k : ℕ) → shown_at list.new.items k ≡ shows (offset + k)) }
+    ensures { IfOk result (λ apart. IsTrue apart →
+        AreAllStretches (inline_infos labels.now) offset list.new.items) }
 {
     list.clear();
     list.reserve_exact(labels.len().saturating_mul(2).min(len))?;
@@ -120,9 +117,7 @@ pub fn find_paints(
 ) -> Result<(), AllocError>
     requires within { All (λ i. i < length multi_line.now) touching.now }
     requires rising { IsStrictlyIncreasing touching.now }
-    requires touching { (i : ℕ) (a : LabelInfo) → slice_get multi_line.now i ≡ Some a
-        → list_any (λ j. j == i) touching.now ≡ false
-        → (k : ℕ) → k < length (shown layout.now) → holds a (layout.now.offset + k) ≡ false }
+    requires touching { OthersHoldNone multi_line.now touching.now layout.now }
     ensures { OnOk result (ArePaints multi_line.now layout.now list.new.items) }
 {
     let margin = layout.margin();
@@ -141,8 +136,7 @@ fn fill(
     len: usize,
 ) -> Result<(), AllocError>
     requires { AreThere labels.now }
-    ensures { let shows = shown_position (infos_among labels.now) in OnOk result
-        ((k : ℕ) → k < len → shown_at list.new.items k ≡ shows (offset + k)) }
+    ensures { OnOk result (AreStretches (infos_among labels.now) offset len list.new.items) }
 {
     list.clear();
     if labels.count() > FEW {
@@ -156,8 +150,7 @@ fn fill(
 /// Appends a stretch for each part. On `Err` there was no memory for them.
 fn push_parts(list: &mut Vec<Stretch>, parts: &[Part<'_>]) -> Result<(), AllocError>
     requires { list.old.items ≡ [] }
-    ensures { OnOk result
-        ((k : ℕ) → shown_at list.new.items k ≡ option_map (λ a. a.position) (seen_at parts.now k)) }
+    ensures { OnOk result (ShowParts list.new.items parts.now) }
 {
     list.reserve_exact(parts.len())?;
     for part in parts {
@@ -179,8 +172,7 @@ fn push_chosen(
 ) -> Result<(), AllocError>
     requires empty { list.old.items ≡ [] }
     requires there { AreThere labels.now }
-    ensures { let shows = shown_position (infos_among labels.now) in OnOk result
-        ((k : ℕ) → k < len → shown_at list.new.items k ≡ shows (offset + k)) }
+    ensures { OnOk result (AreStretches (infos_among labels.now) offset len list.new.items) }
 {
     list.reserve_exact(labels.count().saturating_mul(2).saturating_add(1).min(len))?;
     let mut place = 0;

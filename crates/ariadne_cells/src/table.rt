@@ -1,13 +1,11 @@
 //! What is seen at the places of one line, found once for the line.
 
-ghost use Rattle.std.specs.Prelude.{◌≡◌, ℕ, ◌<◌, ◌≤◌, ◌^◌, ◌+◌, ◌==◌, false, OnOk, [], length};
-ghost use Rattle.std.specs.Prelude.{slice_get, Some};
-ghost use Rattle.std.specs.List.{All, list_any};
+ghost use Rattle.std.specs.Prelude.{◌≡◌, ◌<◌, ◌≤◌, ◌^◌, OnOk, [], length};
+ghost use Rattle.std.specs.List.{All};
 ghost use Rattle.std.specs.List.Sorted.{IsStrictlyIncreasing};
-ghost use Rattle.ariadne_cells.specs.Tables.{ArePaints, IsTable, tab_columns};
-ghost use Rattle.ariadne_picture.specs.declared.label_info.LabelInfo.{LabelInfo};
-ghost use Rattle.ariadne_picture.specs.Columns.{arrow_len, shown};
-ghost use Rattle.ariadne_picture.specs.Strokes.{holds, underline_row};
+ghost use Rattle.ariadne_cells.specs.Tables.{ArePaints, IsTable, OthersHoldNone, tab_columns};
+ghost use Rattle.ariadne_picture.specs.Columns.{arrow_len};
+ghost use Rattle.ariadne_picture.specs.Strokes.{underline_row};
 
 use crate::layout::LineLayout;
 use crate::line_columns::LineColumns;
@@ -87,9 +85,7 @@ impl LineTable {
     ) -> Result<(), AllocError>
         requires within { All (λ i. i < length multi_line.now) touching.now }
         requires rising { IsStrictlyIncreasing touching.now }
-        requires touching { (i : ℕ) (a : LabelInfo) → slice_get multi_line.now i ≡ Some a
-            → list_any (λ j. j == i) touching.now ≡ false
-            → (k : ℕ) → k < length (shown layout.now) → holds a (layout.now.offset + k) ≡ false }
+        requires touching { OthersHoldNone multi_line.now touching.now layout.now }
         ensures paints { OnOk result (ArePaints multi_line.now layout.now self.new.paints.items) }
         ensures others { record self.new { paints = self.old.paints } ≡ self.old }
     {

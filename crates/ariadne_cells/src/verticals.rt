@@ -1,10 +1,10 @@
 //! The verticals of the rows of a line.
 
-ghost use Rattle.std.specs.Prelude.{◌≡◌, ℕ, ◌<◌, ◌≤◌, ◌+◌, ◌==◌, OnOk, length, Some, None, []};
-ghost use Rattle.std.specs.Prelude.{IfSome, if◌then◌else◌};
+ghost use Rattle.std.specs.Prelude.{◌≡◌, ◌<◌, ◌≤◌, ◌+◌, OnOk, length, Some, None, [], IfSome};
 ghost use Rattle.std.specs.List.Sorted.{IsPartitionPoint};
 ghost use Rattle.std.specs.Option.{IsSome, option_map};
-ghost use Rattle.ariadne_cells.specs.Tables.{AreVerticals, seen_vertical, vertical_of};
+ghost use Rattle.ariadne_cells.specs.Tables.{AreOpen, AreVerticals, IsSeenInstead, seen_vertical};
+ghost use Rattle.ariadne_cells.specs.Tables.{vertical_of};
 ghost use Rattle.ariadne_picture.specs.Strokes.{has_vertical, vertical_at};
 
 use crate::layout::LineLayout;
@@ -85,10 +85,8 @@ impl Verticals {
     /// The vertical at the next place from `from` on, and before `to`, that shows one.
     pub fn next(&self, from: usize, to: usize) -> Option<Vertical>
         ensures some { IfSome result (λ v. (from ≤ v.place) × (v.place < to)
-            × (seen_vertical self.now v.place ≡ Some v)
-            × ((k : ℕ) → from ≤ k → k < v.place → seen_vertical self.now k ≡ None)) }
-        ensures none { result ≡ None
-            → (k : ℕ) → from ≤ k → k < to → seen_vertical self.now k ≡ None }
+            × (seen_vertical self.now v.place ≡ Some v) × AreOpen self.now from v.place) }
+        ensures none { result ≡ None → AreOpen self.now from to }
     {
         let index = self.count_from(from).checked_sub(1)?;
         let vertical = self.list[index];
@@ -112,8 +110,8 @@ impl Verticals {
     /// Shows a vertical at its place, over the one that was seen there. On `Err` there was no
     /// memory for it.
     fn show(&mut self, vertical: Vertical) -> Result<(), AllocError>
-        ensures { OnOk result ((k : ℕ) → seen_vertical self.new k
-            ≡ (if vertical.place == k then Some vertical else seen_vertical self.old k)) }
+        ensures { OnOk result
+            (IsSeenInstead self.old self.new vertical.place (Some vertical)) }
     {
         let count = self.count_from(vertical.place);
         if count > 0 && self.list[count - 1].place == vertical.place {
@@ -127,8 +125,8 @@ impl Verticals {
     /// Shows another vertical at a place where one is seen, or none.
     fn replace(&mut self, place: usize, vertical: Option<Vertical>)
         requires { IfSome vertical (λ v. v.place ≡ place) }
-        ensures { IsSome (seen_vertical self.old place) → (k : ℕ) → seen_vertical self.new k
-            ≡ (if place == k then vertical else seen_vertical self.old k) }
+        ensures { IsSome (seen_vertical self.old place) →
+            IsSeenInstead self.old self.new place vertical }
     {
         if let Some(index) = self.count_from(place).checked_sub(1) {
             match vertical {
