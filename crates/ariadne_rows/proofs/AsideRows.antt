@@ -1,5 +1,5 @@
 -- The rows of helps and notes.
-use Rattle.std.proofs.Common.{◌≡◌, ℕ, zero, suc, Bool, true, false, if◌then◌else◌, List, [], ◌∷◌, ◌++◌, Option, Some, None, ◌+◌, ◌<◌, ◌≤◌, ◌==◌}
+use Rattle.std.proofs.Common.{◌≡◌, ℕ, zero, suc, Bool, true, false, if◌then◌else◌, List, [], ◌∷◌, ◌++◌, Option, Some, None, ◌+◌, ◌*◌, ◌<◌, ◌≤◌, ◌==◌}
 use Rattle.std.proofs.Common.{length, map, take, slice_index_or, decimal, codes, refl, sym, ap, ◌∙◌, subst}
 use Rattle.std.proofs.Common.{append_assoc, length-append, zero-add}
 use Rattle.std.specs.List.{enumerate_from}
@@ -21,7 +21,11 @@ use Rattle.ariadne_cells.proofs.Drawn.{adds_same, adds-append, draws-append, dra
 use Rattle.ariadne_cells.proofs.Drawn.{draws_rows_more, draws_rows_none, draws_rows_one, draws_rows-append, page_kept}
 use Rattle.ariadne_rows.proofs.HeaderBytes.{spaces_two}
 use Rattle.ariadne_rows.proofs.Listing.{all-enumerated, enumerated-more}
-use Rattle.ariadne_rows.specs.Headers.{IsOnPage, aside_number, prefix_text}
+use Rattle.ariadne_picture.specs.Pieces.{column_size}
+use Rattle.ariadne_picture.specs.Ranks.{Sheet}
+use Rattle.ariadne_rows.specs.Gutters.{GutterFields, IsOfSheet, columns}
+use Rattle.ariadne_rows.specs.Headers.{IsOnPage, aside_number, prefix_text, told_pieces}
+use Rattle.ariadne_rows.proofs.GutterRows.{blank-bytes, blank-ink, draws_gutter, piece-ink}
 
 -- ---- the word in front of a text, and what stands in its place
 
@@ -72,19 +76,42 @@ draws_further a b c word number line blanks text =
     draws_plain a c (spaces n ++ line) (adds-append a b c (spaces n) line (adds_same a b _ _ len blanks) text)
 
 -- the first line is what stands under number 0
-pub first_pieces : (t : Texts) (a : Aside) (k p : ℕ) (prefix line : List ℕ) → p ≡ 0 → prefix ≡ aside_prefix t a k → line ≡ aside_line t a k p
-    → ◌≡◌ {A = List Piece} (painted_text Note prefix ∷ plain_text (codes ": " ++ line) ∷ []) (aside_pieces t a k p)
-unfolding aside_pieces
-first_pieces t a k p prefix line first word here =
-    let told = here ∙ ap (aside_line t a k) first in
-    (λ i. painted_text Note (word i) ∷ plain_text (codes ": " ++ told i) ∷ []) ∙ ap (aside_pieces t a k) (sym first)
+pub told_first : (word : List ℕ) (number : Option ℕ) (p : ℕ) (line : List ℕ) → p ≡ 0
+    → ◌≡◌ {A = List Piece} (painted_text Note (prefix_text word number) ∷ plain_text (codes ": " ++ line) ∷ []) (told_pieces word number p line)
+unfolding told_pieces
+told_first word number p line first = ap (λ q. told_pieces word number q line) (sym first)
 
 -- another line is what stands under its number
-pub further_pieces : (t : Texts) (a : Aside) (k p : ℕ) (prefix line : List ℕ) → (p ≡ 0 → ⊥) → prefix ≡ aside_prefix t a k → line ≡ aside_line t a k p
-    → ◌≡◌ {A = List Piece} (plain_text (spaces (length prefix + 2) ++ line) ∷ []) (aside_pieces t a k p)
-unfolding aside_pieces
-further_pieces t a k zero prefix line other word here = absurd (other refl)
-further_pieces t a k (suc p) prefix line other word here = λ i. plain_text (spaces (length (word i) + 2) ++ here i) ∷ []
+pub told_further : (word : List ℕ) (number : Option ℕ) (p : ℕ) (line : List ℕ) → (p ≡ 0 → ⊥)
+    → ◌≡◌ {A = List Piece} (plain_text (spaces (length (prefix_text word number) + 2) ++ line) ∷ []) (told_pieces word number p line)
+unfolding told_pieces
+told_further word number zero line other = absurd (other refl)
+told_further word number (suc p) line other = refl
+
+-- the line of a help or a note behind its own word and number
+pub told_is : (t : Texts) (a : Aside) (k p : ℕ) (word : List ℕ) (number : Option ℕ) (line : List ℕ) → prefix_text word number ≡ aside_prefix t a k
+    → line ≡ aside_line t a k p → told_pieces word number p line ≡ aside_pieces t a k p
+unfolding told_pieces aside_pieces
+told_is t a k zero word number line told here = λ i. painted_text Note (told i) ∷ plain_text (codes ": " ++ here i) ∷ []
+told_is t a k (suc p) word number line told here = λ i. plain_text (spaces (length (told i) + 2) ++ here i) ∷ []
+
+-- ---- where a row begins
+
+-- below the lines of a group a row begins with a margin and blanks in place of its gutter
+module _ (a b c : PenFields) (s : Sheet) (g : GutterFields) (page : g.page ≡ a.page) (of : IsOfSheet s g)
+    (margin : Draws a b (margin_pieces a.page.switches a.page.number_width 0 (bare 0))) (bars : length g.positions ≡ length g.bars)
+    (free : Adds b c (spaces (columns g * column_size g.page.switches))) where
+  pub starts_blank : (x : Aside) (k : ℕ)
+      → Draws a c (margin_pieces a.page.switches a.page.number_width 0 (bare 0) ++ gutter_pieces s (blank x k))
+  starts_blank x k =
+      draws-append a b c _ _ margin
+      (draws_gutter b c s (blank x k) g _ (page ∙ sym (page_kept a b _ margin)) (blank-bytes s (blank x k) g of bars (blank-ink s x k)) free)
+
+  pub starts_piece : (x : Aside) (k p : ℕ)
+      → Draws a c (margin_pieces a.page.switches a.page.number_width 0 (bare 0) ++ gutter_pieces s (piece x k p))
+  starts_piece x k p =
+      draws-append a b c _ _ margin
+      (draws_gutter b c s (piece x k p) g _ (page ∙ sym (page_kept a b _ margin)) (blank-bytes s (piece x k p) g of bars (piece-ink s x k p)) free)
 
 -- ---- rows
 

@@ -20,7 +20,8 @@ use Rattle.ariadne_picture.proofs.Rows.BarCases.{between-bar, bar-between, IsRow
 use Rattle.ariadne_picture.proofs.Rows.BarCases.{first_step, first-is, last-is, first-at-margin, first-at-label, start-number, end-number}
 use Rattle.ariadne_picture.proofs.Rows.BarCases.{numbered-start, numbered-end, margin-at, rises, no-tee-gap, no-tee-alternate, no-tee-arrow}
 use Rattle.ariadne_picture.proofs.Rows.BarCases.{tee-source, unlabelled-off-margin}
-use Rattle.ariadne_rows.specs.Gutters.{is_beside, is_below, is_own_column, owns_column}
+use Rattle.ariadne_rows.specs.Gutters.{is_beside, is_below}
+use Rattle.ariadne_rows.proofs.RowBars.{is_own_column, owns_column}
 
 -- ---- where a gutter label starts and ends
 

@@ -1,11 +1,13 @@
 -- What the gutter columns of each kind of row show, by the bars that a gutter holds.
 use Rattle.std.proofs.Common.{◌≡◌, ℕ, zero, suc, ◌+◌, ◌*◌, ◌<◌, ◌≤◌, Bool, true, false, not, ◌&&◌, List, [], ◌∷◌, map, length, get_or}
 use Rattle.std.proofs.Common.{None, Some, refl, sym, ap, ◌∙◌, arith, inl, inr, eq-eqb, ◌==◌, nat_lt, if◌then◌else◌}
-use Rattle.std.specs.Prelude.{slice_get, unwrap_or, option_map}
-use Rattle.std.proofs.lemmas.Bool.{cond_both, cond-true, cases_lt, cases_Bool, true≢false, false_from_ne_true, eqb-true, and_from}
+use Rattle.std.specs.Prelude.{slice_get, unwrap_or, option_map, Option}
+use Rattle.std.proofs.lemmas.Bool.{cond_both, cond-false, cond-true, cases_lt, cases_Bool, true≢false, false_from_ne_true, eqb-true, and_from}
 use Rattle.std.proofs.lemmas.List.{get_or_past, length-map}
 use Rattle.std.proofs.lemmas.Option.{slice_get_within}
 use Rattle.ariadne_base.specs.Locations.{upto}
+use Rattle.ariadne_cells.specs.Pages.{Adds, Draws, PageFields, PenFields}
+use Rattle.ariadne_cells.proofs.Drawn.{adds_same}
 use Rattle.ariadne_picture.specs.declared.cell.Glyph.{Glyph}
 use Rattle.ariadne_picture.specs.declared.cell.Glyph.TheVariants.{Blank, Hbar, Vbar, VbarGap, Xbar}
 use Rattle.ariadne_picture.specs.declared.cell.Ink.{Ink}
@@ -26,8 +28,9 @@ use Rattle.ariadne_picture.proofs.Labels.LineLabels.{IsEndAt, margin-is}
 use Rattle.ariadne_picture.proofs.Lists.ListFacts.{all-at}
 use Rattle.ariadne_picture.proofs.Rows.BarCases.{bar-between}
 use Rattle.ariadne_picture.proofs.Rows.RowOrder.{before-irreflexive}
-use Rattle.ariadne_rows.specs.Gutters.{GutterFields, IsOfSheet, HasBarsOf, bar_in, bar_of, bar_ink, bars_ink, columns, column_bytes, columns_bytes}
-use Rattle.ariadne_rows.specs.Gutters.{margin_row_ink, turn_row_ink, is_own_column, owns_column}
+use Rattle.ariadne_rows.specs.Gutters.{GutterFields, IsOfSheet, bar_in, bar_of, bar_ink, bars_ink, columns, column_bytes, columns_bytes}
+use Rattle.ariadne_rows.specs.Gutters.{arrow_row_ink, margin_row_ink, source_row_ink, turn_row_ink}
+use Rattle.ariadne_rows.proofs.RowBars.{HasBarsOf, is_own_column, owns_column}
 use Rattle.ariadne_rows.proofs.GutterBytes.{bytes-joined, blank-columns}
 use Rattle.ariadne_rows.proofs.GutterText.{joined-range_same}
 
@@ -241,3 +244,36 @@ turn-within s l r x there out = elim (all-at (IsHere s l) (line_labels s.labels 
   | inr (inl b) ↦ slice_get_within (gutter_labels s.labels) x.gutter_column x.info b.owned
   | inr (inr b) ↦ absurd (true≢false (ap is_inline (sym b.side) ∙ out))
 ]
+
+-- ---- what a gutter has written
+
+-- the gutter of an arrow row, where its label lies within the line and where it does not
+pub arrow-bytes : (s : Sheet) (l r : ℕ) (x : LineLabel) (g : GutterFields) → HasBarsOf s (arrow l r) g → slice_get (line_labels s.labels l) r ≡ Some x
+    → pieces_bytes g.page.palette (gutter_pieces s (arrow l r)) ≡ columns_bytes g.page (arrow_row_ink g x) (columns g)
+arrow-bytes s l r x g h there = elim (cases_Bool (is_inline x.side)) [
+  | inl on ↦
+      inline-bytes s l r x g h there on
+      ∙ ap (λ (f : ℕ → Ink). columns_bytes g.page f (columns g)) (sym (cond-true (is_inline x.side) (bars_ink Vbar g) (turn_row_ink g x) on))
+  | inr off ↦
+      turn-bytes s l r x g h there off
+      ∙ ap (λ (f : ℕ → Ink). columns_bytes g.page f (columns g)) (sym (cond-false (is_inline x.side) (bars_ink Vbar g) (turn_row_ink g x) off))
+]
+
+-- that of a source row, with margin label and without
+pub source-row-bytes : (s : Sheet) (l : ℕ) (g : GutterFields) → HasBarsOf s (source l) g → (m : Option LineLabel) → margin_label s.labels l ≡ m
+    → pieces_bytes g.page.palette (gutter_pieces s (source l)) ≡ columns_bytes g.page (source_row_ink g m) (columns g)
+source-row-bytes s l g h None e = source-bytes s l g h e
+source-row-bytes s l g h (Some m) e = margin-bytes s l m g h e
+
+-- a gutter that was written on its own page is that of a row
+pub draws_gutter : (a b : PenFields) (s : Sheet) (x : Row) (g : GutterFields) (bytes : List ℕ) → g.page ≡ a.page
+    → pieces_bytes g.page.palette (gutter_pieces s x) ≡ bytes → Adds a b bytes → Draws a b (gutter_pieces s x)
+draws_gutter a b s x g bytes page e h =
+    adds_same a b bytes _ (sym e ∙ ap (λ (p : PageFields). pieces_bytes p.palette (gutter_pieces s x)) page) h
+
+-- broken bars that were written on the page of a pen, which is the gutter's
+pub draws_gap_gutter : (a b : PenFields) (s : Sheet) (l : ℕ) (g : GutterFields) → g.page ≡ a.page → HasBarsOf s (gap l) g
+    → margin_label s.labels l ≡ None → Adds a b (columns_bytes a.page (bars_ink VbarGap g) (columns g)) → Draws a b (gutter_pieces s (gap l))
+draws_gap_gutter a b s l g page bars none h =
+    draws_gutter a b s (gap l) g _ page (gap-bytes s l g bars none)
+    (adds_same a b _ _ (ap (λ (p : PageFields). columns_bytes p (bars_ink VbarGap g) (columns g)) (sym page)) h)

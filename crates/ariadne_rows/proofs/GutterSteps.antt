@@ -2,7 +2,7 @@
 -- one row to the next a bar is set where its gutter label starts, and taken out where it ends.
 use Rattle.std.proofs.Common.{◌≡◌, ◌≢◌, ℕ, zero, suc, ◌+◌, ◌-◌, ◌<◌, ◌≤◌, Bool, true, false, not, ◌==◌, length, replicate, Some, None}
 use Rattle.std.proofs.Common.{refl, sym, ap, ◌∙◌, subst, arith, ◌⊎◌, inl, inr}
-use Rattle.std.specs.Prelude.{slice_get, slice_set, slice_index_or}
+use Rattle.std.specs.Prelude.{slice_get, slice_set, slice_index_or, IfSome, Option}
 use Rattle.std.specs.List.{AllByRecursion}
 use Rattle.std.proofs.lemmas.Bool.{ne_eqb, and_right, false_from_ne_true}
 use Rattle.std.proofs.lemmas.Bool.Decides.{nat_tests}
@@ -20,7 +20,8 @@ use Rattle.ariadne_picture.proofs.Labels.LineLabels.{margin-is}
 use Rattle.ariadne_picture.proofs.Lists.ListFacts.{all-at, all-weaker}
 use Rattle.ariadne_picture.proofs.Rows.BarCases.{starts-margin}
 use Rattle.ariadne_picture.proofs.Rows.RowsThere.{all-gutter-labels, gutter-label-message, starts-shown}
-use Rattle.ariadne_rows.specs.Gutters.{GutterFields, is_beside, is_below, bar_in, is_own_column, owns_column, IsOfSheet, IsBeside, IsBelow, HasBarsOf}
+use Rattle.ariadne_rows.specs.Gutters.{GutterFields, is_beside, is_below, bar_in, IsOfSheet, IsBeside, IsBelow}
+use Rattle.ariadne_rows.proofs.RowBars.{HasBarsOf, is_own_column, owns_column}
 use Rattle.ariadne_rows.proofs.BarBits.{label-end, source-bar, gap-bar, alternate-bar, arrow-bar, first-rank-bar, margin-bar, next-rank-bar, own-bar}
 use Rattle.ariadne_rows.proofs.BarBits.{next-line-bar, unlabelled-bar}
 use Rattle.ariadne_rows.proofs.Numbered.{length-numbered, numbered-at, numbered-from_map, numbered-same, numbered-set, map-constant}
@@ -219,6 +220,12 @@ margin-column-within s l m g b there =
     let within = slice_get_within (gutter_labels s.labels) m.gutter_column m.info (margin-is s l m there).owned in
     let n : length g.bars ≡ length (gutter_labels s.labels) = ap length b.bars ∙ length-map (gutter_labels s.labels) (is_beside l) in
     omega arith
+
+-- if the line has one
+pub margin-column : (s : Sheet) (l : ℕ) (g : GutterFields) → IsBeside s l g → (m : Option LineLabel) → margin_label s.labels l ≡ m
+    → IfSome m (λ x. x.gutter_column < length g.bars)
+margin-column s l g b None e = tt
+margin-column s l g b (Some m) e = margin-column-within s l m g b e
 
 -- a line label that is a start or an end has a message
 pub end-message : (s : Sheet) (l r : ℕ) (x : LineLabel) → slice_get (line_labels s.labels l) r ≡ Some x → is_inline x.side ≡ false

@@ -14,6 +14,7 @@ pub mod GutterSteps
 pub mod GutterText
 pub mod HeaderBytes
 pub mod Insides
+pub mod KnownSnippets
 pub mod LineRows
 pub mod LinesBounds
 pub mod LinesShown
@@ -23,6 +24,7 @@ pub mod Numbered
 pub mod Passing
 pub mod Ranking
 pub mod Rising
+pub mod RowBars
 pub mod SeenInks
 pub mod SeenPlaces
 pub mod ShownRows

@@ -12,7 +12,7 @@ use Rattle.ariadne_picture.specs.Pieces.{message_at, message_pieces, plain_text,
 use Rattle.ariadne_picture.specs.Ranks.{Sheet, is_margin, is_start, line_labels, margin_label, multi_line_labels}
 use Rattle.ariadne_picture.specs.Rows.{alternate, arrow, bare, gap, source}
 use Rattle.ariadne_cells.specs.Pages.{Adds, Draws, DrawsRow, PenFields}
-use Rattle.ariadne_cells.proofs.Drawn.{draws-append, draws_blank, draws_plain, draws_row_ended, page_kept}
+use Rattle.ariadne_cells.proofs.Drawn.{draws-append, draws_blank, draws_plain, draws_row_ended}
 use Rattle.ariadne_rows.specs.Headers.{IsOnPage}
 
 -- ---- messages
@@ -47,20 +47,11 @@ draws_message a b c t x text n e blank told =
 
 -- ---- pens
 
--- a page stays over two parts
-pub page_kept_twice : (a b c : PenFields) (xs ys : List Piece) → Draws a b xs → Draws b c ys → c.page ≡ a.page
-page_kept_twice a b c xs ys first later = page_kept b c _ later ∙ page_kept a b _ first
-
 -- a row of two parts
 two_parts : (a b c d : PenFields) (row xs ys : List Piece) → row ≡ xs ++ ys → Draws a b xs → Draws b c ys → Adds c d (10 ∷ []) → DrawsRow a d row
 two_parts a b c d row xs ys e x y end = subst (DrawsRow a d) (sym e) (draws_row_ended a c d (xs ++ ys) (draws-append a b c xs ys x y) end)
 
 -- the margin label of a line's layout is that of the line
-pub layout_margin : (s : Sheet) (l : ℕ) (x : LineLabel) (b : Bool) → is_margin (margin_label s.labels l) x ≡ b → is_margin (layout_of s l).margin x ≡ b
-unfolding layout_of
-layout_margin s l x b e = e
-
--- so is that of the line itself
 pub source_margin : (y : Layout) (s : Sheet) (l : ℕ) (m : Option LineLabel) → y ≡ layout_of s l → m ≡ y.margin → margin_label s.labels l ≡ m
 unfolding layout_of
 source_margin y s l m e found = sym (found ∙ ap (λ (t : Layout). t.margin) e)

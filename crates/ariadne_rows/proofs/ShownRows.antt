@@ -1,12 +1,12 @@
 -- The characters of a source row: how each is written, and how many bytes its tabs take at least.
 use Rattle.std.proofs.Common.{◌≡◌, ℕ, zero, suc, ◌+◌, ◌<◌, ◌≤◌, ◌==◌, eq-eqb, cond, Bool, true, false, List, [], ◌∷◌, ◌++◌, Option, Some, None, length, replicate, encode_utf8, encode_utf8_all, take, get_or, drop, ltb, slice_get, slice_index}
-use Rattle.std.proofs.Common.{lit<, refl, sym, ap, subst, ◌∙◌, arith, length-append}
+use Rattle.std.proofs.Common.{lit<, inl, inr, refl, sym, ap, subst, ◌∙◌, arith, length-append}
 use Rattle.std.specs.Char.{is_whitespace, len_utf8}
 use Rattle.std.specs.Bool.{MatchBool}
 use Rattle.std.specs.Prelude.{IsTrue, ⊤, codes}
 use Rattle.std.specs.List.{AllByRecursion, AllWithin, HoldsAt}
 use Rattle.std.specs.Str.{chars, IsUtf8}
-use Rattle.std.proofs.lemmas.Bool.{ne_eqb, cond_both, lt-ltb, le-ltb}
+use Rattle.std.proofs.lemmas.Bool.{cases_Bool, ne_eqb, cond_both, lt-ltb, le-ltb}
 use Rattle.std.proofs.lemmas.List.Elements.{All-from_all_within, recursion_from_All}
 use Rattle.std.proofs.lemmas.List.{append-nil, at_drop_all, at_drop_more, take_more, take_all}
 use Rattle.std.proofs.lemmas.Bool.Decides.{nat_tests}
@@ -35,7 +35,7 @@ use Rattle.ariadne_picture.proofs.Lists.Joined.{joined-upto_more}
 use Rattle.ariadne_picture.proofs.Lists.ListFacts.{all-weaker}
 use Rattle.ariadne_cells.specs.Pages.{Adds, Draws, PenFields}
 use Rattle.ariadne_cells.specs.declared.stretches.Stretch.{Stretch}
-use Rattle.ariadne_cells.specs.Tables.{position_paint, shown_at, tab_columns}
+use Rattle.ariadne_cells.specs.Tables.{ArePaints, position_paint, shown_at, tab_columns}
 use Rattle.ariadne_cells.proofs.Bytes.{painted_parts, plain_bytes, pieces_bytes-append, pieces_bytes_first, pieces_bytes_none, pieces_bytes_one, run_bytes}
 use Rattle.ariadne_cells.proofs.Drawn.{adds_same, draws_one, draws_places_more, page_kept}
 use Rattle.ariadne_picture.proofs.Cells.LineColumns.{total-upto_more}
@@ -148,6 +148,28 @@ draws_shown a b s multi_line y q e h =
 pub no_colors : (p : Palette) (q r : Paint) → p.is_on ≡ false → color_of p q ≡ color_of p r
 unfolding color_of
 no_colors p q r off = (λ i. cond (off i) (paint_color p q) None) ∙ (λ i. cond (sym off i) (paint_color p r) None)
+
+-- places in other colours that are the same on this page are drawn alike
+pub draws_recolored : (a b : PenFields) (s : Switches) (y : Layout) (q r : ℕ → Paint)
+    → ((k : ℕ) → k < length (shown y) → color_of a.page.palette (q k) ≡ color_of a.page.palette (r k))
+    → Draws a b (shown_in s y q) → Draws a b (shown_in s y r)
+unfolding shown_in place_in
+draws_recolored a b s y q r e h =
+    let p = a.page.palette in
+    adds_same a b _ _ (bytes_on p (place_in s y q) (place_in s y r) (length (shown y))
+    (λ k l. source_bytes p s (q k) (r k) y k (slice_index (shown y) k) (e k l))) h
+
+-- places in the colours of these stretches are those of a line that these labels colour
+pub draws_painted : (a b : PenFields) (s : Switches) (multi_line : List LabelInfo) (y : Layout) (paints : List Stretch)
+    → (a.page.palette.is_on ≡ true → ArePaints multi_line y paints) → Draws a b (shown_in s y (λ k. position_paint (shown_at paints k)))
+    → Draws a b (shown_pieces s multi_line y)
+draws_painted a b s multi_line y paints lit =
+    let p = a.page.palette in
+    draws_shown a b s multi_line y (λ k. position_paint (shown_at paints k))
+    (λ k l. elim (cases_Bool p.is_on) [
+      | inl on ↦ ap (color_of p) (lit on k l)
+      | inr off ↦ no_colors p (position_paint (shown_at paints k)) (char_paint multi_line y k) off
+    ])
 
 -- ---- the bytes of tabs
 

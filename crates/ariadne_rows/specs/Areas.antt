@@ -1,7 +1,7 @@
 -- The text areas of alternate and arrow rows, by stretches of places: what stands behind the
 -- verticals of a stretch, and the cells of its places. All of it is told by the table of a line, so
 -- it holds for each line that the table is of.
-use Rattle.std.specs.Prelude.{ℕ, ◌≡◌, ◌-◌, ◌==◌, not, ◌&&◌, if◌then◌else◌, List}
+use Rattle.std.specs.Prelude.{ℕ, ◌≡◌, ◌-◌, ◌<◌, ◌==◌, nat_lt, not, ◌&&◌, if◌then◌else◌, List}
 use Rattle.std.specs.Prelude.{Option, Some, None, unwrap_or}
 use Rattle.std.specs.List.{range_with_len}
 use Rattle.ariadne_cells.specs.declared.table.LineTable.{LineTable}
@@ -17,6 +17,7 @@ use Rattle.ariadne_picture.specs.declared.label_info.Side.{Side}
 use Rattle.ariadne_picture.specs.declared.label_info.Side.TheVariants.{Inline, Starts, Ends}
 use Rattle.ariadne_picture.specs.declared.switches.Switches.{Switches}
 use Rattle.ariadne_picture.specs.Lists.{joined}
+use Rattle.ariadne_picture.specs.Strokes.{is_crossed}
 use Rattle.ariadne_picture.specs.Columns.{Layout, width}
 use Rattle.ariadne_picture.specs.Cells.{ink, blanks, paint_of}
 use Rattle.ariadne_picture.specs.Pieces.{Piece, ink_pieces}
@@ -75,6 +76,10 @@ unfoldable pub backdrop_behind : Switches → ℕ → LineLabel → Side → Bac
 backdrop_behind switches rank x Inline = level_of switches x
 backdrop_behind switches rank x Starts = open_beside switches rank x
 backdrop_behind switches rank x Ends = level_of switches x
+
+-- of the first `len` places of the row its horizontal covers those before `end`
+abbrev pub IsCrossedTo : LineLabel → ℕ → ℕ → Type 0
+IsCrossedTo x len end = (k : ℕ) → k < len → is_crossed x.side x.place k ≡ nat_lt k end
 
 -- ---- what a call has written
 

@@ -1,10 +1,10 @@
 -- The gutter of a group as its rows are written: for each gutter label, whether its bar stands in
 -- the row that is written next.
-use Rattle.std.specs.Prelude.{ℕ, ◌≡◌, ◌<◌, Bool, false, ◌&&◌, ◌||◌, ◌==◌, not, nat_le, nat_lt}
-use Rattle.std.specs.Prelude.{List, length, map, slice_get, slice_index_or, Option, Some, None}
-use Rattle.std.specs.Prelude.{◌+◌, if◌then◌else◌}
+use Rattle.std.specs.Prelude.{ℕ, ◌≡◌, ◌<◌, ◌≤◌, ◌-◌, Bool, false, ◌&&◌, ◌||◌, ◌==◌, not, nat_le, nat_lt}
+use Rattle.std.specs.Prelude.{List, length, map, slice_index, slice_index_or, Option, Some, None}
+use Rattle.std.specs.Prelude.{◌+◌, if◌then◌else◌, IfSome}
 use Rattle.ariadne_base.specs.Locations.{upto}
-use Rattle.ariadne_cells.specs.Pages.{PageFields}
+use Rattle.ariadne_cells.specs.Pages.{PageFields, PenFields}
 use Rattle.ariadne_picture.specs.declared.cell.Glyph.{Glyph}
 use Rattle.ariadne_picture.specs.declared.cell.Glyph.TheVariants.{Blank, Hbar, Vbar, Xbar}
 use Rattle.ariadne_picture.specs.declared.cell.Ink.{Ink}
@@ -16,9 +16,7 @@ use Rattle.ariadne_picture.specs.Lists.{joined, mapped_numbered}
 use Rattle.ariadne_picture.specs.Pieces.{column_size, ink_pieces}
 use Rattle.ariadne_picture.specs.Print.{pieces_bytes}
 use Rattle.ariadne_picture.specs.Ranks.{Sheet, gutter_labels, is_start, is_end, is_inline}
-use Rattle.ariadne_picture.specs.Ranks.{line_labels}
-use Rattle.ariadne_picture.specs.Rows.{Row, source, arrow}
-use Rattle.ariadne_picture.specs.Strokes.{is_at_margin, rank_at, bar_at}
+use Rattle.ariadne_picture.specs.Strokes.{is_at_margin, rank_at}
 
 -- the page that it is drawn on, the positions of the gutter labels, and whether their bars stand
 pub record GutterFields : Type 0 where
@@ -61,25 +59,22 @@ pub record IsBelow (s : Sheet) (l r : ℕ) (g : GutterFields) : Type 0 where
   pub sheet : IsOfSheet s g
   pub bars : g.bars ≡ mapped_numbered (is_below s l r) (gutter_labels s.labels)
 
--- ---- what a row asks of it
+-- ---- what the row of a label asks of it
 
--- column i is that of the row's own label, whose stroke stands there in place of a bar
-unfoldable pub is_own_column : Option LineLabel → ℕ → Bool
-is_own_column None i = false
-is_own_column (Some x) i = not (is_inline x.side) && (x.gutter_column == i)
+-- the pen is on the gutter's page, and column i is one of the gutter labels
+pub record HasColumn (g : GutterFields) (pen : PenFields) (i : ℕ) : Type 0 where
+  pub page : g.page ≡ pen.page
+  pub column : i < length g.bars
 
--- the row's own label has column i
-unfoldable pub owns_column : Sheet → Row → ℕ → Bool
-owns_column s (source l) i = is_at_margin s l i
-owns_column s (arrow l r) i = is_own_column (slice_get (line_labels s.labels l) r) i
-owns_column s x i = false
+-- so it is, and the margin label of a line has such a column, if there is one
+pub record HasMarginColumn (g : GutterFields) (pen : PenFields) (margin : Option LineLabel) : Type 0 where
+  pub page : g.page ≡ pen.page
+  pub column : IfSome margin (λ m. m.gutter_column < length g.bars)
 
--- the bars of row x, in the columns that are not those of its own label
-pub record HasBarsOf (s : Sheet) (x : Row) (g : GutterFields) : Type 0 where
-  pub sheet : IsOfSheet s g
-  pub len : length g.bars ≡ length (gutter_labels s.labels)
-  pub bars : (i : ℕ) → i < length (gutter_labels s.labels) → owns_column s x i ≡ false
-      → bar_in g.bars i ≡ bar_at s x i
+-- so it is, and a line label that does not lie within its line has one
+pub record HasArrowColumn (g : GutterFields) (pen : PenFields) (x : LineLabel) : Type 0 where
+  pub page : g.page ≡ pen.page
+  pub column : is_inline x.side ≡ false → x.gutter_column < length g.bars
 
 -- ---- what its columns show, by its bars alone
 
@@ -115,6 +110,15 @@ turn_row_ink g x i =
     else ink_of Hbar Hbar x.info)
     else bars_ink Vbar g i
 
+-- column i of the source row of a line that has this margin label, or none
+abbrev pub source_row_ink : GutterFields → Option LineLabel → ℕ → Ink
+source_row_ink g None = bars_ink Vbar g
+source_row_ink g (Some m) = margin_row_ink g m
+
+-- column i of the arrow row of the line label x, where bars stand alone if it lies within its line
+abbrev pub arrow_row_ink : GutterFields → LineLabel → ℕ → Ink
+arrow_row_ink g x = if is_inline x.side then bars_ink Vbar g else turn_row_ink g x
+
 -- the bytes of a column with this ink
 unfoldable pub column_bytes : PageFields → Ink → List ℕ
 column_bytes page ink =
@@ -134,3 +138,18 @@ pub record IsReady (g : GutterFields) (bytes offsets : List ℕ) : Type 0 where
   pub positions : length g.positions ≡ length g.bars
   pub text : bytes ≡ columns_bytes g.page (bars_ink Vbar g) (columns g)
   pub starts : offsets ≡ map (start_of g) (upto (columns g))
+
+-- ---- the offsets of its columns, as a column gets other bytes
+
+-- those from number `first` on are no less than n
+abbrev pub AreBehind : ℕ → ℕ → List ℕ → Type 0
+AreBehind first n starts = (k : ℕ) → first ≤ k → k < length starts → n ≤ slice_index starts k
+
+-- those before it are as they were
+abbrev pub AreKept : ℕ → List ℕ → List ℕ → Type 0
+AreKept first old new = (k : ℕ) → k < first → slice_index new k ≡ slice_index old k
+
+-- and those from it on are moved, since n bytes stand in place of m
+abbrev pub AreMoved : ℕ → ℕ → ℕ → List ℕ → List ℕ → Type 0
+AreMoved first m n old new =
+    (k : ℕ) → first ≤ k → k < length old → slice_index new k ≡ slice_index old k + n - m

@@ -1,4 +1,5 @@
 pub mod Areas
+pub mod AsideKinds
 pub mod Counted
 pub mod Gutters
 pub mod Headers
@@ -7,3 +8,4 @@ pub mod Seen
 pub mod ShownTexts
 pub mod SnippetLabels
 pub mod Snippets
+pub mod Writers

@@ -1,6 +1,8 @@
 -- The text of a source row, whose characters have any colours.
-use Rattle.std.specs.Prelude.{ℕ, ◌≡◌, List, [], ◌∷◌, encode_utf8, length, slice_index}
+use Rattle.std.specs.Prelude.{ℕ, ◌≡◌, ◌<◌, ◌≤◌, List, [], ◌∷◌, Some, drop, encode_utf8, length, slice_get, slice_index}
 use Rattle.ariadne_base.specs.Locations.{upto}
+use Rattle.ariadne_cells.specs.Tables.{position_paint, shown_at}
+use Rattle.ariadne_cells.specs.declared.stretches.Stretch.{Stretch}
 use Rattle.ariadne_picture.specs.declared.cell.Paint.{Paint}
 use Rattle.ariadne_picture.specs.declared.switches.CharSet.{CharSet}
 use Rattle.ariadne_picture.specs.declared.switches.Switches.{Switches}
@@ -27,3 +29,15 @@ place_in switches y paint k = source_pieces switches (paint k) y k (slice_index 
 -- all places
 unfoldable pub shown_in : Switches → Layout → (ℕ → Paint) → List Piece
 shown_in switches y paint = joined (place_in switches y paint) (upto (length (shown y)))
+
+-- ---- stretches of places in one colour
+
+-- from a place on two lists of stretches show the same labels
+abbrev pub ShowAlikeFrom : ℕ → List Stretch → List Stretch → Type 0
+ShowAlikeFrom place xs ys = (k : ℕ) → place ≤ k → shown_at xs k ≡ shown_at ys k
+
+-- up to the end of this stretch, where those before it have ended, its places have this colour
+abbrev pub IsPaintOf : List Stretch → ℕ → Paint → Type 0
+IsPaintOf paints number paint =
+    (k : ℕ) → ((s : Stretch) → slice_get paints number ≡ Some s → k < s.end)
+    → paint ≡ position_paint (shown_at (drop number paints) k)

@@ -1,20 +1,19 @@
 //! The text areas of the rows below a line: underlines, verticals, and arrows to messages.
 
-ghost use Rattle.std.specs.Prelude.{◌≡◌, ◌≤◌, ◌<◌, ℕ, true, false, nat_lt, Option, Some, None};
+ghost use Rattle.std.specs.Prelude.{◌≡◌, ◌≤◌, ◌<◌, true, false, Option, Some, None};
 ghost use Rattle.std.specs.Prelude.{OnOk};
 ghost use Rattle.ariadne_cells.specs.declared.verticals.Vertical.{Vertical};
 ghost use Rattle.ariadne_cells.specs.Pages.{Draws};
 ghost use Rattle.ariadne_cells.specs.Tables.{IsTable};
 ghost use Rattle.ariadne_picture.specs.Cells.{alternate_place, arrow_place, corner_glyph, ink};
 ghost use Rattle.ariadne_picture.specs.Cells.{ink_of};
-ghost use Rattle.ariadne_picture.specs.Columns.{Layout};
 ghost use Rattle.ariadne_picture.specs.Pieces.{area_pieces};
-ghost use Rattle.ariadne_picture.specs.Ranks.{is_inline, is_margin};
-ghost use Rattle.ariadne_picture.specs.Strokes.{is_crossed};
-ghost use Rattle.ariadne_rows.specs.Areas.{DrawsOver, DrawsPlaces, alternate_backdrop};
+ghost use Rattle.ariadne_picture.specs.Ranks.{is_inline};
+ghost use Rattle.ariadne_rows.specs.Areas.{DrawsOver, DrawsPlaces, IsCrossedTo, alternate_backdrop};
 ghost use Rattle.ariadne_rows.specs.Areas.{backdrop_before, backdrop_behind, seen_ink};
 ghost use Rattle.ariadne_rows.specs.Areas.{underlined_ink, underlined_or};
 
+use ariadne_cells::layout::LineLayout;
 use ariadne_cells::pen::Pen;
 use ariadne_cells::table::LineTable;
 use ariadne_cells::verticals::Vertical;
@@ -181,7 +180,7 @@ fn underlined_or(blank: &Backdrop, position: Option<usize>) -> Backdrop
     }
 }
 
-/// Writes the text area of the alternate row of rank `rank`.
+/// Writes the text area of the alternate row of rank `rank` of a line with this layout.
 ///
 /// ```text
 ///     1 | apple == orange;
@@ -190,10 +189,12 @@ fn underlined_or(blank: &Backdrop, position: Option<usize>) -> Backdrop
 pub fn push_alternate_area(
     pen: &mut Pen<'_>,
     table: &LineTable,
+    layout: &LineLayout<'_>,
     rank: usize,
 ) -> Result<(), AllocError>
-    ensures { let switches = pen.old.page.switches in
-        (y : Layout) → IsTable switches y rank table.now → switches.compact ≡ false →
+    requires table { IsTable pen.old.page.switches layout.now rank table.now }
+    requires loose { pen.old.page.switches.compact ≡ false }
+    ensures { let switches = pen.old.page.switches in let y = layout.now in
         OnOk result (Draws pen.old pen.new
         (area_pieces switches y (alternate_place switches y rank))) }
 {
@@ -261,8 +262,7 @@ fn corner_ink(own: &LineLabel) -> Ink
 /// One past the last place that the horizontal of a margin label covers, in a row of `len` places.
 fn horizontal_end(own: &LineLabel, len: usize) -> usize
     ensures within { result ≤ len }
-    ensures covered { is_inline own.now.side ≡ false → (k : ℕ) → k < len →
-        is_crossed own.now.side own.now.place k ≡ nat_lt k result }
+    ensures covered { is_inline own.now.side ≡ false → IsCrossedTo own.now len result }
 {
     match own.side {
         Side::Starts => own.place.saturating_add(1).min(len),
@@ -270,8 +270,8 @@ fn horizontal_end(own: &LineLabel, len: usize) -> usize
     }
 }
 
-/// Writes the text area of the arrow row of rank `rank`, whose line label is `own`; `at_margin`
-/// tells whether that is the line's margin label.
+/// Writes the text area of the arrow row of rank `rank` of a line with this layout, whose line label
+/// is `own`.
 ///
 /// ```text
 ///     1 | apple == orange;
@@ -281,15 +281,16 @@ fn horizontal_end(own: &LineLabel, len: usize) -> usize
 pub fn push_arrow_area(
     pen: &mut Pen<'_>,
     table: &LineTable,
+    layout: &LineLayout<'_>,
     rank: usize,
     own: &LineLabel,
-    at_margin: bool,
 ) -> Result<(), AllocError>
-    ensures { let switches = pen.old.page.switches in
-        (y : Layout) → IsTable switches y rank table.now → is_margin y.margin own.now ≡ at_margin →
+    requires table { IsTable pen.old.page.switches layout.now rank table.now }
+    ensures { let switches = pen.old.page.switches in let y = layout.now in
         OnOk result (Draws pen.old pen.new
         (area_pieces switches y (arrow_place switches y rank (Some own.now)))) }
 {
+    let at_margin = layout.is_margin(own);
     let (before, behind) = arrow_backdrops(pen.page().switches(), rank, own);
     if at_margin {
         let end = horizontal_end(own, table.len);

@@ -1,89 +1,147 @@
 //! Helps and notes, below the lines of the last group.
 
-ghost use Rattle.std.specs.Prelude.{◌≡◌, ◌+◌, ◌<◌, ◌==◌, ◌++◌, ◌∷◌, [], ℕ, if◌then◌else◌, OnOk};
+ghost use Rattle.std.specs.Prelude.{◌≡◌, ◌+◌, ◌<◌, ◌==◌, ◌++◌, ◌∷◌, [], if◌then◌else◌, OnOk};
 ghost use Rattle.std.specs.Prelude.{codes, decimal, length, map, slice_index_or, string_bytes};
 ghost use Rattle.std.specs.Str.Lines.{lines};
 ghost use Rattle.ariadne_base.specs.Locations.{upto};
-ghost use Rattle.ariadne_cells.specs.Pages.{Adds, Draws, DrawsRow, DrawsRows};
-ghost use Rattle.ariadne_picture.specs.Pieces.{Section, Texts, aside_line, aside_name};
-ghost use Rattle.ariadne_picture.specs.Pieces.{aside_pieces, aside_prefix, aside_texts};
-ghost use Rattle.ariadne_picture.specs.Pieces.{gutter_pieces, margin_pieces, painted_text};
-ghost use Rattle.ariadne_picture.specs.Pieces.{plain_text, row_pieces, spaces};
-ghost use Rattle.ariadne_picture.specs.Ranks.{Sheet};
-ghost use Rattle.ariadne_picture.specs.Rows.{Aside, asides, bare, blank, help};
-ghost use Rattle.ariadne_picture.specs.Rows.{note, piece};
-ghost use Rattle.ariadne_rows.specs.Gutters.{IsOfSheet};
-ghost use Rattle.ariadne_rows.specs.Headers.{IsOnPage, aside_number, prefix_text};
+ghost use Rattle.ariadne_cells.specs.Pages.{Adds, Draws};
+ghost use Rattle.ariadne_picture.specs.Pieces.{aside_line, aside_name, aside_texts};
+ghost use Rattle.ariadne_picture.specs.Pieces.{painted_text, plain_text, spaces};
+ghost use Rattle.ariadne_picture.specs.Rows.{asides, blank, piece};
+ghost use Rattle.ariadne_rows.specs.AsideKinds.{aside_of};
+ghost use Rattle.ariadne_rows.specs.Headers.{aside_number, prefix_text, told_pieces};
+ghost use Rattle.ariadne_rows.specs.Writers.{IsBehind, WritesRowOf, WritesRowsOf};
 
-use crate::gutter::Gutter;
+use crate::snippet::Snippet;
+use crate::texts::Texts;
+use crate::writer::Writer;
+use ariadne_base::SourceText;
 use ariadne_cells::margin::decimal_len;
 use ariadne_cells::pen::Pen;
 use ariadne_picture::cell::Paint;
 use std::alloc::AllocError;
 
-/// Writes the rows of all helps of a report.
+/// What stands below the lines of the last group.
+#[derive(Clone, Copy, Debug, PartialEq, Eq)]
+pub enum AsideKind {
+    Help,
+    Note,
+}
+
+impl AsideKind {
+    /// The word in front of each text.
+    #[tactic(auto, unfolding(ariadne_picture::specs::Pieces::aside_name))]
+    fn word(self) -> &'static str
+        ensures { result.now ≡ aside_name (aside_of self) }
+    {
+        match self {
+            AsideKind::Help => "Help",
+            AsideKind::Note => "Note",
+        }
+    }
+
+    /// Which texts of a report these are.
+    #[tactic(auto, unfolding(ariadne_picture::specs::Pieces::aside_texts))]
+    fn texts_in<'a>(self, texts: &'a Texts<'a>) -> &'a [String]
+        ensures { map string_bytes result.now ≡ aside_texts texts.now (aside_of self) }
+    {
+        match self {
+            AsideKind::Help => texts.helps(),
+            AsideKind::Note => texts.notes(),
+        }
+    }
+}
+
+/// Writes the rows of all helps of a snippet's report, or of all its notes.
 ///
 /// ```text
 ///       |
 ///       | Help 1: compare them by their weight
 ///       |
-///       | Help 2: or by their colour
+///       | Help 2: or by their
+///       |         colour
 /// ```
-pub fn push_helps(
-    pen: &mut Pen<'_>,
-    gutter: &Gutter<'_>,
-    helps: &[String],
+pub fn push_asides<I: SourceText>(
+    writer: &mut Writer<'_>,
+    snippet: &Snippet<'_, I>,
+    kind: AsideKind,
 ) -> Result<(), AllocError>
-    requires page { gutter.now.page ≡ pen.old.page }
-    ensures { let page = pen.old.page in (t : Texts) (g : Section) → IsOnPage t g page →
-        IsOfSheet g.sheet gutter.now → t.helps ≡ map string_bytes helps.now →
-        OnOk result (DrawsRows pen.old pen.new
-        (map (row_pieces t page.number_width g) (asides page.switches.compact help t.helps))) }
+    requires at { IsBehind snippet.now writer.old }
+    ensures { let v = snippet.now in let a = aside_of kind in
+        let compact = writer.old.pen.page.switches.compact in
+        let rows = asides compact a (aside_texts v.texts a) in
+        OnOk result (WritesRowsOf v rows writer.old writer.new) }
 {
-    push_asides(pen, gutter, "Help", helps)
-}
-
-/// Writes the rows of all notes of a report.
-///
-/// ```text
-///       |
-///       | Note: a note may have
-///       |       more than one line
-/// ```
-pub fn push_notes(
-    pen: &mut Pen<'_>,
-    gutter: &Gutter<'_>,
-    notes: &[String],
-) -> Result<(), AllocError>
-    requires page { gutter.now.page ≡ pen.old.page }
-    ensures { let page = pen.old.page in (t : Texts) (g : Section) → IsOnPage t g page →
-        IsOfSheet g.sheet gutter.now → t.notes ≡ map string_bytes notes.now →
-        OnOk result (DrawsRows pen.old pen.new
-        (map (row_pieces t page.number_width g) (asides page.switches.compact note t.notes))) }
-{
-    push_asides(pen, gutter, "Note", notes)
-}
-
-/// Writes the rows of all texts with this word in front.
-fn push_asides(
-    pen: &mut Pen<'_>,
-    gutter: &Gutter<'_>,
-    word: &str,
-    texts: &[String],
-) -> Result<(), AllocError>
-    requires page { gutter.now.page ≡ pen.old.page }
-    ensures { let page = pen.old.page in (t : Texts) (g : Section) (a : Aside) →
-        IsOnPage t g page → IsOfSheet g.sheet gutter.now → word.now ≡ aside_name a →
-        aside_texts t a ≡ map string_bytes texts.now →
-        OnOk result (DrawsRows pen.old pen.new (map (row_pieces t page.number_width g)
-        (asides page.switches.compact a (aside_texts t a)))) }
-{
+    let texts = kind.texts_in(snippet.texts());
     for (index, text) in texts.iter().enumerate() {
-        let number = number_of(index, texts.len());
-        push_above(pen, gutter)?;
-        push_lines(pen, gutter, word, number, text.as_str())?;
+        push_above(writer, snippet, kind, index)?;
+        push_lines(writer, snippet, kind, index, text.as_str())?;
     }
     Ok(())
+}
+
+/// Writes the row above text number `number`. A compact picture has none.
+fn push_above<I: SourceText>(
+    writer: &mut Writer<'_>,
+    snippet: &Snippet<'_, I>,
+    kind: AsideKind,
+    number: usize,
+) -> Result<(), AllocError>
+    requires at { IsBehind snippet.now writer.old }
+    ensures { let compact = writer.old.pen.page.switches.compact in
+        let rows = (if compact then [] else blank (aside_of kind) number ∷ []) in
+        OnOk result (WritesRowsOf snippet.now rows writer.old writer.new) }
+{
+    if writer.pen.page().switches().compact {
+        return Ok(());
+    }
+    writer.pen.push_margin()?;
+    writer.gutter.push_blank(&mut writer.pen)?;
+    writer.pen.end_row()
+}
+
+/// Writes the lines of text number `number`: the first stands behind its word, the others below the
+/// first.
+fn push_lines<I: SourceText>(
+    writer: &mut Writer<'_>,
+    snippet: &Snippet<'_, I>,
+    kind: AsideKind,
+    number: usize,
+    text: &str,
+) -> Result<(), AllocError>
+    requires at { IsBehind snippet.now writer.old }
+    requires within { number < length (aside_texts snippet.now.texts (aside_of kind)) }
+    requires text { text.now
+        ≡ slice_index_or (aside_texts snippet.now.texts (aside_of kind)) number [] }
+    ensures { let rows = map (piece (aside_of kind) number) (upto (length (lines text.now))) in
+        OnOk result (WritesRowsOf snippet.now rows writer.old writer.new) }
+{
+    for (index, line) in text.lines().enumerate() {
+        push_line(writer, snippet, kind, number, index, line)?;
+    }
+    Ok(())
+}
+
+/// Writes the row of line number `index` of text number `number`.
+fn push_line<I: SourceText>(
+    writer: &mut Writer<'_>,
+    snippet: &Snippet<'_, I>,
+    kind: AsideKind,
+    number: usize,
+    index: usize,
+    line: &str,
+) -> Result<(), AllocError>
+    requires at { IsBehind snippet.now writer.old }
+    requires within { number < length (aside_texts snippet.now.texts (aside_of kind)) }
+    requires line { line.now ≡ aside_line snippet.now.texts (aside_of kind) number index }
+    ensures { let row = piece (aside_of kind) number index in
+        OnOk result (WritesRowOf snippet.now row writer.old writer.new) }
+{
+    let told = number_of(number, kind.texts_in(snippet.texts()).len());
+    writer.pen.push_margin()?;
+    writer.gutter.push_blank(&mut writer.pen)?;
+    push_line_text(&mut writer.pen, kind.word(), told, index, line)?;
+    writer.pen.end_row()
 }
 
 /// The number that stands behind the word of a text, where there are several.
@@ -96,68 +154,6 @@ fn number_of(index: usize, count: usize) -> Option<usize>
     if count == 1 { None } else { Some(index + 1) }
 }
 
-/// Writes the row above a text. A compact picture has none.
-fn push_above(pen: &mut Pen<'_>, gutter: &Gutter<'_>) -> Result<(), AllocError>
-    requires page { gutter.now.page ≡ pen.old.page }
-    ensures page { OnOk result (pen.new.page ≡ pen.old.page) }
-    ensures drawn { let page = pen.old.page in (t : Texts) (g : Section) (a : Aside) (k : ℕ) →
-        IsOnPage t g page → IsOfSheet g.sheet gutter.now →
-        OnOk result (DrawsRows pen.old pen.new (map (row_pieces t page.number_width g)
-        (if page.switches.compact then [] else blank a k ∷ []))) }
-{
-    if pen.page().switches().compact {
-        return Ok(());
-    }
-    push_start(pen, gutter)?;
-    pen.end_row()
-}
-
-/// Writes the lines of one text: the first stands behind its word, the others below the first.
-fn push_lines(
-    pen: &mut Pen<'_>,
-    gutter: &Gutter<'_>,
-    word: &str,
-    number: Option<usize>,
-    text: &str,
-) -> Result<(), AllocError>
-    requires page { gutter.now.page ≡ pen.old.page }
-    ensures page { OnOk result (pen.new.page ≡ pen.old.page) }
-    ensures drawn { let page = pen.old.page in (t : Texts) (g : Section) (a : Aside) (k : ℕ) →
-        IsOnPage t g page → IsOfSheet g.sheet gutter.now →
-        prefix_text word.now number ≡ aside_prefix t a k →
-        text.now ≡ slice_index_or (aside_texts t a) k [] →
-        OnOk result (DrawsRows pen.old pen.new (map (row_pieces t page.number_width g)
-        (map (piece a k) (upto (length (lines text.now)))))) }
-{
-    for (index, line) in text.lines().enumerate() {
-        push_line(pen, gutter, word, number, index, line)?;
-    }
-    Ok(())
-}
-
-/// Writes the row of line number `index` of a text.
-fn push_line(
-    pen: &mut Pen<'_>,
-    gutter: &Gutter<'_>,
-    word: &str,
-    number: Option<usize>,
-    index: usize,
-    line: &str,
-) -> Result<(), AllocError>
-    requires page { gutter.now.page ≡ pen.old.page }
-    ensures page { OnOk result (pen.new.page ≡ pen.old.page) }
-    ensures drawn { let page = pen.old.page in (t : Texts) (g : Section) (a : Aside) (k : ℕ) →
-        IsOnPage t g page → IsOfSheet g.sheet gutter.now →
-        prefix_text word.now number ≡ aside_prefix t a k →
-        line.now ≡ aside_line t a k index →
-        OnOk result (DrawsRow pen.old pen.new
-        (row_pieces t page.number_width g (piece a k index))) }
-{
-    push_start(pen, gutter)?;
-    push_line_text(pen, word, number, index, line)?;
-    pen.end_row()
-}
-
 /// Writes line number `index` of a text: the first behind its word, another below the first.
 fn push_line_text(
     pen: &mut Pen<'_>,
@@ -166,11 +162,7 @@ fn push_line_text(
     index: usize,
     line: &str,
 ) -> Result<(), AllocError>
-    ensures page { OnOk result (pen.new.page ≡ pen.old.page) }
-    ensures drawn { (t : Texts) (a : Aside) (k : ℕ) →
-        prefix_text word.now number ≡ aside_prefix t a k →
-        line.now ≡ aside_line t a k index →
-        OnOk result (Draws pen.old pen.new (aside_pieces t a k index)) }
+    ensures { OnOk result (Draws pen.old pen.new (told_pieces word.now number index line.now)) }
 {
     if index == 0 {
         push_first(pen, word, number, line)
@@ -256,21 +248,4 @@ fn push_hanging_number(pen: &mut Pen<'_>, number: Option<usize>) -> Result<(), A
         }
         None => Ok(()),
     }
-}
-
-/// Writes the margin of a row below all lines, and its blank gutter.
-fn push_start(pen: &mut Pen<'_>, gutter: &Gutter<'_>) -> Result<(), AllocError>
-    requires page { gutter.now.page ≡ pen.old.page }
-    ensures page { OnOk result (pen.new.page ≡ pen.old.page) }
-    ensures blank { let page = pen.old.page in (s : Sheet) (a : Aside) (k : ℕ) →
-        IsOfSheet s gutter.now → OnOk result (Draws pen.old pen.new
-        (margin_pieces page.switches page.number_width 0 (bare 0)
-        ++ gutter_pieces s (blank a k))) }
-    ensures piece { let page = pen.old.page in (s : Sheet) (a : Aside) (k p : ℕ) →
-        IsOfSheet s gutter.now → OnOk result (Draws pen.old pen.new
-        (margin_pieces page.switches page.number_width 0 (bare 0)
-        ++ gutter_pieces s (piece a k p))) }
-{
-    pen.push_margin()?;
-    gutter.push_blank(pen)
 }

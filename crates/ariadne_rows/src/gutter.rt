@@ -1,20 +1,21 @@
 //! The gutter of a group's rows.
 
-ghost use Rattle.std.specs.Prelude.{◌≡◌, ◌<◌, ◌≤◌, ℕ, false, Some, None, [], OnOk, map};
-ghost use Rattle.std.specs.Prelude.{replicate, length, slice_get, slice_set};
-ghost use Rattle.std.specs.Prelude.{◌+◌, ◌-◌, ◌*◌, ◌^◌, ◌++◌, EachIndex, IsOk, slice_index};
+ghost use Rattle.std.specs.Prelude.{◌≡◌, ◌<◌, ◌≤◌, false, [], OnOk, map};
+ghost use Rattle.std.specs.Prelude.{replicate, length, slice_set};
+ghost use Rattle.std.specs.Prelude.{◌+◌, ◌*◌, ◌^◌, ◌++◌, EachIndex, IsOk, slice_index};
 ghost use Rattle.std.specs.Prelude.{string_bytes, string_len, vec_capacity, vec_len};
 ghost use Rattle.std.specs.String.{string_capacity};
 ghost use Rattle.ariadne_base.specs.Locations.{upto};
-ghost use Rattle.ariadne_cells.specs.Pages.{Adds, Draws};
-ghost use Rattle.ariadne_picture.specs.declared.cell.Glyph.TheVariants.{Vbar};
+ghost use Rattle.ariadne_cells.specs.Pages.{Adds};
+ghost use Rattle.ariadne_picture.specs.declared.cell.Glyph.TheVariants.{Vbar, VbarGap};
 ghost use Rattle.ariadne_picture.specs.Cells.{margin_glyph, turn_glyph};
-ghost use Rattle.ariadne_picture.specs.Pieces.{column_size, gutter_pieces, spaces};
-ghost use Rattle.ariadne_picture.specs.Ranks.{Sheet, line_labels, margin_label};
-ghost use Rattle.ariadne_picture.specs.Rows.{Aside, alternate, arrow, blank, gap, piece, source};
-ghost use Rattle.ariadne_rows.specs.Gutters.{HasBarsOf, IsOfSheet, bar_ink, bar_of, bars_ink};
+ghost use Rattle.ariadne_picture.specs.Pieces.{column_size, spaces};
+ghost use Rattle.ariadne_rows.specs.Gutters.{AreBehind, AreKept, AreMoved};
+ghost use Rattle.ariadne_rows.specs.Gutters.{HasArrowColumn, HasColumn, HasMarginColumn};
+ghost use Rattle.ariadne_rows.specs.Gutters.{arrow_row_ink, bar_ink, bar_of, bars_ink};
 ghost use Rattle.ariadne_rows.specs.Gutters.{column_bytes, columns, columns_bytes};
-ghost use Rattle.ariadne_rows.specs.Gutters.{margin_row_ink, start_of, turn_row_ink};
+ghost use Rattle.ariadne_rows.specs.Gutters.{margin_row_ink, source_row_ink, start_of};
+ghost use Rattle.ariadne_rows.specs.Gutters.{turn_row_ink};
 
 use ariadne_cells::page::Page;
 use ariadne_cells::pen::Pen;
@@ -127,17 +128,17 @@ impl<'a> Gutter<'a> {
         Ok(())
     }
 
-    /// Writes the gutter of an alternate row.
+    /// Writes the gutter of a row that has bars alone, as an alternate row has.
     ///
     /// ```text
     ///     | | |       bars alone
     /// ```
-    pub fn push_alternate(&self, pen: &mut Pen<'_>) -> Result<(), AllocError>
-        requires page { self.now.page ≡ pen.old.page }
-        ensures { (s : Sheet) (l r : ℕ) → HasBarsOf s (alternate l r) self.now →
-            OnOk result (Draws pen.old pen.new (gutter_pieces s (alternate l r))) }
+    pub(crate) fn push_bars(&self, pen: &mut Pen<'_>) -> Result<(), AllocError>
+        ensures { let g = self.now in
+            let bytes = columns_bytes g.page (bars_ink Vbar g) (columns g) in
+            OnOk result (Adds pen.old pen.new bytes) }
     {
-        self.push_bars(pen)
+        pen.push_text(&self.text)
     }
 
     /// Writes the gutter of the arrow row of a line label.
@@ -145,14 +146,13 @@ impl<'a> Gutter<'a> {
     /// ```text
     ///     | ,---      from its own column on
     /// ```
-    pub fn push_arrow(&self, pen: &mut Pen<'_>, own: &LineLabel) -> Result<(), AllocError>
-        requires page { self.now.page ≡ pen.old.page }
-        ensures { (s : Sheet) (l r : ℕ) → HasBarsOf s (arrow l r) self.now →
-            slice_get (line_labels s.labels l) r ≡ Some own.now →
-            OnOk result (Draws pen.old pen.new (gutter_pieces s (arrow l r))) }
+    pub(crate) fn push_arrow(&self, pen: &mut Pen<'_>, own: &LineLabel) -> Result<(), AllocError>
+        requires { HasArrowColumn self.now pen.old own.now }
+        ensures { let g = self.now in
+            let bytes = columns_bytes g.page (arrow_row_ink g own.now) (columns g) in
+            OnOk result (Adds pen.old pen.new bytes) }
     {
-        // Each start and each end has a column, so the second test fails.
-        if own.side.is_inline() || own.gutter_column >= self.bars.len() {
+        if own.side.is_inline() {
             return self.push_bars(pen);
         }
         self.push_turn(pen, own)
@@ -163,25 +163,20 @@ impl<'a> Gutter<'a> {
     /// ```text
     ///     | ,->       from the margin label's column on
     /// ```
-    pub fn push_source(
+    pub(crate) fn push_source(
         &self,
         pen: &mut Pen<'_>,
         margin: Option<LineLabel>,
     ) -> Result<(), AllocError>
-        requires page { self.now.page ≡ pen.old.page }
-        ensures page { OnOk result (pen.new.page ≡ pen.old.page) }
-        ensures drawn { (s : Sheet) (l : ℕ) → HasBarsOf s (source l) self.now →
-            margin_label s.labels l ≡ margin →
-            OnOk result (Draws pen.old pen.new (gutter_pieces s (source l))) }
+        requires { HasMarginColumn self.now pen.old margin }
+        ensures { let g = self.now in
+            let bytes = columns_bytes g.page (source_row_ink g margin) (columns g) in
+            OnOk result (Adds pen.old pen.new bytes) }
     {
-        let Some(margin) = margin else {
-            return self.push_bars(pen);
-        };
-        // A margin label has a column, so this test fails.
-        if margin.gutter_column >= self.bars.len() {
-            return self.push_bars(pen);
+        match margin {
+            None => self.push_bars(pen),
+            Some(margin) => self.push_margin_row(pen, &margin),
         }
-        self.push_margin_row(pen, &margin)
     }
 
     /// Writes the gutter of a row in place of hidden lines.
@@ -189,13 +184,12 @@ impl<'a> Gutter<'a> {
     /// ```text
     ///     : :         broken bars
     /// ```
-    pub fn push_gap(&self, pen: &mut Pen<'_>) -> Result<(), AllocError>
-        requires page { self.now.page ≡ pen.old.page }
-        ensures { (s : Sheet) (l : ℕ) → HasBarsOf s (gap l) self.now → margin_label s.labels l ≡ None →
-            OnOk result (Draws pen.old pen.new (gutter_pieces s (gap l))) }
+    pub(crate) fn push_gap(&self, pen: &mut Pen<'_>) -> Result<(), AllocError>
+        ensures { let g = self.now in
+            let bytes = columns_bytes pen.old.page (bars_ink VbarGap g) (columns g) in
+            OnOk result (Adds pen.old pen.new bytes) }
     {
-        let page = self.page;
-        let size = column_size(page.switches());
+        let size = column_size(pen.page().switches());
         for column in 0..self.starts.len() {
             pen.push_ink(&bar_ink(Glyph::VbarGap, self.bar_of(column)), size)?;
         }
@@ -203,13 +197,11 @@ impl<'a> Gutter<'a> {
     }
 
     /// Writes the gutter of a row below all lines: blanks alone.
-    pub fn push_blank(&self, pen: &mut Pen<'_>) -> Result<(), AllocError>
-        requires page { self.now.page ≡ pen.old.page }
-        ensures page { OnOk result (pen.new.page ≡ pen.old.page) }
-        ensures blank { (s : Sheet) (a : Aside) (k : ℕ) → IsOfSheet s self.now →
-            OnOk result (Draws pen.old pen.new (gutter_pieces s (blank a k))) }
-        ensures piece { (s : Sheet) (a : Aside) (k p : ℕ) → IsOfSheet s self.now →
-            OnOk result (Draws pen.old pen.new (gutter_pieces s (piece a k p))) }
+    pub(crate) fn push_blank(&self, pen: &mut Pen<'_>) -> Result<(), AllocError>
+        ensures bars { length self.now.positions ≡ length self.now.bars }
+        ensures blanks { let g = self.now in
+            let bytes = spaces (columns g * column_size g.page.switches) in
+            OnOk result (Adds pen.old pen.new bytes) }
     {
         let page = self.page;
         pen.push_spaces(self.starts.len() * column_size(page.switches()))
@@ -232,15 +224,6 @@ impl<'a> Gutter<'a> {
         ensures { result ≡ start_of self.now column }
     {
         self.starts[column]
-    }
-
-    /// Writes a row that has bars alone.
-    fn push_bars(&self, pen: &mut Pen<'_>) -> Result<(), AllocError>
-        ensures { let g = self.now in
-            let bytes = columns_bytes g.page (bars_ink Vbar g) (columns g) in
-            OnOk result (Adds pen.old pen.new bytes) }
-    {
-        pen.push_text(&self.text)
     }
 
     /// Writes the bars of the columns before a column.
@@ -270,8 +253,7 @@ impl<'a> Gutter<'a> {
     ///     | ,-|->     a bar behind the margin label's column
     /// ```
     fn push_margin_row(&self, pen: &mut Pen<'_>, margin: &LineLabel) -> Result<(), AllocError>
-        requires page { self.now.page ≡ pen.old.page }
-        requires column { margin.now.gutter_column < length self.now.bars }
+        requires { HasColumn self.now pen.old margin.now.gutter_column }
         ensures { let g = self.now in
             let bytes = columns_bytes g.page (margin_row_ink g margin.now) (columns g) in
             OnOk result (Adds pen.old pen.new bytes) }
@@ -308,8 +290,7 @@ impl<'a> Gutter<'a> {
     ///     | ,-+---    a bar behind its own column
     /// ```
     fn push_turn(&self, pen: &mut Pen<'_>, own: &LineLabel) -> Result<(), AllocError>
-        requires page { self.now.page ≡ pen.old.page }
-        requires column { own.now.gutter_column < length self.now.bars }
+        requires { HasColumn self.now pen.old own.now.gutter_column }
         ensures { let g = self.now in
             let bytes = columns_bytes g.page (turn_row_ink g own.now) (columns g) in
             OnOk result (Adds pen.old pen.new bytes) }
@@ -432,11 +413,10 @@ fn push_multiples(out: &mut Vec<usize>, count: usize, number: usize)
 /// Moves the starts of the columns from `first` on, since the column before them, which had `old`
 /// bytes, has `new`.
 fn shift(starts: &mut [usize], first: usize, old: usize, new: usize)
-    requires behind { (k : ℕ) → first ≤ k → k < length starts.old → old ≤ slice_index starts.old k }
+    requires behind { AreBehind first old starts.old }
     requires fits { EachIndex starts.old (λ k. slice_index starts.old k + new < 2 ^ 64) }
-    ensures kept { (k : ℕ) → k < first → slice_index starts.new k ≡ slice_index starts.old k }
-    ensures moved { (k : ℕ) → first ≤ k → k < length starts.old →
-        slice_index starts.new k ≡ slice_index starts.old k + new - old }
+    ensures kept { AreKept first starts.old starts.new }
+    ensures moved { AreMoved first old new starts.old starts.new }
 {
     if new == old {
         return;

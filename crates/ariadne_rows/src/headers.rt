@@ -4,10 +4,14 @@ ghost use Rattle.std.specs.Prelude.{◌≡◌, ◌+◌, ◌++◌, ◌∷◌, [],
 ghost use Rattle.std.specs.Option.{option_copied};
 ghost use Rattle.ariadne_cells.specs.Pages.{Adds, Draws, DrawsRow};
 ghost use Rattle.ariadne_picture.specs.Canvas.{code_text, header_pieces};
-ghost use Rattle.ariadne_picture.specs.Pieces.{Section, Texts, group_header_pieces, location_text};
+ghost use Rattle.ariadne_picture.specs.Pieces.{group_header_pieces};
 ghost use Rattle.ariadne_picture.specs.Pieces.{painted_text, spacer_pieces, spaces, tail_pieces};
 ghost use Rattle.ariadne_rows.specs.Headers.{location_numbers};
+ghost use Rattle.ariadne_rows.specs.Snippets.{sheet_in};
 
+use crate::snippet::Snippet;
+use crate::texts::Texts;
+use ariadne_base::SourceText;
 use ariadne_cells::pen::Pen;
 use ariadne_picture::cell::{Glyph, Paint};
 use std::alloc::AllocError;
@@ -15,25 +19,17 @@ use std::alloc::AllocError;
 /// The paint of the strokes round the lines of a group.
 const FRAME: Paint = Paint::Margin;
 
-/// Writes the header of a picture.
+/// Writes the header of a picture with these texts.
 ///
 /// ```text
 ///     [3] Error: can't compare apples with oranges
 /// ```
-pub fn push_header(
-    pen: &mut Pen<'_>,
-    code: Option<&str>,
-    kind: &str,
-    message: Option<&str>,
-) -> Result<(), AllocError>
-    ensures { (t : Texts) →
-        t.kind_text ≡ code_text (option_copied code.entry) ++ kind.now ++ codes ":" →
-        t.message ≡ option_copied message.entry →
-        OnOk result (DrawsRow pen.old pen.new (header_pieces t)) }
+pub fn push_header(pen: &mut Pen<'_>, texts: &Texts<'_>) -> Result<(), AllocError>
+    ensures { OnOk result (DrawsRow pen.old pen.new (header_pieces texts.now)) }
 {
-    push_kind(pen, code, kind)?;
+    push_kind(pen, texts.code, texts.kind)?;
     pen.push_char(' ')?;
-    pen.push_text(message.unwrap_or(""))?;
+    pen.push_text(texts.message.unwrap_or(""))?;
     pen.end_row()
 }
 
@@ -63,29 +59,27 @@ fn push_code(pen: &mut Pen<'_>, code: Option<&str>) -> Result<(), AllocError>
     }
 }
 
-/// Writes the header of a group: the name of its source, and the numbers of a line and a column as
-/// they are printed, if the location is known. `is_first` tells whether the group is the first.
+/// Writes the header of a snippet: the name of its source, and the numbers of a line and a column as
+/// they are printed, if the location is known.
 ///
 /// ```text
 ///        ,-[ <unknown>:1:1 ]
 /// ```
-pub fn push_group_header(
+pub fn push_group_header<I: SourceText>(
     pen: &mut Pen<'_>,
-    is_first: bool,
-    name: &str,
-    location: Option<(usize, usize)>,
+    snippet: &Snippet<'_, I>,
 ) -> Result<(), AllocError>
-    ensures { let page = pen.old.page in (g : Section) → g.sheet.switches ≡ page.switches →
-        g.is_first ≡ is_first → g.name ≡ name.now →
-        location_text g.sheet.lines g.display_offset g.header_offset ≡ location_numbers location →
-        OnOk result (DrawsRow pen.old pen.new (group_header_pieces g page.number_width)) }
+    requires switches { (sheet_in snippet.now).switches ≡ pen.old.page.switches }
+    ensures { let pieces = group_header_pieces snippet.now.section pen.old.page.number_width in
+        OnOk result (DrawsRow pen.old pen.new pieces) }
 {
+    let is_first = snippet.is_first();
     let corner = if is_first { Glyph::Ltop } else { Glyph::Lcross };
     push_indent(pen)?;
     pen.push_stroke(corner, FRAME)?;
     pen.push_stroke(Glyph::Hbar, FRAME)?;
     pen.push_stroke(Glyph::Lbox, FRAME)?;
-    push_location(pen, name, location)?;
+    push_location(pen, snippet.name(), snippet.location())?;
     pen.push_stroke(Glyph::Rbox, FRAME)?;
     pen.end_row()
 }

@@ -18,3 +18,4 @@ pub mod snippet;
 pub mod snippet_labels;
 pub mod snippet_line;
 pub mod texts;
+pub mod writer;

@@ -14,152 +14,156 @@
 //!     ---'                                                     tail
 //! ```
 
-ghost use Rattle.std.specs.Prelude.{◌≡◌, ◌<◌, ◌^◌, ℕ, true, false, Some, None, OnOk, slice_get};
+ghost use Rattle.std.specs.Prelude.{◌≡◌, ◌<◌, ◌^◌, true, false, Some, OnOk, slice_get};
 ghost use Rattle.ariadne_cells.specs.Pages.{Draws, DrawsRow};
-ghost use Rattle.ariadne_cells.specs.Tables.{ArePaints, IsTable, tab_columns};
-ghost use Rattle.ariadne_picture.specs.Columns.{layout_of};
-ghost use Rattle.ariadne_picture.specs.Groups.{printed_number};
-ghost use Rattle.ariadne_picture.specs.Pieces.{Section, Texts, message_at, message_pieces, row_pieces};
-ghost use Rattle.ariadne_picture.specs.Ranks.{is_margin, line_labels, margin_label};
-ghost use Rattle.ariadne_picture.specs.Ranks.{multi_line_labels};
+ghost use Rattle.ariadne_cells.specs.Tables.{tab_columns};
+ghost use Rattle.ariadne_picture.specs.Pieces.{message_pieces};
+ghost use Rattle.ariadne_picture.specs.Ranks.{is_hidden};
 ghost use Rattle.ariadne_picture.specs.Rows.{alternate, arrow, bare, gap, source};
-ghost use Rattle.ariadne_rows.specs.Gutters.{HasBarsOf};
 ghost use Rattle.ariadne_rows.specs.Headers.{IsOnPage};
+ghost use Rattle.ariadne_rows.specs.Snippets.{labels_at, layout_at, row_of, sheet_in};
+ghost use Rattle.ariadne_rows.specs.Writers.{ArePaintsAt, IsAtRank, IsBesideAt, WritesRowOf};
 
 use crate::area::{push_alternate_area, push_arrow_area};
-use crate::gutter::Gutter;
 use crate::shown::push_shown;
-use ariadne_cells::layout::LineLayout;
+use crate::snippet::Snippet;
+use crate::snippet_line::SnippetLine;
+use crate::writer::Writer;
+use ariadne_base::SourceText;
 use ariadne_cells::pen::Pen;
 use ariadne_cells::stretches::Stretch;
 use ariadne_cells::table::LineTable;
 use ariadne_picture::label_info::{LineLabel, Side};
 use std::alloc::AllocError;
 
-/// Writes the source row of a line, whose printed number is `number`. `paints` are the labels that
-/// colour its characters; without colours they are not read.
+/// Writes the source row of a line. `paints` are the labels that colour its characters; without
+/// colours they are not read.
 ///
 /// ```text
 ///      1 | ,-> SELECT name, prise
 /// ```
-pub fn push_source_row(
-    pen: &mut Pen<'_>,
-    gutter: &Gutter<'_>,
-    layout: &LineLayout<'_>,
+pub fn push_source_row<I: SourceText>(
+    writer: &mut Writer<'_>,
+    shown: &SnippetLine<'_, I>,
     paints: &[Stretch],
-    number: usize,
 ) -> Result<(), AllocError>
-    requires page { gutter.now.page ≡ pen.old.page }
-    ensures drawn { let page = pen.old.page in (t : Texts) (g : Section) (l : ℕ) →
-        IsOnPage t g page → layout.now ≡ layout_of g.sheet l →
-        number ≡ printed_number g.display_offset l → HasBarsOf g.sheet (source l) gutter.now →
-        (page.palette.is_on ≡ true
-        → ArePaints (multi_line_labels g.sheet.labels) layout.now paints.now) →
-        OnOk result (DrawsRow pen.old pen.new (row_pieces t page.number_width g (source l))) }
-    ensures tabs { OnOk result (tab_columns pen.old.page.switches layout.now < 2 ^ 63) }
+    requires at { IsBesideAt shown.now.snippet shown.now.line writer.old }
+    requires paints { writer.old.pen.page.palette.is_on ≡ true → ArePaintsAt shown.now paints.now }
+    ensures drawn { let v = shown.now in
+        OnOk result (WritesRowOf v.snippet (source v.line) writer.old writer.new) }
+    ensures tabs { OnOk result
+        (tab_columns writer.old.pen.page.switches (layout_at shown.now) < 2 ^ 63) }
 {
-    pen.push_line_margin(number)?;
-    gutter.push_source(pen, layout.margin())?;
-    push_shown(pen, layout, paints)?;
-    pen.end_row()
+    let layout = shown.layout();
+    writer
+        .pen
+        .push_line_margin(shown.display_offset(), shown.line())?;
+    writer
+        .gutter
+        .push_source(&mut writer.pen, layout.margin())?;
+    push_shown(&mut writer.pen, layout, paints)?;
+    writer.pen.end_row()
 }
 
-/// Writes the alternate row of the line label of rank `rank`. Compact pictures have none.
+/// Writes the alternate row of the line label of rank `rank` of a line, or the one below the rows of
+/// all its labels. Compact pictures have none.
 ///
 /// ```text
 ///        | |                ^^|^^
 /// ```
-pub fn push_alternate_row(
-    pen: &mut Pen<'_>,
-    gutter: &Gutter<'_>,
+pub fn push_alternate_row<I: SourceText>(
+    writer: &mut Writer<'_>,
     table: &LineTable,
+    shown: &SnippetLine<'_, I>,
     rank: usize,
 ) -> Result<(), AllocError>
-    requires page { gutter.now.page ≡ pen.old.page }
-    ensures { let page = pen.old.page in (t : Texts) (g : Section) (l : ℕ) →
-        IsOnPage t g page → page.switches.compact ≡ false →
-        IsTable page.switches (layout_of g.sheet l) rank table.now →
-        HasBarsOf g.sheet (alternate l rank) gutter.now →
-        OnOk result (DrawsRow pen.old pen.new
-        (row_pieces t page.number_width g (alternate l rank))) }
+    requires at { IsAtRank shown.now rank writer.old table.now }
+    requires loose { writer.old.pen.page.switches.compact ≡ false }
+    ensures { let v = shown.now in
+        OnOk result (WritesRowOf v.snippet (alternate v.line rank) writer.old writer.new) }
 {
-    pen.push_margin()?;
-    gutter.push_alternate(pen)?;
-    push_alternate_area(pen, table, rank)?;
-    pen.end_row()
+    writer.pen.push_margin()?;
+    writer.gutter.push_bars(&mut writer.pen)?;
+    push_alternate_area(&mut writer.pen, table, shown.layout(), rank)?;
+    writer.pen.end_row()
 }
 
-/// Writes the arrow row of the line label of rank `rank`, which is `own`: its arrow and its
-/// message. Where it starts it shows none. `at_margin` tells whether it is the line's margin label.
+/// Writes the arrow row of the line label of rank `rank` of a line, which is `own`: its arrow and
+/// its message. Where it starts it shows none.
 ///
 /// ```text
 ///        | |                  `---- not in `fruit`
 /// ```
-pub fn push_arrow_row(
-    pen: &mut Pen<'_>,
-    gutter: &Gutter<'_>,
+pub fn push_arrow_row<I: SourceText>(
+    writer: &mut Writer<'_>,
     table: &LineTable,
+    shown: &SnippetLine<'_, I>,
     rank: usize,
     own: &LineLabel,
-    at_margin: bool,
-    message: &str,
 ) -> Result<(), AllocError>
-    requires page { gutter.now.page ≡ pen.old.page }
-    ensures { let page = pen.old.page in (t : Texts) (g : Section) (l : ℕ) →
-        IsOnPage t g page → IsTable page.switches (layout_of g.sheet l) rank table.now →
-        HasBarsOf g.sheet (arrow l rank) gutter.now →
-        slice_get (line_labels g.sheet.labels l) rank ≡ Some own.now →
-        is_margin (margin_label g.sheet.labels l) own.now ≡ at_margin →
-        message_at t own.now.info.position ≡ message.now →
-        OnOk result (DrawsRow pen.old pen.new (row_pieces t page.number_width g (arrow l rank))) }
+    requires at { IsAtRank shown.now rank writer.old table.now }
+    requires label { slice_get (labels_at shown.now) rank ≡ Some own.now }
+    ensures { let v = shown.now in
+        OnOk result (WritesRowOf v.snippet (arrow v.line rank) writer.old writer.new) }
 {
-    pen.push_margin()?;
-    gutter.push_arrow(pen, own)?;
-    push_arrow_area(pen, table, rank, own, at_margin)?;
-    push_message(pen, own, message)?;
-    pen.end_row()
+    writer.pen.push_margin()?;
+    writer.gutter.push_arrow(&mut writer.pen, own)?;
+    push_arrow_area(&mut writer.pen, table, shown.layout(), rank, own)?;
+    push_message(&mut writer.pen, shown, own)?;
+    writer.pen.end_row()
 }
 
-/// Writes the message of a label behind its arrow. Where the label starts it shows none.
-fn push_message(pen: &mut Pen<'_>, own: &LineLabel, message: &str) -> Result<(), AllocError>
-    ensures { (t : Texts) → message_at t own.now.info.position ≡ message.now →
-        OnOk result (Draws pen.old pen.new (message_pieces t (Some own.now))) }
+/// Writes the message of a label of a line behind its arrow. Where the label starts it shows none.
+fn push_message<I: SourceText>(
+    pen: &mut Pen<'_>,
+    shown: &SnippetLine<'_, I>,
+    own: &LineLabel,
+) -> Result<(), AllocError>
+    ensures { let pieces = message_pieces shown.now.snippet.texts (Some own.now) in
+        OnOk result (Draws pen.old pen.new pieces) }
 {
     match own.side {
         Side::Starts => Ok(()),
         Side::Inline | Side::Ends => {
             pen.push_char(' ')?;
-            pen.push_text(message)
+            pen.push_text(shown.message_of(own))
         }
     }
 }
 
-/// Writes the row in place of hidden lines, where the first of them begins inside a label over
-/// several lines.
+/// Writes the row in place of hidden lines of a snippet, the first of which is `line` and begins
+/// inside a label over several lines.
 ///
 /// ```text
 ///        : :
 /// ```
-pub fn push_gap_row(pen: &mut Pen<'_>, gutter: &Gutter<'_>) -> Result<(), AllocError>
-    requires page { gutter.now.page ≡ pen.old.page }
-    ensures { let page = pen.old.page in (t : Texts) (g : Section) (l : ℕ) →
-        IsOnPage t g page → HasBarsOf g.sheet (gap l) gutter.now →
-        margin_label g.sheet.labels l ≡ None →
-        OnOk result (DrawsRow pen.old pen.new (row_pieces t page.number_width g (gap l))) }
+pub fn push_gap_row<I: SourceText>(
+    writer: &mut Writer<'_>,
+    snippet: &Snippet<'_, I>,
+    line: usize,
+) -> Result<(), AllocError>
+    requires at { IsBesideAt snippet.now line writer.old }
+    requires hidden { is_hidden (sheet_in snippet.now) line ≡ true }
+    ensures { OnOk result (WritesRowOf snippet.now (gap line) writer.old writer.new) }
 {
-    pen.push_gap_margin()?;
-    gutter.push_gap(pen)?;
-    pen.end_row()
+    writer.pen.push_gap_margin()?;
+    writer.gutter.push_gap(&mut writer.pen)?;
+    writer.pen.end_row()
 }
 
-/// Writes the row in place of other hidden lines.
+/// Writes the row in place of other hidden lines of a snippet, the first of which is `line`.
 ///
 /// ```text
 ///        |
 /// ```
-pub fn push_bare_row(pen: &mut Pen<'_>) -> Result<(), AllocError>
-    ensures { let page = pen.old.page in (t : Texts) (g : Section) (l : ℕ) → IsOnPage t g page →
-        OnOk result (DrawsRow pen.old pen.new (row_pieces t page.number_width g (bare l))) }
+pub fn push_bare_row<I: SourceText>(
+    pen: &mut Pen<'_>,
+    snippet: &Snippet<'_, I>,
+    line: usize,
+) -> Result<(), AllocError>
+    requires { IsOnPage snippet.now.texts snippet.now.section pen.old.page }
+    ensures { let row = row_of pen.old.page snippet.now (bare line) in
+        OnOk result (DrawsRow pen.old pen.new row) }
 {
     pen.push_margin()?;
     pen.end_row()

@@ -1,11 +1,9 @@
 //! The places of a cut line of which anything is seen, in their order.
 
-ghost use Rattle.std.specs.Prelude.{◌≡◌, ◌<◌, ◌≤◌, ℕ, IfSome, List, None, Some, slice_get, take};
+ghost use Rattle.std.specs.Prelude.{◌≡◌, ◌<◌, ◌≤◌, IfSome, List, None, Some, slice_get, take};
 ghost use Rattle.ariadne_cells.specs.Cuts.{AreApart, end_of};
 ghost use Rattle.ariadne_picture.specs.declared.sight.Part.{Part};
-ghost use Rattle.ariadne_picture.specs.declared.sight.Sight.TheVariants.{Unseen};
-ghost use Rattle.ariadne_picture.specs.Columns.{sight_in};
-ghost use Rattle.ariadne_rows.specs.Seen.{IsSeenNext};
+ghost use Rattle.ariadne_rows.specs.Seen.{AreUnseen, AreUnseenFrom, IsSeenNext};
 
 use ariadne_picture::sight::{Part, Sight};
 
@@ -25,7 +23,7 @@ pub(crate) fn next_seen(parts: &[Part], first: usize, place: usize, end: usize) 
     requires apart { AreApart parts.now }
     requires passed { end_of 0 (take first parts.now) ≤ place }
     ensures seen { IfSome result (λ x. IsSeenNext parts.now place x × (x.place < end)) }
-    ensures none { result ≡ None → (k : ℕ) → place ≤ k → k < end → sight_in parts.now k ≡ Unseen }
+    ensures none { result ≡ None → AreUnseen parts.now place end }
 {
     let part = part_at(parts, first, place);
     let seen = match parts.get(part) {
@@ -75,7 +73,7 @@ fn seen_behind(parts: &[Part], place: usize) -> Option<SeenPlace>
     requires apart { AreApart parts.now }
     requires passed { end_of 0 parts.now ≤ place }
     ensures seen { IfSome result (λ x. IsSeenNext parts.now place x) }
-    ensures none { result ≡ None → (k : ℕ) → place ≤ k → sight_in parts.now k ≡ Unseen }
+    ensures none { result ≡ None → AreUnseenFrom parts.now place }
 {
     let last = parts.last()?;
     if last.to != place {

@@ -1,15 +1,15 @@
 //! The text of a source row: the shown characters of its line, each in the colour of a label.
 
-ghost use Rattle.std.specs.Prelude.{◌≡◌, ◌≢◌, ◌+◌, ◌<◌, ◌≤◌, ◌^◌, ℕ, List, Some, true, OnOk, drop, encode_utf8};
+ghost use Rattle.std.specs.Prelude.{◌≡◌, ◌≢◌, ◌+◌, ◌<◌, ◌≤◌, ◌^◌, Some, OnOk, drop, encode_utf8};
 ghost use Rattle.std.specs.Prelude.{IsTrue, [], ◌∷◌, length, replicate, slice_get, slice_index};
 ghost use Rattle.std.specs.List.{AllByRecursion};
 ghost use Rattle.ariadne_cells.specs.Pages.{Draws};
-ghost use Rattle.ariadne_cells.specs.Tables.{ArePaints, position_paint, shown_at, tab_columns};
-ghost use Rattle.ariadne_picture.specs.declared.label_info.LabelInfo.{LabelInfo};
+ghost use Rattle.ariadne_cells.specs.Tables.{position_paint, shown_at, tab_columns};
 ghost use Rattle.ariadne_picture.specs.Columns.{Layout, shown, sight_of, whole_column};
-ghost use Rattle.ariadne_picture.specs.Pieces.{char_pieces, shown_pieces, shown_text, source_pieces};
+ghost use Rattle.ariadne_picture.specs.Pieces.{char_pieces, shown_text, source_pieces};
 ghost use Rattle.ariadne_rows.specs.Counted.{IsCounted};
-ghost use Rattle.ariadne_rows.specs.ShownTexts.{IsAsShown, blank_of, mark_of, shown_in};
+ghost use Rattle.ariadne_rows.specs.ShownTexts.{IsAsShown, IsPaintOf, ShowAlikeFrom, blank_of};
+ghost use Rattle.ariadne_rows.specs.ShownTexts.{mark_of, shown_in};
 
 use crate::counted::Counted;
 use crate::seen::{SeenPlace, next_seen};
@@ -22,8 +22,8 @@ use ariadne_picture::sight::Sight;
 use ariadne_picture::switches::CharSet;
 use std::alloc::AllocError;
 
-/// Writes the text of a source row. `paints` are the labels that colour its characters; without
-/// colours they are not read.
+/// Writes the text of a source row, each character in the colour of its stretch. Without colours
+/// the stretches are not read.
 ///
 /// ```text
 ///     1 | apple == orange;
@@ -35,9 +35,9 @@ pub fn push_shown(
     layout: &LineLayout<'_>,
     paints: &[Stretch],
 ) -> Result<(), AllocError>
-    ensures drawn { let page = pen.old.page in (multi_line : List LabelInfo) →
-        (page.palette.is_on ≡ true → ArePaints multi_line layout.now paints.now) →
-        OnOk result (Draws pen.old pen.new (shown_pieces page.switches multi_line layout.now)) }
+    ensures drawn { let switches = pen.old.page.switches in
+        OnOk result (Draws pen.old pen.new
+        (shown_in switches layout.now (λ k. position_paint (shown_at paints.now k)))) }
     ensures tabs { OnOk result (tab_columns pen.old.page.switches layout.now < 2 ^ 63) }
 {
     push_characters(pen, layout, paints)?;
@@ -52,9 +52,9 @@ fn push_characters(
     layout: &LineLayout<'_>,
     paints: &[Stretch],
 ) -> Result<(), AllocError>
-    ensures drawn { let page = pen.old.page in (multi_line : List LabelInfo) →
-        (page.palette.is_on ≡ true → ArePaints multi_line layout.now paints.now) →
-        OnOk result (Draws pen.old pen.new (shown_pieces page.switches multi_line layout.now)) }
+    ensures drawn { let switches = pen.old.page.switches in
+        OnOk result (Draws pen.old pen.new
+        (shown_in switches layout.now (λ k. position_paint (shown_at paints.now k)))) }
     ensures tabs { OnOk result
         (tab_columns pen.old.page.switches layout.now ≤ length pen.new.bytes) }
 {
@@ -79,9 +79,9 @@ fn push_cut_characters(
     paints: &[Stretch],
 ) -> Result<(), AllocError>
     requires cut { layout.now.sights ≢ [] }
-    ensures drawn { let page = pen.old.page in (multi_line : List LabelInfo) →
-        (page.palette.is_on ≡ true → ArePaints multi_line layout.now paints.now) →
-        OnOk result (Draws pen.old pen.new (shown_pieces page.switches multi_line layout.now)) }
+    ensures drawn { let switches = pen.old.page.switches in
+        OnOk result (Draws pen.old pen.new
+        (shown_in switches layout.now (λ k. position_paint (shown_at paints.now k)))) }
     ensures tabs { OnOk result
         (tab_columns pen.old.page.switches layout.now ≤ length pen.new.bytes) }
 {
@@ -219,8 +219,7 @@ fn push_mark(pen: &mut Pen<'_>, paint: Paint) -> Result<(), AllocError>
 
 /// The number of the first stretch that ends behind a place, from number `first` on.
 fn stretch_at(paints: &[Stretch], first: usize, place: usize) -> usize
-    ensures seen { (k : ℕ) → place ≤ k →
-        shown_at (drop result paints.now) k ≡ shown_at (drop first paints.now) k }
+    ensures seen { ShowAlikeFrom place (drop result paints.now) (drop first paints.now) }
     ensures reaches { (s : Stretch) → slice_get paints.now result ≡ Some s → place < s.end }
 {
     let mut number = first;
@@ -232,8 +231,7 @@ fn stretch_at(paints: &[Stretch], first: usize, place: usize) -> usize
 
 /// The colour of the places of stretch `number`, or that of text outside all labels.
 fn stretch_paint(paints: &[Stretch], number: usize) -> Paint
-    ensures { (k : ℕ) → ((s : Stretch) → slice_get paints.now number ≡ Some s → k < s.end) →
-        result ≡ position_paint (shown_at (drop number paints.now) k) }
+    ensures { IsPaintOf paints.now number result }
 {
     match paints.get(number) {
         Some(stretch) => paint_of(stretch.position),

@@ -5,7 +5,7 @@ ghost use Rattle.ariadne_base.specs.Listing.{listed_lines};
 ghost use Rattle.ariadne_base.specs.Locations.{line_offset, line_text};
 ghost use Rattle.ariadne_base.specs.Table.{line_extent};
 ghost use Rattle.ariadne_cells.specs.Ends.{shown_bytes};
-ghost use Rattle.ariadne_picture.specs.Groups.{group_end_line, group_start_line, printed_number};
+ghost use Rattle.ariadne_picture.specs.Groups.{group_end_line, group_start_line};
 ghost use Rattle.ariadne_picture.specs.Pieces.{location_text};
 ghost use Rattle.ariadne_picture.specs.Ranks.{first_line, last_line};
 ghost use Rattle.ariadne_rows.specs.Headers.{location_numbers};
@@ -156,14 +156,12 @@ impl<'a, I: SourceText> Snippet<'a, I> {
         self.extent(line).offset()
     }
 
-    /// The number of a line as it is printed.
-    #[tactic(auto, unfolding(ariadne_picture::specs::Groups::printed_number))]
-    pub fn line_number(&self, line: usize) -> usize
-        requires within { line < length (sheet_in self.now).lines }
-        ensures { result ≡ printed_number self.now.section.display_offset line }
+    /// What is added to the numbers of its lines, as they are printed.
+    pub fn display_offset(&self) -> usize
+        ensures { result ≡ self.now.section.display_offset }
     {
         let source = self.source;
-        line + 1 + source.display_line_offset()
+        source.display_line_offset()
     }
 
     /// The characters of a line. `known` is how many of its bytes are shown, where that was found

@@ -2,7 +2,6 @@
 
 ghost use Rattle.std.specs.Prelude.{◌≡◌, ◌<◌, length};
 ghost use Rattle.ariadne_picture.specs.Columns.{layout_of};
-ghost use Rattle.ariadne_picture.specs.Groups.{printed_number};
 ghost use Rattle.ariadne_picture.specs.Pieces.{message_at};
 ghost use Rattle.ariadne_rows.specs.Snippets.{IsSnippet, layout_at, sheet_at, sheet_in};
 
@@ -70,12 +69,11 @@ impl<'a, I: SourceText> SnippetLine<'a, I> {
         &self.layout
     }
 
-    /// Its number as it is printed.
-    pub fn number(&self) -> usize
-        ensures { result ≡ printed_number self.now.snippet.section.display_offset self.now.line }
+    /// What is added to its number, as it is printed.
+    pub fn display_offset(&self) -> usize
+        ensures { result ≡ self.now.snippet.section.display_offset }
     {
-        let snippet = self.snippet;
-        snippet.line_number(self.line)
+        self.snippet.display_offset()
     }
 
     /// The message of one of its labels.

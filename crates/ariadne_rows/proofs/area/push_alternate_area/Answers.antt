@@ -11,7 +11,10 @@ use Rattle.ariadne_rows.proofs.area.push_alternate_area.Goals as goal
 
 -- the row that has the underlines
 pub returns-then-rank-table : goal.returns-then-rank-table
-returns-then-rank-table c = λ y t off.
+returns-then-rank-table c =
+    let y = c.args.layout.now in
+    let t = c.requires.table in
+    let off = c.requires.loose in
     let s : Switches = c.args.pen.now.page.switches in
     let table = c.args.table.now in
     let old = c.args.pen.now in
@@ -29,7 +32,10 @@ returns-then-rank-table c = λ y t off.
 
 -- any other
 pub returns-else-rank-table : goal.returns-else-rank-table
-returns-else-rank-table c = λ y t off.
+returns-else-rank-table c =
+    let y = c.args.layout.now in
+    let t = c.requires.table in
+    let off = c.requires.loose in
     let s : Switches = c.args.pen.now.page.switches in
     let table = c.args.table.now in
     let old = c.args.pen.now in

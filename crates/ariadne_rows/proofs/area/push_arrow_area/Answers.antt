@@ -1,4 +1,4 @@
-use Rattle.std.proofs.Common.{ap, ◌∙◌, arith}
+use Rattle.std.proofs.Common.{sym, ap, ◌∙◌, arith}
 use Rattle.std.proofs.lemmas.Result.{on_ok_weaker}
 use Rattle.ariadne_cells.specs.Pages.{PageFields}
 use Rattle.ariadne_rows.proofs.ArrowRows.{arrow_at_margin, arrow_cut, arrow_turned}
@@ -7,7 +7,10 @@ use Rattle.ariadne_rows.proofs.area.push_arrow_area.Goals as goal
 
 -- the margin label has no corner
 pub returns-then-at_margin : goal.returns-then-at_margin
-returns-then-at_margin c = λ y t m.
+returns-then-at_margin c =
+    let y = c.args.layout.now in
+    let t = c.requires.table in
+    let m = sym c.is_margin-at_margin.ensures in
     let x = c.args.own.now in
     let found = c.arrow_backdrops-before in
     let end = c.horizontal_end-end in
@@ -21,7 +24,10 @@ returns-then-at_margin c = λ y t m.
 
 -- any other turns at its own place
 pub returns-in_ok-push_places-3 : goal.returns-in_ok-push_places-3
-returns-in_ok-push_places-3 c = λ y t m.
+returns-in_ok-push_places-3 c =
+    let y = c.args.layout.now in
+    let t = c.requires.table in
+    let m = sym c.is_margin-at_margin.ensures in
     let found = c.arrow_backdrops-before in
     arrow_turned c.args.pen.now y c.args.rank c.args.table.now t c.args.own.now c.switches.result.now
     (c.switches.ensures.switches ∙ ap (λ (q : PageFields). q.switches) c.page.ensures) found.result.0 found.result.1 found.ensures.before
@@ -31,7 +37,10 @@ returns-in_ok-push_places-3 c = λ y t m.
 
 -- unless that is past the row
 pub returns-else-place-table : goal.returns-else-place-table
-returns-else-place-table c = λ y t m.
+returns-else-place-table c =
+    let y = c.args.layout.now in
+    let t = c.requires.table in
+    let m = sym c.is_margin-at_margin.ensures in
     let found = c.arrow_backdrops-before in
     arrow_cut c.args.pen.now y c.args.rank c.args.table.now t c.args.own.now c.switches.result.now
     (c.switches.ensures.switches ∙ ap (λ (q : PageFields). q.switches) c.page.ensures) found.result.0 found.result.1 found.ensures.before

@@ -5,20 +5,25 @@ use Rattle.std.proofs.lemmas.List.FromFn.{length-enumerate_from}
 use Rattle.std.proofs.lemmas.Iterator.Consumers.{YieldsList-from_enumerate, YieldsList-at, YieldsList-turn, YieldsList-end}
 use Rattle.std.proofs.lemmas.Iterator.Splits.{YieldsList-from_lines}
 use Rattle.ariadne_base.specs.Locations.{upto}
-use Rattle.ariadne_cells.specs.Pages.{DrawsRow, DrawsRows}
-use Rattle.ariadne_cells.proofs.Drawn.{draws_rows_none}
-use Rattle.ariadne_picture.specs.Pieces.{aside_line, aside_texts, row_pieces}
+use Rattle.ariadne_cells.specs.Pages.{DrawsRow}
+use Rattle.ariadne_cells.proofs.Drawn.{draws_rows_none, rows_page}
+use Rattle.ariadne_picture.specs.Pieces.{aside_line, row_pieces}
 use Rattle.ariadne_picture.specs.Rows.{piece}
-use Rattle.ariadne_rows.specs.Headers.{IsOnPage}
+use Rattle.ariadne_rows.specs.AsideKinds.{aside_of}
+use Rattle.ariadne_rows.specs.Snippets.{rows_of}
+use Rattle.ariadne_rows.specs.Writers.{WritesRows}
 use Rattle.ariadne_rows.proofs.AsideRows.{draws_line}
+use Rattle.ariadne_rows.proofs.KnownSnippets.{behind-kept}
 use Rattle.ariadne_rows.proofs.Listing.{numbered-turn}
+use Rattle.ariadne_rows.proofs.asides.push_lines.Given.{Over}
+use Rattle.ariadne_rows.proofs.asides.push_lines.Goals.{In-None, In-Some}
 use Rattle.ariadne_rows.proofs.asides.push_lines.Goals as goal
 
 -- a turn is at the next number, and at its line
-turn : (c : goal.In_ok-push_line)
+turn : (g : Over) (c : In-Some g)
     → (length c.loop-index.yielded < length (lines c.args.text.now)) × (c.in-Some.index ≡ length c.loop-index.yielded)
     × (c.in-Some.line.now ≡ slice_index_or (lines c.args.text.now) (length c.loop-index.yielded) [])
-turn c =
+turn g c =
     let read = YieldsList-from_lines {s = c.lines.result} c.args.text.now c.lines.ensures.rest in
     let source = YieldsList-at c.enumerate-index-items.ensures.source read in
     let numbered = YieldsList-from_enumerate {s = c.enumerate-index-items.result} source c.enumerate-index-items.ensures.count in
@@ -27,8 +32,8 @@ turn c =
     numbered-turn (lines c.args.text.now) (length c.loop-index.yielded) c.in-Some.index c.in-Some.line.now [] t.0 t.1
 
 -- the end comes behind the last line
-ended : (c : goal.In-None) → length c.loop-index.yielded ≡ length (lines c.args.text.now)
-ended c =
+ended : (g : Over) (c : In-None g) → length c.loop-index.yielded ≡ length (lines c.args.text.now)
+ended g c =
     let read = YieldsList-from_lines {s = c.lines.result} c.args.text.now c.lines.ensures.rest in
     let source = YieldsList-at c.enumerate-index-items.ensures.source read in
     let numbered = YieldsList-from_enumerate {s = c.enumerate-index-items.result} source c.enumerate-index-items.ensures.count in
@@ -36,33 +41,48 @@ ended c =
     let e = YieldsList-end whole c.loop-index.yielded _ c.loop-index.yielded_by _ _ c.in-None.is c.next.ensures.steps in
     e.1 ∙ length-enumerate_from 0 (lines c.args.text.now)
 
+-- no line is written
 pub loop-index-init : goal.loop-index-init
-loop-index-init c = record { page = refl; drawn = λ t g a k on of word told. draws_rows_none c.args.pen.now }
+loop-index-init g c = record { drawn = draws_rows_none c.args.writer.now.pen; bars = refl }
+
+-- ---- the next line
+
+-- the gutter is as it was
+pub push_line-requires-clause-at : goal.push_line-requires-clause-at
+push_line-requires-clause-at g c = behind-kept c.args.snippet.now c.args.writer.now c.loop-index.writer _ c.requires.at c.loop-index.invariant
+
+-- it is that of the text
+pub push_line-requires-clause-line : goal.push_line-requires-clause-line
+unfolding aside_line
+push_line-requires-clause-line g c =
+    let at = turn g (goal.at.push_line-requires-clause-line g c).In-Some in
+    at.2 ∙ (λ i. slice_index_or (lines (c.requires.text i)) (sym at.1 i) [])
 
 -- a turn writes one row more
 pub loop-index-preserved : goal.loop-index-preserved
-unfolding aside_line
-loop-index-preserved c =
+loop-index-preserved g c =
+    let v = c.args.snippet.now in
+    let a = aside_of c.args.kind in
+    let k = c.args.number in
+    let pen = c.args.writer.now.pen in
+    let before = c.loop-index.writer.pen in
+    let new = c.push_line.new.writer.pen in
     let n = length c.loop-index.yielded in
     let e : length (c.loop-index.yielded ++ (c.in-Some.index, c.in-Some.line) ∷ []) ≡ n + 1 = length_push _ _ in
-    let at = turn c in
-    record {
-      page = c.in_ok-push_line.ensures.page ∙ c.loop-index.invariant.page;
-      drawn = λ t g a k on of word told.
-          let kept = c.loop-index.invariant.page in
-          let here = subst (IsOnPage t g) (sym kept) on in
-          let text = slice_index_or (aside_texts t a) k [] in
-          let line : c.in-Some.line.now ≡ aside_line t a k c.in-Some.index =
-          at.2 ∙ (λ i. slice_index_or (lines (told i)) (sym at.1 i) []) in
-          let row = subst (λ m. DrawsRow c.loop-index.pen c.push_line.new.pen (row_pieces t c.loop-index.pen.page.number_width g (piece a k m))) at.1
-          (c.in_ok-push_line.ensures.drawn t g a k here of word line) in
-          subst (λ m. DrawsRows c.args.pen.now c.push_line.new.pen
-          (map (row_pieces t c.args.pen.now.page.number_width g) (map (piece a k) (upto m)))) (sym e)
-          (draws_line c.args.pen.now c.loop-index.pen c.push_line.new.pen t g a k n kept (c.loop-index.invariant.drawn t g a k on of word told) row);
-    }
+    let at = turn g (goal.at.loop-index-preserved g c).In-Some in
+    let kept = rows_page pen before _ c.loop-index.invariant.drawn in
+    let row = subst (λ m. DrawsRow before new (row_pieces v.texts before.page.number_width v.section (piece a k m))) at.1
+    c.in_ok-push_line.ensures.drawn in
+    subst (λ m. WritesRows c.args.writer.now c.push_line.new.writer (rows_of pen.page v (map (piece a k) (upto m)))) (sym e)
+    (record {
+      drawn = draws_line pen before new v.texts v.section a k n kept c.loop-index.invariant.drawn row;
+      bars = c.in_ok-push_line.ensures.bars ∙ c.loop-index.invariant.bars;
+    })
 
 -- the last turn was at the last line
-pub returns-clause-drawn : goal.returns-clause-drawn
-returns-clause-drawn c = λ t g a k on of word told.
-    subst (λ m. DrawsRows c.args.pen.now c.loop-index.pen (map (row_pieces t c.args.pen.now.page.number_width g) (map (piece a k) (upto m))))
-    (ended c) (c.loop-index.invariant.drawn t g a k on of word told)
+pub returns : goal.returns
+returns g c =
+    let v = c.args.snippet.now in
+    subst (λ m. WritesRows c.args.writer.now c.loop-index.writer
+    (rows_of c.args.writer.now.pen.page v (map (piece (aside_of c.args.kind) c.args.number) (upto m))))
+    (ended g (goal.at.returns g c).In-None) c.loop-index.invariant

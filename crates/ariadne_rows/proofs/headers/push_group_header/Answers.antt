@@ -13,15 +13,20 @@ use Rattle.ariadne_rows.proofs.headers.push_group_header.Goals as goal
 
 -- text after text
 pub returns : goal.returns
-returns c = λ g same is named at.
+returns g c =
+    let v = c.args.snippet.now in
+    let first = c.is_first-is_first.result in
+    let name = c.name.result.now in
+    let location = c.location.result in
     let page = c.args.pen.now.page in
     let set = page.switches.char_set in
     let chained : OnOk c.end_row.result (Adds c.args.pen.now c.end_row.new.self (spaces (page.number_width + 2)
-    ++ painted (color_of page.palette Margin) (glyph_text set (if c.args.is_first then Ltop else Lcross))
+    ++ painted (color_of page.palette Margin) (glyph_text set (if first then Ltop else Lcross))
     ++ painted (color_of page.palette Margin) (glyph_text set Hbar) ++ painted (color_of page.palette Margin) (glyph_text set Lbox)
-    ++ (codes " " ++ c.args.name.now ++ codes ":" ++ location_numbers c.args.location ++ codes " ")
+    ++ (codes " " ++ name ++ codes ":" ++ location_numbers location ++ codes " ")
     ++ painted (color_of page.palette Margin) (glyph_text set Rbox) ++ 10 ∷ [])) =
     search (rules, append_assoc) in
     on_ok_weaker c.end_row.result
-    (adds_same _ _ _ _ (group_header_row page.palette g page.number_width page.switches c.args.is_first c.args.name.now _ same is named at))
+    (adds_same _ _ _ _ (group_header_row page.palette v.section page.number_width page.switches first name _ c.requires.switches
+    (sym c.is_first-is_first.ensures) (sym c.name.ensures) (sym c.location.ensures)))
     chained

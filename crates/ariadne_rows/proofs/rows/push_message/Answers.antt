@@ -7,14 +7,15 @@ use Rattle.ariadne_rows.proofs.rows.push_message.Goals as goal
 
 -- where the label starts it shows none
 pub returns-in-Starts : goal.returns-in-Starts
-returns-in-Starts c = λ t told.
-    subst (Draws c.args.pen.now c.args.pen.now) (sym (message_none t c.args.own.now c.in-Starts.is)) (draws_none c.args.pen.now)
+returns-in-Starts g c =
+    subst (Draws c.args.pen.now c.args.pen.now) (sym (message_none c.args.shown.now.snippet.texts c.args.own.now c.in-Starts.is))
+    (draws_none c.args.pen.now)
 
 -- elsewhere it stands behind a blank
 pub returns-in_ok-push_char-in-Inline : goal.returns-in_ok-push_char-in-Inline
 unfolding lib.Utf8.encode
-returns-in_ok-push_char-in-Inline c = λ t told.
+returns-in_ok-push_char-in-Inline g c =
     on_ok_weaker c.push_text.result
-    (draws_message c.args.pen.now c.push_char.new.self c.push_text.new.self t c.args.own.now c.args.message.now c.in-Inline.is told
-    c.in_ok-push_char-in-Inline.ensures)
+    (draws_message c.args.pen.now c.push_char.new.self c.push_text.new.self c.args.shown.now.snippet.texts c.args.own.now c.message_of.result.now
+    c.in-Inline.is (sym c.message_of.ensures) c.in_ok-push_char-in-Inline.ensures)
     c.push_text.ensures

@@ -5,4 +5,4 @@ use Rattle.ariadne_rows.specs.Gutters.{bars_ink, columns_bytes}
 use Rattle.ariadne_rows.proofs.gutter.Gutter.push_gap.Given as goal
 
 abbrev pub invariant-loop-column : goal.invariant-loop-column
-invariant-loop-column l = Adds l.fn.pen l.pen (columns_bytes l.fn.self.page (bars_ink VbarGap l.fn.self) l.column)
+invariant-loop-column l = Adds l.fn.pen l.pen (columns_bytes l.fn.pen.page (bars_ink VbarGap l.fn.self) l.column)

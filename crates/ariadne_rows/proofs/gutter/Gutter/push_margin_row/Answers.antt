@@ -11,6 +11,10 @@ use Rattle.ariadne_rows.proofs.GutterState.{bar-read, columns-some}
 use Rattle.ariadne_rows.proofs.gutter.Gutter.push_margin_row.Goals as goal
 use Rattle.ariadne_rows.proofs.gutter.Gutter.push_margin_row.Goals.{then-index+in_ok-push_run+in_ok-push_bar, else-index}
 
+-- its column is there
+pub push_before-requires : goal.push_before-requires
+push_before-requires c = record { column = c.requires.column }
+
 -- a column has a cell at least
 pub overflow_sub-level : goal.overflow_sub-level
 overflow_sub-level c = c.column_size-size.ensures.some
