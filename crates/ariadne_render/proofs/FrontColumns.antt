@@ -10,10 +10,11 @@ use Rattle.ariadne_picture.specs.declared.label_info.LabelInfo.{LabelInfo}
 use Rattle.ariadne_picture.specs.declared.switches.Switches.{Switches}
 use Rattle.ariadne_picture.specs.Canvas.{number_width, sheet_of}
 use Rattle.ariadne_picture.specs.Groups.{greatest}
-use Rattle.ariadne_picture.specs.Margins.{columns_before_text, most_before_text}
+use Rattle.ariadne_picture.specs.Margins.{columns_before_text, margin_len, most_before_text}
 use Rattle.ariadne_picture.specs.Pieces.{column_size, gutter_len}
 use Rattle.ariadne_picture.specs.Ranks.{Sheet, gutter_labels, is_on_one_line, multi_line_labels, span_len}
 use Rattle.ariadne_picture.specs.Report.{ReportFields, World}
+use Rattle.ariadne_render.specs.DrawnGroups.{gutter_sheet}
 use Rattle.ariadne_picture.proofs.Lists.Permutations.{filter-in_order}
 
 -- ---- gutter labels
@@ -32,13 +33,13 @@ filter-filter p q (x ∷ xs) =
     ]
 
 -- the gutter labels are as many as the labels that own a column
-pub gutter_labels_count : (s : Sheet) → length (gutter_labels s.labels) ≡ length (filter owns_column s.labels)
+pub gutter_labels_count : (labels : List LabelInfo) → length (gutter_labels labels) ≡ length (filter owns_column labels)
 unfolding gutter_labels multi_line_labels
-gutter_labels_count s =
+gutter_labels_count labels =
     let told = λ (a : LabelInfo). a.has_message in
     let long = λ (a : LabelInfo). not (is_on_one_line a) in
     let longer = λ (a b : LabelInfo). nat_lt (span_len b) (span_len a) in
-    length_permutation _ _ (filter-in_order told longer (filter long s.labels)) ∙ ap length (filter-filter long told s.labels)
+    length_permutation _ _ (filter-in_order told longer (filter long labels)) ∙ ap length (filter-filter long told labels)
 
 module _ (labels : List LabelInfo) (i : ℕ) (d : LabelInfo) (less : i < length labels) (b : Bool) (is : b ≡ owns_column (get_or labels i d))
     (n new : ℕ) (so_far : n ≡ length (filter owns_column (take i labels))) where
@@ -58,18 +59,28 @@ module _ (labels : List LabelInfo) (i : ℕ) (d : LabelInfo) (less : i < length 
 
 -- the labels that own a column are the gutter labels
 pub owners_all : (labels : List LabelInfo) (n i : ℕ) → length labels ≤ i → n ≡ length (filter owns_column (take i labels))
-    → (s : Sheet) → s.labels ≡ labels → n ≡ length (gutter_labels s.labels)
-owners_all labels n i past all s same =
-    all ∙ ap (λ xs. length (filter owns_column xs)) (take_all i labels past ∙ sym same) ∙ sym (gutter_labels_count s)
+    → n ≡ length (gutter_labels labels)
+owners_all labels n i past all =
+    all ∙ ap (λ xs. length (filter owns_column xs)) (take_all i labels past) ∙ sym (gutter_labels_count labels)
 
 -- so many gutter columns are there
-pub gutter_none : (s : Sheet) → 0 ≡ length (gutter_labels s.labels) → 0 ≡ gutter_len s
-unfolding gutter_len
-gutter_none s e = rw (← e) refl
+pub gutter_none : (m : ℕ) → 0 ≡ m → 0 ≡ cond (m == 0) 0 (m + 1)
+gutter_none m e = rw (← e) refl
 
-pub gutter_some : (s : Sheet) (n : ℕ) → n ≡ length (gutter_labels s.labels) → 0 < n → n + 1 ≡ gutter_len s
+pub gutter_some : (m n : ℕ) → n ≡ m → 0 < n → n + 1 ≡ cond (m == 0) 0 (m + 1)
+gutter_some m n e some = rw (← e) (sym (cond-false (n == 0) 0 (n + 1) (ne_eqb n 0 (λ z. omega arith))))
+
+pub gutter_is : (s : Sheet) (n : ℕ) → n ≡ cond (length (gutter_labels s.labels) == 0) 0 (length (gutter_labels s.labels) + 1) → n ≡ gutter_len s
 unfolding gutter_len
-gutter_some s n e some = rw (← e) (sym (cond-false (n == 0) 0 (n + 1) (ne_eqb n 0 (λ z. omega arith))))
+gutter_is s n e = e
+
+-- the lines of a group count for nothing
+pub columns_over : (digits : ℕ) (switches : Switches) (labels : List LabelInfo) (s : Sheet) → s.labels ≡ labels → s.switches ≡ switches
+    → columns_before_text digits (gutter_sheet switches labels) ≡ columns_before_text digits s
+unfolding columns_before_text gutter_len
+columns_over digits switches labels s same on =
+    λ i. margin_len (sym on i) digits
+    + cond (length (gutter_labels (sym same i)) == 0) 0 (length (gutter_labels (sym same i)) + 1) * column_size (sym on i)
 
 -- they take a cell each, or two
 module _ (s : Sheet) (switches : Switches) (n : ℕ) (is : n ≡ gutter_len s) (same : s.switches ≡ switches) where

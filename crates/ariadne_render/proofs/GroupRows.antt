@@ -9,10 +9,6 @@ use Rattle.ariadne_picture.specs.Pieces.{Section, Texts, group_header_pieces, ro
 use Rattle.ariadne_picture.specs.Rows.{Row, asides, group_header, help, note, spacer, tail}
 use Rattle.ariadne_rows.specs.Headers.{IsOnPage}
 
--- a section on another page that is the same
-pub on_page : (t : Texts) (g : Section) (a b : PageFields) → b ≡ a → IsOnPage t g a → IsOnPage t g b
-on_page t g a b e h = subst (IsOnPage t g) (sym e) h
-
 module _ (t : Texts) (g : Section) where
   -- the helps and the notes of the last group
   pub both_asides : (old mid new : PenFields) (last : Bool) → g.is_last ≡ last → last ≡ true

@@ -24,18 +24,6 @@ holders-touch s l over = λ o low high.
     (λ a h t. let p = h.holders l o low high t in
     and_from (nat_le a.start_line l) (nat_le l a.end_line) (le-leb a.start_line l p.0) (le-leb l a.end_line p.1)) over
 
--- labels over lines end no earlier than they start
-pub over-rise : (lines : List (List ℕ)) (labels : List LabelInfo) → AreOverLines lines labels → AllByRecursion EndsNoEarlier labels
-over-rise lines labels over = all-weaker (IsOverLines lines) EndsNoEarlier labels (λ a h. h.rises) over
-
--- a hidden line has no margin label
-pub hidden-none : (s : Sheet) (l : ℕ) → is_hidden s l ≡ true → margin_label s.labels l ≡ None
-hidden-none s l h = none (margin_label s.labels l) (hidden-margin s l h)
-  where
-    none : (o : Option LineLabel) → is_some o ≡ false → o ≡ None
-    none None e = refl
-    none (Some x) e = absurd (true≢false e)
-
 module _ (s : Sheet) (l : ℕ) (hidden : is_hidden s l ≡ true) (run : begins_run s l ≡ true) where
   -- the first of a run of hidden lines has the row in their place
   run-rows : line_rows s l ≡ (if is_inside s l then gap l ∷ [] else if s.switches.compact then [] else bare l ∷ [])

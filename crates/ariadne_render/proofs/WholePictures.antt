@@ -1,7 +1,7 @@
 -- The groups of a picture as they are drawn one after another, and the bytes of the whole picture.
 use Rattle.std.proofs.Common.{◌≡◌, ℕ, ◌+◌, Bool, true, false, List, [], ◌∷◌, ◌++◌, Option, Some, drop, get_or, length, map, take}
 use Rattle.std.proofs.Common.{refl, sym, ap, ◌∙◌, subst}
-use Rattle.std.specs.Prelude.{codes, if◌then◌else◌, int_lt, slice_get}
+use Rattle.std.specs.Prelude.{if◌then◌else◌, int_lt, slice_get}
 use Rattle.std.specs.List.{enumerate_from}
 use Rattle.std.proofs.lemmas.Option.{get_or_from_slice_get, slice_get_within}
 use Rattle.ariadne_cells.specs.Pages.{DrawsRow, DrawsRows, PageFields, PenFields}
@@ -10,11 +10,11 @@ use Rattle.ariadne_picture.specs.Print.{line_bytes, pieces_bytes, printed, row_b
 use Rattle.ariadne_picture.specs.declared.label_info.LabelInfo.{LabelInfo}
 use Rattle.ariadne_color.specs.declared.color.Color.{Color}
 use Rattle.ariadne_picture.specs.declared.cell.Paint.{Paint}
-use Rattle.ariadne_picture.specs.Canvas.{Palette, canvas, cell_of, code_text, color_of, groups, header_pieces, kind_name, number_width, outline, palette_of}
-use Rattle.ariadne_picture.specs.Canvas.{same_source, section_of, texts_of}
+use Rattle.ariadne_picture.specs.Canvas.{Palette, canvas, cell_of, color_of, groups, header_pieces, number_width, outline, palette_of}
+use Rattle.ariadne_picture.specs.Canvas.{same_source, texts_of}
 use Rattle.ariadne_picture.specs.Groups.{groups_of, ordered}
 use Rattle.ariadne_picture.specs.Lists.{in_order, joined}
-use Rattle.ariadne_picture.specs.Pieces.{Piece, section_rows}
+use Rattle.ariadne_picture.specs.Pieces.{Piece}
 use Rattle.ariadne_picture.specs.Report.{ReportFields, World}
 use Rattle.ariadne_picture.proofs.Lists.Joined.{joined-map}
 use Rattle.ariadne_picture.proofs.Labels.Cutting.{groups-exist}
@@ -23,7 +23,7 @@ use Rattle.ariadne_rows.proofs.Listing.{joined-more, put-back}
 use Rattle.ariadne_picture.specs.Accept.{IsAccepted}
 use Rattle.ariadne_accept.specs.CacheReads.{AreDrawn}
 use Rattle.ariadne_render.specs.DrawnGroups.{AreGroups}
-use Rattle.ariadne_render.specs.WholePages.{shown_palette}
+use Rattle.ariadne_render.specs.WholePages.{groups_rows, picture_rows, shown_palette}
 use Rattle.ariadne_render.proofs.Grouping.{groups_drawn}
 use Rattle.ariadne_picture.proofs.Parts.{outline-is}
 
@@ -63,19 +63,6 @@ sorted_groups w r sorted gs e drawn =
     subst (AreGroups w r) (sym e)
     (groups_drawn w r (groups_of (same_source w r) sorted) (subst (AreDrawn w r) (sym exist.joins) drawn) exist.cut)
 
--- ---- the header
-
--- the code and the word of a report's kind
-pub kind_text_is : {S : Type 0} (r : ReportFields S) (code : Option (List ℕ)) (name : List ℕ) → code ≡ r.code → name ≡ kind_name r.kind
-    → (texts_of r).kind_text ≡ code_text code ++ name ++ codes ":"
-unfolding texts_of
-kind_text_is r code name e f = λ i. code_text (sym e i) ++ sym f i ++ codes ":"
-
--- its message
-pub message_is : {S : Type 0} (r : ReportFields S) → (texts_of r).message ≡ r.message
-unfolding texts_of
-message_is r = refl
-
 -- ---- the whole picture
 
 -- the bytes of some rows are those that are printed of their cells
@@ -98,35 +85,32 @@ shown_bytes p rows =
     ∙ (λ i. printed (map (map (λ (piece : Piece).
     record { text = piece.text; color = shown_colors p.is_on p.kind p.labels piece.paint i; columns = piece.columns })) rows))
 
--- in a report over labels, whose groups these are
-module _ {S Id : Type 0} (w : World S Id) (r : ReportFields S) (infos : List LabelInfo) (gs : List (List LabelInfo))
-    (same : gs ≡ groups_of (same_source w r) (ordered infos)) where
-  -- the rows of groups, whose line numbers take so many columns
-  abbrev rows_of : ℕ → List (List LabelInfo) → List (List Piece)
-  rows_of width groups = joined (λ e. section_rows (texts_of r) width (section_of w r (length groups) e)) (enumerate_from 0 groups)
-
-  -- the rows of its outline
-  outline_is : (width : ℕ) → width ≡ number_width w r gs → outline w r infos ≡ header_pieces (texts_of r) ∷ rows_of width gs
+module _ {S Id : Type 0} (w : World S Id) (r : ReportFields S) where
+  -- the rows of the picture of these labels are those of their groups
+  outline_is : (infos : List LabelInfo) (gs : List (List LabelInfo)) → gs ≡ groups_of (same_source w r) (ordered infos)
+      → outline w r infos ≡ picture_rows w r gs
   unfolding groups
-  outline_is width e =
-      outline-is w r infos
-      ∙ ap (λ groups. header_pieces (texts_of r) ∷ rows_of (number_width w r groups) groups) (sym same)
-      ∙ ap (λ n. header_pieces (texts_of r) ∷ rows_of n gs) (sym e)
+  outline_is infos gs same = outline-is w r infos ∙ ap (picture_rows w r) (sym same)
 
-  -- the header and the groups below it are the outline
-  pub outline_drawn : (width : ℕ) (start behind end : PenFields) → width ≡ number_width w r gs
-      → DrawsRow start behind (header_pieces (texts_of r)) → DrawsRows behind end (rows_of width gs) → DrawsRows start end (outline w r infos)
-  outline_drawn width start behind end wide header below =
+  -- so they are printed as the canvas of the labels is
+  pub canvas_is : (infos : List LabelInfo) (gs : List (List LabelInfo)) → gs ≡ groups_of (same_source w r) (ordered infos)
+      → printed (map (map (cell_of (palette_of r))) (picture_rows w r gs)) ≡ printed (canvas w r infos)
+  unfolding canvas
+  canvas_is infos gs same = ap (λ rows. printed (map (map (cell_of (palette_of r))) rows)) (sym (outline_is infos gs same))
+
+  -- the header and the groups below it are these rows
+  pub picture_drawn : (gs : List (List LabelInfo)) (width : ℕ) (start behind end : PenFields) → width ≡ number_width w r gs
+      → DrawsRow start behind (header_pieces (texts_of r)) → DrawsRows behind end (groups_rows w r width gs)
+      → DrawsRows start end (picture_rows w r gs)
+  picture_drawn gs width start behind end wide header below =
       let first = header_pieces (texts_of r) in
-      subst (DrawsRows start end) (sym (outline_is width wide))
-      (draws_rows-append start behind end (first ∷ []) (rows_of width gs) (draws_rows_one start behind first header) below)
+      subst (λ n. DrawsRows start end (first ∷ groups_rows w r n gs)) wide
+      (draws_rows-append start behind end (first ∷ []) (groups_rows w r width gs) (draws_rows_one start behind first header) below)
 
--- a pen that wrote the outline from the start of its page on has written the picture
-pub outline_bytes : {S Id : Type 0} (w : World S Id) (r : ReportFields S) (infos : List LabelInfo) (page : PageFields) (start end : PenFields)
-    → start ≡ record { page = page; bytes = [] } → page.palette ≡ shown_palette (palette_of r) → DrawsRows start end (outline w r infos)
-    → end.bytes ≡ printed (canvas w r infos)
-unfolding canvas
-outline_bytes w r infos page start end fresh palette all =
-    let rows = outline w r infos in
+-- a pen that wrote rows from the start of its page on has written what is printed of their cells
+pub rows_written : (p : Palette) (rows : List (List Piece)) (page : PageFields) (start end : PenFields)
+    → start ≡ record { page = page; bytes = [] } → page.palette ≡ shown_palette p → DrawsRows start end rows
+    → end.bytes ≡ printed (map (map (cell_of p)) rows)
+rows_written p rows page start end fresh palette all =
     ap (λ (q : PenFields). q.bytes) all ∙ ap (λ (q : PenFields). q.bytes ++ rows_bytes q.page.palette rows) fresh
-    ∙ ap (λ p. rows_bytes p rows) palette ∙ shown_bytes (palette_of r) rows
+    ∙ ap (λ p. rows_bytes p rows) palette ∙ shown_bytes p rows

@@ -3,8 +3,10 @@ use Rattle.std.specs.Prelude.{List, [], ◌∷◌}
 use Rattle.std.specs.List.{AllByRecursion}
 use Rattle.ariadne_accept.specs.CacheReads.{AreDrawn}
 use Rattle.ariadne_picture.specs.declared.label_info.LabelInfo.{LabelInfo}
+use Rattle.ariadne_picture.specs.declared.switches.Switches.{Switches}
 use Rattle.ariadne_picture.specs.Canvas.{same_source}
 use Rattle.ariadne_picture.specs.Groups.{AreCut}
+use Rattle.ariadne_picture.specs.Ranks.{Sheet}
 use Rattle.ariadne_picture.specs.Report.{ReportFields, World}
 
 module _ {S Id : Type 0} (w : World S Id) (r : ReportFields S) where
@@ -16,3 +18,7 @@ module _ {S Id : Type 0} (w : World S Id) (r : ReportFields S) where
   -- each of these is so
   abbrev pub AreGroups : List (List LabelInfo) → Type 0
   AreGroups groups = AllByRecursion IsGroup groups
+
+-- what the gutter of a group is made of: its labels and the switches, over no lines
+abbrev pub gutter_sheet : Switches → List LabelInfo → Sheet
+gutter_sheet switches labels = record { switches = switches; lines = []; labels = labels }

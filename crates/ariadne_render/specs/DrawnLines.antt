@@ -3,16 +3,13 @@ use Rattle.std.specs.Prelude.{ℕ, ◌≡◌, ◌<◌, ◌≤◌, Bool, true, fa
 use Rattle.std.specs.Prelude.{◌-◌, ◌&&◌, nat_lt, not}
 use Rattle.std.specs.declared.ops.Range.{Range}
 use Rattle.ariadne_picture.specs.declared.label_info.LabelInfo.{LabelInfo}
-use Rattle.ariadne_cells.specs.Pages.{PageFields}
-use Rattle.ariadne_cells.specs.Tables.{IsTable}
-use Rattle.ariadne_cells.specs.declared.table.LineTable.{LineTable}
 use Rattle.ariadne_picture.specs.Ranks.{Sheet, first_line, is_hidden, is_unlabelled}
 use Rattle.ariadne_render.specs.LongLines.{IsRemembered}
 use Rattle.ariadne_render.specs.declared.lines.Lists.{Lists}
-use Rattle.ariadne_rows.specs.Gutters.{GutterFields, IsBelow, IsBeside}
 use Rattle.ariadne_rows.specs.SnippetLabels.{events_at, events_of}
-use Rattle.ariadne_rows.specs.Snippets.{IsSnippet, LineFields, SnippetFields, layout_at, sheet_at}
-use Rattle.ariadne_rows.specs.Snippets.{sheet_in}
+use Rattle.ariadne_rows.specs.Snippets.{IsSnippet, SnippetFields, sheet_in}
+use Rattle.ariadne_rows.specs.Writers.{IsBesideAt}
+use Rattle.ariadne_rows.specs.declared.writer.Writer.{Writer}
 
 -- ---- lines without labels
 
@@ -43,14 +40,21 @@ pub record AreBetween (s : Sheet) (lines run : Range ℕ) : Type 0 where
 
 -- ---- how far the lines of a snippet are written
 
--- all above line l: the labels are gone through to it or less, the bars beside it stand, and what is
--- remembered is a line of the snippet
-pub record IsAt (v : SnippetFields) (page : PageFields) (l : ℕ) (lists : Lists) : Type 0 where
-  pub is_snippet : IsSnippet v
+-- all above line l: the labels are gone through to it or less, and what is remembered is a line of the
+-- snippet
+pub record IsAt (v : SnippetFields) (l : ℕ) (w : Writer) (lists : Lists) : Type 0 where
+  pub above : IsBesideAt v l w
   pub labels : lists.sheet.labels ≡ (sheet_in v).labels
   pub onward : lists.sheet.line ≤ l
-  pub same_page : lists.gutter.page ≡ page
-  pub beside : IsBeside (sheet_in v) l lists.gutter
+  pub known : IsRemembered (sheet_in v).lines lists.long_line
+
+-- none of them: the labels are those of the snippet, the switches those of the page, and what is remembered
+-- is a line of the snippet
+pub record IsReadyFor (v : SnippetFields) (w : Writer) (lists : Lists) : Type 0 where
+  pub is_snippet : IsSnippet v
+  pub one_page : w.gutter.page ≡ w.pen.page
+  pub switches : (sheet_in v).switches ≡ w.pen.page.switches
+  pub labels : lists.sheet ≡ record { labels = (sheet_in v).labels; line = 0 }
   pub known : IsRemembered (sheet_in v).lines lists.long_line
 
 -- the events of line l are those from `from` to before `to`
@@ -58,16 +62,3 @@ pub record AreEventsOf (labels : List LabelInfo) (l from to : ℕ) : Type 0 wher
   pub range : from ≤ to
   pub within : to ≤ length (events_of labels)
   pub there : slice_range (events_of labels) from to ≡ events_at labels l
-
--- the rows of a line above those of rank r: the bars beside these stand
-pub record IsBelowAt (v : LineFields) (r : ℕ) (page : PageFields) (gutter : GutterFields)
-    : Type 0 where
-  pub is_snippet : IsSnippet v.snippet
-  pub same_page : gutter.page ≡ page
-  pub bars : IsBelow (sheet_at v) v.line r gutter
-
--- so they do, and the table is that of these rows
-pub record IsAtRank (v : LineFields) (r : ℕ) (page : PageFields) (gutter : GutterFields)
-    (table : LineTable) : Type 0 where
-  pub below : IsBelowAt v r page gutter
-  pub is_table : IsTable page.switches (layout_at v) r table

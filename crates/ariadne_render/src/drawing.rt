@@ -1,18 +1,14 @@
 //! The picture of a report, as text: its header, and the rows of its groups.
 
-ghost use Rattle.std.specs.Prelude.{◌≡◌, IfOk, List, OnOk, length, map, string_bytes};
-ghost use Rattle.std.specs.List.{enumerate_from};
+ghost use Rattle.std.specs.Prelude.{◌≡◌, IfOk, OnOk, map, string_bytes};
 ghost use Rattle.ariadne_accept.specs.CacheReads.{AreDrawn, world};
 ghost use Rattle.ariadne_cells.specs.Pages.{DrawsRows};
-ghost use Rattle.ariadne_picture.specs.Canvas.{canvas, outline, palette_of, same_source, section_of};
-ghost use Rattle.ariadne_picture.specs.Canvas.{texts_of};
-ghost use Rattle.ariadne_picture.specs.Groups.{groups_of, ordered};
-ghost use Rattle.ariadne_picture.specs.Lists.{joined};
-ghost use Rattle.ariadne_picture.specs.Pieces.{section_rows};
+ghost use Rattle.ariadne_picture.specs.Canvas.{canvas, cell_of, palette_of, texts_of};
+ghost use Rattle.ariadne_picture.specs.Groups.{ordered};
 ghost use Rattle.ariadne_picture.specs.Print.{printed};
-ghost use Rattle.ariadne_picture.specs.Report.{switches_of};
 ghost use Rattle.ariadne_render.specs.DrawnGroups.{AreGroups};
-ghost use Rattle.ariadne_render.specs.WholePages.{page_of, shown_palette};
+ghost use Rattle.ariadne_render.specs.WholePages.{IsForReport, groups_rows, page_of, picture_rows};
+ghost use Rattle.ariadne_render.specs.WholePages.{shown_palette};
 
 use crate::frames::push_snippet;
 use crate::groups::{are_one_group, cut_groups, number_width};
@@ -24,11 +20,11 @@ use ariadne_base::{Cache, Span};
 use ariadne_cells::order::{ByOrder, put_in_order};
 use ariadne_cells::page::Page;
 use ariadne_cells::palette::Palette;
-use ariadne_cells::pen::Pen;
 use ariadne_color::Color;
 use ariadne_picture::label_info::LabelInfo;
 use ariadne_rows::headers::push_header;
 use ariadne_rows::texts::Texts;
+use ariadne_rows::writer::Writer;
 use std::alloc::{AllocError, Global};
 
 /// The room that a picture's text begins with, in bytes: most pictures of a few lines fit.
@@ -65,7 +61,7 @@ pub(crate) fn in_order(alloc: Global, infos: Vec<LabelInfo>) -> Result<Vec<Label
     Ok(infos)
 }
 
-/// The text of a report's picture, whose groups these are.
+/// The text of a report's picture, whose groups these are: its header, and the groups.
 fn picture<S: Span, C: Cache<S::SourceId>>(
     report: &Content<'_, S>,
     cache: &C,
@@ -76,15 +72,18 @@ fn picture<S: Span, C: Cache<S::SourceId>>(
         AreGroups w report.now (map (λ g. g.now) groups.now) }
     ensures { let w = world S.source_of S.start_of S.end_of S.SourceId.eq
         (C.names cache.now) (C.contents cache.now) in let r = report.now in
-        (labels : List LabelInfo) →
-        map (λ g. g.now) groups.now ≡ groups_of (same_source w r) (ordered labels) →
-        IfOk result (λ text. string_bytes text ≡ printed (canvas w r labels)) }
+        let rows = picture_rows w r (map (λ g. g.now) groups.now) in
+        let cells = map (map (cell_of (palette_of r))) rows in
+        IfOk result (λ text. string_bytes text ≡ printed cells) }
 {
     let page = page(report, cache, groups)?;
-    let mut pen = Pen::new(report.alloc, &page);
-    pen.reserve(FIRST_ROOM)?;
-    push_picture(&mut pen, &page, report, cache, groups)?;
-    Ok(pen.into_text())
+    let mut writer = Writer::new(report.alloc, &page);
+    writer.pen.reserve(FIRST_ROOM)?;
+    let messages = messages(report)?;
+    let texts = texts(&*report, &messages);
+    push_header(&mut writer.pen, &texts)?;
+    push_groups(&mut writer, &texts, &*report, &*cache, groups)?;
+    Ok(writer.into_text())
 }
 
 /// What all rows of a report's picture share, whose groups these are.
@@ -103,33 +102,6 @@ fn page<S: Span, C: Cache<S::SourceId>>(
     let width = number_width(report, cache, groups);
     let switches = report.config().switches();
     Page::new(report.alloc, palette(report)?, switches, width)
-}
-
-/// Writes the header of a report's picture and its groups.
-fn push_picture<S: Span, C: Cache<S::SourceId>>(
-    pen: &mut Pen<'_>,
-    page: &Page,
-    report: &Content<'_, S>,
-    cache: &C,
-    groups: &[&[LabelInfo]],
-) -> Result<(), AllocError>
-    requires page { pen.old.page ≡ page.now }
-    requires fields { let w = world S.source_of S.start_of S.end_of S.SourceId.eq
-        (C.names cache.now) (C.contents cache.now) in
-        page.now ≡ page_of w report.now (map (λ g. g.now) groups.now) }
-    requires groups { let w = world S.source_of S.start_of S.end_of S.SourceId.eq
-        (C.names cache.now) (C.contents cache.now) in
-        AreGroups w report.now (map (λ g. g.now) groups.now) }
-    ensures { let w = world S.source_of S.start_of S.end_of S.SourceId.eq
-        (C.names cache.now) (C.contents cache.now) in let r = report.now in
-        (labels : List LabelInfo) →
-        map (λ g. g.now) groups.now ≡ groups_of (same_source w r) (ordered labels) →
-        OnOk result (DrawsRows pen.old pen.new (outline w r labels)) }
-{
-    let messages = messages(report)?;
-    let texts = texts(&*report, &messages);
-    push_header(pen, report.code(), report.kind.name(), report.message())?;
-    push_groups(pen, page, &texts, &*report, &*cache, groups)
 }
 
 /// The colours that the pieces of a report's picture may have.
@@ -159,35 +131,32 @@ fn shown_colors<S: Span>(report: &Content<'_, S>) -> Result<Vec<Option<Color>>, 
 
 /// Writes the groups of a picture with these texts of the report.
 fn push_groups<'a, 't, S: Span, C: Cache<S::SourceId>>(
-    pen: &mut Pen<'_>,
-    page: &'a Page,
+    writer: &mut Writer<'_>,
     texts: &'t Texts<'t>,
     report: &'t Content<'_, S>,
     cache: &'t C,
     groups: &[&'a [LabelInfo]],
 ) -> Result<(), AllocError>
-    requires page { pen.old.page ≡ page.now }
-    requires switches { page.now.switches ≡ switches_of report.now.config }
+    requires writer { IsForReport report.now writer.old }
     requires texts { texts.now ≡ texts_of report.now }
     requires groups { let w = world S.source_of S.start_of S.end_of S.SourceId.eq
         (C.names cache.now) (C.contents cache.now) in
         AreGroups w report.now (map (λ g. g.now) groups.now) }
     ensures { let w = world S.source_of S.start_of S.end_of S.SourceId.eq
-        (C.names cache.now) (C.contents cache.now) in let r = report.now in
-        let gs = map (λ g. g.now) groups.now in
-        OnOk result (DrawsRows pen.old pen.new
-        (joined (λ e. section_rows (texts_of r) page.now.number_width
-        (section_of w r (length gs) e)) (enumerate_from 0 gs))) }
+        (C.names cache.now) (C.contents cache.now) in
+        let width = writer.old.pen.page.number_width in
+        OnOk result (DrawsRows writer.old.pen writer.new.pen
+        (groups_rows w report.now width (map (λ g. g.now) groups.now))) }
 {
     let own = own_offset(report, cache);
-    let mut lists = Lists::new(report.alloc, page);
+    let mut lists = Lists::new(report.alloc);
     for rank in 0..groups.len() {
         let group = groups[rank];
         let before = groups[rank.saturating_sub(1)];
         forget_of_other_source(&mut lists.long_line, report, &before[0], &group[0]);
         lists.sheet.fill(group)?;
         let snippet = resolve(&*texts, &*report, &*cache, own, &*group, rank, groups.len());
-        push_snippet(pen, &mut lists, &snippet)?;
+        push_snippet(writer, &mut lists, &snippet)?;
     }
     Ok(())
 }

@@ -4,7 +4,6 @@
 ghost use Rattle.std.specs.Prelude.{◌≡◌, ◌+◌, ◌-◌, ◌<◌, ◌≤◌, [], None, OnOk, false, length};
 ghost use Rattle.std.specs.Prelude.{max, min, option_map, slice_get, true};
 ghost use Rattle.std.specs.List.{range_with_len};
-ghost use Rattle.ariadne_cells.specs.Pages.{DrawsRows};
 ghost use Rattle.ariadne_cells.specs.Tables.{ArePaints};
 ghost use Rattle.ariadne_picture.specs.Lists.{joined};
 ghost use Rattle.ariadne_picture.specs.Ranks.{first_line, group_lines, is_hidden, last_line};
@@ -13,22 +12,22 @@ ghost use Rattle.ariadne_picture.specs.Rows.{line_rows};
 ghost use Rattle.ariadne_render.specs.DrawnLines.{AreBetween, AreContext, AreEventsOf, AreHidden};
 ghost use Rattle.ariadne_render.specs.DrawnLines.{IsAt, begins_run};
 ghost use Rattle.ariadne_rows.specs.SnippetLabels.{events_of};
-ghost use Rattle.ariadne_rows.specs.Snippets.{layout_at, rows_of, sheet_at, sheet_in};
+ghost use Rattle.ariadne_rows.specs.Snippets.{layout_at, sheet_at, sheet_in};
+ghost use Rattle.ariadne_rows.specs.Writers.{DrawsRowsOf};
 
 use crate::below::{push_rows_below, start_margin};
 use crate::long_line::{LongLine, known_bytes, remember};
 use ariadne_base::SourceText;
 use ariadne_cells::cuts::Cuts;
 use ariadne_cells::layout::LineLayout;
-use ariadne_cells::page::Page;
 use ariadne_cells::pen::Pen;
 use ariadne_cells::table::LineTable;
 use ariadne_picture::label_info::LineLabel;
-use ariadne_rows::gutter::Gutter;
 use ariadne_rows::rows::{push_bare_row, push_gap_row, push_source_row};
 use ariadne_rows::snippet::Snippet;
 use ariadne_rows::snippet_labels::SnippetLabels;
 use ariadne_rows::snippet_line::SnippetLine;
+use ariadne_rows::writer::Writer;
 use std::alloc::{AllocError, Global};
 use std::ops::Range;
 
@@ -37,7 +36,6 @@ use std::ops::Range;
 #[derive(Drop)]
 pub(crate) struct Lists<'a> {
     pub(crate) sheet: SnippetLabels<'a>,
-    pub(crate) gutter: Gutter<'a>,
     pub(crate) labels: Vec<LineLabel>,
     pub(crate) table: LineTable,
     /// What is seen of the line, where it is cut.
@@ -47,17 +45,15 @@ pub(crate) struct Lists<'a> {
 }
 
 impl<'a> Lists<'a> {
-    /// Lists of no group, to be drawn on this page.
-    pub(crate) fn new(alloc: Global, page: &'a Page) -> Lists<'a>
+    /// Lists of no group.
+    pub(crate) fn new(alloc: Global) -> Lists<'a>
         ensures sheet { result.sheet ≡ record { labels = []; line = 0 } }
-        ensures gutter { result.gutter ≡ record { page = page.now; positions = []; bars = [] } }
         ensures labels { result.labels.items ≡ [] }
         ensures table { result.table.len ≡ 0 }
         ensures long_line { result.long_line ≡ None }
     {
         Lists {
             sheet: SnippetLabels::new(alloc),
-            gutter: Gutter::new(alloc, page),
             labels: Vec::new(alloc),
             table: LineTable::new(alloc),
             cuts: Cuts::new(alloc),
@@ -70,15 +66,16 @@ impl<'a> Lists<'a> {
 ///
 /// On `Err` there was no memory for them.
 pub(crate) fn push_lines<I: SourceText>(
-    pen: &mut Pen<'_>,
+    writer: &mut Writer<'_>,
     lists: &mut Lists<'_>,
     snippet: &Snippet<'_, I>,
 ) -> Result<(), AllocError>
-    requires at { IsAt snippet.now pen.old.page (first_line (sheet_in snippet.now)) lists.old }
+    requires at { IsAt snippet.now (first_line (sheet_in snippet.now)) writer.old lists.old }
     ensures at { let behind = last_line (sheet_in snippet.now) + 1 in
-        OnOk result (IsAt snippet.now pen.old.page behind lists.new) }
-    ensures drawn { let s = sheet_in snippet.now in OnOk result (DrawsRows pen.old pen.new
-        (rows_of pen.old.page snippet.now (joined (line_rows s) (group_lines s)))) }
+        OnOk result (IsAt snippet.now behind writer.new lists.new) }
+    ensures drawn { let s = sheet_in snippet.now in
+        let rows = joined (line_rows s) (group_lines s) in
+        OnOk result (DrawsRowsOf snippet.now rows writer.old writer.new) }
 {
     let context = snippet.switches().context_lines;
     let mut line = snippet.first_line();
@@ -88,15 +85,15 @@ pub(crate) fn push_lines<I: SourceText>(
     let mut event = 0;
     while let Some(next) = event_line(&lists.sheet, event) {
         let hidden = hidden_lines(near, next.saturating_sub(context), next);
-        push_lines_between(pen, lists, snippet, line..next, hidden)?;
+        push_lines_between(writer, lists, snippet, line..next, hidden)?;
         let end = lists.sheet.line_end(event);
-        push_line(pen, lists, snippet, next, event, end)?;
+        push_line(writer, lists, snippet, next, event, end)?;
         line = next + 1;
         near = line.saturating_add(context);
         event = end;
     }
     let hidden = hidden_lines(near, behind, behind);
-    push_lines_between(pen, lists, snippet, line..behind, hidden)
+    push_lines_between(writer, lists, snippet, line..behind, hidden)
 }
 
 /// The line of an event of a group, where there are so many events.
@@ -120,46 +117,46 @@ fn hidden_lines(near: usize, far: usize, next: usize) -> Range<usize>
 ///
 /// On `Err` there was no memory for them.
 fn push_lines_between<I: SourceText>(
-    pen: &mut Pen<'_>,
+    writer: &mut Writer<'_>,
     lists: &mut Lists<'_>,
     snippet: &Snippet<'_, I>,
     lines: Range<usize>,
     hidden: Range<usize>,
 ) -> Result<(), AllocError>
-    requires at { IsAt snippet.now pen.old.page lines.start lists.old }
+    requires at { IsAt snippet.now lines.start writer.old lists.old }
     requires within { lines.end ≤ length (sheet_in snippet.now).lines }
     requires between { AreBetween (sheet_in snippet.now) lines hidden }
-    ensures at { OnOk result (IsAt snippet.now pen.old.page lines.end lists.new) }
+    ensures at { OnOk result (IsAt snippet.now lines.end writer.new lists.new) }
     ensures drawn { let numbers = range_with_len lines.start (lines.end - lines.start) in
-        OnOk result (DrawsRows pen.old pen.new (rows_of pen.old.page snippet.now
-        (joined (line_rows (sheet_in snippet.now)) numbers))) }
+        let rows = joined (line_rows (sheet_in snippet.now)) numbers in
+        OnOk result (DrawsRowsOf snippet.now rows writer.old writer.new) }
 {
-    push_context_lines(pen, lists, snippet, lines.start, hidden.start)?;
-    push_hidden_lines(pen, lists, snippet, hidden.start, hidden.end)?;
-    push_context_lines(pen, lists, snippet, hidden.end, lines.end)
+    push_context_lines(writer, lists, snippet, lines.start, hidden.start)?;
+    push_hidden_lines(writer, lists, snippet, hidden.start, hidden.end)?;
+    push_context_lines(writer, lists, snippet, hidden.end, lines.end)
 }
 
 /// Writes the lines without labels that are shown, from a line to before another: a source row each.
 ///
 /// On `Err` there was no memory for them.
 fn push_context_lines<I: SourceText>(
-    pen: &mut Pen<'_>,
+    writer: &mut Writer<'_>,
     lists: &mut Lists<'_>,
     snippet: &Snippet<'_, I>,
     first: usize,
     behind: usize,
 ) -> Result<(), AllocError>
-    requires at { IsAt snippet.now pen.old.page first lists.old }
+    requires at { IsAt snippet.now first writer.old lists.old }
     requires up { first ≤ behind }
     requires within { behind ≤ length (sheet_in snippet.now).lines }
     requires context { AreContext (sheet_in snippet.now) first behind }
-    ensures at { OnOk result (IsAt snippet.now pen.old.page behind lists.new) }
+    ensures at { OnOk result (IsAt snippet.now behind writer.new lists.new) }
     ensures drawn { let numbers = range_with_len first (behind - first) in
-        OnOk result (DrawsRows pen.old pen.new (rows_of pen.old.page snippet.now
-        (joined (line_rows (sheet_in snippet.now)) numbers))) }
+        let rows = joined (line_rows (sheet_in snippet.now)) numbers in
+        OnOk result (DrawsRowsOf snippet.now rows writer.old writer.new) }
 {
     for line in first..behind {
-        push_line(pen, lists, snippet, line, 0, 0)?;
+        push_line(writer, lists, snippet, line, 0, 0)?;
     }
     Ok(())
 }
@@ -168,23 +165,23 @@ fn push_context_lines<I: SourceText>(
 ///
 /// On `Err` there was no memory for it.
 fn push_hidden_lines<I: SourceText>(
-    pen: &mut Pen<'_>,
+    writer: &mut Writer<'_>,
     lists: &mut Lists<'_>,
     snippet: &Snippet<'_, I>,
     line: usize,
     next: usize,
 ) -> Result<(), AllocError>
-    requires at { IsAt snippet.now pen.old.page line lists.old }
+    requires at { IsAt snippet.now line writer.old lists.old }
     requires up { line ≤ next }
     requires within { next ≤ length (sheet_in snippet.now).lines }
     requires hidden { AreHidden (sheet_in snippet.now) line next }
-    ensures at { OnOk result (IsAt snippet.now pen.old.page next lists.new) }
+    ensures at { OnOk result (IsAt snippet.now next writer.new lists.new) }
     ensures drawn { let numbers = range_with_len line (next - line) in
-        OnOk result (DrawsRows pen.old pen.new (rows_of pen.old.page snippet.now
-        (joined (line_rows (sheet_in snippet.now)) numbers))) }
+        let rows = joined (line_rows (sheet_in snippet.now)) numbers in
+        OnOk result (DrawsRowsOf snippet.now rows writer.old writer.new) }
 {
     if line < next {
-        push_hidden(pen, lists, snippet, line)
+        push_hidden(writer, lists, snippet, line)
     } else {
         Ok(())
     }
@@ -194,49 +191,48 @@ fn push_hidden_lines<I: SourceText>(
 ///
 /// On `Err` there was no memory for it.
 fn push_hidden<I: SourceText>(
-    pen: &mut Pen<'_>,
+    writer: &mut Writer<'_>,
     lists: &mut Lists<'_>,
     snippet: &Snippet<'_, I>,
     line: usize,
 ) -> Result<(), AllocError>
-    requires at { IsAt snippet.now pen.old.page line lists.old }
+    requires at { IsAt snippet.now line writer.old lists.old }
     requires within { line < length (sheet_in snippet.now).lines }
     requires hidden { is_hidden (sheet_in snippet.now) line ≡ true }
     requires run { begins_run (sheet_in snippet.now) line ≡ true }
-    ensures at { OnOk result (IsAt snippet.now pen.old.page line lists.new) }
-    ensures drawn { OnOk result (DrawsRows pen.old pen.new
-        (rows_of pen.old.page snippet.now (line_rows (sheet_in snippet.now) line))) }
+    ensures at { OnOk result (IsAt snippet.now line writer.new lists.new) }
+    ensures drawn { let rows = line_rows (sheet_in snippet.now) line in
+        OnOk result (DrawsRowsOf snippet.now rows writer.old writer.new) }
 {
     lists.sheet.go_to(line)?;
     if lists.sheet.is_inside(snippet.line_offset(line)) {
-        return push_gap_row(pen, &lists.gutter);
+        return push_gap_row(writer, snippet, line);
     }
-    if pen.page().switches().compact {
+    if writer.pen.page().switches().compact {
         return Ok(());
     }
-    push_bare_row(pen)
+    push_bare_row(&mut writer.pen, snippet, line)
 }
 
 /// Writes the rows of a line that is shown, whose events are those from `from` to before `to`.
 fn push_line<I: SourceText>(
-    pen: &mut Pen<'_>,
+    writer: &mut Writer<'_>,
     lists: &mut Lists<'_>,
     snippet: &Snippet<'_, I>,
     line: usize,
     from: usize,
     to: usize,
 ) -> Result<(), AllocError>
-    requires at { IsAt snippet.now pen.old.page line lists.old }
+    requires at { IsAt snippet.now line writer.old lists.old }
     requires within { line < length (sheet_in snippet.now).lines }
     requires shown { is_hidden (sheet_in snippet.now) line ≡ false }
     requires events { AreEventsOf (sheet_in snippet.now).labels line from to }
-    ensures at { OnOk result (IsAt snippet.now pen.old.page (line + 1) lists.new) }
-    ensures drawn { OnOk result (DrawsRows pen.old pen.new
-        (rows_of pen.old.page snippet.now (line_rows (sheet_in snippet.now) line))) }
+    ensures at { OnOk result (IsAt snippet.now (line + 1) writer.new lists.new) }
+    ensures drawn { let rows = line_rows (sheet_in snippet.now) line in
+        OnOk result (DrawsRowsOf snippet.now rows writer.old writer.new) }
 {
     let Lists {
         sheet,
-        gutter,
         labels,
         table,
         cuts,
@@ -245,14 +241,14 @@ fn push_line<I: SourceText>(
     let margin = sheet.rank(from, to, labels)?;
     let offset = snippet.line_offset(line);
     let text = snippet.line_text(line, known_bytes(*long_line, line));
-    let parts = cuts.parts_of(pen.page().switches(), margin, labels, offset, &text)?;
+    let parts = cuts.parts_of(writer.pen.page().switches(), margin, labels, offset, &text)?;
     let layout = LineLayout::new(margin, labels, offset, &text, parts);
     let shown = SnippetLine::new(snippet, line, layout);
-    find_paints(pen, sheet, table, &shown)?;
-    push_source_row(pen, gutter, shown.layout(), &table.paints, shown.number())?;
-    start_margin(gutter, &shown)?;
+    find_paints(&writer.pen, sheet, table, &shown)?;
+    push_source_row(writer, &shown, &table.paints)?;
+    start_margin(writer, &shown)?;
     remember(long_line, line, shown.layout());
-    push_rows_below(pen, gutter, table, &shown)
+    push_rows_below(writer, table, &shown)
 }
 
 /// Finds the labels that colour the shown characters of a line, if there are colours.

@@ -4,13 +4,14 @@
 //!  1 | ,-> def five = match () in {       9: a margin of 5, and a gutter of 2 columns of 2
 //! ```
 
-ghost use Rattle.std.specs.Prelude.{◌≡◌, ◌+◌, ◌*◌, ◌≤◌, ◌&&◌, IfOk, length, map, not};
+ghost use Rattle.std.specs.Prelude.{◌≡◌, ◌+◌, ◌*◌, ◌==◌, ◌≤◌, ◌&&◌, IfOk, if◌then◌else◌, length};
+ghost use Rattle.std.specs.Prelude.{map, not};
 ghost use Rattle.ariadne_accept.specs.CacheReads.{AreDrawn, world};
-ghost use Rattle.ariadne_render.specs.DrawnGroups.{AreGroups};
+ghost use Rattle.ariadne_render.specs.DrawnGroups.{AreGroups, gutter_sheet};
 ghost use Rattle.ariadne_picture.specs.Margins.{columns_before_text, margin_columns, margin_len};
 ghost use Rattle.ariadne_picture.specs.Margins.{most_before_text};
 ghost use Rattle.ariadne_picture.specs.Pieces.{column_size, gutter_len};
-ghost use Rattle.ariadne_picture.specs.Ranks.{Sheet, gutter_labels, is_on_one_line};
+ghost use Rattle.ariadne_picture.specs.Ranks.{gutter_labels, is_on_one_line};
 
 use crate::drawing::in_order;
 use crate::groups::{cut_groups, number_width};
@@ -65,8 +66,7 @@ fn most_before_text<S: Span, C: Cache<S::SourceId>>(
 /// How many columns a group has in front of its source text, where line numbers take `digits` columns.
 fn columns_before_text(switches: &Switches, digits: usize, group: &[LabelInfo]) -> usize
     requires digits { digits ≤ 20 }
-    ensures { (s : Sheet) → s.labels ≡ group.now → s.switches ≡ switches.now →
-        result ≡ columns_before_text digits s }
+    ensures { result ≡ columns_before_text digits (gutter_sheet switches.now group.now) }
 {
     margin_len(switches, digits) + gutter_columns(switches, group)
 }
@@ -82,7 +82,7 @@ fn margin_len(switches: &Switches, digits: usize) -> usize
 
 /// How many columns the gutter of a group takes.
 fn gutter_columns(switches: &Switches, group: &[LabelInfo]) -> usize
-    ensures columns { (s : Sheet) → s.labels ≡ group.now → s.switches ≡ switches.now →
+    ensures columns { let s = gutter_sheet switches.now group.now in
         result ≡ gutter_len s * column_size s.switches }
     ensures few { result ≤ 2 * length group.now + 2 }
 {
@@ -96,7 +96,8 @@ fn gutter_columns(switches: &Switches, group: &[LabelInfo]) -> usize
 
 /// How many gutter columns a group has: one for each of its gutter labels, and one for arrow heads.
 fn gutter_len(group: &[LabelInfo]) -> usize
-    ensures columns { (s : Sheet) → s.labels ≡ group.now → result ≡ gutter_len s }
+    ensures columns { let number = length (gutter_labels group.now) in
+        result ≡ (if number == 0 then 0 else number + 1) }
     ensures few { result ≤ length group.now + 1 }
 {
     match number_of_gutter_labels(group) {
@@ -107,7 +108,7 @@ fn gutter_len(group: &[LabelInfo]) -> usize
 
 /// How many labels of a group own a gutter column: those over several lines that have a message.
 fn number_of_gutter_labels(group: &[LabelInfo]) -> usize
-    ensures number { (s : Sheet) → s.labels ≡ group.now → result ≡ length (gutter_labels s.labels) }
+    ensures number { result ≡ length (gutter_labels group.now) }
     ensures within { result ≤ length group.now }
 {
     let mut number = 0;

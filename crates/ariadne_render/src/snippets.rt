@@ -22,7 +22,7 @@ pub(crate) fn messages<'a, S: Span>(report: &'a Content<'_, S>) -> Result<Vec<&'
 {
     let mut messages = Vec::with_capacity(report.alloc, report.labels.len())?;
     for label in &report.labels {
-        messages.push(label.message().unwrap_or(""))?;
+        messages.push_reserved(label.message().unwrap_or(""));
     }
     Ok(messages)
 }

@@ -1,11 +1,12 @@
 -- The groups of the labels in order are those that are drawn.
 use Rattle.std.proofs.Common.{◌≡◌, ◌∙◌, [], ◌∷◌, List, ap, map, sym, Bor}
+use Rattle.std.proofs.lemmas.Result.{IfOk-weaker}
 use Rattle.ariadne_accept.specs.CacheReads.{world}
 use Rattle.ariadne_picture.specs.Canvas.{same_source}
 use Rattle.ariadne_picture.specs.Groups.{groups_of}
 use Rattle.ariadne_picture.specs.declared.label_info.LabelInfo.{LabelInfo}
 use Rattle.ariadne_render.proofs.GroupingSources.{drawn_there}
-use Rattle.ariadne_render.proofs.WholePictures.{sorted_drawn, sorted_groups}
+use Rattle.ariadne_render.proofs.WholePictures.{canvas_is, sorted_drawn, sorted_groups}
 use Rattle.ariadne_render.proofs.drawing.draw.Goals as goal
 
 -- the labels in order are there
@@ -58,7 +59,8 @@ returns-then-are_one_group g c =
     let one = c.are_one_group.ensures (g.C.Cache.names c.args.cache.now) (g.C.Cache.contents c.args.cache.now) c.if-are_one_group.true in
     let are : c.as_slice.result.now ∷ [] ≡ groups_of (same_source w r) c.deref.result.now =
     ap (λ (xs : List LabelInfo). xs ∷ []) (c.as_slice.ensures.value ∙ sym labels) ∙ sym one in
-    c.picture.ensures c.args.infos.items (are ∙ ap (groups_of (same_source w r)) (labels ∙ c.in_ok-sorted.ensures))
+    let same = are ∙ ap (groups_of (same_source w r)) (labels ∙ c.in_ok-sorted.ensures) in
+    IfOk-weaker c.picture.result _ _ (λ text e. e ∙ canvas_is w r c.args.infos.items _ same) c.picture.ensures
 
 -- ---- more of them, or none
 
@@ -84,4 +86,5 @@ returns g c =
     let cut = c.in_ok-groups.ensures (g.C.Cache.names c.args.cache.now) (g.C.Cache.contents c.args.cache.now) in
     let are : map (λ (x : Bor (List LabelInfo)). x.now) c.deref-3.result.now ≡ groups_of (same_source w r) c.deref-2.result.now =
     ap (map (λ (x : Bor (List LabelInfo)). x.now)) c.deref-3.ensures.value ∙ cut in
-    c.picture-2.ensures c.args.infos.items (are ∙ ap (groups_of (same_source w r)) (c.deref-2.ensures.value ∙ c.in_ok-sorted.ensures))
+    let same = are ∙ ap (groups_of (same_source w r)) (c.deref-2.ensures.value ∙ c.in_ok-sorted.ensures) in
+    IfOk-weaker c.picture-2.result _ _ (λ text e. e ∙ canvas_is w r c.args.infos.items _ same) c.picture-2.ensures

@@ -1,5 +1,5 @@
 -- Each group is the next of all, and its rows follow those of the groups before it.
-use Rattle.std.proofs.Common.{◌≡◌, ◌∙◌, ◌+◌, ◌-◌, ◌<◌, ◌≤◌, List, [], false, get_or, length, map, ap, arith, subst, sym, Bor, Some}
+use Rattle.std.proofs.Common.{◌≡◌, ◌∙◌, ◌+◌, ◌-◌, ◌<◌, ◌≤◌, List, [], false, get_or, length, map, ap, arith, refl, subst, sym, Bor, Some}
 use Rattle.std.specs.Prelude.{pos, slice_get}
 use Rattle.std.proofs.lemmas.List.{length-map}
 use Rattle.std.proofs.lemmas.Option.{slice_get-get_or}
@@ -12,7 +12,6 @@ use Rattle.ariadne_picture.specs.Lists.{joined}
 use Rattle.ariadne_picture.specs.Pieces.{section_rows}
 use Rattle.ariadne_picture.specs.declared.label_info.LabelInfo.{LabelInfo}
 use Rattle.ariadne_rows.proofs.Listing.{all-enumerated}
-use Rattle.ariadne_rows.specs.Gutters.{GutterFields}
 use Rattle.ariadne_rows.specs.Snippets.{SnippetFields}
 use Rattle.ariadne_render.specs.DrawnGroups.{IsGroup}
 use Rattle.ariadne_render.specs.LongLines.{IsRemembered}
@@ -49,11 +48,11 @@ loop-rank-init g c =
     let w = world g.S.Span.source_of g.S.Span.start_of g.S.Span.end_of g.S.SourceId.PartialEq.eq (g.C.Cache.names c.args.cache.now)
     (g.C.Cache.contents c.args.cache.now) in
     record {
-      page = c.requires.page;
-      gutter = ap (λ (x : GutterFields). x.page) c.new-lists.ensures.gutter;
+      page = refl;
+      one_page = c.requires.writer.one_page;
       known = λ before there.
           subst (λ long. IsRemembered (listed_lines (group_source w c.args.report.now before)) long) (sym c.new-lists.ensures.long_line) tt;
-      drawn = draws_rows_none c.args.pen.now;
+      drawn = draws_rows_none c.args.writer.now.pen;
     }
 
 -- ---- what is remembered
@@ -138,18 +137,20 @@ push_snippet-requires g c =
     ap (slice_get gs) (sym c.saturating_sub.ensures) ∙ mapped_at (λ (x : Bor (List LabelInfo)). x.now) groups k no_group less in
     let made = c.resolve-snippet.ensures.made in
     record {
-      is = c.resolve-snippet.ensures.is;
+      ready = record {
+      is_snippet = c.resolve-snippet.ensures.is;
       labels = c.in_ok-fill.ensures.ok
           ∙ (λ i. record { labels = sym (section_labels w r (length groups) n new) i; line = 0 })
           ∙ ap (λ (v : SnippetFields). record { labels = v.section.sheet.labels; line = 0 }) (sym made);
-      page = inv.gutter ∙ sym inv.page;
-      switches = ap (λ (v : SnippetFields). v.section.sheet.switches) made ∙ section_switches w r (length groups) n new ∙ sym c.requires.switches
-          ∙ ap (λ (p : PageFields). p.switches) (sym inv.page);
+      one_page = inv.one_page;
+      switches = ap (λ (v : SnippetFields). v.section.sheet.switches) made ∙ section_switches w r (length groups) n new
+          ∙ sym c.requires.writer.switches ∙ ap (λ (p : PageFields). p.switches) (sym inv.page);
       known = subst (λ (ls : List (List _)). IsRemembered ls c.forget_of_other_source.new.long)
           (sym (ap (λ (v : SnippetFields). v.section.sheet.lines) made ∙ section_lines w r (length groups) n new))
           (c.forget_of_other_source.ensures (g.C.Cache.names c.args.cache.now) (g.C.Cache.contents c.args.cache.now) old new
           (slice_get-get_or old 0 no_label (some_label (same_source w r) old before.whole))
           (slice_get-get_or new 0 no_label (some_label (same_source w r) new here.whole)) (inv.known old there));
+      };
     }
 
 -- the rows of one group more
@@ -161,9 +162,9 @@ loop-rank-preserved g c =
     let groups = c.args.groups.now in
     let inv = c.loop-rank.invariant in
     let gs = map (λ (x : Bor (List LabelInfo)). x.now) groups in
-    let width = c.args.page.now.number_width in
-    let b = c.loop-rank.pen in
-    let z = c.push_snippet.new.pen in
+    let width = c.args.writer.now.pen.page.number_width in
+    let b = c.loop-rank.writer.pen in
+    let z = c.push_snippet.new.writer.pen in
     let k = c.loop-rank.rank in
     let less : k < length groups = omega arith in
     let new = (get_or groups k no_group).now in
@@ -178,7 +179,7 @@ loop-rank-preserved g c =
     (subst (λ (p : PageFields). DrawsRows b z (section_rows (texts_of r) p.number_width (section_of w r (length groups) (k, new)))) inv.page own) in
     record {
       page = rows_page b z _ drawn ∙ inv.page;
-      gutter = c.in_ok-push_snippet.ensures.page ∙ inv.gutter;
+      one_page = c.in_ok-push_snippet.ensures.at.one_page;
       known = λ before at.
           let last : k + 1 - 1 ≡ k = omega arith in
           let found : Some new ≡ Some before = sym there ∙ ap (slice_get gs) (sym last) ∙ at in
@@ -187,7 +188,7 @@ loop-rank-preserved g c =
           subst (λ (ls : List LabelInfo). IsRemembered (listed_lines (group_source w r ls)) c.push_snippet.new.lists.long_line) same
           (subst (λ (ls : List (List _)). IsRemembered ls c.push_snippet.new.lists.long_line) lines c.in_ok-push_snippet.ensures.known);
       drawn =
-          rows_more (λ e. section_rows (texts_of r) width (section_of w r (length gs) e)) k c.args.pen.now b z gs new there inv.drawn next;
+          rows_more (λ e. section_rows (texts_of r) width (section_of w r (length gs) e)) k c.args.writer.now.pen b z gs new there inv.drawn next;
     }
 
 -- no group is left
@@ -199,6 +200,6 @@ returns g c =
     let gs = map (λ (x : Bor (List LabelInfo)). x.now) c.args.groups.now in
     let size = length-map c.args.groups.now (λ (x : Bor (List LabelInfo)). x.now) in
     let all : length gs ≤ c.loop-rank.rank = omega arith in
-    subst (λ es. DrawsRows c.args.pen.now c.loop-rank.pen
-    (joined (λ e. section_rows (texts_of r) c.args.page.now.number_width (section_of w r (length gs) e)) es))
+    subst (λ es. DrawsRows c.args.writer.now.pen c.loop-rank.writer.pen
+    (joined (λ e. section_rows (texts_of r) c.args.writer.now.pen.page.number_width (section_of w r (length gs) e)) es))
     (all-enumerated gs c.loop-rank.rank all) c.loop-rank.invariant.drawn

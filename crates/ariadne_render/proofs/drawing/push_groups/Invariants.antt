@@ -18,10 +18,10 @@ invariant-loop-rank g l =
     (g.C.Cache.contents l.cache) in
     let gs = map (λ (x : Bor (List LabelInfo)). x.now) l.groups in
     record {
-      page : l.pen.page ≡ l.page;
-      gutter : l.lists.gutter.page ≡ l.page;
+      page : l.writer.pen.page ≡ l.fn.writer.pen.page;
+      one_page : l.writer.gutter.page ≡ l.writer.pen.page;
       known : (before : List LabelInfo) → slice_get gs (l.rank - 1) ≡ Some before
           → IsRemembered (listed_lines (group_source w l.report before)) l.lists.long_line;
-      drawn : DrawsRows l.fn.pen l.pen
-          (joined (λ e. section_rows (texts_of l.report) l.page.number_width (section_of w l.report (length gs) e)) (take l.rank (enumerate_from 0 gs)));
+      drawn : DrawsRows l.fn.writer.pen l.writer.pen
+          (joined (λ e. section_rows (texts_of l.report) l.fn.writer.pen.page.number_width (section_of w l.report (length gs) e)) (take l.rank (enumerate_from 0 gs)));
     }

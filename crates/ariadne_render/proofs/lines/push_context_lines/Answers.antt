@@ -16,7 +16,7 @@ use Rattle.ariadne_render.proofs.lines.push_context_lines.Goals as goal
 pub loop-line-init : goal.loop-line-init
 loop-line-init g c =
     let v = c.args.snippet.now in
-    let a = c.args.pen.now in
+    let a = c.args.writer.now.pen in
     let first = c.args.first in
     record {
       at = c.requires.at;
@@ -29,8 +29,7 @@ loop-line-init g c =
 -- the lists are at it
 pub push_line-requires-clause-at : goal.push_line-requires-clause-at
 push_line-requires-clause-at g c =
-    let inv = c.loop-line.invariant in
-    subst (λ p. IsAt c.args.snippet.now p c.loop-line.line c.loop-line.lists) (sym (rows_page c.args.pen.now c.loop-line.pen _ inv.drawn)) inv.at
+    c.loop-line.invariant.at
 
 -- it is a line of the source
 pub push_line-requires-clause-within : goal.push_line-requires-clause-within
@@ -57,9 +56,9 @@ push_line-requires-clause-events g c =
 pub loop-line-preserved : goal.loop-line-preserved
 loop-line-preserved g c =
     let v = c.args.snippet.now in
-    let a = c.args.pen.now in
-    let b = c.loop-line.pen in
-    let z = c.push_line.new.pen in
+    let a = c.args.writer.now.pen in
+    let b = c.loop-line.writer.pen in
+    let z = c.push_line.new.writer.pen in
     let inv = c.loop-line.invariant in
     let first = c.args.first in
     let l = c.loop-line.line in
@@ -71,7 +70,7 @@ loop-line-preserved g c =
     let one : before ++ rows l ≡ whole =
     ap (λ t. before ++ t) (run-one rows l) ∙ runs-join rows first l (l + 1) (omega (arith, low)) (omega arith) in
     record {
-      at = subst (λ p. IsAt v p (l + 1) c.push_line.new.lists) kept c.in_ok-push_line.ensures.at;
+      at = c.in_ok-push_line.ensures.at;
       drawn = names-append v.texts v.section a.page.number_width a b z before (rows l) whole one inv.drawn
           (subst (λ (p : PageFields). DrawsRows b z (rows_of p v (rows l))) kept c.in_ok-push_line.ensures.drawn);
     }
@@ -83,7 +82,7 @@ pub returns-clause-at : goal.returns-clause-at
 returns-clause-at g c =
     let up = c.requires.up in
     let done : c.loop-line.line ≡ c.args.behind = omega (arith, c.loop-line.auto.line-end up) in
-    subst (λ l. IsAt c.args.snippet.now c.args.pen.now.page l c.loop-line.lists) done c.loop-line.invariant.at
+    subst (λ l. IsAt c.args.snippet.now l c.loop-line.writer c.loop-line.lists) done c.loop-line.invariant.at
 
 -- the rows of all are written
 pub returns-clause-drawn : goal.returns-clause-drawn
@@ -91,6 +90,6 @@ returns-clause-drawn g c =
     let v = c.args.snippet.now in
     let up = c.requires.up in
     let done : c.loop-line.line ≡ c.args.behind = omega (arith, c.loop-line.auto.line-end up) in
-    subst (λ l. DrawsRows c.args.pen.now c.loop-line.pen
-    (rows_of c.args.pen.now.page v (joined (line_rows (sheet_in v)) (range_with_len c.args.first (l - c.args.first))))) done
+    subst (λ l. DrawsRows c.args.writer.now.pen c.loop-line.writer.pen
+    (rows_of c.args.writer.now.pen.page v (joined (line_rows (sheet_in v)) (range_with_len c.args.first (l - c.args.first))))) done
     c.loop-line.invariant.drawn

@@ -10,7 +10,7 @@ use Rattle.ariadne_render.proofs.lines.push_context_lines.Given as goal
 
 abbrev pub invariant-loop-line : goal.invariant-loop-line
 invariant-loop-line g l = record {
-  at : IsAt l.snippet l.fn.pen.page l.line l.lists;
-  drawn : DrawsRows l.fn.pen l.pen
-      (rows_of l.fn.pen.page l.snippet (joined (line_rows (sheet_in l.snippet)) (range_with_len l.first (l.line - l.first))));
+  at : IsAt l.snippet l.line l.writer l.lists;
+  drawn : DrawsRows l.fn.writer.pen l.writer.pen
+      (rows_of l.fn.writer.pen.page l.snippet (joined (line_rows (sheet_in l.snippet)) (range_with_len l.first (l.line - l.first))));
 }

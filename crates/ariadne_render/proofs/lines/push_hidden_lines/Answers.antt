@@ -25,7 +25,7 @@ push_hidden-requires-clause-run g c = c.requires.hidden.begins
 pub returns-then-line-next-clause-at : goal.returns-then-line-next-clause-at
 returns-then-line-next-clause-at g c =
     on_ok_weaker c.push_hidden.result
-    (λ at. at-behind c.args.snippet.now c.args.pen.now.page c.args.line c.args.next c.push_hidden.new.lists at c.requires.hidden c.requires.up)
+    (λ at. at-behind c.args.snippet.now c.args.line c.args.next c.push_hidden.new.writer c.push_hidden.new.lists at c.requires.hidden c.requires.up)
     c.push_hidden.ensures.at
 
 -- it has the row
@@ -36,7 +36,7 @@ returns-then-line-next-clause-drawn g c =
     let l = c.args.line in
     let m = c.args.next in
     on_ok_weaker c.push_hidden.result
-    (λ d. rows-of v.texts v.section c.args.pen.now.page.number_width c.args.pen.now c.push_hidden.new.pen (line_rows s l)
+    (λ d. rows-of v.texts v.section c.args.writer.now.pen.page.number_width c.args.writer.now.pen c.push_hidden.new.writer.pen (line_rows s l)
     (joined (line_rows s) (range_with_len l (m - l))) (run-hidden s l m c.requires.hidden.low c.if-line-next.true c.requires.hidden.hidden) d)
     c.push_hidden.ensures.drawn
 
@@ -44,7 +44,7 @@ returns-then-line-next-clause-drawn g c =
 
 pub returns-else-line-next-clause-at : goal.returns-else-line-next-clause-at
 returns-else-line-next-clause-at g c =
-    at-behind c.args.snippet.now c.args.pen.now.page c.args.line c.args.next c.args.lists.now c.requires.at c.requires.hidden c.requires.up
+    at-behind c.args.snippet.now c.args.line c.args.next c.args.writer.now c.args.lists.now c.requires.at c.requires.hidden c.requires.up
 
 pub returns-else-line-next-clause-drawn : goal.returns-else-line-next-clause-drawn
 returns-else-line-next-clause-drawn g c =
@@ -52,5 +52,5 @@ returns-else-line-next-clause-drawn g c =
     let s : Sheet = sheet_in v in
     let l = c.args.line in
     let m = c.args.next in
-    rows-of v.texts v.section c.args.pen.now.page.number_width c.args.pen.now c.args.pen.now []
-    (joined (line_rows s) (range_with_len l (m - l))) (run-empty (line_rows s) l m c.if-line-next.false) (draws_rows_none c.args.pen.now)
+    rows-of v.texts v.section c.args.writer.now.pen.page.number_width c.args.writer.now.pen c.args.writer.now.pen []
+    (joined (line_rows s) (range_with_len l (m - l))) (run-empty (line_rows s) l m c.if-line-next.false) (draws_rows_none c.args.writer.now.pen)

@@ -14,7 +14,7 @@ use Rattle.ariadne_rows.specs.declared.snippet_labels.Event.{Event}
 use Rattle.ariadne_rows.specs.SnippetLabels.{IsLineEnd, events_of}
 use Rattle.ariadne_rows.specs.Snippets.{rows_of, sheet_in}
 use Rattle.ariadne_render.specs.DrawnLines.{IsAt}
-use Rattle.ariadne_render.proofs.KnownSnippets.{rise}
+use Rattle.ariadne_rows.proofs.KnownSnippets.{rise}
 use Rattle.ariadne_render.proofs.LinesRows.{rows-of}
 use Rattle.ariadne_render.proofs.LinesWalk.{IsStep, IsWalked, end-before_last, last-within, last_shown-within, names-append}
 use Rattle.ariadne_render.proofs.LinesWalk.{run-empty, run-one, runs-join, step, walk-end, walk-start}
@@ -27,7 +27,7 @@ use Rattle.ariadne_render.proofs.lines.push_lines.Goals as goal
 -- the number behind the last line fits
 pub overflow_add-behind : goal.overflow_add-behind
 overflow_add-behind g c =
-    let is = c.requires.at.is_snippet in
+    let is = c.requires.at.above.is_snippet in
     let last = last_shown-within (sheet_in c.args.snippet.now) is.some is.over in
     let read = c.last_line-behind.ensures in
     let fits = is.numbers_fit in
@@ -39,13 +39,13 @@ loop-next-init g c =
     let v = c.args.snippet.now in
     let s : Sheet = sheet_in v in
     let at = c.requires.at in
-    let is = at.is_snippet in
-    let a = c.args.pen.now in
+    let is = at.above.is_snippet in
+    let a = c.args.writer.now.pen in
     let first : first_line s ≡ c.first_line-line.result = sym c.first_line-line.ensures in
     record {
-      at = subst (λ n. IsAt v a.page n c.args.lists.now) first at;
-      walked = subst (λ n. IsWalked s (length s.lines) n n 0 c.args.lists.now.gutter) first
-          (walk-start s (length s.lines) (rise v is) c.args.lists.now.gutter is.some at.beside);
+      at = subst (λ n. IsAt v n c.args.writer.now c.args.lists.now) first at;
+      walked = subst (λ n. IsWalked s (length s.lines) n n 0 c.args.writer.now.gutter) first
+          (walk-start s (length s.lines) (rise v is) c.args.writer.now.gutter is.some at.above.bars);
       drawn = rows-of v.texts v.section a.page.number_width a a []
           (joined (line_rows s) (range_with_len (first_line s) (c.first_line-line.result - first_line s)))
           (run-empty (line_rows s) (first_line s) c.first_line-line.result (omega (arith, first))) (draws_rows_none a);
@@ -61,7 +61,7 @@ line_of_event k labels = option_map (λ (e : Event). e.line) (slice_get (events_
 ends-within : (g : Over) (c : In-Some g)
     → Rattle.ariadne_picture.specs.Groups.group_end_line (sheet_in c.args.snippet.now).labels < length (sheet_in c.args.snippet.now).lines
 ends-within g c =
-    let is = c.requires.at.is_snippet in last-within (sheet_in c.args.snippet.now).lines (sheet_in c.args.snippet.now).labels is.some is.over
+    let is = c.requires.at.above.is_snippet in last-within (sheet_in c.args.snippet.now).lines (sheet_in c.args.snippet.now).labels is.some is.over
 
 -- what is known of that line
 step-at : (g : Over) (c : In-Some g)
@@ -69,8 +69,8 @@ step-at : (g : Over) (c : In-Some g)
 step-at g c =
     let v = c.args.snippet.now in
     let inv = c.loop-next.invariant in
-    step (sheet_in v) (length (sheet_in v).lines) (rise v c.requires.at.is_snippet) c.loop-next.line c.loop-next.near c.loop-next.event c.in-Some.next
-    c.loop-next.lists.gutter c.event_line.result inv.walked (ends-within g c)
+    step (sheet_in v) (length (sheet_in v).lines) (rise v c.requires.at.above.is_snippet) c.loop-next.line c.loop-next.near c.loop-next.event c.in-Some.next
+    c.loop-next.writer.gutter c.event_line.result inv.walked (ends-within g c)
     (c.event_line.ensures ∙ ap (line_of_event c.loop-next.event) inv.at.labels) c.in-Some.is
 
 -- it is a line of the source
@@ -83,8 +83,7 @@ line-there g c =
 -- the lists are at the first
 pub push_lines_between-requires-clause-at : goal.push_lines_between-requires-clause-at
 push_lines_between-requires-clause-at g c =
-    let inv = c.loop-next.invariant in
-    subst (λ p. IsAt c.args.snippet.now p c.loop-next.line c.loop-next.lists) (sym (rows_page c.args.pen.now c.loop-next.pen _ inv.drawn)) inv.at
+    c.loop-next.invariant.at
 
 -- the lines are those of the source
 pub push_lines_between-requires-clause-within : goal.push_lines_between-requires-clause-within
@@ -104,10 +103,10 @@ push_lines_between-requires-clause-between g c =
 -- ---- the line of the next event
 
 -- the page stays
-between-page : (g : Over) (c : In_ok-push_lines_between g) → c.push_lines_between.new.pen.page ≡ c.args.pen.now.page
+between-page : (g : Over) (c : In_ok-push_lines_between g) → c.push_lines_between.new.writer.pen.page ≡ c.args.writer.now.pen.page
 between-page g c =
-    rows_page c.loop-next.pen c.push_lines_between.new.pen _ c.in_ok-push_lines_between.ensures.drawn
-    ∙ rows_page c.args.pen.now c.loop-next.pen _ c.loop-next.invariant.drawn
+    rows_page c.loop-next.writer.pen c.push_lines_between.new.writer.pen _ c.in_ok-push_lines_between.ensures.drawn
+    ∙ rows_page c.args.writer.now.pen c.loop-next.writer.pen _ c.loop-next.invariant.drawn
 
 -- the next event is there
 pub line_end-end-requires : goal.line_end-end-requires
@@ -127,8 +126,7 @@ line-ends g c end h =
 -- the lists are at it
 pub push_line-requires-clause-at : goal.push_line-requires-clause-at
 push_line-requires-clause-at g c =
-    subst (λ p. IsAt c.args.snippet.now p c.in-Some.next c.push_lines_between.new.lists)
-    (sym (rows_page c.loop-next.pen c.push_lines_between.new.pen _ c.in_ok-push_lines_between.ensures.drawn)) c.in_ok-push_lines_between.ensures.at
+    c.in_ok-push_lines_between.ensures.at
 
 -- it is a line of the source
 pub push_line-requires-clause-within : goal.push_line-requires-clause-within
@@ -150,7 +148,7 @@ push_line-requires-clause-events g c =
 pub overflow_add-line : goal.overflow_add-line
 overflow_add-line g c =
     let less = line-there g (goal.at.overflow_add-line g c).In-Some in
-    let fits = c.requires.at.is_snippet.numbers_fit in
+    let fits = c.requires.at.above.is_snippet.numbers_fit in
     omega (arith, less, fits)
 
 -- ---- the turn to the next line
@@ -171,18 +169,18 @@ loop-next-preserved g c =
     let inv = c.loop-next.invariant in
     let b = (goal.at.loop-next-preserved g c).In_ok-push_lines_between in
     let st = step-at g (goal.at.loop-next-preserved g c).In-Some in
-    let a = c.args.pen.now in
-    let mid = c.push_lines_between.new.pen in
-    let new = c.push_line.new.pen in
-    let old = rows_page a c.loop-next.pen _ inv.drawn in
+    let a = c.args.writer.now.pen in
+    let mid = c.push_lines_between.new.writer.pen in
+    let new = c.push_line.new.writer.pen in
+    let old = rows_page a c.loop-next.writer.pen _ inv.drawn in
     let kept = between-page g b in
     let l = c.loop-next.line in
     let n = c.in-Some.next in
     let top = 2 ^ 64 - 1 in
-    let fits = c.requires.at.is_snippet.numbers_fit in
+    let fits = c.requires.at.above.is_snippet.numbers_fit in
     let near : c.saturating_add-near.result ≡ min (n + 1 + s.switches.context_lines) top =
     c.saturating_add-near.ensures ∙ ap (λ (w : Switches). min (n + 1 + w.context_lines) top) c.switches.ensures in
-    let at = subst (λ p. IsAt v p (n + 1) c.push_line.new.lists) kept c.in_ok-push_line.ensures.at in
+    let at = c.in_ok-push_line.ensures.at in
     let from = first_line s in
     let first = inv.walked.low in
     let up = st.up in
@@ -196,11 +194,11 @@ loop-next-preserved g c =
     let append = names-append v.texts v.section a.page.number_width a in
     record {
       at = at;
-      walked = st.next c.line_end-end.result c.saturating_add-near.result top c.push_line.new.lists.gutter
-          (line-ends g b c.line_end-end.result c.line_end-end.ensures) (omega (arith, fits)) near at.beside;
+      walked = st.next c.line_end-end.result c.saturating_add-near.result top c.push_line.new.writer.gutter
+          (line-ends g b c.line_end-end.result c.line_end-end.ensures) (omega (arith, fits)) near at.above.bars;
       drawn = append mid new above (rows n) whole one
-          (append c.loop-next.pen mid before between above (runs-join rows from l n first up) inv.drawn
-          (subst (λ (p : PageFields). DrawsRows c.loop-next.pen mid (rows_of p v between)) old c.in_ok-push_lines_between.ensures.drawn))
+          (append c.loop-next.writer.pen mid before between above (runs-join rows from l n first up) inv.drawn
+          (subst (λ (p : PageFields). DrawsRows c.loop-next.writer.pen mid (rows_of p v between)) old c.in_ok-push_lines_between.ensures.drawn))
           (subst (λ (p : PageFields). DrawsRows mid new (rows_of p v (rows n))) kept c.in_ok-push_line.ensures.drawn);
     }
 
@@ -209,13 +207,12 @@ loop-next-preserved g c =
 -- the lists are at the first
 pub push_lines_between-requires-2-clause-at : goal.push_lines_between-requires-2-clause-at
 push_lines_between-requires-2-clause-at g c =
-    let inv = c.loop-next.invariant in
-    subst (λ p. IsAt c.args.snippet.now p c.loop-next.line c.loop-next.lists) (sym (rows_page c.args.pen.now c.loop-next.pen _ inv.drawn)) inv.at
+    c.loop-next.invariant.at
 
 -- they are lines of the source
 pub push_lines_between-requires-2-clause-within : goal.push_lines_between-requires-2-clause-within
 push_lines_between-requires-2-clause-within g c =
-    let is = c.requires.at.is_snippet in
+    let is = c.requires.at.above.is_snippet in
     let last = last_shown-within (sheet_in c.args.snippet.now) is.some is.over in
     let read = c.last_line-behind.ensures in
     omega (arith, last, read)
@@ -225,13 +222,13 @@ pub push_lines_between-requires-2-clause-between : goal.push_lines_between-requi
 push_lines_between-requires-2-clause-between g c =
     let v = c.args.snippet.now in
     let s : Sheet = sheet_in v in
-    let is = c.requires.at.is_snippet in
+    let is = c.requires.at.above.is_snippet in
     let inv = c.loop-next.invariant in
     let read = c.last_line-behind.ensures in
     let high = inv.walked.high in
     let ends = end-before_last s in
     let within = last_shown-within s is.some is.over in
-    (walk-end s (length s.lines) (rise v is) c.loop-next.line c.loop-next.near c.loop-next.event (c.last_line-behind.result + 1) c.loop-next.lists.gutter
+    (walk-end s (length s.lines) (rise v is) c.loop-next.line c.loop-next.near c.loop-next.event (c.last_line-behind.result + 1) c.loop-next.writer.gutter
     c.event_line.result inv.walked (omega (arith, high, ends, read)) (omega (arith, within, read))
     (c.event_line.ensures ∙ ap (line_of_event c.loop-next.event) inv.at.labels) c.in_default.is).between _ c.hidden_lines-hidden-2.result refl refl
     c.hidden_lines-hidden-2.ensures.start c.hidden_lines-hidden-2.ensures.end
@@ -240,11 +237,9 @@ push_lines_between-requires-2-clause-between g c =
 pub returns-clause-at : goal.returns-clause-at
 returns-clause-at g c =
     let v = c.args.snippet.now in
-    let new = c.push_lines_between-2.new.lists in
-    let old = rows_page c.args.pen.now c.loop-next.pen _ c.loop-next.invariant.drawn in
     on_ok_weaker c.push_lines_between-2.result
-    (λ at. subst (λ n. IsAt v c.args.pen.now.page (n + 1) new) c.last_line-behind.ensures
-    (subst (λ p. IsAt v p (c.last_line-behind.result + 1) new) old at)) c.push_lines_between-2.ensures.at
+    (λ at. subst (λ n. IsAt v (n + 1) c.push_lines_between-2.new.writer c.push_lines_between-2.new.lists) c.last_line-behind.ensures at)
+    c.push_lines_between-2.ensures.at
 
 -- the rows of all lines are written
 pub returns-clause-drawn : goal.returns-clause-drawn
@@ -252,7 +247,7 @@ unfolding group_lines
 returns-clause-drawn g c =
     let v = c.args.snippet.now in
     let s : Sheet = sheet_in v in
-    let a = c.args.pen.now in
+    let a = c.args.writer.now.pen in
     let inv = c.loop-next.invariant in
     let l = c.loop-next.line in
     let m = c.last_line-behind.result + 1 in
@@ -267,10 +262,10 @@ returns-clause-drawn g c =
     let before = joined rows (range_with_len from (l - from)) in
     let after = joined rows (range_with_len l (m - l)) in
     let whole = joined rows (range_with_len from (suc (last_line s) - from)) in
-    let old = rows_page a c.loop-next.pen _ inv.drawn in
-    let new = c.push_lines_between-2.new.pen in
+    let old = rows_page a c.loop-next.writer.pen _ inv.drawn in
+    let new = c.push_lines_between-2.new.writer.pen in
     on_ok_weaker c.push_lines_between-2.result
-    (λ d. names-append v.texts v.section a.page.number_width a c.loop-next.pen new before after whole
+    (λ d. names-append v.texts v.section a.page.number_width a c.loop-next.writer.pen new before after whole
     (runs-join rows from l m first up ∙ ap (λ n. joined rows (range_with_len from n)) all) inv.drawn
-    (subst (λ (p : PageFields). DrawsRows c.loop-next.pen new (rows_of p v after)) old d))
+    (subst (λ (p : PageFields). DrawsRows c.loop-next.writer.pen new (rows_of p v after)) old d))
     c.push_lines_between-2.ensures.drawn

@@ -13,9 +13,9 @@ use Rattle.ariadne_render.proofs.lines.push_lines.Given as goal
 
 abbrev pub invariant-loop-next : goal.invariant-loop-next
 invariant-loop-next g l = record {
-  at : IsAt l.snippet l.fn.pen.page l.line l.lists;
-  walked : IsWalked (sheet_in l.snippet) (length (sheet_in l.snippet).lines) l.line l.near l.event l.lists.gutter;
-  drawn : DrawsRows l.fn.pen l.pen (rows_of l.fn.pen.page l.snippet (joined (line_rows (sheet_in l.snippet))
+  at : IsAt l.snippet l.line l.writer l.lists;
+  walked : IsWalked (sheet_in l.snippet) (length (sheet_in l.snippet).lines) l.line l.near l.event l.writer.gutter;
+  drawn : DrawsRows l.fn.writer.pen l.writer.pen (rows_of l.fn.writer.pen.page l.snippet (joined (line_rows (sheet_in l.snippet))
       (range_with_len (first_line (sheet_in l.snippet)) (l.line - first_line (sheet_in l.snippet)))));
 }
 

@@ -7,7 +7,6 @@ use Rattle.ariadne_cells.proofs.Drawn.{rows_page}
 use Rattle.ariadne_picture.specs.Lists.{joined}
 use Rattle.ariadne_picture.specs.Rows.{line_rows}
 use Rattle.ariadne_rows.specs.Snippets.{rows_of, sheet_in}
-use Rattle.ariadne_render.specs.DrawnLines.{IsAt}
 use Rattle.ariadne_render.proofs.LinesWalk.{names-append, runs-join}
 use Rattle.ariadne_render.proofs.lines.push_lines_between.Given.{Over}
 use Rattle.ariadne_render.proofs.lines.push_lines_between.Goals.{In_ok-push_hidden_lines}
@@ -36,8 +35,7 @@ push_context_lines-requires-clause-context g c = c.requires.between.above
 -- the lists are at the first
 pub push_hidden_lines-requires-clause-at : goal.push_hidden_lines-requires-clause-at
 push_hidden_lines-requires-clause-at g c =
-    subst (λ p. IsAt c.args.snippet.now p c.args.hidden.start c.push_context_lines.new.lists)
-    (sym (rows_page c.args.pen.now c.push_context_lines.new.pen _ c.in_ok-push_context_lines.ensures.drawn)) c.in_ok-push_context_lines.ensures.at
+    c.in_ok-push_context_lines.ensures.at
 
 -- they rise
 pub push_hidden_lines-requires-clause-up : goal.push_hidden_lines-requires-clause-up
@@ -57,16 +55,14 @@ push_hidden_lines-requires-clause-hidden g c = c.requires.between.hidden
 -- ---- those near a label below
 
 -- the page stays
-page-kept : (g : Over) (c : In_ok-push_hidden_lines g) → c.push_hidden_lines.new.pen.page ≡ c.args.pen.now.page
+page-kept : (g : Over) (c : In_ok-push_hidden_lines g) → c.push_hidden_lines.new.writer.pen.page ≡ c.args.writer.now.pen.page
 page-kept g c =
-    rows_page c.push_context_lines.new.pen c.push_hidden_lines.new.pen _ c.in_ok-push_hidden_lines.ensures.drawn
-    ∙ rows_page c.args.pen.now c.push_context_lines.new.pen _ c.in_ok-push_context_lines.ensures.drawn
+    rows_page c.push_context_lines.new.writer.pen c.push_hidden_lines.new.writer.pen _ c.in_ok-push_hidden_lines.ensures.drawn
+    ∙ rows_page c.args.writer.now.pen c.push_context_lines.new.writer.pen _ c.in_ok-push_context_lines.ensures.drawn
 
 -- the lists are at the first
 pub push_context_lines-requires-2-clause-at : goal.push_context_lines-requires-2-clause-at
 push_context_lines-requires-2-clause-at g c =
-    subst (λ p. IsAt c.args.snippet.now p c.args.hidden.end c.push_hidden_lines.new.lists)
-    (sym (rows_page c.push_context_lines.new.pen c.push_hidden_lines.new.pen _ c.in_ok-push_hidden_lines.ensures.drawn))
     c.in_ok-push_hidden_lines.ensures.at
 
 -- they come last
@@ -79,22 +75,14 @@ push_context_lines-requires-2-clause-context g c = c.requires.between.below
 
 -- ---- all of them
 
--- the lists are at the line behind
-pub returns-clause-at : goal.returns-clause-at
-returns-clause-at g c =
-    let b = (goal.at.returns-clause-at g c).In_ok-push_hidden_lines in
-    on_ok_weaker c.push_context_lines-2.result
-    (λ at. subst (λ p. IsAt c.args.snippet.now p c.args.lines.end c.push_context_lines-2.new.lists) (page-kept g b) at)
-    c.push_context_lines-2.ensures.at
-
 -- the rows of all are written
 pub returns-clause-drawn : goal.returns-clause-drawn
 returns-clause-drawn g c =
     let v = c.args.snippet.now in
-    let a = c.args.pen.now in
-    let one = c.push_context_lines.new.pen in
-    let two = c.push_hidden_lines.new.pen in
-    let new = c.push_context_lines-2.new.pen in
+    let a = c.args.writer.now.pen in
+    let one = c.push_context_lines.new.writer.pen in
+    let two = c.push_hidden_lines.new.writer.pen in
+    let new = c.push_context_lines-2.new.writer.pen in
     let width = a.page.number_width in
     let b = (goal.at.returns-clause-drawn g c).In_ok-push_hidden_lines in
     let kept = page-kept g b in

@@ -4,9 +4,9 @@ use Rattle.ariadne_render.proofs.FrontColumns.{gutter_none, gutter_some}
 use Rattle.ariadne_render.proofs.margins.gutter_len.Goals as goal
 
 pub returns-in-0-clause-columns : goal.returns-in-0-clause-columns
-returns-in-0-clause-columns c = λ s same.
-    let number = c.number_of_gutter_labels.ensures.number s same in gutter_none s (omega (arith, number))
+returns-in-0-clause-columns c =
+    let number = c.number_of_gutter_labels.ensures.number in gutter_none _ (omega (arith, number))
 
 pub returns-in_default-clause-columns : goal.returns-in_default-clause-columns
-returns-in_default-clause-columns c = λ s same.
-    gutter_some s c.number_of_gutter_labels.result (c.number_of_gutter_labels.ensures.number s same) (omega arith)
+returns-in_default-clause-columns c =
+    gutter_some _ c.number_of_gutter_labels.result c.number_of_gutter_labels.ensures.number (omega arith)

@@ -7,7 +7,7 @@ use Rattle.ariadne_picture.specs.Report.{switches_of}
 use Rattle.ariadne_picture.specs.declared.label_info.LabelInfo.{LabelInfo}
 use Rattle.ariadne_render.proofs.Grouping.{mapped_from}
 use Rattle.ariadne_render.proofs.GroupingWidths.{max_is}
-use Rattle.ariadne_render.proofs.FrontColumns.{most_is, most_none, most_of, most_step}
+use Rattle.ariadne_render.proofs.FrontColumns.{columns_over, most_is, most_none, most_of, most_step}
 use Rattle.ariadne_render.proofs.margins.most_before_text.Goals as goal
 
 -- one group more
@@ -25,7 +25,7 @@ loop-group-preserved g c =
     c.max-most.ensures ∙ max_is c.loop-group.most c.columns_before_text.result in
     let next : i + 1 ≡ suc i = omega arith in
     most_step w r digits gs i _ (mapped_from (λ (x : Bor (List LabelInfo)). x.now) c.args.groups.now i _ less) c.columns_before_text.result c.loop-group.most
-    c.max-most.result _ (c.columns_before_text.ensures (sheet_of w r _) refl switches) wider c.loop-group.invariant
+    c.max-most.result _ (c.columns_before_text.ensures ∙ columns_over digits _ _ (sheet_of w r _) refl switches) wider c.loop-group.invariant
     ∙ ap (λ k. max c.max-most.result (most_of w r digits (drop k gs))) (sym next)
 
 -- no group is left

@@ -5,12 +5,12 @@ use Rattle.ariadne_cells.specs.Pages.{DrawsRows}
 use Rattle.ariadne_picture.specs.Lists.{joined}
 use Rattle.ariadne_picture.specs.Rows.{label_rows}
 use Rattle.ariadne_rows.specs.Snippets.{labels_at, rows_of}
-use Rattle.ariadne_render.specs.DrawnLines.{IsAtRank}
-use Rattle.ariadne_render.proofs.below.push_label_rows.Given as goal
+use Rattle.ariadne_rows.specs.Writers.{IsAtRank}
+use Rattle.ariadne_render.proofs.below.push_rows_below.Given as goal
 
 abbrev pub invariant-loop-rank : goal.invariant-loop-rank
 invariant-loop-rank g l = record {
-  at : IsAtRank l.shown l.rank l.fn.pen.page l.gutter l.table;
-  drawn : DrawsRows l.fn.pen l.pen (rows_of l.fn.pen.page l.shown.snippet (joined (label_rows l.fn.pen.page.switches.compact l.shown.line)
-      (take l.rank (enumerate_from 0 (labels_at l.shown)))));
+  at : IsAtRank l.shown l.rank l.writer l.table;
+  drawn : DrawsRows l.fn.writer.pen l.writer.pen (rows_of l.fn.writer.pen.page l.shown.snippet
+      (joined (label_rows l.fn.writer.pen.page.switches.compact l.shown.line) (take l.rank (enumerate_from 0 (labels_at l.shown)))));
 }
