@@ -84,6 +84,12 @@ label-read s l r y xs d e same less =
     let n : length xs ≡ length (line_labels s.labels l) = ap length there in
     ap (λ ys. slice_get ys r) (sym there) ∙ slice_get-get_or xs r d (omega arith)
 
+-- as the code asks whether it has a message
+pub label-told : (s : Sheet) (l r : ℕ) (y : Layout) (xs : List LineLabel) (d : LineLabel) (b : Bool) → y ≡ layout_of s l → xs ≡ y.labels
+    → r < length (line_labels s.labels l) → (get_or xs r d).info.has_message ≡ b
+    → (x : LineLabel) × ((slice_get (line_labels s.labels l) r ≡ Some x) × (x.info.has_message ≡ b))
+label-told s l r y xs d b e same less told = (get_or xs r d, (label-read s l r y xs d e same less, told))
+
 -- which is there
 pub label-less : (s : Sheet) (l r : ℕ) (y : Layout) (xs : List LineLabel) → y ≡ layout_of s l → xs ≡ y.labels → r < length (line_labels s.labels l)
     → r < length xs

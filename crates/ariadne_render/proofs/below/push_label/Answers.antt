@@ -10,7 +10,7 @@ use Rattle.ariadne_picture.specs.Rows.{alternate, arrow, label_rows}
 use Rattle.ariadne_rows.specs.Snippets.{labels_at, row_of, rows_of, sheet_at}
 use Rattle.ariadne_rows.specs.Writers.{WritesRows}
 use Rattle.ariadne_render.proofs.KnownSnippets.{one-row, rank-kept}
-use Rattle.ariadne_render.proofs.LinesQuiet.{label-less, label-read}
+use Rattle.ariadne_render.proofs.LinesQuiet.{label-less, label-read, label-told}
 use Rattle.ariadne_render.proofs.LinesRows.{label-none, label-one, label-two, row-page, rows-of}
 use Rattle.ariadne_render.proofs.below.push_label.Given.{Over}
 use Rattle.ariadne_render.proofs.below.push_label.Goals.{After-labels-labels}
@@ -78,18 +78,18 @@ returns-then-switches g c =
     let pen = c.args.writer.now.pen in
     let page = pen.page in
     let new = c.push_arrow_row.new.writer in
-    let there = label-read (sheet_at v) v.line c.args.rank c.layout.result.now c.labels-labels.result.now _ c.layout.ensures.layout
-    c.labels-labels.ensures c.requires.rank in
+    let own = label-told (sheet_at v) v.line c.args.rank c.layout.result.now c.labels-labels.result.now _ true c.layout.ensures.layout
+    c.labels-labels.ensures c.requires.rank c.if-not-label.false in
     let compact : page.switches.compact ≡ true =
     ap (λ (p : PageFields). p.switches.compact) (sym c.page.ensures) ∙ ap (λ (w : Switches). w.compact) (sym c.switches.ensures.switches)
     ∙ c.if-switches.true in
     subst (λ (o : Option LineLabel). IfSome o (λ x. OnOk c.push_arrow_row.result (WritesRows c.args.writer.now new
-    (rows_of page v.snippet (label_rows page.switches.compact v.line (c.args.rank, x)))))) (sym there)
+    (rows_of page v.snippet (label_rows page.switches.compact v.line (c.args.rank, x)))))) (sym own.1.0)
     (on_ok_weaker c.push_arrow_row.result
     (λ d. record {
       drawn = rows-of v.snippet.texts v.snippet.section page.number_width pen new.pen (arrow v.line c.args.rank ∷ [])
-          (label_rows page.switches.compact v.line (c.args.rank, _))
-          (sym (ap (λ k. label_rows k v.line (c.args.rank, _)) compact ∙ label-one v.line c.args.rank _ c.if-not-label.false))
+          (label_rows page.switches.compact v.line (c.args.rank, own.0))
+          (sym (ap (λ k. label_rows k v.line (c.args.rank, own.0)) compact ∙ label-one v.line c.args.rank own.0 own.1.1))
           (draws_rows_one pen new.pen (row_of page v.snippet (arrow v.line c.args.rank)) d.drawn);
       bars = d.bars;
     })
@@ -104,21 +104,21 @@ returns g c =
     let new = c.push_arrow_row-2.new.writer in
     let page = a.page in
     let r = c.args.rank in
-    let there = label-read (sheet_at v) v.line r c.layout.result.now c.labels-labels.result.now _ c.layout.ensures.layout
-    c.labels-labels.ensures c.requires.rank in
+    let own = label-told (sheet_at v) v.line r c.layout.result.now c.labels-labels.result.now _ true c.layout.ensures.layout
+    c.labels-labels.ensures c.requires.rank c.if-not-label.false in
     let full : page.switches.compact ≡ false =
     ap (λ (p : PageFields). p.switches.compact) (sym c.page.ensures) ∙ ap (λ (w : Switches). w.compact) (sym c.switches.ensures.switches)
     ∙ c.if-switches.false in
     let d = c.in_ok-push_alternate_row.ensures in
     subst (λ (o : Option LineLabel). IfSome o (λ x. OnOk c.push_arrow_row-2.result (WritesRows c.args.writer.now new
-    (rows_of page v.snippet (label_rows page.switches.compact v.line (r, x)))))) (sym there)
+    (rows_of page v.snippet (label_rows page.switches.compact v.line (r, x)))))) (sym own.1.0)
     (on_ok_weaker c.push_arrow_row-2.result (λ f.
     let k : DrawsRow b new.pen (row_of page v.snippet (arrow v.line r)) =
     subst (λ p. DrawsRow b new.pen (row_of p v.snippet (arrow v.line r))) (row-page a b _ d.drawn) f.drawn in
     record {
       drawn = rows-of v.snippet.texts v.snippet.section page.number_width a new.pen (alternate v.line r ∷ arrow v.line r ∷ [])
-          (label_rows page.switches.compact v.line (r, _))
-          (sym (ap (λ k. label_rows k v.line (r, _)) full ∙ label-two v.line r _ c.if-not-label.false))
+          (label_rows page.switches.compact v.line (r, own.0))
+          (sym (ap (λ k. label_rows k v.line (r, own.0)) full ∙ label-two v.line r own.0 own.1.1))
           (draws_rows-append a b new.pen (row_of page v.snippet (alternate v.line r) ∷ []) (row_of page v.snippet (arrow v.line r) ∷ [])
           (draws_rows_one a b _ d.drawn) (draws_rows_one b new.pen _ k));
       bars = f.bars ∙ d.bars;

@@ -18,8 +18,8 @@ use Rattle.ariadne_render.proofs.frames.push_foot.Goals as goal
 use Rattle.ariadne_render.proofs.frames.push_foot.Goals.{then-is_last+in_ok-push_asides+in_ok-push_asides-2, else-is_last}
 
 -- the helps leave the gutter as it was
-pub push_asides-requires-2 : goal.push_asides-requires-2
-push_asides-requires-2 g c =
+pub push_asides-requires-then-is_last : goal.push_asides-requires-then-is_last
+push_asides-requires-then-is_last g c =
     record { at = behind-kept c.args.snippet.now c.args.writer.now c.push_asides.new.writer _ c.requires.at c.in_ok-push_asides.ensures }
 
 -- the helps and the notes, where the group is the last
