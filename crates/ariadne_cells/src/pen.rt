@@ -254,11 +254,7 @@ impl<'a> Pen<'a> {
     ///       9 |
     ///      10 |
     /// ```
-    pub fn push_line_margin(
-        &mut self,
-        display_offset: usize,
-        line: usize,
-    ) -> Result<(), AllocError>
+    pub fn push_line_margin(&mut self, display_offset: usize, line: usize) -> Result<(), AllocError>
         requires fits { line + 1 + display_offset < 2 ^ 64 }
         ensures { let page = self.old.page in
             OnOk result (Draws self.old self.new

@@ -67,11 +67,7 @@ fn push_one_by_one(out: &mut String, c: char, count: usize) -> Result<(), AllocE
 
 /// Appends a text `count` times.
 #[tactic(auto, using(crate::proofs::Copies::repeats_none, crate::proofs::Copies::repeats_step))]
-pub(crate) fn push_texts(
-    out: &mut String,
-    text: &str,
-    count: usize,
-) -> Result<(), AllocError>
+pub(crate) fn push_texts(out: &mut String, text: &str, count: usize) -> Result<(), AllocError>
     ensures { OnOk result
         (string_bytes out.new ≡ string_bytes out.old ++ repeated count text.now) }
 {

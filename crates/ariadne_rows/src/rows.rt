@@ -58,9 +58,7 @@ pub fn push_source_row<I: SourceText>(
     writer
         .pen
         .push_line_margin(shown.display_offset(), shown.line())?;
-    writer
-        .gutter
-        .push_source(&mut writer.pen, layout.margin())?;
+    writer.gutter.push_source(&mut writer.pen, layout.margin())?;
     push_shown(&mut writer.pen, layout, paints)?;
     writer.pen.end_row()
 }
