@@ -1,4 +1,4 @@
-use Rattle.std.proofs.Common.{rules, append_assoc, ◌∷◌, [], ◌+◌, ◌++◌, OnOk, codes, if◌then◌else◌}
+use Rattle.std.proofs.Common.{rules, append_assoc, ◌∷◌, [], ◌+◌, ◌++◌, OnOk, codes, if◌then◌else◌, sym}
 use Rattle.std.proofs.lemmas.Result.{on_ok_weaker}
 use Rattle.ariadne_color.specs.Colors.{painted}
 use Rattle.ariadne_cells.specs.Pages.{Adds}
