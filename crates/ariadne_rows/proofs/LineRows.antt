@@ -1,5 +1,5 @@
 -- The rows of a line, and those in place of hidden lines: a margin, and what follows it.
-use Rattle.std.proofs.Common.{◌≡◌, ℕ, List, [], ◌∷◌, ◌++◌, Option, Some, Bool, false, if◌then◌else◌, slice_get, sym, ap, ◌∙◌, subst, ◌⊎◌, inl, inr}
+use Rattle.std.proofs.Common.{◌≡◌, ℕ, List, [], ◌∷◌, ◌++◌, Option, Some, false, if◌then◌else◌, slice_get, sym, ap, ◌∙◌, subst, ◌⊎◌, inl, inr}
 use Rattle.std.proofs.lemmas.List.{append-nil}
 use Rattle.ariadne_picture.specs.declared.label_info.LineLabel.{LineLabel}
 use Rattle.ariadne_picture.specs.declared.label_info.Side.{Side}
@@ -9,7 +9,7 @@ use Rattle.ariadne_picture.specs.Cells.{alternate_place, arrow_place}
 use Rattle.ariadne_picture.specs.Columns.{Layout, layout_of}
 use Rattle.ariadne_picture.specs.Pieces.{Piece, Section, Texts, area_pieces, blank_piece, gutter_pieces, margin_paint, margin_pieces, margin_text}
 use Rattle.ariadne_picture.specs.Pieces.{message_at, message_pieces, plain_text, rest_pieces, row_pieces, shown_pieces, text_pieces}
-use Rattle.ariadne_picture.specs.Ranks.{Sheet, is_margin, is_start, line_labels, margin_label, multi_line_labels}
+use Rattle.ariadne_picture.specs.Ranks.{Sheet, is_start, line_labels, margin_label, multi_line_labels}
 use Rattle.ariadne_picture.specs.Rows.{alternate, arrow, bare, gap, source}
 use Rattle.ariadne_cells.specs.Pages.{Adds, Draws, DrawsRow, PenFields}
 use Rattle.ariadne_cells.proofs.Drawn.{draws-append, draws_blank, draws_plain, draws_row_ended}

@@ -1,8 +1,7 @@
 use Rattle.std.proofs.Common.{◌∙◌, refl, sym}
 use Rattle.std.proofs.lemmas.Result.{on_ok_weaker}
 use Rattle.ariadne_picture.specs.Ranks.{Sheet}
-use Rattle.ariadne_picture.specs.Rows.{gap}
-use Rattle.ariadne_cells.proofs.Drawn.{adds_same, page_kept}
+use Rattle.ariadne_cells.proofs.Drawn.{page_kept}
 use Rattle.ariadne_rows.specs.Snippets.{sheet_in}
 use Rattle.ariadne_rows.proofs.GutterRows.{draws_gap_gutter}
 use Rattle.ariadne_rows.proofs.GutterSteps.{beside-gap}

@@ -1,4 +1,4 @@
-use Rattle.std.proofs.Common.{◌<◌, ◌^◌, ℕ, refl, sym, ap, subst, arith, ◌∙◌}
+use Rattle.std.proofs.Common.{◌<◌, ◌^◌, refl, sym, ap, subst, arith, ◌∙◌}
 use Rattle.std.proofs.lemmas.Result.{on_ok_weaker}
 use Rattle.ariadne_picture.specs.Columns.{Layout}
 use Rattle.ariadne_picture.specs.Pieces.{margin_pieces}
