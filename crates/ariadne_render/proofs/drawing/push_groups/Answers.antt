@@ -138,18 +138,18 @@ push_snippet-requires g c =
     let made = c.resolve-snippet.ensures.made in
     record {
       ready = record {
-      is_snippet = c.resolve-snippet.ensures.is;
-      labels = c.in_ok-fill.ensures.ok
-          ∙ (λ i. record { labels = sym (section_labels w r (length groups) n new) i; line = 0 })
-          ∙ ap (λ (v : SnippetFields). record { labels = v.section.sheet.labels; line = 0 }) (sym made);
-      one_page = inv.one_page;
-      switches = ap (λ (v : SnippetFields). v.section.sheet.switches) made ∙ section_switches w r (length groups) n new
-          ∙ sym c.requires.writer.switches ∙ ap (λ (p : PageFields). p.switches) (sym inv.page);
-      known = subst (λ (ls : List (List _)). IsRemembered ls c.forget_of_other_source.new.long)
-          (sym (ap (λ (v : SnippetFields). v.section.sheet.lines) made ∙ section_lines w r (length groups) n new))
-          (c.forget_of_other_source.ensures (g.C.Cache.names c.args.cache.now) (g.C.Cache.contents c.args.cache.now) old new
-          (slice_get-get_or old 0 no_label (some_label (same_source w r) old before.whole))
-          (slice_get-get_or new 0 no_label (some_label (same_source w r) new here.whole)) (inv.known old there));
+        is_snippet = c.resolve-snippet.ensures.is;
+        labels = c.in_ok-fill.ensures.ok
+            ∙ (λ i. record { labels = sym (section_labels w r (length groups) n new) i; line = 0 })
+            ∙ ap (λ (v : SnippetFields). record { labels = v.section.sheet.labels; line = 0 }) (sym made);
+        one_page = inv.one_page;
+        switches = ap (λ (v : SnippetFields). v.section.sheet.switches) made ∙ section_switches w r (length groups) n new
+            ∙ sym c.requires.writer.switches ∙ ap (λ (p : PageFields). p.switches) (sym inv.page);
+        known = subst (λ (ls : List (List _)). IsRemembered ls c.forget_of_other_source.new.long)
+            (sym (ap (λ (v : SnippetFields). v.section.sheet.lines) made ∙ section_lines w r (length groups) n new))
+            (c.forget_of_other_source.ensures (g.C.Cache.names c.args.cache.now) (g.C.Cache.contents c.args.cache.now) old new
+            (slice_get-get_or old 0 no_label (some_label (same_source w r) old before.whole))
+            (slice_get-get_or new 0 no_label (some_label (same_source w r) new here.whole)) (inv.known old there));
       };
     }
 
