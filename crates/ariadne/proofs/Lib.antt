@@ -1,2 +1,3 @@
 pub mod Building
 mod Sending
+mod WholePictures

@@ -20,9 +20,9 @@ pub use Rattle.ariadne_color.specs.Colors
 pub use Rattle.ariadne_color.specs.Generator
 pub use Rattle.ariadne_color.specs.declared.color.Color
 -- ---- reports, and the picture of one
-pub use Rattle.ariadne_labels.specs.Kinds
-pub use Rattle.ariadne_labels.specs.LabelEquality
-pub use Rattle.ariadne_labels.specs.declared.kind.ReportKind
+pub use Rattle.ariadne_report.specs.Kinds
+pub use Rattle.ariadne_report.specs.LabelEquality
+pub use Rattle.ariadne_report.specs.declared.kind.ReportKind
 pub use Rattle.ariadne_picture.specs.declared.switches.CharSet
 pub use Rattle.ariadne_picture.specs.declared.switches.IndexType
 pub use Rattle.ariadne_picture.specs.declared.switches.LabelAttach
@@ -66,13 +66,14 @@ pub use Rattle.ariadne_picture.specs.Variants
 pub use Rattle.ariadne_picture.specs.Headline
 -- ---- making a report and writing it
 pub mod Building
-pub use Rattle.ariadne_accept.specs.CacheReads
-pub use Rattle.ariadne_accept.specs.Judging
-pub use Rattle.ariadne_accept.specs.declared.accept.LeftOut
-pub use Rattle.ariadne_accept.specs.declared.accept.Reason
+pub use Rattle.ariadne_report.specs.CacheReads
+pub use Rattle.ariadne_report.specs.Judging
+pub use Rattle.ariadne_report.specs.declared.accept.LeftOut
+pub use Rattle.ariadne_report.specs.declared.accept.Reason
 pub use Rattle.ariadne.specs.declared.send.SendError
 pub use Rattle.ariadne.specs.declared.retry.RetryInterrupted
 pub mod Retrying
 pub mod Sending
+pub mod WholePages
 pub mod WriteErrors
 pub mod Written

@@ -3,13 +3,13 @@
 use Rattle.std.specs.Prelude.{ℕ, ◌<◌, ◌≡◌, List, length, take, Option, Result, Ok, Err, Vec}
 use Rattle.std.specs.Io.KnownBytes.{Appends, Keeps}
 use Rattle.std.specs.declared.alloc.Global.{Global}
-use Rattle.ariadne_accept.specs.declared.accept.LeftOut.{LeftOut}
-use Rattle.ariadne.specs.declared.write_error.WriteError.{WriteError}
-use Rattle.ariadne.specs.declared.write_error.WriteError.TheVariants.{Memory, Io}
-use Rattle.ariadne_accept.specs.Judging.{AreOutcomes, Outcome, drawn_labels, listed}
 use Rattle.ariadne_picture.specs.Margins.{margin_columns}
 use Rattle.ariadne_picture.specs.Report.{ReportFields, World}
 use Rattle.ariadne_picture.specs.Headline.{Headline}
+use Rattle.ariadne_report.specs.declared.accept.LeftOut.{LeftOut}
+use Rattle.ariadne_report.specs.Judging.{AreOutcomes, Outcome, drawn_labels, listed}
+use Rattle.ariadne.specs.declared.write_error.WriteError.{WriteError}
+use Rattle.ariadne.specs.declared.write_error.WriteError.TheVariants.{Memory, Io}
 
 module _ {S Id E : Type 0} (fails : Id → E → Type 0) (old w : World S Id) (r : ReportFields S) where
   -- the bytes are the picture of the labels that are drawn, and on it every message can be found; the

@@ -8,11 +8,11 @@ ghost use Rattle.ariadne_picture.specs.Report.{LabelFields};
 ghost use Rattle.ariadne.specs.Building.{numeric_code, filled_code, GivesAll, GivesMore};
 
 use crate::report::Report;
-use ariadne_accept::content::Content;
 use ariadne_base::Span;
-use ariadne_labels::config::Config;
-use ariadne_labels::kind::ReportKind;
-use ariadne_labels::label::Label;
+use ariadne_report::config::Config;
+use ariadne_report::content::Content;
+use ariadne_report::kind::ReportKind;
+use ariadne_report::label::Label;
 use std::alloc::{AllocError, Global};
 use std::marker::Model;
 use std::ops::Range;
@@ -43,7 +43,7 @@ impl<'a, S: Span> Model for ReportBuilder<'a, S> {
 
 impl<'a, S: Span> ReportBuilder<'a, S> {
     ghost use Rattle.ariadne_picture.specs.Report.{new_report};
-    ghost use Rattle.ariadne_labels.specs.Kinds.{kind_of};
+    ghost use Rattle.ariadne_report.specs.Kinds.{kind_of};
 
     pub(crate) fn new(alloc: Global, kind: ReportKind<'a>, span: S) -> ReportBuilder<'a, S>
         ensures { result ≡ new_report (kind_of kind.entry) span }

@@ -1,7 +1,6 @@
 //! Laws of outcomes of labels, and of the definitions of a picture. A law is the contract of an
 //! empty function: a call of the function states the law.
 
-pub use ariadne_accept::laws::labels_are_drawn_or_listed;
 pub use ariadne_picture::laws::{
     bars_stand_case_by_case, best_is_the_first_unbeaten, blocks_are_whole,
     bytes_draw_as_characters, cells_hold_no_escapes, cells_take_the_columns_of_their_texts,
@@ -19,3 +18,4 @@ pub use ariadne_picture::laws::{
     strokes_have_the_colors_of_their_labels, strokes_lead_to_what_is_seen,
     texts_stand_behind_margin_and_gutter, the_last_gutter_column_has_no_bar,
 };
+pub use ariadne_report::laws::labels_are_drawn_or_listed;

@@ -47,6 +47,7 @@
 #![tactic(auto)]
 
 pub mod builder;
+mod drawing;
 pub mod laws;
 pub mod margins;
 pub mod report;
@@ -61,9 +62,9 @@ pub use ariadne_base::{
     SourceName, SourceTable, SourceText, Span, UnknownNumber, UnknownSource, sources,
 };
 pub use ariadne_color::{Background, Color, ColorGenerator, Fmt, Foreground};
-pub use ariadne_labels::config::{CharSet, Config, IndexType, LabelAttach};
-pub use ariadne_labels::kind::ReportKind;
-pub use ariadne_labels::label::Label;
+pub use ariadne_report::config::{CharSet, Config, IndexType, LabelAttach};
+pub use ariadne_report::kind::ReportKind;
+pub use ariadne_report::label::Label;
 pub use builder::ReportBuilder;
 pub use report::Report;
 pub use retry::RetryInterrupted;

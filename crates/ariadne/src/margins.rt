@@ -1,16 +1,16 @@
 //! The columns of a picture before the source text.
 
 ghost use Rattle.std.specs.Prelude.{◌≡◌, IfOk};
-ghost use Rattle.ariadne_accept.specs.CacheReads.{world};
-ghost use Rattle.ariadne_accept.specs.Judging.{GrowsFor};
+ghost use Rattle.ariadne_report.specs.CacheReads.{world};
+ghost use Rattle.ariadne_report.specs.Judging.{GrowsFor};
 ghost use Rattle.ariadne.specs.Written.{HasMargin};
 
 use crate::builder::ReportBuilder;
 use crate::report::Report;
-use ariadne_accept::accept::accept;
-use ariadne_accept::content::Content;
 use ariadne_base::{Cache, Span};
-use ariadne_render::margins::margin_columns;
+use ariadne_report::accept::accept;
+use ariadne_report::content::Content;
+use ariadne_report::margins::margin_columns;
 use std::alloc::AllocError;
 
 impl<'a, S: Span> Report<'a, S> {

@@ -4,11 +4,11 @@ ghost use Rattle.std.specs.Prelude.{◌≡◌, map, string_bytes};
 ghost use Rattle.std.specs.Option.{option_copied};
 
 use crate::builder::ReportBuilder;
-use ariadne_accept::content::Content;
 use ariadne_base::Span;
-use ariadne_labels::config::Config;
-use ariadne_labels::kind::ReportKind;
-use ariadne_labels::label::Label;
+use ariadne_report::config::Config;
+use ariadne_report::content::Content;
+use ariadne_report::kind::ReportKind;
+use ariadne_report::label::Label;
 use std::alloc::Global;
 use std::marker::Model;
 use std::ops::Range;
@@ -40,7 +40,7 @@ impl<'a, S: Span> Model for Report<'a, S> {
 
 impl<'a, S: Span> Report<'a, S> {
     ghost use Rattle.ariadne_picture.specs.Report.{new_report};
-    ghost use Rattle.ariadne_labels.specs.Kinds.{kind_of};
+    ghost use Rattle.ariadne_report.specs.Kinds.{kind_of};
 
     /// Starts a report of this kind.
     ///

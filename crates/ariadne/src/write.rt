@@ -1,19 +1,19 @@
 //! Writing a report: the labels are checked, the whole picture is made, and then sent.
 
 ghost use Rattle.std.specs.Prelude.{◌≡◌, IfOk, None, string_bytes};
-ghost use Rattle.ariadne_accept.specs.CacheReads.{world};
-ghost use Rattle.ariadne_accept.specs.Judging.{GrowsFor};
+ghost use Rattle.ariadne_report.specs.CacheReads.{world};
+ghost use Rattle.ariadne_report.specs.Judging.{GrowsFor};
 ghost use Rattle.ariadne.specs.Written.{IsPicture, Written};
 ghost use Rattle.ariadne.specs.WriteErrors.{TellsFailure};
 
+use crate::drawing::draw;
 use crate::report::Report;
 use crate::send::{send, send_to};
 use crate::sink::Sink;
 pub use crate::write_error::WriteError;
-use ariadne_accept::accept::accept;
-pub use ariadne_accept::accept::{LeftOut, Reason};
 use ariadne_base::{Cache, Span};
-use ariadne_render::drawing::draw;
+use ariadne_report::accept::accept;
+pub use ariadne_report::accept::{LeftOut, Reason};
 use std::alloc::AllocError;
 use std::io;
 use std::io::{Stderr, Write};

@@ -1,13 +1,18 @@
 -- Rows of a group, one after another, as a pen writes them.
+use Rattle.std.proofs.Common.{ℕ, ◌+◌}
+use Rattle.std.proofs.Common.{refl, append_assoc}
 use Rattle.std.proofs.Common.{◌≡◌, Bool, true, false, List, [], ◌∷◌, ◌++◌, map, sym, ap, ◌∙◌, subst}
 use Rattle.std.specs.Prelude.{if◌then◌else◌}
 use Rattle.std.proofs.lemmas.List.{append-nil, map-append}
-use Rattle.ariadne_cells.specs.Pages.{DrawsRow, DrawsRows, PageFields, PenFields}
-use Rattle.ariadne_cells.proofs.Drawn.{draws_rows-append, draws_rows_none, draws_rows_one}
-use Rattle.ariadne_picture.specs.declared.switches.Switches.{Switches}
+use Rattle.ariadne_picture.specs.Lists.{joined}
+use Rattle.ariadne_picture.specs.Pieces.{section_rows}
 use Rattle.ariadne_picture.specs.Pieces.{Section, Texts, group_header_pieces, row_pieces, spacer_pieces, tail_pieces}
+use Rattle.ariadne_picture.specs.Ranks.{group_lines}
+use Rattle.ariadne_picture.specs.Rows.{line_rows, rows}
 use Rattle.ariadne_picture.specs.Rows.{Row, asides, group_header, help, note, spacer, tail}
-use Rattle.ariadne_rows.specs.Headers.{IsOnPage}
+use Rattle.ariadne_picture.specs.declared.switches.Switches.{Switches}
+use Rattle.ariadne_render.specs.Pages.{DrawsRow, DrawsRows, PageFields, PenFields}
+use Rattle.ariadne_render.proofs.Drawn.{draws_rows-append, draws_rows_none, draws_rows_one}
 
 module _ (t : Texts) (g : Section) where
   -- the helps and the notes of the last group
@@ -101,3 +106,53 @@ module _ (t : Texts) (g : Section) where
       (subst (DrawsRows old new) (sym (map-append f rows (tail ∷ [])))
       (draws_rows-append old mid new (map f rows) (tail_pieces g.sheet.switches.char_set old.page.number_width g.is_last ∷ []) d
       (draws_rows_one mid new (tail_pieces g.sheet.switches.char_set old.page.number_width g.is_last) below)))
+
+-- ---- all of them
+
+module _ (t : Texts) (g : Section) where
+  -- the rows of a group, where the picture is compact or not and the group is the last or not
+  parts : Bool → Bool → List Row
+  parts compact last =
+      group_header ∷ (if compact then [] else spacer ∷ []) ++ joined (line_rows g.sheet) (group_lines g.sheet)
+      ++ (if last then asides compact help t.helps ++ asides compact note t.notes else []) ++ (if compact then [] else tail ∷ [])
+
+  -- they are all its rows
+  parts_are : (width : ℕ) → section_rows t width g ≡ map (row_pieces t width g) (parts g.sheet.switches.compact g.is_last)
+  unfolding section_rows rows parts
+  parts_are width = refl
+
+  -- those above the lines, those of the lines, and those below them
+  parts_split : (compact last : Bool) → parts compact last
+      ≡ (group_header ∷ (if compact then [] else spacer ∷ [])) ++ (joined (line_rows g.sheet) (group_lines g.sheet)
+      ++ ((if last then asides compact help t.helps ++ asides compact note t.notes else []) ++ (if compact then [] else tail ∷ [])))
+  unfolding parts
+  parts_split compact last = simp append_assoc
+
+  -- the rows above the lines, the lines and the rows below them, one after another
+  pub whole_group : (old one two new : PenFields) (last : Bool) → g.sheet.switches ≡ old.page.switches → g.is_last ≡ last
+      → DrawsRows old one (map (row_pieces t old.page.number_width g) (group_header ∷ (if old.page.switches.compact then [] else spacer ∷ [])))
+      → DrawsRows one two (map (row_pieces t one.page.number_width g) (joined (line_rows g.sheet) (group_lines g.sheet)))
+      → DrawsRows two new (map (row_pieces t two.page.number_width g)
+      ((if last then asides two.page.switches.compact help t.helps ++ asides two.page.switches.compact note t.notes else [])
+      ++ (if two.page.switches.compact then [] else tail ∷ [])))
+      → DrawsRows old new (section_rows t old.page.number_width g)
+  whole_group old one two new last sw el above lines below =
+      let f = row_pieces t old.page.number_width g in
+      let compact : Bool = old.page.switches.compact in
+      let page_one : one.page ≡ old.page = ap (λ (x : PenFields). x.page) above in
+      let page_two : two.page ≡ old.page = ap (λ (x : PenFields). x.page) lines ∙ page_one in
+      let a = group_header ∷ (if compact then [] else spacer ∷ []) in
+      let b = joined (line_rows g.sheet) (group_lines g.sheet) in
+      let d = (if last then asides compact help t.helps ++ asides compact note t.notes else []) ++ (if compact then [] else tail ∷ []) in
+      let second : DrawsRows one two (map f b) =
+      subst (DrawsRows one two) (ap (λ (p : PageFields). map (row_pieces t p.number_width g) b) page_one) lines in
+      let third : DrawsRows two new (map f d) =
+      subst (DrawsRows two new) (ap (λ (p : PageFields). map (row_pieces t p.number_width g)
+      ((if last then asides p.switches.compact help t.helps ++ asides p.switches.compact note t.notes else [])
+      ++ (if p.switches.compact then [] else tail ∷ []))) page_two) below in
+      let all : DrawsRows old new (map f a ++ (map f b ++ map f d)) =
+      draws_rows-append old one new (map f a) (map f b ++ map f d) above (draws_rows-append one two new (map f b) (map f d) second third) in
+      let joins : section_rows t old.page.number_width g ≡ map f a ++ (map f b ++ map f d) =
+      parts_are old.page.number_width ∙ (λ i. map f (parts (sw i).compact (el i))) ∙ ap (map f) (parts_split compact last)
+      ∙ map-append f a (b ++ d) ∙ ap (λ z. map f a ++ z) (map-append f b d) in
+      subst (DrawsRows old new) (sym joins) all

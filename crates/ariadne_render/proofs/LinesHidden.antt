@@ -12,8 +12,8 @@ use Rattle.ariadne_picture.specs.Rows.{gap, bare, line_rows, is_inside}
 use Rattle.ariadne_picture.specs.Strokes.{holds}
 use Rattle.ariadne_picture.proofs.Lists.ListFacts.{all-weaker}
 use Rattle.ariadne_picture.proofs.Rows.BarCases.{hidden-margin}
-use Rattle.ariadne_rows.specs.SnippetLabels.{HoldersTouch, touches}
-use Rattle.ariadne_rows.specs.Snippets.{AreOverLines, IsOverLines}
+use Rattle.ariadne_layout.specs.SnippetLabels.{HoldersTouch, touches}
+use Rattle.ariadne_layout.specs.Snippets.{AreOverLines, IsOverLines}
 use Rattle.ariadne_render.specs.DrawnLines.{begins_run}
 
 -- a label over lines that holds a character of one touches it

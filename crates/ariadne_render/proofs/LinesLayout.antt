@@ -19,11 +19,11 @@ use Rattle.ariadne_picture.specs.Ranks.{line_labels, margin_label}
 use Rattle.ariadne_picture.proofs.Labels.LineLabels.{IsEndAt, ends-are}
 use Rattle.ariadne_picture.proofs.Lists.ListFacts.{all-append, all-at, all-filter, all-in_order, all-map, all-weaker}
 use Rattle.ariadne_picture.proofs.Rows.RowsThere.{all-gutter-labels}
-use Rattle.ariadne_rows.specs.SnippetLabels.{events_at, events_of, labels_of, margin_of, ranked}
-use Rattle.ariadne_rows.specs.Snippets.{AreOverLines, IsOverLines}
-use Rattle.ariadne_rows.proofs.Events.{labels-at}
-use Rattle.ariadne_rows.proofs.Ranking.{margin-found, ranked-found}
-use Rattle.ariadne_rows.proofs.SourceLines.{total_is}
+use Rattle.ariadne_layout.specs.SnippetLabels.{events_at, events_of, labels_of, margin_of, ranked}
+use Rattle.ariadne_layout.specs.Snippets.{AreOverLines, IsOverLines}
+use Rattle.ariadne_layout.proofs.Events.{labels-at}
+use Rattle.ariadne_layout.proofs.Ranking.{margin-found, ranked-found}
+use Rattle.ariadne_layout.proofs.SourceLines.{total_is}
 
 -- ---- its labels
 

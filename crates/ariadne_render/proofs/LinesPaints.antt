@@ -16,8 +16,8 @@ use Rattle.ariadne_picture.specs.Ranks.{Sheet, multi_line_labels}
 use Rattle.ariadne_picture.specs.Strokes.{holds}
 use Rattle.ariadne_picture.proofs.Lists.Elements.{Has, all-numbered, list_any-true}
 use Rattle.ariadne_picture.proofs.Lists.ListFacts.{Increasing, all-filter, all-map, all-weaker, increasing-pairs}
-use Rattle.ariadne_rows.specs.SnippetLabels.{HoldersTouch, touches, touching}
-use Rattle.ariadne_rows.proofs.Insides.{left-out}
+use Rattle.ariadne_layout.specs.SnippetLabels.{HoldersTouch, touches, touching}
+use Rattle.ariadne_layout.proofs.Insides.{left-out}
 
 -- the numbers that a filter keeps of an enumerated list are at least the first, and each is below the next
 kept-rise : {X : Type 0} (p : ℕ × X → Bool) (n : ℕ) (xs : List X)

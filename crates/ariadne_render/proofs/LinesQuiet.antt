@@ -7,8 +7,6 @@ use Rattle.std.specs.List.{AllByRecursion, enumerate_from, list_any}
 use Rattle.std.proofs.lemmas.Bool.{cases_Bool, cond-true, cond-false, true≢false}
 use Rattle.std.proofs.lemmas.Option.{slice_get-get_or}
 use Rattle.ariadne_base.specs.Locations.{line_text}
-use Rattle.ariadne_cells.specs.Tables.{IsTable, vertical_of}
-use Rattle.ariadne_cells.specs.declared.table.LineTable.{LineTable}
 use Rattle.ariadne_picture.specs.declared.label_info.LineLabel.{LineLabel}
 use Rattle.ariadne_picture.specs.declared.switches.Switches.{Switches}
 use Rattle.ariadne_picture.specs.Bars.{EndsNoEarlier}
@@ -18,8 +16,10 @@ use Rattle.ariadne_picture.specs.Ranks.{Sheet, is_inline, line_labels, margin_la
 use Rattle.ariadne_picture.specs.Rows.{alternate, are_lone, is_lone, label_rows, lone_rows}
 use Rattle.ariadne_picture.specs.Strokes.{has_vertical, vertical_at}
 use Rattle.ariadne_picture.proofs.Rows.LoneRows.{not-lone}
-use Rattle.ariadne_rows.specs.Gutters.{GutterFields, IsBelow}
-use Rattle.ariadne_rows.proofs.GutterSteps.{below-next_inline, end-message}
+use Rattle.ariadne_layout.specs.Tables.{IsTable, vertical_of}
+use Rattle.ariadne_layout.specs.declared.table.LineTable.{LineTable}
+use Rattle.ariadne_render.specs.Gutters.{GutterFields, IsBelow}
+use Rattle.ariadne_render.proofs.GutterSteps.{below-next_inline, end-message}
 use Rattle.ariadne_render.proofs.LinesRows.{label-none, some-label}
 
 -- neither of two tests passed

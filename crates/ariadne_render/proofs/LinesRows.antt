@@ -5,14 +5,14 @@ use Rattle.std.specs.Prelude.{slice_get}
 use Rattle.std.specs.List.{enumerate_from}
 use Rattle.std.proofs.lemmas.List.{map-append}
 use Rattle.std.proofs.lemmas.Option.{slice_get_within, get_or_from_slice_get}
-use Rattle.ariadne_cells.specs.Pages.{PenFields, DrawsRow, DrawsRows}
-use Rattle.ariadne_cells.proofs.Drawn.{draws_rows-append}
 use Rattle.ariadne_picture.specs.declared.label_info.LineLabel.{LineLabel}
 use Rattle.ariadne_picture.specs.Lists.{joined}
 use Rattle.ariadne_picture.specs.Pieces.{Piece, Section, Texts, row_pieces}
 use Rattle.ariadne_picture.specs.Ranks.{Sheet, is_hidden, line_labels}
 use Rattle.ariadne_picture.specs.Rows.{Row, label_rows, arrow, alternate, line_rows, lone_rows, source}
-use Rattle.ariadne_rows.proofs.Listing.{joined-more}
+use Rattle.ariadne_layout.proofs.Listing.{joined-more}
+use Rattle.ariadne_render.specs.Pages.{PenFields, DrawsRow, DrawsRows}
+use Rattle.ariadne_render.proofs.Drawn.{draws_rows-append}
 
 -- ---- the rows of one label
 

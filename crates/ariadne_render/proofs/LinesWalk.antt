@@ -7,8 +7,6 @@ use Rattle.std.specs.declared.ops.Range.{Range}
 use Rattle.std.proofs.lemmas.Bool.{cases_Bool, cases_lt, le-ltb, lt-ltb, and_right, not_from_false, true≢false}
 use Rattle.std.proofs.lemmas.List.{append-nil, map-append}
 use Rattle.std.proofs.lemmas.Option.{slice_get_within}
-use Rattle.ariadne_cells.specs.Pages.{PenFields, DrawsRows}
-use Rattle.ariadne_cells.proofs.Drawn.{draws_rows-append}
 use Rattle.ariadne_picture.specs.declared.label_info.LabelInfo.{LabelInfo}
 use Rattle.ariadne_picture.specs.Bars.{EndsNoEarlier}
 use Rattle.ariadne_picture.specs.Groups.{greatest, group_end_line, group_start_line}
@@ -20,14 +18,16 @@ use Rattle.ariadne_picture.proofs.Lists.Joined.{joined-append, joined-one}
 use Rattle.ariadne_picture.proofs.Lists.ListFacts.{all-at, all-weaker, none≢some}
 use Rattle.ariadne_picture.proofs.Rows.LineBlock.{range-append}
 use Rattle.ariadne_picture.proofs.Rows.NearLines.{hidden-far, shown-near, shown-with}
-use Rattle.ariadne_rows.specs.declared.snippet_labels.Event.{Event}
-use Rattle.ariadne_rows.specs.Gutters.{GutterFields, IsBeside}
-use Rattle.ariadne_rows.specs.SnippetLabels.{IsLineEnd, events_at, events_of}
-use Rattle.ariadne_rows.proofs.Events.{above, event-labelled, event-lines, label-lines, line-end, line-events, next-line, no_event-unlabelled}
-use Rattle.ariadne_rows.proofs.Events.{none-above, none-between, none-on-line-above, still-above}
-use Rattle.ariadne_rows.specs.Snippets.{AreOverLines, IsOverLines}
+use Rattle.ariadne_layout.specs.declared.snippet_labels.Event.{Event}
+use Rattle.ariadne_layout.specs.SnippetLabels.{IsLineEnd, events_at, events_of}
+use Rattle.ariadne_layout.proofs.Events.{above, event-labelled, event-lines, label-lines, line-end, line-events, next-line, no_event-unlabelled}
+use Rattle.ariadne_layout.proofs.Events.{none-above, none-between, none-on-line-above, still-above}
+use Rattle.ariadne_layout.specs.Snippets.{AreOverLines, IsOverLines}
+use Rattle.ariadne_layout.proofs.LinesShown.{first-label}
+use Rattle.ariadne_render.specs.Pages.{PenFields, DrawsRows}
+use Rattle.ariadne_render.proofs.Drawn.{draws_rows-append}
+use Rattle.ariadne_render.specs.Gutters.{GutterFields, IsBeside}
 use Rattle.ariadne_render.specs.DrawnLines.{AreBetween, begins_run}
-use Rattle.ariadne_rows.proofs.LinesShown.{first-label}
 
 -- ---- the event of a number
 

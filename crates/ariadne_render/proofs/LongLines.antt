@@ -3,8 +3,8 @@ use Rattle.std.proofs.Common.{◌≡◌, ◌∙◌, ℕ, List, Option, Some, Non
 use Rattle.std.specs.Option.{is_some}
 use Rattle.std.specs.Str.{chars, IsUtf8}
 use Rattle.std.proofs.lemmas.Str.{encodes-chars}
-use Rattle.ariadne_cells.specs.Ends.{shown_bytes}
 use Rattle.ariadne_picture.specs.Columns.{Layout, shown}
+use Rattle.ariadne_layout.specs.Ends.{shown_bytes}
 use Rattle.ariadne_render.specs.LongLines.{IsRemembered}
 use Rattle.ariadne_render.specs.declared.long_line.LongLine.{LongLine}
 

@@ -4,12 +4,12 @@ use Rattle.std.specs.Prelude.{◌-◌, ◌&&◌, nat_lt, not}
 use Rattle.std.specs.declared.ops.Range.{Range}
 use Rattle.ariadne_picture.specs.declared.label_info.LabelInfo.{LabelInfo}
 use Rattle.ariadne_picture.specs.Ranks.{Sheet, first_line, is_hidden, is_unlabelled}
+use Rattle.ariadne_layout.specs.SnippetLabels.{events_at, events_of}
+use Rattle.ariadne_layout.specs.Snippets.{IsSnippet, SnippetFields, sheet_in}
 use Rattle.ariadne_render.specs.LongLines.{IsRemembered}
 use Rattle.ariadne_render.specs.declared.lines.Lists.{Lists}
-use Rattle.ariadne_rows.specs.SnippetLabels.{events_at, events_of}
-use Rattle.ariadne_rows.specs.Snippets.{IsSnippet, SnippetFields, sheet_in}
-use Rattle.ariadne_rows.specs.Writers.{IsBesideAt}
-use Rattle.ariadne_rows.specs.declared.writer.Writer.{Writer}
+use Rattle.ariadne_render.specs.Writers.{IsBesideAt}
+use Rattle.ariadne_render.specs.declared.writer.Writer.{Writer}
 
 -- ---- lines without labels
 

@@ -1,5 +1,11 @@
-pub mod DrawnGroups
-pub mod HeaderPlaces
+pub mod Areas
+pub mod AsideKinds
+pub mod Counted
 pub mod DrawnLines
+pub mod Gutters
 pub mod LongLines
-pub mod WholePages
+pub mod Pages
+pub mod RowTexts
+pub mod Seen
+pub mod ShownTexts
+pub mod Writers

@@ -4,20 +4,20 @@
 ghost use Rattle.std.specs.Prelude.{◌≡◌, ◌+◌, ◌++◌, ◌<◌, ◌^◌, IfSome, OnOk, false, length};
 ghost use Rattle.std.specs.Prelude.{slice_get};
 ghost use Rattle.std.specs.List.{enumerate_from, list_any};
-ghost use Rattle.ariadne_cells.specs.Tables.{tab_columns};
 ghost use Rattle.ariadne_picture.specs.Lists.{joined};
 ghost use Rattle.ariadne_picture.specs.Ranks.{is_start};
 ghost use Rattle.ariadne_picture.specs.Rows.{label_rows, lone_rows};
-ghost use Rattle.ariadne_rows.specs.Snippets.{labels_at, layout_at, sheet_at};
-ghost use Rattle.ariadne_rows.specs.Writers.{DrawsRowsOf, IsAtRank, IsBelowAt, IsBesideAt};
-ghost use Rattle.ariadne_rows.specs.Writers.{WritesRowsOf};
+ghost use Rattle.ariadne_layout.specs.Tables.{tab_columns};
+ghost use Rattle.ariadne_layout.specs.Snippets.{labels_at, layout_at, sheet_at};
+ghost use Rattle.ariadne_render.specs.Writers.{DrawsRowsOf, IsAtRank, IsBelowAt, IsBesideAt};
+ghost use Rattle.ariadne_render.specs.Writers.{WritesRowsOf};
 
+use crate::rows::{push_alternate_row, push_arrow_row};
+use crate::writer::Writer;
 use ariadne_base::SourceText;
-use ariadne_cells::table::LineTable;
+use ariadne_layout::snippet_line::SnippetLine;
+use ariadne_layout::table::LineTable;
 use ariadne_picture::label_info::Side;
-use ariadne_rows::rows::{push_alternate_row, push_arrow_row};
-use ariadne_rows::snippet_line::SnippetLine;
-use ariadne_rows::writer::Writer;
 use std::alloc::AllocError;
 
 /// Writes the rows below a line: those of its labels, or one of underlines alone.

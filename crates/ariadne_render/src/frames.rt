@@ -1,27 +1,28 @@
 //! All rows of a snippet: those above its lines, the lines, and those below them.
 
 ghost use Rattle.std.specs.Prelude.{◌≡◌, ◌++◌, [], ◌∷◌, OnOk, if◌then◌else◌};
-ghost use Rattle.ariadne_cells.specs.Pages.{DrawsRows};
 ghost use Rattle.ariadne_picture.specs.Pieces.{section_rows};
 ghost use Rattle.ariadne_picture.specs.Rows.{asides, group_header, help, note, spacer, tail};
+ghost use Rattle.ariadne_layout.specs.Snippets.{sheet_in};
+ghost use Rattle.ariadne_render.specs.Pages.{DrawsRows};
 ghost use Rattle.ariadne_render.specs.DrawnLines.{IsReadyFor};
 ghost use Rattle.ariadne_render.specs.LongLines.{IsRemembered};
-ghost use Rattle.ariadne_rows.specs.Snippets.{rows_of, sheet_in};
-ghost use Rattle.ariadne_rows.specs.Writers.{DrawsRowsOf, IsBehind};
+ghost use Rattle.ariadne_render.specs.RowTexts.{rows_of};
+ghost use Rattle.ariadne_render.specs.Writers.{DrawsRowsOf, IsBehind};
 
+use crate::asides::{AsideKind, push_asides};
+use crate::headers::{push_group_header, push_spacer, push_tail};
 use crate::lines::{Lists, push_lines};
+use crate::pen::Pen;
+use crate::writer::Writer;
 use ariadne_base::SourceText;
-use ariadne_cells::pen::Pen;
-use ariadne_rows::asides::{AsideKind, push_asides};
-use ariadne_rows::headers::{push_group_header, push_spacer, push_tail};
-use ariadne_rows::snippet::Snippet;
-use ariadne_rows::writer::Writer;
+use ariadne_layout::snippet::Snippet;
 use std::alloc::AllocError;
 
 /// Writes all rows of a snippet. The lists are filled with its labels.
 ///
 /// On `Err` there was no memory for them.
-pub(crate) fn push_snippet<I: SourceText>(
+pub fn push_snippet<I: SourceText>(
     writer: &mut Writer<'_>,
     lists: &mut Lists<'_>,
     snippet: &Snippet<'_, I>,

@@ -1,6 +1,9 @@
-//! Drawing the accepted labels of a report: they are cut into groups (`groups`), each of which is made a
-//! snippet (`snippets`). Its lines are drawn one after another (`lines`, `below`) between its header and
-//! its tail (`frames`). What is public here serves `ariadne`, and is no part of its surface.
+//! The rows of a picture: a pen on a page (`pen`), one writer for each kind of row (`headers`, `rows`,
+//! `asides`), and all rows of a snippet (`frames`), whose lines are drawn one after another (`lines`,
+//! `below`). None of it knows the report. What is public here serves `ariadne`, and is no part of its
+//! surface.
+//!
+//! Where a writer returns `Err` there was no memory, and the picture is lost.
 //!
 //! ```text
 //! Error: Incompatible types                       header
@@ -20,11 +23,22 @@
 //! ```
 #![tactic(auto)]
 
+mod area;
+mod asides;
 mod below;
-pub mod drawing;
-mod frames;
-mod groups;
-mod lines;
-mod long_line;
-pub mod margins;
-mod snippets;
+mod counted;
+pub mod frames;
+mod gutter;
+pub mod headers;
+pub mod lines;
+pub mod long_line;
+mod margin;
+mod opening;
+pub mod page;
+pub mod palette;
+mod pen;
+mod rows;
+mod runs;
+mod seen;
+mod shown;
+pub mod writer;

@@ -4,49 +4,49 @@
 ghost use Rattle.std.specs.Prelude.{◌≡◌, ◌+◌, ◌-◌, ◌<◌, ◌≤◌, [], None, OnOk, false, length};
 ghost use Rattle.std.specs.Prelude.{max, min, option_map, slice_get, true};
 ghost use Rattle.std.specs.List.{range_with_len};
-ghost use Rattle.ariadne_cells.specs.Tables.{ArePaints};
 ghost use Rattle.ariadne_picture.specs.Lists.{joined};
 ghost use Rattle.ariadne_picture.specs.Ranks.{first_line, group_lines, is_hidden, last_line};
 ghost use Rattle.ariadne_picture.specs.Ranks.{multi_line_labels};
 ghost use Rattle.ariadne_picture.specs.Rows.{line_rows};
+ghost use Rattle.ariadne_layout.specs.Tables.{ArePaints};
+ghost use Rattle.ariadne_layout.specs.SnippetLabels.{events_of};
+ghost use Rattle.ariadne_layout.specs.Snippets.{layout_at, sheet_at, sheet_in};
 ghost use Rattle.ariadne_render.specs.DrawnLines.{AreBetween, AreContext, AreEventsOf, AreHidden};
 ghost use Rattle.ariadne_render.specs.DrawnLines.{IsAt, begins_run};
-ghost use Rattle.ariadne_rows.specs.SnippetLabels.{events_of};
-ghost use Rattle.ariadne_rows.specs.Snippets.{layout_at, sheet_at, sheet_in};
-ghost use Rattle.ariadne_rows.specs.Writers.{DrawsRowsOf};
+ghost use Rattle.ariadne_render.specs.Writers.{DrawsRowsOf};
 
 use crate::below::{push_rows_below, start_margin};
 use crate::long_line::{LongLine, known_bytes, remember};
+use crate::pen::Pen;
+use crate::rows::{push_bare_row, push_gap_row, push_source_row};
+use crate::writer::Writer;
 use ariadne_base::SourceText;
-use ariadne_cells::cuts::Cuts;
-use ariadne_cells::layout::LineLayout;
-use ariadne_cells::pen::Pen;
-use ariadne_cells::table::LineTable;
+use ariadne_layout::cuts::Cuts;
+use ariadne_layout::layout::LineLayout;
+use ariadne_layout::snippet::Snippet;
+use ariadne_layout::snippet_labels::SnippetLabels;
+use ariadne_layout::snippet_line::SnippetLine;
+use ariadne_layout::table::LineTable;
 use ariadne_picture::label_info::LineLabel;
-use ariadne_rows::rows::{push_bare_row, push_gap_row, push_source_row};
-use ariadne_rows::snippet::Snippet;
-use ariadne_rows::snippet_labels::SnippetLabels;
-use ariadne_rows::snippet_line::SnippetLine;
-use ariadne_rows::writer::Writer;
 use std::alloc::{AllocError, Global};
 use std::ops::Range;
 
 /// The lists of the group and of the line that are drawn. They are made once a picture, and filled
 /// anew for each group and for each line.
 #[derive(Drop)]
-pub(crate) struct Lists<'a> {
-    pub(crate) sheet: SnippetLabels<'a>,
-    pub(crate) labels: Vec<LineLabel>,
-    pub(crate) table: LineTable,
+pub struct Lists<'a> {
+    pub sheet: SnippetLabels<'a>,
+    pub labels: Vec<LineLabel>,
+    pub table: LineTable,
     /// What is seen of the line, where it is cut.
-    pub(crate) cuts: Cuts,
+    pub cuts: Cuts,
     /// The last line of the source that was shown with much white space at its end.
-    pub(crate) long_line: Option<LongLine>,
+    pub long_line: Option<LongLine>,
 }
 
 impl<'a> Lists<'a> {
     /// Lists of no group.
-    pub(crate) fn new(alloc: Global) -> Lists<'a>
+    pub fn new(alloc: Global) -> Lists<'a>
         ensures sheet { result.sheet ≡ record { labels = []; line = 0 } }
         ensures labels { result.labels.items ≡ [] }
         ensures table { result.table.len ≡ 0 }

@@ -9,8 +9,8 @@ use Rattle.ariadne_base.specs.Listing.{Listing}
 use Rattle.ariadne_picture.specs.declared.label_info.LabelInfo.{LabelInfo}
 use Rattle.ariadne_picture.specs.Report.{LabelFields, World}
 use Rattle.ariadne_worked.proofs.Sample.{Span, world, one, label, label_in, byte_config, drawn}
-use Rattle.ariadne_accept.specs.declared.accept.Reason.TheVariants.{Unfetched, PastSource, CutsCharacter}
-use Rattle.ariadne_accept.specs.Judging.{AreOutcomes, GrowsFor, Outcome, drawn_as, left_out_for}
+use Rattle.ariadne_report.specs.declared.accept.Reason.TheVariants.{Unfetched, PastSource, CutsCharacter}
+use Rattle.ariadne_report.specs.Judging.{AreOutcomes, GrowsFor, Outcome, drawn_as, left_out_for}
 
 -- ---- caches, and labels in bytes
 

@@ -9,10 +9,10 @@ use Rattle.ariadne_base.specs.Listing.{Listing}
 use Rattle.ariadne_picture.specs.Report.{World, ReportFields}
 use Rattle.ariadne_picture.specs.Headline.{Headline}
 use Rattle.ariadne_worked.proofs.Sample.{Span, report, label, utf8, drawn}
-use Rattle.ariadne_accept.specs.declared.accept.LeftOut.{LeftOut}
-use Rattle.ariadne_accept.specs.declared.accept.Reason.TheVariants.{Unfetched, PastSource, CutsCharacter}
-use Rattle.ariadne_accept.specs.CacheReads.{world}
-use Rattle.ariadne_accept.specs.Judging.{AreOutcomes, Outcome, drawn_as, left_out_for, listed}
+use Rattle.ariadne_report.specs.declared.accept.LeftOut.{LeftOut}
+use Rattle.ariadne_report.specs.declared.accept.Reason.TheVariants.{Unfetched, PastSource, CutsCharacter}
+use Rattle.ariadne_report.specs.CacheReads.{world}
+use Rattle.ariadne_report.specs.Judging.{AreOutcomes, Outcome, drawn_as, left_out_for, listed}
 use Rattle.ariadne.specs.declared.write_error.WriteError.{WriteError}
 use Rattle.ariadne.specs.declared.write_error.WriteError.TheVariants.{Memory, Io}
 use Rattle.ariadne.specs.Written.{IsPicture, Written}

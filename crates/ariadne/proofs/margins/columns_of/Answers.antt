@@ -1,9 +1,9 @@
 -- The columns are those of the labels that were accepted.
 use Rattle.std.proofs.Common.{ap, ◌∙◌}
 use Rattle.std.proofs.lemmas.Result.{IfOk-weaker}
-use Rattle.ariadne_accept.specs.CacheReads.{world}
 use Rattle.ariadne_picture.specs.Margins.{margin_columns}
-use Rattle.ariadne_accept.proofs.Outcomes.{are-accepted}
+use Rattle.ariadne_report.specs.CacheReads.{world}
+use Rattle.ariadne_report.proofs.Outcomes.{are-accepted}
 use Rattle.ariadne.proofs.margins.columns_of.Goals as goal
 
 -- the accepted labels are over sources that the cache holds

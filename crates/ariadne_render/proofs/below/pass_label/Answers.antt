@@ -1,12 +1,12 @@
 -- The bars and the table are those of the next rank.
 use Rattle.std.proofs.Common.{rules, ◌∙◌, ap, refl, sym}
-use Rattle.ariadne_rows.specs.Gutters.{GutterFields}
-use Rattle.ariadne_rows.proofs.GutterSteps.{below-next_inline, column-within}
-use Rattle.ariadne_rows.proofs.KnownSnippets.{rise}
-use Rattle.ariadne_rows.specs.Snippets.{layout_at, sheet_at}
-use Rattle.ariadne_render.proofs.LinesQuiet.{label-less, label-read}
 use Rattle.std.proofs.lemmas.Result.{on_ok_weaker}
-use Rattle.ariadne_render.proofs.KnownSnippets.{below-set, table-passed}
+use Rattle.ariadne_layout.specs.Snippets.{layout_at, sheet_at}
+use Rattle.ariadne_render.specs.Gutters.{GutterFields}
+use Rattle.ariadne_render.proofs.GutterSteps.{below-next_inline, column-within}
+use Rattle.ariadne_render.proofs.KnownSnippets.{rise}
+use Rattle.ariadne_render.proofs.LinesQuiet.{label-less, label-read}
+use Rattle.ariadne_render.proofs.KnownLines.{below-set, table-passed}
 use Rattle.ariadne_render.proofs.below.pass_label.Goals as goal
 
 -- the label is there

@@ -2,17 +2,18 @@
 use Rattle.std.proofs.Common.{◌≡◌, ◌∙◌, ◌<◌, ◌^◌, false, true, length, refl, sym, ap, subst, arith, [], ◌∷◌}
 use Rattle.std.specs.List.{list_any}
 use Rattle.std.proofs.lemmas.Result.{on_ok_weaker}
-use Rattle.ariadne_cells.specs.Pages.{PageFields}
-use Rattle.ariadne_cells.specs.Tables.{IsTable}
-use Rattle.ariadne_cells.proofs.Drawn.{draws_rows_none, draws_rows_one}
 use Rattle.ariadne_picture.specs.declared.label_info.LineLabel.{LineLabel}
 use Rattle.ariadne_picture.specs.declared.switches.Switches.{Switches}
 use Rattle.ariadne_picture.specs.Columns.{Layout, arrow_len}
 use Rattle.ariadne_picture.specs.Ranks.{Sheet}
 use Rattle.ariadne_picture.specs.Rows.{alternate, is_lone, lone_rows}
 use Rattle.ariadne_picture.proofs.Rows.LoneRows.{lone}
-use Rattle.ariadne_rows.specs.Snippets.{labels_at, layout_at, row_of, sheet_at}
-use Rattle.ariadne_rows.proofs.KnownSnippets.{gutter-switches, rise}
+use Rattle.ariadne_layout.specs.Tables.{IsTable}
+use Rattle.ariadne_layout.specs.Snippets.{labels_at, layout_at, sheet_at}
+use Rattle.ariadne_render.specs.Pages.{PageFields}
+use Rattle.ariadne_render.proofs.Drawn.{draws_rows_none, draws_rows_one}
+use Rattle.ariadne_render.specs.RowTexts.{row_of}
+use Rattle.ariadne_render.proofs.KnownSnippets.{gutter-switches, rise}
 use Rattle.ariadne_render.proofs.LinesLayout.{places-fit}
 use Rattle.ariadne_render.proofs.LinesQuiet.{layout-labels, quiet-bars, quiet-table, lone-row, no-lone-row, lone-asked}
 use Rattle.ariadne_render.proofs.LinesRows.{rows-of}

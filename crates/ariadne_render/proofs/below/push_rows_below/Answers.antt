@@ -4,20 +4,21 @@ use Rattle.std.specs.Prelude.{IfSome, Option}
 use Rattle.std.specs.List.{enumerate_from, list_any}
 use Rattle.std.proofs.lemmas.List.{append-nil}
 use Rattle.std.proofs.lemmas.Result.{on_ok_weaker}
-use Rattle.ariadne_cells.specs.Pages.{DrawsRows, PageFields}
-use Rattle.ariadne_cells.specs.Tables.{IsTable}
-use Rattle.ariadne_cells.proofs.Drawn.{draws_rows_none, rows_page}
 use Rattle.ariadne_picture.specs.declared.label_info.LineLabel.{LineLabel}
 use Rattle.ariadne_picture.specs.declared.switches.Switches.{Switches}
 use Rattle.ariadne_picture.specs.Columns.{Layout, arrow_len}
 use Rattle.ariadne_picture.specs.Lists.{joined}
 use Rattle.ariadne_picture.specs.Ranks.{Sheet}
 use Rattle.ariadne_picture.specs.Rows.{Row, label_rows, lone_rows}
-use Rattle.ariadne_rows.specs.Snippets.{labels_at, layout_at, rows_of, sheet_at}
-use Rattle.ariadne_rows.specs.Writers.{IsBelowAt, WritesRows}
-use Rattle.ariadne_rows.proofs.KnownSnippets.{rise}
-use Rattle.ariadne_rows.proofs.Listing.{all-enumerated}
-use Rattle.ariadne_render.proofs.KnownSnippets.{below-kept, rank-kept}
+use Rattle.ariadne_layout.specs.Tables.{IsTable}
+use Rattle.ariadne_layout.specs.Snippets.{labels_at, layout_at, sheet_at}
+use Rattle.ariadne_layout.proofs.Listing.{all-enumerated}
+use Rattle.ariadne_render.specs.Pages.{DrawsRows, PageFields}
+use Rattle.ariadne_render.proofs.Drawn.{draws_rows_none, rows_page}
+use Rattle.ariadne_render.specs.RowTexts.{rows_of}
+use Rattle.ariadne_render.specs.Writers.{IsBelowAt, WritesRows}
+use Rattle.ariadne_render.proofs.KnownSnippets.{rise}
+use Rattle.ariadne_render.proofs.KnownLines.{below-kept, rank-kept}
 use Rattle.ariadne_render.proofs.LinesLayout.{places-fit}
 use Rattle.ariadne_render.proofs.LinesQuiet.{layout-labels, messages-not-lone, no-lone-row, quiet-bars, quiet-rows}
 use Rattle.ariadne_render.proofs.LinesRows.{labels-more, rows-of, some-label}

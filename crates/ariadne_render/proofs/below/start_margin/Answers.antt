@@ -4,10 +4,10 @@ use Rattle.std.proofs.lemmas.Bool.{true≢false}
 use Rattle.std.proofs.lemmas.Result.{on_ok_weaker}
 use Rattle.ariadne_picture.proofs.Rows.BarCases.{side-starts, start-side}
 use Rattle.ariadne_picture.specs.Ranks.{margin_label}
-use Rattle.ariadne_rows.specs.Gutters.{GutterFields}
-use Rattle.ariadne_rows.specs.Snippets.{sheet_at}
-use Rattle.ariadne_rows.proofs.GutterSteps.{beside-below, beside-below_start, margin-column-within, margin-ends}
-use Rattle.ariadne_rows.proofs.KnownSnippets.{rise}
+use Rattle.ariadne_layout.specs.Snippets.{sheet_at}
+use Rattle.ariadne_render.specs.Gutters.{GutterFields}
+use Rattle.ariadne_render.proofs.GutterSteps.{beside-below, beside-below_start, margin-column-within, margin-ends}
+use Rattle.ariadne_render.proofs.KnownSnippets.{rise}
 use Rattle.ariadne_render.proofs.LinesQuiet.{layout-margin}
 use Rattle.ariadne_render.proofs.below.start_margin.Given.{Over}
 use Rattle.ariadne_render.proofs.below.start_margin.Goals.{After-margin}

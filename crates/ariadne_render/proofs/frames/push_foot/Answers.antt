@@ -2,15 +2,16 @@
 use Rattle.std.proofs.Common.{◌∙◌, ◌++◌, [], ap, refl, subst, sym}
 use Rattle.std.specs.Prelude.{if◌then◌else◌}
 use Rattle.std.proofs.lemmas.Result.{on_ok_weaker}
-use Rattle.ariadne_cells.specs.Pages.{DrawsRows, PageFields}
-use Rattle.ariadne_cells.proofs.Drawn.{page_kept, rows_page}
 use Rattle.ariadne_picture.specs.Pieces.{aside_texts}
 use Rattle.ariadne_picture.specs.Rows.{asides, help, note}
-use Rattle.ariadne_rows.specs.Gutters.{GutterFields, IsOfSheet}
-use Rattle.ariadne_rows.specs.Snippets.{rows_of, sheet_in}
-use Rattle.ariadne_rows.specs.Writers.{IsBehind}
-use Rattle.ariadne_rows.specs.declared.writer.Writer.{Writer}
-use Rattle.ariadne_rows.proofs.KnownSnippets.{behind-kept, gutter-switches}
+use Rattle.ariadne_layout.specs.Snippets.{sheet_in}
+use Rattle.ariadne_render.specs.Pages.{DrawsRows, PageFields}
+use Rattle.ariadne_render.proofs.Drawn.{page_kept, rows_page}
+use Rattle.ariadne_render.specs.Gutters.{GutterFields, IsOfSheet}
+use Rattle.ariadne_render.specs.RowTexts.{rows_of}
+use Rattle.ariadne_render.specs.Writers.{IsBehind}
+use Rattle.ariadne_render.specs.declared.writer.Writer.{Writer}
+use Rattle.ariadne_render.proofs.KnownSnippets.{behind-kept, gutter-switches}
 use Rattle.ariadne_render.proofs.GroupRows.{both_asides, foot_long, foot_short, no_asides}
 use Rattle.ariadne_render.proofs.frames.push_foot.Given.{Over}
 use Rattle.ariadne_render.proofs.frames.push_foot.Goals.{After-switches}

@@ -1,15 +1,15 @@
 -- The rows above the lines, the lines, and the rows below them.
 use Rattle.std.proofs.Common.{◌≡◌, ◌∙◌, ap, arith, false, length, map, refl, replicate, sym}
 use Rattle.std.proofs.lemmas.Result.{on_ok_weaker}
-use Rattle.ariadne_cells.specs.Pages.{PageFields}
-use Rattle.ariadne_cells.proofs.Drawn.{rows_page}
 use Rattle.ariadne_picture.specs.declared.label_info.LabelInfo.{LabelInfo}
 use Rattle.ariadne_picture.specs.Ranks.{Sheet, gutter_labels}
-use Rattle.ariadne_rows.specs.Gutters.{GutterFields}
-use Rattle.ariadne_rows.specs.SnippetLabels.{LabelsFields}
-use Rattle.ariadne_rows.specs.Snippets.{sheet_in}
-use Rattle.ariadne_rows.proofs.GutterSteps.{first-line}
-use Rattle.ariadne_render.proofs.GroupParts.{whole_group}
+use Rattle.ariadne_layout.specs.SnippetLabels.{LabelsFields}
+use Rattle.ariadne_layout.specs.Snippets.{sheet_in}
+use Rattle.ariadne_render.specs.Pages.{PageFields}
+use Rattle.ariadne_render.proofs.Drawn.{rows_page}
+use Rattle.ariadne_render.specs.Gutters.{GutterFields}
+use Rattle.ariadne_render.proofs.GutterSteps.{first-line}
+use Rattle.ariadne_render.proofs.GroupRows.{whole_group}
 use Rattle.ariadne_render.proofs.frames.push_snippet.Goals as goal
 
 -- the switches are those of the page

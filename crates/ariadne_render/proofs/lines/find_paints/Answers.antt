@@ -3,8 +3,8 @@ use Rattle.std.proofs.Common.{◌≡◌, ◌∙◌, ◌+◌, ◌<◌, ap, false,
 use Rattle.ariadne_picture.specs.Columns.{Layout, shown}
 use Rattle.ariadne_picture.specs.Ranks.{multi_line_labels}
 use Rattle.ariadne_picture.specs.Strokes.{holds}
-use Rattle.ariadne_rows.specs.SnippetLabels.{LabelsFields, touching}
-use Rattle.ariadne_rows.specs.Snippets.{sheet_at}
+use Rattle.ariadne_layout.specs.SnippetLabels.{LabelsFields, touching}
+use Rattle.ariadne_layout.specs.Snippets.{sheet_at}
 use Rattle.ariadne_render.proofs.LinesHidden.{holders-touch}
 use Rattle.ariadne_render.proofs.LinesPaints.{numbers-strict, numbers-within, others-hold-none}
 use Rattle.ariadne_render.proofs.lines.find_paints.Given.{Over}

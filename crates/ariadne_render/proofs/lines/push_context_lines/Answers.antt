@@ -1,12 +1,13 @@
 -- A line without labels is written as one that has some, but of no events.
 use Rattle.std.proofs.Common.{◌≡◌, ◌∙◌, ◌+◌, ◌-◌, [], ◌++◌, sym, ap, subst, arith}
 use Rattle.std.specs.List.{range_with_len}
-use Rattle.ariadne_cells.specs.Pages.{DrawsRows, PageFields}
-use Rattle.ariadne_cells.proofs.Drawn.{draws_rows_none, rows_page}
 use Rattle.ariadne_picture.specs.Lists.{joined}
 use Rattle.ariadne_picture.specs.Rows.{line_rows}
-use Rattle.ariadne_rows.specs.Snippets.{rows_of, sheet_in}
-use Rattle.ariadne_rows.proofs.Events.{unlabelled-no_event}
+use Rattle.ariadne_layout.specs.Snippets.{sheet_in}
+use Rattle.ariadne_layout.proofs.Events.{unlabelled-no_event}
+use Rattle.ariadne_render.specs.Pages.{DrawsRows, PageFields}
+use Rattle.ariadne_render.proofs.Drawn.{draws_rows_none, rows_page}
+use Rattle.ariadne_render.specs.RowTexts.{rows_of}
 use Rattle.ariadne_render.specs.DrawnLines.{IsAt}
 use Rattle.ariadne_render.proofs.LinesRows.{rows-of}
 use Rattle.ariadne_render.proofs.LinesWalk.{names-append, run-empty, run-one, runs-join}

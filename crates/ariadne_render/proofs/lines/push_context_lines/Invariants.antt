@@ -1,10 +1,11 @@
 -- The lines so far are written.
 use Rattle.std.proofs.Common.{◌-◌}
 use Rattle.std.specs.List.{range_with_len}
-use Rattle.ariadne_cells.specs.Pages.{DrawsRows}
 use Rattle.ariadne_picture.specs.Lists.{joined}
 use Rattle.ariadne_picture.specs.Rows.{line_rows}
-use Rattle.ariadne_rows.specs.Snippets.{rows_of, sheet_in}
+use Rattle.ariadne_layout.specs.Snippets.{sheet_in}
+use Rattle.ariadne_render.specs.Pages.{DrawsRows}
+use Rattle.ariadne_render.specs.RowTexts.{rows_of}
 use Rattle.ariadne_render.specs.DrawnLines.{IsAt}
 use Rattle.ariadne_render.proofs.lines.push_context_lines.Given as goal
 

@@ -2,17 +2,18 @@
 use Rattle.std.proofs.Common.{◌≡◌, ◌∙◌, sym, ap, arith, length, true, false, [], ◌∷◌}
 use Rattle.std.proofs.lemmas.Result.{on_ok_weaker}
 use Rattle.ariadne_base.specs.Locations.{line_offset}
-use Rattle.ariadne_cells.proofs.Drawn.{draws_rows_none, draws_rows_one, page_kept}
 use Rattle.ariadne_picture.specs.declared.switches.Switches.{Switches}
 use Rattle.ariadne_picture.specs.Ranks.{Sheet}
 use Rattle.ariadne_picture.specs.Rows.{bare, gap, is_inside, line_rows}
-use Rattle.ariadne_rows.specs.SnippetLabels.{LabelsFields, is_held}
-use Rattle.ariadne_rows.specs.Snippets.{row_of, sheet_in}
-use Rattle.ariadne_rows.proofs.Insides.{inside-found}
-use Rattle.ariadne_rows.proofs.KnownSnippets.{gutter-switches, on-page}
+use Rattle.ariadne_layout.specs.SnippetLabels.{LabelsFields, is_held}
+use Rattle.ariadne_layout.specs.Snippets.{sheet_in}
+use Rattle.ariadne_layout.proofs.Insides.{inside-found}
+use Rattle.ariadne_render.proofs.Drawn.{draws_rows_none, draws_rows_one, page_kept}
+use Rattle.ariadne_render.specs.RowTexts.{row_of}
+use Rattle.ariadne_render.proofs.KnownSnippets.{gutter-switches, on-page}
 use Rattle.ariadne_render.proofs.LinesHidden.{holders-touch, run-bare, run-gap, run-none}
 use Rattle.ariadne_render.proofs.LinesRows.{rows-of}
-use Rattle.ariadne_render.proofs.KnownSnippets.{beside-kept, one-row, page-compact}
+use Rattle.ariadne_render.proofs.KnownLines.{beside-kept, one-row, page-compact}
 use Rattle.ariadne_render.proofs.lines.push_hidden.Given.{Over}
 use Rattle.ariadne_render.proofs.lines.push_hidden.Goals.{After-is_inside}
 use Rattle.ariadne_render.proofs.lines.push_hidden.Goals as goal

@@ -2,12 +2,12 @@
 use Rattle.std.proofs.Common.{◌-◌, [], arith}
 use Rattle.std.specs.List.{range_with_len}
 use Rattle.std.proofs.lemmas.Result.{on_ok_weaker}
-use Rattle.ariadne_cells.proofs.Drawn.{draws_rows_none}
 use Rattle.ariadne_picture.specs.Lists.{joined}
 use Rattle.ariadne_picture.specs.Ranks.{Sheet}
 use Rattle.ariadne_picture.specs.Rows.{line_rows}
-use Rattle.ariadne_rows.specs.Snippets.{sheet_in}
-use Rattle.ariadne_render.proofs.KnownSnippets.{at-behind}
+use Rattle.ariadne_layout.specs.Snippets.{sheet_in}
+use Rattle.ariadne_render.proofs.Drawn.{draws_rows_none}
+use Rattle.ariadne_render.proofs.KnownLines.{at-behind}
 use Rattle.ariadne_render.proofs.LinesRows.{rows-of}
 use Rattle.ariadne_render.proofs.LinesWalk.{run-empty, run-hidden}
 use Rattle.ariadne_render.proofs.lines.push_hidden_lines.Goals as goal

@@ -4,24 +4,25 @@ use Rattle.std.specs.Prelude.{option_to_list, slice_range}
 use Rattle.std.specs.List.{enumerate_from}
 use Rattle.std.specs.Str.{drop_trailing_whitespace}
 use Rattle.std.proofs.lemmas.Result.{on_ok_weaker}
-use Rattle.ariadne_cells.specs.Cuts.{sights_in}
-use Rattle.ariadne_cells.specs.Pages.{DrawsRows, PageFields, PenFields}
-use Rattle.ariadne_cells.specs.Tables.{tab_columns}
-use Rattle.ariadne_cells.specs.declared.stretches.Stretch.{Stretch}
-use Rattle.ariadne_cells.proofs.Drawn.{draws_rows_one}
 use Rattle.ariadne_picture.specs.declared.label_info.LabelInfo.{LabelInfo}
 use Rattle.ariadne_picture.specs.declared.switches.Switches.{Switches}
 use Rattle.ariadne_picture.specs.Columns.{sights_of}
 use Rattle.ariadne_picture.specs.Lists.{joined}
 use Rattle.ariadne_picture.specs.Ranks.{Sheet, line_labels}
 use Rattle.ariadne_picture.specs.Rows.{label_rows, line_rows, lone_rows, source}
-use Rattle.ariadne_rows.specs.Gutters.{IsBelow}
-use Rattle.ariadne_rows.specs.SnippetLabels.{events_of, labels_of, margin_of, ranked}
-use Rattle.ariadne_rows.specs.Snippets.{LineFields, labels_at, layout_at, row_of, rows_of, sheet_at, sheet_in}
-use Rattle.ariadne_rows.specs.Writers.{ArePaintsAt, IsBesideAt, WritesRow}
-use Rattle.ariadne_rows.proofs.GutterSteps.{below-beside}
-use Rattle.ariadne_rows.proofs.KnownSnippets.{gutter-switches, rise}
-use Rattle.ariadne_render.proofs.KnownSnippets.{beside-kept, one-row}
+use Rattle.ariadne_layout.specs.Cuts.{sights_in}
+use Rattle.ariadne_layout.specs.Tables.{tab_columns}
+use Rattle.ariadne_layout.specs.declared.stretches.Stretch.{Stretch}
+use Rattle.ariadne_layout.specs.SnippetLabels.{events_of, labels_of, margin_of, ranked}
+use Rattle.ariadne_layout.specs.Snippets.{LineFields, labels_at, layout_at, sheet_at, sheet_in}
+use Rattle.ariadne_render.specs.Pages.{DrawsRows, PageFields, PenFields}
+use Rattle.ariadne_render.proofs.Drawn.{draws_rows_one}
+use Rattle.ariadne_render.specs.Gutters.{IsBelow}
+use Rattle.ariadne_render.specs.RowTexts.{row_of, rows_of}
+use Rattle.ariadne_render.specs.Writers.{ArePaintsAt, IsBesideAt, WritesRow}
+use Rattle.ariadne_render.proofs.GutterSteps.{below-beside}
+use Rattle.ariadne_render.proofs.KnownSnippets.{gutter-switches, rise}
+use Rattle.ariadne_render.proofs.KnownLines.{beside-kept, one-row}
 use Rattle.ariadne_render.proofs.LinesLayout.{layout-is, margin-there, ranked-there}
 use Rattle.ariadne_render.proofs.LinesQuiet.{layout-text}
 use Rattle.ariadne_render.proofs.LinesRows.{line-shown, row-page}

@@ -3,18 +3,19 @@ use Rattle.std.proofs.Common.{◌≡◌, ◌∙◌, ℕ, suc, ◌+◌, ◌-◌, 
 use Rattle.std.specs.Prelude.{Option, option_map, slice_get}
 use Rattle.std.specs.List.{range_with_len}
 use Rattle.std.proofs.lemmas.Result.{on_ok_weaker}
-use Rattle.ariadne_cells.specs.Pages.{DrawsRows, PageFields}
-use Rattle.ariadne_cells.proofs.Drawn.{draws_rows_none, rows_page}
 use Rattle.ariadne_picture.specs.declared.label_info.LabelInfo.{LabelInfo}
 use Rattle.ariadne_picture.specs.declared.switches.Switches.{Switches}
 use Rattle.ariadne_picture.specs.Lists.{joined}
 use Rattle.ariadne_picture.specs.Ranks.{Sheet, first_line, group_lines, last_line}
 use Rattle.ariadne_picture.specs.Rows.{line_rows}
-use Rattle.ariadne_rows.specs.declared.snippet_labels.Event.{Event}
-use Rattle.ariadne_rows.specs.SnippetLabels.{IsLineEnd, events_of}
-use Rattle.ariadne_rows.specs.Snippets.{rows_of, sheet_in}
+use Rattle.ariadne_layout.specs.declared.snippet_labels.Event.{Event}
+use Rattle.ariadne_layout.specs.SnippetLabels.{IsLineEnd, events_of}
+use Rattle.ariadne_layout.specs.Snippets.{sheet_in}
+use Rattle.ariadne_render.specs.Pages.{DrawsRows, PageFields}
+use Rattle.ariadne_render.proofs.Drawn.{draws_rows_none, rows_page}
+use Rattle.ariadne_render.specs.RowTexts.{rows_of}
 use Rattle.ariadne_render.specs.DrawnLines.{IsAt}
-use Rattle.ariadne_rows.proofs.KnownSnippets.{rise}
+use Rattle.ariadne_render.proofs.KnownSnippets.{rise}
 use Rattle.ariadne_render.proofs.LinesRows.{rows-of}
 use Rattle.ariadne_render.proofs.LinesWalk.{IsStep, IsWalked, end-before_last, last-within, last_shown-within, names-append}
 use Rattle.ariadne_render.proofs.LinesWalk.{run-empty, run-one, runs-join, step, walk-end, walk-start}

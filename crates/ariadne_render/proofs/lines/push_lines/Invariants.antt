@@ -1,12 +1,13 @@
 -- The lines so far are written: the next event is the first that is not above the line, and the lines near those above are told.
 use Rattle.std.proofs.Common.{◌+◌, ◌-◌, length}
 use Rattle.std.specs.List.{range_with_len}
-use Rattle.ariadne_cells.specs.Pages.{DrawsRows}
 use Rattle.ariadne_picture.specs.Groups.{group_end_line}
 use Rattle.ariadne_picture.specs.Lists.{joined}
 use Rattle.ariadne_picture.specs.Ranks.{first_line}
 use Rattle.ariadne_picture.specs.Rows.{line_rows}
-use Rattle.ariadne_rows.specs.Snippets.{rows_of, sheet_in}
+use Rattle.ariadne_layout.specs.Snippets.{sheet_in}
+use Rattle.ariadne_render.specs.Pages.{DrawsRows}
+use Rattle.ariadne_render.specs.RowTexts.{rows_of}
 use Rattle.ariadne_render.specs.DrawnLines.{IsAt}
 use Rattle.ariadne_render.proofs.LinesWalk.{IsWalked}
 use Rattle.ariadne_render.proofs.lines.push_lines.Given as goal

@@ -2,11 +2,12 @@
 use Rattle.std.proofs.Common.{◌≡◌, ◌∙◌, ◌-◌, sym, subst, arith}
 use Rattle.std.specs.List.{range_with_len}
 use Rattle.std.proofs.lemmas.Result.{on_ok_weaker}
-use Rattle.ariadne_cells.specs.Pages.{DrawsRows, PageFields}
-use Rattle.ariadne_cells.proofs.Drawn.{rows_page}
 use Rattle.ariadne_picture.specs.Lists.{joined}
 use Rattle.ariadne_picture.specs.Rows.{line_rows}
-use Rattle.ariadne_rows.specs.Snippets.{rows_of, sheet_in}
+use Rattle.ariadne_layout.specs.Snippets.{sheet_in}
+use Rattle.ariadne_render.specs.Pages.{DrawsRows, PageFields}
+use Rattle.ariadne_render.proofs.Drawn.{rows_page}
+use Rattle.ariadne_render.specs.RowTexts.{rows_of}
 use Rattle.ariadne_render.proofs.LinesWalk.{names-append, runs-join}
 use Rattle.ariadne_render.proofs.lines.push_lines_between.Given.{Over}
 use Rattle.ariadne_render.proofs.lines.push_lines_between.Goals.{In_ok-push_hidden_lines}

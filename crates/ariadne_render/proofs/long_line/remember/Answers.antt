@@ -1,6 +1,6 @@
 -- What is remembered is read off the layout.
 use Rattle.std.proofs.Common.{ap, ◌∙◌}
-use Rattle.ariadne_cells.specs.Ends.{shown_bytes}
+use Rattle.ariadne_layout.specs.Ends.{shown_bytes}
 use Rattle.ariadne_render.proofs.LongLines.{bytes_shown}
 use Rattle.ariadne_render.proofs.long_line.remember.Goals as goal
 

@@ -1,11 +1,11 @@
 -- What is drawn is what was accepted.
 use Rattle.std.proofs.Common.{ap, ◌∙◌}
-use Rattle.ariadne_accept.specs.CacheReads.{world}
 use Rattle.ariadne_picture.specs.Canvas.{canvas}
 use Rattle.ariadne_picture.specs.Print.{printed}
 use Rattle.ariadne_picture.proofs.Reading.EveryHeadline.{every-headline}
-use Rattle.ariadne_accept.proofs.Judging.{one_source}
-use Rattle.ariadne_accept.proofs.Outcomes.{are-accepted}
+use Rattle.ariadne_report.specs.CacheReads.{world}
+use Rattle.ariadne_report.proofs.Judging.{one_source}
+use Rattle.ariadne_report.proofs.Outcomes.{are-accepted}
 use Rattle.ariadne.proofs.report.Report.picture.Goals as goal
 
 -- the accepted labels are drawn over sources that the cache holds

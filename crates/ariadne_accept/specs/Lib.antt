@@ -1,4 +1,0 @@
-pub mod Counting
-pub mod CacheReads
-pub mod Judging
-pub mod Progress

@@ -1,5 +1,0 @@
--- each call drops a digit
-use Rattle.ariadne_cells.proofs.margin.+decimal_len.Given as goal
-
-abbrev pub decreases-decimal_len : goal.decreases-decimal_len
-decreases-decimal_len l = l.number

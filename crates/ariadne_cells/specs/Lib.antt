@@ -1,9 +1,0 @@
-pub mod Candidates
-pub mod Choices
-pub mod Cuts
-pub mod Ends
-pub mod Falling
-pub mod Knots
-pub mod Pages
-pub mod Parts
-pub mod Tables

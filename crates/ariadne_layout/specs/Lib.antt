@@ -1,0 +1,11 @@
+pub mod Candidates
+pub mod Choices
+pub mod Cuts
+pub mod Ends
+pub mod Falling
+pub mod Knots
+pub mod LabelLists
+pub mod Parts
+pub mod SnippetLabels
+pub mod Snippets
+pub mod Tables

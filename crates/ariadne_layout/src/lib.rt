@@ -1,0 +1,26 @@
+//! What a picture shows, before any of it is drawn: the texts of a report, a group over its source as a
+//! snippet (`snippet`), the labels of a group by line (`snippet_labels`), and what is seen at each place of
+//! a line (`layout`, `cuts`, `line_columns`, `table`). What is public here serves the crates above, and is
+//! no part of the surface of `ariadne`.
+//!
+//! Lines, ranks, columns and places count from 0; places and offsets count characters.
+#![tactic(auto)]
+
+mod candidates;
+mod choice;
+pub mod columns;
+pub mod cuts;
+pub mod digits;
+mod label_lists;
+pub mod layout;
+mod line_columns;
+mod line_text;
+pub mod order;
+mod parts;
+pub mod snippet;
+pub mod snippet_labels;
+pub mod snippet_line;
+pub mod stretches;
+pub mod table;
+pub mod texts;
+pub mod verticals;

@@ -1,0 +1,47 @@
+use Rattle.std.proofs.Common.{◌≡◌, ◌+◌, arith}
+use Rattle.ariadne_picture.specs.declared.cell.Glyph.TheVariants.{Vbar}
+use Rattle.ariadne_render.specs.Gutters.{bars_ink, column_bytes}
+use Rattle.ariadne_render.proofs.GutterState.{ready-for, columns-some, text-cut, text-column, start-next}
+use Rattle.ariadne_render.proofs.gutter.Gutter.push_bar.Goals as goal
+
+-- the column is there
+pub start-requires : goal.start-requires
+start-requires c = record { column = omega (arith, columns-some c.args.self.now c.args.column c.requires.column) }
+
+-- and so is the next one
+pub start-requires-2 : goal.start-requires-2
+start-requires-2 c = record { column = omega (arith, columns-some c.args.self.now c.args.column c.requires.column) }
+
+-- they rise
+pub range-requires-clause-start_le_end : goal.range-requires-clause-start_le_end
+range-requires-clause-start_le_end c =
+    omega (arith, c.start.ensures, c.start-2.ensures, start-next c.args.self.now c.args.column)
+
+-- the text may be cut there
+pub range-requires-clause-start_boundary : goal.range-requires-clause-start_boundary
+range-requires-clause-start_boundary c = λ _.
+    let g = c.args.self.now in
+    let k = c.args.column in
+    let ready = ready-for _ g _ _ c.self.view_is c.self.invariant in
+    let some = columns-some g k c.requires.column in
+    rw (c.start.ensures, c.deref.ensures) (text-cut g _ _ ready k (omega (arith, some)))
+
+-- and behind it
+pub range-requires-clause-end_boundary : goal.range-requires-clause-end_boundary
+range-requires-clause-end_boundary c =
+    let g = c.args.self.now in
+    let k = c.args.column in
+    let ready = ready-for _ g _ _ c.self.view_is c.self.invariant in
+    let some = columns-some g k c.requires.column in
+    rw (c.start-2.ensures, c.deref.ensures) (text-cut g _ _ ready (k + 1) (omega (arith, some)))
+
+-- between them stands the column
+pub returns : goal.returns
+returns c =
+    let g = c.args.self.now in
+    let k = c.args.column in
+    let ready = ready-for _ g _ _ c.self.view_is c.self.invariant in
+    let some = columns-some g k c.requires.column in
+    let there : c.range.result.now ≡ column_bytes g.page (bars_ink Vbar g k) =
+    rw (c.range.ensures.value, c.start.ensures, c.start-2.ensures, c.deref.ensures) (text-column g _ _ ready k (omega (arith, some))) in
+    rw there at c.push_text.ensures

@@ -1,0 +1,13 @@
+pub mod Accepting
+pub mod CharOffsets
+pub mod FrontColumns
+pub mod GroupParts
+pub mod Grouping
+pub mod GroupingSources
+pub mod GroupingWidths
+pub mod HeaderLocations
+pub mod Judging
+pub mod KnownPlaces
+pub mod Locating
+pub mod Outcomes
+pub mod OverLines
