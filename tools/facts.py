@@ -242,7 +242,7 @@ def of_compared():
         yield f"| `{workload}`: {text} | {{}} | {{}} | {{}} | {{}} |", *told, here, speed_of_rust(workload), original, peer
     yield "| {} instructions |", found(SPEED, r"`two` takes C ([\d,]+) instructions")
     yield "over {} diagnostics of rustc | {} seconds, {} MB |", *filtered()
-    yield "fewer than {}.", found("crates/ariadne_rows/src/label_lists.rt", r"A group of (2\^32) labels")
+    yield "fewer than {}.", found("crates/ariadne_layout/src/label_lists.rt", r"A group of (2\^32) labels")
 
 
 def of_cpp():
@@ -261,7 +261,7 @@ def of_from_the_crate():
 
 
 def least_tab():
-    return found("crates/ariadne_labels/src/config.rt", r"requires \{ (\d+) ≤ tab_width \}")
+    return found("crates/ariadne_report/src/config.rt", r"requires \{ (\d+) ≤ tab_width \}")
 
 
 def of_install():
@@ -356,7 +356,7 @@ def of_show():
 
 
 def of_gallery():
-    yield "There are {} kinds.", word(count("crates/ariadne_labels/src/kind.rt", r"^    [A-Z]\w*(?:\(.*\))?,$"))
+    yield "There are {} kinds.", word(count("crates/ariadne_report/src/kind.rt", r"^    [A-Z]\w*(?:\(.*\))?,$"))
     yield "What compilers say: {} errors", word(section_of(text_of(GALLERY), "What compilers say").count("and rendered"))
     yield "Here are {} errors, each as", word(section_of(text_of(GALLERY), "What compilers say").count("and rendered"))
     yield "The exit status is {} if all brackets are balanced", status("ariadne_commands", "Clean")
