@@ -1,8 +1,7 @@
 -- A document with a line more.
-use Rattle.std.proofs.Common.{◌≡◌, ◌∙◌, ap, sym, subst, refl, ℕ, ◌+◌, ◌≤◌, cond, List, [], ◌∷◌, ◌++◌, length, length-append, arith, le-leb, leb-true}
+use Rattle.std.proofs.Common.{◌≡◌, ◌∙◌, ap, sym, refl, ℕ, ◌+◌, ◌≤◌, cond, List, ◌++◌, length, length-append, arith, leb-true}
 use Rattle.std.proofs.lemmas.Bool.{and_parts}
-use Rattle.std.proofs.lemmas.List.Folds.{list_all-append}
-use Rattle.std.specs.Prelude.{Bool, true, false, nat_le, nat_lt, ◌&&◌}
+use Rattle.std.specs.Prelude.{Bool, true, nat_le, nat_lt, ◌&&◌}
 use Rattle.std.specs.List.{count_by, list_all}
 use Rattle.ariadne_json.specs.Mended.{closes, opens}
 use Rattle.ariadne_documents.specs.Brackets.{closed, is_in_nothing, is_line, is_open, may_stand, opened, outside, scanned, unscanned, within_all}

@@ -1,5 +1,5 @@
 -- A walk through a text, byte by byte.
-use Rattle.std.proofs.Common.{◌≡◌, ap, ℕ, ◌+◌, ◌≤◌, cond, arith}
+use Rattle.std.proofs.Common.{◌≡◌, ℕ, ◌+◌, ◌≤◌, cond, arith}
 use Rattle.std.specs.Prelude.{Bool, true, false, nat_le, nat_lt, ◌||◌, ◌==◌}
 use Rattle.ariadne_documents.specs.Offsets.{gone_on, step, units}
 use Rattle.ariadne_documents.specs.declared.offsets.Walk.{Walk}

@@ -1,5 +1,5 @@
 -- Which form a document has, by its members, and what it tells. It may tell nothing, as a list of no comments.
-use Rattle.std.specs.Prelude.{ℕ, Bool, if◌then◌else◌, List, Option, Some, None, option_and_then, option_map}
+use Rattle.std.specs.Prelude.{ℕ, if◌then◌else◌, List, Option, Some, None, option_and_then, option_map}
 use Rattle.serde_json.specs.Data.{Data}
 use Rattle.ariadne_parse.specs.ParsedLines.{value_in}
 use Rattle.ariadne_parse.specs.Read.{Read}

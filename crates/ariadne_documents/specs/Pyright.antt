@@ -1,6 +1,6 @@
 -- What pyright's `--outputjson` becomes: an object with its `generalDiagnostics`. Lines and columns count from 0, columns
 -- UTF-16, and ends stand behind what is meant.
-use Rattle.std.specs.Prelude.{ℕ, Bool, ◌&&◌, List, codes, Option, is_some}
+use Rattle.std.specs.Prelude.{Bool, ◌&&◌, List, codes, Option, is_some}
 use Rattle.serde_json.specs.Data.{Data}
 use Rattle.ariadne_parse.specs.Members.{items_in, list_at, severity_at, text_at, words_at}
 use Rattle.ariadne_parse.specs.Places.{Seen}

@@ -1,13 +1,12 @@
 -- What `go vet -json` becomes: an object of packages, each an object of analyzers, each a list of diagnostics. A place is
 -- `FILE:LINE:COLUMN` in one text; columns count bytes from 1. An analyzer that failed has an error in place of the list.
 -- Characters stand as their numbers: 58 is a colon.
-use Rattle.std.specs.Prelude.{ℕ, Bool, true, false, not, ◌&&◌, ◌||◌, List, [], ◌++◌, codes, Option, Some, None, is_some}
+use Rattle.std.specs.Prelude.{ℕ, Bool, false, ◌&&◌, ◌||◌, List, [], ◌++◌, codes, Option, Some, None, is_some}
 use Rattle.std.specs.Prelude.{◌∷◌, option_and_then, option_map, unwrap_or}
-use Rattle.std.specs.Option.{option_or}
 use Rattle.std.specs.Path.{rsplit_once}
 use Rattle.serde_json.specs.Data.{Data, Members}
 use Rattle.serde_json.specs.Find.{as_array, as_object}
-use Rattle.ariadne_parse.specs.Members.{all_items, items_in, text_at, words_at}
+use Rattle.ariadne_parse.specs.Members.{items_in, text_at, words_at}
 use Rattle.ariadne_parse.specs.TextPieces.{whole_number}
 use Rattle.ariadne_parse.specs.Places.{Seen}
 use Rattle.ariadne_parse.specs.Read.{Read}

@@ -7,7 +7,7 @@ ghost use Rattle.ariadne_parse.specs.Places.{seen};
 ghost use Rattle.ariadne_parse.specs.Proposed.{edit_of};
 ghost use Rattle.ariadne_parse.specs.Read.{read};
 ghost use Rattle.ariadne_sarif.specs.Fixing.{edit_of_piece};
-ghost use Rattle.ariadne_sarif.specs.DocumentParts.{are_some_of, told_each};
+ghost use Rattle.ariadne_sarif.specs.DocumentParts.{told_each};
 ghost use Rattle.ariadne_documents.specs.Ruff as ruff;
 
 use ariadne_parse::json::{copied_text, number, severity, text, words};

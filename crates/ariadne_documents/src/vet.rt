@@ -1,6 +1,6 @@
 //! What `go vet -json` writes.
 
-ghost use Rattle.std.specs.Prelude.{◌≡◌, ◌++◌, is_some, map, option_map, string_bytes, IfOk, OnOk};
+ghost use Rattle.std.specs.Prelude.{◌≡◌, ◌++◌, is_some, map, option_map, IfOk, OnOk};
 ghost use Rattle.serde_json.specs.View.{items_view, members_view, view};
 ghost use Rattle.serde_json.specs.Find.{as_array};
 ghost use Rattle.ariadne_parse.specs.Members.{all_items};

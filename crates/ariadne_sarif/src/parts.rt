@@ -1,7 +1,6 @@
 //! Parts of documents that several forms have: members of members, spots, and diagnostics of a file.
 
-ghost use Rattle.std.specs.Prelude.{◌≡◌, option_map, string_bytes, IfOk, OnOk, Some};
-ghost use Rattle.std.specs.Option.{option_copied};
+ghost use Rattle.std.specs.Prelude.{◌≡◌, option_map, IfOk, Some};
 ghost use Rattle.serde_json.specs.View.{items_view, view};
 ghost use Rattle.serde_json.specs.Find.{as_array};
 ghost use Rattle.ariadne_parse.specs.Members.{end_before, items_in, spot_at};

@@ -1,7 +1,6 @@
 -- Documents of many lines, by what their lines do, and what is told of them.
 use Rattle.std.proofs.Common.{◌≡◌, ◌∙◌, ℕ, List, Option, Some, None, ap, subst, sym, refl}
-use Rattle.std.specs.Prelude.{[], true, false, Bool, Result, Ok, Err, OnOk, Vec}
-use Rattle.std.specs.Io.KnownBytes.{IsAtEnd}
+use Rattle.std.specs.Prelude.{[], true, false, Result, Ok, Err, OnOk, Vec}
 use Rattle.std.specs.declared.alloc.Global.{Global}
 use Rattle.ariadne_documents.specs.Documents.{step_of, text_with, value_of}
 use Rattle.ariadne_documents.specs.declared.document.Step.{Step}
@@ -12,7 +11,7 @@ use Rattle.ariadne_parse.specs.declared.telling.Answer.{Answer}
 use Rattle.ariadne_parse.specs.declared.telling.Answer.TheVariants as answer
 use Rattle.ariadne_documents.specs.Answers.{is_whole, IsDocumentParsed}
 use Rattle.ariadne_show.specs.RunOutput.{begins_document, holding_of, with_sent, At, Holding}
-use Rattle.ariadne_show.specs.RunOutput.{AreAllShown, AreBytesShown, AreLinesShown, IsDocumentShown, IsFinished, IsHeldShown}
+use Rattle.ariadne_show.specs.RunOutput.{AreAllShown, AreBytesShown, IsDocumentShown, IsFinished, IsHeldShown}
 use Rattle.ariadne_show.specs.RunOutput.{IsInsideShown, IsLineShown, IsNextBehind, IsOutsideShown}
 use Rattle.ariadne_show.specs.RunOutput.{document_begun, document_broken, document_ended, document_goes_on, line_shown}
 use Rattle.ariadne_show.specs.RunOutput.{told_diagnostics, told_dropped, told_none}

@@ -1,7 +1,7 @@
 //! Which files are read, and the bytes of those that are.
 
 ghost use Rattle.std.specs.Prelude.{◌≡◌, ◌≢◌, ◌↔◌, IfOk, IsTrue};
-ghost use Rattle.std.specs.Path.{path_bytes, PathStartsWith};
+ghost use Rattle.std.specs.Path.{path_bytes};
 ghost use Rattle.ariadne_show.specs.Bounds.{IsAllowed, IsWithin};
 ghost use Rattle.ariadne_show.specs.declared.bounds.Bounds.TheVariants.{Anywhere};
 

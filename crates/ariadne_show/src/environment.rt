@@ -1,6 +1,6 @@
 //! What the environment asks for: colours, or none; and how wide a terminal is.
 
-ghost use Rattle.std.specs.Prelude.{◌≡◌, option_map, string_bytes, IfOk, Some, None};
+ghost use Rattle.std.specs.Prelude.{◌≡◌, option_map, string_bytes, Some, None};
 ghost use Rattle.ariadne_show.specs.OptionMeanings.{IsCountIn};
 ghost use Rattle.ariadne_show.specs.ColorChoice.{are_colored, asked, holds, is_set};
 ghost use Rattle.ariadne_show.specs.Widths.{IsRowWidth};

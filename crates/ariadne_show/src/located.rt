@@ -1,6 +1,6 @@
 //! Where the places of a diagnostic stand, for texts that name lines and columns.
 
-ghost use Rattle.std.specs.Prelude.{◌≡◌, ◌++◌, ◌∷◌, [], map, position, IfOk, OnOk};
+ghost use Rattle.std.specs.Prelude.{◌≡◌, ◌++◌, map, position, IfOk, OnOk};
 ghost use Rattle.ariadne_outputs.specs.Located.{location_of, locations_of};
 ghost use Rattle.ariadne_show.specs.FoundPlaces.{files_of};
 ghost use Rattle.ariadne_show.specs.LinesAndColumns.{located_in, located_spot, main_first, main_number};

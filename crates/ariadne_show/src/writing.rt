@@ -1,6 +1,6 @@
 //! What is written of a diagnostic and of a line that passes, in the form that is asked for.
 
-ghost use Rattle.std.specs.Prelude.{◌≡◌, IfOk, OnOk, map, string_bytes};
+ghost use Rattle.std.specs.Prelude.{◌≡◌, IfOk, OnOk, string_bytes};
 ghost use Rattle.ariadne_outputs.specs.Located.{locations_of};
 ghost use Rattle.ariadne_show.specs.FoundPlaces.{files_of};
 ghost use Rattle.ariadne_show.specs.WaitingLines.{bytes_in, bytes_of, passing_of};

@@ -1,4 +1,4 @@
-use Rattle.std.proofs.Common.{ℕ, List, ◌∙◌, ◌+◌, ◌*◌, ap, arith, drop, get_or, sym}
+use Rattle.std.proofs.Common.{ℕ, List, ◌∙◌, ◌+◌, ap, arith, drop, get_or, sym}
 use Rattle.std.proofs.lemmas.List.{at_drop_more}
 use Rattle.ariadne_documents.specs.Offsets.{walked as walk_through}
 use Rattle.ariadne_documents.specs.declared.offsets.Walk.{Walk}

@@ -1,4 +1,4 @@
-use Rattle.std.proofs.Common.{List, Some, ℕ, subst}
+use Rattle.std.proofs.Common.{List, ℕ, subst}
 use Rattle.ariadne_show.specs.RunOutput.{at_of, no_line, one_line_more, IsLineShown}
 use Rattle.ariadne_show.proofs.task.Task.show_as_lines.Goals as goal
 

@@ -1,6 +1,6 @@
 use Rattle.std.proofs.Common.{sym}
 use Rattle.ariadne_show.specs.RunOutput.{at_of}
-use Rattle.ariadne_show.proofs.DocumentLines.{held_if, held_none}
+use Rattle.ariadne_show.proofs.DocumentLines.{held_if}
 use Rattle.ariadne_show.proofs.task.Task.show_held.Goals as goal
 
 -- its lines were shown
