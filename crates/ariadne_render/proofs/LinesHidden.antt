@@ -1,17 +1,11 @@
 -- The row in place of hidden lines, and the labels that may hold a character of a line.
-use Rattle.std.proofs.Common.{◌≡◌, ◌∙◌, ℕ, ◌-◌, true, false, ◌&&◌, List, [], ◌∷◌, nat_le, nat_lt, refl, sym}
-use Rattle.std.proofs.Common.{None, Some}
-use Rattle.std.specs.Prelude.{is_some, Option, if◌then◌else◌}
-use Rattle.std.specs.List.{AllByRecursion}
-use Rattle.std.proofs.lemmas.Bool.{le-leb, and_from, not-true, true≢false}
-use Rattle.ariadne_picture.specs.declared.label_info.LabelInfo.{LabelInfo}
-use Rattle.ariadne_picture.specs.declared.label_info.LineLabel.{LineLabel}
-use Rattle.ariadne_picture.specs.Bars.{EndsNoEarlier}
-use Rattle.ariadne_picture.specs.Ranks.{Sheet, first_line, is_hidden, margin_label}
+use Rattle.std.proofs.Common.{◌≡◌, ◌∙◌, ℕ, ◌-◌, true, false, ◌&&◌, [], ◌∷◌, nat_le, nat_lt, refl, sym}
+use Rattle.std.specs.Prelude.{if◌then◌else◌}
+use Rattle.std.proofs.lemmas.Bool.{le-leb, and_from, not-true}
+use Rattle.ariadne_picture.specs.Ranks.{Sheet, first_line, is_hidden}
 use Rattle.ariadne_picture.specs.Rows.{gap, bare, line_rows, is_inside}
 use Rattle.ariadne_picture.specs.Strokes.{holds}
 use Rattle.ariadne_picture.proofs.Lists.ListFacts.{all-weaker}
-use Rattle.ariadne_picture.proofs.Rows.BarCases.{hidden-margin}
 use Rattle.ariadne_layout.specs.SnippetLabels.{HoldersTouch, touches}
 use Rattle.ariadne_layout.specs.Snippets.{AreOverLines, IsOverLines}
 use Rattle.ariadne_render.specs.DrawnLines.{begins_run}

@@ -1,11 +1,11 @@
 -- The arrow row stands below the alternate row, or alone.
-use Rattle.std.proofs.Common.{◌≡◌, ◌∙◌, rules, sym, ap, subst, true, false, ◌∷◌, [], refl, Some}
-use Rattle.std.specs.Prelude.{IfSome, OnOk, Option, slice_get}
+use Rattle.std.proofs.Common.{◌≡◌, ◌∙◌, rules, sym, ap, subst, true, false, ◌∷◌, [], refl}
+use Rattle.std.specs.Prelude.{IfSome, OnOk, Option}
 use Rattle.std.proofs.lemmas.Result.{on_ok_weaker}
 use Rattle.ariadne_picture.specs.declared.label_info.LineLabel.{LineLabel}
 use Rattle.ariadne_picture.specs.declared.switches.Switches.{Switches}
 use Rattle.ariadne_picture.specs.Rows.{alternate, arrow, label_rows}
-use Rattle.ariadne_layout.specs.Snippets.{labels_at, sheet_at}
+use Rattle.ariadne_layout.specs.Snippets.{sheet_at}
 use Rattle.ariadne_render.specs.Pages.{DrawsRow, PageFields}
 use Rattle.ariadne_render.proofs.Drawn.{draws_rows-append, draws_rows_none, draws_rows_one}
 use Rattle.ariadne_render.specs.RowTexts.{row_of, rows_of}
@@ -13,7 +13,6 @@ use Rattle.ariadne_render.specs.Writers.{WritesRows}
 use Rattle.ariadne_render.proofs.KnownLines.{one-row, rank-kept}
 use Rattle.ariadne_render.proofs.LinesQuiet.{label-less, label-read, label-told}
 use Rattle.ariadne_render.proofs.LinesRows.{label-none, label-one, label-two, row-page, rows-of}
-use Rattle.ariadne_render.proofs.below.push_label.Given.{Over}
 use Rattle.ariadne_render.proofs.below.push_label.Goals.{After-labels-labels}
 use Rattle.ariadne_render.proofs.below.push_label.Goals as goal
 

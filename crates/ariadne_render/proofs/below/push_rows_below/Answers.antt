@@ -1,5 +1,5 @@
 -- A line without messages has the row of its underlines alone, or none; else the rows are those of its labels.
-use Rattle.std.proofs.Common.{◌≡◌, ◌∙◌, ◌+◌, ◌<◌, ◌^◌, ◌++◌, ap, arith, length, List, subst, sym}
+use Rattle.std.proofs.Common.{◌≡◌, ◌∙◌, ◌<◌, ◌^◌, ◌++◌, ap, arith, length, List, subst, sym}
 use Rattle.std.specs.Prelude.{IfSome, Option}
 use Rattle.std.specs.List.{enumerate_from, list_any}
 use Rattle.std.proofs.lemmas.List.{append-nil}

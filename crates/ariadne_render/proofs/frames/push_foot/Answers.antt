@@ -1,13 +1,12 @@
 -- The helps and the notes of the last group, and the tail.
-use Rattle.std.proofs.Common.{◌∙◌, ◌++◌, [], ap, refl, subst, sym}
+use Rattle.std.proofs.Common.{◌∙◌, ◌++◌, [], ap, refl, sym}
 use Rattle.std.specs.Prelude.{if◌then◌else◌}
 use Rattle.std.proofs.lemmas.Result.{on_ok_weaker}
 use Rattle.ariadne_picture.specs.Pieces.{aside_texts}
 use Rattle.ariadne_picture.specs.Rows.{asides, help, note}
 use Rattle.ariadne_layout.specs.Snippets.{sheet_in}
-use Rattle.ariadne_render.specs.Pages.{DrawsRows, PageFields}
-use Rattle.ariadne_render.proofs.Drawn.{page_kept, rows_page}
-use Rattle.ariadne_render.specs.Gutters.{GutterFields, IsOfSheet}
+use Rattle.ariadne_render.specs.Pages.{DrawsRows}
+use Rattle.ariadne_render.proofs.Drawn.{page_kept}
 use Rattle.ariadne_render.specs.RowTexts.{rows_of}
 use Rattle.ariadne_render.specs.Writers.{IsBehind}
 use Rattle.ariadne_render.specs.declared.writer.Writer.{Writer}
