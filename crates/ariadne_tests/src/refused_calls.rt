@@ -103,7 +103,10 @@ pub(crate) const CALLS: &[(&str, &[&str])] = &[
             "Report::eprint",
             // What these call, in the crates below.
             "accept",
-            "draw",
+            "in_order",
+            "cut_groups",
+            "messages",
+            "push_snippet",
             "LineTable::fill",
             "LineTable::fill_paints",
             "LineColumns::fill",
