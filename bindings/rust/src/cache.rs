@@ -181,14 +181,26 @@ where
         self.sources.push(source);
     }
 
+    /// The number of an id's source, which is got from the function if there is none.
+    #[inline(never)] // (so that `fetch` stays short)
+    fn numbered<E>(&mut self, id: &Id) -> Result<usize, E>
+    where
+        Id: Eq + Hash + Clone,
+        F: FnMut(&Id) -> Result<I, E>,
+    {
+        if let Some(number) = self.number_of(id) {
+            return Ok(number);
+        }
+        let text = (self.get)(id)?;
+        self.add(id.clone(), Source::from(text));
+        Ok(self.sources.len() - 1)
+    }
+
     /// The number of an id's source, if it has one.
     fn number_of(&self, id: &Id) -> Option<usize>
     where
         Id: Eq + Hash,
     {
-        if self.ids.get(self.next) == Some(id) {
-            return Some(self.next);
-        }
         self.table.find(self.hashing.hash_one(id), |number| self.ids[number] == *id)
     }
 }
@@ -222,14 +234,7 @@ where
     type Storage = I;
 
     fn fetch(&mut self, id: &Id) -> Result<&Source<I>, impl Debug> {
-        let number = match self.number_of(id) {
-            Some(number) => number,
-            None => {
-                let text = (self.get)(id)?;
-                self.add(id.clone(), Source::from(text));
-                self.sources.len() - 1
-            }
-        };
+        let number = if self.ids.get(self.next) == Some(id) { self.next } else { self.numbered(id)? };
         self.next = number + 1;
         Ok::<_, E>(&self.sources[number])
     }

@@ -33,7 +33,6 @@ pub(crate) struct Excerpt<'s> {
     pub(crate) text: Cow<'s, str>,
     /// Those of a first and a second drawing. They are one where no number has a stand-in.
     pub(crate) line_offsets: [usize; 2],
-    pub(crate) shape: Shape,
 }
 
 /// What the size of a picture goes by.
@@ -146,16 +145,43 @@ fn runs_of(ends: &[End], context_lines: usize, last_line: usize) -> Vec<Run> {
     runs
 }
 
-impl<'s> Excerpt<'s> {
-    /// All lines from the first to the last that so many spans are on, of which these are the outermost ends, and those
-    /// near them. And the offset of the first. None where these lines are many.
+/// All lines of a source from the first to the last that some spans are on, and those near them; or all that it has.
+pub(crate) struct FewLines<'s> {
+    text: &'s str,
+    line_offset: usize,
+    /// The offset of the first, in bytes or in characters.
+    pub(crate) start: usize,
+    pub(crate) count: usize,
+    /// The bytes of the longest.
+    pub(crate) longest: usize,
+}
+
+impl<'s> FewLines<'s> {
+    /// Those of so many spans, of which these are the outermost ends. None where they are many.
     #[inline]
-    pub(crate) fn of_few_lines<I: AsRef<str>>(
+    pub(crate) fn of<I: AsRef<str>>(
+        source: &'s Source<I>,
+        ends: Ends,
+        spans: usize,
+        config: &Config,
+    ) -> Option<FewLines<'s>> {
+        let last_line = source.last_line();
+        if last_line > FEW_LINES * spans {
+            return FewLines::among_many(source, ends, spans, config);
+        }
+        let (text, line_offset) = (source.text(), source.display_line_offset());
+        let longest = source.longest_of(0..=last_line);
+        Some(FewLines { text, line_offset, start: 0, count: last_line + 1, longest })
+    }
+
+    /// The same of a source that has many lines.
+    #[inline(never)]
+    fn among_many<I: AsRef<str>>(
         source: &'s Source<I>,
         [first, last]: Ends,
         spans: usize,
         config: &Config,
-    ) -> Option<(Excerpt<'s>, usize)> {
+    ) -> Option<FewLines<'s>> {
         let in_bytes = config.index_type == IndexType::Byte;
         let first = source.line_number(first, in_bytes, 0);
         let last = source.line_number(last, in_bytes, first);
@@ -165,19 +191,26 @@ impl<'s> Excerpt<'s> {
         let first = first.saturating_sub(config.context_lines);
         let last = last.saturating_add(config.context_lines).min(source.last_line());
         let (start, _, text) = source.lines_with_text(first..=last, in_bytes);
-        let shape = Shape { lines: last - first + 1, longest: source.longest_of(first..=last), over: 0 };
         let line_offset = source.display_line_offset().saturating_add(first);
-        Some((Excerpt { text: Cow::Borrowed(text), line_offsets: [line_offset; 2], shape }, start))
+        let longest = source.longest_of(first..=last);
+        Some(FewLines { text, line_offset, start, count: last - first + 1, longest })
     }
 
+    #[inline]
+    pub(crate) fn excerpt(self) -> Excerpt<'s> {
+        Excerpt { text: Cow::Borrowed(self.text), line_offsets: [self.line_offset; 2] }
+    }
+}
+
+impl Excerpt<'_> {
     /// The lines that these spans begin or end on, those near them, and what stands for those between. The spans are
-    /// moved to what is lent.
+    /// moved to what is lent, whose shape is told too.
     pub(crate) fn of_lines_apart<I: AsRef<str>>(
         source: &Source<I>,
         spans: &mut Spans,
         numbers: &mut Numbers,
         config: &Config,
-    ) -> Excerpt<'static> {
+    ) -> (Excerpt<'static>, Shape) {
         let in_bytes = config.index_type == IndexType::Byte;
         let ends = ends_of(source, &spans.ends, in_bytes);
         let runs = runs_of(&ends, config.context_lines, source.last_line());
@@ -197,7 +230,7 @@ impl<'s> Excerpt<'s> {
         }
         let in_front = source.display_line_offset().saturating_add(runs[0].first);
         let line_offsets = stand_ins.map_or([in_front; 2], |numbers| numbers.map(|number| number - 1));
-        Excerpt { text: Cow::Owned(lent.text), line_offsets, shape: lent.shape }
+        (Excerpt { text: Cow::Owned(lent.text), line_offsets }, lent.shape)
     }
 }
 
@@ -277,7 +310,7 @@ impl Lent {
 
 #[cfg(test)]
 mod tests {
-    use super::{Ends, Excerpt, Shape, Spans};
+    use super::{Ends, Excerpt, FewLines, Spans};
     use crate::numbers::Numbers;
     use crate::{CharSet, Color, Config, IndexType, Label, LabelAttach, Report, ReportKind, Source};
     use std::borrow::Cow;
@@ -296,7 +329,7 @@ mod tests {
 
     /// What is lent of lines apart.
     fn apart(source: &Source<&str>, spans: &mut Spans, config: &Config) -> Excerpt<'static> {
-        Excerpt::of_lines_apart(source, spans, &mut Numbers::default(), config)
+        Excerpt::of_lines_apart(source, spans, &mut Numbers::default(), config).0
     }
 
     /// A label over these characters. Without a word it only marks.
@@ -321,13 +354,13 @@ mod tests {
         let mut spans = Spans { ends, has_place: true };
         let report = Report::build(ReportKind::Error, at..at).with_config(config).with_labels(labels).finish();
         let line_offsets = [source.display_line_offset(); 2];
-        let whole = Excerpt { text: Cow::Borrowed(source.text()), line_offsets, shape: Shape::default() };
+        let whole = Excerpt { text: Cow::Borrowed(source.text()), line_offsets };
         let want = report.picture_over(whole, &spans, Numbers::default());
         let mut out = Vec::new();
         report.write(source, &mut out).unwrap();
         assert_eq!(String::from_utf8(out).unwrap(), want, "{told}");
         let mut numbers = Numbers::default();
-        let apart = Excerpt::of_lines_apart(source, &mut spans, &mut numbers, &config);
+        let (apart, _) = Excerpt::of_lines_apart(source, &mut spans, &mut numbers, &config);
         let has_stand_ins = apart.line_offsets[0] != apart.line_offsets[1];
         assert_eq!(report.picture_over(apart, &spans, numbers), want, "{told}");
         has_stand_ins
@@ -367,14 +400,17 @@ mod tests {
     #[test]
     fn lines_that_are_few_are_lent_as_they_are() {
         let source = Source::from("ab\ncd\nef\ngh\nij\nkl\nmn\n").with_display_line_offset(20);
-        let (excerpt, start) = Excerpt::of_few_lines(&source, [4, 16], 2, &PLAIN).unwrap();
-        assert_eq!((&*excerpt.text, excerpt.line_offsets, start), ("cd\nef\ngh\nij\nkl\n", [21; 2], 3));
+        let lines = FewLines::of(&source, [4, 16], 2, &PLAIN).unwrap();
+        let counts = (lines.start, lines.count, lines.longest);
+        let excerpt = lines.excerpt();
+        assert_eq!((&*excerpt.text, excerpt.line_offsets, counts), ("cd\nef\ngh\nij\nkl\n", [21; 2], (3, 5, 3)));
         assert!(matches!(excerpt.text, Cow::Borrowed(_)));
-        let config = PLAIN.with_context_lines(2);
-        let (excerpt, start) = Excerpt::of_few_lines(&source, [10, 16], 1, &config).unwrap();
-        assert_eq!((&*excerpt.text, excerpt.line_offsets, start), ("cd\nef\ngh\nij\nkl\nmn\n", [21; 2], 3));
-        assert!(Excerpt::of_few_lines(&source, [1, 19], 2, &PLAIN).is_none());
-        assert!(Excerpt::of_few_lines(&source, [1, 19], 3, &PLAIN).is_some());
+        let lines = FewLines::of(&source, [10, 16], 1, &PLAIN.with_context_lines(2)).unwrap();
+        let counts = (lines.start, lines.count, lines.longest);
+        let excerpt = lines.excerpt();
+        assert_eq!((&*excerpt.text, excerpt.line_offsets, counts), ("cd\nef\ngh\nij\nkl\nmn\n", [21; 2], (3, 6, 3)));
+        assert!(FewLines::of(&source, [1, 19], 2, &PLAIN).is_none());
+        assert!(FewLines::of(&source, [1, 19], 3, &PLAIN).is_some());
     }
 
     #[test]
@@ -383,7 +419,7 @@ mod tests {
         let source = Source::from(text.as_str()).with_display_line_offset(20);
         let mut spans = Spans { ends: vec![[2, 2], [2000, 2000], [3990, 3990]], has_place: true };
         let mut numbers = Numbers::default();
-        let excerpt = Excerpt::of_lines_apart(&source, &mut spans, &mut numbers, &PLAIN);
+        let (excerpt, _) = Excerpt::of_lines_apart(&source, &mut spans, &mut numbers, &PLAIN);
         // (The numbers are 22, 1021 and 2016; those of labels have four digits at the most.)
         assert_eq!((&*excerpt.text, excerpt.line_offsets), ("z\n\x0cb\n\x0cz\n", [999, 3221]));
         assert_eq!(spans.ends, [[0, 0], [3, 3], [6, 6]]);

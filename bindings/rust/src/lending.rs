@@ -1,16 +1,16 @@
 //! What the library is lent of a report over sources.
 
 use crate::call::{draw, GivenLabel, GivenSource, OptionalText, Refusal, Room, Text};
-use crate::config::CharSet;
-use crate::excerpt::{Excerpt, Shape, Spans};
+use crate::config::{CharSet, Config};
+use crate::excerpt::{Excerpt, FewLines, Shape, Spans};
+use crate::held::Held;
 use crate::members::Members;
 use crate::numbers::Numbers;
 use crate::report::Report;
 use crate::source::Source;
 use crate::span::Span;
 use std::borrow::Cow;
-use std::fmt::{Display, Write};
-use std::ops::Range;
+use std::fmt::{Display, Formatter};
 
 /// The room of a picture without labels, and the greatest that strokes are given.
 const LEAST_ROOM: usize = 256;
@@ -27,7 +27,7 @@ pub(crate) struct Lending<'a, S: Span> {
     /// The number of the source that the header's place is in, and where. It is in none before that was fetched.
     place: (usize, usize),
     /// Names and texts of sources, one behind another.
-    held: String,
+    held: &'a Held,
     kept: Vec<Kept>,
     /// How many sources were fetched, and how many labels are in these.
     sources: usize,
@@ -38,25 +38,25 @@ pub(crate) struct Lending<'a, S: Span> {
     shape: Shape,
 }
 
-/// A source in front of the last: its number, and where its name and its text are held.
+/// A source in front of the last: its number, and how many bytes its name and its text have, which are held.
 struct Kept {
     source: usize,
-    name: Option<Range<usize>>,
-    text: Range<usize>,
+    name: Option<usize>,
+    text: usize,
     line_offsets: [usize; 2],
 }
 
-/// Where the name of the last source is held, if it has one, and what is lent of it.
-type Last<'l, 's> = Option<(&'l Option<Range<usize>>, &'l Excerpt<'s>)>;
+/// How many bytes the name of the last source has, which is held behind all others, and what is lent of the source.
+type Last<'l, 's> = Option<(Option<usize>, &'l Excerpt<'s>)>;
 
 impl<'a, S: Span> Lending<'a, S> {
     /// A report none of whose sources was fetched.
-    pub(crate) fn new(report: &'a Report<'a, S>) -> Lending<'a, S> {
+    pub(crate) fn new(report: &'a Report<'a, S>, held: &'a Held) -> Lending<'a, S> {
         Lending {
             report,
             labels: Cow::Borrowed(&report.prepared().labels),
             place: (NO_SOURCE, 0),
-            held: String::new(),
+            held,
             kept: Vec::with_capacity(report.prepared().members.len().saturating_sub(1)),
             sources: 0,
             placed: 0,
@@ -64,6 +64,10 @@ impl<'a, S: Span> Lending<'a, S> {
             numbers: Numbers::default(),
             shape: Shape::default(),
         }
+    }
+
+    fn config(&self) -> &'a Config {
+        &self.report.content.config
     }
 
     /// The number of a label's source.
@@ -92,23 +96,29 @@ impl<'a, S: Span> Lending<'a, S> {
         self.placed == self.labels.len()
     }
 
-    /// Holds the name of a source, if it has one. Returns where.
-    pub(crate) fn hold_name(&mut self, name: Option<impl Display>) -> Option<Range<usize>> {
+    /// Holds the name of a source, if it has one, by a formatter if there is one. Returns how many bytes it has.
+    #[inline]
+    pub(crate) fn hold_name(
+        &self,
+        name: Option<impl Display>,
+        formatter: &mut Option<&mut Formatter<'_>>,
+    ) -> Option<usize> {
         let start = self.held.len();
-        write!(self.held, "{}", name?).expect("a Display implementation returned an error unexpectedly");
-        Some(start..self.held.len())
+        self.held.push_name(name?, formatter);
+        Some(self.held.len() - start)
     }
 
-    /// The text that is held there.
-    pub(crate) fn held(&self, place: Range<usize>) -> &str {
-        &self.held[place]
+    /// Takes back the name that was held last. It is empty if the source has none.
+    pub(crate) fn take_name(&self, name: Option<usize>) -> String {
+        self.held.split_off(self.held.len() - name.unwrap_or(0))
     }
 
     /// Holds what is lent of a label's source, which was fetched last.
-    pub(crate) fn keep(&mut self, label: usize, name: Option<Range<usize>>, excerpt: &Excerpt<'_>) {
-        let (source, start) = (self.source_of(label), self.held.len());
-        self.held.push_str(&excerpt.text);
-        self.kept.push(Kept { source, name, text: start..self.held.len(), line_offsets: excerpt.line_offsets });
+    #[inline]
+    pub(crate) fn keep(&mut self, label: usize, name: Option<usize>, excerpt: &Excerpt<'_>) {
+        self.held.push(&excerpt.text);
+        let (source, text) = (self.source_of(label), excerpt.text.len());
+        self.kept.push(Kept { source, name, text, line_offsets: excerpt.line_offsets });
     }
 
     /// Takes note that a label's source can't be had. The label is left out, wherever the source may come from later.
@@ -125,6 +135,7 @@ impl<'a, S: Span> Lending<'a, S> {
 
     /// What is lent of a label's source, which is that of others behind it too. All spans of the report that are in
     /// it get their places.
+    #[inline]
     pub(crate) fn place<'s, I: AsRef<str>>(&mut self, first: usize, source: &'s Source<I>) -> Excerpt<'s> {
         let members = &self.report.prepared().members[self.source_of(first)];
         let rest;
@@ -134,22 +145,22 @@ impl<'a, S: Span> Lending<'a, S> {
             rest = self.had_at_last(members, first);
             &rest
         };
-        let config = &self.report.content.config;
-        let (excerpt, place) = match Excerpt::of_few_lines(source, members.outer.ends(), members.spans(), config) {
-            Some((mut excerpt, start)) => {
-                excerpt.shape.over = self.count_longer(members, excerpt.shape.longest);
-                self.move_by(members, start);
-                (excerpt, members.place.map(|at| at - start))
-            }
-            None => self.place_apart(members, source),
-        };
-        if let Some(at) = place {
-            self.place = (members.source, at);
-        }
+        let config = self.config();
         self.sources += 1;
         self.placed += members.count;
-        self.shape = self.shape.with(excerpt.shape);
-        excerpt
+        let Some(lines) = FewLines::of(source, members.outer.ends(), members.spans(), config) else {
+            return self.place_apart(members, source);
+        };
+        let has_longer = members.outer.longest > lines.longest;
+        let over = if has_longer { self.count_longer(members, lines.longest) } else { 0 };
+        self.shape = self.shape.with(Shape { lines: lines.count, longest: lines.longest, over });
+        if lines.start > 0 {
+            self.move_by(members, lines.start);
+        }
+        if let Some(at) = members.place {
+            self.place = (members.source, at - lines.start);
+        }
+        lines.excerpt()
     }
 
     /// Of the labels in a source that was missing those from a label on.
@@ -159,42 +170,39 @@ impl<'a, S: Span> Lending<'a, S> {
         members.from(first, &self.labels)
     }
 
-    /// How many labels in a source are longer than a line.
+    /// How many labels in a source are longer than a line, of which some are.
+    #[inline(never)]
     fn count_longer(&self, members: &Members, line: usize) -> usize {
-        if members.outer.longest <= line {
-            return 0;
-        }
         members.of(&self.labels).filter(|label| label.end - label.start > line).count()
     }
 
     /// Moves the labels in a source to what is lent of it, which starts at this offset.
+    #[inline(never)]
     fn move_by(&mut self, members: &Members, start: usize) {
-        if start == 0 {
-            return;
-        }
         for label in members.of_mut(self.labels.to_mut()) {
             label.start -= start;
             label.end -= start;
         }
     }
 
-    /// Moves the labels in a source to lines apart, and the header's place, if it is there. Returns what is lent, and
-    /// the place.
-    fn place_apart<I: AsRef<str>>(
-        &mut self,
-        members: &Members,
-        source: &Source<I>,
-    ) -> (Excerpt<'static>, Option<usize>) {
+    /// Moves the labels in a source to lines apart, and the header's place, if it is there. Returns what is lent.
+    #[inline(never)]
+    fn place_apart<I: AsRef<str>>(&mut self, members: &Members, source: &Source<I>) -> Excerpt<'static> {
         let labels = members.of(&self.labels).map(|label| [label.start, last_of(label)]);
         let ends = labels.chain(members.place.map(|at| [at; 2])).collect();
         let mut spans = Spans { ends, has_place: members.place.is_some() };
-        let excerpt = Excerpt::of_lines_apart(source, &mut spans, &mut self.numbers, &self.report.content.config);
+        let config = self.config();
+        let (excerpt, shape) = Excerpt::of_lines_apart(source, &mut spans, &mut self.numbers, config);
+        self.shape = self.shape.with(shape);
         for (label, [start, last]) in members.of_mut(self.labels.to_mut()).zip(spans.labels()) {
             let is_empty = label.start == label.end;
             label.start = *start;
             label.end = last.saturating_add(usize::from(!is_empty));
         }
-        (excerpt, spans.place().map(|[at, _]| *at))
+        if let Some([at, _]) = spans.place() {
+            self.place = (members.source, *at);
+        }
+        excerpt
     }
 
     /// The picture over the sources that are kept and the last, which is there if each was fetched.
@@ -231,29 +239,36 @@ impl<'a, S: Span> Lending<'a, S> {
     fn drawn<'p>(&self, last: Last<'_, '_>, turn: usize, room: &'p mut Room) -> Result<&'p [u8], Refusal> {
         let (source, start) = self.place;
         let report = self.report.prepared().report(&self.labels, source, start);
-        let last = last.map(|(name, excerpt)| self.given(name, excerpt.text.as_bytes(), excerpt.line_offsets[turn]));
+        let held = self.held.text();
         match last {
-            Some(source) if self.kept.is_empty() => draw(&report, &[source], self.len(), room),
-            _ => {
-                let held = self.held.as_bytes();
-                let given = |it: &Kept| self.given(&it.name, &held[it.text.clone()], it.line_offsets[turn]);
-                let sources: Vec<GivenSource<'_>> = self.kept.iter().map(given).chain(last).collect();
-                draw(&report, &sources, self.len(), room)
+            Some((name, excerpt)) if self.kept.is_empty() => {
+                let name = name.map(|len| &held.as_bytes()[..len]);
+                let source = given(name, excerpt.text.as_bytes(), excerpt.line_offsets[turn]);
+                draw(&report, &[source], self.len(), room)
             }
+            _ => draw(&report, &self.sources(last, turn, held.as_bytes()), self.len(), room),
         }
     }
 
-    /// A source as the library is lent it.
-    #[inline]
-    fn given<'t>(&'t self, name: &Option<Range<usize>>, text: &'t [u8], line_offset: usize) -> GivenSource<'t> {
-        let name = name.as_ref().map(|place| Text::from(&self.held.as_bytes()[place.clone()]));
-        GivenSource { name: OptionalText::from(name), text: Text::from(text), line_offset }
+    /// All sources as the library is lent them. Their names and their texts are held one behind another.
+    fn sources<'t>(&self, last: Last<'t, '_>, turn: usize, mut held: &'t [u8]) -> Vec<GivenSource<'t>> {
+        let mut sources = Vec::with_capacity(self.kept.len() + 1);
+        for it in &self.kept {
+            let (name, behind) = held.split_at(it.name.unwrap_or(0));
+            let (text, behind) = behind.split_at(it.text);
+            held = behind;
+            sources.push(given(it.name.map(|_| name), text, it.line_offsets[turn]));
+        }
+        sources.extend(last.map(|(name, excerpt)| {
+            given(name.map(|len| &held[..len]), excerpt.text.as_bytes(), excerpt.line_offsets[turn])
+        }));
+        sources
     }
 
     /// Bytes that most pictures fit: strokes for each row and column, and what is said. They take memory only as far as
     /// the picture is written there.
     fn len(&self) -> usize {
-        let config = &self.report.content.config;
+        let config = self.config();
         let stroke = if config.char_set == CharSet::Ascii { 1 } else { 3 };
         let painted = if config.color { 4 * stroke } else { stroke };
         let rows = self.shape.lines + 3 * self.labels.len();
@@ -261,6 +276,12 @@ impl<'a, S: Span> Lending<'a, S> {
         let strokes = rows.saturating_mul(columns).saturating_mul(painted);
         LEAST_ROOM + strokes.min(MOST_ROOM) + self.report.prepared().said
     }
+}
+
+/// A source as the library is lent it.
+#[inline]
+fn given<'t>(name: Option<&'t [u8]>, text: &'t [u8], line_offset: usize) -> GivenSource<'t> {
+    GivenSource { name: OptionalText::from(name.map(Text::from)), text: Text::from(text), line_offset }
 }
 
 /// The offset of the last character of a label, or its start if it has none.
@@ -272,7 +293,8 @@ fn last_of(label: &GivenLabel<'_>) -> usize {
 impl Report<'_> {
     /// The picture over a source without a name that is lent so, in which these are the spans of labels and the place.
     pub(crate) fn picture_over(&self, excerpt: Excerpt<'_>, spans: &Spans, numbers: Numbers) -> String {
-        let mut lending = Lending::new(self);
+        let held = Held::for_sources(1);
+        let mut lending = Lending::new(self, &held);
         for (label, [start, last]) in lending.labels.to_mut().iter_mut().zip(&spans.ends) {
             (label.start, label.end) = (*start, last + usize::from(label.start < label.end));
         }
@@ -280,7 +302,7 @@ impl Report<'_> {
         (lending.sources, lending.placed) = (1, self.labels.len());
         lending.numbers = numbers;
         let mut room = Room::new();
-        let picture = lending.picture(Some((&None, &excerpt)), &mut room);
+        let picture = lending.picture(Some((None, &excerpt)), &mut room);
         String::from_utf8(picture.unwrap_or_else(|Refusal(status)| panic!("status {status}")).to_vec()).unwrap()
     }
 }
@@ -289,6 +311,7 @@ impl Report<'_> {
 mod tests {
     use super::{Kept, Lending};
     use crate::call::Room;
+    use crate::held::Held;
     use crate::{Color, Config, FnCache, Label, Report, ReportKind};
     use std::ops::Range;
 
@@ -300,7 +323,8 @@ mod tests {
 
     /// The picture over whole sources. Those behind the texts are not there.
     fn picture_over_whole(report: &Report<Place>) -> Vec<u8> {
-        let mut lending = Lending::new(report);
+        let held = Held::for_sources(TEXTS.len());
+        let mut lending = Lending::new(report, &held);
         for members in &report.prepared().members {
             let id = report.labels[members.first].span.0;
             if id >= TEXTS.len() {
@@ -310,11 +334,9 @@ mod tests {
             if let Some(at) = members.place {
                 lending.place = (members.source, at);
             }
-            let name = lending.hold_name(Some(id));
-            let start = lending.held.len();
-            lending.held.push_str(TEXTS[id]);
-            let text = start..lending.held.len();
-            lending.kept.push(Kept { source: members.source, name, text, line_offsets: [0; 2] });
+            let name = lending.hold_name(Some(id), &mut None);
+            held.push(TEXTS[id]);
+            lending.kept.push(Kept { source: members.source, name, text: TEXTS[id].len(), line_offsets: [0; 2] });
         }
         let mut room = Room::new();
         let picture = lending.picture(None, &mut room);

@@ -38,6 +38,7 @@ mod color;
 mod config;
 mod edit;
 mod excerpt;
+mod held;
 mod label;
 mod lending;
 mod members;

@@ -2,9 +2,11 @@
 
 use crate::cache::Cache;
 use crate::call::{Refusal, Room, NO_MEMORY};
+use crate::held::Held;
 use crate::lending::Lending;
 use crate::report::Report;
 use crate::span::Span;
+use std::fmt::Formatter;
 use std::io::{self, Write};
 
 impl<S: Span> Report<'_, S> {
@@ -29,25 +31,40 @@ impl<S: Span> Report<'_, S> {
     }
 
     /// The picture over the sources of a cache. One that can't be had is told on standard error.
-    fn picture<'p, C: Cache<S::SourceId>>(&self, mut cache: C, room: &'p mut Room) -> Result<&'p [u8], Refusal> {
-        let mut lending = Lending::new(self);
+    fn picture<'p, C: Cache<S::SourceId>>(&self, cache: C, room: &'p mut Room) -> Result<&'p [u8], Refusal> {
+        let sources = self.prepared().members.len();
+        let held = Held::for_sources(sources);
+        let lending = Lending::new(self, &held);
+        if sources < 2 {
+            return self.picture_by(cache, lending, None, room);
+        }
+        held.with_formatter(|names| self.picture_by(cache, lending, Some(names), room))
+    }
+
+    /// The same, where a formatter, if there is one, writes the names of sources to what is held of them.
+    fn picture_by<'p, C: Cache<S::SourceId>>(
+        &self,
+        mut cache: C,
+        mut lending: Lending<'_, S>,
+        mut names: Option<&mut Formatter<'_>>,
+        room: &'p mut Room,
+    ) -> Result<&'p [u8], Refusal> {
         let mut next = lending.unplaced_from(0);
         while let Some(number) = next {
             let id = self.labels[number].span.source();
-            let name = lending.hold_name(cache.display(id));
+            let name = lending.hold_name(cache.display(id), &mut names);
             match cache.fetch(id) {
                 Ok(source) => {
                     let excerpt = lending.place(number, source);
                     next = lending.unplaced_from(number + 1);
                     // (The cache lends one source at a time. So those in front of the last are copied.)
                     if lending.is_whole() {
-                        return lending.picture(Some((&name, &excerpt)), room);
+                        return lending.picture(Some((name, &excerpt)), room);
                     }
                     lending.keep(number, name, &excerpt);
                 }
                 Err(error) => {
-                    let name = name.map_or("", |name| lending.held(name));
-                    eprintln!("Unable to fetch source '{name}': {error:?}");
+                    eprintln!("Unable to fetch source '{}': {error:?}", lending.take_name(name));
                     lending.miss(number);
                     next = lending.unplaced_from(number + 1);
                 }
