@@ -175,7 +175,7 @@ impl<'s> FewLines<'s> {
     }
 
     /// The same of a source that has many lines.
-    #[inline(never)]
+    #[inline]
     fn among_many<I: AsRef<str>>(
         source: &'s Source<I>,
         [first, last]: Ends,

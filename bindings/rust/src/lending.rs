@@ -177,7 +177,7 @@ impl<'a, S: Span> Lending<'a, S> {
     }
 
     /// Moves the labels in a source to what is lent of it, which starts at this offset.
-    #[inline(never)]
+    #[inline]
     fn move_by(&mut self, members: &Members, start: usize) {
         for label in members.of_mut(self.labels.to_mut()) {
             label.start -= start;
