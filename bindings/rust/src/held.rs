@@ -73,3 +73,27 @@ impl<F: Fn(&mut Formatter<'_>)> Display for Working<F> {
         Ok(())
     }
 }
+
+#[cfg(test)]
+mod tests {
+    use super::Held;
+    use std::fmt::Formatter;
+
+    /// Holds two names with a text between them. Returns how many bytes are in front of the second name.
+    fn hold(held: &Held, mut formatter: Option<&mut Formatter<'_>>) -> usize {
+        held.push_name(12, &mut formatter);
+        held.push("a\n");
+        let len = held.len();
+        held.push_name(format_args!("{}.{}", 'b', "txt"), &mut formatter);
+        len
+    }
+
+    #[test]
+    fn names_are_held_by_a_formatter_and_without() {
+        let held = Held::for_sources(0);
+        let len = hold(&held, None);
+        assert_eq!((held.split_off(len).as_str(), held.text().as_str()), ("b.txt", "12a\n"));
+        let again = held.with_formatter(|formatter| hold(&held, Some(formatter)));
+        assert_eq!((held.split_off(again).as_str(), held.text().as_str()), ("b.txt", "12a\n12a\n"));
+    }
+}

@@ -246,12 +246,12 @@ impl<'a, S: Span> Lending<'a, S> {
                 let source = given(name, excerpt.text.as_bytes(), excerpt.line_offsets[turn]);
                 draw(&report, &[source], self.len(), room)
             }
-            _ => draw(&report, &self.sources(last, turn, held.as_bytes()), self.len(), room),
+            _ => draw(&report, &self.given_sources(last, turn, held.as_bytes()), self.len(), room),
         }
     }
 
     /// All sources as the library is lent them. Their names and their texts are held one behind another.
-    fn sources<'t>(&self, last: Last<'t, '_>, turn: usize, mut held: &'t [u8]) -> Vec<GivenSource<'t>> {
+    fn given_sources<'t>(&self, last: Last<'t, '_>, turn: usize, mut held: &'t [u8]) -> Vec<GivenSource<'t>> {
         let mut sources = Vec::with_capacity(self.kept.len() + 1);
         for it in &self.kept {
             let (name, behind) = held.split_at(it.name.unwrap_or(0));

@@ -69,13 +69,16 @@ pub struct Report<'a, S: Span = Range<usize>> {
 impl<'a, S: Span> Report<'a, S> {
     fn new(content: Content<'a>, span: S, labels: Vec<Label<S>>) -> Report<'a, S> {
         let prepared = Prepared::new(&content, &span, &labels);
-        // What it lends are texts on the heap and the name of a kind. They stay there, and are as they were, as long as
-        // the report has them, and it lends what is prepared no longer than that.
+        // SAFETY: the lifetime alone changes. What is prepared points to the bytes of texts: those of strings of
+        // `content` and of `labels`, which are on the heap, and the name of a kind, which lives for 'a. To move the
+        // report moves none of these bytes. No call changes the report's strings or takes one out, and they go when
+        // the report does; what is prepared reads nothing when it goes. `prepared` lends it for as long as the
+        // report is borrowed.
         let prepared = unsafe { mem::transmute::<Prepared<'_>, Prepared<'static>>(prepared) };
         Report { content, labels, prepared }
     }
 
-    /// What is lent of the report beside its sources.
+    /// What is lent of the report beside its sources, as long as the report is borrowed.
     pub(crate) fn prepared(&self) -> &Prepared<'_> {
         &self.prepared
     }

@@ -34,21 +34,21 @@ impl<S: Span> Report<'_, S> {
     fn picture<'p, C: Cache<S::SourceId>>(&self, cache: C, room: &'p mut Room) -> Result<&'p [u8], Refusal> {
         let sources = self.prepared().members.len();
         let held = Held::for_sources(sources);
-        let lending = Lending::new(self, &held);
         if sources < 2 {
-            return self.picture_by(cache, lending, None, room);
+            return self.picture_holding(cache, &held, None, room);
         }
-        held.with_formatter(|names| self.picture_by(cache, lending, Some(names), room))
+        held.with_formatter(|names| self.picture_holding(cache, &held, Some(names), room))
     }
 
     /// The same, where a formatter, if there is one, writes the names of sources to what is held of them.
-    fn picture_by<'p, C: Cache<S::SourceId>>(
+    fn picture_holding<'p, C: Cache<S::SourceId>>(
         &self,
         mut cache: C,
-        mut lending: Lending<'_, S>,
+        held: &Held,
         mut names: Option<&mut Formatter<'_>>,
         room: &'p mut Room,
     ) -> Result<&'p [u8], Refusal> {
+        let mut lending = Lending::new(self, held);
         let mut next = lending.unplaced_from(0);
         while let Some(number) = next {
             let id = self.labels[number].span.source();
