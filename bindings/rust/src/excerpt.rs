@@ -203,6 +203,11 @@ impl<'s> FewLines<'s> {
 }
 
 impl Excerpt<'_> {
+    /// Whether a line stands for others in it, by a number that differs between two drawings.
+    pub(crate) fn has_stand_ins(&self) -> bool {
+        self.line_offsets[0] != self.line_offsets[1]
+    }
+
     /// The lines that these spans begin or end on, those near them, and what stands for those between. The spans are
     /// moved to what is lent, whose shape is told too.
     pub(crate) fn of_lines_apart<I: AsRef<str>>(
@@ -361,7 +366,7 @@ mod tests {
         assert_eq!(String::from_utf8(out).unwrap(), want, "{told}");
         let mut numbers = Numbers::default();
         let (apart, _) = Excerpt::of_lines_apart(source, &mut spans, &mut numbers, &config);
-        let has_stand_ins = apart.line_offsets[0] != apart.line_offsets[1];
+        let has_stand_ins = apart.has_stand_ins();
         assert_eq!(report.picture_over(apart, &spans, numbers), want, "{told}");
         has_stand_ins
     }

@@ -26,15 +26,20 @@ pub(crate) struct Lending<'a, S: Span> {
     labels: Cow<'a, [GivenLabel<'a>]>,
     /// The number of the source that the header's place is in, and where. It is in none before that was fetched.
     place: (usize, usize),
-    /// Names and texts of sources, one behind another.
+    /// Names and texts of sources, one behind another. Behind those that are kept stands the name of the last.
     held: &'a Held,
     kept: Vec<Kept>,
-    /// How many sources were fetched, and how many labels are in these.
+    /// How many bytes are held of the sources that are kept.
+    kept_len: usize,
+    /// How many sources were fetched, which the last of these is, and how many labels are in them.
     sources: usize,
+    last: usize,
     placed: usize,
     /// The sources that could not be had so far. Those behind them were not asked for.
     missing: Vec<usize>,
     numbers: Numbers,
+    /// Whether lines that are left out have stand-ins, so that it is drawn twice.
+    has_stand_ins: bool,
     shape: Shape,
 }
 
@@ -58,10 +63,13 @@ impl<'a, S: Span> Lending<'a, S> {
             place: (NO_SOURCE, 0),
             held,
             kept: Vec::with_capacity(report.prepared().members.len().saturating_sub(1)),
+            kept_len: 0,
             sources: 0,
+            last: NO_SOURCE,
             placed: 0,
             missing: Vec::new(),
             numbers: Numbers::default(),
+            has_stand_ins: false,
             shape: Shape::default(),
         }
     }
@@ -103,21 +111,21 @@ impl<'a, S: Span> Lending<'a, S> {
         name: Option<impl Display>,
         formatter: &mut Option<&mut Formatter<'_>>,
     ) -> Option<usize> {
-        let start = self.held.len();
         self.held.push_name(name?, formatter);
-        Some(self.held.len() - start)
+        Some(self.held.len() - self.kept_len)
     }
 
     /// Takes back the name that was held last. It is empty if the source has none.
-    pub(crate) fn take_name(&self, name: Option<usize>) -> String {
-        self.held.split_off(self.held.len() - name.unwrap_or(0))
+    pub(crate) fn take_name(&self) -> String {
+        self.held.split_off(self.kept_len)
     }
 
-    /// Holds what is lent of a label's source, which was fetched last.
+    /// Holds what is lent of the source that was fetched last.
     #[inline]
-    pub(crate) fn keep(&mut self, label: usize, name: Option<usize>, excerpt: &Excerpt<'_>) {
+    pub(crate) fn keep(&mut self, name: Option<usize>, excerpt: &Excerpt<'_>) {
         self.held.push(&excerpt.text);
-        let (source, text) = (self.source_of(label), excerpt.text.len());
+        self.kept_len = self.held.len();
+        let (source, text) = (self.last, excerpt.text.len());
         self.kept.push(Kept { source, name, text, line_offsets: excerpt.line_offsets });
     }
 
@@ -137,7 +145,8 @@ impl<'a, S: Span> Lending<'a, S> {
     /// it get their places.
     #[inline]
     pub(crate) fn place<'s, I: AsRef<str>>(&mut self, first: usize, source: &'s Source<I>) -> Excerpt<'s> {
-        let members = &self.report.prepared().members[self.source_of(first)];
+        self.last = if self.missing.is_empty() { self.sources } else { self.source_of(first) };
+        let members = &self.report.prepared().members[self.last];
         let rest;
         let members = if first == members.first {
             members
@@ -193,6 +202,7 @@ impl<'a, S: Span> Lending<'a, S> {
         let mut spans = Spans { ends, has_place: members.place.is_some() };
         let config = self.config();
         let (excerpt, shape) = Excerpt::of_lines_apart(source, &mut spans, &mut self.numbers, config);
+        self.has_stand_ins |= excerpt.has_stand_ins();
         self.shape = self.shape.with(shape);
         for (label, [start, last]) in members.of_mut(self.labels.to_mut()).zip(spans.labels()) {
             let is_empty = label.start == label.end;
@@ -210,9 +220,7 @@ impl<'a, S: Span> Lending<'a, S> {
         if !self.is_whole() {
             self.leave_out_missing();
         }
-        let has_stand_ins = |[one, two]: [usize; 2]| one != two;
-        let mut all = self.kept.iter().map(|it| it.line_offsets).chain(last.map(|(_, excerpt)| excerpt.line_offsets));
-        if !all.any(has_stand_ins) {
+        if !self.has_stand_ins {
             return self.drawn(last, 0, room);
         }
         let mut other = Room::new();
@@ -253,12 +261,12 @@ impl<'a, S: Span> Lending<'a, S> {
     /// All sources as the library is lent them. Their names and their texts are held one behind another.
     fn given_sources<'t>(&self, last: Last<'t, '_>, turn: usize, mut held: &'t [u8]) -> Vec<GivenSource<'t>> {
         let mut sources = Vec::with_capacity(self.kept.len() + 1);
-        for it in &self.kept {
+        sources.extend(self.kept.iter().map(|it| {
             let (name, behind) = held.split_at(it.name.unwrap_or(0));
             let (text, behind) = behind.split_at(it.text);
             held = behind;
-            sources.push(given(it.name.map(|_| name), text, it.line_offsets[turn]));
-        }
+            given(it.name.map(|_| name), text, it.line_offsets[turn])
+        }));
         sources.extend(last.map(|(name, excerpt)| {
             given(name.map(|len| &held[..len]), excerpt.text.as_bytes(), excerpt.line_offsets[turn])
         }));
@@ -301,6 +309,7 @@ impl Report<'_> {
         lending.place = (0, spans.ends[self.labels.len()][0]);
         (lending.sources, lending.placed) = (1, self.labels.len());
         lending.numbers = numbers;
+        lending.has_stand_ins = excerpt.has_stand_ins();
         let mut room = Room::new();
         let picture = lending.picture(Some((None, &excerpt)), &mut room);
         String::from_utf8(picture.unwrap_or_else(|Refusal(status)| panic!("status {status}")).to_vec()).unwrap()
@@ -336,6 +345,7 @@ mod tests {
             }
             let name = lending.hold_name(Some(id), &mut None);
             held.push(TEXTS[id]);
+            lending.kept_len = held.len();
             lending.kept.push(Kept { source: members.source, name, text: TEXTS[id].len(), line_offsets: [0; 2] });
         }
         let mut room = Room::new();

@@ -61,10 +61,10 @@ impl<S: Span> Report<'_, S> {
                     if lending.is_whole() {
                         return lending.picture(Some((name, &excerpt)), room);
                     }
-                    lending.keep(number, name, &excerpt);
+                    lending.keep(name, &excerpt);
                 }
                 Err(error) => {
-                    eprintln!("Unable to fetch source '{}': {error:?}", lending.take_name(name));
+                    eprintln!("Unable to fetch source '{}': {error:?}", lending.take_name());
                     lending.miss(number);
                     next = lending.unplaced_from(number + 1);
                 }
