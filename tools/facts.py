@@ -307,6 +307,7 @@ def of_rattle():
 def of_rust():
     yield "replaces `ariadne` {} in a Rust program", original_version()
     yield "The crate needs Rust {},", least_rust()
+    yield "keeps {} KiB for short blocks", 2 ** int(found("bindings/rust/src/heap.rs", r"^const LEN: usize = 1 << (\d+);$")) >> 10
 
 
 def of_safe():

@@ -1,5 +1,7 @@
 //! The call of libsewarqo. `sewarqo.h` tells each field, and what the call returns.
 
+#[cfg(own_heap)]
+use crate::heap::with_region;
 use std::marker::PhantomData;
 use std::mem::MaybeUninit;
 use std::slice;
@@ -175,6 +177,12 @@ impl Room {
     }
 }
 
+/// Does this. (The library that is linked has a heap.)
+#[cfg(not(own_heap))]
+fn with_region<T>(call: impl FnOnce() -> T) -> T {
+    call()
+}
+
 /// The picture of a report over its sources. It is drawn twice if it has more bytes than `len`.
 pub(crate) fn draw<'r>(
     report: &GivenReport<'_>,
@@ -209,7 +217,7 @@ fn draw_into(
     // Each pointer comes from a reference or a slice that lives until the call has returned, with the
     // length of that slice; what the structs lend lives as long (`Lent`). The call writes `out`, `len`,
     // `left` and `count` alone, which are borrowed for it, reads nothing of `out`, and keeps no pointer.
-    unsafe {
+    with_region(|| unsafe {
         sewarqo_draw(
             report,
             sources.as_ptr(),
@@ -221,7 +229,7 @@ fn draw_into(
             left.len(),
             slice::from_mut(&mut count).as_mut_ptr(),
         )
-    }
+    })
 }
 
 /// The text of a help that shows edits of a source; else the status of a refusal, and the number of the edit.
@@ -250,5 +258,5 @@ fn suggest_into(
 ) -> u32 {
     // As in `draw_into`: the call writes `out`, `len` and `count` alone, reads nothing of `out`, and keeps no
     // pointer.
-    unsafe { sewarqo_suggest(suggestion, out.as_mut_ptr().cast(), out.len(), len, count) }
+    with_region(|| unsafe { sewarqo_suggest(suggestion, out.as_mut_ptr().cast(), out.len(), len, count) })
 }

@@ -38,6 +38,8 @@ mod color;
 mod config;
 mod edit;
 mod excerpt;
+#[cfg(own_heap)]
+mod heap;
 mod held;
 mod label;
 mod lending;
