@@ -3,15 +3,14 @@
 ghost use Rattle.std.specs.Prelude.{◌≡◌, IfOk, OnOk, map, string_bytes};
 ghost use Rattle.std.specs.Prelude.{◌<◌, ℕ, List, Option, Some, length, slice_get};
 ghost use Rattle.ariadne_base.specs.Listing.{Listing, listed_lines};
-ghost use Rattle.ariadne_picture.specs.Canvas.{canvas, cell_of, palette_of, texts_of, group_source};
-ghost use Rattle.ariadne_picture.specs.Groups.{ordered};
+ghost use Rattle.ariadne_picture.specs.Canvas.{canvas, palette_of, texts_of, group_source};
 ghost use Rattle.ariadne_picture.specs.Print.{printed};
 ghost use Rattle.ariadne_picture.specs.declared.label_info.LabelInfo.{LabelInfo};
 ghost use Rattle.ariadne_render.specs.Pages.{DrawsRows};
 ghost use Rattle.ariadne_render.specs.LongLines.{IsRemembered};
 ghost use Rattle.ariadne_report.specs.CacheReads.{AreDrawn, world};
 ghost use Rattle.ariadne_report.specs.DrawnGroups.{AreGroups};
-ghost use Rattle.ariadne.specs.WholePages.{IsForReport, groups_rows, page_of, picture_rows};
+ghost use Rattle.ariadne.specs.WholePages.{IsForReport, groups_rows, page_of};
 ghost use Rattle.ariadne.specs.WholePages.{shown_palette};
 
 use ariadne_base::{Cache, Span};
@@ -26,9 +25,7 @@ use ariadne_render::page::Page;
 use ariadne_render::palette::Palette;
 use ariadne_render::writer::Writer;
 use ariadne_report::content::Content;
-use ariadne_report::groups::{
-    are_one_group, are_over_one_source, cut_groups, in_order, number_width,
-};
+use ariadne_report::groups::{are_over_one_source, cut_groups, in_order, number_width};
 use ariadne_report::snippets::{messages, own_offset, resolve, texts};
 use std::alloc::{AllocError, Global};
 
@@ -50,28 +47,8 @@ pub(crate) fn draw<S: Span, C: Cache<S::SourceId>>(
         IfOk result (λ text. string_bytes text ≡ printed (canvas w report.now infos.items)) }
 {
     let sorted = in_order(report.alloc, infos)?;
-    if are_one_group(report, &sorted) {
-        return picture(report, cache, &[sorted.as_slice()]);
-    }
-    let groups = cut_groups(report, &sorted)?;
-    picture(report, cache, &groups)
-}
-
-/// The text of a report's picture, whose groups these are: its header, and the groups.
-fn picture<S: Span, C: Cache<S::SourceId>>(
-    report: &Content<'_, S>,
-    cache: &C,
-    groups: &[&[LabelInfo]],
-) -> Result<String, AllocError>
-    requires groups { let w = world S.source_of S.start_of S.end_of S.SourceId.eq
-        (C.names cache.now) (C.contents cache.now) in
-        AreGroups w report.now (map (λ g. g.now) groups.now) }
-    ensures { let w = world S.source_of S.start_of S.end_of S.SourceId.eq
-        (C.names cache.now) (C.contents cache.now) in let r = report.now in
-        let rows = picture_rows w r (map (λ g. g.now) groups.now) in
-        let cells = map (map (cell_of (palette_of r))) rows in
-        IfOk result (λ text. string_bytes text ≡ printed cells) }
-{
+    let cut = cut_groups(report, &sorted)?;
+    let groups = cut.as_slice();
     let page = page(report, cache, groups)?;
     let mut writer = Writer::new(report.alloc, &page);
     writer.pen.reserve(FIRST_ROOM)?;

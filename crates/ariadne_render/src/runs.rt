@@ -1,6 +1,6 @@
 //! Runs of one character, appended to a text.
 
-ghost use Rattle.std.specs.Prelude.{◌≡◌, ◌++◌, OnOk, encode_utf8, string_bytes};
+ghost use Rattle.std.specs.Prelude.{◌≡◌, ◌++◌, IfSome, OnOk, encode_utf8, string_bytes};
 ghost use Rattle.ariadne_picture.specs.Pieces.{repeated, spaces};
 
 use std::alloc::AllocError;
@@ -20,37 +20,39 @@ const LINES: &str = "───────────────────�
 pub(crate) fn push_spaces(out: &mut String, count: usize) -> Result<(), AllocError>
     ensures { OnOk result (string_bytes out.new ≡ string_bytes out.old ++ spaces count) }
 {
-    push_copies(out, ' ', BLANKS, count)
+    push_repeated(out, ' ', count)
 }
 
-/// Appends a character `count` times: one that stands in long runs in slices of many copies.
+/// Appends a character `count` times: one that stands in long runs in slices of many copies. It is
+/// inlined so that a constant is looked up once.
+#[inline(always)]
 pub(crate) fn push_repeated(out: &mut String, c: char, count: usize) -> Result<(), AllocError>
     ensures { OnOk result
         (string_bytes out.new ≡ string_bytes out.old ++ repeated count (encode_utf8 c)) }
 {
-    match c {
-        ' ' => push_copies(out, ' ', BLANKS, count),
-        '-' => push_copies(out, '-', DASHES, count),
-        '^' => push_copies(out, '^', CARETS, count),
-        '─' => push_copies(out, '─', LINES, count),
-        _ => push_one_by_one(out, c, count),
-    }
-}
-
-/// Appends a character `count` times, of which `many` holds 64 copies. It is inlined so that a copy
-/// of a constant has a constant length.
-#[inline(always)]
-fn push_copies(out: &mut String, c: char, many: &str, count: usize) -> Result<(), AllocError>
-    requires { many.now ≡ repeated COPIES (encode_utf8 c) }
-    ensures { OnOk result
-        (string_bytes out.new ≡ string_bytes out.old ++ repeated count (encode_utf8 c)) }
-{
+    let Some(many) = copies_of(c) else {
+        return push_one_by_one(out, c, count);
+    };
     let mut left = count;
     while left > COPIES {
         out.push_str(many)?;
         left -= COPIES;
     }
     out.push_str(&many[..left * c.len_utf8()])
+}
+
+/// The text that holds 64 copies of a character, if the character stands in long runs.
+#[inline(always)]
+fn copies_of(c: char) -> Option<&'static str>
+    ensures { IfSome result (λ many. many.now ≡ repeated COPIES (encode_utf8 c)) }
+{
+    match c {
+        ' ' => Some(BLANKS),
+        '-' => Some(DASHES),
+        '^' => Some(CARETS),
+        '─' => Some(LINES),
+        _ => None,
+    }
 }
 
 /// Appends a character `count` times, each on its own.

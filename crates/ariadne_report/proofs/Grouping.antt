@@ -4,7 +4,7 @@ use Rattle.std.specs.Prelude.{slice_get}
 use Rattle.std.proofs.Common.{◌≡◌, ℕ, zero, suc, ◌+◌, ◌-◌, ◌<◌, ◌≤◌, Bool, true, false, List, [], ◌∷◌, ◌++◌, Some, refl, sym, ap, ◌∙◌, length, map, take, drop, get_or, arith, subst}
 use Rattle.std.proofs.Common.{append_assoc}
 use Rattle.std.proofs.lemmas.Bool.{cond_both, cond-false}
-use Rattle.std.proofs.lemmas.List.{append-nil, get_or-drop, get_or_default, drop_all, take_all}
+use Rattle.std.proofs.lemmas.List.{append-nil, get_or-drop, get_or_default, drop_all}
 use Rattle.std.proofs.lemmas.List.Folds.{drop_split}
 use Rattle.std.proofs.Math.ListN.{length-drop}
 use Rattle.std.proofs.Math.Seq.{drop-cons, take-suc}
@@ -202,15 +202,6 @@ module _ (same : ℕ → ℕ → Bool) where
     one_cut start end old new cut more so_far =
         let rest = groups_of same (drop end infos) in
         ap (λ gs. gs ++ rest) more ∙ append_assoc old (slice_range infos start end ∷ []) rest ∙ ap (λ gs. old ++ gs) (sym cut) ∙ so_far
-
-    -- where the first group ends behind the last label, it is the only one
-    pub only_group : (end : ℕ) → groups_of same (drop 0 infos) ≡ slice_range infos 0 end ∷ groups_of same (drop end infos) → end ≡ length infos
-        → groups_of same infos ≡ infos ∷ []
-    unfolding groups_of
-    only_group end cut e =
-        let all : slice_range infos 0 end ≡ infos = take_all (end - 0) infos (omega arith) in
-        let none : drop end infos ≡ [] = drop_all end infos (omega arith) in
-        cut ∙ (λ i. all i ∷ groups_of same (none i))
 
     -- no label is left
     pub all_cut : (start : ℕ) (gs : List (List LabelInfo)) → length infos ≤ start → gs ++ groups_of same (drop start infos) ≡ groups_of same infos

@@ -1,7 +1,7 @@
 //! The groups of a picture: where the labels in order are cut.
 
-ghost use Rattle.std.specs.Prelude.{◌≡◌, ◌<◌, ◌≤◌, ℕ, List, [], ◌∷◌, IfOk, Option, drop, length};
-ghost use Rattle.std.specs.Prelude.{map, slice_range, true};
+ghost use Rattle.std.specs.Prelude.{◌≡◌, ◌<◌, ◌≤◌, ℕ, List, ◌∷◌, IfOk, Option, drop, length};
+ghost use Rattle.std.specs.Prelude.{map, slice_range};
 ghost use Rattle.ariadne_base.specs.Listing.{Listing};
 ghost use Rattle.ariadne_picture.specs.Canvas.{group_source, number_width, same_source, sheet_of};
 ghost use Rattle.ariadne_picture.specs.Groups.{groups_of, is_cut, printed_number, ordered};
@@ -46,17 +46,6 @@ pub fn cut_groups<'a, S: Span>(
         start = end;
     }
     Ok(groups)
-}
-
-/// Whether labels in order are one group, of which no list is needed.
-pub fn are_one_group<S: Span>(report: &Content<'_, S>, infos: &[LabelInfo]) -> bool
-    requires there { AreThere report.now infos.now }
-    ensures { (names : S.SourceId → Option (List ℕ)) (contents : List (S.SourceId × Listing)) →
-        let same = same_source (world S.source_of S.start_of S.end_of S.SourceId.eq names contents)
-        report.now in
-        result ≡ true → groups_of same infos.now ≡ infos.now ∷ [] }
-{
-    !infos.is_empty() && group_end(report, infos, 0) == infos.len()
 }
 
 /// The end of the group that begins at `start`: where the next cut stands.

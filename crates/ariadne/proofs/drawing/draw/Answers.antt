@@ -1,18 +1,28 @@
--- The groups of the labels in order are those that are drawn.
-use Rattle.std.proofs.Common.{◌≡◌, ◌∙◌, [], ◌∷◌, List, ap, map, sym, Bor}
+-- The groups of the labels in order are drawn below the header, and what a new pen has written at last is the picture.
+use Rattle.std.proofs.Common.{◌≡◌, ◌∙◌, List, [], ap, map, refl, subst, sym, Bor}
 use Rattle.std.proofs.lemmas.Result.{IfOk-weaker}
-use Rattle.ariadne_picture.specs.Canvas.{same_source}
-use Rattle.ariadne_picture.specs.Groups.{groups_of}
+use Rattle.ariadne_picture.specs.Canvas.{header_pieces, palette_of, same_source, texts_of}
+use Rattle.ariadne_picture.specs.Groups.{groups_of, ordered}
+use Rattle.ariadne_picture.specs.Pieces.{Texts}
 use Rattle.ariadne_picture.specs.declared.label_info.LabelInfo.{LabelInfo}
+use Rattle.ariadne_render.specs.Pages.{DrawsRow, PageFields, PenFields}
+use Rattle.ariadne_render.proofs.Drawn.{page_kept}
+use Rattle.ariadne_render.specs.Gutters.{GutterFields}
 use Rattle.ariadne_report.specs.CacheReads.{world}
+use Rattle.ariadne_report.specs.DrawnGroups.{AreGroups}
 use Rattle.ariadne_report.proofs.GroupingSources.{drawn_there}
 use Rattle.ariadne_report.proofs.Grouping.{sorted_drawn, sorted_groups}
-use Rattle.ariadne.proofs.WholePictures.{canvas_is}
+use Rattle.ariadne.specs.WholePages.{picture_rows}
+use Rattle.ariadne.proofs.WholePictures.{canvas_is, picture_drawn, rows_written}
+use Rattle.ariadne.proofs.drawing.draw.Given.{Over}
+use Rattle.ariadne.proofs.drawing.draw.Goals.{After-as_slice-groups, In_ok-push_header}
 use Rattle.ariadne.proofs.drawing.draw.Goals as goal
 
+-- ---- the groups
+
 -- the labels in order are there
-pub are_one_group-requires : goal.are_one_group-requires
-are_one_group-requires g c =
+pub cut_groups-requires : goal.cut_groups-requires
+cut_groups-requires g c =
     let w = world g.S.Span.source_of g.S.Span.start_of g.S.Span.end_of g.S.SourceId.PartialEq.eq (g.C.Cache.names c.args.cache.now)
     (g.C.Cache.contents c.args.cache.now) in
     let sorted = c.deref.ensures.value ∙ c.in_ok-sorted.ensures in
@@ -22,70 +32,71 @@ are_one_group-requires g c =
           (sorted_drawn w c.args.report.now c.args.infos.items c.deref.result.now sorted c.requires.drawn);
     }
 
--- so they are where they are cut
-pub cut_groups-requires : goal.cut_groups-requires
-cut_groups-requires g c =
+-- they are cut where their groups end
+are_cut : (g : Over) (c : After-as_slice-groups g) → let w = world g.S.Span.source_of g.S.Span.start_of g.S.Span.end_of g.S.SourceId.PartialEq.eq (g.C.Cache.names c.args.cache.now)
+    (g.C.Cache.contents c.args.cache.now) in
+    map (λ (x : Bor (List LabelInfo)). x.now) c.as_slice-groups.result.now ≡ groups_of (same_source w c.args.report.now) (ordered c.args.infos.items)
+are_cut g c =
     let w = world g.S.Span.source_of g.S.Span.start_of g.S.Span.end_of g.S.SourceId.PartialEq.eq (g.C.Cache.names c.args.cache.now)
     (g.C.Cache.contents c.args.cache.now) in
-    let sorted = c.deref-2.ensures.value ∙ c.in_ok-sorted.ensures in
+    let r = c.args.report.now in
+    let cut = c.in_ok-cut.ensures (g.C.Cache.names c.args.cache.now) (g.C.Cache.contents c.args.cache.now) in
+    ap (map (λ (x : Bor (List LabelInfo)). x.now)) c.as_slice-groups.ensures.value ∙ cut
+    ∙ ap (groups_of (same_source w r)) (c.deref.ensures.value ∙ c.in_ok-sorted.ensures)
+
+-- so they are groups of labels that are drawn
+are_groups : (g : Over) (c : After-as_slice-groups g) → let w = world g.S.Span.source_of g.S.Span.start_of g.S.Span.end_of g.S.SourceId.PartialEq.eq (g.C.Cache.names c.args.cache.now)
+    (g.C.Cache.contents c.args.cache.now) in
+    AreGroups w c.args.report.now (map (λ (x : Bor (List LabelInfo)). x.now) c.as_slice-groups.result.now)
+are_groups g c =
+    let w = world g.S.Span.source_of g.S.Span.start_of g.S.Span.end_of g.S.SourceId.PartialEq.eq (g.C.Cache.names c.args.cache.now)
+    (g.C.Cache.contents c.args.cache.now) in
+    let r = c.args.report.now in
+    let drawn = sorted_drawn w r c.args.infos.items _ refl c.requires.drawn in
+    sorted_groups w r (ordered c.args.infos.items) _ (are_cut g c) drawn
+
+pub page-requires : goal.page-requires
+page-requires g c = record { groups = are_groups g (goal.at.page-requires g c).After-as_slice-groups }
+
+pub push_groups-requires-clause-groups : goal.push_groups-requires-clause-groups
+push_groups-requires-clause-groups g c = are_groups g (goal.at.push_groups-requires-clause-groups g c).After-as_slice-groups
+
+-- ---- the pen
+
+-- it is at the start of the page
+fresh : (g : Over) (c : In_ok-push_header g) → c.reserve.new.self ≡ record { page = c.in_ok-page.page; bytes = [] }
+fresh g c = c.in_ok-reserve.ensures ∙ c.new-writer.ensures.pen
+
+-- the header is that of the report
+header : (g : Over) (c : In_ok-push_header g) → DrawsRow c.reserve.new.self c.push_header.new.pen (header_pieces (texts_of c.args.report.now))
+header g c =
+    subst (λ (t : Texts). DrawsRow c.reserve.new.self c.push_header.new.pen (header_pieces t)) c.texts-texts.ensures c.in_ok-push_header.ensures
+
+-- so pen and gutter are of the page
+pub push_groups-requires-clause-writer : goal.push_groups-requires-clause-writer
+push_groups-requires-clause-writer g c =
+    let b = (goal.at.push_groups-requires-clause-writer g c).In_ok-push_header in
+    let page : c.push_header.new.pen.page ≡ c.in_ok-page.page =
+    page_kept c.reserve.new.self c.push_header.new.pen _ (header g b) ∙ ap (λ (x : PenFields). x.page) (fresh g b) in
     record {
-      there =
-          drawn_there w c.args.report.now c.deref-2.result.now
-          (sorted_drawn w c.args.report.now c.args.infos.items c.deref-2.result.now sorted c.requires.drawn);
+      one_page = ap (λ (x : GutterFields). x.page) c.new-writer.ensures.gutter ∙ sym page;
+      switches = ap (λ (x : PageFields). x.switches) (page ∙ c.in_ok-page.ensures);
     }
 
--- ---- one group
-
--- it is drawn
-pub picture-requires : goal.picture-requires
-picture-requires g c =
-    let w = world g.S.Span.source_of g.S.Span.start_of g.S.Span.end_of g.S.SourceId.PartialEq.eq (g.C.Cache.names c.args.cache.now)
-    (g.C.Cache.contents c.args.cache.now) in
-    let r = c.args.report.now in
-    let labels = c.deref.ensures.value in
-    let one = c.are_one_group.ensures (g.C.Cache.names c.args.cache.now) (g.C.Cache.contents c.args.cache.now) c.if-are_one_group.true in
-    let are : c.as_slice.result.now ∷ [] ≡ groups_of (same_source w r) c.deref.result.now =
-    ap (λ (xs : List LabelInfo). xs ∷ []) (c.as_slice.ensures.value ∙ sym labels) ∙ sym one in
-    let sorted = labels ∙ c.in_ok-sorted.ensures in
-    let drawn = sorted_drawn w r c.args.infos.items c.deref.result.now sorted c.requires.drawn in
-    record { groups = sorted_groups w r c.deref.result.now (c.as_slice.result.now ∷ []) are drawn }
-
--- the picture is its own
-pub returns-then-are_one_group : goal.returns-then-are_one_group
-returns-then-are_one_group g c =
-    let w = world g.S.Span.source_of g.S.Span.start_of g.S.Span.end_of g.S.SourceId.PartialEq.eq (g.C.Cache.names c.args.cache.now)
-    (g.C.Cache.contents c.args.cache.now) in
-    let r = c.args.report.now in
-    let labels = c.deref.ensures.value in
-    let one = c.are_one_group.ensures (g.C.Cache.names c.args.cache.now) (g.C.Cache.contents c.args.cache.now) c.if-are_one_group.true in
-    let are : c.as_slice.result.now ∷ [] ≡ groups_of (same_source w r) c.deref.result.now =
-    ap (λ (xs : List LabelInfo). xs ∷ []) (c.as_slice.ensures.value ∙ sym labels) ∙ sym one in
-    let same = are ∙ ap (groups_of (same_source w r)) (labels ∙ c.in_ok-sorted.ensures) in
-    IfOk-weaker c.picture.result _ _ (λ text e. e ∙ canvas_is w r c.args.infos.items _ same) c.picture.ensures
-
--- ---- more of them, or none
-
--- they are drawn
-pub picture-requires-2 : goal.picture-requires-2
-picture-requires-2 g c =
-    let w = world g.S.Span.source_of g.S.Span.start_of g.S.Span.end_of g.S.SourceId.PartialEq.eq (g.C.Cache.names c.args.cache.now)
-    (g.C.Cache.contents c.args.cache.now) in
-    let r = c.args.report.now in
-    let cut = c.in_ok-groups.ensures (g.C.Cache.names c.args.cache.now) (g.C.Cache.contents c.args.cache.now) in
-    let are : map (λ (x : Bor (List LabelInfo)). x.now) c.deref-3.result.now ≡ groups_of (same_source w r) c.deref-2.result.now =
-    ap (map (λ (x : Bor (List LabelInfo)). x.now)) c.deref-3.ensures.value ∙ cut in
-    let sorted = c.deref-2.ensures.value ∙ c.in_ok-sorted.ensures in
-    let drawn = sorted_drawn w r c.args.infos.items c.deref-2.result.now sorted c.requires.drawn in
-    record { groups = sorted_groups w r c.deref-2.result.now _ are drawn }
-
--- the picture is theirs
+-- its bytes are those of the picture
 pub returns : goal.returns
 returns g c =
     let w = world g.S.Span.source_of g.S.Span.start_of g.S.Span.end_of g.S.SourceId.PartialEq.eq (g.C.Cache.names c.args.cache.now)
     (g.C.Cache.contents c.args.cache.now) in
     let r = c.args.report.now in
-    let cut = c.in_ok-groups.ensures (g.C.Cache.names c.args.cache.now) (g.C.Cache.contents c.args.cache.now) in
-    let are : map (λ (x : Bor (List LabelInfo)). x.now) c.deref-3.result.now ≡ groups_of (same_source w r) c.deref-2.result.now =
-    ap (map (λ (x : Bor (List LabelInfo)). x.now)) c.deref-3.ensures.value ∙ cut in
-    let same = are ∙ ap (groups_of (same_source w r)) (c.deref-2.ensures.value ∙ c.in_ok-sorted.ensures) in
-    IfOk-weaker c.picture-2.result _ _ (λ text e. e ∙ canvas_is w r c.args.infos.items _ same) c.picture-2.ensures
+    let gs = map (λ (x : Bor (List LabelInfo)). x.now) c.as_slice-groups.result.now in
+    let b = (goal.at.returns g c).In_ok-push_header in
+    let page : c.push_header.new.pen.page ≡ c.in_ok-page.page =
+    page_kept c.reserve.new.self c.push_header.new.pen _ (header g b) ∙ ap (λ (x : PenFields). x.page) (fresh g b) in
+    let width = ap (λ (x : PageFields). x.number_width) (page ∙ c.in_ok-page.ensures) in
+    c.into_text.ensures
+    ∙ rows_written (palette_of r) (picture_rows w r gs) c.in_ok-page.page c.reserve.new.self c.push_groups.new.writer.pen (fresh g b)
+    (ap (λ (x : PageFields). x.palette) c.in_ok-page.ensures)
+    (picture_drawn w r gs c.push_header.new.pen.page.number_width c.reserve.new.self c.push_header.new.pen c.push_groups.new.writer.pen width
+    (header g b) c.in_ok-push_groups.ensures)
+    ∙ canvas_is w r c.args.infos.items gs (are_cut g (goal.at.returns g c).After-as_slice-groups)

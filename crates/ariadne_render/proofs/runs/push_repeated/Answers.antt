@@ -1,24 +1,31 @@
-use Rattle.std.proofs.Common.{refl}
-use Rattle.ariadne_picture.specs.Lists.{joined}
+use Rattle.std.proofs.Common.{rules, ◌≡◌, ◌++◌, ◌-◌, ◌*◌, ◌≤◌, ◌∙◌, ap, arith, encode_utf8, length, string_bytes, take}
+use Rattle.std.proofs.lemmas.Str.{IsUtf8-encode}
 use Rattle.ariadne_picture.specs.Pieces.{repeated}
+use Rattle.ariadne_render.proofs.Copies.{repeats_slice, IsCharBoundary-repeated, take-repeated}
 use Rattle.ariadne_render.proofs.runs.push_repeated.Goals as goal
 
--- 64 blanks
-pub push_copies-requires : goal.push_copies-requires
-unfolding repeated joined lib.Utf8.encode
-push_copies-requires c = refl
+-- a turn writes 64 of those that are left
+pub loop-left-preserved : goal.loop-left-preserved
+loop-left-preserved c =
+    let old = string_bytes c.args.out.now in
+    let text = encode_utf8 c.args.c in
+    let more = repeats_slice old (string_bytes c.loop-left.out) text c.args.count c.loop-left.left 64 c.loop-left.invariant (omega arith) in
+    ap (λ t. t ++ repeated (c.loop-left.left - 64) text) (c.in_ok-push_str.ensures.bytes ∙ ap (λ t. string_bytes c.loop-left.out ++ t) c.in-Some.ensures) ∙ more
 
--- 64 horizontals in ASCII
-pub push_copies-requires-in-45 : goal.push_copies-requires-in-45
-unfolding repeated joined lib.Utf8.encode
-push_copies-requires-in-45 c = refl
+-- the slice ends behind a copy
+pub range-requires-clause-end_boundary : goal.range-requires-clause-end_boundary
+range-requires-clause-end_boundary c =
+    let text = encode_utf8 c.args.c in
+    let few : c.loop-left.left ≤ 64 = omega arith in
+    rw (c.in-Some.ensures, c.len_utf8.ensures.len) (IsCharBoundary-repeated c.loop-left.left 64 text few (IsUtf8-encode c.args.c c.ranges.c.0))
 
--- 64 underlines in ASCII
-pub push_copies-requires-in-94 : goal.push_copies-requires-in-94
-unfolding repeated joined lib.Utf8.encode
-push_copies-requires-in-94 c = refl
-
--- 64 horizontals as box drawing characters
-pub push_copies-requires-in-9472 : goal.push_copies-requires-in-9472
-unfolding repeated joined lib.Utf8.encode
-push_copies-requires-in-9472 c = refl
+-- the slice is what is left
+pub returns : goal.returns
+returns c =
+    let text = encode_utf8 c.args.c in
+    let left = c.loop-left.left in
+    let few : left ≤ 64 = omega arith in
+    let start : left * length text - 0 ≡ left * length text = omega arith in
+    let slice : c.range.result.now ≡ repeated left text =
+    rw (c.range.ensures.value, c.in-Some.ensures, c.len_utf8.ensures.len) (ap (λ n. take n (repeated 64 text)) start ∙ take-repeated left 64 text few) in
+    rw (← c.loop-left.invariant, ← slice) (search rules)
