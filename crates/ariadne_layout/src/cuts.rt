@@ -6,14 +6,14 @@
 //! ```
 
 ghost use Rattle.std.specs.Prelude.{◌≡◌, ◌≤◌, ◌<◌, ◌+◌, ◌-◌, ◌++◌, ◌&&◌, ◌||◌, ◌^◌, ℕ, List, [], ◌∷◌, OnOk, IfOk};
-ghost use Rattle.std.specs.Prelude.{IfSome, None, Some, length, map, min, nat_le, nat_lt, option_to_list, true};
+ghost use Rattle.std.specs.Prelude.{IfSome, None, Some, length, min, nat_le, nat_lt, option_to_list, true};
 ghost use Rattle.std.specs.List.{All};
 ghost use Rattle.std.specs.Str.{drop_trailing_whitespace};
 ghost use Rattle.std.specs.List.Sorted.{IsNonDecreasingBy, IsPermutation};
 ghost use Rattle.ariadne_picture.specs.Columns.{context, cut_columns, fits_with, goes_on};
 ghost use Rattle.ariadne_picture.specs.Columns.{letter_end, letter_start, needed_parts, or_begin, shown};
 ghost use Rattle.ariadne_picture.specs.Columns.{sights_of, whole_column, whole_width, widened, widened_part};
-ghost use Rattle.ariadne_layout.specs.Cuts.{AreApart, AreSeenAlike, BeginBy, HasPlace, end_of, label_part, mark_before};
+ghost use Rattle.ariadne_layout.specs.Cuts.{AreApart, AreSeenAlike, BeginBy, HasPlace, label_part, mark_before};
 ghost use Rattle.ariadne_layout.specs.Cuts.{mark_behind, needed, parts_of_labels, sights_in};
 ghost use Rattle.ariadne_layout.specs.Tables.{AreWholeColumns};
 

@@ -1,8 +1,7 @@
 //! The labels of a group, by what happens at each of its lines.
 
-ghost use Rattle.std.specs.Prelude.{◌≡◌, ◌<◌, ◌≤◌, ◌&&◌, [], not, filter, length};
+ghost use Rattle.std.specs.Prelude.{◌≡◌, ◌<◌, ◌≤◌, ◌&&◌, [], not, length};
 ghost use Rattle.std.specs.Prelude.{IfOk, IsTrue, MatchOption, OnErr, OnOk, slice_range};
-ghost use Rattle.ariadne_picture.specs.Lists.{best};
 ghost use Rattle.ariadne_picture.specs.Ranks.{gutter_labels, is_inline, is_margin};
 ghost use Rattle.ariadne_picture.specs.Ranks.{is_nearer_margin, is_start, multi_line_labels};
 ghost use Rattle.ariadne_layout.specs.SnippetLabels.{IsLineEnd, event_label, events_of, holds_at};

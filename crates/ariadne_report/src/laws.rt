@@ -1,7 +1,7 @@
 //! A law of the outcomes of labels. A law is the contract of an empty function: a call of the
 //! function states the law.
 
-ghost use Rattle.std.specs.Prelude.{◌≡◌, ◌≢◌, ⊤, ℕ, Contains, List, Option, Some, map, slice_get};
+ghost use Rattle.std.specs.Prelude.{◌≡◌, ◌≢◌, ⊤, ℕ, Contains, List, Some, map, slice_get};
 ghost use Rattle.ariadne_base.specs.Listing.{Listing};
 ghost use Rattle.ariadne_picture.specs.declared.label_info.LabelInfo.{LabelInfo};
 ghost use Rattle.ariadne_picture.specs.declared.verdict.Verdict.TheVariants.{Accepted};

@@ -1,7 +1,7 @@
 //! Laws of safe texts and of the pictures that are drawn of them. Each is the contract of a
 //! function that does nothing.
 
-ghost use Rattle.std.specs.Prelude.{◌≡◌, ◌≢◌, ℕ, true, List, length, chars};
+ghost use Rattle.std.specs.Prelude.{◌≡◌, ◌≢◌, ℕ, true, List, length};
 ghost use Rattle.std.specs.List.{list_all};
 ghost use Rattle.ariadne_picture.specs.declared.label_info.LabelInfo.{LabelInfo};
 ghost use Rattle.ariadne_picture.specs.Report.{ReportFields, World};

@@ -1,6 +1,5 @@
 -- The groups of the labels in order are drawn below the header, and what a new pen has written at last is the picture.
 use Rattle.std.proofs.Common.{◌≡◌, ◌∙◌, List, [], ap, map, refl, subst, sym, Bor}
-use Rattle.std.proofs.lemmas.Result.{IfOk-weaker}
 use Rattle.ariadne_picture.specs.Canvas.{header_pieces, palette_of, same_source, texts_of}
 use Rattle.ariadne_picture.specs.Groups.{groups_of, ordered}
 use Rattle.ariadne_picture.specs.Pieces.{Texts}

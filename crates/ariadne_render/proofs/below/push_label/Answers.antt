@@ -13,7 +13,6 @@ use Rattle.ariadne_render.specs.Writers.{WritesRows}
 use Rattle.ariadne_render.proofs.KnownLines.{one-row, rank-kept}
 use Rattle.ariadne_render.proofs.LinesQuiet.{label-less, label-read, label-told}
 use Rattle.ariadne_render.proofs.LinesRows.{label-none, label-one, label-two, row-page, rows-of}
-use Rattle.ariadne_render.proofs.below.push_label.Goals.{After-labels-labels}
 use Rattle.ariadne_render.proofs.below.push_label.Goals as goal
 
 -- the label is there

@@ -20,7 +20,7 @@ use Rattle.ariadne_render.proofs.LinesRows.{rows-of}
 use Rattle.ariadne_render.proofs.LinesWalk.{IsStep, IsWalked, end-before_last, last-within, last_shown-within, names-append}
 use Rattle.ariadne_render.proofs.LinesWalk.{run-empty, run-one, runs-join, step, walk-end, walk-start}
 use Rattle.ariadne_render.proofs.lines.push_lines.Given.{Over}
-use Rattle.ariadne_render.proofs.lines.push_lines.Goals.{In-Some, In_ok-push_line, In_ok-push_lines_between}
+use Rattle.ariadne_render.proofs.lines.push_lines.Goals.{In-Some, In_ok-push_lines_between}
 use Rattle.ariadne_render.proofs.lines.push_lines.Goals as goal
 
 -- ---- the first line
