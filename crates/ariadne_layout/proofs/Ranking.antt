@@ -11,7 +11,7 @@ use Rattle.std.proofs.lemmas.List.Elements.{filter-append, filter_more}
 use Rattle.ariadne_picture.specs.declared.label_info.LabelInfo.{LabelInfo}
 use Rattle.ariadne_picture.specs.declared.label_info.LineLabel.{LineLabel}
 use Rattle.ariadne_picture.specs.declared.label_info.Side.TheVariants.{Inline}
-use Rattle.ariadne_picture.specs.declared.switches.CharSet.TheVariants.{Ascii}
+use Rattle.ariadne_picture.specs.Report.{default_config, switches_of}
 use Rattle.ariadne_picture.specs.Lists.{in_order, best, joined}
 use Rattle.ariadne_picture.specs.Ranks.{Sheet, ends_at, inline_labels, is_before, is_inline, is_margin, is_nearer_margin, is_start, line_labels, margin_label}
 use Rattle.ariadne_picture.proofs.Labels.LineLabels.{IsEndAt, ends-are}
@@ -23,21 +23,7 @@ use Rattle.ariadne_layout.specs.SnippetLabels.{event_label, labels_of, margin_of
 
 -- some group with these labels
 abbrev pub sheet_of : List LabelInfo → Sheet
-sheet_of labels = record {
-  switches = record {
-    cross_gap = false;
-    compact = false;
-    underlines = false;
-    lone_underlines = false;
-    multiline_arrows = false;
-    tab_width = 0;
-    context_lines = 0;
-    width = 0;
-    char_set = Ascii;
-  };
-  lines = [];
-  labels = labels;
-}
+sheet_of labels = record { switches = switches_of default_config; lines = []; labels = labels }
 
 -- ---- the best of elements and one more
 

@@ -1,5 +1,5 @@
 -- Reports and sources for worked pictures.
-use Rattle.std.specs.Prelude.{ℕ, pos, true, false, ◌==◌, if◌then◌else◌, List, [], ◌∷◌, Option, Some, None, map, codes, encode_utf8_all, find}
+use Rattle.std.specs.Prelude.{ℕ, true, false, ◌==◌, if◌then◌else◌, List, [], ◌∷◌, Option, Some, None, map, codes, encode_utf8_all, find}
 use Rattle.std.specs.Prelude.{option_map, ◌++◌}
 use Rattle.std.specs.Cmp.Lexicographic.{pointwise}
 use Rattle.std.specs.List.{enumerate_from}
@@ -7,10 +7,9 @@ use Rattle.std.specs.Prelude.{nat_eq}
 use Prim.Native.String.{String}
 use Rattle.unicode_width.proofs.Computing.{unicode_width}
 use Rattle.ariadne_base.specs.Listing.{Listing}
-use Rattle.ariadne_picture.specs.declared.switches.LabelAttach.TheVariants.{Middle}
 use Rattle.ariadne_picture.specs.declared.switches.CharSet.TheVariants.{Unicode, Ascii}
-use Rattle.ariadne_picture.specs.declared.switches.IndexType.TheVariants.{Byte, Char}
-use Rattle.ariadne_picture.specs.Report.{ConfigFields, LabelFields, ReportFields, World, error}
+use Rattle.ariadne_picture.specs.declared.switches.IndexType.TheVariants.{Byte}
+use Rattle.ariadne_picture.specs.Report.{ConfigFields, LabelFields, ReportFields, World, error, default_config, new_label, new_report}
 use Rattle.ariadne_picture.specs.declared.verdict.Verdict.{Verdict}
 use Rattle.ariadne_picture.specs.declared.verdict.Verdict.TheVariants.{Accepted, PastSource, CutsCharacter}
 use Rattle.ariadne_picture.specs.Accept.{verdict_in}
@@ -148,13 +147,7 @@ span start end = span_in "" start end
 -- ---- labels
 
 unfoldable pub silent_label_in : String → ℕ → ℕ → LabelFields Span
-silent_label_in id start end = record {
-  span = span_in id start end;
-  message = None;
-  color = None;
-  order = pos 0;
-  priority = pos 0;
-}
+silent_label_in id start end = new_label (span_in id start end)
 
 unfoldable pub silent_label : ℕ → ℕ → LabelFields Span
 silent_label start end = silent_label_in "" start end
@@ -168,20 +161,7 @@ label start end t = label_in "" start end t
 -- ---- reports
 
 unfoldable pub ascii_config : ConfigFields
-ascii_config = record {
-  cross_gap = true;
-  label_attach = Middle;
-  compact = false;
-  underlines = true;
-  lone_underlines = false;
-  multiline_arrows = true;
-  color = false;
-  tab_width = 4;
-  context_lines = 0;
-  width = 0;
-  char_set = Ascii;
-  index_type = Char;
-}
+ascii_config = record default_config { color = false; char_set = Ascii }
 
 unfoldable pub byte_config : ConfigFields
 byte_config = record ascii_config { index_type = Byte }
@@ -196,16 +176,7 @@ unfoldable pub unicode_config : ConfigFields
 unicode_config = record ascii_config { char_set = Unicode }
 
 unfoldable pub report : List (LabelFields Span) → ReportFields Span
-report labels = record {
-  kind = error;
-  code = None;
-  message = None;
-  span = span 0 0;
-  labels = labels;
-  notes = [];
-  helps = [];
-  config = ascii_config;
-}
+report labels = record (new_report error (span 0 0)) { labels = labels; config = ascii_config }
 
 unfoldable pub titled : String → List (LabelFields Span) → ReportFields Span
 titled t labels = record (report labels) { message = Some (utf8 t) }
