@@ -1,15 +1,11 @@
 -- The report that a call asks for. Of what is faulty (specs/Faults.antt) it says nothing.
-use Rattle.std.specs.Prelude.{ℕ, ◌/◌, ◌%◌, ◌==◌, Bool, not, if◌then◌else◌, List, map, Option}
+use Rattle.std.specs.Prelude.{ℕ, ◌==◌, Bool, if◌then◌else◌, List, map, Option}
 use Rattle.std.specs.Prelude.{Some, option_map, unwrap_or}
 use Rattle.std.specs.Borrow.{Bor}
 use Rattle.std.specs.declared.ops.Range.{Range}
 use Rattle.ariadne.specs.Color.TheVariants.{Primary}
 use Rattle.ariadne.specs.LabelAttach.{LabelAttach}
 use Rattle.ariadne.specs.LabelAttach.TheVariants.{Start, Middle, End}
-use Rattle.ariadne.specs.CharSet.{CharSet}
-use Rattle.ariadne.specs.CharSet.TheVariants.{Ascii, Unicode}
-use Rattle.ariadne.specs.IndexType.{IndexType}
-use Rattle.ariadne.specs.IndexType.TheVariants.{Byte, Char}
 use Rattle.ariadne.specs.Report.{ConfigFields, Kind, LabelFields, ReportFields}
 use Rattle.ariadne.specs.Report.{error, warning, advice, custom}
 use Rattle.ariadne.specs.Building.{filled_code}
@@ -20,49 +16,26 @@ use Rattle.ariadne_calls.specs.ColorNumbers.{color_of}
 use Rattle.ariadne_calls.specs.Flag as flag
 use Rattle.ariadne_calls.specs.CallSources.{given_text}
 
--- a bit of the flags is set
-abbrev pub has : ℕ → ℕ → Bool
-has flags bit = (flags / bit) % 2 == 1
-
 -- its texts are drawn as they are, and not by signs
 abbrev pub is_as_it_is : GivenReport → Bool
-is_as_it_is r = has r.flags flag.raw
+is_as_it_is r = flag.has r.flags flag.raw
 
 -- where strokes are attached
 abbrev pub attach_of : ℕ → LabelAttach
 attach_of attach = if attach == 1 then Start else (if attach == 2 then End else Middle)
 
--- what offsets count
-abbrev pub index_type_of : ℕ → IndexType
-index_type_of flags = if has flags flag.byte_offsets then Byte else Char
-
--- the characters that strokes and marks are drawn with
-abbrev pub char_set_of : ℕ → CharSet
-char_set_of flags = if has flags flag.ascii then Ascii else Unicode
-
 -- how many columns stand from one tab stop to the next
 abbrev pub columns_of_tab : ℕ → ℕ
 columns_of_tab tab_width = if tab_width == 0 then 4 else tab_width
 
--- the configuration of flags, an attachment, a tab width, a number of context lines and a width
-abbrev pub config_with : ℕ → ℕ → ℕ → ℕ → ℕ → ConfigFields
-config_with flags attach tab_width context_lines width = record {
-  cross_gap = not (has flags flag.no_cross_gap);
-  label_attach = attach_of attach;
-  compact = has flags flag.compact;
-  underlines = not (has flags flag.no_underlines);
-  lone_underlines = has flags flag.lone_underlines;
-  multiline_arrows = not (has flags flag.no_multiline_arrows);
-  color = not (has flags flag.plain);
-  tab_width = columns_of_tab tab_width;
-  context_lines = context_lines;
-  width = width;
-  char_set = char_set_of flags;
-  index_type = index_type_of flags;
-}
-
+-- the configuration that the flags and the numbers of a report ask for
 abbrev pub config_of : GivenReport → ConfigFields
-config_of r = config_with r.flags r.attach r.tab_width r.context_lines r.width
+config_of r = record (flag.config_of r.flags) {
+  label_attach = attach_of r.attach;
+  tab_width = columns_of_tab r.tab_width;
+  context_lines = r.context_lines;
+  width = r.width;
+}
 
 -- the kind with the report's own name and colour
 abbrev pub custom_of : GivenReport → Kind

@@ -18,7 +18,7 @@ use Rattle.ariadne_calls.specs.declared.suggestion.Suggested.{Suggested}
 use Rattle.ariadne_calls.specs.declared.suggestion.Suggested.TheVariants.{Told, TooShort, Refused}
 use Rattle.ariadne_calls.specs.declared.suggestion.Unsuggested.{Unsuggested}
 use Rattle.ariadne_calls.specs.declared.suggestion.Unsuggested.TheVariants.{NoMemory, Faulty}
-use Rattle.ariadne_calls.specs.RequestedReports.{char_set_of, columns_of_tab, index_type_of}
+use Rattle.ariadne_calls.specs.RequestedReports.{columns_of_tab}
 use Rattle.ariadne_calls.specs.Flag as flag
 use Rattle.ariadne_calls.specs.CallSources.{listing_of}
 
@@ -59,14 +59,14 @@ IsUnread edits (Faulty fault) = option_map EditText (first_unread 0 edits) ≡ S
 -- how lines are shown
 abbrev pub view_of : GivenSuggestion → View
 view_of s =
-    record { tab_width = columns_of_tab s.tab_width; width = s.width; char_set = char_set_of s.flags }
+    record { tab_width = columns_of_tab s.tab_width; width = s.width; char_set = flag.char_set_of s.flags }
 
 module _ (s : GivenSuggestion) where
   -- the given edits can't be made, and this is why
   pub record AreRefused (bad : BadEdit) : Type 0 where
     pub edits : List Edit
     pub asked : AreAsked s.edits.now edits
-    pub refused : Refuses (index_type_of s.flags) s.source.text.bytes.now edits bad
+    pub refused : Refuses (flag.index_type_of s.flags) s.source.text.bytes.now edits bad
 
   -- this is wrong. What is wrong with fields and texts counts before what is wrong with the edits
   abbrev pub IsWrong : Misgiven → Type 0
@@ -87,7 +87,7 @@ module _ (s : GivenSuggestion) where
   pub record IsTold (bytes : List ℕ) : Type 0 where
     pub edits : List Edit
     pub asked : AreAsked s.edits.now edits
-    pub shown : IsSuggestion (index_type_of s.flags) (view_of s) s.source.line_offset
+    pub shown : IsSuggestion (flag.index_type_of s.flags) (view_of s) s.source.line_offset
         s.source.text.bytes.now edits bytes
 
   -- they stand in front in the buffer, and what was behind them stays

@@ -11,7 +11,6 @@ use crate::flag;
 use crate::given::{GivenReport, GivenSource, ToldLeftOut};
 use crate::pictures::{Picture, picture_as_it_is};
 use crate::safe::safe_picture;
-use crate::settings::has;
 use std::alloc::Global;
 
 /// Draws a report over sources into `out`, and tells in `left` which labels are left out.
@@ -50,7 +49,7 @@ fn picture_of(
     ensures sound { OnOk result (faults report.now sources.now ≡ []) }
     ensures err { IfErr result (IsFirst (faults report.now sources.now)) }
 {
-    if has(report.flags, flag::RAW) {
+    if flag::has(report.flags, flag::RAW) {
         picture_as_it_is(alloc, report, sources)
     } else {
         safe_picture(alloc, report, sources)

@@ -61,9 +61,7 @@ pub struct GivenReport<'a> {
     pub labels: &'a [GivenLabel<'a>],
     pub helps: &'a [Text<'a>],
     pub notes: &'a [Text<'a>],
-    /// Bits: 1 no colours, 2 ASCII, 4 compact, 8 offsets in bytes, 16 no underlines, 32 no arrow
-    /// heads, 64 no gaps where strokes cross, 128 texts as they are, 256 underlines also where no
-    /// label of a line has a message. Without 128 a sign stands for each hidden character.
+    /// Bits, by the constants of `flag.rt`. Without `RAW` a sign stands for each hidden character.
     pub flags: u32,
     /// Where strokes are attached to labels: 0 in the middle, 1 at the start, 2 at the end.
     pub attach: u32,
@@ -94,7 +92,7 @@ pub struct GivenSuggestion<'a> {
     /// The source, whose name is not read.
     pub source: GivenSource<'a>,
     pub edits: &'a [GivenEdit<'a>],
-    /// Bits as those of a report, of which two are read: 2, the mark in ASCII, and 8, offsets in bytes.
+    /// Bits as those of a report, of which two are read: `ASCII`, of the mark, and `BYTE_OFFSETS`.
     pub flags: u32,
     /// In columns; 0 is the usual 4.
     pub tab_width: usize,

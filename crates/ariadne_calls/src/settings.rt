@@ -1,9 +1,9 @@
 //! What kind of report it is, and how it is drawn.
 
-ghost use Rattle.std.specs.Prelude.{◌≡◌, ◌≢◌, [], IfOk, OnOk, IfErr};
+ghost use Rattle.std.specs.Prelude.{◌≡◌, [], IfOk, OnOk, IfErr};
 ghost use Rattle.ariadne.specs.Kinds as kinds;
-ghost use Rattle.ariadne_calls.specs.RequestedReports.{attach_of, char_set_of, columns_of_tab, config_of, config_with};
-ghost use Rattle.ariadne_calls.specs.RequestedReports.{custom_of, has, index_type_of, kind_of};
+ghost use Rattle.ariadne_calls.specs.RequestedReports.{attach_of, columns_of_tab, config_of};
+ghost use Rattle.ariadne_calls.specs.RequestedReports.{custom_of, kind_of};
 ghost use Rattle.ariadne_calls.specs.Faults.{IsFirst, custom_faults, kind_faults, settings_faults};
 
 use crate::colors::color_of;
@@ -11,7 +11,7 @@ use crate::ending::{Fault, Refusal};
 use crate::flag;
 use crate::given::GivenReport;
 use crate::texts::text;
-use ariadne::{CharSet, Config, IndexType, LabelAttach, ReportKind};
+use ariadne::{Config, LabelAttach, ReportKind};
 
 /// The kind of a report.
 pub fn kind_of<'a>(given: &GivenReport<'a>) -> Result<ReportKind<'a>, Refusal>
@@ -55,8 +55,9 @@ pub fn config_of(given: &GivenReport<'_>) -> Result<Config, Refusal>
     if given.attach > 2 {
         return Err(Refusal::Faulty(Fault::Attach));
     }
-    let config = config_with(given.flags, given.tab_width)
+    let config = flag::config_of(given.flags)
         .with_label_attach(attach_of(given.attach))
+        .with_tab_width(columns_of_tab(given.tab_width))
         .with_context_lines(given.context_lines)
         .with_width(given.width);
     Ok(config)
@@ -73,55 +74,9 @@ fn attach_of(attach: u32) -> LabelAttach
     }
 }
 
-/// The configuration of these flags and this tab width.
-fn config_with(flags: u32, tab_width: usize) -> Config
-    ensures { result ≡ config_with flags 0 tab_width 0 0 }
-{
-    Config::new()
-        .with_color(!has(flags, flag::PLAIN))
-        .with_char_set(char_set_of(flags))
-        .with_compact(has(flags, flag::COMPACT))
-        .with_index_type(index_type_of(flags))
-        .with_underlines(!has(flags, flag::NO_UNDERLINES))
-        .with_lone_underlines(has(flags, flag::LONE_UNDERLINES))
-        .with_multiline_arrows(!has(flags, flag::NO_MULTILINE_ARROWS))
-        .with_cross_gap(!has(flags, flag::NO_CROSS_GAP))
-        .with_tab_width(columns_of_tab(tab_width))
-}
-
-/// The characters that strokes and marks are drawn with.
-pub fn char_set_of(flags: u32) -> CharSet
-    ensures { result ≡ char_set_of flags }
-{
-    if has(flags, flag::ASCII) {
-        CharSet::Ascii
-    } else {
-        CharSet::Unicode
-    }
-}
-
-/// What offsets count.
-pub fn index_type_of(flags: u32) -> IndexType
-    ensures { result ≡ index_type_of flags }
-{
-    if has(flags, flag::BYTE_OFFSETS) {
-        IndexType::Byte
-    } else {
-        IndexType::Char
-    }
-}
-
 /// How many columns stand from one tab stop to the next.
 pub fn columns_of_tab(tab_width: usize) -> usize
     ensures { result ≡ columns_of_tab tab_width }
 {
     if tab_width == 0 { 4 } else { tab_width }
-}
-
-/// Whether a bit is set.
-pub fn has(flags: u32, bit: u32) -> bool
-    requires { bit ≢ 0 }
-    ensures { result ≡ has flags bit }
-{
-    flags / bit % 2 == 1
 }

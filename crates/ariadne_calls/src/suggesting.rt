@@ -6,7 +6,7 @@ ghost use Rattle.ariadne_calls.specs.Suggesting.{IsTold, IsUnread, made_edit, mi
 
 use crate::flag;
 use crate::given::{GivenEdit, GivenSuggestion};
-use crate::settings::{char_set_of, columns_of_tab, index_type_of};
+use crate::settings::columns_of_tab;
 use crate::suggestion::{Misgiven, Suggested, Unsuggested};
 use crate::texts::decoded;
 use ariadne::Source;
@@ -51,7 +51,7 @@ fn text_of(alloc: Global, given: &GivenSuggestion<'_>) -> Result<String, Unsugge
         Err(refusal) => return Err(refusal),
     };
     let source = source.with_display_line_offset(offset);
-    let counts = index_type_of(given.flags);
+    let counts = flag::index_type_of(given.flags);
     match suggestion(alloc, &source, counts, view_of(given), edits.as_slice()) {
         Ok(text) => Ok(text),
         Err(EditError::Memory(_)) => Err(Unsuggested::NoMemory),
@@ -67,7 +67,7 @@ fn view_of(given: &GivenSuggestion<'_>) -> View
     View {
         tab_width: columns_of_tab(given.tab_width),
         width: given.width,
-        char_set: char_set_of(given.flags),
+        char_set: flag::char_set_of(given.flags),
     }
 }
 
