@@ -251,12 +251,10 @@ def of_cpp():
 
 def of_from_the_crate():
     width = found(FROM, r"`\.with_width\((\d+)\)`")
-    settings = next(it for it in text_of(FROM).split("\n") if "settings are new in the port" in it)
     yield "the Rust crate `ariadne` {}.", original_version()
     yield "and `Result`, in {} lines", word(items_behind(FROM, "in five lines"))
     yield "A span of your own has {} functions", word(code_of(text_of(FROM), "rust").count("    fn "))
     yield "if the width is at least {} |", least_tab()
-    yield "{} settings are new", word(len(re.findall(r"`\.with_", settings))).title()
     yield "cuts lines to {} columns around their labels. If your whole rows have {} columns", width, width
 
 

@@ -7,7 +7,7 @@ none. A choice has its `values`; any other setting is a switch or a number, as i
 In C a switch is a flag: a `bit` by the name of `flag`, which is set if the value is `flagged`. `field` is the name in C,
 C++ and Python, if it isn't that of `Config`. `about` and `flag_about` are the comments there. `counts` says what a
 number of Python counts, `python` is a type that isn't the usual one. `rust` is the default of the Rust crate, if it
-isn't the usual one.
+isn't the usual one. `added` are those that the original crate lacks.
 """
 
 import tomllib
@@ -35,10 +35,15 @@ class Setting(NamedTuple):
     counts: str = ""
     python: str = ""
     rust: object = None
+    added: bool = False
 
     @property
     def is_number(self):
         return type(self.default) is int
+
+    @property
+    def is_switch(self):
+        return type(self.default) is bool
 
     @property
     def is_choice(self):
@@ -60,9 +65,25 @@ FLAGS = sorted((it for it in SETTINGS + CALLS if it.bit), key=lambda it: it.bit)
 ALL_FLAGS = sum(it.bit for it in FLAGS)
 BY_FIELD = {it.field: it for it in SETTINGS + CALLS}
 FIELDS = [BY_FIELD[name] for name in TABLE["fields"]]  # of `Config` in C++ and Python
+OF_PYTHON = [it for it in FIELDS if it.name != "index_type"]  # where bytes or characters are told by the sources
 NUMBERS = [it for it in FIELDS if it.is_number]
 
 
 def flags_of(values):
     """The flags of C for values by the names of settings; those that are not named are the default ones."""
     return sum(it.bit for it in FLAGS if values.get(it.name, it.default) == it.flagged)
+
+
+def fields_of(values):
+    """The fields of `Config` in Python for values by the names of settings, but for those that only other languages
+    set."""
+    return {it.field: in_field(it, values[it.name]) for it in OF_PYTHON if it in SETTINGS}
+
+
+def in_field(it, value):
+    """The value of a setting as a field of C++ and Python has it."""
+    if it.is_choice:
+        return value.lower()
+    if it.values:
+        return value == it.flagged
+    return int(value) if it.is_number else value

@@ -29,8 +29,9 @@ with Python 3.8 and later, needs nothing else, and may be called from any number
 from ._color import Color
 from ._errors import EditError, LabelError, ReportError, SewarqoError, SourceError
 from ._offset import offset
-from ._parts import Config, Edit, Label, LeftOut, Picture, Source, Sources
+from ._parts import Edit, Label, LeftOut, Picture, Source, Sources
 from ._report import Report
+from ._settings import Config
 
 __all__ = [
     "Color", "Config", "Edit", "EditError", "Label", "LabelError", "LeftOut", "Picture", "Report", "ReportError",

@@ -8,8 +8,8 @@ from typing import TYPE_CHECKING, Any, Dict, Hashable, Iterable, Iterator, List,
 from ._excerpt import excerpt
 from ._errors import LabelError, ReportError, SourceError
 from ._library import LARGEST, CLabel, CLeftOut, COptional, CReport, CSource, CText, library, size
-from ._parts import Config, Edit, Label, LeftOut, Picture, Source, Sources, Text
-from ._settings import NUMBERS, SWITCHES
+from ._parts import Edit, Label, LeftOut, Picture, Source, Sources, Text
+from ._settings import NUMBERS, SWITCHES, Config
 
 if TYPE_CHECKING:
     from ._report import Report

@@ -7,7 +7,8 @@ from typing import Any, Hashable, Iterable, List, Optional, Protocol, Sequence, 
 from ._call import KINDS, Call, listed, wrong
 from ._color import Color
 from ._errors import ReportError
-from ._parts import Config, Edit, Label, Picture, Source, Sources, Text
+from ._parts import Edit, Label, Picture, Source, Sources, Text
+from ._settings import Config
 from ._suggestion import suggested
 
 

@@ -9,7 +9,8 @@ from ._call import (
 )
 from ._errors import EditError, ReportError, SourceError
 from ._library import LARGEST, CEdit, CSuggestion, library, size
-from ._parts import Config, Edit, Source, Text
+from ._parts import Edit, Source, Text
+from ._settings import Config
 
 _EDIT_FAULTS = {
     20: "its text is not UTF-8", 21: "it ends before it starts",

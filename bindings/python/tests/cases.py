@@ -1,6 +1,6 @@
 """Draws stored cases (docs/dev/CASES.md) that need no cache of their own, and compares pictures and lists. Each
-line of standard input is a case, as JSON. With the word `excerpts` the library is handed excerpts. The last line is
-'N cases, M differ', and the status 1 where M > 0.
+line of standard input is a case, as JSON, with the fields of its `Config` as `config`. With the word `excerpts` the
+library is handed excerpts. The last line is 'N cases, M differ', and the status 1 where M > 0.
 """
 
 import json
@@ -77,22 +77,7 @@ class Case:
         )
 
     def config(self):
-        settings = self.settings
-        return Config(
-            color=settings.get("color", False),
-            ascii=settings.get("char_set", "Ascii") == "Ascii",
-            compact=settings.get("compact", False),
-            underlines=settings.get("underlines", True),
-            multiline_arrows=settings.get("multiline_arrows", True),
-            cross_gap=settings.get("cross_gap", True),
-            attach=settings.get("label_attach", "Middle").lower(),
-            tab_width=number(settings.get("tab_width", 4)),
-            lone_underlines=settings.get("lone_underlines", False),
-            context_lines=number(settings.get("context_lines", 0)),
-            width=number(settings.get("width", 0)),
-            safe="safe" in self.case,
-            excerpts=sys.argv[1:] == ["excerpts"],
-        )
+        return Config(**self.case["config"], safe="safe" in self.case, excerpts=sys.argv[1:] == ["excerpts"])
 
     def is_drawn(self):
         """Whether the picture and the list are the stored ones."""

@@ -169,6 +169,22 @@ impl Config {
         self.safe = safe;
         self
     }
+
+    /// The flags that the library reads.
+    pub(crate) fn flags(&self) -> u32 {
+        let flags = [
+            !self.color,
+            self.char_set == CharSet::Ascii,
+            self.compact,
+            self.index_type == IndexType::Byte,
+            !self.underlines,
+            !self.multiline_arrows,
+            !self.cross_gap,
+            !self.safe,
+            self.lone_underlines,
+        ];
+        flags.iter().enumerate().map(|(bit, is_set)| u32::from(*is_set) << bit).sum()
+    }
 }
 
 impl Default for Config {
@@ -191,14 +207,14 @@ impl Debug for Config {
             .field("tab_width", &self.tab_width)
             .field("char_set", &self.char_set)
             .field("index_type", &self.index_type);
-        let further: [(&str, &dyn Debug, bool); 4] = [
+        let further: &[(&str, &dyn Debug, bool)] = &[
             ("lone_underlines", &self.lone_underlines, self.lone_underlines),
             ("context_lines", &self.context_lines, self.context_lines != 0),
             ("width", &self.width, self.width != 0),
             ("safe", &self.safe, self.safe),
         ];
         for (name, value, is_told) in further {
-            if is_told {
+            if *is_told {
                 fields.field(name, value);
             }
         }

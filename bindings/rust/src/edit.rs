@@ -2,7 +2,6 @@
 
 use crate::call::{suggest, GivenEdit, GivenSource, GivenSuggestion, Lent, OptionalText, Refusal, Text};
 use crate::config::Config;
-use crate::prepared::flags_of;
 use crate::report::Report;
 use crate::source::Source;
 use std::error::Error;
@@ -102,7 +101,7 @@ impl Report<'_> {
                 line_offset: source.display_line_offset(),
             },
             edits: Lent::from(given.as_slice()),
-            flags: flags_of(config),
+            flags: config.flags(),
             tab_width: config.tab_width,
             width: config.width,
         };

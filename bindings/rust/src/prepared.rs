@@ -2,7 +2,7 @@
 
 use crate::call::{GivenLabel, GivenReport, Lent, OptionalText, Text};
 use crate::color::Color;
-use crate::config::{CharSet, Config, IndexType, LabelAttach};
+use crate::config::LabelAttach;
 use crate::label::Label;
 use crate::members::{members_of, Members};
 use crate::report::{Content, ReportKind};
@@ -66,7 +66,7 @@ fn report_without_lists<'a>(content: &'a Content<'_>) -> GivenReport<'a> {
         labels: Lent::from(&[][..]),
         helps: Lent::from(&[][..]),
         notes: Lent::from(&[][..]),
-        flags: flags_of(&content.config),
+        flags: content.config.flags(),
         attach: attach_of(content.config.label_attach),
         tab_width: content.config.tab_width,
         context_lines: content.config.context_lines,
@@ -105,22 +105,6 @@ fn color_number(color: Color) -> u32 {
         Color::Rgb(red, green, blue) => u32::from_be_bytes([1, red, green, blue]),
         _ => color.place().map_or(0, |place| 1 + u32::from(place)),
     }
-}
-
-/// The flags of a configuration.
-pub(crate) fn flags_of(config: &Config) -> u32 {
-    let flags = [
-        !config.color,
-        config.char_set == CharSet::Ascii,
-        config.compact,
-        config.index_type == IndexType::Byte,
-        !config.underlines,
-        !config.multiline_arrows,
-        !config.cross_gap,
-        !config.safe,
-        config.lone_underlines,
-    ];
-    flags.iter().enumerate().map(|(bit, is_set)| u32::from(*is_set) << bit).sum()
 }
 
 /// Where strokes are attached, by its number.

@@ -58,9 +58,9 @@ fn switched(told: &Value) -> Config {
     let tab_width = count(told, "tab_width").unwrap_or(4) as usize;
     Config::new()
         .with_cross_gap(switch(told, "cross_gap", true))
+        .with_compact(switch(told, "compact", false))
         .with_underlines(switch(told, "underlines", true))
         .with_lone_underlines(switch(told, "lone_underlines", false))
-        .with_compact(switch(told, "compact", false))
         .with_multiline_arrows(switch(told, "multiline_arrows", true))
         .with_color(switch(told, "color", false))
         .with_context_lines(context_lines)
