@@ -9,7 +9,6 @@ import re
 from functools import cache
 from typing import NamedTuple
 
-from cases import report_of, stored_cases
 from gathered import below, libraries
 from pages import README, ROOT, code_of, commands_of, section_of, table_of
 
@@ -133,12 +132,6 @@ def status(crate, name):
     return found(f"crates/{crate}/src/fault.rt", rf"^    {name} = (\d+),$")
 
 
-@cache
-def reckoned():
-    """How many stored cases the model has words for."""
-    return sum(1 for case in stored_cases() if report_of(case))
-
-
 def lines_of_longest():
     """How many lines the longest label of README.md's command is over."""
     (command,) = commands_of(README.read_text())
@@ -192,7 +185,6 @@ def of_readme():
     labels, here, original, peer = speed("two")
     yield "`ariadne` {} to Rattle", original_version()
     yield "and one over {} lines", word(lines_of_longest())
-    yield "computes {} of the {} stored pictures alike", reckoned(), len(stored_cases())
     yield "takes {} instructions. The original takes {}, and codespan-reporting {}.", here, original, peer
     yield "renders {} diagnostics of rustc in {} seconds of a processor and {} MB of memory", *filtered()
     yield "The exit status is {} after an error", status("ariadne_show", "WithErrors")
