@@ -81,7 +81,7 @@ module _ {S Id : Type 0} (w : World S Id) (r : ReportFields S) where
   -- the offsets and what they count are no part of what an outline reads
   read-alike : ReadTheSame w (char_world w r) r (char_report w r)
   read-alike = record {
-    switches = refl;
+    config = refl;
     kind = refl;
     code = refl;
     message = refl;

@@ -29,7 +29,7 @@ module _ {S Id : Type 0} (w : World S Id) (r : ReportFields S) where
   -- colours and the colour switch are no part of what an outline reads
   read-alike : ReadTheSame w w r (colorless r)
   read-alike = record {
-    switches = refl;
+    config = refl;
     kind = plain-name r.kind;
     code = refl;
     message = refl;

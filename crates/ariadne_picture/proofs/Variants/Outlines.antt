@@ -1,13 +1,14 @@
 -- Two reports that differ in nothing that a picture reads, apart from their spans, have the same outline
 -- wherever the headers of their groups name the same offsets.
-use Rattle.std.proofs.Common.{◌≡◌, ℕ, ◌+◌, Bool, List, [], ◌∷◌, ◌++◌, Option, Some, None, refl, sym, ap, ◌∙◌, max, map, slice_get, unwrap_or}
+use Rattle.std.proofs.Common.{◌≡◌, ℕ, ◌+◌, Bool, false, List, [], ◌∷◌, ◌++◌, Option, Some, None, refl, sym, ap, ◌∙◌, max, map, slice_get, unwrap_or}
 use Rattle.std.proofs.Common.{option_and_then, option_map, length, ◌==◌, nat_le, if◌then◌else◌, codes}
 use Rattle.std.specs.List.{AllByRecursion, enumerate_from}
 use Rattle.std.proofs.lemmas.Option.{slice_get-map}
 use Rattle.ariadne_base.specs.Listing.{listed_lines}
 use Rattle.ariadne_picture.specs.declared.switches.IndexType.{IndexType}
+use Rattle.ariadne_picture.specs.declared.switches.IndexType.TheVariants.{Char}
 use Rattle.ariadne_picture.specs.declared.label_info.LabelInfo.{LabelInfo}
-use Rattle.ariadne_picture.specs.Report.{LabelFields, ReportFields, World, switches_of}
+use Rattle.ariadne_picture.specs.Report.{ConfigFields, LabelFields, ReportFields, World, switches_of}
 use Rattle.ariadne_picture.specs.Accept.{text_len, offset_in_chars}
 use Rattle.ariadne_picture.specs.Lists.{joined}
 use Rattle.ariadne_picture.specs.Groups.{ordered, groups_of, greatest}
@@ -28,6 +29,10 @@ abbrev pub header_start : Bool → IndexType → List ℕ → ℕ → Option ℕ
 header_start is_own index text start first =
     if is_own then (if nat_le start (text_len index text) then offset_in_chars index text start else None) else first
 
+-- the settings that an outline reads: neither colours nor what offsets count
+abbrev pub drawn_config : ConfigFields → ConfigFields
+drawn_config config = record config { color = false; index_type = Char }
+
 -- the rows of groups
 abbrev rows_of : {S Id : Type 0} → World S Id → ReportFields S → List (List LabelInfo) → List (List Piece)
 rows_of w r gs = joined (λ e. section_rows (texts_of r) (number_width w r gs) (section_of w r (length gs) e)) (enumerate_from 0 gs)
@@ -35,7 +40,7 @@ rows_of w r gs = joined (λ e. section_rows (texts_of r) (number_width w r gs) (
 module _ {S T Id : Type 0} (w : World S Id) (v : World T Id) (r : ReportFields S) (q : ReportFields T) where
   -- what the outline reads, apart from the offsets of the headers
   pub record ReadTheSame : Type 0 where
-    pub switches : switches_of r.config ≡ switches_of q.config
+    pub config : drawn_config r.config ≡ drawn_config q.config
     pub kind : kind_name r.kind ≡ kind_name q.kind
     pub code : r.code ≡ q.code
     pub message : r.message ≡ q.message
@@ -63,7 +68,7 @@ module _ {S T Id : Type 0} (w : World S Id) (v : World T Id) (r : ReportFields S
     same-texts : texts_of r ≡ texts_of q
     unfolding texts_of
     same-texts = λ i. record {
-      switches = same.switches i;
+      switches = switches_of (same.config i);
       kind_text = code_text (same.code i) ++ same.kind i ++ codes ":";
       message = same.message i;
       helps = same.helps i;
@@ -114,13 +119,13 @@ module _ {S T Id : Type 0} (w : World S Id) (v : World T Id) (r : ReportFields S
     same-width [] = refl
     same-width (group ∷ gs) =
         λ i. max (number_len (same-group_source group i).display_offset
-        (record { switches = same.switches i; lines = listed_lines (same-group_source group i); labels = group })) (same-width gs i)
+        (record { switches = switches_of (same.config i); lines = listed_lines (same-group_source group i); labels = group })) (same-width gs i)
 
     -- a group's part of the picture is of the same source, under the same name
     same-section : (n k : ℕ) (group : List LabelInfo) → NameOneOffset group → section_of w r n (k, group) ≡ section_of v q n (k, group)
     unfolding section_of
     same-section n k group place = λ i. record {
-      sheet = record { switches = same.switches i; lines = listed_lines (same-group_source group i); labels = group };
+      sheet = record { switches = switches_of (same.config i); lines = listed_lines (same-group_source group i); labels = group };
       name = unwrap_or (option_and_then (same.names i) (same-group_id group i)) (codes "<unknown>");
       display_offset = (same-group_source group i).display_offset;
       header_offset = place i;
