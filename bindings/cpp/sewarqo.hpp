@@ -124,6 +124,29 @@ struct Config {
     bool excerpts = false; // of sources only the lines that the picture needs are handed over, and checked
 };
 
+namespace detail {
+
+// A field of `Config`, its flag, and the value that sets the flag.
+struct Flag {
+    bool Config::*field;
+    std::uint32_t bit;
+    bool is_set_by;
+};
+
+inline constexpr Flag flags[] = {
+    {&Config::color, SEWARQO_PLAIN, false},
+    {&Config::ascii, SEWARQO_ASCII, true},
+    {&Config::compact, SEWARQO_COMPACT, true},
+    {&Config::byte_offsets, SEWARQO_BYTE_OFFSETS, true},
+    {&Config::underlines, SEWARQO_NO_UNDERLINES, false},
+    {&Config::multiline_arrows, SEWARQO_NO_MULTILINE_ARROWS, false},
+    {&Config::cross_gap, SEWARQO_NO_CROSS_GAP, false},
+    {&Config::safe, SEWARQO_RAW, false},
+    {&Config::lone_underlines, SEWARQO_LONE_UNDERLINES, true},
+};
+
+} // namespace detail
+
 // A picture, and the labels that are left out of it. A stream gets its text.
 struct Picture {
     std::string text;
@@ -277,12 +300,10 @@ private:
     }
 
     static std::uint32_t flags_of(const Config &config) {
-        return (config.color ? 0 : SEWARQO_PLAIN) | (config.ascii ? SEWARQO_ASCII : 0)
-               | (config.compact ? SEWARQO_COMPACT : 0) | (config.byte_offsets ? SEWARQO_BYTE_OFFSETS : 0)
-               | (config.underlines ? 0 : SEWARQO_NO_UNDERLINES)
-               | (config.multiline_arrows ? 0 : SEWARQO_NO_MULTILINE_ARROWS)
-               | (config.cross_gap ? 0 : SEWARQO_NO_CROSS_GAP) | (config.safe ? 0 : SEWARQO_RAW)
-               | (config.lone_underlines ? SEWARQO_LONE_UNDERLINES : 0);
+        std::uint32_t flags = 0;
+        for (const detail::Flag &flag : detail::flags)
+            flags |= config.*flag.field == flag.is_set_by ? flag.bit : 0;
+        return flags;
     }
 
     sewarqo_report report_of(const Config &config, const std::vector<sewarqo_label> &labels,

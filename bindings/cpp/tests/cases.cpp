@@ -77,15 +77,8 @@ static sewarqo::Kind read_kind(Words &words) {
 static sewarqo::Config read_config(Words &words) {
     const auto flags = words.next<std::uint32_t>();
     sewarqo::Config config;
-    config.color = !(flags & SEWARQO_PLAIN);
-    config.ascii = flags & SEWARQO_ASCII;
-    config.compact = flags & SEWARQO_COMPACT;
-    config.byte_offsets = flags & SEWARQO_BYTE_OFFSETS;
-    config.underlines = !(flags & SEWARQO_NO_UNDERLINES);
-    config.multiline_arrows = !(flags & SEWARQO_NO_MULTILINE_ARROWS);
-    config.cross_gap = !(flags & SEWARQO_NO_CROSS_GAP);
-    config.safe = !(flags & SEWARQO_RAW);
-    config.lone_underlines = flags & SEWARQO_LONE_UNDERLINES;
+    for (const sewarqo::detail::Flag &flag : sewarqo::detail::flags)
+        config.*flag.field = ((flags & flag.bit) != 0) == flag.is_set_by;
     config.attach = static_cast<sewarqo::Attach>(words.next<std::uint32_t>());
     config.tab_width = words.next<std::size_t>();
     config.context_lines = words.next<std::size_t>();

@@ -10,9 +10,7 @@
 //! With a number as its word, so many lines more stand behind each source, of a hundred bytes each. The last
 //! line is 'N cases, M differ', and the status 1 where M > 0.
 
-use ariadne::{
-    Cache, CharSet, Color, Config, Edit, IndexType, Label, LabelAttach, Report, ReportBuilder, ReportKind, Source,
-};
+use ariadne::{Cache, Color, Config, Edit, Label, LabelAttach, Report, ReportBuilder, ReportKind, Source};
 use std::collections::HashMap;
 use std::env;
 use std::fmt;
@@ -92,18 +90,8 @@ impl Words<'_> {
 
     fn config(&mut self) -> Config {
         let flags: u32 = self.number();
-        let has = |bit| flags & bit != 0;
         let attach = [LabelAttach::Middle, LabelAttach::Start, LabelAttach::End][self.number::<usize>()];
-        Config::new()
-            .with_color(!has(1))
-            .with_char_set(if has(2) { CharSet::Ascii } else { CharSet::Unicode })
-            .with_compact(has(4))
-            .with_index_type(if has(8) { IndexType::Byte } else { IndexType::Char })
-            .with_underlines(!has(16))
-            .with_multiline_arrows(!has(32))
-            .with_cross_gap(!has(64))
-            .with_safe(!has(128))
-            .with_lone_underlines(has(256))
+        Config::of_flags(flags)
             .with_label_attach(attach)
             .with_tab_width(self.number())
             .with_context_lines(self.number())

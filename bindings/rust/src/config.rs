@@ -170,6 +170,22 @@ impl Config {
         self
     }
 
+    /// The usual configuration, but for what flags of the library ask for. (Cases have flags.)
+    #[doc(hidden)]
+    pub fn of_flags(flags: u32) -> Config {
+        let has = |bit| flags & bit != 0;
+        Config::new()
+            .with_color(!has(1))
+            .with_char_set(if has(2) { CharSet::Ascii } else { CharSet::Unicode })
+            .with_compact(has(4))
+            .with_index_type(if has(8) { IndexType::Byte } else { IndexType::Char })
+            .with_underlines(!has(16))
+            .with_multiline_arrows(!has(32))
+            .with_cross_gap(!has(64))
+            .with_safe(!has(128))
+            .with_lone_underlines(has(256))
+    }
+
     /// The flags that the library reads.
     pub(crate) fn flags(&self) -> u32 {
         let flags = [
