@@ -14,7 +14,7 @@ use Rattle.ariadne_picture.specs.declared.switches.IndexType.TheVariants.{Byte, 
 use Rattle.ariadne_picture.specs.declared.label_info.LabelInfo.{LabelInfo}
 use Rattle.ariadne_picture.specs.Report.{ReportFields, World, HaveOneSource}
 use Rattle.ariadne_picture.specs.Accept.{text_len, offset_in_chars}
-use Rattle.ariadne_picture.specs.Canvas.{palette_of, cell_of, canvas, is_same_id, group_id, group_source, header_offset, groups}
+use Rattle.ariadne_picture.specs.Canvas.{palette_of, cell_of, canvas, is_same_id, group_id, group_source, header_offset, groups, texts_of}
 use Rattle.ariadne_picture.specs.Variants.{text_of, in_chars, char_world, char_report, OwnStartIsBoundary}
 use Rattle.ariadne_picture.proofs.Lists.ListFacts.{all-weaker, none≢some}
 use Rattle.ariadne_picture.proofs.Variants.Outlines.{header_start, ReadTheSame, same-own, same-group_source, same-outline}
@@ -80,14 +80,9 @@ same-start false index text start n first own = refl
 module _ {S Id : Type 0} (w : World S Id) (r : ReportFields S) where
   -- the offsets and what they count are no part of what an outline reads
   read-alike : ReadTheSame w (char_world w r) r (char_report w r)
+  unfolding texts_of
   read-alike = record {
-    config = refl;
-    kind = refl;
-    code = refl;
-    message = refl;
-    notes = refl;
-    helps = refl;
-    label_messages = refl;
+    texts = refl;
     label_ids = refl;
     ids = refl;
     names = refl;

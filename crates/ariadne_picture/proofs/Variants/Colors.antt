@@ -1,22 +1,23 @@
 -- A report without colours has the outline of the report with them, and gives no piece a colour: so its
 -- canvas is what is left of the other one where the colours are taken away.
-use Rattle.std.proofs.Common.{◌≡◌, List, Some, None, map, refl, sym, ap, ◌∙◌, slice_get, option_map, chars}
+use Rattle.std.proofs.Common.{◌≡◌, List, [], Some, None, map, refl, sym, ap, ◌∙◌, slice_get, option_map, unwrap_or, chars}
 use Rattle.ariadne_picture.specs.declared.label_info.LabelInfo.{LabelInfo}
 use Rattle.ariadne_picture.specs.Report.{Kind, error, warning, advice, custom, LabelFields, ReportFields, World}
 use Rattle.ariadne_picture.specs.Pieces.{Piece}
-use Rattle.ariadne_picture.specs.Canvas.{Cell, Palette, palette_of, color_of, cell_of, canvas, outline, kind_name, header_offset}
+use Rattle.ariadne_picture.specs.Canvas.{Cell, Palette, palette_of, color_of, cell_of, canvas, outline, texts_of, header_offset}
 use Rattle.ariadne_picture.specs.Print.{erased}
 use Rattle.ariadne_picture.specs.Variants.{plain_kind, colorless}
 use Rattle.ariadne_picture.proofs.Lists.ListFacts.{all-every}
 use Rattle.ariadne_picture.proofs.Cells.CanvasRows.{map-map}
 use Rattle.ariadne_picture.proofs.Variants.Outlines.{header_start, ReadTheSame, same-own, same-group_source, same-outline}
 
--- a kind without its colour keeps its name
-plain-name : (kind : Kind) → kind_name kind ≡ kind_name (plain_kind kind)
-plain-name error = refl
-plain-name warning = refl
-plain-name advice = refl
-plain-name (custom name color) = refl
+-- texts don't tell the colour of a kind
+kind-alike : {S : Type 0} (r : ReportFields S) (kind : Kind) → texts_of (record r { kind = kind }) ≡ texts_of (record r { kind = plain_kind kind })
+unfolding texts_of
+kind-alike r error = refl
+kind-alike r warning = refl
+kind-alike r advice = refl
+kind-alike r (custom name color) = refl
 
 -- cells whose colour is taken away are those of a palette that gives none
 erased-cells : (p q : Palette) → ((piece : Piece) → record (cell_of p piece) { color = None } ≡ cell_of q piece) → (rows : List (List Piece))
@@ -26,16 +27,18 @@ erased-cells p q e rows =
     map-map (map erase) (map (cell_of p)) rows ∙ (λ i. map (λ row. (map-map erase (cell_of p) row ∙ (λ j. map (λ piece. e piece j) row)) i) rows)
 
 module _ {S Id : Type 0} (w : World S Id) (r : ReportFields S) where
+  -- nor those of labels, nor the colour switch
+  texts-alike : texts_of r ≡ texts_of (colorless r)
+  unfolding texts_of
+  texts-alike =
+      let said = λ (label : LabelFields S). unwrap_or label.message [] in
+      kind-alike r r.kind
+      ∙ (λ i. record (texts_of (record r { kind = plain_kind r.kind })) { messages = sym (map-map said (λ label. record label { color = None }) r.labels) i })
+
   -- colours and the colour switch are no part of what an outline reads
   read-alike : ReadTheSame w w r (colorless r)
   read-alike = record {
-    config = refl;
-    kind = plain-name r.kind;
-    code = refl;
-    message = refl;
-    notes = refl;
-    helps = refl;
-    label_messages = sym (map-map (λ (label : LabelFields S). label.message) (λ label. record label { color = None }) r.labels);
+    texts = texts-alike;
     label_ids = sym (map-map (λ (label : LabelFields S). w.id_of label.span) (λ label. record label { color = None }) r.labels);
     ids = refl;
     names = refl;

@@ -1,22 +1,20 @@
 -- Two reports that differ in nothing that a picture reads, apart from their spans, have the same outline
 -- wherever the headers of their groups name the same offsets.
-use Rattle.std.proofs.Common.{◌≡◌, ℕ, ◌+◌, Bool, false, List, [], ◌∷◌, ◌++◌, Option, Some, None, refl, sym, ap, ◌∙◌, max, map, slice_get, unwrap_or}
+use Rattle.std.proofs.Common.{◌≡◌, ℕ, ◌+◌, Bool, List, [], ◌∷◌, Option, Some, None, refl, sym, ap, ◌∙◌, max, map, slice_get, unwrap_or}
 use Rattle.std.proofs.Common.{option_and_then, option_map, length, ◌==◌, nat_le, if◌then◌else◌, codes}
 use Rattle.std.specs.List.{AllByRecursion, enumerate_from}
 use Rattle.std.proofs.lemmas.Option.{slice_get-map}
 use Rattle.ariadne_base.specs.Listing.{listed_lines}
 use Rattle.ariadne_picture.specs.declared.switches.IndexType.{IndexType}
-use Rattle.ariadne_picture.specs.declared.switches.IndexType.TheVariants.{Char}
 use Rattle.ariadne_picture.specs.declared.label_info.LabelInfo.{LabelInfo}
-use Rattle.ariadne_picture.specs.Report.{ConfigFields, LabelFields, ReportFields, World, switches_of}
+use Rattle.ariadne_picture.specs.Report.{ReportFields, World, switches_of}
 use Rattle.ariadne_picture.specs.Accept.{text_len, offset_in_chars}
 use Rattle.ariadne_picture.specs.Lists.{joined}
 use Rattle.ariadne_picture.specs.Groups.{ordered, groups_of, greatest}
-use Rattle.ariadne_picture.specs.Pieces.{Piece, section_rows}
-use Rattle.ariadne_picture.specs.Canvas.{kind_name, code_text, texts_of, label_id, is_same_id, same_source, group_id, group_source}
+use Rattle.ariadne_picture.specs.Pieces.{Piece, Texts, section_rows}
+use Rattle.ariadne_picture.specs.Canvas.{texts_of, label_id, is_same_id, same_source, group_id, group_source}
 use Rattle.ariadne_picture.specs.Canvas.{header_offset, section_of, groups, number_width, outline, header_pieces}
 use Rattle.ariadne_picture.proofs.Lists.Joined.{joined-enumerated_same}
-use Rattle.ariadne_picture.proofs.Cells.CanvasRows.{map-map}
 use Rattle.ariadne_picture.proofs.Parts.{number_len, outline-is}
 
 -- lists of which f and g read the same, read alike at each place
@@ -29,10 +27,6 @@ abbrev pub header_start : Bool → IndexType → List ℕ → ℕ → Option ℕ
 header_start is_own index text start first =
     if is_own then (if nat_le start (text_len index text) then offset_in_chars index text start else None) else first
 
--- the settings that an outline reads: neither colours nor what offsets count
-abbrev pub drawn_config : ConfigFields → ConfigFields
-drawn_config config = record config { color = false; index_type = Char }
-
 -- the rows of groups
 abbrev rows_of : {S Id : Type 0} → World S Id → ReportFields S → List (List LabelInfo) → List (List Piece)
 rows_of w r gs = joined (λ e. section_rows (texts_of r) (number_width w r gs) (section_of w r (length gs) e)) (enumerate_from 0 gs)
@@ -40,13 +34,7 @@ rows_of w r gs = joined (λ e. section_rows (texts_of r) (number_width w r gs) (
 module _ {S T Id : Type 0} (w : World S Id) (v : World T Id) (r : ReportFields S) (q : ReportFields T) where
   -- what the outline reads, apart from the offsets of the headers
   pub record ReadTheSame : Type 0 where
-    pub config : drawn_config r.config ≡ drawn_config q.config
-    pub kind : kind_name r.kind ≡ kind_name q.kind
-    pub code : r.code ≡ q.code
-    pub message : r.message ≡ q.message
-    pub notes : r.notes ≡ q.notes
-    pub helps : r.helps ≡ q.helps
-    pub label_messages : map (λ label. label.message) r.labels ≡ map (λ label. label.message) q.labels
+    pub texts : texts_of r ≡ texts_of q
     pub label_ids : map (λ label. w.id_of label.span) r.labels ≡ map (λ label. v.id_of label.span) q.labels
     pub ids : w.is_same ≡ v.is_same
     pub names : w.name_of ≡ v.name_of
@@ -57,24 +45,10 @@ module _ {S T Id : Type 0} (w : World S Id) (v : World T Id) (r : ReportFields S
   NameOneOffset group = header_offset w r group ≡ header_offset v q group
 
   module _ (same : ReadTheSame) where
-    -- so the labels say the same
-    same-messages : map (λ label. unwrap_or label.message []) r.labels ≡ map (λ label. unwrap_or label.message []) q.labels
-    same-messages =
-        let said = λ (m : Option (List ℕ)). unwrap_or m [] in
-        sym (map-map said (λ (label : LabelFields S). label.message) r.labels) ∙ ap (map said) same.label_messages
-        ∙ map-map said (λ (label : LabelFields T). label.message) q.labels
-
-    -- the texts are read of fields that are the same
-    same-texts : texts_of r ≡ texts_of q
+    -- the switches are part of the texts
+    same-switches : switches_of r.config ≡ switches_of q.config
     unfolding texts_of
-    same-texts = λ i. record {
-      switches = switches_of (same.config i);
-      kind_text = code_text (same.code i) ++ same.kind i ++ codes ":";
-      message = same.message i;
-      helps = same.helps i;
-      notes = same.notes i;
-      messages = same-messages i;
-    }
+    same-switches = ap (λ (t : Texts). t.switches) same.texts
 
     -- the ids of the labels are the same at each place
     same-labels : (k : ℕ) → label_id w r k ≡ label_id v q k
@@ -119,13 +93,13 @@ module _ {S T Id : Type 0} (w : World S Id) (v : World T Id) (r : ReportFields S
     same-width [] = refl
     same-width (group ∷ gs) =
         λ i. max (number_len (same-group_source group i).display_offset
-        (record { switches = switches_of (same.config i); lines = listed_lines (same-group_source group i); labels = group })) (same-width gs i)
+        (record { switches = same-switches i; lines = listed_lines (same-group_source group i); labels = group })) (same-width gs i)
 
     -- a group's part of the picture is of the same source, under the same name
     same-section : (n k : ℕ) (group : List LabelInfo) → NameOneOffset group → section_of w r n (k, group) ≡ section_of v q n (k, group)
     unfolding section_of
     same-section n k group place = λ i. record {
-      sheet = record { switches = switches_of (same.config i); lines = listed_lines (same-group_source group i); labels = group };
+      sheet = record { switches = same-switches i; lines = listed_lines (same-group_source group i); labels = group };
       name = unwrap_or (option_and_then (same.names i) (same-group_id group i)) (codes "<unknown>");
       display_offset = (same-group_source group i).display_offset;
       header_offset = place i;
@@ -139,11 +113,11 @@ module _ {S T Id : Type 0} (w : World S Id) (v : World T Id) (r : ReportFields S
         joined-enumerated_same NameOneOffset
         (λ e. section_rows (texts_of r) (number_width w r gs) (section_of w r (length gs) e))
         (λ e. section_rows (texts_of q) (number_width v q gs) (section_of v q (length gs) e))
-        (λ k group place. λ i. section_rows (same-texts i) (same-width gs i) (same-section (length gs) k group place i)) 0 gs places
+        (λ k group place. λ i. section_rows (same.texts i) (same-width gs i) (same-section (length gs) k group place i)) 0 gs places
 
     -- the outline is the header and the rows of the groups, and both are the same
     pub same-outline : (infos : List LabelInfo) → AllByRecursion NameOneOffset (groups w r infos) → outline w r infos ≡ outline v q infos
     same-outline infos places =
         outline-is w r infos
-        ∙ (λ i. header_pieces (same-texts i) ∷ (same-rows (groups w r infos) places ∙ ap (rows_of v q) (same-groups infos)) i)
+        ∙ (λ i. header_pieces (same.texts i) ∷ (same-rows (groups w r infos) places ∙ ap (rows_of v q) (same-groups infos)) i)
         ∙ sym (outline-is v q infos)
