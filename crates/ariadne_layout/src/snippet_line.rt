@@ -76,6 +76,13 @@ impl<'a, I: SourceText> SnippetLine<'a, I> {
         self.snippet.display_offset()
     }
 
+    /// Whether labels over several lines have arrow heads.
+    pub fn has_arrow_heads(&self) -> bool
+        ensures { result ≡ self.now.snippet.texts.multiline_arrows }
+    {
+        self.snippet.texts().multiline_arrows
+    }
+
     /// The message of one of its labels.
     pub fn message_of(&self, label: &LineLabel) -> &'a str
         ensures { result.now ≡ message_at self.now.snippet.texts label.now.info.position }

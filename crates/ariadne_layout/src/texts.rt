@@ -12,6 +12,8 @@ use std::marker::Model;
 pub struct Texts<'a> {
     /// The switches of the picture.
     pub switches: Switches,
+    /// Whether labels over several lines have arrow heads.
+    pub multiline_arrows: bool,
     /// The code, shown in brackets before the kind.
     pub code: Option<&'a str>,
     /// The word of the kind.
@@ -36,6 +38,7 @@ impl<'a> Model for Texts<'a> {
 
     ghost view = { λ a. record {
       switches = a.switches;
+      multiline_arrows = a.multiline_arrows;
       kind_text = code_text (option_copied a.code) ++ a.kind.now ++ codes ":";
       message = option_copied a.message;
       helps = map string_bytes a.helps.now;

@@ -90,6 +90,7 @@ cell_of palette piece =
 unfoldable pub texts_of : {S : Type 0} → ReportFields S → Texts
 texts_of r = record {
   switches = switches_of r.config;
+  multiline_arrows = r.config.multiline_arrows;
   kind_text = code_text r.code ++ kind_name r.kind ++ codes ":";
   message = r.message;
   helps = r.helps;

@@ -1,6 +1,6 @@
 -- Which of the strokes that meet in a cell is seen, and in whose colour. A place or a column has a
 -- first cell and perhaps more, which are alike.
-use Rattle.std.specs.Prelude.{ℕ, not, ◌&&◌, ◌==◌, nat_lt, if◌then◌else◌, length}
+use Rattle.std.specs.Prelude.{ℕ, Bool, not, ◌&&◌, ◌==◌, nat_lt, if◌then◌else◌, length}
 use Rattle.std.specs.Prelude.{Option, Some, None, slice_get, unwrap_or, option_map}
 use Rattle.ariadne_picture.specs.declared.switches.CharSet.{CharSet}
 use Rattle.ariadne_picture.specs.declared.switches.CharSet.TheVariants.{Unicode, Ascii}
@@ -69,15 +69,16 @@ ink_of first rest a = ink first (paint_of a) rest (paint_of a)
 
 -- ---- the text area
 
--- place k of the alternate row of rank r: by the vertical and the underline that are seen there
-unfoldable pub alternate_ink : Switches → ℕ → Option LineLabel → Option LineLabel → Ink
-alternate_ink switches r (Some v) (Some u) = ink_of Underbar Underline v.info
-alternate_ink switches r (Some v) None =
-    if not (is_inline v.side) && (r == 0) && switches.multiline_arrows
+-- a place of the alternate row of rank r: by the vertical and the underline that are seen there, and
+-- whether labels over several lines have arrow heads
+unfoldable pub alternate_ink : Bool → ℕ → Option LineLabel → Option LineLabel → Ink
+alternate_ink heads r (Some v) (Some u) = ink_of Underbar Underline v.info
+alternate_ink heads r (Some v) None =
+    if not (is_inline v.side) && (r == 0) && heads
     then ink_of Uarrow Blank v.info
     else ink_of Vbar Blank v.info
-alternate_ink switches r None (Some u) = ink_of Underline Underline u.info
-alternate_ink switches r None None = blanks
+alternate_ink heads r None (Some u) = ink_of Underline Underline u.info
+alternate_ink heads r None None = blanks
 
 -- the corner of a line label's arrow
 unfoldable pub corner_glyph : Side → Glyph
@@ -98,9 +99,9 @@ arrow_ink switches r x level None = ink_of Hbar Hbar x.info
 arrow_ink switches r x free None = blanks
 
 -- place k of the alternate row of rank r
-unfoldable pub alternate_place : Switches → Layout → ℕ → ℕ → Ink
-alternate_place switches y r k =
-    alternate_ink switches r (vertical_at y r k) (underline_at switches y r k)
+unfoldable pub alternate_place : Bool → Switches → Layout → ℕ → ℕ → Ink
+alternate_place heads switches y r k =
+    alternate_ink heads r (vertical_at y r k) (underline_at switches y r k)
 
 -- place k of the arrow row of rank r, whose line label is x
 unfoldable pub arrow_place : Switches → Layout → ℕ → Option LineLabel → ℕ → Ink

@@ -167,6 +167,7 @@ gutter_pieces h row =
 -- word of the kind), and the message of the label at each position
 pub record Texts : Type 0 where
   pub switches : Switches
+  pub multiline_arrows : Bool
   pub kind_text : List ℕ
   pub message : Option (List ℕ)
   pub helps : List (List ℕ)
@@ -257,7 +258,7 @@ aside_pieces t a k (suc n) =
 unfoldable pub text_pieces : Texts → Section → Row → List Piece
 text_pieces t s (source l) = shown_pieces t.switches (multi_line_labels s.sheet.labels) (layout_of s.sheet l)
 text_pieces t s (alternate l r) =
-    let y = layout_of s.sheet l in area_pieces t.switches y (alternate_place t.switches y r)
+    let y = layout_of s.sheet l in area_pieces t.switches y (alternate_place t.multiline_arrows t.switches y r)
 text_pieces t s (arrow l r) =
     let y = layout_of s.sheet l in
     let x = slice_get y.labels r in

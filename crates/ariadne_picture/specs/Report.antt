@@ -115,7 +115,6 @@ switches_of config = record {
   compact = config.compact;
   underlines = config.underlines;
   lone_underlines = config.lone_underlines;
-  multiline_arrows = config.multiline_arrows;
   tab_width = config.tab_width;
   context_lines = config.context_lines;
   width = config.width;

@@ -36,7 +36,6 @@ pub struct Switches {
     pub compact: bool,
     pub underlines: bool,
     pub lone_underlines: bool,
-    pub multiline_arrows: bool,
     pub tab_width: usize,
     /// How many lines without labels are shown before and behind each that has some.
     pub context_lines: usize,

@@ -80,15 +80,15 @@ module _ (a : PenFields) (t : Texts) (g : Section) (on : IsOnPage t g a.page) wh
   -- verticals, underlines
   pub draws_alternate : (b c d e : PenFields) (l r : ℕ) → Draws a b (margin_pieces a.page.switches a.page.number_width 0 (bare 0))
       → Draws b c (gutter_pieces g.sheet (alternate l r))
-      → Draws c d (area_pieces a.page.switches (layout_of g.sheet l) (alternate_place a.page.switches (layout_of g.sheet l) r))
+      → Draws c d (area_pieces a.page.switches (layout_of g.sheet l) (alternate_place t.multiline_arrows a.page.switches (layout_of g.sheet l) r))
       → Adds d e (10 ∷ []) → DrawsRow a e (row_pieces t a.page.number_width g (alternate l r))
   unfolding row_pieces rest_pieces text_pieces margin_pieces margin_text margin_paint
   draws_alternate b c d e l r m gutter area end =
       let y = layout_of g.sheet l in
       two_parts a b d e _ (margin_pieces a.page.switches a.page.number_width 0 (bare 0))
-      (gutter_pieces g.sheet (alternate l r) ++ area_pieces a.page.switches y (alternate_place a.page.switches y r))
+      (gutter_pieces g.sheet (alternate l r) ++ area_pieces a.page.switches y (alternate_place t.multiline_arrows a.page.switches y r))
       (λ i. margin_pieces (on.sheet i) a.page.number_width 0 (bare 0)
-      ++ (gutter_pieces g.sheet (alternate l r) ++ area_pieces (on.texts i) y (alternate_place (on.texts i) y r)))
+      ++ (gutter_pieces g.sheet (alternate l r) ++ area_pieces (on.texts i) y (alternate_place t.multiline_arrows (on.texts i) y r)))
       m (draws-append b c d _ _ gutter area) end
 
   -- an arrow, and its message

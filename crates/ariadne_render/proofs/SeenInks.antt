@@ -48,36 +48,36 @@ and_turned : (a b c : Bool) → (a && b && c) ≡ (b && c && a)
 and_turned a b c = and_assoc a b c ∙ and_comm a (b && c)
 
 -- by what is seen there
-alternate_seen : (s : Switches) (r : ℕ) (v u : Option LineLabel)
-    → alternate_ink s r v u ≡ seen_ink (underlined_or (alternate_backdrop s r) (option_map position_of u)) (option_map vertical_of v)
+alternate_seen : (heads : Bool) (r : ℕ) (v u : Option LineLabel)
+    → alternate_ink heads r v u ≡ seen_ink (underlined_or (alternate_backdrop heads r) (option_map position_of u)) (option_map vertical_of v)
 unfolding alternate_ink seen_ink underlined_or alternate_backdrop
-alternate_seen s r (Some v) (Some u) = refl
-alternate_seen s r (Some v) None =
+alternate_seen heads r (Some v) (Some u) = refl
+alternate_seen heads r (Some v) None =
     let p : Paint = paint_of v.info in
     let outer : Bool = not (is_inline v.side) in
-    head_alone (outer && (r == 0) && s.multiline_arrows) p
-    ∙ ap (λ b. ink (if b then Uarrow else Vbar) p Blank p) (and_turned outer (r == 0) s.multiline_arrows)
-alternate_seen s r None (Some u) = refl
-alternate_seen s r None None = refl
+    head_alone (outer && (r == 0) && heads) p
+    ∙ ap (λ b. ink (if b then Uarrow else Vbar) p Blank p) (and_turned outer (r == 0) heads)
+alternate_seen heads r None (Some u) = refl
+alternate_seen heads r None None = refl
 
 -- by the vertical of the table
-alternate_at : (s : Switches) (y : Layout) (r : ℕ) (table : LineTable) → IsTable s y r table → (k : ℕ)
-    → alternate_place s y r k
-    ≡ seen_ink (underlined_or (alternate_backdrop s r) (option_map position_of (underline_at s y r k))) (seen_vertical table.verticals k)
+alternate_at : (heads : Bool) (s : Switches) (y : Layout) (r : ℕ) (table : LineTable) → IsTable s y r table → (k : ℕ)
+    → alternate_place heads s y r k
+    ≡ seen_ink (underlined_or (alternate_backdrop heads r) (option_map position_of (underline_at s y r k))) (seen_vertical table.verticals k)
 unfolding alternate_place
-alternate_at s y r table t k =
-    alternate_seen s r (vertical_at y r k) (underline_at s y r k)
-    ∙ ap (seen_ink (underlined_or (alternate_backdrop s r) (option_map position_of (underline_at s y r k)))) (sym (t.verticals k))
+alternate_at heads s y r table t k =
+    alternate_seen heads r (vertical_at y r k) (underline_at s y r k)
+    ∙ ap (seen_ink (underlined_or (alternate_backdrop heads r) (option_map position_of (underline_at s y r k)))) (sym (t.verticals k))
 
 -- in the row that has the underlines, by that of the table
-pub underlined_at : (s : Switches) (y : Layout) (r : ℕ) (table : LineTable) → IsTable s y r table → s.compact ≡ false
-    → r ≡ underline_row y → (k : ℕ) → k < table.len → alternate_place s y r k ≡ underlined_ink table (alternate_backdrop s r) k
+pub underlined_at : (heads : Bool) (s : Switches) (y : Layout) (r : ℕ) (table : LineTable) → IsTable s y r table → s.compact ≡ false
+    → r ≡ underline_row y → (k : ℕ) → k < table.len → alternate_place heads s y r k ≡ underlined_ink table (alternate_backdrop heads r) k
 unfolding underlined_ink
-underlined_at s y r table t off e k h =
+underlined_at heads s y r table t off e k h =
     let under : option_map position_of (underline_at s y r k) ≡ shown_at table.underlines.items k =
     ap (λ n. option_map position_of (underline_at s y n k)) e ∙ sym (t.underlines off k h) in
-    alternate_at s y r table t k
-    ∙ ap (λ o. seen_ink (underlined_or (alternate_backdrop s r) o) (seen_vertical table.verticals k)) under
+    alternate_at heads s y r table t k
+    ∙ ap (λ o. seen_ink (underlined_or (alternate_backdrop heads r) o) (seen_vertical table.verticals k)) under
 
 -- no other row has underlines
 not_underlined : (s : Switches) (y : Layout) (r k : ℕ) → (r ≡ underline_row y → ⊥) → underline_at s y r k ≡ None
@@ -86,12 +86,12 @@ not_underlined s y r k n = ap (λ b. cond b (best (λ a b. is_preferred a.info b
     (and_right s.underlines (r == underline_row y) (ne_eqb r (underline_row y) n))
 
 -- so it shows verticals alone
-pub plain_at : (s : Switches) (y : Layout) (r : ℕ) (table : LineTable) → IsTable s y r table → (r ≡ underline_row y → ⊥) → (k : ℕ)
-    → alternate_place s y r k ≡ seen_ink (alternate_backdrop s r) (seen_vertical table.verticals k)
+pub plain_at : (heads : Bool) (s : Switches) (y : Layout) (r : ℕ) (table : LineTable) → IsTable s y r table → (r ≡ underline_row y → ⊥) → (k : ℕ)
+    → alternate_place heads s y r k ≡ seen_ink (alternate_backdrop heads r) (seen_vertical table.verticals k)
 unfolding underlined_or
-plain_at s y r table t n k =
-    alternate_at s y r table t k
-    ∙ ap (λ (o : Option LineLabel). seen_ink (underlined_or (alternate_backdrop s r) (option_map position_of o)) (seen_vertical table.verticals k))
+plain_at heads s y r table t n k =
+    alternate_at heads s y r table t k
+    ∙ ap (λ (o : Option LineLabel). seen_ink (underlined_or (alternate_backdrop heads r) (option_map position_of o)) (seen_vertical table.verticals k))
     (not_underlined s y r k n)
 
 -- ---- arrow rows

@@ -1,7 +1,7 @@
 -- The text areas of alternate and arrow rows, by stretches of places: what stands behind the
 -- verticals of a stretch, and the cells of its places. All of it is told by the table of a line, so
 -- it holds for each line that the table is of.
-use Rattle.std.specs.Prelude.{ℕ, ◌≡◌, ◌-◌, ◌<◌, ◌==◌, nat_lt, not, ◌&&◌, if◌then◌else◌, List}
+use Rattle.std.specs.Prelude.{ℕ, Bool, ◌≡◌, ◌-◌, ◌<◌, ◌==◌, nat_lt, not, ◌&&◌, if◌then◌else◌, List}
 use Rattle.std.specs.Prelude.{Option, Some, None, unwrap_or}
 use Rattle.std.specs.List.{range_with_len}
 use Rattle.ariadne_picture.specs.declared.cell.Glyph.TheVariants.{Blank, Hbar, Vbar, Xbar, Uarrow}
@@ -40,9 +40,9 @@ seen_ink (Level p cross_gap) (Some v) =
 
 -- ---- an alternate row
 
--- its places without an underline
-unfoldable pub alternate_backdrop : Switches → ℕ → Backdrop
-alternate_backdrop switches rank = Open ((rank == 0) && switches.multiline_arrows) None
+-- its places without an underline, where labels over several lines may have arrow heads
+unfoldable pub alternate_backdrop : Bool → ℕ → Backdrop
+alternate_backdrop heads rank = Open ((rank == 0) && heads) None
 
 -- the underline of a label, or else another backdrop
 unfoldable pub underlined_or : Backdrop → Option ℕ → Backdrop

@@ -180,7 +180,8 @@ fn underlined_or(blank: &Backdrop, position: Option<usize>) -> Backdrop
     }
 }
 
-/// Writes the text area of the alternate row of rank `rank` of a line with this layout.
+/// Writes the text area of the alternate row of rank `rank` of a line with this layout, where labels
+/// over several lines may have arrow heads.
 ///
 /// ```text
 ///     1 | apple == orange;
@@ -190,15 +191,16 @@ pub fn push_alternate_area(
     pen: &mut Pen<'_>,
     table: &LineTable,
     layout: &LineLayout<'_>,
+    heads: bool,
     rank: usize,
 ) -> Result<(), AllocError>
     requires table { IsTable pen.old.page.switches layout.now rank table.now }
     requires loose { pen.old.page.switches.compact ≡ false }
     ensures { let switches = pen.old.page.switches in let y = layout.now in
         OnOk result (Draws pen.old pen.new
-        (area_pieces switches y (alternate_place switches y rank))) }
+        (area_pieces switches y (alternate_place heads switches y rank))) }
 {
-    let blank = alternate_backdrop(pen.page().switches(), rank);
+    let blank = alternate_backdrop(heads, rank);
     if rank == table.underline_row {
         push_underlined(pen, table, &blank)
     } else {
@@ -208,11 +210,11 @@ pub fn push_alternate_area(
 
 /// The backdrop of the places of an alternate row that have no underline.
 #[tactic(auto, unfolding(crate::specs::Areas::alternate_backdrop))]
-fn alternate_backdrop(switches: &Switches, rank: usize) -> Backdrop
-    ensures { result ≡ alternate_backdrop switches.now rank }
+fn alternate_backdrop(heads: bool, rank: usize) -> Backdrop
+    ensures { result ≡ alternate_backdrop heads rank }
 {
     Backdrop::Open {
-        arrows: rank == 0 && switches.multiline_arrows,
+        arrows: rank == 0 && heads,
         rest: None,
     }
 }

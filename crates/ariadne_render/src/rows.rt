@@ -82,7 +82,13 @@ pub fn push_alternate_row<I: SourceText>(
 {
     writer.pen.push_margin()?;
     writer.gutter.push_bars(&mut writer.pen)?;
-    push_alternate_area(&mut writer.pen, table, shown.layout(), rank)?;
+    push_alternate_area(
+        &mut writer.pen,
+        table,
+        shown.layout(),
+        shown.has_arrow_heads(),
+        rank,
+    )?;
     writer.pen.end_row()
 }
 

@@ -305,12 +305,18 @@ impl Config {
             compact: self.compact,
             underlines: self.underlines,
             lone_underlines: self.lone_underlines,
-            multiline_arrows: self.multiline_arrows,
             tab_width: self.tab_width,
             context_lines: self.context_lines,
             width: self.width,
             char_set: self.char_set,
         }
+    }
+
+    /// Whether labels over several lines have arrow heads.
+    pub fn has_multiline_arrows(&self) -> bool
+        ensures { result ≡ self.now.multiline_arrows }
+    {
+        self.multiline_arrows
     }
 
     /// The start of the arrows of labels within one line.

@@ -34,6 +34,7 @@ pub fn texts<'a, S: Span>(report: &'a Content<'_, S>, messages: &'a [&'a str]) -
 {
     Texts {
         switches: report.config().switches(),
+        multiline_arrows: report.config().has_multiline_arrows(),
         code: report.code(),
         kind: report.kind.name(),
         message: report.message(),

@@ -95,18 +95,18 @@ arrow-seen switches r x false false v e = elim (cases_Bool (not (is_inline v.sid
 ]
 
 -- there an alternate row has an underline, an arrow head or the vertical
-pub alternate-seen : (switches : Switches) (r : ℕ) (v : LineLabel) (u : Option LineLabel)
-    → (alternate_ink switches r (Some v) u).first ≡ Blank → ⊥
+pub alternate-seen : (heads : Bool) (r : ℕ) (v : LineLabel) (u : Option LineLabel)
+    → (alternate_ink heads r (Some v) u).first ≡ Blank → ⊥
 unfolding alternate_ink
-alternate-seen switches r v (Some u) e = cc
-alternate-seen switches r v None e = elim (cases_Bool (not (is_inline v.side) && (r == 0) && switches.multiline_arrows)) [
+alternate-seen heads r v (Some u) e = cc
+alternate-seen heads r v None e = elim (cases_Bool (not (is_inline v.side) && (r == 0) && heads)) [
   | inl up ↦ let z = rw up at e in cc
   | inr on ↦ let z = rw on at e in cc
 ]
 
 -- and where an underline is, that or a tee
-pub underline-seen : (switches : Switches) (r : ℕ) (v : Option LineLabel) (u : LineLabel)
-    → (alternate_ink switches r v (Some u)).first ≡ Blank → ⊥
+pub underline-seen : (heads : Bool) (r : ℕ) (v : Option LineLabel) (u : LineLabel)
+    → (alternate_ink heads r v (Some u)).first ≡ Blank → ⊥
 unfolding alternate_ink
-underline-seen switches r (Some v) u e = cc
-underline-seen switches r None u e = cc
+underline-seen heads r (Some v) u e = cc
+underline-seen heads r None u e = cc

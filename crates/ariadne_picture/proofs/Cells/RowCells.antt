@@ -223,11 +223,11 @@ source-parts t w s l =
     (shown_pieces t.switches (multi_line_labels s.sheet.labels) (layout_of s.sheet l)))
 
 pub alternate-parts : (t : Texts) (w : ℕ) (s : Section) (l r : ℕ) → row_pieces t w s (alternate l r) ≡ front_pieces w s (alternate l r)
-    ++ area_pieces t.switches (layout_of s.sheet l) (alternate_place t.switches (layout_of s.sheet l) r)
+    ++ area_pieces t.switches (layout_of s.sheet l) (alternate_place t.multiline_arrows t.switches (layout_of s.sheet l) r)
 unfolding row_pieces rest_pieces text_pieces
 alternate-parts t w s l r =
     sym (append_assoc (margin_pieces s.sheet.switches w s.display_offset (alternate l r)) (gutter_pieces s.sheet (alternate l r))
-    (area_pieces t.switches (layout_of s.sheet l) (alternate_place t.switches (layout_of s.sheet l) r)))
+    (area_pieces t.switches (layout_of s.sheet l) (alternate_place t.multiline_arrows t.switches (layout_of s.sheet l) r)))
 
 -- the text of an arrow row: its places and its message
 abbrev pub arrow_text : Texts → Section → ℕ → ℕ → List Piece

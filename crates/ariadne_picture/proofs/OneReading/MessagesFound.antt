@@ -182,7 +182,7 @@ module _ (v : Picture) {g : ℕ} {s : Section} {l : ℕ} (h : IsShownLine v g s 
       alternate-end : (r : ℕ) → row.name ≡ alternate l r → RowEnd v h (number v g s row.name)
       alternate-end r e =
           let at = subst (RowAt v g s (rows_above v h + suc row.index)) e (block-row-is v h row.index row.name row.there) in
-          rw e (bare_end _ (places-end (alternate_inks s l r) (alternate-text v at)))
+          rw e (bare_end _ (places-end (alternate_inks v s l r) (alternate-text v at)))
 
       by-kind : IsBlockRow s.sheet l row.name ⊎ IsLoneRow s.sheet l row.name → RowEnd v h (number v g s row.name)
       by-kind (inr b) = alternate-end _ b.1

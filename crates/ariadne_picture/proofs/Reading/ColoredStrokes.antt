@@ -9,7 +9,6 @@ use Rattle.std.proofs.lemmas.Option.{slice_get-get_or, slice_get_within}
 use Rattle.ariadne_color.specs.declared.color.Color.{Color}
 use Rattle.ariadne_color.specs.contracts.color.ColorEq.TheImpl.Laws as equality
 use Rattle.ariadne_picture.proofs.Rows.LoneRows.{label-not-lone}
-use Rattle.ariadne_picture.specs.declared.switches.Switches.{Switches}
 use Rattle.ariadne_picture.specs.declared.label_info.LabelInfo.{LabelInfo}
 use Rattle.ariadne_picture.specs.declared.label_info.LineLabel.{LineLabel}
 use Rattle.ariadne_picture.specs.declared.cell.Glyph.TheVariants.{Blank, Hbar, Vbar, Xbar, Uarrow}
@@ -226,12 +225,12 @@ one-rank v q q' same =
     cc
 
 -- the paint of a vertical in an alternate row
-alternate-paint : (switches : Switches) (rank : ℕ) (w : LineLabel) (under : Option LineLabel)
-    → (alternate_ink switches rank (Some w) under).first_paint ≡ paint_of w.info
+alternate-paint : (heads : Bool) (rank : ℕ) (w : LineLabel) (under : Option LineLabel)
+    → (alternate_ink heads rank (Some w) under).first_paint ≡ paint_of w.info
 unfolding alternate_ink
-alternate-paint switches rank w (Some u) = refl
-alternate-paint switches rank w None =
-    cond_both (not (is_inline w.side) && (rank == 0) && switches.multiline_arrows) (ink_of Uarrow Blank w.info) (ink_of Vbar Blank w.info)
+alternate-paint heads rank w (Some u) = refl
+alternate-paint heads rank w None =
+    cond_both (not (is_inline w.side) && (rank == 0) && heads) (ink_of Uarrow Blank w.info) (ink_of Vbar Blank w.info)
     (λ (ink : Ink). ink.first_paint ≡ paint_of w.info) (λ _. refl) (λ _. refl)
 
 -- a label with a corner has a vertical above
@@ -347,11 +346,11 @@ module _ (v : Picture) {g : ℕ} {s : Section} {l r : ℕ} {x : LineLabel} (q : 
   alternate-passes rank j is low some (Some w) u =
       let y = layout_of s.sheet l in
       let under = underline_at s.sheet.switches y rank x.place in
-      let cell : first_cell v s l (number v g s (alternate l rank)) x.place ≡ ink_cell v s (alternate_ink s.sheet.switches rank (Some w) under) =
-      alternate-cell v is x.place few some ∙ ap (λ up. ink_cell v s (alternate_ink s.sheet.switches rank up under)) u in
+      let cell : first_cell v s l (number v g s (alternate l rank)) x.place ≡ ink_cell v s (alternate_ink v.texts.multiline_arrows rank (Some w) under) =
+      alternate-cell v is x.place few some ∙ ap (λ up. ink_cell v s (alternate_ink v.texts.multiline_arrows rank up under)) u in
       seen-passes rank j (alternate l rank) w is refl refl (omega arith) low u (λ same.
       passes-color _ (colored-cell v x.info (number v g s (alternate l rank)) (place_cell s l x.place) _ cell
-      (alternate-paint s.sheet.switches rank w under ∙ ap (λ (x : LineLabel). paint_of x.info) same)))
+      (alternate-paint v.texts.multiline_arrows rank w under ∙ ap (λ (x : LineLabel). paint_of x.info) same)))
 
   -- the rows from the line down to its arrow row
   pub vertical-colored : read v is_vertical_colored (color_at v) g s l x.info x.place (number v g s (arrow l r)) ≡ true

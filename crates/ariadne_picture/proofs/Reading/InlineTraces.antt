@@ -164,9 +164,9 @@ module _ (v : Picture) (placed : ArePlaced v) where
         rw (← same)
         (holds-at v h (number v g s (alternate l r)) _ (x.info.end - y.offset) seen (omega arith) (λ c low high some.
         let u = underline-there i c x e one.0 k.side low high in
-        let ink : Option LineLabel → Ink = alternate_ink switches r (vertical_at y r c) in
+        let ink : Option LineLabel → Ink = alternate_ink v.texts.multiline_arrows r (vertical_at y r c) in
         rw (alternate-cell v is c (omega arith) some, u.1)
-        (shows-something v s _ (ink (Some u.0)).first_paint (underline-seen switches r (vertical_at y r c) u.0))))
+        (shows-something v s _ (ink (Some u.0)).first_paint (underline-seen v.texts.multiline_arrows r (vertical_at y r c) u.0))))
 
     -- so all labels of the line pass, as the others are not within it
     line-underlined : read v is_underlined g s l ≡ true

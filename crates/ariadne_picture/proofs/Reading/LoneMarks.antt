@@ -6,7 +6,6 @@ use Rattle.std.specs.Cmp.Derive.{both_true}
 use Rattle.std.proofs.lemmas.Bool.{cases_Bool, cond-true, eq-eqb}
 use Rattle.ariadne_base.specs.Locations.{upto}
 use Rattle.ariadne_picture.specs.declared.label_info.LineLabel.{LineLabel}
-use Rattle.ariadne_picture.specs.declared.switches.Switches.{Switches}
 use Rattle.ariadne_picture.specs.declared.cell.Glyph.TheVariants.{Blank, Underline}
 use Rattle.ariadne_picture.specs.declared.cell.Ink.{Ink}
 use Rattle.ariadne_picture.specs.declared.cell.Paint.TheVariants.{Plain}
@@ -41,10 +40,10 @@ lone_ink : Option LineLabel → Ink
 lone_ink None = blanks
 lone_ink (Some x) = ink_of Underline Underline x.info
 
-no-vertical : (switches : Switches) (n : ℕ) (o : Option LineLabel) → alternate_ink switches n None o ≡ lone_ink o
+no-vertical : (heads : Bool) (n : ℕ) (o : Option LineLabel) → alternate_ink heads n None o ≡ lone_ink o
 unfolding alternate_ink lone_ink
-no-vertical switches n None = refl
-no-vertical switches n (Some x) = refl
+no-vertical heads n None = refl
+no-vertical heads n (Some x) = refl
 
 module _ (v : Picture) {g : ℕ} {s : Section} {l : ℕ} (h : IsShownLine v g s l) (on : is_lone s.sheet l ≡ true) where
   abbrev rank : ℕ
@@ -53,7 +52,7 @@ module _ (v : Picture) {g : ℕ} {s : Section} {l : ℕ} (h : IsShownLine v g s 
   first : slice_get (shown_rows s.sheet l) 0 ≡ Some (alternate l rank)
   first = ap (λ t. slice_get t 0) (lone-block s.sheet l on)
 
-  ink-is : (k : ℕ) → alternate_inks s l rank k ≡ lone_ink (holder s l k)
+  ink-is : (k : ℕ) → alternate_inks v s l rank k ≡ lone_ink (holder s l k)
   unfolding alternate_place vertical_at underline_at holder layout_of
   ink-is k =
       let y = layout_of s.sheet l in
@@ -62,7 +61,7 @@ module _ (v : Picture) {g : ℕ} {s : Section} {l : ℕ} (h : IsShownLine v g s 
       let under : underline_at switches y rank k ≡ holder s l k =
       cond-true (switches.underlines && (rank == underline_row y)) _ _
       (both_true (lone s.sheet l on).underlined (eq-eqb rank (underline_row y) (sym (lone-rank s.sheet l on)))) in
-      (λ i. alternate_ink switches rank (up i) (under i)) ∙ no-vertical switches rank (holder s l k)
+      (λ i. alternate_ink v.texts.multiline_arrows rank (up i) (under i)) ∙ no-vertical v.texts.multiline_arrows rank (holder s l k)
 
   abbrev test : ℕ → Cell → Bool
   test k = marks (rows_of v) v.sections (placing_of v) (color_at v) (set_of s) (holder s l k)
@@ -94,16 +93,16 @@ module _ (v : Picture) {g : ℕ} {s : Section} {l : ℕ} (h : IsShownLine v g s 
       is : RowAt v g s (rows_above v h + suc 0) (alternate l rank)
       is = block-row-is v h 0 (alternate l rank) first
 
-      passes : Passes (holder s l k) (alternate_inks s l rank k)
+      passes : Passes (holder s l k) (alternate_inks v s l rank k)
       passes = rw (ink-is k) (ink-passes (holder s l k))
 
       go : (o : ℕ) → o < width s.sheet.switches (layout_of s.sheet l) k
           → test k (cell_at (rows_of v) (number v g s (alternate l rank)) (place_cell s l k + o)) ≡ true
       go zero low =
-          ap (test k) (place-cell-is v l (alternate_inks s l rank) [] (alternate-text v is) k 0 _ few (ink-head (set_of s) (alternate_inks s l rank k) _ low))
+          ap (test k) (place-cell-is v l (alternate_inks v s l rank) [] (alternate-text v is) k 0 _ few (ink-head (set_of s) (alternate_inks v s l rank k) _ low))
           ∙ passes.0
       go (suc o) low =
-          ap (test k) (place-cell-is v l (alternate_inks s l rank) [] (alternate-text v is) k (suc o) _ few (ink-tail (set_of s) (alternate_inks s l rank k) _ o low))
+          ap (test k) (place-cell-is v l (alternate_inks v s l rank) [] (alternate-text v is) k (suc o) _ few (ink-tail (set_of s) (alternate_inks v s l rank k) _ o low))
           ∙ passes.1
 
   line-marked : ((placing_of v).block_len g l == 1) && list_all (is_place_marked (rows_of v) v.sections (placing_of v) (color_at v) g s l)

@@ -169,7 +169,7 @@ module _ (v : Picture) {g : ℕ} {s : Section} {l : ℕ} (h : IsShownLine v g s 
         ]
 
     alternate-go : (up under : Option LineLabel) → vertical_at (layout_of s.sheet l) r k ≡ up → underline_at s.sheet.switches (layout_of s.sheet l) r k ≡ under
-        → IsCaused v h (number v g s (alternate l r)) k (alternate_ink s.sheet.switches r up under)
+        → IsCaused v h (number v g s (alternate l r)) k (alternate_ink v.texts.multiline_arrows r up under)
     unfolding alternate_ink row_key
     alternate-go None None e f = (
       cause-none v g s l _ k true _ (shows-blank v s Blank Plain refl),
@@ -181,7 +181,7 @@ module _ (v : Picture) {g : ℕ} {s : Section} {l : ℕ} (h : IsShownLine v g s 
         let later = own.later in
         let q = vertical-row r k w own in
         let up = not-below v own.rank w q j (alternate l r) is refl refl (omega arith) in
-        cond_both (not (is_inline w.side) && (r == 0) && s.sheet.switches.multiline_arrows)
+        cond_both (not (is_inline w.side) && (r == 0) && v.texts.multiline_arrows)
         (ink_of Uarrow Blank w.info) (ink_of Vbar Blank w.info)
         (IsCaused v h (number v g s (alternate l r)) k)
         (λ _. (cause-vertical v q _ k _ own.off own.place up (shows-upright v s _ _ (inr (inl refl))), cause-none v g s l _ k false _ (shows-blank v s Blank (paint_of w.info) refl)))
@@ -193,7 +193,7 @@ module _ (v : Picture) {g : ℕ} {s : Section} {l : ℕ} (h : IsShownLine v g s 
         let up = not-below v own.rank w q j (alternate l r) is refl refl (omega arith) in
         (cause-vertical v q _ k _ own.off own.place up (shows-upright v s _ _ (inr (inr refl))), underlined false u _ f (shows-glyph v s _ _ refl))
 
-    alternate-caused : IsCaused v h (number v g s (alternate l r)) k (alternate_inks s l r k)
+    alternate-caused : IsCaused v h (number v g s (alternate l r)) k (alternate_inks v s l r k)
     unfolding alternate_place
     alternate-caused = alternate-go _ _ refl refl
 
@@ -217,7 +217,7 @@ module _ (v : Picture) {g : ℕ} {s : Section} {l : ℕ} (h : IsShownLine v g s 
       by-kind j y is (inr b) =
           let at = subst (RowAt v g s (Rattle.ariadne_picture.proofs.Reading.ShownLine.rows_above v h + suc j)) b.1 is in
           let n : ℕ = length (line_labels s.sheet.labels l) in
-          rw b.1 (row-caused v h (alternate_inks s l n) _ (alternate-text v at)
+          rw b.1 (row-caused v h (alternate_inks v s l n) _ (alternate-text v at)
           (λ k few. alternate-caused n (right-true (list_any speaks (line_labels s.sheet.labels l)) (is_lone s.sheet l) b.0) (lone s.sheet l b.0).loose _ at k))
       by-kind j y is (inl b) = elim b.kind [
         | inl e ↦
@@ -225,7 +225,7 @@ module _ (v : Picture) {g : ℕ} {s : Section} {l : ℕ} (h : IsShownLine v g s 
             rw e (row-caused v h (arrow_inks s l b.rank) _ (arrow-text v (arrow-at v q)) (λ k few. arrow-caused b.rank b.label q k))
         | inr e ↦
             let at = subst (RowAt v g s (Rattle.ariadne_picture.proofs.Reading.ShownLine.rows_above v h + suc j)) e.0 is in
-            rw e.0 (row-caused v h (alternate_inks s l b.rank) _ (alternate-text v at)
+            rw e.0 (row-caused v h (alternate_inks v s l b.rank) _ (alternate-text v at)
             (λ k few. alternate-caused b.rank (left-true _ _ (list_any-true speaks (line_labels s.sheet.labels l) b.rank b.label b.there b.message)) e.1 _ at k))
       ]
 

@@ -112,8 +112,8 @@ module _ (v : Picture) {g : ℕ} {s : Section} {l : ℕ} where
 
   -- an alternate row has verticals and underlines
   pub alternate-cell : {i r : ℕ} → RowAt v g s i (alternate l r) → (k : ℕ) → k < places_of s l → has_cell s l k ≡ true
-      → first_cell v s l (number v g s (alternate l r)) k ≡ ink_cell v s (alternate_inks s l r k)
-  alternate-cell {r = r} is = place-at v s l (alternate_inks s l r) _ (alternate-text v is)
+      → first_cell v s l (number v g s (alternate l r)) k ≡ ink_cell v s (alternate_inks v s l r k)
+  alternate-cell {r = r} is = place-at v s l (alternate_inks v s l r) _ (alternate-text v is)
 
   -- the arrow row of line label x has its corner, its horizontal and the verticals of others
   pub label-cell : {r : ℕ} {x : LineLabel} → IsArrowRow v g s l r x → (k : ℕ) → k < places_of s l → has_cell s l k ≡ true
@@ -181,9 +181,9 @@ module _ (v : Picture) {g : ℕ} {s : Section} {l : ℕ} where
               (shows-something v s _ (ink (Some vertical.0)).first_paint (arrow-seen switches b.rank b.label _ _ vertical.0))
           | inr e ↦
               let ink : Option LineLabel → Ink =
-              λ o. alternate_ink switches b.rank o (underline_at switches (layout_of s.sheet l) b.rank x.place) in
+              λ o. alternate_ink v.texts.multiline_arrows b.rank o (underline_at switches (layout_of s.sheet l) b.rank x.place) in
               rw (e.0, alternate-cell (rw e.0 at is) x.place few some, vertical.1)
-              (shows-something v s _ (ink (Some vertical.0)).first_paint (alternate-seen switches b.rank vertical.0 _))
+              (shows-something v s _ (ink (Some vertical.0)).first_paint (alternate-seen v.texts.multiline_arrows b.rank vertical.0 _))
         ]
 
     -- so its vertical is traced from the source row down to its arrow row

@@ -92,10 +92,10 @@ module _ (v : Picture) {g : ℕ} {s : Section} {l : ℕ} (h : IsShownLine v g s 
     below = let n = number-at v is in let src = source-at v h in omega (arith, n, src)
 
     -- the ink of a place that a label holds: its underline, or a vertical with an underline
-    ink-is : (k : ℕ) (x : LineLabel) → holder s l k ≡ Some x → alternate_inks s l r k ≡ alternate_ink switches r (vertical_at y r k) (Some x)
+    ink-is : (k : ℕ) (x : LineLabel) → holder s l k ≡ Some x → alternate_inks v s l r k ≡ alternate_ink v.texts.multiline_arrows r (vertical_at y r k) (Some x)
     unfolding alternate_place underline_at holder
     ink-is k x e =
-        ap (alternate_ink switches r (vertical_at y r k))
+        ap (alternate_ink v.texts.multiline_arrows r (vertical_at y r k))
         (cond-true (switches.underlines && (r == r)) _ _ (both_true drawn.0 (eq-eqb r r refl)) ∙ e)
 
     -- cell c, of an ink whose first cell is this one, passes
@@ -104,7 +104,7 @@ module _ (v : Picture) {g : ℕ} {s : Section} {l : ℕ} (h : IsShownLine v g s 
         if is_glyph (set_of s) Underline first then is_color c.color (colors_of v (paint_of x.info))
         else is_color c.color first.color
 
-    ink-passes : (x : LineLabel) (up : Option LineLabel) → let ink = alternate_ink switches r up (Some x) in
+    ink-passes : (x : LineLabel) (up : Option LineLabel) → let ink = alternate_ink v.texts.multiline_arrows r up (Some x) in
         (passes x (ink_cell v s ink) (ink_cell v s ink) ≡ true)
         × (passes x (ink_cell v s ink) (glyph_cell v s ink.rest ink.rest_paint) ≡ true)
     unfolding alternate_ink is_glyph
@@ -117,9 +117,9 @@ module _ (v : Picture) {g : ℕ} {s : Section} {l : ℕ} (h : IsShownLine v g s 
 
     -- cell o of place k
     cell-is : (k o : ℕ) (q : Piece) → k < places_of s l
-        → slice_get (Rattle.ariadne_picture.specs.Pieces.ink_pieces (set_of s) (alternate_inks s l r k) (width switches y k)) o ≡ Some q
+        → slice_get (Rattle.ariadne_picture.specs.Pieces.ink_pieces (set_of s) (alternate_inks v s l r k) (width switches y k)) o ≡ Some q
         → cell_at (rows_of v) (number v g s (alternate l r)) (place_cell s l k + o) ≡ cell_of v.palette q
-    cell-is k o q few e = place-cell-is v l (alternate_inks s l r) [] (alternate-text v is) k o q few e
+    cell-is k o q few e = place-cell-is v l (alternate_inks v s l r) [] (alternate-text v is) k o q few e
 
     place-passes : (k : ℕ) (x : LineLabel) → holder s l k ≡ Some x → k < places_of s l → (o : ℕ) → o < width switches y k
         → passes x (cell_at (rows_of v) (number v g s (alternate l r)) (place_cell s l k))
@@ -127,13 +127,13 @@ module _ (v : Picture) {g : ℕ} {s : Section} {l : ℕ} (h : IsShownLine v g s 
     place-passes k x e few o low = go o low
       where
         ink : Ink
-        ink = alternate_ink switches r (vertical_at y r k) (Some x)
+        ink = alternate_ink v.texts.multiline_arrows r (vertical_at y r k) (Some x)
 
         first : cell_at (rows_of v) (number v g s (alternate l r)) (place_cell s l k) ≡ ink_cell v s ink
         first =
             let z : place_cell s l k ≡ place_cell s l k + 0 = omega arith in
             ap (cell_at (rows_of v) (number v g s (alternate l r))) z
-            ∙ cell-is k 0 _ few (ink-head (set_of s) (alternate_inks s l r k) (width switches y k) (omega (arith, low)))
+            ∙ cell-is k 0 _ few (ink-head (set_of s) (alternate_inks v s l r k) (width switches y k) (omega (arith, low)))
             ∙ ap (ink_cell v s) (ink-is k x e)
 
         go : (o : ℕ) → o < width switches y k
@@ -145,7 +145,7 @@ module _ (v : Picture) {g : ℕ} {s : Section} {l : ℕ} (h : IsShownLine v g s 
             ∙ (ink-passes x (vertical_at y r k)).0
         go (suc o) low =
             let rest : cell_at (rows_of v) (number v g s (alternate l r)) (place_cell s l k + suc o) ≡ glyph_cell v s ink.rest ink.rest_paint =
-            cell-is k (suc o) _ few (ink-tail (set_of s) (alternate_inks s l r k) (width switches y k) o low)
+            cell-is k (suc o) _ few (ink-tail (set_of s) (alternate_inks v s l r k) (width switches y k) o low)
             ∙ ap (λ (ink : Ink). glyph_cell v s ink.rest ink.rest_paint) (ink-is k x e) in
             (λ i. passes x (first i) (rest i)) ∙ (ink-passes x (vertical_at y r k)).1
 

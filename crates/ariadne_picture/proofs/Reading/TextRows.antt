@@ -35,8 +35,8 @@ area s l ink = area_pieces s.sheet.switches (layout_of s.sheet l) ink
 abbrev pub arrow_inks : Section → ℕ → ℕ → ℕ → Ink
 arrow_inks s l r = arrow_place s.sheet.switches (layout_of s.sheet l) r (slice_get (layout_of s.sheet l).labels r)
 
-abbrev pub alternate_inks : Section → ℕ → ℕ → ℕ → Ink
-alternate_inks s l r = alternate_place s.sheet.switches (layout_of s.sheet l) r
+abbrev pub alternate_inks : Picture → Section → ℕ → ℕ → ℕ → Ink
+alternate_inks v s l r = alternate_place v.texts.multiline_arrows s.sheet.switches (layout_of s.sheet l) r
 
 module _ (v : Picture) where
   -- the cells of these places are as many as the placing says
@@ -70,7 +70,7 @@ module _ (v : Picture) where
     }
 
     -- an alternate row has places alone
-    pub alternate-text : {r : ℕ} → RowAt v g s k (alternate l r) → IsTextRow v g s (alternate l r) (area s l (alternate_inks s l r) ++ [])
+    pub alternate-text : {r : ℕ} → RowAt v g s k (alternate l r) → IsTextRow v g s (alternate l r) (area s l (alternate_inks v s l r) ++ [])
     alternate-text {r} is = record {
       index = k;
       is = is;
@@ -78,8 +78,8 @@ module _ (v : Picture) where
           let y = layout_of s.sheet l in
           let front = front_pieces v.width s (alternate l r) in
           alternate-parts v.texts v.width s l r
-          ∙ ap (λ (switches : Switches). front ++ area_pieces switches y (alternate_place switches y r)) (sym (v.drawn.same_switches g s is.group))
-          ∙ ap (λ q. front ++ q) (sym (append-nil (area s l (alternate_inks s l r))));
+          ∙ ap (λ (switches : Switches). front ++ area_pieces switches y (alternate_place v.texts.multiline_arrows switches y r)) (sym (v.drawn.same_switches g s is.group))
+          ∙ ap (λ q. front ++ q) (sym (append-nil (area s l (alternate_inks v s l r))));
     }
 
     -- a gap row has its margin and its gutter alone

@@ -46,8 +46,9 @@ returns g c =
     let laid = c.layout.ensures.layout in
     let gutter = draws_gutter first second s (alternate l r) bars _ (below.one_page ∙ sym (page_kept pen first _ margin))
     (alternate-bytes s l r bars (below-alternate s l r bars (rise v.snippet below.is_snippet) below.bars)) c.in_ok-push_bars.ensures in
+    let heads = c.has_arrow_heads.ensures in
     let area = subst (Draws second third)
-    (λ i. area_pieces ((kept i).switches) (laid i) (alternate_place ((kept i).switches) (laid i) r)) c.in_ok-push_alternate_area.ensures in
+    (λ i. area_pieces ((kept i).switches) (laid i) (alternate_place (heads i) ((kept i).switches) (laid i) r)) c.in_ok-push_alternate_area.ensures in
     on_ok_weaker c.end_row.result
     (λ h. record {
       drawn = draws_alternate pen v.snippet.texts v.snippet.section
