@@ -10,9 +10,9 @@ ghost use Rattle.ariadne.specs.Building.{numeric_code, filled_code, GivesAll, Gi
 use crate::report::Report;
 use ariadne_base::Span;
 use ariadne_report::config::Config;
-use ariadne_report::content::Content;
 use ariadne_report::kind::ReportKind;
 use ariadne_report::label::Label;
+use ariadne_report::report_data::ReportData;
 use std::alloc::{AllocError, Global};
 use std::marker::Model;
 use std::ops::Range;
@@ -30,7 +30,7 @@ use std::ops::Range;
 /// ```
 #[derive(Debug, Drop)]
 pub struct ReportBuilder<'a, S: Span = Range<usize>> {
-    pub(crate) report: Content<'a, S>,
+    pub(crate) report: ReportData<'a, S>,
 }
 
 impl<'a, S: Span> Model for ReportBuilder<'a, S> {
@@ -49,7 +49,7 @@ impl<'a, S: Span> ReportBuilder<'a, S> {
         ensures { result ≡ new_report (kind_of kind.entry) span }
     {
         ReportBuilder {
-            report: Content {
+            report: ReportData {
                 kind,
                 code: None,
                 message: None,
@@ -337,7 +337,7 @@ impl<'a, S: Span> ReportBuilder<'a, S> {
         ensures { result ≡ self.entry }
     {
         let ReportBuilder { report } = self;
-        Report { content: report }
+        Report { data: report }
     }
 }
 

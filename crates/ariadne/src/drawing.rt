@@ -24,8 +24,8 @@ use ariadne_render::long_line::LongLine;
 use ariadne_render::page::Page;
 use ariadne_render::palette::Palette;
 use ariadne_render::writer::Writer;
-use ariadne_report::content::Content;
 use ariadne_report::groups::{are_over_one_source, cut_groups, in_order, number_width};
+use ariadne_report::report_data::ReportData;
 use ariadne_report::snippets::{messages, own_offset, resolve, texts};
 use std::alloc::{AllocError, Global};
 
@@ -36,7 +36,7 @@ const FIRST_ROOM: usize = 2048;
 ///
 /// On `Err` there was no memory for it.
 pub(crate) fn draw<S: Span, C: Cache<S::SourceId>>(
-    report: &Content<'_, S>,
+    report: &ReportData<'_, S>,
     cache: &C,
     infos: Vec<LabelInfo>,
 ) -> Result<String, AllocError>
@@ -61,7 +61,7 @@ pub(crate) fn draw<S: Span, C: Cache<S::SourceId>>(
 
 /// What all rows of a report's picture share, whose groups these are.
 fn page<S: Span, C: Cache<S::SourceId>>(
-    report: &Content<'_, S>,
+    report: &ReportData<'_, S>,
     cache: &C,
     groups: &[&[LabelInfo]],
 ) -> Result<Page, AllocError>
@@ -78,7 +78,7 @@ fn page<S: Span, C: Cache<S::SourceId>>(
 }
 
 /// The colours that the pieces of a report's picture may have.
-fn palette<S: Span>(report: &Content<'_, S>) -> Result<Palette, AllocError>
+fn palette<S: Span>(report: &ReportData<'_, S>) -> Result<Palette, AllocError>
     ensures { IfOk result (λ palette. palette ≡ shown_palette (palette_of report.now)) }
 {
     Ok(Palette {
@@ -89,7 +89,7 @@ fn palette<S: Span>(report: &Content<'_, S>) -> Result<Palette, AllocError>
 }
 
 /// The colours of a report's labels, by position, if there are colours.
-fn shown_colors<S: Span>(report: &Content<'_, S>) -> Result<Vec<Option<Color>>, AllocError>
+fn shown_colors<S: Span>(report: &ReportData<'_, S>) -> Result<Vec<Option<Color>>, AllocError>
     ensures { IfOk result (λ colors. colors.items ≡ (shown_palette (palette_of report.now)).labels) }
 {
     if !report.config.is_colored() {
@@ -106,7 +106,7 @@ fn shown_colors<S: Span>(report: &Content<'_, S>) -> Result<Vec<Option<Color>>, 
 fn push_groups<'a, 't, S: Span, C: Cache<S::SourceId>>(
     writer: &mut Writer<'_>,
     texts: &'t Texts<'t>,
-    report: &'t Content<'_, S>,
+    report: &'t ReportData<'_, S>,
     cache: &'t C,
     groups: &[&'a [LabelInfo]],
 ) -> Result<(), AllocError>
@@ -123,12 +123,20 @@ fn push_groups<'a, 't, S: Span, C: Cache<S::SourceId>>(
 {
     let own = own_offset(report, cache);
     let mut lists = Lists::new(report.alloc);
-    for rank in 0..groups.len() {
-        let group = groups[rank];
-        let before = groups[rank.saturating_sub(1)];
+    for index in 0..groups.len() {
+        let group = groups[index];
+        let before = groups[index.saturating_sub(1)];
         forget_of_other_source(&mut lists.long_line, report, &before[0], &group[0]);
         lists.sheet.fill(group)?;
-        let snippet = resolve(&*texts, &*report, &*cache, own, &*group, rank, groups.len());
+        let snippet = resolve(
+            &*texts,
+            &*report,
+            &*cache,
+            own,
+            &*group,
+            index,
+            groups.len(),
+        );
         push_snippet(writer, &mut lists, &snippet)?;
     }
     Ok(())
@@ -138,7 +146,7 @@ fn push_groups<'a, 't, S: Span, C: Cache<S::SourceId>>(
 /// one before it, which begins with `before`.
 fn forget_of_other_source<S: Span>(
     long: &mut Option<LongLine>,
-    report: &Content<'_, S>,
+    report: &ReportData<'_, S>,
     before: &LabelInfo,
     first: &LabelInfo,
 )

@@ -9,8 +9,8 @@ use crate::builder::ReportBuilder;
 use crate::report::Report;
 use ariadne_base::{Cache, Span};
 use ariadne_report::accept::accept;
-use ariadne_report::content::Content;
 use ariadne_report::margins::margin_columns;
+use ariadne_report::report_data::ReportData;
 use std::alloc::AllocError;
 
 impl<'a, S: Span> Report<'a, S> {
@@ -46,7 +46,7 @@ impl<'a, S: Span> Report<'a, S> {
             (C.names cache.new) (C.contents cache.new) in
             IfOk result (λ columns. HasMargin C.fails before after self.now columns) }
     {
-        columns_of(&self.content, cache)
+        columns_of(&self.data, cache)
     }
 }
 
@@ -76,7 +76,7 @@ impl<'a, S: Span> ReportBuilder<'a, S> {
 ///
 /// On `Err` memory ran out, in the cache or for sorting the labels.
 fn columns_of<S: Span, C: Cache<S::SourceId>>(
-    report: &Content<'_, S>,
+    report: &ReportData<'_, S>,
     cache: &mut C,
 ) -> Result<usize, AllocError>
     requires { C.can_fetch cache.old }

@@ -6,9 +6,9 @@ ghost use Rattle.std.specs.Option.{option_copied};
 use crate::builder::ReportBuilder;
 use ariadne_base::Span;
 use ariadne_report::config::Config;
-use ariadne_report::content::Content;
 use ariadne_report::kind::ReportKind;
 use ariadne_report::label::Label;
+use ariadne_report::report_data::ReportData;
 use std::alloc::Global;
 use std::marker::Model;
 use std::ops::Range;
@@ -27,7 +27,7 @@ use std::ops::Range;
 /// ```
 #[derive(Debug, Drop)]
 pub struct Report<'a, S: Span = Range<usize>> {
-    pub(crate) content: Content<'a, S>,
+    pub(crate) data: ReportData<'a, S>,
 }
 
 impl<'a, S: Span> Model for Report<'a, S> {
@@ -35,7 +35,7 @@ impl<'a, S: Span> Model for Report<'a, S> {
 
     ghost Value = { ReportFields S };
 
-    ghost view = { λ a. a.content };
+    ghost view = { λ a. a.data };
 }
 
 impl<'a, S: Span> Report<'a, S> {
@@ -57,7 +57,7 @@ impl<'a, S: Span> Report<'a, S> {
     pub fn kind(&self) -> ReportKind<'a>
         ensures kind { kind_of result ≡ self.now.kind }
     {
-        self.content.kind
+        self.data.kind
     }
 
     /// The code in the header, in brackets before the kind, if there is one. The code of a number
@@ -65,21 +65,21 @@ impl<'a, S: Span> Report<'a, S> {
     pub fn code(&self) -> Option<&str>
         ensures code { option_copied result ≡ self.now.code }
     {
-        self.content.code()
+        self.data.code()
     }
 
     /// The message in the header, if there is one.
     pub fn message(&self) -> Option<&str>
         ensures message { option_copied result ≡ self.now.message }
     {
-        self.content.message()
+        self.data.message()
     }
 
     /// The span with the location in the header.
     pub fn span(&self) -> &S
         ensures span { result.now ≡ self.now.span }
     {
-        self.content.span()
+        self.data.span()
     }
 
     /// The labels, in the order of the calls. The list of skipped labels from `write` counts from
@@ -87,27 +87,27 @@ impl<'a, S: Span> Report<'a, S> {
     pub fn labels(&self) -> &[Label<S>]
         ensures labels { result.now ≡ self.now.labels }
     {
-        self.content.labels()
+        self.data.labels()
     }
 
     /// The texts of the notes, in the order of the calls.
     pub fn notes(&self) -> &[String]
         ensures notes { map string_bytes result.now ≡ self.now.notes }
     {
-        self.content.notes()
+        self.data.notes()
     }
 
     /// The texts of the helps, in the order of the calls.
     pub fn helps(&self) -> &[String]
         ensures helps { map string_bytes result.now ≡ self.now.helps }
     {
-        self.content.helps()
+        self.data.helps()
     }
 
     /// The settings of the picture, and the unit of offsets.
     pub fn config(&self) -> Config
         ensures config { result ≡ self.now.config }
     {
-        self.content.config()
+        self.data.config()
     }
 }

@@ -175,8 +175,8 @@ impl<'a, S: Span> Report<'a, S> {
             IfOk result (λ p. IsPicture C.fails before after self.now (string_bytes p.text)
             p.left_out.items) }
     {
-        let judged = accept(&self.content, cache)?;
-        let text = draw(&self.content, cache, judged.infos)?;
+        let judged = accept(&self.data, cache)?;
+        let text = draw(&self.data, cache, judged.infos)?;
         Ok(Picture {
             text,
             left_out: judged.left_out,

@@ -10,7 +10,7 @@ use Rattle.ariadne_picture.specs.declared.label_info.LabelInfo.{LabelInfo}
 use Rattle.ariadne_picture.specs.declared.label_info.LineLabel.{LineLabel}
 use Rattle.ariadne_picture.specs.declared.label_info.Side.TheVariants.{Inline}
 use Rattle.ariadne_picture.specs.Lists.{joined}
-use Rattle.ariadne_picture.specs.Ranks.{Sheet, ends_at, inline_labels, is_hidden, is_on_one_line}
+use Rattle.ariadne_picture.specs.Ranks.{Sheet, ends_at, inline_labels, is_hidden_line, is_on_one_line}
 use Rattle.ariadne_picture.proofs.Lists.Elements.{Has, both-true, has-filter, has-map}
 use Rattle.ariadne_picture.proofs.Lists.ListFacts.{all-at, none≢some}
 use Rattle.ariadne_picture.proofs.Rows.NearLines.{hidden-bare}
@@ -52,7 +52,7 @@ unfolding labels_of joined
 no-labels labels = refl
 
 -- a label within a line stands there
-within-shown : (s : Sheet) (l k : ℕ) (a : LabelInfo) → slice_get s.labels k ≡ Some a → a.start_line ≡ l → a.end_line ≡ l → is_hidden s l ≡ true → ⊥
+within-shown : (s : Sheet) (l k : ℕ) (a : LabelInfo) → slice_get s.labels k ≡ Some a → a.start_line ≡ l → a.end_line ≡ l → is_hidden_line s l ≡ true → ⊥
 unfolding inline_labels is_on_one_line
 within-shown s l k a there starts ends hidden =
     let test : LabelInfo → Bool = λ a. is_on_one_line a && (a.start_line == l) in
@@ -68,7 +68,7 @@ within-shown s l k a there starts ends hidden =
     omega arith
 
 -- so where a text has but one line, no line is hidden
-one-line-shown : (s : Sheet) (l : ℕ) → length s.lines ≡ 1 → l < 1 → AreOverLines s.lines s.labels → 0 < length s.labels → is_hidden s l ≡ true → ⊥
+one-line-shown : (s : Sheet) (l : ℕ) → length s.lines ≡ 1 → l < 1 → AreOverLines s.lines s.labels → 0 < length s.labels → is_hidden_line s l ≡ true → ⊥
 one-line-shown s l one less over some hidden =
     let first = first-label s.labels some in
     let a : LabelInfo = first.0 in
@@ -79,12 +79,12 @@ one-line-shown s l one less over some hidden =
 
 -- the lines of a text: no hidden one is empty
 lines-some : (t : List ℕ) (ls : List (List ℕ)) (s : Sheet) (l : ℕ) → AreLinesOf t ls → s.lines ≡ ls → AreOverLines s.lines s.labels
-    → 0 < length s.labels → l < length ls → is_hidden s l ≡ true → 0 < length (line_text ls l)
+    → 0 < length s.labels → l < length ls → is_hidden_line s l ≡ true → 0 < length (line_text ls l)
 lines-some t ls s l empty_line e over some less hidden = absurd (one-line-shown s l (ap length e) less over some hidden)
 lines-some t ls s l (full_lines a e) own over some less hidden = full-some ls a l less
 
 -- a hidden line of a group has characters
 pub hidden-some : (t : List ℕ) (s : Sheet) (l : ℕ) → s.lines ≡ lines_of t → AreOverLines s.lines s.labels → 0 < length s.labels
     → l < length (lines_of t)
-    → is_hidden s l ≡ true → 0 < length (line_text (lines_of t) l)
+    → is_hidden_line s l ≡ true → 0 < length (line_text (lines_of t) l)
 hidden-some t s l own over some less hidden = lines-some t (lines_of t) s l (are_lines t) own over some less hidden

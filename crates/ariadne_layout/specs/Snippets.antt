@@ -11,7 +11,7 @@ use Rattle.ariadne_picture.specs.declared.label_info.LineLabel.{LineLabel}
 use Rattle.ariadne_picture.specs.Columns.{Layout, layout_of}
 use Rattle.ariadne_picture.specs.Lists.{total}
 use Rattle.ariadne_picture.specs.Pieces.{Section, Texts}
-use Rattle.ariadne_picture.specs.Ranks.{Sheet, is_hidden, line_labels}
+use Rattle.ariadne_picture.specs.Ranks.{Sheet, is_hidden_line, line_labels}
 use Rattle.ariadne_picture.specs.Strokes.{holds}
 
 -- ---- a label that is drawn over the lines of its source
@@ -70,7 +70,7 @@ pub record IsSnippet (v : SnippetFields) : Type 0 where
   pub numbers_fit : v.section.display_offset + length v.section.sheet.lines < 2 ^ 64
   pub places_fit : total length v.section.sheet.lines < 2 ^ 63
   pub scalars_lines : (l : ℕ) → scalars (line_text v.section.sheet.lines l) ≡ true
-  pub hidden_some : (l : ℕ) → l < length v.section.sheet.lines → is_hidden v.section.sheet l ≡ true
+  pub hidden_some : (l : ℕ) → l < length v.section.sheet.lines → is_hidden_line v.section.sheet l ≡ true
       → 0 < length (line_text v.section.sheet.lines l)
   pub location : IfSome v.section.header_offset (λ o. o ≤ total length v.section.sheet.lines)
 

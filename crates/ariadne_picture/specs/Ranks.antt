@@ -129,5 +129,5 @@ unfoldable pub lines_near : ℕ → ℕ → List ℕ
 lines_near n l = range_with_len (l - n) (l + n + 1 - (l - n))
 
 -- whether a line is not shown: no label of the group has anything at it or near it
-unfoldable pub is_hidden : Sheet → ℕ → Bool
-is_hidden h l = list_all (is_unlabelled h.labels) (lines_near h.switches.context_lines l)
+unfoldable pub is_hidden_line : Sheet → ℕ → Bool
+is_hidden_line h l = list_all (is_unlabelled h.labels) (lines_near h.switches.context_lines l)

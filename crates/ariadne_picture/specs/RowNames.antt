@@ -3,7 +3,7 @@
 use Rattle.std.specs.Prelude.{ℕ, ◌≡◌, ◌⊎◌, ◌-◌, ◌<◌, ◌≤◌, Bool, true, false, List, Some, length, slice_get}
 use Rattle.std.specs.Str.Lines.{lines}
 use Rattle.ariadne_picture.specs.declared.label_info.LineLabel.{LineLabel}
-use Rattle.ariadne_picture.specs.Ranks.{Sheet, line_labels, is_hidden, first_line, last_line}
+use Rattle.ariadne_picture.specs.Ranks.{Sheet, line_labels, is_hidden_line, first_line, last_line}
 use Rattle.ariadne_picture.specs.Rows.{Aside, help, note, Row, group_header, spacer, source, alternate}
 use Rattle.ariadne_picture.specs.Rows.{arrow, gap, bare, blank, piece, tail, is_inside, is_lone}
 
@@ -19,8 +19,8 @@ HasLine h l = (first_line h ≤ l) × (l ≤ last_line h)
 -- line l is hidden, and the line before it is not, or is none of the group
 pub record BeginsHidden (h : Sheet) (l : ℕ) : Type 0 where
   pub line : HasLine h l
-  pub hidden : is_hidden h l ≡ true
-  pub first : (l ≡ first_line h) ⊎ (is_hidden h (l - 1) ≡ false)
+  pub hidden : is_hidden_line h l ≡ true
+  pub first : (l ≡ first_line h) ⊎ (is_hidden_line h (l - 1) ≡ false)
 
 -- line label r of line l has a message
 pub record HasMessage (h : Sheet) (l r : ℕ) : Type 0 where
@@ -46,7 +46,7 @@ module _ (h : Sheet) (is_last : Bool) (helps notes : List (List ℕ)) where
   abbrev pub HasRow : Row → Type 0
   HasRow group_header = Unit {0}
   HasRow spacer = h.switches.compact ≡ false
-  HasRow (source l) = HasLine h l × (is_hidden h l ≡ false)
+  HasRow (source l) = HasLine h l × (is_hidden_line h l ≡ false)
   HasRow (alternate l r) = ((h.switches.compact ≡ false) × HasMessage h l r) ⊎ HasUnderlines h l r
   HasRow (arrow l r) = HasMessage h l r
   HasRow (gap l) = BeginsHidden h l × (is_inside h l ≡ true)

@@ -13,7 +13,7 @@ use Rattle.ariadne_base.specs.Locations.{line_offset, upto}
 use Rattle.ariadne_picture.specs.declared.label_info.LineLabel.{LineLabel}
 use Rattle.ariadne_picture.specs.declared.switches.Switches.{Switches}
 use Rattle.ariadne_picture.specs.Lists.{joined}
-use Rattle.ariadne_picture.specs.Ranks.{Sheet, is_hidden, line_labels, is_on_one_line, first_line, group_lines}
+use Rattle.ariadne_picture.specs.Ranks.{Sheet, is_hidden_line, line_labels, is_on_one_line, first_line, group_lines}
 
 -- what stands below the lines of the last group
 pub data Aside : Type 0 where
@@ -94,8 +94,8 @@ is_inside h l =
 -- the rows of line l; of a run of hidden lines only the first has one
 unfoldable pub line_rows : Sheet → ℕ → List Row
 line_rows h l =
-    if is_hidden h l then
-    (if nat_lt (first_line h) l && is_hidden h (l - 1) then []
+    if is_hidden_line h l then
+    (if nat_lt (first_line h) l && is_hidden_line h (l - 1) then []
     else if is_inside h l then gap l ∷ []
     else if h.switches.compact then [] else bare l ∷ [])
     else source l

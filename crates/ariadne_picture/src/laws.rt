@@ -39,7 +39,7 @@ ghost use Rattle.ariadne_picture.specs.Pieces.{Section, Texts, row_pieces, messa
 ghost use Rattle.ariadne_picture.specs.Placing.{has_ends_of_gutter_traces, has_gutter_bars};
 ghost use Rattle.ariadne_picture.specs.Placing.{has_inline_traces, has_message_rows, is_aligned};
 ghost use Rattle.ariadne_picture.specs.Placing.{Placing, is_placing};
-ghost use Rattle.ariadne_picture.specs.Ranks.{Sheet, is_before, is_hidden, is_nearer_margin};
+ghost use Rattle.ariadne_picture.specs.Ranks.{Sheet, is_before, is_hidden_line, is_nearer_margin};
 ghost use Rattle.ariadne_picture.specs.Ranks.{gutter_labels, line_labels, margin_label};
 ghost use Rattle.ariadne_picture.specs.Ranks.{span_len};
 ghost use Rattle.ariadne_picture.specs.ReadBack.{HaveShortNumbers, HaveWholeLines};
@@ -180,7 +180,7 @@ pub fn bars_stand_case_by_case()
     ensures source { (s : Sheet) (i l : ℕ) (a : LabelInfo) → IsGutterLabel s i a
         → (IsTrue (bar_at s (source l) i) ↔ BarBesideLine s i a l) }
     ensures gap { (s : Sheet) (i l : ℕ) (a : LabelInfo) → IsGutterLabel s i a
-        → IsTrue (is_hidden s l)
+        → IsTrue (is_hidden_line s l)
         → (IsTrue (bar_at s (gap l) i) ↔ BarBesideLine s i a l) }
     ensures alternate { (s : Sheet) (i l r : ℕ) (a : LabelInfo) → IsGutterLabel s i a
         → (IsTrue (bar_at s (alternate l r) i) ↔ BarBesideAlternate s i a l r) }

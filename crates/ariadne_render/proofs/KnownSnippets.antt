@@ -6,7 +6,7 @@ use Rattle.std.proofs.lemmas.Bool.{true≢false}
 use Rattle.ariadne_picture.specs.declared.label_info.LineLabel.{LineLabel}
 use Rattle.ariadne_picture.specs.Bars.{EndsNoEarlier}
 use Rattle.ariadne_picture.specs.Pieces.{Piece}
-use Rattle.ariadne_picture.specs.Ranks.{Sheet, is_hidden, margin_label}
+use Rattle.ariadne_picture.specs.Ranks.{Sheet, is_hidden_line, margin_label}
 use Rattle.ariadne_picture.proofs.Lists.ListFacts.{all-weaker}
 use Rattle.ariadne_picture.proofs.Rows.BarCases.{hidden-margin}
 use Rattle.ariadne_layout.specs.Snippets.{IsOverLines, IsSnippet, SnippetFields, sheet_in}
@@ -32,7 +32,7 @@ on-page v page g is e of =
     let same = gutter-switches (sheet_in v) page g e of in record { texts = is.switches ∙ same; sheet = same }
 
 -- a hidden line has no margin label
-pub hidden-none : (s : Sheet) (l : ℕ) → is_hidden s l ≡ true → margin_label s.labels l ≡ None
+pub hidden-none : (s : Sheet) (l : ℕ) → is_hidden_line s l ≡ true → margin_label s.labels l ≡ None
 hidden-none s l h = none (margin_label s.labels l) (hidden-margin s l h)
   where
     none : (o : Option LineLabel) → is_some o ≡ false → o ≡ None

@@ -2,7 +2,7 @@
 use Rattle.std.proofs.Common.{◌≡◌, ◌∙◌, ℕ, ◌-◌, true, false, ◌&&◌, [], ◌∷◌, nat_le, nat_lt, refl, sym}
 use Rattle.std.specs.Prelude.{if◌then◌else◌}
 use Rattle.std.proofs.lemmas.Bool.{le-leb, and_from, not-true}
-use Rattle.ariadne_picture.specs.Ranks.{Sheet, first_line, is_hidden}
+use Rattle.ariadne_picture.specs.Ranks.{Sheet, first_line, is_hidden_line}
 use Rattle.ariadne_picture.specs.Rows.{gap, bare, line_rows, is_inside}
 use Rattle.ariadne_picture.specs.Strokes.{holds}
 use Rattle.ariadne_picture.proofs.Lists.ListFacts.{all-weaker}
@@ -18,13 +18,13 @@ holders-touch s l over = λ o low high.
     (λ a h t. let p = h.holders l o low high t in
     and_from (nat_le a.start_line l) (nat_le l a.end_line) (le-leb a.start_line l p.0) (le-leb l a.end_line p.1)) over
 
-module _ (s : Sheet) (l : ℕ) (hidden : is_hidden s l ≡ true) (run : begins_run s l ≡ true) where
+module _ (s : Sheet) (l : ℕ) (hidden : is_hidden_line s l ≡ true) (run : begins_run s l ≡ true) where
   -- the first of a run of hidden lines has the row in their place
   run-rows : line_rows s l ≡ (if is_inside s l then gap l ∷ [] else if s.switches.compact then [] else bare l ∷ [])
   unfolding line_rows begins_run
   run-rows =
-      let first : (nat_lt (first_line s) l && is_hidden s (l - 1)) ≡ false =
-      not-true (nat_lt (first_line s) l && is_hidden s (l - 1)) run in
+      let first : (nat_lt (first_line s) l && is_hidden_line s (l - 1)) ≡ false =
+      not-true (nat_lt (first_line s) l && is_hidden_line s (l - 1)) run in
       rw (hidden, first) refl
 
   -- inside a label

@@ -8,7 +8,7 @@ use Rattle.std.proofs.lemmas.Option.{slice_get_within, get_or_from_slice_get}
 use Rattle.ariadne_picture.specs.declared.label_info.LineLabel.{LineLabel}
 use Rattle.ariadne_picture.specs.Lists.{joined}
 use Rattle.ariadne_picture.specs.Pieces.{Piece, Section, Texts, row_pieces}
-use Rattle.ariadne_picture.specs.Ranks.{Sheet, is_hidden, line_labels}
+use Rattle.ariadne_picture.specs.Ranks.{Sheet, is_hidden_line, line_labels}
 use Rattle.ariadne_picture.specs.Rows.{Row, label_rows, arrow, alternate, line_rows, lone_rows, source}
 use Rattle.ariadne_layout.proofs.Listing.{joined-more}
 use Rattle.ariadne_render.specs.Pages.{PenFields, DrawsRow, DrawsRows}
@@ -72,7 +72,7 @@ pub row-page : (a b : PenFields) (x : List Piece) → DrawsRow a b x → b.page 
 row-page a b x d = ap (λ (q : PenFields). q.page) d
 
 -- a line that is shown has its source row and the rows of its labels
-pub line-shown : (s : Sheet) (l : ℕ) → is_hidden s l ≡ false
+pub line-shown : (s : Sheet) (l : ℕ) → is_hidden_line s l ≡ false
     → source l ∷ (joined (label_rows s.switches.compact l) (enumerate_from 0 (line_labels s.labels l)) ++ lone_rows s l) ≡ line_rows s l
 unfolding line_rows
 line-shown s l e = sym (rw e refl)

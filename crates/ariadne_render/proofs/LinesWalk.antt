@@ -12,7 +12,7 @@ use Rattle.ariadne_picture.specs.Bars.{EndsNoEarlier}
 use Rattle.ariadne_picture.specs.Groups.{greatest, group_end_line, group_start_line}
 use Rattle.ariadne_picture.specs.Lists.{joined}
 use Rattle.ariadne_picture.specs.Pieces.{Section, Texts, row_pieces}
-use Rattle.ariadne_picture.specs.Ranks.{Sheet, first_line, is_hidden, is_unlabelled, last_line}
+use Rattle.ariadne_picture.specs.Ranks.{Sheet, first_line, is_hidden_line, is_unlabelled, last_line}
 use Rattle.ariadne_picture.specs.Rows.{Row, line_rows}
 use Rattle.ariadne_picture.proofs.Lists.Joined.{joined-append, joined-one}
 use Rattle.ariadne_picture.proofs.Lists.ListFacts.{all-at, all-weaker, none≢some}
@@ -89,7 +89,7 @@ pub record IsWalked (s : Sheet) (size l n k : ℕ) (g : GutterFields) : Type 0 w
   pub high : l ≤ group_end_line s.labels + 1
   pub begins : begins_run s l ≡ true
   pub up : l ≤ n
-  pub near : (j : ℕ) → l ≤ j → j < n → is_hidden s j ≡ false
+  pub near : (j : ℕ) → l ≤ j → j < n → is_hidden_line s j ≡ false
   pub far : (j m : ℕ) → n ≤ j → j < size → m < l → is_unlabelled s.labels m ≡ false → m + s.switches.context_lines < j
   pub beside : IsBeside s l g
 
@@ -103,25 +103,25 @@ pub record IsStep (s : Sheet) (size l n k m : ℕ) : Type 0 where
   pub up : l ≤ m
   pub within : m ≤ group_end_line s.labels
   pub apart : AreApart s l n (m - s.switches.context_lines) m
-  pub shown : is_hidden s m ≡ false
+  pub shown : is_hidden_line s m ≡ false
   pub event : k < length (events_of s.labels)
   pub events : (end : ℕ) → IsLineEnd (events_of s.labels) k end → slice_range (events_of s.labels) k end ≡ events_at s.labels m
   pub next : (end near top : ℕ) (h : GutterFields) → IsLineEnd (events_of s.labels) k end → size ≤ top
       → near ≡ min (m + 1 + s.switches.context_lines) top → IsBeside s (m + 1) h → IsWalked s size (m + 1) near end h
 
 -- a line below a shown one begins a run
-begins-behind : (s : Sheet) (l : ℕ) → is_hidden s (l - 1) ≡ false → begins_run s l ≡ true
+begins-behind : (s : Sheet) (l : ℕ) → is_hidden_line s (l - 1) ≡ false → begins_run s l ≡ true
 unfolding begins_run
 begins-behind s l shown =
-    not_from_false (nat_lt (first_line s) l && is_hidden s (l - 1)) (and_right (nat_lt (first_line s) l) (is_hidden s (l - 1)) shown)
+    not_from_false (nat_lt (first_line s) l && is_hidden_line s (l - 1)) (and_right (nat_lt (first_line s) l) (is_hidden_line s (l - 1)) shown)
 
 -- lines without labels, of which those from `far` on are shown, and those before it have none near below them
 module _ (s : Sheet) (size l n k far m : ℕ) (g : GutterFields) (w : IsWalked s size l n k g) (fits : m ≤ size) (up : l ≤ m) (short : far ≤ m)
     (bare : (j : ℕ) → l ≤ j → j < m → is_unlabelled s.labels j ≡ true)
-    (below : (j : ℕ) → l ≤ j → far ≤ j → j < m → is_hidden s j ≡ false)
+    (below : (j : ℕ) → l ≤ j → far ≤ j → j < m → is_hidden_line s j ≡ false)
     (lone : (j i : ℕ) → j < far → l ≤ i → i ≤ j + s.switches.context_lines → is_unlabelled s.labels i ≡ true) where
   -- a line that is near none is hidden
-  far-hidden : (j : ℕ) → n ≤ j → l ≤ j → j < far → is_hidden s j ≡ true
+  far-hidden : (j : ℕ) → n ≤ j → l ≤ j → j < far → is_hidden_line s j ≡ true
   far-hidden j past low less = hidden-far s j (λ i from to. elim (cases_lt i l) [
     | inr behind ↦ lone j i less behind to
     | inl above ↦ elim (cases_Bool (is_unlabelled s.labels i)) [
@@ -232,7 +232,7 @@ module _ (s : Sheet) (size : ℕ) (rise : AllByRecursion EndsNoEarlier s.labels)
           events = line-end s.labels m k end e events-above there on line;
           low = omega arith;
           high = omega arith;
-          begins = begins-behind s (m + 1) (ap (is_hidden s) back ∙ shown-with s m line-labelled);
+          begins = begins-behind s (m + 1) (ap (is_hidden_line s) back ∙ shown-with s m line-labelled);
           up = omega (arith, is, high, fits, room);
           near = λ j a b. shown-near s j m line-labelled (omega (arith, b, is)) (omega (arith, a));
           far = λ j i past less above some. omega (arith, past, less, above, is, room);
@@ -289,7 +289,7 @@ unfolding joined
 run-empty f l m h = let none : 0 ≡ m - l = omega arith in ap (λ n. joined f (range_with_len l n)) none
 
 -- of hidden lines only the first has rows
-later-none : (s : Sheet) (l m : ℕ) → first_line s ≤ l → ((j : ℕ) → l ≤ j → j < m → is_hidden s j ≡ true) → (n j : ℕ) → l < j → j + n ≤ m
+later-none : (s : Sheet) (l m : ℕ) → first_line s ≤ l → ((j : ℕ) → l ≤ j → j < m → is_hidden_line s j ≡ true) → (n j : ℕ) → l < j → j + n ≤ m
     → joined (line_rows s) (range_with_len j n) ≡ []
 unfolding joined line_rows
 later-none s l m low hidden zero j past within = refl
@@ -300,7 +300,7 @@ later-none s l m low hidden (suc n) j past within =
     rw (here, behind, above) (later-none s l m low hidden n (j + 1) (omega arith) (omega arith))
 
 -- so the rows of a run of them are those of the first
-pub run-hidden : (s : Sheet) (l m : ℕ) → first_line s ≤ l → l < m → ((j : ℕ) → l ≤ j → j < m → is_hidden s j ≡ true)
+pub run-hidden : (s : Sheet) (l m : ℕ) → first_line s ≤ l → l < m → ((j : ℕ) → l ≤ j → j < m → is_hidden_line s j ≡ true)
     → line_rows s l ≡ joined (line_rows s) (range_with_len l (m - l))
 run-hidden s l m low less hidden =
     let rest : joined (line_rows s) (range_with_len (l + 1) (m - (l + 1))) ≡ [] =

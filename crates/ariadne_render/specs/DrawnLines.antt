@@ -3,7 +3,7 @@ use Rattle.std.specs.Prelude.{ℕ, ◌≡◌, ◌<◌, ◌≤◌, Bool, true, fa
 use Rattle.std.specs.Prelude.{◌-◌, ◌&&◌, nat_lt, not}
 use Rattle.std.specs.declared.ops.Range.{Range}
 use Rattle.ariadne_picture.specs.declared.label_info.LabelInfo.{LabelInfo}
-use Rattle.ariadne_picture.specs.Ranks.{Sheet, first_line, is_hidden, is_unlabelled}
+use Rattle.ariadne_picture.specs.Ranks.{Sheet, first_line, is_hidden_line, is_unlabelled}
 use Rattle.ariadne_layout.specs.SnippetLabels.{events_at, events_of}
 use Rattle.ariadne_layout.specs.Snippets.{IsSnippet, SnippetFields, sheet_in}
 use Rattle.ariadne_render.specs.LongLines.{IsRemembered}
@@ -15,18 +15,18 @@ use Rattle.ariadne_render.specs.declared.writer.Writer.{Writer}
 
 -- line l is the first of its group, or the line above it is shown
 unfoldable pub begins_run : Sheet → ℕ → Bool
-begins_run s l = not (nat_lt (first_line s) l && is_hidden s (l - 1))
+begins_run s l = not (nat_lt (first_line s) l && is_hidden_line s (l - 1))
 
 -- no label has anything at the lines from `first` to before `behind`, and each of them is shown
 pub record AreContext (s : Sheet) (first behind : ℕ) : Type 0 where
   pub unlabelled : (l : ℕ) → first ≤ l → l < behind → is_unlabelled s.labels l ≡ true
-  pub shown : (l : ℕ) → first ≤ l → l < behind → is_hidden s l ≡ false
+  pub shown : (l : ℕ) → first ≤ l → l < behind → is_hidden_line s l ≡ false
 
 -- the lines from `first` to before `behind` are hidden, and the first of them begins a run
 pub record AreHidden (s : Sheet) (first behind : ℕ) : Type 0 where
   pub low : first_line s ≤ first
   pub begins : begins_run s first ≡ true
-  pub hidden : (l : ℕ) → first ≤ l → l < behind → is_hidden s l ≡ true
+  pub hidden : (l : ℕ) → first ≤ l → l < behind → is_hidden_line s l ≡ true
 
 -- no label has anything at these lines of a group; those of `run` are hidden, the first of them begins
 -- a run, and the others are shown

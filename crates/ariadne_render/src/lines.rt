@@ -5,7 +5,7 @@ ghost use Rattle.std.specs.Prelude.{◌≡◌, ◌+◌, ◌-◌, ◌<◌, ◌≤
 ghost use Rattle.std.specs.Prelude.{max, min, option_map, slice_get, true};
 ghost use Rattle.std.specs.List.{range_with_len};
 ghost use Rattle.ariadne_picture.specs.Lists.{joined};
-ghost use Rattle.ariadne_picture.specs.Ranks.{first_line, group_lines, is_hidden, last_line};
+ghost use Rattle.ariadne_picture.specs.Ranks.{first_line, group_lines, is_hidden_line, last_line};
 ghost use Rattle.ariadne_picture.specs.Ranks.{multi_line_labels};
 ghost use Rattle.ariadne_picture.specs.Rows.{line_rows};
 ghost use Rattle.ariadne_layout.specs.Tables.{ArePaints};
@@ -198,7 +198,7 @@ fn push_hidden<I: SourceText>(
 ) -> Result<(), AllocError>
     requires at { IsAt snippet.now line writer.old lists.old }
     requires within { line < length (sheet_in snippet.now).lines }
-    requires hidden { is_hidden (sheet_in snippet.now) line ≡ true }
+    requires hidden { is_hidden_line (sheet_in snippet.now) line ≡ true }
     requires run { begins_run (sheet_in snippet.now) line ≡ true }
     ensures at { OnOk result (IsAt snippet.now line writer.new lists.new) }
     ensures drawn { let rows = line_rows (sheet_in snippet.now) line in
@@ -225,7 +225,7 @@ fn push_line<I: SourceText>(
 ) -> Result<(), AllocError>
     requires at { IsAt snippet.now line writer.old lists.old }
     requires within { line < length (sheet_in snippet.now).lines }
-    requires shown { is_hidden (sheet_in snippet.now) line ≡ false }
+    requires shown { is_hidden_line (sheet_in snippet.now) line ≡ false }
     requires events { AreEventsOf (sheet_in snippet.now).labels line from to }
     ensures at { OnOk result (IsAt snippet.now (line + 1) writer.new lists.new) }
     ensures drawn { let rows = line_rows (sheet_in snippet.now) line in

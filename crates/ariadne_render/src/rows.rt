@@ -16,7 +16,7 @@
 
 ghost use Rattle.std.specs.Prelude.{◌≡◌, ◌<◌, ◌^◌, true, false, Some, OnOk, slice_get};
 ghost use Rattle.ariadne_picture.specs.Pieces.{message_pieces};
-ghost use Rattle.ariadne_picture.specs.Ranks.{is_hidden};
+ghost use Rattle.ariadne_picture.specs.Ranks.{is_hidden_line};
 ghost use Rattle.ariadne_picture.specs.Rows.{alternate, arrow, bare, gap, source};
 ghost use Rattle.ariadne_layout.specs.Tables.{tab_columns};
 ghost use Rattle.ariadne_layout.specs.Snippets.{labels_at, layout_at, sheet_in};
@@ -147,7 +147,7 @@ pub fn push_gap_row<I: SourceText>(
     line: usize,
 ) -> Result<(), AllocError>
     requires at { IsBesideAt snippet.now line writer.old }
-    requires hidden { is_hidden (sheet_in snippet.now) line ≡ true }
+    requires hidden { is_hidden_line (sheet_in snippet.now) line ≡ true }
     ensures { OnOk result (WritesRowOf snippet.now (gap line) writer.old writer.new) }
 {
     writer.pen.push_gap_margin()?;

@@ -17,9 +17,9 @@ ghost use Rattle.ariadne_report.specs.Judging.{listed};
 ghost use Rattle.ariadne_report.specs.Progress.{IsSourceAt, SoFar};
 
 use crate::config::{Config, IndexType, LabelAttach};
-use crate::content::Content;
 use crate::counting::{Known, char_offset};
 use crate::label::Label;
+use crate::report_data::ReportData;
 use ariadne_base::{Cache, FetchError, Line, Source, SourceText, Span};
 use ariadne_picture::label_info::LabelInfo;
 use ariadne_picture::verdict::Verdict;
@@ -68,7 +68,7 @@ impl<E: Drop> Judged<E> {
 ///
 /// On `Err` memory ran out, in the cache or for the labels.
 pub fn accept<S: Span, C: Cache<S::SourceId>>(
-    report: &Content<'_, S>,
+    report: &ReportData<'_, S>,
     cache: &mut C,
 ) -> Result<Judged<C::Error>, AllocError>
     requires { C.can_fetch cache.old }
@@ -105,7 +105,7 @@ pub fn accept<S: Span, C: Cache<S::SourceId>>(
 ///
 /// On `Err` memory ran out, in the cache or for the labels.
 fn judge_fetched<S: Span, C: Cache<S::SourceId>>(
-    report: &Content<'_, S>,
+    report: &ReportData<'_, S>,
     cache: &mut C,
     judged: &mut Judged<C::Error>,
     first: usize,
@@ -152,7 +152,7 @@ fn judge_fetched<S: Span, C: Cache<S::SourceId>>(
 ///
 /// On `Err` memory for the labels ran out.
 fn judge_alike<S: Span, C: Cache<S::SourceId>>(
-    report: &Content<'_, S>,
+    report: &ReportData<'_, S>,
     source: &Source<C::Storage>,
     judged: &mut Judged<C::Error>,
     first: usize,
@@ -191,7 +191,7 @@ fn judge_alike<S: Span, C: Cache<S::SourceId>>(
 /// `size` is the length of the source in the unit of offsets. `known` is a place of the source,
 /// before and after. On `Err` memory for the label ran out.
 fn judge_held<S: Span, C: Cache<S::SourceId>>(
-    report: &Content<'_, S>,
+    report: &ReportData<'_, S>,
     source: &Source<C::Storage>,
     size: usize,
     known: &mut Known,

@@ -9,7 +9,7 @@ ghost use Rattle.ariadne_picture.specs.Ranks.{last_line};
 ghost use Rattle.ariadne_report.specs.CacheReads.{AreThere, world};
 ghost use Rattle.ariadne_report.specs.DrawnGroups.{AreGroups, IsGroup};
 
-use crate::content::Content;
+use crate::report_data::ReportData;
 use ariadne_base::{Cache, Span};
 use ariadne_layout::digits::decimal_len;
 use ariadne_layout::order::{ByOrder, put_in_order};
@@ -28,7 +28,7 @@ pub fn in_order(alloc: Global, infos: Vec<LabelInfo>) -> Result<Vec<LabelInfo>, 
 
 /// The groups of labels in order, from top to bottom. On `Err` there was no memory for them.
 pub fn cut_groups<'a, S: Span>(
-    report: &Content<'_, S>,
+    report: &ReportData<'_, S>,
     infos: &'a [LabelInfo],
 ) -> Result<Vec<&'a [LabelInfo]>, AllocError>
     requires there { AreThere report.now infos.now }
@@ -49,7 +49,7 @@ pub fn cut_groups<'a, S: Span>(
 }
 
 /// The end of the group that begins at `start`: where the next cut stands.
-fn group_end<S: Span>(report: &Content<'_, S>, infos: &[LabelInfo], start: usize) -> usize
+fn group_end<S: Span>(report: &ReportData<'_, S>, infos: &[LabelInfo], start: usize) -> usize
     requires there { AreThere report.now infos.now }
     requires start { start < length infos.now }
     ensures after { start < result }
@@ -69,7 +69,11 @@ fn group_end<S: Span>(report: &Content<'_, S>, infos: &[LabelInfo], start: usize
 }
 
 /// Whether two labels are over one source: their spans name it by equal ids.
-pub fn are_over_one_source<S: Span>(report: &Content<'_, S>, a: &LabelInfo, b: &LabelInfo) -> bool
+pub fn are_over_one_source<S: Span>(
+    report: &ReportData<'_, S>,
+    a: &LabelInfo,
+    b: &LabelInfo,
+) -> bool
     requires first { a.now.position < length report.now.labels }
     requires second { b.now.position < length report.now.labels }
     ensures { (names : S.SourceId → Option (List ℕ)) (contents : List (S.SourceId × Listing)) →
@@ -85,7 +89,7 @@ pub fn are_over_one_source<S: Span>(report: &Content<'_, S>, a: &LabelInfo, b: &
 
 /// Whether a cut stands between two neighbours: their sources differ, or the second ends on an
 /// earlier line.
-fn is_cut<S: Span>(report: &Content<'_, S>, a: &LabelInfo, b: &LabelInfo) -> bool
+fn is_cut<S: Span>(report: &ReportData<'_, S>, a: &LabelInfo, b: &LabelInfo) -> bool
     requires first { a.now.position < length report.now.labels }
     requires second { b.now.position < length report.now.labels }
     ensures { (names : S.SourceId → Option (List ℕ)) (contents : List (S.SourceId × Listing)) →
@@ -98,7 +102,7 @@ fn is_cut<S: Span>(report: &Content<'_, S>, a: &LabelInfo, b: &LabelInfo) -> boo
 
 /// How many columns the greatest line number of all groups takes.
 pub fn number_width<S: Span, C: Cache<S::SourceId>>(
-    report: &Content<'_, S>,
+    report: &ReportData<'_, S>,
     cache: &C,
     groups: &[&[LabelInfo]],
 ) -> usize
@@ -119,7 +123,7 @@ pub fn number_width<S: Span, C: Cache<S::SourceId>>(
 
 /// The number of the last line of a group that is shown or stands between such, as it is printed.
 fn last_number<S: Span, C: Cache<S::SourceId>>(
-    report: &Content<'_, S>,
+    report: &ReportData<'_, S>,
     cache: &C,
     group: &[LabelInfo],
 ) -> usize

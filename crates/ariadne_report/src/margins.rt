@@ -13,8 +13,8 @@ ghost use Rattle.ariadne_picture.specs.Ranks.{gutter_labels, is_on_one_line};
 ghost use Rattle.ariadne_report.specs.CacheReads.{AreDrawn, world};
 ghost use Rattle.ariadne_report.specs.DrawnGroups.{AreGroups, gutter_sheet};
 
-use crate::content::Content;
 use crate::groups::{cut_groups, in_order, number_width};
+use crate::report_data::ReportData;
 use ariadne_base::{Cache, Span};
 use ariadne_picture::label_info::LabelInfo;
 use ariadne_picture::switches::Switches;
@@ -25,7 +25,7 @@ use std::alloc::AllocError;
 ///
 /// On `Err` there was no memory to sort the labels.
 pub fn margin_columns<S: Span, C: Cache<S::SourceId>>(
-    report: &Content<'_, S>,
+    report: &ReportData<'_, S>,
     cache: &C,
     infos: Vec<LabelInfo>,
 ) -> Result<usize, AllocError>
@@ -42,7 +42,7 @@ pub fn margin_columns<S: Span, C: Cache<S::SourceId>>(
 
 /// The most columns that one of these groups has in front of its source text, or 0 without a group.
 fn most_before_text<S: Span, C: Cache<S::SourceId>>(
-    report: &Content<'_, S>,
+    report: &ReportData<'_, S>,
     cache: &C,
     groups: &[&[LabelInfo]],
 ) -> usize

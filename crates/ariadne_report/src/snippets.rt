@@ -8,7 +8,7 @@ ghost use Rattle.ariadne_report.specs.DrawnGroups.{IsGroup};
 ghost use Rattle.ariadne_report.specs.HeaderPlaces.{IsOwnOffset};
 
 use crate::accept::offset_in_chars;
-use crate::content::Content;
+use crate::report_data::ReportData;
 use ariadne_base::{Cache, Span};
 use ariadne_layout::snippet::Snippet;
 use ariadne_layout::texts::Texts;
@@ -16,7 +16,7 @@ use ariadne_picture::label_info::LabelInfo;
 use std::alloc::AllocError;
 
 /// The messages of a report's labels, by position. On `Err` there was no memory for them.
-pub fn messages<'a, S: Span>(report: &'a Content<'_, S>) -> Result<Vec<&'a str>, AllocError>
+pub fn messages<'a, S: Span>(report: &'a ReportData<'_, S>) -> Result<Vec<&'a str>, AllocError>
     ensures { IfOk result
         (λ messages. map (λ m. m.now) messages.items ≡ (texts_of report.now).messages) }
 {
@@ -28,7 +28,7 @@ pub fn messages<'a, S: Span>(report: &'a Content<'_, S>) -> Result<Vec<&'a str>,
 }
 
 /// The texts of a report, whose labels have these messages.
-pub fn texts<'a, S: Span>(report: &'a Content<'_, S>, messages: &'a [&'a str]) -> Texts<'a>
+pub fn texts<'a, S: Span>(report: &'a ReportData<'_, S>, messages: &'a [&'a str]) -> Texts<'a>
     requires messages { map (λ m. m.now) messages.now ≡ (texts_of report.now).messages }
     ensures { result ≡ texts_of report.now }
 {
@@ -47,7 +47,7 @@ pub fn texts<'a, S: Span>(report: &'a Content<'_, S>, messages: &'a [&'a str]) -
 /// The offset in characters where the report's own span starts, or `None` where its source isn't held
 /// or has no such place.
 pub fn own_offset<S: Span, C: Cache<S::SourceId>>(
-    report: &Content<'_, S>,
+    report: &ReportData<'_, S>,
     cache: &C,
 ) -> Option<usize>
     ensures { let w = world S.source_of S.start_of S.end_of S.SourceId.eq
@@ -62,15 +62,15 @@ pub fn own_offset<S: Span, C: Cache<S::SourceId>>(
     }
 }
 
-/// The group of a rank, of `number` groups, as it is drawn with these texts of the report. `own` is
+/// The group of an index, of `number` groups, as it is drawn with these texts of the report. `own` is
 /// where the report's own span starts.
 pub fn resolve<'a, S: Span, C: Cache<S::SourceId>>(
     texts: &'a Texts<'a>,
-    report: &'a Content<'_, S>,
+    report: &'a ReportData<'_, S>,
     cache: &'a C,
     own: Option<usize>,
     group: &'a [LabelInfo],
-    rank: usize,
+    index: usize,
     number: usize,
 ) -> Snippet<'a, C::Storage>
     requires texts { texts.now ≡ texts_of report.now }
@@ -78,10 +78,10 @@ pub fn resolve<'a, S: Span, C: Cache<S::SourceId>>(
         (C.names cache.now) (C.contents cache.now) in IsOwnOffset w report.now own }
     requires group { let w = world S.source_of S.start_of S.end_of S.SourceId.eq
         (C.names cache.now) (C.contents cache.now) in IsGroup w report.now group.now }
-    requires rank { rank < number }
+    requires index { index < number }
     ensures made { let w = world S.source_of S.start_of S.end_of S.SourceId.eq
         (C.names cache.now) (C.contents cache.now) in let r = report.now in
-        result ≡ record { texts = texts_of r; section = section_of w r number (rank, group.now) } }
+        result ≡ record { texts = texts_of r; section = section_of w r number (index, group.now) } }
     ensures is { IsSnippet result }
 {
     let first = group[0];
@@ -95,15 +95,15 @@ pub fn resolve<'a, S: Span, C: Cache<S::SourceId>>(
         name,
         group,
         offset,
-        rank == 0,
-        rank + 1 == number,
+        index == 0,
+        index + 1 == number,
     )
 }
 
 /// The offset that the header of a group names, over the source of this id: where the report's own
 /// span starts, if that is over it, or else where the first label of the group does.
 fn header_offset<S: Span>(
-    report: &Content<'_, S>,
+    report: &ReportData<'_, S>,
     id: &S::SourceId,
     own: Option<usize>,
     first: &LabelInfo,

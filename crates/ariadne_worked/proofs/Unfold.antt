@@ -8,7 +8,7 @@ use Rattle.ariadne_picture.specs.Groups.{ordered, is_cut, last_of, ahead, groups
 use Rattle.ariadne_picture.specs.Groups.{printed_number}
 use Rattle.ariadne_picture.specs.Ranks.{is_inline, is_start, is_end, span_len, is_on_one_line, multi_line_labels, gutter_labels, gutter_label_ends, first_line, last_line, group_lines}
 use Rattle.ariadne_picture.specs.Ranks.{ends_at, is_nearer_margin, margin_label, is_of_gutter_label, is_margin, inline_labels, is_before, line_labels}
-use Rattle.ariadne_picture.specs.Ranks.{is_hidden, is_unlabelled, lines_near}
+use Rattle.ariadne_picture.specs.Ranks.{is_hidden_line, is_unlabelled, lines_near}
 use Rattle.ariadne_picture.specs.Rows.{aside_part, before, label_rows, is_lone, lone_rows, is_inside, line_rows, aside_rows, asides, rows, row_key}
 use Rattle.ariadne_picture.specs.Columns.{layout_of, char_columns, text_columns, shown, shown_columns, whole_column, whole_width, goes_on, letter_start, letter_end}
 use Rattle.ariadne_picture.specs.Columns.{is_in, sight_in, mark_columns, columns_of, cut_columns, widened_part, widened, fits_with, context, place_part, span_part}
@@ -47,7 +47,7 @@ unfolding digits is_separator begins_with_line_feed ends_line in_front full_line
     in_order best joined total text_len offset_in_chars attach_offset info_of within verdict ordered is_cut
     last_of ahead groups_of greatest least_below group_end_line group_start_line first_line last_line group_lines printed_number is_inline is_start is_end
     span_len is_on_one_line multi_line_labels gutter_labels gutter_label_ends ends_at is_nearer_margin margin_label is_of_gutter_label is_margin
-    inline_labels is_before line_labels is_unlabelled lines_near is_hidden aside_part row_key before label_rows is_lone lone_rows is_inside line_rows aside_rows asides rows
+    inline_labels is_before line_labels is_unlabelled lines_near is_hidden_line aside_part row_key before label_rows is_lone lone_rows is_inside line_rows aside_rows asides rows
     layout_of char_columns text_columns shown shown_columns whole_column whole_width goes_on letter_start letter_end
     is_in sight_in mark_columns columns_of cut_columns widened_part widened fits_with context place_part span_part needed_labels or_begin
     needed_parts parts_of is_too_wide sights_of sight_of column_of width places_to_end arrow_len has_vertical vertical_at spot_of

@@ -14,7 +14,7 @@ use Rattle.ariadne_picture.specs.declared.cell.Glyph.{Glyph}
 use Rattle.ariadne_picture.specs.declared.cell.Glyph.TheVariants.{Blank, Vbar, VbarGap, Ltop, Lcross}
 use Rattle.ariadne_picture.specs.Lists.{joined, total}
 use Rattle.ariadne_picture.specs.Groups.{printed_number}
-use Rattle.ariadne_picture.specs.Ranks.{is_hidden}
+use Rattle.ariadne_picture.specs.Ranks.{is_hidden_line}
 use Rattle.ariadne_picture.specs.Rows.{Row, group_header, spacer, source, gap, tail}
 use Rattle.ariadne_picture.specs.Cells.{glyph_code}
 use Rattle.ariadne_picture.specs.Pieces.{Texts, Section, spaces, glyph_text, margin_text, margin_pieces, row_pieces, group_header_pieces, spacer_pieces, tail_pieces}
@@ -336,7 +336,7 @@ module _ (v : Picture) where
   line-there g s k l is =
       let name = name-of v is in
       let h : IsShownLine v g s l = record { group = is.group; low = name.0; high = name.1; seen = name.2 } in
-      let line = has-filter (λ l. not (is_hidden s.sheet l)) _ _ l (group-line-at s.sheet l name.0 name.1) (ap not name.2) in
+      let line = has-filter (λ l. not (is_hidden_line s.sheet l)) _ _ l (group-line-at s.sheet l name.0 name.1) (ap not name.2) in
       subst (Has (lines_from (placing_of v) 0 v.sections)) (source-is v h)
       (has-joined (λ e. map ((placing_of v).source_row e.0) (shown_lines e.1)) (enumerate_from 0 v.sections) g (g, s) _ (numbered-at _ g s is.group)
       (has-map ((placing_of v).source_row g) (shown_lines s) line.place l line.there))

@@ -12,7 +12,7 @@ use Rattle.ariadne_picture.specs.declared.label_info.LabelInfo.{LabelInfo}
 use Rattle.ariadne_picture.specs.declared.label_info.LineLabel.{LineLabel}
 use Rattle.ariadne_picture.specs.declared.cell.Ink.{Ink}
 use Rattle.ariadne_picture.specs.Lists.{all_numbered}
-use Rattle.ariadne_picture.specs.Ranks.{is_hidden, is_start}
+use Rattle.ariadne_picture.specs.Ranks.{is_hidden_line, is_start}
 use Rattle.ariadne_picture.specs.Rows.{Row, source, arrow}
 use Rattle.ariadne_picture.specs.Columns.{layout_of}
 use Rattle.ariadne_picture.specs.Pieces.{Section, blank_piece, plain_text, message_at}
@@ -51,7 +51,7 @@ each-group f ss g s e there =
 pub shown-there : (v : Picture) {g : ℕ} {s : Section} (l : ℕ) → IsShownLine v g s l → Has (shown_lines s) l
 unfolding shown_lines
 shown-there v {s = s} l h =
-    has-filter (λ l. not (is_hidden s.sheet l)) _ _ l (group-line-at s.sheet l h.low h.high) (ap not h.seen)
+    has-filter (λ l. not (is_hidden_line s.sheet l)) _ _ l (group-line-at s.sheet l h.low h.high) (ap not h.seen)
 
 pub each-line : (v : Picture) (f : ℕ → Section → ℕ → Bool) (g : ℕ) (s : Section) (l : ℕ)
     → all_numbered (λ g s. list_all (f g s) (shown_lines s)) v.sections ≡ true → IsShownLine v g s l → f g s l ≡ true

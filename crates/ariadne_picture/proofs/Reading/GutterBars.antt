@@ -12,7 +12,7 @@ use Rattle.ariadne_picture.specs.declared.label_info.LineLabel.{LineLabel}
 use Rattle.ariadne_picture.specs.declared.label_info.Side.TheVariants.{Starts, Ends}
 use Rattle.ariadne_picture.specs.declared.cell.Glyph.TheVariants.{Vbar, VbarGap, Ltop, Lbot, Lcross}
 use Rattle.ariadne_picture.specs.Bars.{IsLineLabel}
-use Rattle.ariadne_picture.specs.Ranks.{is_inline, is_on_one_line, gutter_labels, line_labels, is_hidden, is_end, is_start}
+use Rattle.ariadne_picture.specs.Ranks.{is_inline, is_on_one_line, gutter_labels, line_labels, is_hidden_line, is_end, is_start}
 use Rattle.ariadne_picture.specs.Rows.{row_key, Row, source, alternate, arrow, gap, bare, is_inside}
 use Rattle.ariadne_picture.specs.Strokes.{is_at_margin, has_tee, rank_at}
 use Rattle.ariadne_picture.specs.Cells.{margin_glyph}
@@ -76,7 +76,7 @@ module _ (v : Picture) {g : ℕ} {s : Section} {i : ℕ} {a : LabelInfo} (o : Is
       → list_any (λ m. source_row v g m == number v g s (source l)) (shown_lines s) ≡ true
   unfolding shown_lines
   is-source {l} line =
-      let here = has-filter (λ l. not (is_hidden s.sheet l)) _ _ l (group-line-at s.sheet l line.low line.high) (ap not line.seen) in
+      let here = has-filter (λ l. not (is_hidden_line s.sheet l)) _ _ l (group-line-at s.sheet l line.low line.high) (ap not line.seen) in
       list_any-true _ (shown_lines s) here.place l here.there (eq-eqb _ _ (source-is v line))
 
   -- a row whose margin ends in no broken bar is no gap row
@@ -131,7 +131,7 @@ module _ (v : Picture) {g : ℕ} {s : Section} {i : ℕ} {a : LabelInfo} (o : Is
     not-last is high = let at = number-at v is in let message = h.message in ne_eqb _ _ (λ z. omega (arith, at, z))
 
     -- it is no bare row: a hidden line between the start and the end of a label is inside
-    no-bare : {k l : ℕ} → RowAt v g s k (bare l) → h.from < k → k < h.to → is_hidden s.sheet l ≡ true → is_inside s.sheet l ≡ false → ⊥
+    no-bare : {k l : ℕ} → RowAt v g s k (bare l) → h.from < k → k < h.to → is_hidden_line s.sheet l ≡ true → is_inside s.sheet l ≡ false → ⊥
     unfolding row_key is_inside is_on_one_line
     no-bare {l = l} is low high hidden out =
         let here : BarRow l 0 (bare l) = record { part = refl; line = refl; step = refl } in
@@ -144,7 +144,7 @@ module _ (v : Picture) {g : ℕ} {s : Section} {i : ℕ} {a : LabelInfo} (o : Is
         elim top [
           | inr z ↦ absurd (omega arith)
           | inl less ↦ elim end [
-            | inr z ↦ true≢false (sym hidden ∙ ap (is_hidden s.sheet) z.0 ∙ q.arrow_row.line.seen)
+            | inr z ↦ true≢false (sym hidden ∙ ap (is_hidden_line s.sheet) z.0 ∙ q.arrow_row.line.seen)
             | inl more ↦
                 let two = covers s.sheet.lines a l is_placed less more in
                 let several = ap not (multi-line s.sheet i a o.owned) in

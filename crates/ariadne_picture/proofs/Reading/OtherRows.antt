@@ -16,7 +16,7 @@ use Rattle.ariadne_picture.specs.declared.switches.CharSet.{CharSet}
 use Rattle.ariadne_picture.specs.declared.switches.CharSet.TheVariants.{Unicode, Ascii}
 use Rattle.ariadne_picture.specs.declared.cell.Glyph.TheVariants.{Vbar, VbarGap}
 use Rattle.ariadne_picture.specs.Lists.{joined}
-use Rattle.ariadne_picture.specs.Ranks.{is_hidden, group_lines, first_line}
+use Rattle.ariadne_picture.specs.Ranks.{is_hidden_line, group_lines, first_line}
 use Rattle.ariadne_picture.specs.Rows.{Aside, help, note, Row, group_header, spacer, source, alternate, arrow, gap, bare, blank, piece, tail, rows, aside_part, row_key, line_rows, aside_rows, asides}
 use Rattle.ariadne_picture.specs.Cells.{glyph_code}
 use Rattle.ariadne_picture.specs.Pieces.{Piece, Section, spaces, glyph_text, margin_text, margin_pieces, gutter_pieces, aside_pieces}
@@ -213,7 +213,7 @@ module _ (v : Picture) (g : ℕ) (s : Section) (e : slice_get v.sections g ≡ S
   is-of : {l : ℕ} → IsShownLine v g s l → (n : ℕ) → source_row v g l ≤ n → n ≤ source_row v g l + (placing_of v).block_len g l → of_line n ≡ true
   unfolding is_of_line is_in_block shown_lines
   is-of {l} h n low high =
-      let there = has-filter (λ l. not (is_hidden s.sheet l)) (group_lines s.sheet) (l - first_line s.sheet) l
+      let there = has-filter (λ l. not (is_hidden_line s.sheet l)) (group_lines s.sheet) (l - first_line s.sheet) l
       (group-line-at s.sheet l h.low h.high) (ap not h.seen) in
       list_any-true _ _ there.place l there.there (elim (cases_lt (source_row v g l) n) [
         | inl more ↦ right-true _ _ (both_true (lt-ltb (source_row v g l) n more) (le-leb n _ high))

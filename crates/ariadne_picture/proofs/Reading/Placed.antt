@@ -10,7 +10,7 @@ use Rattle.ariadne_picture.specs.declared.switches.Switches.{Switches}
 use Rattle.ariadne_picture.specs.declared.cell.Glyph.TheVariants.{Vbar}
 use Rattle.ariadne_picture.specs.declared.label_info.LabelInfo.{LabelInfo}
 use Rattle.ariadne_picture.specs.Lists.{joined}
-use Rattle.ariadne_picture.specs.Ranks.{multi_line_labels, gutter_labels, is_hidden, group_lines}
+use Rattle.ariadne_picture.specs.Ranks.{multi_line_labels, gutter_labels, is_hidden_line, group_lines}
 use Rattle.ariadne_picture.specs.Rows.{row_key, Row, source, arrow}
 use Rattle.ariadne_picture.specs.Columns.{layout_of}
 use Rattle.ariadne_picture.specs.Pieces.{Piece, Section, glyph_text, margin_text, blank_piece}
@@ -129,7 +129,7 @@ module _ (v : Picture) where
     unfolding shown_lines group_lines
     lines-rise =
         rising _ (shown_lines s) (increasing-weaker (IsShownLine v g s) _ _ (shown_lines s) (source-rises g s)
-        (every-line v g s _ e (λ l h. h)) (increasing-filter _ (λ l. not (is_hidden s.sheet l)) _ (range-rises _ _)))
+        (every-line v g s _ e (λ l h. h)) (increasing-filter _ (λ l. not (is_hidden_line s.sheet l)) _ (range-rises _ _)))
 
     -- each message is in the block of the line where its label ends
     messages-in : AllByRecursion (λ a. read v is_in_block g a.end_line (message_row v a.position) ≡ true) (messages_of s)

@@ -9,7 +9,7 @@ use Rattle.ariadne_picture.proofs.Lists.Elements.{Has, all-from}
 use Rattle.ariadne_picture.proofs.Rows.LoneRows.{lone}
 use Rattle.ariadne_picture.specs.declared.label_info.LineLabel.{LineLabel}
 use Rattle.ariadne_picture.specs.Lists.{joined}
-use Rattle.ariadne_picture.specs.Ranks.{Sheet, line_labels, is_hidden, first_line, last_line, group_lines}
+use Rattle.ariadne_picture.specs.Ranks.{Sheet, line_labels, is_hidden_line, first_line, last_line, group_lines}
 use Rattle.ariadne_picture.specs.Rows.{Row, Aside, help, note, group_header, spacer, source, alternate, arrow, gap, bare, blank, piece, tail}
 use Rattle.ariadne_picture.specs.Rows.{is_inside, line_rows, aside_rows, asides, rows}
 use Rattle.ariadne_picture.specs.Pieces.{Section}
@@ -24,7 +24,7 @@ use Rattle.ariadne_picture.proofs.Rows.RowPlacing.{row_list}
 pub record IsLabelRow (s : Sheet) (l r : ℕ) : Type 0 where
   pub low : first_line s ≤ l
   pub high : l ≤ last_line s
-  pub seen : is_hidden s l ≡ false
+  pub seen : is_hidden_line s l ≡ false
   pub label : LineLabel
   pub there : slice_get (line_labels s.labels l) r ≡ Some label
   pub message : label.info.has_message ≡ true
@@ -33,16 +33,16 @@ pub record IsLabelRow (s : Sheet) (l r : ℕ) : Type 0 where
 pub record IsInBlock (s : Sheet) (l : ℕ) (x : Row) : Type 0 where
   pub low : first_line s ≤ l
   pub high : l ≤ last_line s
-  pub seen : is_hidden s l ≡ false
+  pub seen : is_hidden_line s l ≡ false
   pub row : Has (shown_rows s l) x
 
 -- what the name of a row tells
 abbrev pub IsName : Sheet → Row → Type 0
-IsName s (source l) = (first_line s ≤ l) × (l ≤ last_line s) × (is_hidden s l ≡ false)
+IsName s (source l) = (first_line s ≤ l) × (l ≤ last_line s) × (is_hidden_line s l ≡ false)
 IsName s (alternate l r) = IsInBlock s l (alternate l r) × (s.switches.compact ≡ false)
 IsName s (arrow l r) = IsLabelRow s l r
-IsName s (gap l) = is_hidden s l ≡ true
-IsName s (bare l) = (is_hidden s l ≡ true) × (is_inside s l ≡ false)
+IsName s (gap l) = is_hidden_line s l ≡ true
+IsName s (bare l) = (is_hidden_line s l ≡ true) × (is_inside s l ≡ false)
 IsName s x = Unit {0}
 
 module _ (s : Sheet) where
@@ -60,17 +60,17 @@ module _ (s : Sheet) where
   line-names l low high =
       let bare_row = if s.switches.compact then [] else bare l ∷ [] in
       let row = if is_inside s l then gap l ∷ [] else bare_row in
-      let later : Bool = nat_lt (first_line s) l && is_hidden s (l - 1) in
-      cond_both (is_hidden s l) (if later then [] else row) _ all
+      let later : Bool = nat_lt (first_line s) l && is_hidden_line s (l - 1) in
+      cond_both (is_hidden_line s l) (if later then [] else row) _ all
       (λ hidden. cond_both later [] row all (λ _. tt)
       (λ _. cond_both (is_inside s l) (gap l ∷ []) bare_row all (λ _. (hidden, tt))
       (λ out. one-or-none s.switches.compact (bare l) (λ _. (hidden, out)))))
       (λ seen. ((low, high, seen), all-from _ (shown_rows s l) (λ i y e. name seen i y e (all-at (λ y. IsBlockRow s l y ⊎ IsLoneRow s l y) _ i y e (block-kinds s l)))))
     where
-      in-block : is_hidden s l ≡ false → (i : ℕ) (y x : Row) → slice_get (shown_rows s l) i ≡ Some y → y ≡ x → IsInBlock s l x
+      in-block : is_hidden_line s l ≡ false → (i : ℕ) (y x : Row) → slice_get (shown_rows s l) i ≡ Some y → y ≡ x → IsInBlock s l x
       in-block seen i y x e same = record { low = low; high = high; seen = seen; row = record { place = i; there = e ∙ ap Some same } }
 
-      name : is_hidden s l ≡ false → (i : ℕ) (y : Row) → slice_get (shown_rows s l) i ≡ Some y → IsBlockRow s l y ⊎ IsLoneRow s l y → IsName s y
+      name : is_hidden_line s l ≡ false → (i : ℕ) (y : Row) → slice_get (shown_rows s l) i ≡ Some y → IsBlockRow s l y ⊎ IsLoneRow s l y → IsName s y
       name seen i y at (inr b) = rw b.1 (in-block seen i y (alternate l (length (line_labels s.labels l))) at b.1, (lone s l b.0).loose)
       name seen i y at (inl b) =
           let is : IsLabelRow s l b.rank =

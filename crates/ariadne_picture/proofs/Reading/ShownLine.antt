@@ -5,7 +5,7 @@ use Rattle.std.specs.Prelude.{slice_get, slice_index_or}
 use Rattle.std.specs.List.{AllByRecursion, list_all, enumerate_from}
 use Rattle.std.proofs.lemmas.Bool.{not-true}
 use Rattle.std.proofs.lemmas.Option.{slice_get-get_or}
-use Rattle.ariadne_picture.specs.Ranks.{is_hidden, Sheet, first_line, last_line, group_lines}
+use Rattle.ariadne_picture.specs.Ranks.{is_hidden_line, Sheet, first_line, last_line, group_lines}
 use Rattle.ariadne_picture.specs.Rows.{Row, source, arrow, alternate}
 use Rattle.ariadne_picture.specs.Columns.{layout_of, arrow_len}
 use Rattle.ariadne_picture.specs.Pieces.{Section}
@@ -31,7 +31,7 @@ pub record IsShownLine (v : Picture) (g : ℕ) (s : Section) (l : ℕ) : Type 0 
   pub group : slice_get v.sections g ≡ Some s
   pub low : first_line s.sheet ≤ l
   pub high : l ≤ last_line s.sheet
-  pub seen : is_hidden s.sheet l ≡ false
+  pub seen : is_hidden_line s.sheet l ≡ false
 
 -- line label r of a shown line, which is x, has a message, and its arrow row stands at this index of the block
 pub record IsArrowRow (v : Picture) (g : ℕ) (s : Section) (l r : ℕ) (x : LineLabel) : Type 0 where
@@ -69,7 +69,7 @@ module _ (v : Picture) where
       → ((l : ℕ) → IsShownLine v g s l → P l) → AllByRecursion P (shown_lines s)
   unfolding shown_lines
   every-line g s P e h =
-      all-filtered P (λ l. not (is_hidden s.sheet l)) _
+      all-filtered P (λ l. not (is_hidden_line s.sheet l)) _
       (all-group-lines _ s.sheet (λ l low high n. h l (record { group = e; low = low; high = high; seen = not-true _ n })))
 
   -- a test that each shown line of each group passes

@@ -9,7 +9,7 @@ use Rattle.ariadne_picture.specs.declared.label_info.LabelInfo.{LabelInfo}
 use Rattle.ariadne_picture.specs.declared.label_info.LineLabel.{LineLabel}
 use Rattle.ariadne_picture.specs.declared.label_info.Side.{Side}
 use Rattle.ariadne_picture.specs.declared.label_info.Side.TheVariants.{Inline, Starts, Ends}
-use Rattle.ariadne_picture.specs.Ranks.{Sheet, is_start, is_end, gutter_labels, margin_label, is_of_gutter_label, line_labels, is_hidden, is_unlabelled}
+use Rattle.ariadne_picture.specs.Ranks.{Sheet, is_start, is_end, gutter_labels, margin_label, is_of_gutter_label, line_labels, is_hidden_line, is_unlabelled}
 use Rattle.ariadne_picture.specs.Rows.{row_key, Row, group_header, spacer, source, alternate, arrow, gap, bare, blank, piece, tail, help, note, aside_part}
 use Rattle.ariadne_picture.specs.Rows.{before}
 use Rattle.ariadne_picture.proofs.Rows.NearLines.{hidden-bare}
@@ -454,7 +454,7 @@ unlabelled-margin s l h =
     not-true (is_some (margin_label s.labels l)) (and_parts (length (line_labels s.labels l) == 0) (not (is_some (margin_label s.labels l))) h).1
 
 -- so a hidden line has none
-pub hidden-margin : (s : Sheet) (l : ℕ) → is_hidden s l ≡ true → is_some (margin_label s.labels l) ≡ false
+pub hidden-margin : (s : Sheet) (l : ℕ) → is_hidden_line s l ≡ true → is_some (margin_label s.labels l) ≡ false
 hidden-margin s l h = unlabelled-margin s l (hidden-bare s l h)
 
 -- nothing is of no gutter label
@@ -468,7 +468,7 @@ pub unlabelled-off-margin : (s : Sheet) (l i : ℕ) → is_unlabelled s.labels l
 unlabelled-off-margin s l i h = none-of-gutter-label (margin_label s.labels l) i (unlabelled-margin s l h)
 
 -- and that of a hidden line
-pub hidden-off-margin : (s : Sheet) (l i : ℕ) → is_hidden s l ≡ true → is_at_margin s l i ≡ false
+pub hidden-off-margin : (s : Sheet) (l i : ℕ) → is_hidden_line s l ≡ true → is_at_margin s l i ≡ false
 hidden-off-margin s l i h = unlabelled-off-margin s l i (hidden-bare s l h)
 
 -- ---- rows of other parts

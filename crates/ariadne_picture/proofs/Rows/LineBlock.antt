@@ -8,7 +8,7 @@ use Rattle.std.proofs.lemmas.List.Elements.{filter-append}
 use Rattle.ariadne_picture.proofs.Rows.LoneRows.{lone-block, label-block}
 use Rattle.ariadne_picture.specs.declared.label_info.LineLabel.{LineLabel}
 use Rattle.ariadne_picture.specs.Lists.{joined}
-use Rattle.ariadne_picture.specs.Ranks.{Sheet, is_hidden, line_labels, first_line, last_line, group_lines}
+use Rattle.ariadne_picture.specs.Ranks.{Sheet, is_hidden_line, line_labels, first_line, last_line, group_lines}
 use Rattle.ariadne_picture.specs.Rows.{row_key, Row, group_header, spacer, source, alternate, arrow, tail, help, note}
 use Rattle.ariadne_picture.proofs.Rows.RowPlacing.{row_part, row_line, row_step}
 use Rattle.ariadne_picture.specs.Rows.{label_rows, is_lone, line_rows, asides, rows}
@@ -174,7 +174,7 @@ module _ (s : Sheet) (is_last : Bool) (helps notes : List (List ℕ)) (l : ℕ) 
       all-weaker (FromStep 2 l 1) (λ y. of_block l y ≡ true) (shown_rows s l)
       (λ y h. this-block (row_part y) (row_line y) (row_step y) l h.part h.line h.step) (block-from s l)
 
-  module _ (low : first_line s ≤ l) (high : l ≤ last_line s) (seen : is_hidden s l ≡ false) where
+  module _ (low : first_line s ≤ l) (high : l ≤ last_line s) (seen : is_hidden_line s l ≡ false) where
     -- the rows of a group that shows line l
     pub rows-about : rows s is_last helps notes ≡ above ++ (source l ∷ shown_rows s l ++ below)
     unfolding rows above below group_lines joined shown_rows

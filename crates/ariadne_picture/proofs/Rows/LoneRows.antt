@@ -6,7 +6,7 @@ use Rattle.std.proofs.lemmas.Bool.{cases_Bool, cond-true, cond-false, and_left, 
 use Rattle.std.proofs.lemmas.List.{append-nil}
 use Rattle.ariadne_picture.specs.declared.label_info.LineLabel.{LineLabel}
 use Rattle.ariadne_picture.specs.Lists.{joined}
-use Rattle.ariadne_picture.specs.Ranks.{Sheet, line_labels, margin_label, is_hidden, is_unlabelled}
+use Rattle.ariadne_picture.specs.Ranks.{Sheet, line_labels, margin_label, is_hidden_line, is_unlabelled}
 use Rattle.ariadne_picture.specs.Rows.{alternate, label_rows, is_lone, lone_rows}
 use Rattle.ariadne_picture.proofs.Rows.NearLines.{shown-with}
 use Rattle.ariadne_picture.proofs.Lists.Elements.{list_any-true}
@@ -82,7 +82,7 @@ module _ (s : Sheet) (l : ℕ) where
   lone-rank on = silent-length (line_labels s.labels l) (lone on).silent
 
   -- such a line is shown
-  pub lone-shown : is_lone s l ≡ true → is_hidden s l ≡ false
+  pub lone-shown : is_lone s l ≡ true → is_hidden_line s l ≡ false
   unfolding is_lone is_unlabelled
   lone-shown h = shown-with s l (some (line_labels s.labels l) (two _ _ (two _ _ h).0).1)
     where

@@ -9,7 +9,7 @@ use Rattle.ariadne_base.specs.Locations.{upto}
 use Rattle.ariadne_picture.proofs.Rows.LoneRows.{lone-shown}
 use Rattle.ariadne_picture.specs.declared.label_info.LineLabel.{LineLabel}
 use Rattle.ariadne_picture.specs.Lists.{joined}
-use Rattle.ariadne_picture.specs.Ranks.{Sheet, is_hidden, line_labels, first_line, group_lines}
+use Rattle.ariadne_picture.specs.Ranks.{Sheet, is_hidden_line, line_labels, first_line, group_lines}
 use Rattle.ariadne_picture.specs.Rows.{Aside, help, note, Row, group_header, spacer, source, alternate, arrow, gap, bare, blank, piece, tail}
 use Rattle.ariadne_picture.specs.Rows.{before, label_rows, is_lone, lone_rows, is_inside, line_rows, aside_rows, asides, rows}
 use Rattle.ariadne_picture.specs.RowNames.{asides_of, HasLine, BeginsHidden, HasMessage, HasUnderlines, HasAside, HasRow}
@@ -83,11 +83,11 @@ module _ (s : Sheet) (is_last : Bool) (helps notes : List (List ℕ)) where
   line-has : (l : ℕ) → HasLine s l → All (line_rows s l)
   unfolding line_rows
   line-has l line =
-      let later : Bool = nat_lt (first_line s) l && is_hidden s (l - 1) in
+      let later : Bool = nat_lt (first_line s) l && is_hidden_line s (l - 1) in
       let bare_row = if s.switches.compact then [] else bare l ∷ [] in
       let row = if is_inside s l then gap l ∷ [] else bare_row in
       let block = joined (label_rows s.switches.compact l) (enumerate_from 0 (line_labels s.labels l)) in
-      cond_both (is_hidden s l) (if later then [] else row) (source l ∷ block ++ lone_rows s l) All
+      cond_both (is_hidden_line s l) (if later then [] else row) (source l ∷ block ++ lone_rows s l) All
       (λ hidden. cond_both later [] row All (λ _. tt) (λ first.
       let begins : BeginsHidden s l = record { line = line; hidden = hidden; first = begins-run l line first } in
       cond_both (is_inside s l) (gap l ∷ []) bare_row All (λ inside. ((begins, inside), tt))
@@ -101,9 +101,9 @@ module _ (s : Sheet) (is_last : Bool) (helps notes : List (List ℕ)) where
             (lone-has l line),
       ))
     where
-      begins-run : (l : ℕ) → HasLine s l → (nat_lt (first_line s) l && is_hidden s (l - 1)) ≡ false
-          → (l ≡ first_line s) ⊎ (is_hidden s (l - 1) ≡ false)
-      begins-run l line first = elim (cases_Bool (is_hidden s (l - 1))) [
+      begins-run : (l : ℕ) → HasLine s l → (nat_lt (first_line s) l && is_hidden_line s (l - 1)) ≡ false
+          → (l ≡ first_line s) ⊎ (is_hidden_line s (l - 1) ≡ false)
+      begins-run l line first = elim (cases_Bool (is_hidden_line s (l - 1))) [
         | inr seen ↦ inr seen
         | inl hidden ↦
             let low = line.0 in
@@ -187,7 +187,7 @@ module _ (s : Sheet) (is_last : Bool) (helps notes : List (List ℕ)) where
       (has-joined (aside_rows s.switches.compact a) (enumerate_from 0 (asides_of a helps notes)) k (k, h.text) x (numbered-at _ k h.text h.there) has))
 
   -- a run of hidden lines begins there
-  no-later : (l : ℕ) → BeginsHidden s l → (nat_lt (first_line s) l && is_hidden s (l - 1)) ≡ false
+  no-later : (l : ℕ) → BeginsHidden s l → (nat_lt (first_line s) l && is_hidden_line s (l - 1)) ≡ false
   no-later l b = elim b.first [
     | inl same ↦ and_left _ _ (le-ltb (first_line s) l (omega arith))
     | inr seen ↦ and_right _ _ seen

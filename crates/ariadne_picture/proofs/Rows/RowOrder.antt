@@ -10,7 +10,7 @@ use Rattle.std.proofs.lemmas.Bool.{cases_Bool, cond_both, eq-eqb, eqb-true, fals
 use Rattle.ariadne_base.specs.Locations.{upto}
 use Rattle.ariadne_picture.specs.declared.label_info.LineLabel.{LineLabel}
 use Rattle.ariadne_picture.specs.Lists.{joined}
-use Rattle.ariadne_picture.specs.Ranks.{Sheet, is_hidden, line_labels, first_line, last_line, group_lines}
+use Rattle.ariadne_picture.specs.Ranks.{Sheet, is_hidden_line, line_labels, first_line, last_line, group_lines}
 use Rattle.ariadne_picture.specs.Rows.{row_key, Row, group_header, spacer, source, alternate, arrow, gap, bare, blank, piece, tail, Aside, help, note}
 use Rattle.ariadne_picture.specs.Rows.{aside_part, before, label_rows, is_lone, lone_rows, is_inside, line_rows, aside_rows, asides, rows}
 use Rattle.ariadne_picture.proofs.Rows.RowPlacing.{row_part, row_line, row_step}
@@ -271,11 +271,11 @@ pub line-rows-case : (P : List Row → Type 0) (s : Sheet) (l : ℕ) → P [] �
     → P (line_rows s l)
 unfolding line_rows shown_rows
 line-rows-case P s l none broken empty shown =
-    cond_both (is_hidden s l)
-    (if nat_lt (first_line s) l && is_hidden s (l - 1) then [] else if is_inside s l then gap l ∷ [] else if s.switches.compact then []
+    cond_both (is_hidden_line s l)
+    (if nat_lt (first_line s) l && is_hidden_line s (l - 1) then [] else if is_inside s l then gap l ∷ [] else if s.switches.compact then []
     else bare l ∷ [])
     (source l ∷ joined (label_rows s.switches.compact l) (enumerate_from 0 (line_labels s.labels l)) ++ lone_rows s l) P
-    (λ _. cond_both (nat_lt (first_line s) l && is_hidden s (l - 1)) []
+    (λ _. cond_both (nat_lt (first_line s) l && is_hidden_line s (l - 1)) []
     (if is_inside s l then gap l ∷ [] else if s.switches.compact then [] else bare l ∷ []) P (λ _. none)
     (λ _. cond_both (is_inside s l) (gap l ∷ []) (if s.switches.compact then [] else bare l ∷ []) P (λ _. broken)
     (λ _. cond_both s.switches.compact [] (bare l ∷ []) P (λ _. none) (λ _. empty))))

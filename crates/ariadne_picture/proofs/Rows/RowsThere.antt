@@ -11,7 +11,7 @@ use Rattle.ariadne_picture.specs.declared.label_info.Side.{Side}
 use Rattle.ariadne_picture.specs.declared.label_info.Side.TheVariants.{Starts, Ends}
 use Rattle.ariadne_picture.specs.Lists.{joined}
 use Rattle.ariadne_picture.specs.Groups.{greatest, least_below, group_start_line, group_end_line}
-use Rattle.ariadne_picture.specs.Ranks.{Sheet, span_len, is_on_one_line, multi_line_labels, gutter_labels, margin_label, line_labels, is_hidden, is_unlabelled, first_line, last_line, group_lines}
+use Rattle.ariadne_picture.specs.Ranks.{Sheet, span_len, is_on_one_line, multi_line_labels, gutter_labels, margin_label, line_labels, is_hidden_line, is_unlabelled, first_line, last_line, group_lines}
 use Rattle.ariadne_picture.specs.Rows.{Row, group_header, spacer, source, alternate, arrow, tail, help, note, label_rows, lone_rows, line_rows, asides, rows}
 use Rattle.ariadne_picture.specs.Strokes.{first_row, last_row}
 use Rattle.ariadne_picture.specs.Bars.{IsGutterLabel, IsLineLabel}
@@ -130,26 +130,26 @@ gutter-label-message s i a e = all-at (λ a. a.has_message ≡ true) (gutter_lab
 -- ---- rows of a shown line
 
 -- a line that is not hidden has its source row and the rows of its line labels
-pub shown : (s : Sheet) (l : ℕ) → is_hidden s l ≡ false → line_rows s l ≡ source l
+pub shown : (s : Sheet) (l : ℕ) → is_hidden_line s l ≡ false → line_rows s l ≡ source l
     ∷ joined (label_rows s.switches.compact l) (enumerate_from 0 (line_labels s.labels l)) ++ lone_rows s l
 unfolding line_rows
 shown s l h = rw h
 
 -- a line with a line label is not hidden
-pub shown-by-label : (s : Sheet) (l n : ℕ) (x : LineLabel) → slice_get (line_labels s.labels l) n ≡ Some x → is_hidden s l ≡ false
+pub shown-by-label : (s : Sheet) (l n : ℕ) (x : LineLabel) → slice_get (line_labels s.labels l) n ≡ Some x → is_hidden_line s l ≡ false
 unfolding is_unlabelled
 shown-by-label s l n x e =
     let few = slice_get_within (line_labels s.labels l) n x e in
     shown-with s l (and_left (length (line_labels s.labels l) == 0) (not (is_some (margin_label s.labels l))) (ne_eqb (length (line_labels s.labels l)) 0 (omega arith)))
 
 -- nor is one with a margin label
-pub shown-by-margin : (s : Sheet) (l : ℕ) (x : LineLabel) → margin_label s.labels l ≡ Some x → is_hidden s l ≡ false
+pub shown-by-margin : (s : Sheet) (l : ℕ) (x : LineLabel) → margin_label s.labels l ≡ Some x → is_hidden_line s l ≡ false
 unfolding is_unlabelled
 shown-by-margin s l x e =
     shown-with s l (and_right (length (line_labels s.labels l) == 0) (not (is_some (margin_label s.labels l))) (not_from_true (is_some (margin_label s.labels l)) (ap is_some e)))
 
 -- so it has its source row
-pub source-there : (s : Sheet) (l : ℕ) → is_hidden s l ≡ false → Contains (line_rows s l) (source l)
+pub source-there : (s : Sheet) (l : ℕ) → is_hidden_line s l ≡ false → Contains (line_rows s l) (source l)
 source-there s l h =
     subst (λ xs. Contains xs (source l)) (sym (shown s l h))
     (contains-first (source l) (joined (label_rows s.switches.compact l) (enumerate_from 0 (line_labels s.labels l)) ++ lone_rows s l))

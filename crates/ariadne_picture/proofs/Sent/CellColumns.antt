@@ -21,7 +21,7 @@ use Rattle.ariadne_picture.specs.declared.cell.Paint.{Paint}
 use Rattle.ariadne_picture.specs.Lists.{joined, total}
 use Rattle.ariadne_picture.specs.Report.{ReportFields, World}
 use Rattle.ariadne_picture.specs.Groups.{greatest, printed_number}
-use Rattle.ariadne_picture.specs.Ranks.{Sheet, is_start, is_hidden, line_labels, first_line, last_line, group_lines}
+use Rattle.ariadne_picture.specs.Ranks.{Sheet, is_start, is_hidden_line, line_labels, first_line, last_line, group_lines}
 use Rattle.ariadne_picture.specs.Rows.{Aside, help, note, Row, group_header, spacer, source, alternate, arrow, gap, bare, blank, piece, tail, rows}
 use Rattle.ariadne_picture.specs.Rows.{label_rows, is_inside, line_rows, aside_rows, asides}
 use Rattle.std.specs.Str.Lines.{lines}
@@ -240,12 +240,12 @@ module _ (t : Texts) (w : ℕ) (g : Section) where
         let rise = decimal-rises (l + 1 + g.display_offset) (last_line s + 1 + g.display_offset) (omega (arith, high)) in
         let bare_row = if s.switches.compact then [] else bare l ∷ [] in
         let row = if is_inside s l then gap l ∷ [] else bare_row in
-        let later : Bool = nat_lt (first_line s) l && is_hidden s (l - 1) in
+        let later : Bool = nat_lt (first_line s) l && is_hidden_line s (l - 1) in
         let label : (e : ℕ × LineLabel) → HaveRoom (label_rows s.switches.compact l e) =
         λ e. cond_both e.1.info.has_message ((if s.switches.compact then [] else alternate l e.0 ∷ []) ++ arrow l e.0 ∷ []) [] HaveRoom
         (λ _. all-append (HasRoom w g.display_offset) (if s.switches.compact then [] else alternate l e.0 ∷ []) (arrow l e.0 ∷ [])
         (one-or-none s.switches.compact (alternate l e.0) tt) (tt, tt)) (λ _. tt) in
-        cond_both (is_hidden s l) (if later then [] else row) _ HaveRoom
+        cond_both (is_hidden_line s l) (if later then [] else row) _ HaveRoom
         (λ _. cond_both later [] row HaveRoom (λ _. tt)
         (λ _. cond_both (is_inside s l) (gap l ∷ []) bare_row HaveRoom (λ _. (tt, tt)) (λ _. one-or-none s.switches.compact (bare l) tt)))
         (λ _. (

@@ -5,7 +5,7 @@ use Rattle.ariadne_picture.specs.declared.switches.CharSet.{CharSet}
 use Rattle.ariadne_picture.specs.declared.label_info.LabelInfo.{LabelInfo}
 use Rattle.ariadne_picture.specs.declared.cell.Paint.TheVariants.{Plain}
 use Rattle.ariadne_picture.specs.Lists.{joined_numbered}
-use Rattle.ariadne_picture.specs.Ranks.{Sheet, gutter_labels, is_hidden, group_lines}
+use Rattle.ariadne_picture.specs.Ranks.{Sheet, gutter_labels, is_hidden_line, group_lines}
 use Rattle.ariadne_picture.specs.Rows.{is_lone}
 use Rattle.ariadne_picture.specs.Columns.{layout_of, shown, width, column_of}
 use Rattle.ariadne_picture.specs.Pieces.{Piece, Section, column_size, gutter_len, source_pieces}
@@ -23,7 +23,7 @@ module _ (s : Section) where
 
   -- the lines that are shown
   unfoldable pub shown_lines : List ℕ
-  shown_lines = filter (λ l. not (is_hidden s.sheet l)) (group_lines s.sheet)
+  shown_lines = filter (λ l. not (is_hidden_line s.sheet l)) (group_lines s.sheet)
 
   -- the labels that have a message
   unfoldable pub messages_of : List LabelInfo

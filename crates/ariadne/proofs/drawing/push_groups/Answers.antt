@@ -42,9 +42,9 @@ no_label = record {
 }
 
 -- no row is written
-pub loop-rank-init : goal.loop-rank-init
+pub loop-index-init : goal.loop-index-init
 unfolding joined
-loop-rank-init g c =
+loop-index-init g c =
     let w = world g.S.Span.source_of g.S.Span.start_of g.S.Span.end_of g.S.SourceId.PartialEq.eq (g.C.Cache.names c.args.cache.now)
     (g.C.Cache.contents c.args.cache.now) in
     record {
@@ -76,7 +76,7 @@ bounds-group-0 g c =
     (g.C.Cache.contents c.args.cache.now) in
     let r = c.args.report.now in
     let groups = c.args.groups.now in
-    let k = c.loop-rank.rank in
+    let k = c.loop-index.index in
     let less : k < length groups = omega arith in
     let here : IsGroup w r (get_or groups k no_group).now = all_mapped (λ (x : Bor (List LabelInfo)). x.now) (IsGroup w r) groups k no_group less c.requires.groups in
     some_label (same_source w r) (get_or groups k no_group).now here.whole
@@ -100,7 +100,7 @@ forget_of_other_source-requires-clause-first g c =
     (g.C.Cache.contents c.args.cache.now) in
     let r = c.args.report.now in
     let groups = c.args.groups.now in
-    let k = c.loop-rank.rank in
+    let k = c.loop-index.index in
     let less : k < length groups = omega arith in
     let here : IsGroup w r (get_or groups k no_group).now = all_mapped (λ (x : Bor (List LabelInfo)). x.now) (IsGroup w r) groups k no_group less c.requires.groups in
     first_there w r (get_or groups k no_group).now no_label here
@@ -113,8 +113,8 @@ resolve-snippet-requires-clause-group g c =
     let w = world g.S.Span.source_of g.S.Span.start_of g.S.Span.end_of g.S.SourceId.PartialEq.eq (g.C.Cache.names c.args.cache.now)
     (g.C.Cache.contents c.args.cache.now) in
     let groups = c.args.groups.now in
-    let less : c.loop-rank.rank < length groups = omega arith in
-    all_mapped (λ (x : Bor (List LabelInfo)). x.now) (IsGroup w c.args.report.now) groups c.loop-rank.rank no_group less c.requires.groups
+    let less : c.loop-index.index < length groups = omega arith in
+    all_mapped (λ (x : Bor (List LabelInfo)). x.now) (IsGroup w c.args.report.now) groups c.loop-index.index no_group less c.requires.groups
 
 -- its switches are those of the page, and what is remembered is of its source
 pub push_snippet-requires : goal.push_snippet-requires
@@ -123,10 +123,10 @@ push_snippet-requires g c =
     (g.C.Cache.contents c.args.cache.now) in
     let r = c.args.report.now in
     let groups = c.args.groups.now in
-    let inv = c.loop-rank.invariant in
+    let inv = c.loop-index.invariant in
     let gs = map (λ (x : Bor (List LabelInfo)). x.now) groups in
     let k = c.saturating_sub.result in
-    let n = c.loop-rank.rank in
+    let n = c.loop-index.index in
     let high : n < length groups = omega arith in
     let less : k < length groups = omega (arith, high, c.saturating_sub.ensures) in
     let old = (get_or groups k no_group).now in
@@ -154,18 +154,18 @@ push_snippet-requires g c =
     }
 
 -- the rows of one group more
-pub loop-rank-preserved : goal.loop-rank-preserved
-loop-rank-preserved g c =
+pub loop-index-preserved : goal.loop-index-preserved
+loop-index-preserved g c =
     let w = world g.S.Span.source_of g.S.Span.start_of g.S.Span.end_of g.S.SourceId.PartialEq.eq (g.C.Cache.names c.args.cache.now)
     (g.C.Cache.contents c.args.cache.now) in
     let r = c.args.report.now in
     let groups = c.args.groups.now in
-    let inv = c.loop-rank.invariant in
+    let inv = c.loop-index.invariant in
     let gs = map (λ (x : Bor (List LabelInfo)). x.now) groups in
     let width = c.args.writer.now.pen.page.number_width in
-    let b = c.loop-rank.writer.pen in
+    let b = c.loop-index.writer.pen in
     let z = c.push_snippet.new.writer.pen in
-    let k = c.loop-rank.rank in
+    let k = c.loop-index.index in
     let less : k < length groups = omega arith in
     let new = (get_or groups k no_group).now in
     let there : slice_get gs k ≡ Some new = mapped_at (λ (x : Bor (List LabelInfo)). x.now) groups k no_group less in
@@ -199,7 +199,7 @@ returns g c =
     let r = c.args.report.now in
     let gs = map (λ (x : Bor (List LabelInfo)). x.now) c.args.groups.now in
     let size = length-map c.args.groups.now (λ (x : Bor (List LabelInfo)). x.now) in
-    let all : length gs ≤ c.loop-rank.rank = omega arith in
-    subst (λ es. DrawsRows c.args.writer.now.pen c.loop-rank.writer.pen
+    let all : length gs ≤ c.loop-index.index = omega arith in
+    subst (λ es. DrawsRows c.args.writer.now.pen c.loop-index.writer.pen
     (joined (λ e. section_rows (texts_of r) c.args.writer.now.pen.page.number_width (section_of w r (length gs) e)) es))
-    (all-enumerated gs c.loop-rank.rank all) c.loop-rank.invariant.drawn
+    (all-enumerated gs c.loop-index.index all) c.loop-index.invariant.drawn

@@ -118,7 +118,7 @@ returns-clause-made g c =
     let b = (goal.at.returns-clause-made g c).After-header_offset-offset in
     let f = first g b in
     c.new.ensures.made
-    ∙ section_is w r c.args.number c.args.rank group c.args.texts.now c.unwrap-source.result.now c.unwrap_or-name.result.now c.header_offset-offset.result
+    ∙ section_is w r c.args.number c.args.index group c.args.texts.now c.unwrap-source.result.now c.unwrap_or-name.result.now c.header_offset-offset.result
     c.requires.texts (sym f.over)
     (section_name w r group c.source-id.result.now f.named c.display.result c.display.ensures _ c.unwrap_or-name.result refl c.unwrap_or-name.ensures)
     (offset g b)

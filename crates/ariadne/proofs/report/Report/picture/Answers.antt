@@ -14,7 +14,7 @@ draw-requires g c =
     let s = g.S.Span in
     let w = world s.source_of s.start_of s.end_of g.S.SourceId.PartialEq.eq (g.C.Cache.names c.accept.new.cache) (g.C.Cache.contents c.accept.new.cache) in
     let judged = c.in_ok-judged.ensures.judged in
-    let accepted = are-accepted _ _ w c.self.inside.content judged.0 judged.1 in
+    let accepted = are-accepted _ _ w c.self.inside.data judged.0 judged.1 in
     record { drawn = rw judged.3 accepted.each }
 
 -- their picture is drawn, and of every picture the headline holds
@@ -26,7 +26,7 @@ returns-clause-drawn g c =
     let contents = g.C.Cache.contents c.accept.new.cache in
     let w = world s.source_of s.start_of s.end_of eq names contents in
     let judged = c.in_ok-judged.ensures.judged in
-    let r = c.self.inside.content in
+    let r = c.self.inside.data in
     rw (← c.self.view_is)
     record {
       outcomes = judged.0;

@@ -1,4 +1,4 @@
-//! The content of a report, from the builder to the picture.
+//! The data of a report, from the builder to the picture.
 
 ghost use Rattle.std.specs.Prelude.{◌≡◌, map, string_bytes};
 ghost use Rattle.std.specs.Option.{option_copied};
@@ -11,10 +11,10 @@ use std::alloc::Global;
 use std::marker::Model;
 use std::ops::Range;
 
-/// The content of a report, with the allocator for its picture. The builder of reports sets the
+/// The data of a report, with the allocator for its picture. The builder of reports sets the
 /// fields. The renderer reads them by calls.
 #[derive(Debug, Drop)]
-pub struct Content<'a, S: Span = Range<usize>> {
+pub struct ReportData<'a, S: Span = Range<usize>> {
     pub kind: ReportKind<'a>,
     pub code: Option<String>,
     pub message: Option<String>,
@@ -26,7 +26,7 @@ pub struct Content<'a, S: Span = Range<usize>> {
     pub alloc: Global,
 }
 
-impl<'a, S: Span> Model for Content<'a, S> {
+impl<'a, S: Span> Model for ReportData<'a, S> {
     ghost use Rattle.std.specs.Prelude.{map, option_map, string_bytes};
     ghost use Rattle.ariadne_picture.specs.Report.{ReportFields};
     ghost use Rattle.ariadne_report.specs.Kinds.{kind_of};
@@ -45,7 +45,7 @@ impl<'a, S: Span> Model for Content<'a, S> {
     } };
 }
 
-impl<'a, S: Span> Content<'a, S> {
+impl<'a, S: Span> ReportData<'a, S> {
     /// The code, shown in brackets before the kind.
     pub fn code(&self) -> Option<&str>
         ensures { option_copied result ≡ self.now.code }
